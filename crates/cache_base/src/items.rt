@@ -1,0 +1,94 @@
+//! Small lists that contracts see as lists.
+
+ghost use Rattle.std.specs.Prelude.{◌≡◌, ◌↔◌, List, [], ◌∷◌, ◌++◌, OnOk, OnErr, Any, IsTrue};
+
+use crate::Name;
+use std::alloc::{AllocError, AllocFailed, Global};
+use std::marker::Model;
+
+/// Memory ran out.
+#[derive(Clone, Copy, Debug, PartialEq, Eq)]
+pub struct NoMemory;
+
+impl From<AllocError> for NoMemory {
+    fn from(_: AllocError) -> Self {
+        NoMemory
+    }
+}
+
+impl<T: Drop> From<AllocFailed<T>> for NoMemory {
+    fn from(_: AllocFailed<T>) -> Self {
+        NoMemory
+    }
+}
+
+/// A list that grows at its end. It keeps the allocator that it was made with.
+#[derive(Drop)]
+pub struct Items<T> {
+    items: Vec<T>,
+}
+
+impl<T> Model for Items<T> {
+    ghost Value = { List T };
+
+    ghost view = { λ s. s.items.items };
+}
+
+impl<T: Drop> Items<T> {
+    /// The empty list, which takes no memory.
+    pub fn new(alloc: Global) -> Self
+        ensures { result ≡ [] }
+    {
+        Items {
+            items: Vec::new(alloc),
+        }
+    }
+
+    /// Lends the items.
+    pub fn as_slice(&self) -> &[T]
+        ensures { result.now ≡ self.now }
+    {
+        self.items.as_slice()
+    }
+
+    /// Adds an item at the end, or leaves the list as it was.
+    pub fn push(&mut self, x: T) -> Result<(), NoMemory>
+        ensures ok { OnOk result (self.new ≡ self.old ++ x ∷ []) }
+        ensures err { OnErr result (self.new ≡ self.old) }
+    {
+        self.items.push(x)?;
+        Ok(())
+    }
+}
+
+/// Bytes.
+pub type Bytes = Items<u8>;
+
+/// The 16-bit hashes of chunks.
+pub type Hashes = Items<u16>;
+
+/// Names of entries.
+pub type Names = Items<Name>;
+
+/// Numbers, as those of doomed files or of calls.
+pub type Numbers = Items<u32>;
+
+impl Items<u8> {
+    /// Adds bytes at the end, or leaves the list as it was.
+    pub fn extend(&mut self, b: &[u8]) -> Result<(), NoMemory>
+        ensures ok { OnOk result (self.new ≡ self.old ++ b.now) }
+        ensures err { OnErr result (self.new ≡ self.old) }
+    {
+        self.items.extend_from_slice(b)?;
+        Ok(())
+    }
+}
+
+impl Items<u32> {
+    /// Whether the number is in the list.
+    pub fn has(&self, number: u64) -> bool
+        ensures { IsTrue result ↔ Any (λ one. one ≡ number) self.now }
+    {
+        self.items.iter().any(|one| u64::from(*one) == number)
+    }
+}

@@ -1,0 +1,21 @@
+//! What every crate of the cache shares: names, moments, limits and exit statuses, small lists that contracts see
+//! as lists, a buffer for one chunk, and the words in which an answer is tied to a count of faults.
+#![tactic(auto)]
+
+mod buffer;
+mod items;
+mod limits;
+mod name;
+mod status;
+
+pub use buffer::Buffer;
+pub use items::{Bytes, Hashes, Items, Names, NoMemory, Numbers};
+pub use limits::{
+    BLOCK_MAX, BODY_MAX, BUFFER_MAX, CACHED, CHANGED_MAX, CHUNK, ELEMENTS_MAX, KEY_MAX, LINE_MAX,
+    PIECE_MAX, SCRIPT_MAX, SLOTS, chunks,
+};
+pub use name::{Moment, Name};
+pub use status::Status;
+
+#[cfg(test)]
+mod tests;

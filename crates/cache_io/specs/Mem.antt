@@ -1,0 +1,38 @@
+-- What a source in memory has left and a sink in memory took, and their plans of faults.
+use Rattle.std.specs.Prelude.{◌≡◌, ℕ, List, drop, Any}
+use Rattle.cache_base.specs.Causes.{one_more}
+use Rattle.cache_io.specs.declared.mem.MemSource.{MemSource}
+use Rattle.cache_io.specs.declared.mem.MemSink.{MemSink}
+
+-- the bytes that a source has left
+abbrev pub left_in : MemSource → List ℕ
+left_in s = drop s.at s.bytes
+
+-- the bytes that a sink took
+abbrev pub taken_in : MemSink → List ℕ
+taken_in s = s.bytes
+
+-- the numbers of the calls that are to fail
+abbrev pub failing_reads : MemSource → List ℕ
+failing_reads s = s.planned
+
+abbrev pub failing_writes : MemSink → List ℕ
+failing_writes s = s.planned
+
+-- the most bytes that one read gives
+abbrev pub piece_of : MemSource → ℕ
+piece_of s = s.piece
+
+-- how many reads and writes were made
+abbrev pub reads_of : MemSource → ℕ
+reads_of s = s.calls
+
+abbrev pub writes_of : MemSink → ℕ
+writes_of s = s.calls
+
+-- the next call is to fail
+abbrev pub FailsNextRead : MemSource → Type 0
+FailsNextRead s = Any (λ number. number ≡ one_more s.calls) s.planned
+
+abbrev pub FailsNextWrite : MemSink → Type 0
+FailsNextWrite s = Any (λ number. number ≡ one_more s.calls) s.planned

@@ -1,0 +1,4 @@
+pub mod Chunks
+pub mod Left
+pub mod Numbers
+pub mod Printed

@@ -1,0 +1,10 @@
+pub use Rattle.cache_base.specs.Causes
+pub mod Place
+pub mod State
+pub mod Sound
+pub mod Standing
+pub mod Calls
+pub mod MemWrite
+pub mod MemFile
+pub mod MemTable
+pub mod MemDisk

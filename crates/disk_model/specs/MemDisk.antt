@@ -1,0 +1,29 @@
+-- A disk in memory: its state, its counts and its plan of faults.
+use Rattle.std.specs.Prelude.{◌≡◌, ◌⊎◌, ℕ, ◌<◌, List, Any}
+use Rattle.cache_base.specs.Causes.{one_more}
+use Rattle.disk_model.specs.State.{State}
+use Rattle.disk_model.specs.Calls.{Counts}
+use Rattle.disk_model.specs.MemTable.{state_of}
+use Rattle.disk_model.specs.declared.mem_disk.MemDisk.{MemDisk}
+
+abbrev pub state_in : MemDisk → State
+state_in d = state_of d.table
+
+abbrev pub counts_in : MemDisk → Counts
+counts_in d = record { calls = d.calls; failed_change = d.failed_change; entry_reads = d.entry_reads }
+
+-- how many calls failed
+abbrev pub faults_in : MemDisk → ℕ
+faults_in d = d.faults
+
+-- each call above this number fails
+abbrev pub stop_in : MemDisk → ℕ
+stop_in d = d.stop
+
+-- so do the calls of these numbers
+abbrev pub planned_in : MemDisk → List ℕ
+planned_in d = d.planned
+
+-- the next call is to fail
+abbrev pub FailsNext : MemDisk → Type 0
+FailsNext d = (stop_in d < one_more d.calls) ⊎ Any (λ number. number ≡ one_more d.calls) (planned_in d)

@@ -1,0 +1,87 @@
+//! A disk, and what its calls do.
+
+ghost use Rattle.std.specs.Prelude.{◌≡◌, ◌+◌, ◌-◌, ◌^◌, ◌≤◌, ℕ, Bool, List, length, IfOk, IsTrue, IsSome, IsErrOf, Option};
+ghost use Rattle.std.specs.Option.{option_map};
+ghost use Rattle.cache_base.specs.Causes.{HasCause};
+ghost use Rattle.disk_model.specs.State.{State, standing, created, removed, wrote, settled};
+ghost use Rattle.disk_model.specs.State.Write.{End};
+ghost use Rattle.disk_model.specs.Sound.{IsSound};
+ghost use Rattle.disk_model.specs.Calls.{Counts, counted_change, counted_read, if_ok, if_done, MayWriteAt};
+ghost use Rattle.disk_model.specs.declared.disk.DiskFault.TheVariants.{Memory};
+
+use crate::Place;
+use std::alloc::AllocError;
+
+/// Why a call of a disk was not done.
+#[derive(Clone, Copy, Debug, PartialEq, Eq)]
+pub enum DiskFault {
+    /// The disk failed. A change that failed is recorded as its step all the same, so that a crash may show it in
+    /// full, in part or not at all; a sync that failed settles nothing.
+    Failed,
+    /// Memory ran out, and nothing changed.
+    Memory,
+}
+
+impl From<AllocError> for DiskFault {
+    ghost from_gives = { λ _ e. e ≡ Memory };
+
+    fn from(_: AllocError) -> Self {
+        DiskFault::Memory
+    }
+}
+
+/// A disk. Its calls change the files and their names at once, and `sync` makes the changes last: what a crash
+/// leaves is decided by what was synced and by the steps since.
+///
+/// The conditions on what stands at a place, and the clauses on states and counts, hold of a disk that tells. A
+/// real folder tells nothing, and there a call on a file that is not there just fails.
+pub trait Disk {
+    /// Whether contracts see what the disk holds.
+    ghost tells: { Bool };
+
+    /// What was synced, and the steps since.
+    ghost state: { Self → State };
+
+    /// How many calls were made, and which change failed last.
+    ghost counts: { Self → Counts };
+
+    /// How many calls have failed.
+    ghost faults: { Self → ℕ };
+
+    /// Makes all changes last. After it nothing is pending.
+    fn sync(&mut self) -> Result<(), DiskFault>
+        ensures state { IsTrue tells → state self.new ≡ if_ok result (settled (state self.old)) (state self.old) }
+        ensures counts { IsTrue tells → counts self.new ≡ counted_change result (counts self.old) }
+        ensures cause { HasCause (IsErrOf result DiskFault.Failed) (faults self.old) (faults self.new) };
+
+    /// The length, in bytes, of the file at the place, or none where no file stands there.
+    fn size(&mut self, place: &Place) -> Result<Option<u64>, DiskFault>
+        ensures size { IfOk result (λ size. IsTrue tells → size ≡ option_map length (standing (state self.old) place.now)) }
+        ensures state { IsTrue tells → state self.new ≡ state self.old }
+        ensures counts { IsTrue tells → counts self.new ≡ counted_read place.now (counts self.old) }
+        ensures cause { HasCause (IsErrOf result DiskFault.Failed) (faults self.old) (faults self.new) };
+
+    /// A new empty file takes the place. A file that stood there loses its name.
+    fn create(&mut self, place: &Place) -> Result<(), DiskFault>
+        ensures state { IsTrue tells → state self.new ≡ if_done result (created place.now (state self.old)) (state self.old) }
+        ensures counts { IsTrue tells → counts self.new ≡ counted_change result (counts self.old) }
+        ensures cause { HasCause (IsErrOf result DiskFault.Failed) (faults self.old) (faults self.new) };
+
+    /// Writes the bytes at the offset `from`. The file then ends behind them.
+    fn write_end(&mut self, place: &Place, from: u64, bytes: &[u8]) -> Result<(), DiskFault>
+        requires limit { from ≤ 2 ^ 40 }
+        requires told { IsTrue tells → MayWriteAt (standing (state self.old) place.now) from }
+        ensures state { IsTrue tells → state self.new ≡ if_done result (wrote place.now (End from bytes.now) (state self.old)) (state self.old) }
+        ensures counts { IsTrue tells → counts self.new ≡ counted_change result (counts self.old) }
+        ensures cause { HasCause (IsErrOf result DiskFault.Failed) (faults self.old) (faults self.new) };
+
+    /// Removes the file at the place.
+    fn remove(&mut self, place: &Place) -> Result<(), DiskFault>
+        requires { IsTrue tells → IsSome (standing (state self.old) place.now) }
+        ensures state { IsTrue tells → state self.new ≡ if_done result (removed place.now (state self.old)) (state self.old) }
+        ensures counts { IsTrue tells → counts self.new ≡ counted_change result (counts self.old) }
+        ensures cause { HasCause (IsErrOf result DiskFault.Failed) (faults self.old) (faults self.new) };
+
+    /// No file stands at two places, and each write lay within its file.
+    ghost sound: { (disk : Self) → IsTrue tells → IsSound (state disk) };
+}

@@ -1,0 +1,16 @@
+//! The disk as the cache sees it: names and contents at the last sync, the steps since, and what stands now; the
+//! trait whose calls are said over that state, and a disk in memory that keeps it.
+#![tactic(auto)]
+
+mod disk;
+mod mem_disk;
+mod mem_file;
+mod mem_table;
+mod place;
+
+pub use disk::{Disk, DiskFault};
+pub use mem_disk::MemDisk;
+pub use place::{NameStep, Place};
+
+#[cfg(test)]
+mod tests;
