@@ -1,5 +1,6 @@
 pub mod Buffer
 pub mod Bytes
 pub mod Causes
+pub mod Checks
 pub mod Limits
 pub mod Status

@@ -1,4 +1,9 @@
+pub mod Both
 pub mod Chunks
+pub mod Completed
+pub mod Damages
+pub mod Finds
+pub mod Keys
 pub mod Left
 pub mod Numbers
 pub mod Printed

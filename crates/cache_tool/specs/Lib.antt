@@ -1,5 +1,11 @@
+pub mod Asked
 pub mod Body
-pub mod Entry
+pub mod Due
+pub mod Found
+pub mod Get
+pub mod NewEntry
+pub mod Place
+pub mod Printing
 pub mod Put
 pub mod Silent
 pub mod StopOf

@@ -4,9 +4,14 @@
 
 mod body;
 mod entry;
+mod found;
+mod get;
+mod printing;
 mod put;
 mod real_folder;
+mod refusal;
 mod run;
+mod stop;
 #[cfg(test)]
 mod tests;
 mod words;

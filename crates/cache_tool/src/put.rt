@@ -8,45 +8,23 @@ ghost use Rattle.disk_model.specs.State.{standing, settled};
 ghost use Rattle.disk_model.specs.Standing.{Puts};
 ghost use Rattle.disk_model.specs.Sound.{IsQuiet};
 ghost use Rattle.disk_model.specs.Calls.{StopsAtFault};
-ghost use Rattle.cache_tool.specs.Entry.{file_of, new_version};
-ghost use Rattle.cache_tool.specs.Put.{is_good_key, answer_to, due_answer, entry_place, text_of, status_of, Leaves, IsAnswer, IsPart, IsProperPart};
-ghost use Rattle.cache_tool.specs.StopOf.{stop_of};
-ghost use Rattle.cache_tool.specs.declared.put.Stop.TheVariants.{Memory};
+ghost use Rattle.entry_key.specs.Writing.{may_write as may_write_of};
+ghost use Rattle.entry_file.specs.Version.{file_of};
+ghost use Rattle.cache_tool.specs.NewEntry.{new_version};
+ghost use Rattle.cache_tool.specs.Place.{entry_place};
+ghost use Rattle.cache_tool.specs.Printing.{IsPart, IsProperPart};
+ghost use Rattle.cache_tool.specs.Due.{put_due, IsAnswer};
+ghost use Rattle.cache_tool.specs.Put.{answer_to, due_answer, text_of, status_of, Leaves};
 
 use crate::body::{BodyFault, read_body};
 use crate::entry::complete;
-use crate::words::Put;
-use cache_base::{KEY_MAX, Moment, Name, NoMemory, Status};
+use crate::stop::Stop;
+use cache_base::{Moment, Status};
 use cache_io::{Sink, SinkFault, Source, write_whole};
 use disk_model::{Disk, DiskFault, Place};
-use sha1::Sha1;
+use entry_key::may_write;
+use entry_name::name_of;
 use std::alloc::Global;
-
-/// What stops a `put` before its answer.
-#[derive(Clone, Copy, Debug, PartialEq, Eq)]
-pub(crate) enum Stop {
-    Memory,
-    Disk,
-}
-
-impl From<NoMemory> for Stop {
-    ghost from_gives = { λ _ e. e ≡ Memory };
-
-    fn from(_: NoMemory) -> Self {
-        Stop::Memory
-    }
-}
-
-impl From<DiskFault> for Stop {
-    ghost from_gives = { λ fault e. e ≡ stop_of fault };
-
-    fn from(fault: DiskFault) -> Self {
-        match fault {
-            DiskFault::Failed => Stop::Disk,
-            DiskFault::Memory => Stop::Memory,
-        }
-    }
-}
 
 /// What a `put` answers.
 #[derive(Clone, Copy, Debug, PartialEq, Eq)]
@@ -58,21 +36,6 @@ pub(crate) enum Answer {
     SourceFailed,
 }
 
-fn is_plain(key: &[u8]) -> bool
-    ensures { result ≡ list_all (λ x. not (x == 0) && not (x == 10)) key.now }
-{
-    key.iter().all(|&x| x != 0 && x != b'\n')
-}
-
-fn is_good(key: &[u8]) -> bool
-    ensures { result ≡ is_good_key key.now }
-{
-    if key.is_empty() || key.len() > KEY_MAX {
-        return false;
-    }
-    key[0] == b':' && is_plain(key)
-}
-
 // Makes the entry of the source's bytes out of the empty file at its place, or removes that.
 fn fill<D: Disk, S: Source>(
     alloc: Global,
@@ -82,7 +45,7 @@ fn fill<D: Disk, S: Source>(
     source: &mut S,
     disk: &mut D,
 ) -> Result<Answer, Stop>
-    requires good { is_good_key key.now ≡ true }
+    requires good { may_write_of key.now ≡ true }
     requires told { IsTrue D.tells → standing (D.state disk.old) place.now ≡ Some [] }
     ensures due { IfOk result (λ answer. (answer ≡ Answer.SourceFailed) ⊎ IfSome (S.left source.old) (λ body. answer ≡ answer_to body)) }
     ensures answers { IfOk result (λ answer. answer ≢ Answer.BadKey) }
@@ -123,20 +86,20 @@ fn store<D: Disk, S: Source>(
     disk: &mut D,
 ) -> Result<Answer, Stop>
     ensures due { IfOk result (λ answer. (answer ≡ Answer.SourceFailed) ⊎ IfSome (due_answer key.now (S.left source.old)) (λ due. answer ≡ due)) }
-    ensures good { result ≡ Ok Answer.SourceFailed → is_good_key key.now ≡ true }
-    ensures bad { is_good_key key.now ≡ false → (result ≡ Ok Answer.BadKey) × (source.new ≡ source.old) }
+    ensures good { result ≡ Ok Answer.SourceFailed → may_write_of key.now ≡ true }
+    ensures bad { may_write_of key.now ≡ false → (result ≡ Ok Answer.BadKey) × (source.new ≡ source.old) }
     ensures read { result ≡ Ok Answer.Stored → IsAtEnd (S.left source.new) }
-    ensures leaves { IfOk result (λ answer. IsTrue D.tells → Leaves (record { now = now; key = key.now }) (S.left source.old) answer (D.state disk.old) (D.state disk.new)) }
+    ensures leaves { IfOk result (λ answer. IsTrue D.tells → Leaves now key.now (S.left source.old) answer (D.state disk.old) (D.state disk.new)) }
     ensures failed { result ≡ Ok Answer.SourceFailed → Rose (S.faults source.old) (S.faults source.new) }
     ensures heard { IfOk result (λ answer. answer ≢ Answer.SourceFailed → S.faults source.new ≡ S.faults source.old) }
     ensures disk { HasCause (IsErrOf result Stop.Disk) (D.faults disk.old) (D.faults disk.new) }
     ensures went_on { IfOk result (λ _. IsTrue D.tells → (D.counts disk.new).failed_change ≡ (D.counts disk.old).failed_change) }
     ensures stops { IsTrue D.tells → StopsAtFault (D.counts disk.old) (D.counts disk.new) }
 {
-    if !is_good(key) {
+    if !may_write(key) {
         return Ok(Answer::BadKey);
     }
-    let place = Place::Entry(Name(Sha1::digest(key)));
+    let place = Place::Entry(name_of(key));
     disk.create(&place)?;
     fill(alloc, now, key, &place, source, disk)
 }
@@ -198,23 +161,23 @@ pub(crate) fn put<D: Disk, S: Source, K: Sink>(
     sink: &mut K,
     disk: &mut D,
 ) -> Status
-    ensures answers { IsAnswer result → IfSome (due_answer key.now (S.left source.old)) (λ due. result ≡ status_of due) }
+    ensures answers { IsAnswer result → IfSome (put_due key.now (S.left source.old)) (λ due. result ≡ due.status) }
     ensures read { result ≡ Status.Done → IsAtEnd (S.left source.new) }
-    ensures unread { is_good_key key.now ≡ false → source.new ≡ source.old }
+    ensures unread { may_write_of key.now ≡ false → source.new ≡ source.old }
 
-    ensures printed { IsAnswer result → IfSome (due_answer key.now (S.left source.old)) (λ due. Appends (K.taken sink.old) (K.taken sink.new) (text_of due)) }
-    ensures cut { result ≡ Status.Sink → IfSome (due_answer key.now (S.left source.old)) (λ due. IsProperPart (text_of due) (K.taken sink.old) (K.taken sink.new)) }
-    ensures part { IfSome (due_answer key.now (S.left source.old)) (λ due. IsPart (text_of due) (K.taken sink.old) (K.taken sink.new)) }
+    ensures printed { IsAnswer result → IfSome (put_due key.now (S.left source.old)) (λ due. Appends (K.taken sink.old) (K.taken sink.new) due.text) }
+    ensures cut { result ≡ Status.Sink → IfSome (put_due key.now (S.left source.old)) (λ due. IsProperPart due.text (K.taken sink.old) (K.taken sink.new)) }
+    ensures part { IfSome (put_due key.now (S.left source.old)) (λ due. IsPart due.text (K.taken sink.old) (K.taken sink.new)) }
     ensures silent { result ≡ Status.Source → Keeps (K.taken sink.old) (K.taken sink.new) }
 
     ensures leaves { IsAnswer result ⊎ (result ≡ Status.Sink) → IsTrue D.tells → IfSome (due_answer key.now (S.left source.old)) (λ due.
-        Leaves (record { now = now; key = key.now }) (S.left source.old) due (D.state disk.old) (D.state disk.new)) }
+        Leaves now key.now (S.left source.old) due (D.state disk.old) (D.state disk.new)) }
     ensures removed { result ≡ Status.Source → IsTrue D.tells → Puts (entry_place key.now) None (D.state disk.old) (D.state disk.new) }
     ensures quiet { IsAnswer result ⊎ ((result ≡ Status.Source) ⊎ (result ≡ Status.Sink)) → IsTrue D.tells → IsQuiet (D.state disk.new) }
     ensures stops { IsTrue D.tells → StopsAtFault (D.counts disk.old) (D.counts disk.new) }
 
     ensures source { result ≡ Status.Source → Rose (S.faults source.old) (S.faults source.new) }
-    ensures heard { result ≡ Status.Source → is_good_key key.now ≡ true }
+    ensures heard { result ≡ Status.Source → may_write_of key.now ≡ true }
     ensures sink { result ≡ Status.Sink → Rose (K.faults sink.old) (K.faults sink.new) }
     ensures disk { HasCause (result ≡ Status.Disk) (D.faults disk.old) (D.faults disk.new) }
     ensures calm { IsAnswer result → (S.faults source.new ≡ S.faults source.old) × (K.faults sink.new ≡ K.faults sink.old) }

@@ -1,6 +1,6 @@
 //! A folder of the machine as a disk, which tells nothing.
 
-ghost use Rattle.std.specs.Prelude.{◌≡◌, OnOk, IsErrOf, false};
+ghost use Rattle.std.specs.Prelude.{◌≡◌, ◌≤◌, OnOk, IfOk, IsErrOf, length, false};
 ghost use Rattle.std.specs.BTreeSet.{btree_set_len};
 ghost use Rattle.cache_base.specs.Causes.{HasCause};
 ghost use Rattle.cache_tool.specs.Silent.{nothing, no_counts, never};
@@ -9,7 +9,7 @@ use disk_model::{Disk, DiskFault, Place};
 use std::alloc::{AllocError, Global};
 use std::collections::BTreeSet;
 use std::fs::{self, DirBuilder, OpenFile, OpenOptions};
-use std::io::{self, ErrorKind, Seek, SeekFrom, Write};
+use std::io::{self, ErrorKind, Read, Seek, SeekFrom, Write};
 use std::os::unix::fs::{DirBuilderExt, OpenOptionsExt};
 use std::rt::Files;
 
@@ -44,7 +44,8 @@ impl<'a, R: Files + AllocGlobal> RealDisk<'a, R> {
 
     // The answer of a call. Here alone a failure is counted.
     fn answer<T>(&mut self, outcome: io::Result<T>) -> Result<T, DiskFault>
-        ensures { HasCause (IsErrOf result DiskFault.Failed) self.old.faults self.new.faults }
+        ensures value { IfOk result (λ value. outcome ≡ Ok value) }
+        ensures cause { HasCause (IsErrOf result DiskFault.Failed) self.old.faults self.new.faults }
     {
         match outcome {
             Ok(value) => Ok(value),
@@ -78,6 +79,11 @@ impl<R: Files + AllocGlobal> Disk for RealDisk<'_, R> {
         self.answer(outcome)
     }
 
+    fn read(&mut self, place: &Place, from: u64, buf: &mut [u8]) -> Result<usize, DiskFault> {
+        let outcome = self.folder.read(place, from, buf);
+        self.answer(outcome)
+    }
+
     fn create(&mut self, place: &Place) -> Result<(), DiskFault> {
         let outcome = self.folder.create(place);
         self.answer(outcome)
@@ -103,8 +109,15 @@ struct Folder<'a, R: Files + AllocGlobal> {
     files: BTreeSet<Place, Global>,
     // The paths of the folders in which a name was made or removed.
     folders: BTreeSet<String, Global>,
-    // The file that was made or written last, so that it is opened once.
-    open: Option<(Place, R::File)>,
+    // The file that was made, written or read last, so that it is opened once.
+    open: Option<Opened<R::File>>,
+}
+
+#[derive(Drop)]
+struct Opened<F: Drop> {
+    place: Place,
+    file: F,
+    writable: bool,
 }
 
 impl<R: Files + AllocGlobal> Folder<'_, R> {
@@ -133,7 +146,7 @@ impl<R: Files + AllocGlobal> Folder<'_, R> {
         }
         match self.make_file(path.as_str()) {
             Ok(file) => {
-                self.open = Some((*place, file));
+                self.keep_open(place, file, true);
                 Ok(())
             }
             Err(error) => {
@@ -145,10 +158,30 @@ impl<R: Files + AllocGlobal> Folder<'_, R> {
     }
 
     fn write_end(&mut self, place: &Place, from: u64, bytes: &[u8]) -> io::Result<()> {
-        let mut file = self.take_open(place)?;
+        let mut file = match self.take_open(place, true) {
+            Some(opened) => opened.file,
+            None => read_and_write().open(self.rt, self.path(place)?.as_str())?,
+        };
         self.files.insert(*place)?;
         let outcome = write_end(&mut file, from, bytes);
-        self.open = Some((*place, file));
+        self.keep_open(place, file, true);
+        outcome
+    }
+
+    // Reads on until the buffer is full or the file ends.
+    fn read(&mut self, place: &Place, from: u64, buf: &mut [u8]) -> io::Result<usize>
+        ensures { IfOk result (λ n. n ≤ length buf.old) }
+    {
+        let (mut file, writable) = match self.take_open(place, false) {
+            Some(opened) => (opened.file, opened.writable),
+            None => match fs::open(self.rt, self.path(place)?.as_str()) {
+                Ok(file) => (file, false),
+                Err(error) if error.kind() == ErrorKind::NotFound => return Ok(0),
+                Err(error) => return Err(error),
+            },
+        };
+        let outcome = read_from(&mut file, from, buf);
+        self.keep_open(place, file, writable);
         outcome
     }
 
@@ -175,19 +208,27 @@ impl<R: Files + AllocGlobal> Folder<'_, R> {
         })
     }
 
-    // The file at the place, open for writing. The caller puts it back.
-    fn take_open(&mut self, place: &Place) -> io::Result<R::File> {
+    // Takes the file that was kept open, if it is that of the place and may be used so. The caller puts it back.
+    fn take_open(&mut self, place: &Place, to_write: bool) -> Option<Opened<R::File>> {
         match self.open.take() {
-            Some((kept, file)) if kept == *place => Ok(file),
-            _ => OpenOptions::new()
-                .write(true)
-                .open(self.rt, self.path(place)?.as_str()),
+            Some(opened) if opened.place == *place && (opened.writable || !to_write) => {
+                Some(opened)
+            }
+            _ => None,
         }
     }
 
+    fn keep_open(&mut self, place: &Place, file: R::File, writable: bool) {
+        self.open = Some(Opened {
+            place: *place,
+            file,
+            writable,
+        });
+    }
+
     fn forget_open(&mut self, place: &Place) {
-        if let Some((kept, _)) = &self.open
-            && kept == place
+        if let Some(opened) = &self.open
+            && opened.place == *place
         {
             self.open = None;
         }
@@ -218,8 +259,7 @@ impl<R: Files + AllocGlobal> Folder<'_, R> {
 
     fn open_new(&mut self, path: &str) -> io::Result<R::File> {
         self.change_names(path, |rt| {
-            OpenOptions::new()
-                .write(true)
+            read_and_write()
                 .create_new(true)
                 .mode(FILE_MODE)
                 .open(rt, path)
@@ -319,6 +359,27 @@ fn is_folder<R: Files>(rt: &R, path: &str) -> bool {
     fs::metadata(rt, path).is_ok_and(|found| found.is_dir())
 }
 
+fn read_and_write() -> OpenOptions {
+    let mut options = OpenOptions::new();
+    options.read(true).write(true);
+    options
+}
+
+fn read_from<F: Read + Seek>(file: &mut F, from: u64, buf: &mut [u8]) -> io::Result<usize>
+    ensures { IfOk result (λ n. n ≤ length buf.old) }
+{
+    file.seek(SeekFrom::Start(from))?;
+    let mut at = 0;
+    'parts: while at < buf.len() {
+        let n = file.read(&mut buf[at..])?;
+        if n == 0 {
+            break;
+        }
+        at += n;
+    }
+    Ok(at)
+}
+
 // The length is set only where older bytes are left behind the new ones.
 fn write_end<F: Write + Seek + OpenFile>(file: &mut F, from: u64, bytes: &[u8]) -> io::Result<()> {
     file.seek(SeekFrom::Start(from))?;
@@ -333,11 +394,11 @@ fn write_end<F: Write + Seek + OpenFile>(file: &mut F, from: u64, bytes: &[u8]) 
 fn sync_file<R: Files + AllocGlobal>(
     rt: &R,
     dir: &str,
-    open: &Option<(Place, R::File)>,
+    open: &Option<Opened<R::File>>,
     place: &Place,
 ) -> io::Result<()> {
     match open {
-        Some((kept, file)) if kept == place => file.sync_all(),
+        Some(opened) if opened.place == *place => opened.file.sync_all(),
         _ => fs::open(rt, path_of(rt, dir, place)?.as_str())?.sync_all(),
     }
 }

@@ -1,16 +1,21 @@
+//! The program on a disk in memory.
+
+mod get;
+mod put;
+
 use crate::run::run;
-use cache_base::{Bytes, Name, NoMemory, Numbers, Status};
+use cache_base::{Bytes, NoMemory, Numbers, Status};
 use cache_io::{MemSink, MemSource};
 use disk_model::{MemDisk, Place};
-use sha1::Sha1;
+use entry_name::name_of;
 use std::alloc::{AllocError, Global};
-use std::test::Fail;
 
 const KEY: &str = ":https://example.com/";
 
 // The file of the entry that `1000 put KEY` makes of the body `hello`.
-const FILE: &[u8] =
-    b"hello\x06\xab\x5e\x9a\x39\x9e\0\0\0\x03\0\0\0\x01\0\0\x03\xe8\0\0\x03\xe8\0\0\x03\xe8\xff\xff\xff\xff\0\0\0\x15\0\0\0\0:https://example.com/\0\0\0\0\x05";
+const FILE: &[u8] = b"hello\x06\xab\x5e\x9a\x39\x9e\
+    \0\0\0\x03\0\0\0\x01\0\0\x03\xe8\0\0\x03\xe8\0\0\x03\xe8\xff\xff\xff\xff\0\0\0\x15\0\0\0\0\
+    :https://example.com/\0\0\0\0\x05";
 
 fn bytes(alloc: Global, of: &[u8]) -> Result<Bytes, NoMemory> {
     let mut list = Bytes::new(alloc);
@@ -24,175 +29,15 @@ fn one_number(alloc: Global, number: u32) -> Result<Numbers, NoMemory> {
     Ok(list)
 }
 
-// The words `1000 put KEY`.
-fn put_words(alloc: Global, key: &str) -> Result<Vec<String>, AllocError> {
+// The words `1000 VERB KEY`.
+fn words_for(alloc: Global, verb: &str, key: &str) -> Result<Vec<String>, AllocError> {
     let mut words = Vec::new(alloc);
-    for word in ["1000", "put", key] {
-        words.push(String::from_str(alloc, word)?)?;
-    }
-    Ok(words)
-}
-
-// The words of a line, which single spaces separate.
-fn words_of(alloc: Global, line: &str) -> Result<Vec<String>, AllocError> {
-    let mut words = Vec::new(alloc);
-    for word in line.split(' ') {
+    for word in ["1000", verb, key] {
         words.push(String::from_str(alloc, word)?)?;
     }
     Ok(words)
 }
 
 fn place_of(key: &str) -> Place {
-    Place::Entry(Name(Sha1::digest(key.as_bytes())))
-}
-
-#[test]
-fn a_put_writes_the_entry_file(rt: HostRuntime) -> Result<(), Fail> {
-    let alloc = rt.alloc();
-    let words = put_words(alloc, KEY)?;
-    let mut source = MemSource::new(alloc, bytes(alloc, b"hello")?);
-    let mut sink = MemSink::new(alloc);
-    let mut disk = MemDisk::new(alloc);
-    let status = run(alloc, &words, &mut source, &mut sink, &mut disk);
-    assert_eq!(rt; status, Status::Done);
-    assert_eq!(rt; sink.bytes(), b"ok\n".as_slice());
-    assert_eq!(rt; disk.file(&place_of(KEY)).ok_or("no file")?, FILE);
-    Ok(())
-}
-
-#[test]
-fn words_without_a_form_call_nothing(rt: HostRuntime) -> Result<(), Fail> {
-    let alloc = rt.alloc();
-    for line in [
-        "",
-        "1000",
-        "1000 put",
-        "x put :x",
-        "007 put :x",
-        "+7 put :x",
-        "4294967296 put :x",
-        "1000 get :x",
-        "1000 put :x y",
-    ] {
-        let words = words_of(alloc, line)?;
-        let mut source = MemSource::new(alloc, bytes(alloc, b"hello")?);
-        let mut sink = MemSink::new(alloc);
-        let mut disk = MemDisk::new(alloc);
-        let status = run(alloc, &words, &mut source, &mut sink, &mut disk);
-        assert_eq!(rt; status, Status::Words, "for {line}");
-        assert_eq!(rt; disk.calls(), 0, "for {line}");
-    }
-    Ok(())
-}
-
-#[test]
-fn no_words_have_no_form(rt: HostRuntime) -> Result<(), Fail> {
-    let alloc = rt.alloc();
-    let words: Vec<String> = Vec::new(alloc);
-    let mut source = MemSource::new(alloc, bytes(alloc, b"hello")?);
-    let mut sink = MemSink::new(alloc);
-    let mut disk = MemDisk::new(alloc);
-    let status = run(alloc, &words, &mut source, &mut sink, &mut disk);
-    assert_eq!(rt; status, Status::Words);
-    Ok(())
-}
-
-// A body of so many bytes, over an entry that stands: what is answered, what is printed, and the size of the file.
-#[test]
-fn a_body_has_at_most_a_chunk(rt: HostRuntime) -> Result<(), Fail> {
-    let alloc = rt.alloc();
-    let words = put_words(alloc, KEY)?;
-    for (len, want, reply, size) in [
-        (0, Status::Done, b"ok\n".as_slice(), Some(62)),
-        (262_144, Status::Done, b"ok\n".as_slice(), Some(262_208)),
-        (262_145, Status::No, b"too large\n".as_slice(), None),
-    ] {
-        let body = vec![in alloc; 7u8; len]?;
-        let mut source = MemSource::new(alloc, bytes(alloc, &body)?);
-        let mut sink = MemSink::new(alloc);
-        let mut disk = MemDisk::new(alloc);
-        disk.put_file(place_of(KEY), bytes(alloc, FILE)?)?;
-        let status = run(alloc, &words, &mut source, &mut sink, &mut disk);
-        assert_eq!(rt; status, want, "of {len} bytes");
-        assert_eq!(rt; sink.bytes(), reply, "of {len} bytes");
-        let found = disk.file(&place_of(KEY)).map(|file| file.len());
-        assert_eq!(rt; found, size, "of {len} bytes");
-    }
-    Ok(())
-}
-
-// Puts `hello` under a key on an empty disk.
-fn put_under(alloc: Global, key: &str) -> Result<Status, Fail> {
-    let words = put_words(alloc, key)?;
-    let mut source = MemSource::new(alloc, bytes(alloc, b"hello")?);
-    let mut sink = MemSink::new(alloc);
-    let mut disk = MemDisk::new(alloc);
-    Ok(run(alloc, &words, &mut source, &mut sink, &mut disk))
-}
-
-#[test]
-fn keys_are_refused_by_their_bytes(rt: HostRuntime) -> Result<(), Fail> {
-    let alloc = rt.alloc();
-    for key in ["", "x", "a:x", ":x\0", ":x\ny"] {
-        assert_eq!(rt; put_under(alloc, key)?, Status::No);
-    }
-    assert_eq!(rt; put_under(alloc, ":")?, Status::Done);
-    let mut key = String::from_str(alloc, ":")?;
-    for _ in 0..16_383u32 {
-        key.push('x')?;
-    }
-    assert_eq!(rt; put_under(alloc, key.as_str())?, Status::Done);
-    key.push('x')?;
-    assert_eq!(rt; put_under(alloc, key.as_str())?, Status::No);
-    Ok(())
-}
-
-#[test]
-fn a_failing_source_leaves_no_entry(rt: HostRuntime) -> Result<(), Fail> {
-    let alloc = rt.alloc();
-    let words = put_words(alloc, KEY)?;
-    let mut source = MemSource::with_plan(bytes(alloc, b"hello")?, one_number(alloc, 2)?, 3);
-    let mut sink = MemSink::new(alloc);
-    let mut disk = MemDisk::new(alloc);
-    let status = run(alloc, &words, &mut source, &mut sink, &mut disk);
-    assert_eq!(rt; status, Status::Source);
-    assert!(rt; sink.bytes().is_empty());
-    assert!(rt; disk.file(&place_of(KEY)).is_none());
-    Ok(())
-}
-
-#[test]
-fn a_failing_sink_leaves_the_entry(rt: HostRuntime) -> Result<(), Fail> {
-    let alloc = rt.alloc();
-    let words = put_words(alloc, KEY)?;
-    let mut source = MemSource::new(alloc, bytes(alloc, b"hello")?);
-    let mut sink = MemSink::with_plan(alloc, one_number(alloc, 1)?);
-    let mut disk = MemDisk::new(alloc);
-    let status = run(alloc, &words, &mut source, &mut sink, &mut disk);
-    assert_eq!(rt; status, Status::Sink);
-    assert!(rt; sink.bytes().is_empty());
-    assert_eq!(rt; disk.file(&place_of(KEY)).ok_or("no file")?, FILE);
-    Ok(())
-}
-
-// The calls are `create`, `write_end` and `sync`. The reply goes out before the last.
-#[test]
-fn each_failing_disk_call_ends_the_run(rt: HostRuntime) -> Result<(), Fail> {
-    let alloc = rt.alloc();
-    let words = put_words(alloc, KEY)?;
-    for (call, reply) in [
-        (1, b"".as_slice()),
-        (2, b"".as_slice()),
-        (3, b"ok\n".as_slice()),
-    ] {
-        let mut source = MemSource::new(alloc, bytes(alloc, b"hello")?);
-        let mut sink = MemSink::new(alloc);
-        let mut disk = MemDisk::new(alloc);
-        disk.fail_at(one_number(alloc, call)?);
-        let status = run(alloc, &words, &mut source, &mut sink, &mut disk);
-        assert_eq!(rt; status, Status::Disk, "at call {call}");
-        assert_eq!(rt; sink.bytes(), reply, "at call {call}");
-        assert_eq!(rt; disk.calls(), u64::from(call));
-    }
-    Ok(())
+    Place::Entry(name_of(key.as_bytes()))
 }

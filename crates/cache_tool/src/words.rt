@@ -1,18 +1,21 @@
 //! The words of the command line.
 
-ghost use Rattle.std.specs.Prelude.{◌≡◌, map, string_bytes};
+ghost use Rattle.std.specs.Prelude.{◌≡◌};
 ghost use Rattle.std.specs.Option.{option_map};
 ghost use Rattle.std.specs.List.{list_all};
 ghost use Rattle.std.specs.Char.{is_ascii_digit};
-ghost use Rattle.cache_tool.specs.Words.{is_canonical, number_of, put_of};
+ghost use Rattle.cache_tool.specs.Words.{is_canonical, number_of, asked_in};
+ghost use Rattle.cache_tool.specs.Asked.{asked};
 
 use cache_base::Moment;
 
-/// The words `NOW put KEY`.
+/// What the words ask for.
 #[derive(Clone, Copy)]
-pub(crate) struct Put<'a> {
-    pub now: Moment,
-    pub key: &'a [u8],
+pub(crate) enum Command<'a> {
+    /// `NOW put KEY`
+    Put { now: Moment, key: &'a [u8] },
+    /// `NOW get KEY`
+    Get { key: &'a [u8] },
 }
 
 fn all_digits(word: &[u8]) -> bool
@@ -47,18 +50,19 @@ fn number(word: &str) -> Option<u32>
     }
 }
 
-pub(crate) fn put_words(words: &[String]) -> Option<Put<'_>>
-    ensures { option_map (λ p. record { now = p.now; key = p.key.now }) result ≡ put_of (map (λ w. string_bytes w) words.now) }
+pub(crate) fn read_words(words: &[String]) -> Option<Command<'_>>
+    ensures { option_map asked result ≡ asked_in words.now }
 {
     let [now, verb, key] = words else {
         return None;
     };
     let now = number(now.as_str())?;
-    if verb.as_str() != "put" {
-        return None;
+    let key = key.as_str().as_bytes();
+    if verb.as_str() == "put" {
+        return Some(Command::Put { now, key });
     }
-    Some(Put {
-        now,
-        key: key.as_str().as_bytes(),
-    })
+    if verb.as_str() == "get" {
+        return Some(Command::Get { key });
+    }
+    None
 }

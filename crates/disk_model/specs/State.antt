@@ -109,3 +109,8 @@ removed place s = record s { steps = Remove place ∷ s.steps }
 -- what stands now is synced, and no step is left
 abbrev pub settled : State → State
 settled s = record { names = names_now s; steps = []; files = λ k. record { synced = content (s.files k); writes = [] }; made = s.made }
+
+-- the bytes from `from` on, n at most; none where no file stands
+abbrev pub part_of : ℕ → ℕ → Option (List ℕ) → List ℕ
+part_of from n None = []
+part_of from n (Some content) = take n (drop from content)

@@ -1,9 +1,9 @@
 //! A disk, and what its calls do.
 
-ghost use Rattle.std.specs.Prelude.{◌≡◌, ◌+◌, ◌-◌, ◌^◌, ◌≤◌, ℕ, Bool, List, length, IfOk, IsTrue, IsSome, IsErrOf, Option};
+ghost use Rattle.std.specs.Prelude.{◌≡◌, ◌+◌, ◌-◌, ◌^◌, ◌≤◌, ◌++◌, ℕ, Bool, List, length, drop, IfOk, IsTrue, IsSome, IsErrOf, Option};
 ghost use Rattle.std.specs.Option.{option_map};
 ghost use Rattle.cache_base.specs.Causes.{HasCause};
-ghost use Rattle.disk_model.specs.State.{State, standing, created, removed, wrote, settled};
+ghost use Rattle.disk_model.specs.State.{State, standing, part_of, created, removed, wrote, settled};
 ghost use Rattle.disk_model.specs.State.Write.{End};
 ghost use Rattle.disk_model.specs.Sound.{IsSound};
 ghost use Rattle.disk_model.specs.Calls.{Counts, counted_change, counted_read, if_ok, if_done, MayWriteAt};
@@ -57,6 +57,18 @@ pub trait Disk {
     /// The length, in bytes, of the file at the place, or none where no file stands there.
     fn size(&mut self, place: &Place) -> Result<Option<u64>, DiskFault>
         ensures size { IfOk result (λ size. IsTrue tells → size ≡ option_map length (standing (state self.old) place.now)) }
+        ensures state { IsTrue tells → state self.new ≡ state self.old }
+        ensures counts { IsTrue tells → counts self.new ≡ counted_read place.now (counts self.old) }
+        ensures cause { HasCause (IsErrOf result DiskFault.Failed) (faults self.old) (faults self.new) };
+
+    /// Fills the buffer's front with the bytes of the file from the offset `from` on, as far as the file goes, and
+    /// tells how many they are: none where no file stands there, or where `from` is at or past its end. The rest of
+    /// the buffer is as before.
+    fn read(&mut self, place: &Place, from: u64, buf: &mut [u8]) -> Result<usize, DiskFault>
+        ensures len { IfOk result (λ n. n ≤ length buf.old) }
+        ensures bytes { IfOk result (λ n. IsTrue tells →
+            let part = part_of from (length buf.old) (standing (state self.old) place.now) in
+            (n ≡ length part) × (buf.new ≡ part ++ drop n buf.old)) }
         ensures state { IsTrue tells → state self.new ≡ state self.old }
         ensures counts { IsTrue tells → counts self.new ≡ counted_read place.now (counts self.old) }
         ensures cause { HasCause (IsErrOf result DiskFault.Failed) (faults self.old) (faults self.new) };

@@ -1,6 +1,6 @@
 //! A disk in memory.
 
-ghost use Rattle.std.specs.Prelude.{◌≡◌, ◌≤◌, ◌+◌, ◌-◌, ◌^◌, ◌↔◌, true, if◌then◌else◌, length, IfOk, OnOk, OnErr, IsTrue, IsSome, IsErrOf, MatchBool};
+ghost use Rattle.std.specs.Prelude.{◌≡◌, ◌≤◌, ◌+◌, ◌-◌, ◌^◌, ◌↔◌, ◌++◌, true, if◌then◌else◌, length, take, drop, IfOk, OnOk, OnErr, IsTrue, IsSome, IsErrOf, MatchBool};
 ghost use Rattle.std.specs.Option.{option_map};
 ghost use Rattle.cache_base.specs.Causes.{one_more, HasCause, Rose};
 ghost use Rattle.disk_model.specs.Calls.{counted_change, counted_read, if_ok, if_done, MayWriteAt};
@@ -154,7 +154,7 @@ impl MemDisk {
 }
 
 impl Disk for MemDisk {
-    ghost use Rattle.disk_model.specs.State.{standing, created, removed, wrote, settled};
+    ghost use Rattle.disk_model.specs.State.{standing, part_of, created, removed, wrote, settled};
     ghost use Rattle.disk_model.specs.State.Write.{End};
     ghost use Rattle.disk_model.specs.MemDisk.{state_in, counts_in, faults_in, FailsNext};
 
@@ -187,8 +187,7 @@ impl Disk for MemDisk {
         ensures state { state_in self.new ≡ state_in self.old }
         ensures counts { counts_in self.new ≡ counted_read place.now (counts_in self.old) }
         ensures cause { HasCause (IsErrOf result DiskFault.Failed) (faults_in self.old) (faults_in self.new) }
-        ensures fails { IsErrOf result DiskFault.Failed → FailsNext self.old }
-        ensures done { OnOk result (¬ (FailsNext self.old)) }
+        ensures fails { IsErrOf result DiskFault.Failed ↔ FailsNext self.old }
     {
         if self.begin_read(place) {
             return Err(DiskFault::Failed);
@@ -196,6 +195,25 @@ impl Disk for MemDisk {
         match self.table.find(place) {
             None => Ok(None),
             Some(file) => Ok(Some(self.table.content(file).len() as u64)),
+        }
+    }
+
+    fn read(&mut self, place: &Place, from: u64, buf: &mut [u8]) -> Result<usize, DiskFault>
+        ensures len { IfOk result (λ n. n ≤ length buf.old) }
+        ensures bytes { IfOk result (λ n.
+            let part = part_of from (length buf.old) (standing (state_in self.old) place.now) in
+            (n ≡ length part) × (buf.new ≡ part ++ drop n buf.old)) }
+        ensures state { state_in self.new ≡ state_in self.old }
+        ensures counts { counts_in self.new ≡ counted_read place.now (counts_in self.old) }
+        ensures cause { HasCause (IsErrOf result DiskFault.Failed) (faults_in self.old) (faults_in self.new) }
+        ensures fails { IsErrOf result DiskFault.Failed ↔ FailsNext self.old }
+    {
+        if self.begin_read(place) {
+            return Err(DiskFault::Failed);
+        }
+        match self.table.find(place) {
+            None => Ok(0),
+            Some(file) => Ok(copy_part(self.table.content(file), from, buf)),
         }
     }
 
@@ -239,5 +257,23 @@ impl Disk for MemDisk {
         let fails = self.begin();
         self.table.remove(*place)?;
         self.end_change(fails)
+    }
+}
+
+// Fills the buffer's front from `from` on.
+fn copy_part(content: &[u8], from: u64, buf: &mut [u8]) -> usize
+    ensures len { result ≡ length (take (length buf.old) (drop from content.now)) }
+    ensures bytes { buf.new ≡ take (length buf.old) (drop from content.now) ++ drop result buf.old }
+{
+    if from >= content.len() as u64 {
+        return 0;
+    }
+    let rest = &content[from as usize..];
+    if rest.len() < buf.len() {
+        buf[..rest.len()].copy_from_slice(rest);
+        rest.len()
+    } else {
+        buf.copy_from_slice(&rest[..buf.len()]);
+        buf.len()
     }
 }

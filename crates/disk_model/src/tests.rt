@@ -76,3 +76,16 @@ fn planned_calls_fail_and_are_recorded(rt: HostRuntime) -> Result<(), Fail> {
     assert_eq!(rt; disk.size(&ENTRY)?, Some(0));
     Ok(())
 }
+
+#[test]
+fn bytes_come_back_from_an_offset(rt: HostRuntime) -> Result<(), Fail> {
+    let mut disk = MemDisk::new(rt.alloc());
+    make(&mut disk, &ENTRY, b"hello")?;
+    let mut buf = *b"........";
+    assert_eq!(rt; disk.read(&ENTRY, 1, &mut buf)?, 4);
+    assert_eq!(rt; buf, *b"ello....");
+    assert_eq!(rt; disk.read(&ENTRY, 5, &mut buf)?, 0);
+    assert_eq!(rt; disk.read(&Place::Index, 0, &mut buf)?, 0);
+    assert_eq!(rt; buf, *b"ello....");
+    Ok(())
+}

@@ -5,7 +5,8 @@ use Rattle.disk_model.specs.State.{State}
 use Rattle.disk_model.specs.State.Write.{End}
 use Rattle.disk_model.specs.Standing.{Puts}
 use Rattle.disk_model.proofs.Standing.{wrote_puts}
-use Rattle.cache_tool.specs.Entry.{file_of, new_version}
+use Rattle.entry_file.specs.Version.{file_of}
+use Rattle.cache_tool.specs.NewEntry.{new_version}
 use Rattle.cache_tool.proofs.put.fill.Goals as goal
 
 pub returns-in_ok-write_end-in-Ok-Some-clause-stored : goal.returns-in_ok-write_end-in-Ok-Some-clause-stored

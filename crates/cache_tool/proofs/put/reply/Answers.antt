@@ -1,6 +1,6 @@
 use Rattle.std.proofs.Common.{List, subst}
 use Rattle.std.specs.Prelude.{ℕ}
-use Rattle.cache_tool.specs.Put.{IsPart}
+use Rattle.cache_tool.specs.Printing.{IsPart}
 use Rattle.cache_tool.proofs.Printed.{printed_part}
 use Rattle.cache_tool.proofs.put.reply.Goals as goal
 

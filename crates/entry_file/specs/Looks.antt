@@ -1,0 +1,9 @@
+-- Calls of a disk that only look.
+use Rattle.std.specs.Prelude.{ℕ, ◌≡◌, ◌≤◌, ◌+◌}
+use Rattle.disk_model.specs.Calls.{Counts}
+
+-- at most n calls were made, and no change failed
+pub record Looks (n : ℕ) (before now : Counts) : Type 0 where
+  pub calls : now.calls ≤ before.calls + n
+  pub entry_reads : now.entry_reads ≤ before.entry_reads + n
+  pub no_change : now.failed_change ≡ before.failed_change

@@ -1,0 +1,32 @@
+-- A version of an entry, and its file.
+use Rattle.std.specs.Prelude.{ℕ, List, ◌++◌, length}
+use Rattle.cache_base.specs.Bytes.{AreBytes, be32}
+use Rattle.chunk_store.specs.Chunks.{chunk_hashes}
+use Rattle.entry_metadata.specs.Metadata.{IsMeta, Meta, block_bytes}
+use Rattle.entry_parts.specs.Elements.{Element}
+use Rattle.entry_parts.specs.declared.header.Header.{Header}
+
+pub record Version : Type 0 where
+  pub header : Header
+  pub key : List ℕ
+  pub elements : List Element
+  pub body : List ℕ
+
+-- its metadata: the header, the key and the elements, the hash of each chunk of the body, and the body's length
+abbrev pub version_meta : Version → Meta
+version_meta v = record {
+  header = v.header;
+  key = v.key;
+  elements = v.elements;
+  hashes = chunk_hashes v.body;
+  offset = length v.body;
+}
+
+-- what has a file
+pub record IsVersion (v : Version) : Type 0 where
+  pub meta : IsMeta (version_meta v)
+  pub body : AreBytes v.body
+
+-- a finished file: the body, the metadata block, and the block's offset
+unfoldable pub file_of : Version → List ℕ
+file_of v = v.body ++ (block_bytes (version_meta v) ++ be32 (length v.body))

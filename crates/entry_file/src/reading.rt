@@ -1,0 +1,146 @@
+//! Reading an entry's file without its body.
+
+ghost use Rattle.std.specs.Prelude.{◌≡◌, ◌≤◌, ◌<◌, ◌+◌, ◌-◌, ◌^◌, IfOk, IfErr, IfSome, IsTrue, IsErrOf, Some, length, slice_range};
+ghost use Rattle.std.specs.Option.{option_map};
+ghost use Rattle.cache_base.specs.Causes.{HasCause};
+ghost use Rattle.disk_model.specs.State.{standing};
+ghost use Rattle.entry_file.specs.EntryFile.{offset_in, unfit_of};
+ghost use Rattle.entry_file.specs.EntryRead.{ReadsAs};
+ghost use Rattle.entry_file.specs.BlockRead.{BlockReadsAs};
+ghost use Rattle.entry_file.specs.Holds.{Holds};
+ghost use Rattle.entry_file.specs.Looks.{Looks};
+
+use crate::{EntryRead, Unfit};
+use cache_base::{BLOCK_MAX, Name};
+use disk_model::{Disk, DiskFault, Place};
+use entry_metadata::MetaFault;
+use entry_name::name_of;
+use std::alloc::Global;
+
+// The failing check that a fault of a block names; want of memory names none.
+fn unfit(fault: MetaFault) -> Option<Unfit>
+    ensures { result ≡ unfit_of fault }
+{
+    match fault {
+        MetaFault::Short => Some(Unfit::Short),
+        MetaFault::TooBig => Some(Unfit::TooBig),
+        MetaFault::Version => Some(Unfit::Version),
+        MetaFault::KeyEnd => Some(Unfit::KeyEnd),
+        MetaFault::Hash => Some(Unfit::Hash),
+        MetaFault::KeyForm => Some(Unfit::KeyForm),
+        MetaFault::Elements => Some(Unfit::Elements),
+        MetaFault::Memory => None,
+    }
+}
+
+// What a file of `size` bytes reads as whose block is this, by the checks of the block and of the name.
+fn read_of_block(
+    alloc: Global,
+    block: &[u8],
+    offset: u32,
+    name: &Name,
+    size: u64,
+) -> Result<EntryRead, DiskFault>
+    requires { offset < 2 ^ 32 - 1 }
+    ensures reads { IfOk result (BlockReadsAs name.now.0 block.now offset size) }
+    ensures memory { IfErr result (λ fault. fault ≡ DiskFault.Memory) }
+{
+    match entry_metadata::parse(alloc, block, offset) {
+        Ok(meta) => {
+            if name_of(meta.key.as_slice()) == *name {
+                Ok(EntryRead::Fits { meta, size })
+            } else {
+                Ok(EntryRead::Unfit(Unfit::WrongName))
+            }
+        }
+        Err(fault) => match unfit(fault) {
+            Some(check) => Ok(EntryRead::Unfit(check)),
+            None => Err(DiskFault::Memory),
+        },
+    }
+}
+
+// The number in the four bytes from `end` on, which are the file's last.
+fn last_offset<D: Disk>(disk: &mut D, place: &Place, end: u64) -> Result<u32, DiskFault>
+    requires { IsTrue D.tells → Some (end + 4) ≡ option_map length (standing (D.state disk.old) place.now) }
+    ensures offset { IfOk result (λ offset. IsTrue D.tells → IfSome (standing (D.state disk.old) place.now) (λ content. offset ≡ offset_in content)) }
+    ensures state { IsTrue D.tells → D.state disk.new ≡ D.state disk.old }
+    ensures looks { IsTrue D.tells → Looks 1 (D.counts disk.old) (D.counts disk.new) }
+    ensures cause { HasCause (IsErrOf result DiskFault.Failed) (D.faults disk.old) (D.faults disk.new) }
+{
+    let mut bytes = [0; 4];
+    disk.read(place, end, &mut bytes)?;
+    Ok(u32::from_be_bytes(bytes))
+}
+
+// The bytes of the file from `from` on, of which it has so many.
+fn part_at<D: Disk>(
+    alloc: Global,
+    disk: &mut D,
+    place: &Place,
+    from: u64,
+    len: usize,
+) -> Result<Vec<u8>, DiskFault>
+    requires { IsTrue D.tells → Holds (standing (D.state disk.old) place.now) from len }
+    ensures bytes { IfOk result (λ part. IsTrue D.tells → IfSome (standing (D.state disk.old) place.now) (λ content. part.items ≡ slice_range content from (from + len))) }
+    ensures state { IsTrue D.tells → D.state disk.new ≡ D.state disk.old }
+    ensures looks { IsTrue D.tells → Looks 1 (D.counts disk.old) (D.counts disk.new) }
+    ensures cause { HasCause (IsErrOf result DiskFault.Failed) (D.faults disk.old) (D.faults disk.new) }
+{
+    let mut part = vec![in alloc; 0u8; len]?;
+    disk.read(place, from, &mut part)?;
+    Ok(part)
+}
+
+// What stands at a place with a file of `size` bytes.
+fn read_sized<D: Disk>(
+    alloc: Global,
+    disk: &mut D,
+    place: &Place,
+    name: &Name,
+    size: u64,
+) -> Result<EntryRead, DiskFault>
+    requires { IsTrue D.tells → Some size ≡ option_map length (standing (D.state disk.old) place.now) }
+    ensures reads { IfOk result (λ read. IsTrue D.tells → ReadsAs name.now.0 (standing (D.state disk.old) place.now) read) }
+    ensures state { IsTrue D.tells → D.state disk.new ≡ D.state disk.old }
+    ensures looks { IsTrue D.tells → Looks 2 (D.counts disk.old) (D.counts disk.new) }
+    ensures cause { HasCause (IsErrOf result DiskFault.Failed) (D.faults disk.old) (D.faults disk.new) }
+{
+    if size < 4 {
+        return Ok(EntryRead::Unfit(Unfit::Short));
+    }
+    let end = size - 4;
+    let offset = last_offset(disk, place, end)?;
+    let from = u64::from(offset);
+    if offset == u32::MAX || from > end {
+        return Ok(EntryRead::Unfit(Unfit::Short));
+    }
+    let len = (end - from) as usize;
+    if len > BLOCK_MAX {
+        return Ok(EntryRead::Unfit(Unfit::TooBig));
+    }
+    let block = part_at(alloc, disk, place, from, len)?;
+    read_of_block(alloc, block.as_slice(), offset, name, size)
+}
+
+/// What stands at the place, as the file of an entry of this name. Of the file its last four bytes are read, and its
+/// block where that has at most `BLOCK_MAX` bytes. Bytes that the disk does not give, though its size promised them,
+/// count as zeros.
+pub fn read_meta<D: Disk>(
+    alloc: Global,
+    disk: &mut D,
+    place: &Place,
+    name: &Name,
+) -> Result<EntryRead, DiskFault>
+    ensures reads { IfOk result (λ read. IsTrue D.tells → ReadsAs name.now.0 (standing (D.state disk.old) place.now) read) }
+    ensures state { IsTrue D.tells → D.state disk.new ≡ D.state disk.old }
+    ensures calls { IsTrue D.tells → (D.counts disk.new).calls ≤ (D.counts disk.old).calls + 4 }
+    ensures entry_reads { IsTrue D.tells → (D.counts disk.new).entry_reads ≤ (D.counts disk.old).entry_reads + 4 }
+    ensures no_change { IsTrue D.tells → (D.counts disk.new).failed_change ≡ (D.counts disk.old).failed_change }
+    ensures cause { HasCause (IsErrOf result DiskFault.Failed) (D.faults disk.old) (D.faults disk.new) }
+{
+    match disk.size(place)? {
+        None => Ok(EntryRead::Absent),
+        Some(size) => read_sized(alloc, disk, place, name, size),
+    }
+}

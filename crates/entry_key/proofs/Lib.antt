@@ -1,0 +1,9 @@
+pub mod Walking
+pub mod Found
+pub mod Decided
+pub mod KeyLaws
+pub mod Values
+pub mod Said
+pub mod Seen
+pub mod Runs
+pub mod Written

@@ -1,0 +1,5 @@
+pub mod BlockLaws
+pub mod SpelledLaws
+pub mod FirstFault
+pub mod ReadBlock
+pub mod PrintedBlock

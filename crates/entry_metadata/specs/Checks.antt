@@ -1,0 +1,57 @@
+-- The checks of a metadata block, in order.
+use Rattle.std.specs.Prelude.{ℕ, ◌≡◌, ◌==◌, ◌+◌, ◌*◌, nat_le, nat_lt, Bool, ◌&&◌, List, [], ◌∷◌, length, drop, map, slice_index, slice_range, Option, Some}
+use Rattle.std.specs.List.{range_with_len}
+use Rattle.cache_base.specs.Bytes.{be16_at, be32_at}
+use Rattle.cache_base.specs.Checks.{first_failing}
+use Rattle.cache_base.specs.Limits.{chunks}
+use Rattle.cache_base.specs.declared.limits.TheConstants.{BLOCK_MAX}
+use Rattle.jenkins_hash.specs.Hash.{hash_of}
+use Rattle.entry_key.specs.Walk.{read_key, reads}
+use Rattle.entry_parts.specs.Elements.{elements_of, have_form}
+use Rattle.entry_parts.specs.Header.{header_in}
+use Rattle.entry_metadata.specs.Metadata.{Meta}
+use Rattle.entry_metadata.specs.declared.fault.MetaFault.{MetaFault}
+use Rattle.entry_metadata.specs.declared.fault.MetaFault.TheVariants as faults
+
+-- where the header begins in a block with h hashes of chunks
+abbrev pub header_place : ℕ → ℕ
+header_place h = 4 + 2 * h
+
+-- where the key begins in such a block
+abbrev pub key_place : ℕ → ℕ
+key_place h = 4 + 2 * h + 32
+
+-- what the block of a body of this length says, if all its checks hold
+unfoldable pub meta_in : List ℕ → ℕ → Meta
+meta_in block offset =
+    let h = chunks offset in
+    let header = header_in (drop (header_place h) block) in
+    record {
+      header = header;
+      key = slice_range block (key_place h) (key_place h + header.key_size);
+      elements = elements_of (drop (key_place h + header.key_size + 1) block);
+      hashes = map (λ i. be16_at block (4 + 2 * i)) (range_with_len 0 h);
+      offset = offset;
+    }
+
+-- the checks of a block that says m, each with the fault where it fails
+unfoldable pub checks_of : List ℕ → Meta → List (Bool × MetaFault)
+checks_of block m =
+    let key_end = key_place (chunks m.offset) + m.header.key_size in
+    (nat_le (key_place (chunks m.offset) + 1) (length block), faults.Short)
+    ∷ (nat_le (length block) BLOCK_MAX, faults.TooBig)
+    ∷ (m.header.version == 3, faults.Version)
+    ∷ (nat_lt key_end (length block) && slice_index block key_end == 0, faults.KeyEnd)
+    ∷ (be32_at block 0 == hash_of (drop 4 block), faults.Hash)
+    ∷ (reads (read_key m.key), faults.KeyForm)
+    ∷ (have_form (drop (key_end + 1) block), faults.Elements)
+    ∷ []
+
+-- the fault of the first failing check of the block of a body of this length
+abbrev pub block_fault : List ℕ → ℕ → Option MetaFault
+block_fault block offset = first_failing (checks_of block (meta_in block offset))
+
+-- the fault is that of the first failing check, or want of memory
+abbrev pub IsFirstFault : List ℕ → ℕ → MetaFault → Type 0
+IsFirstFault block offset faults.Memory = Unit {0}
+IsFirstFault block offset f = block_fault block offset ≡ Some f

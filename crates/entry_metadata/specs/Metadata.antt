@@ -1,0 +1,51 @@
+-- What the metadata block of an entry says, and its bytes.
+use Rattle.std.specs.Prelude.{ℕ, ◌≡◌, ◌<◌, ◌≤◌, ◌+◌, ◌-◌, ◌*◌, ◌^◌, List, ◌∷◌, ◌++◌, length, flat_map}
+use Rattle.std.specs.List.{AllByRecursion}
+use Rattle.cache_base.specs.Bytes.{AreBytes, be16, be32}
+use Rattle.cache_base.specs.Limits.{chunks}
+use Rattle.cache_base.specs.declared.limits.TheConstants.{BLOCK_MAX}
+use Rattle.jenkins_hash.specs.Hash.{hash_of}
+use Rattle.entry_key.specs.Key.{KeyReads, Tag}
+use Rattle.entry_parts.specs.Elements.{AreElements, Element, elements_bytes}
+use Rattle.entry_parts.specs.Header.{IsHeader, header_bytes}
+use Rattle.entry_parts.specs.declared.header.Header.{Header}
+
+-- what a block says: the key and the elements, the hashes of the body's chunks, and the body's length
+pub record Meta : Type 0 where
+  pub header : Header
+  pub key : List ℕ
+  pub elements : List Element
+  pub hashes : List ℕ
+  pub offset : ℕ
+
+-- the block past its hash
+abbrev pub block_rest : Meta → List ℕ
+block_rest m = flat_map be16 m.hashes ++ (header_bytes m.header ++ (m.key ++ 0 ∷ elements_bytes m.elements))
+
+-- the block: the hash of what follows it, and what follows
+abbrev pub block_bytes : Meta → List ℕ
+block_bytes m = be32 (hash_of (block_rest m)) ++ block_rest m
+
+-- the length of a block with so many hashes of chunks, and so many bytes of a key and of elements
+abbrev pub block_length : ℕ → ℕ → ℕ → ℕ
+block_length hashes key elements = 4 + 2 * hashes + 32 + key + 1 + elements
+
+-- what may stand in a block
+pub record IsMeta (m : Meta) : Type 0 where
+  pub header : IsHeader m.header
+  pub version : m.header.version ≡ 3
+  pub key_size : m.header.key_size ≡ length m.key
+  pub key : (tags : List Tag) × (address : List ℕ) × KeyReads m.key tags address
+  pub key_bytes : AreBytes m.key
+  pub elements : AreElements m.elements
+  pub element_bytes : AreBytes (elements_bytes m.elements)
+  pub hashes : length m.hashes ≡ chunks m.offset
+  pub hash_words : AllByRecursion (λ h. h < 2 ^ 16) m.hashes
+  pub offset : m.offset < 2 ^ 32 - 1
+  pub small : length (block_bytes m) ≤ BLOCK_MAX
+
+-- the block of a body of this length spells m
+pub record Spells (block : List ℕ) (offset : ℕ) (m : Meta) : Type 0 where
+  pub meta : IsMeta m
+  pub at : m.offset ≡ offset
+  pub bytes : block ≡ block_bytes m

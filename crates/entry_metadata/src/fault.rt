@@ -1,0 +1,48 @@
+//! What is wrong with a metadata block.
+
+ghost use Rattle.std.specs.Prelude.{◌≡◌};
+ghost use Rattle.entry_metadata.specs.PartsFault.{fault_of};
+ghost use Rattle.entry_metadata.specs.declared.fault.MetaFault.TheVariants.{Memory};
+
+use cache_base::NoMemory;
+use entry_parts::PartsFault;
+
+/// The first failing check of a block, in this order, or want of memory.
+#[derive(Clone, Copy, Debug, PartialEq, Eq)]
+pub enum MetaFault {
+    /// The block ends before its key can.
+    Short,
+    /// The block has more than `BLOCK_MAX` bytes.
+    TooBig,
+    /// The header's version is not 3.
+    Version,
+    /// No zero byte stands behind the key.
+    KeyEnd,
+    /// The hash is not that of what follows it.
+    Hash,
+    /// The key does not have the grammar of keys.
+    KeyForm,
+    /// The elements do not have the form of elements.
+    Elements,
+    /// Memory ran out.
+    Memory,
+}
+
+impl From<NoMemory> for MetaFault {
+    ghost from_gives = { λ _ e. e ≡ Memory };
+
+    fn from(_: NoMemory) -> Self {
+        MetaFault::Memory
+    }
+}
+
+impl From<PartsFault> for MetaFault {
+    ghost from_gives = { λ f e. e ≡ fault_of f };
+
+    fn from(fault: PartsFault) -> Self {
+        match fault {
+            PartsFault::BadForm => MetaFault::Elements,
+            PartsFault::Memory => MetaFault::Memory,
+        }
+    }
+}

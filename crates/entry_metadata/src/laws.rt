@@ -1,0 +1,13 @@
+//! What follows from the definitions of metadata blocks.
+
+ghost use Rattle.entry_metadata.specs.Laws.{BlockFitsExactly, BlockReadsBack};
+
+/// A block that is written passes its checks, and is read back.
+pub fn block_reads_back()
+    ensures { BlockReadsBack }
+{}
+
+/// Bytes pass the checks of a block exactly where they spell metadata.
+pub fn block_fits_exactly()
+    ensures { BlockFitsExactly }
+{}

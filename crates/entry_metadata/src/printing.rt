@@ -1,0 +1,86 @@
+//! Printing a metadata block.
+
+ghost use Rattle.std.specs.Prelude.{◌≡◌, ◌++◌, ◌∷◌, IfOk, OnOk, flat_map, length};
+ghost use Rattle.cache_base.specs.Bytes.{be16, be32};
+ghost use Rattle.entry_metadata.specs.Fields.{FieldsFit};
+ghost use Rattle.entry_metadata.specs.Meta.{meta_of};
+ghost use Rattle.entry_metadata.specs.Metadata.{IsMeta, block_bytes, block_rest};
+ghost use Rattle.jenkins_hash.specs.Hash.{hash_of};
+
+use crate::Meta;
+use cache_base::{Bytes, NoMemory};
+use std::alloc::Global;
+
+fn push_hashes(out: &mut Bytes, hashes: &[u16]) -> Result<(), NoMemory>
+    ensures { OnOk result (out.new ≡ out.old ++ flat_map be16 hashes.now) }
+{
+    for hash in hashes {
+        out.extend(&hash.to_be_bytes())?;
+    }
+    Ok(())
+}
+
+// What stands in slices of these types fits two bytes, and one.
+fn fields_fit(hashes: &[u16], key: &[u8], elements: &[u8])
+    ensures { FieldsFit hashes.now key.now elements.now }
+{}
+
+fn joined(
+    alloc: Global,
+    hashes: &[u16],
+    header: &[u8; 32],
+    key: &[u8],
+    elements: &[u8],
+) -> Result<Bytes, NoMemory>
+    ensures { IfOk result (λ out.
+        out ≡ flat_map be16 hashes.now ++ (header.now ++ (key.now ++ 0 ∷ elements.now))) }
+{
+    let mut out = Bytes::new(alloc);
+    push_hashes(&mut out, hashes)?;
+    out.extend(header)?;
+    out.extend(key)?;
+    out.push(0)?;
+    out.extend(elements)?;
+    Ok(out)
+}
+
+// The block past its hash.
+fn rest_of(alloc: Global, meta: &Meta) -> Result<Bytes, NoMemory>
+    ensures meta { IsMeta (meta_of meta.now) }
+    ensures bytes { IfOk result (λ rest. rest ≡ block_rest (meta_of meta.now)) }
+{
+    let hashes = meta.hashes.as_slice();
+    let header = meta.header.write();
+    let key = meta.key.as_slice();
+    let elements = meta.elements.print();
+    fields_fit(hashes, key, elements);
+    joined(alloc, hashes, &header, key, elements)
+}
+
+fn with_ends(alloc: Global, rest: &[u8], offset: u32) -> Result<Bytes, NoMemory>
+    ensures { IfOk result (λ out. out ≡ (be32 (hash_of rest.now) ++ rest.now) ++ be32 offset) }
+{
+    let mut out = Bytes::new(alloc);
+    out.extend(&jenkins_hash::hash(rest).to_be_bytes())?;
+    out.extend(rest)?;
+    out.extend(&offset.to_be_bytes())?;
+    Ok(out)
+}
+
+/// The block, and behind it the final offset in four bytes. Fails only for want of memory.
+pub fn print(alloc: Global, meta: &Meta) -> Result<Bytes, NoMemory>
+    ensures meta { IsMeta (meta_of meta.now) }
+    ensures bytes { IfOk result (λ out. out ≡ block_bytes (meta_of meta.now) ++ be32 meta.now.offset) }
+{
+    let rest = rest_of(alloc, meta)?;
+    with_ends(alloc, rest.as_slice(), meta.offset)
+}
+
+/// The number of bytes of the block, without the final offset.
+pub fn block_len(meta: &Meta) -> usize
+    ensures { result ≡ length (block_bytes (meta_of meta.now)) }
+{
+    let hashes = meta.hashes.as_slice().len();
+    let key = meta.key.as_slice().len();
+    4 + 2 * hashes + 32 + key + 1 + meta.elements.len()
+}

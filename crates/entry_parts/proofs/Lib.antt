@@ -1,0 +1,4 @@
+pub mod Cuts
+pub mod ElementLaws
+pub mod HeaderLaws
+pub mod SpelledLaws

@@ -1,0 +1,33 @@
+//! What follows from the definitions of headers and elements.
+
+ghost use Rattle.std.specs.Int.{w16, w32, w64};
+ghost use Rattle.entry_parts.specs.Elements.{ElementsReadBack, ElementsSpell};
+ghost use Rattle.entry_parts.specs.Header.{HeaderReadsBack, HeaderSpells};
+ghost use Rattle.entry_parts.specs.Numbers.{NumberSpells};
+
+/// A header that is written is read back.
+pub fn header_reads_back()
+    ensures { HeaderReadsBack }
+{}
+
+/// 32 bytes are the bytes of the header in them.
+pub fn header_spells()
+    ensures { HeaderSpells }
+{}
+
+/// Elements that are written are read back.
+pub fn elements_read_back()
+    ensures { ElementsReadBack }
+{}
+
+/// Bytes that have the form of elements are the bytes of the elements in them.
+pub fn elements_spell()
+    ensures { ElementsSpell }
+{}
+
+/// A big-endian number that was read from bytes is written as the same bytes again.
+pub fn numbers_spell()
+    ensures two { NumberSpells w16 2 }
+    ensures four { NumberSpells w32 4 }
+    ensures eight { NumberSpells w64 8 }
+{}

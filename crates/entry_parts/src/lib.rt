@@ -1,0 +1,18 @@
+//! The parts of an entry's metadata: the header, which is eight numbers, and the elements, which are named values.
+//! Each is read from its bytes and written as its bytes, and what one does the other undoes.
+#![tactic(auto)]
+
+mod elements;
+mod fault;
+mod header;
+mod laws;
+
+pub use elements::Elements;
+pub use fault::PartsFault;
+pub use header::Header;
+pub use laws::{
+    elements_read_back, elements_spell, header_reads_back, header_spells, numbers_spell,
+};
+
+#[cfg(test)]
+mod tests;
