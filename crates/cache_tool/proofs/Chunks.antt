@@ -1,5 +1,8 @@
 -- A body within one chunk is that chunk, or none where it is empty.
-use Rattle.std.proofs.Common.{◌≡◌, ◌<◌, ◌≤◌, ◌*◌, [], ◌∷◌, ℕ, List, length, map, take, drop, ap, ◌∙◌, arith}
+use Rattle.std.proofs.Common.{◌≡◌, ◌<◌, ◌≤◌, ◌*◌, [], ◌∷◌, ℕ, List, length, map, take, drop, ap, ◌∙◌, arith, Some, None, Result, Ok, Err, OnOk, IfSome}
+use Rattle.std.specs.declared.option.Option.{Option}
+use Rattle.std.proofs.lemmas.List.{length-take}
+use Rattle.cache_tool.specs.Get.{front_of}
 use Rattle.std.specs.List.{range_with_len}
 use Rattle.std.proofs.lemmas.Grind.{common_steps}
 use Rattle.std.proofs.lemmas.List.FromFn.{length-map-range_with_len}
@@ -26,3 +29,12 @@ hashes_of_none body none = ap (λ n. map (λ i. hash16_of (chunk body i)) (range
 
 pub length-chunk_hashes : (body : List ℕ) → length (chunk_hashes body) ≡ chunks (length body)
 length-chunk_hashes body = length-map-range_with_len (λ i. hash16_of (chunk body i)) 0 (chunks (length body))
+
+-- a body of one chunk at most that was read as its first chunk
+pub read_as_front : {E : Type 0} (r : Result (Unit {0}) E) (T : Type 0) (content : Option (List ℕ)) (len : ℕ) (bytes : List ℕ) → 0 < len → len ≤ 262144
+    → OnOk r (T → IfSome content (λ c. len ≤ length c → bytes ≡ chunk (take len c) 0)) → OnOk r (T → len ≤ length (front_of len content) → bytes ≡ front_of len content)
+read_as_front (Ok u) T None len bytes some short read = λ told fits. absurd (omega (arith, some, fits))
+read_as_front (Ok u) T (Some c) len bytes some short read = λ told fits.
+    let whole_front : length (take len c) ≤ 262144 = omega (arith, short, length-take len c) in
+    read told (omega (arith, fits, length-take len c)) ∙ chunk_of_short (take len c) whole_front
+read_as_front (Err e) T content len bytes some short read = tt

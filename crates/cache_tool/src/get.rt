@@ -20,13 +20,12 @@ use crate::refusal::Refusal;
 use crate::stop::Stop;
 use cache_base::{Buffer, Bytes, CHUNK, NoMemory, Status};
 use cache_io::{Sink, SinkFault};
-use chunk_store::Damage;
+use chunk_store::{ChunkAnswer, Damage, check_chunk, read_chunk};
 use disk_model::{Disk, DiskFault, Place};
 use entry_file::{EntryRead, read_meta};
 use entry_key::may_write;
 use entry_metadata::Meta;
 use entry_name::name_of;
-use jenkins_hash::hash16;
 use std::alloc::Global;
 
 // The damage of a body of one chunk at most.
@@ -39,23 +38,21 @@ fn damage_of(hashes: &[u16], body: &[u8]) -> Option<Damage>
     if body.is_empty() {
         return None;
     }
-    let stored = hashes[0];
-    let found = hash16(body);
-    if found == stored {
-        return None;
+    match check_chunk(hashes[0], body) {
+        ChunkAnswer::Fits => None,
+        ChunkAnswer::Differs { stored, found } => Some(Damage {
+            chunk: 0,
+            stored,
+            found,
+        }),
     }
-    Some(Damage {
-        chunk: 0,
-        stored,
-        found,
-    })
 }
 
-// Fills the buffer with the first bytes of a file.
-fn read_front<D: Disk>(
+// Fills the buffer with a body of one chunk at most.
+fn read_short<D: Disk>(
     disk: &mut D,
     place: &Place,
-    len: usize,
+    len: u32,
     buf: &mut Buffer,
 ) -> Result<(), DiskFault>
     requires { len ≤ CHUNK }
@@ -65,9 +62,11 @@ fn read_front<D: Disk>(
     ensures no_change { IsTrue D.tells → (D.counts disk.new).failed_change ≡ (D.counts disk.old).failed_change }
     ensures cause { HasCause (IsErrOf result DiskFault.Failed) (D.faults disk.old) (D.faults disk.new) }
 {
-    buf.set_len(len);
-    disk.read(place, 0, buf.as_mut_slice())?;
-    Ok(())
+    if len == 0 {
+        buf.set_len(0);
+        return Ok(());
+    }
+    read_chunk(disk, place, len, 0, buf)
 }
 
 // Reads and checks the body of a file that fits.
@@ -84,11 +83,10 @@ fn read_body<D: Disk>(
     ensures no_change { IsTrue D.tells → (D.counts disk.new).failed_change ≡ (D.counts disk.old).failed_change }
     ensures disk { HasCause (IsErrOf result Stop.Disk) (D.faults disk.old) (D.faults disk.new) }
 {
-    let len = meta.offset as usize;
-    if len > CHUNK {
+    if meta.offset as usize > CHUNK {
         return Ok(Err(Refusal::TooLong));
     }
-    read_front(disk, place, len, buf)?;
+    read_short(disk, place, meta.offset, buf)?;
     match damage_of(meta.hashes.as_slice(), buf.as_slice()) {
         None => Ok(Ok(meta)),
         Some(damage) => Ok(Err(Refusal::Damaged(damage))),
