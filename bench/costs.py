@@ -1,9 +1,9 @@
 """Measures whole runs of programs against one another in processor time.
 
-costs.py LIMIT NAME=PROGRAM NAME=PROGRAM -- WORD ..
+costs.py LIMIT RUNS INPUT NAME=PROGRAM NAME=PROGRAM -- WORD ..
 
-The programs run in turn with these words, and their output goes nowhere. The status is 1 where the ratio of the first
-program's time to the second's is above LIMIT.
+The programs run in turn with these words, RUNS times in each of the passes, with the file INPUT as their standard input,
+and their output goes nowhere. The status is 1 where the ratio of the first program's time to the second's is above LIMIT.
 """
 import os
 import statistics
@@ -11,13 +11,13 @@ import subprocess
 import sys
 
 PASSES = 5
-RUNS = 300
 
 
-def run(command):
+def run(command, source):
     """The processor seconds of one run."""
-    child = subprocess.Popen(command, stdout=subprocess.DEVNULL)
-    _, status, usage = os.wait4(child.pid, 0)
+    with open(source, "rb") as body:
+        child = subprocess.Popen(command, stdin=body, stdout=subprocess.DEVNULL)
+        _, status, usage = os.wait4(child.pid, 0)
     child.returncode = os.waitstatus_to_exitcode(status)
     if child.returncode != 0:
         sys.exit(f"{command}: status {child.returncode}")
@@ -26,13 +26,13 @@ def run(command):
 
 def main():
     split = sys.argv.index("--")
-    limit = float(sys.argv[1])
-    programs = dict(word.split("=", 1) for word in sys.argv[2:split])
+    limit, runs, source = float(sys.argv[1]), int(sys.argv[2]), sys.argv[3]
+    programs = dict(word.split("=", 1) for word in sys.argv[4:split])
     words = sys.argv[split + 1 :]
     times = {name: [] for name in programs}
     for _ in range(PASSES):
         for name, program in programs.items():
-            times[name].append(sum(run([program, *words]) for _ in range(RUNS)) / RUNS)
+            times[name].append(sum(run([program, *words], source) for _ in range(runs)) / runs)
 
     median = {name: statistics.median(each) for name, each in times.items()}
     print(f"{'program':<10}{'ms a run':>10}{'least':>9}{'most':>9}")

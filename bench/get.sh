@@ -16,4 +16,4 @@ cp "$here/../crates/cache_tool/out/cache_tool" "$work/cache2"
 "$work/get_c" "$work/cache" 1000 get :https://example.com/ >"$work/two"
 cmp "$work/one" "$work/two"
 
-python3 "$here/costs.py" 1.3 "rattle=$work/cache2" "c=$work/get_c" -- "$work/cache" 1000 get :https://example.com/
+python3 "$here/costs.py" 1.3 300 /dev/null "rattle=$work/cache2" "c=$work/get_c" -- "$work/cache" 1000 get :https://example.com/

@@ -3,4 +3,5 @@ pub mod Bytes
 pub mod Causes
 pub mod Checks
 pub mod Limits
+pub mod Names
 pub mod Status

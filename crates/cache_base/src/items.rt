@@ -1,6 +1,6 @@
 //! Small lists that contracts see as lists.
 
-ghost use Rattle.std.specs.Prelude.{◌≡◌, ◌↔◌, List, [], ◌∷◌, ◌++◌, OnOk, OnErr, Any, IsTrue};
+ghost use Rattle.std.specs.Prelude.{◌≡◌, ◌↔◌, List, [], ◌∷◌, ◌++◌, IfOk, OnOk, OnErr, Any, IsTrue};
 
 use crate::Name;
 use std::alloc::{AllocError, AllocFailed, Global};
@@ -42,6 +42,15 @@ impl<T: Drop> Items<T> {
         Items {
             items: Vec::new(alloc),
         }
+    }
+
+    /// The empty list, with room for so many items. Fails only for want of memory.
+    pub fn with_room(alloc: Global, items: usize) -> Result<Self, NoMemory>
+        ensures { IfOk result (λ list. list ≡ []) }
+    {
+        Ok(Items {
+            items: Vec::with_capacity(alloc, items)?,
+        })
     }
 
     /// Lends the items.

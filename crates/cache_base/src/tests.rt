@@ -45,6 +45,10 @@ fn lists_grow_at_their_end(rt: HostRuntime) -> Result<(), Fail> {
     numbers.push(3)?;
     assert!(rt; numbers.has(3));
     assert!(rt; !numbers.has(4));
+    let mut roomy = Numbers::with_room(rt.alloc(), 2)?;
+    assert!(rt; roomy.as_slice().is_empty());
+    roomy.push(7)?;
+    assert!(rt; roomy.has(7));
     Ok(())
 }
 

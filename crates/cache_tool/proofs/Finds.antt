@@ -1,34 +1,30 @@
 -- What a `get` answers, by what was read at the key's place.
 use Rattle.std.proofs.Common.{◌≡◌, ◌≢◌, ◌≤◌, ◌∙◌, ℕ, List, length, take, Bool, true, false, Option, Some, None, Result, Ok, Err, refl, sym, ap, subst, arith}
-use Rattle.std.specs.Prelude.{◌&&◌, nat_lt, if◌then◌else◌, is_none, IfOk}
+use Rattle.std.specs.Prelude.{if◌then◌else◌, IfOk}
 use Rattle.std.specs.Str.{bytes_eq}
 use Rattle.std.specs.Cmp.Lexicographic.{bytes_decides}
 use Rattle.std.proofs.lemmas.Bool.Decides.{nat_tests}
-use Rattle.cache_base.specs.Limits.{chunk_size}
 use Rattle.chunk_store.specs.Chunks.{damages}
 use Rattle.entry_key.specs.Writing.{may_write}
 use Rattle.entry_name.specs.EntryName.{file_name}
 use Rattle.entry_metadata.specs.Checks.{meta_in}
 use Rattle.entry_metadata.specs.Metadata.{Meta as Said}
-use Rattle.entry_file.specs.EntryFile.{Reading, by_damages, by_fault, file_fault, file_meta, fits, has_offset, offset_in, body_in, read as reading, read_for}
-use Rattle.entry_file.specs.EntryFile.Reading.{Nothing}
-use Rattle.entry_file.specs.declared.entry_read.Unfit.{Unfit}
-use Rattle.cache_tool.specs.declared.refusal.Refusal.TheVariants as refused
-use Rattle.disk_model.specs.State.{State, standing}
-use Rattle.disk_model.specs.declared.place.Place.TheVariants.{Entry}
 use Rattle.entry_metadata.specs.Meta.{meta_of}
 use Rattle.entry_metadata.specs.declared.meta.Meta.{Meta}
+use Rattle.entry_file.specs.Damages.{HasMeta}
+use Rattle.entry_file.specs.EntryFile.{by_damages, by_fault, file_fault, file_meta, has_offset, offset_in, body_in, read as reading, read_for}
+use Rattle.entry_file.specs.EntryFile.Reading.{Nothing}
 use Rattle.entry_file.specs.EntryRead.{ReadsAs}
 use Rattle.entry_file.specs.declared.entry_read.EntryRead.TheVariants as read
-use Rattle.cache_tool.specs.Place.{entry_place}
-use Rattle.cache_tool.specs.Get.{get_answer, is_long, of_reading, body_answer, front_of, HasMeta}
+use Rattle.entry_file.specs.declared.entry_read.Unfit.{Unfit}
+use Rattle.cache_tool.specs.declared.refusal.Refusal.TheVariants as refused
+use Rattle.cache_tool.specs.Get.{get_answer, of_reading, body_answer, front_of}
 
 -- the answer under a key that may be written
-writable : (key : List ℕ) (content : Option (List ℕ)) → may_write key ≡ true
-    → get_answer key content ≡ (if is_long key content then Err refused.TooLong else of_reading (read_for key content))
-writable key content good = ap (λ (b : Bool). if b then (if is_long key content then Err refused.TooLong else of_reading (read_for key content)) else Err refused.BadKey) good
+writable : (key : List ℕ) (content : Option (List ℕ)) → may_write key ≡ true → get_answer key content ≡ of_reading (read_for key content)
+writable key content good = ap (λ (b : Bool). if b then of_reading (read_for key content) else Err refused.BadKey) good
 
-pub nothing_stands : (key : List ℕ) → may_write key ≡ true → Err refused.Absent ≡ get_answer key None
+nothing_stands : (key : List ℕ) → may_write key ≡ true → Err refused.Absent ≡ get_answer key None
 nothing_stands key good = sym (writable key None good)
 
 reads_nothing : (name c : List ℕ) (f : Unfit) → file_fault name c ≡ Some f → reading name c ≡ Nothing
@@ -43,67 +39,40 @@ offset_of_meta : (c : List ℕ) → (file_meta c).offset ≡ offset_in c
 unfolding meta_in
 offset_of_meta c = refl
 
--- what is long or not, and read, by whether the file fits and has the key
-long_if : (key c : List ℕ) (b e : Bool) → fits (file_name key) c ≡ b → bytes_eq (file_meta c).key key ≡ e → is_long key (Some c) ≡ (b && e && nat_lt chunk_size (file_meta c).offset)
-long_if key c b e is same = ap (λ (x : Bool). x && bytes_eq (file_meta c).key key && nat_lt chunk_size (file_meta c).offset) is ∙ ap (λ (x : Bool). b && x && nat_lt chunk_size (file_meta c).offset) same
-
 read_if : (key c : List ℕ) (e : Bool) → bytes_eq (file_meta c).key key ≡ e → read_for key (Some c) ≡ (if e then reading (file_name key) c else Nothing)
 read_if key c e same = ap (λ (x : Bool). if x then reading (file_name key) c else Nothing) same
 
 -- a file that does not fit
-pub unfit_is_absent : (key c : List ℕ) (f : Unfit) → may_write key ≡ true → file_fault (file_name key) c ≡ Some f → Err refused.Absent ≡ get_answer key (Some c)
+unfit_is_absent : (key c : List ℕ) (f : Unfit) → may_write key ≡ true → file_fault (file_name key) c ≡ Some f → Err refused.Absent ≡ get_answer key (Some c)
 unfit_is_absent key c f good is = sym (writable key (Some c) good ∙ go (bytes_eq (file_meta c).key key) refl)
   where
-    go : (e : Bool) → bytes_eq (file_meta c).key key ≡ e → (if is_long key (Some c) then Err refused.TooLong else of_reading (read_for key (Some c))) ≡ Err refused.Absent
-    go e same =
-        let long : is_long key (Some c) ≡ false = long_if key c false e (ap (λ (o : Option Unfit). is_none o) is) same in
-        ap (λ (b : Bool). if b then Err refused.TooLong else of_reading (read_for key (Some c))) long
-        ∙ ap of_reading (read_if key c e same) ∙ either e
+    go : (e : Bool) → bytes_eq (file_meta c).key key ≡ e → of_reading (read_for key (Some c)) ≡ Err refused.Absent
+    go e same = ap of_reading (read_if key c e same) ∙ either e
       where
         either : (b : Bool) → of_reading (if b then reading (file_name key) c else Nothing) ≡ Err refused.Absent
         either true = ap of_reading (reads_nothing (file_name key) c f is)
         either false = refl
 
 -- a file of another key
-pub other_is_absent : (key c : List ℕ) → may_write key ≡ true → (file_meta c).key ≢ key → Err refused.Absent ≡ get_answer key (Some c)
-other_is_absent key c good other = sym (writable key (Some c) good ∙ all)
+other_is_absent : (key c : List ℕ) → may_write key ≡ true → (file_meta c).key ≢ key → Err refused.Absent ≡ get_answer key (Some c)
+other_is_absent key c good other = sym (writable key (Some c) good ∙ ap of_reading (read_if key c false (apart (bytes_eq (file_meta c).key key) refl)))
   where
     apart : (e : Bool) → bytes_eq (file_meta c).key key ≡ e → e ≡ false
     apart true is = absurd (other ((bytes_decides (file_meta c).key key).0 is))
     apart false is = refl
 
-    differs : bytes_eq (file_meta c).key key ≡ false
-    differs = apart (bytes_eq (file_meta c).key key) refl
-
-    never_long : (b : Bool) → fits (file_name key) c ≡ b → is_long key (Some c) ≡ false
-    never_long true is = long_if key c true false is differs
-    never_long false is = long_if key c false false is differs
-
-    all : (if is_long key (Some c) then Err refused.TooLong else of_reading (read_for key (Some c))) ≡ Err refused.Absent
-    all =
-        ap (λ (b : Bool). if b then Err refused.TooLong else of_reading (read_for key (Some c))) (never_long (fits (file_name key) c) refl)
-        ∙ ap of_reading (read_if key c false differs)
-
 -- a file that fits and has the key
-pub fit_is_read : (key c : List ℕ) → may_write key ≡ true → file_fault (file_name key) c ≡ None → (file_meta c).key ≡ key
+fit_is_read : (key c : List ℕ) → may_write key ≡ true → file_fault (file_name key) c ≡ None → (file_meta c).key ≡ key
     → body_answer (file_meta c) (take (file_meta c).offset c) ≡ get_answer key (Some c)
 fit_is_read key c good none same = sym (writable key (Some c) good ∙ all)
   where
-    equal : bytes_eq (file_meta c).key key ≡ true
-    equal = (bytes_decides (file_meta c).key key).1 same
-
-    long : is_long key (Some c) ≡ nat_lt chunk_size (file_meta c).offset
-    long = long_if key c true true (ap (λ (o : Option Unfit). is_none o) none) equal
-
     body : body_in c ≡ take (file_meta c).offset c
     body = ap (λ n. take n c) (sym (offset_of_meta c))
 
-    all : (if is_long key (Some c) then Err refused.TooLong else of_reading (read_for key (Some c))) ≡ body_answer (file_meta c) (take (file_meta c).offset c)
+    all : of_reading (read_for key (Some c)) ≡ body_answer (file_meta c) (take (file_meta c).offset c)
     all =
-        ap (λ (b : Bool). if b then Err refused.TooLong else of_reading (read_for key (Some c))) long
-        ∙ ap (λ (r : Reading). if nat_lt chunk_size (file_meta c).offset then Err refused.TooLong else of_reading r)
-        (read_if key c true equal ∙ reads_body (file_name key) c none
-        ∙ ap (λ (b : List ℕ). by_damages (file_meta c) b (damages (file_meta c).hashes (file_meta c).offset b)) body)
+        ap of_reading (read_if key c true ((bytes_decides (file_meta c).key key).1 same) ∙ reads_body (file_name key) c none)
+        ∙ ap (λ (b : List ℕ). body_answer (file_meta c) b) body
 
 offset_fits : (name c : List ℕ) → file_fault name c ≡ None → offset_in c ≤ length c
 unfolding file_fault
@@ -114,58 +83,50 @@ offset_fits name c fine = go (has_offset c) refl
     go false is = grind (arith, nat_tests)
 
 -- the body of a file that fits stands before its offset
-pub fit_has_meta : (name c : List ℕ) (m : Said) → file_fault name c ≡ None → m ≡ file_meta c → HasMeta (Some c) m
+fit_has_meta : (name c : List ℕ) (m : Said) → file_fault name c ≡ None → m ≡ file_meta c → HasMeta (Some c) m
 fit_has_meta name c m none says =
     (says, subst (λ n. n ≤ length c) (sym (ap (λ (s : Said). s.offset) says ∙ offset_of_meta c)) (offset_fits name c none))
 
--- The same of what stands on a disk, where the name of the key was computed.
-module _ (key name : List ℕ) (s : State) (named : name ≡ file_name key) where
-  abbrev pub there : Option (List ℕ)
-  there = standing s (Entry (record { 0 = name }))
+-- The same of what stands at a place of a key that may be written, and whose name this is.
+module _ (key name : List ℕ) (content : Option (List ℕ)) (named : name ≡ file_name key) (good : may_write key ≡ true) where
+  by_name : (P : List ℕ → Type 0) → P name → P (file_name key)
+  by_name P at = subst P named at
 
-  -- what holds of the content at the computed name holds at the entry's place
-  moved : (P : List ℕ → Option (List ℕ) → Type 0) → P name there → P (file_name key) (standing s (entry_place key))
-  moved P at = subst (λ (n : List ℕ). P n (standing s (Entry (record { 0 = n })))) named at
-
-  pub absent_answers : may_write key ≡ true → ReadsAs name there read.Absent → Err refused.Absent ≡ get_answer key (standing s (entry_place key))
-  absent_answers good reads = by_content (standing s (entry_place key)) (moved (λ n c. ReadsAs n c read.Absent) reads)
+  pub absent_answers : ReadsAs name content read.Absent → Err refused.Absent ≡ get_answer key content
+  absent_answers reads = by_content content reads
     where
-      by_content : (content : Option (List ℕ)) → ReadsAs (file_name key) content read.Absent → Err refused.Absent ≡ get_answer key content
+      by_content : (o : Option (List ℕ)) → ReadsAs name o read.Absent → Err refused.Absent ≡ get_answer key o
       by_content None is = nothing_stands key good
       by_content (Some c) is = absurd is
 
-  pub unfit_answers : (f : Unfit) → may_write key ≡ true → ReadsAs name there (read.Unfit f) → Err refused.Absent ≡ get_answer key (standing s (entry_place key))
-  unfit_answers f good reads = by_content (standing s (entry_place key)) (moved (λ n c. ReadsAs n c (read.Unfit f)) reads)
+  pub unfit_answers : (f : Unfit) → ReadsAs name content (read.Unfit f) → Err refused.Absent ≡ get_answer key content
+  unfit_answers f reads = by_content content reads
     where
-      by_content : (content : Option (List ℕ)) → ReadsAs (file_name key) content (read.Unfit f) → Err refused.Absent ≡ get_answer key content
+      by_content : (o : Option (List ℕ)) → ReadsAs name o (read.Unfit f) → Err refused.Absent ≡ get_answer key o
       by_content None is = absurd is
-      by_content (Some c) is = unfit_is_absent key c f good is
+      by_content (Some c) is = unfit_is_absent key c f good (by_name (λ n. file_fault n c ≡ Some f) is)
 
-  module _ (meta : Meta) (size : ℕ) (reads : ReadsAs name there (read.Fits meta size)) where
-    pub other_answers : may_write key ≡ true → meta.key ≢ key → Err refused.Absent ≡ get_answer key (standing s (entry_place key))
-    other_answers good other = by_content (standing s (entry_place key)) (moved (λ n c. ReadsAs n c (read.Fits meta size)) reads)
+  module _ (meta : Meta) (size : ℕ) (reads : ReadsAs name content (read.Fits meta size)) where
+    pub other_answers : meta.key ≢ key → Err refused.Absent ≡ get_answer key content
+    other_answers other = by_content content reads
       where
-        by_content : (content : Option (List ℕ)) → ReadsAs (file_name key) content (read.Fits meta size) → Err refused.Absent ≡ get_answer key content
+        by_content : (o : Option (List ℕ)) → ReadsAs name o (read.Fits meta size) → Err refused.Absent ≡ get_answer key o
         by_content None is = absurd is
         by_content (Some c) is = other_is_absent key c good (λ same. other (ap (λ (m : Said). m.key) is.1 ∙ same))
 
-    pub fit_answers : may_write key ≡ true → meta.key ≡ key → body_answer (meta_of meta) (front_of meta.offset there) ≡ get_answer key (standing s (entry_place key))
-    fit_answers good same = here
+    pub fit_answers : meta.key ≡ key → body_answer (meta_of meta) (front_of meta.offset content) ≡ get_answer key content
+    fit_answers same = by_content content reads
       where
-        by_content : (content : Option (List ℕ)) → ReadsAs (file_name key) content (read.Fits meta size) → body_answer (meta_of meta) (front_of meta.offset content) ≡ get_answer key content
+        by_content : (o : Option (List ℕ)) → ReadsAs name o (read.Fits meta size) → body_answer (meta_of meta) (front_of meta.offset o) ≡ get_answer key o
         by_content None is = absurd is
         by_content (Some c) is =
             ap (λ (m : Said). body_answer m (take m.offset c)) is.1
-            ∙ fit_is_read key c good is.0 (sym (ap (λ (m : Said). m.key) is.1) ∙ same)
+            ∙ fit_is_read key c good (by_name (λ n. file_fault n c ≡ None) is.0) (sym (ap (λ (m : Said). m.key) is.1) ∙ same)
 
-        here : body_answer (meta_of meta) (front_of meta.offset there) ≡ get_answer key (standing s (entry_place key))
-        here = subst (λ (n : List ℕ). body_answer (meta_of meta) (front_of meta.offset (standing s (Entry (record { 0 = n })))) ≡ get_answer key (standing s (entry_place key))) (sym named)
-            (by_content (standing s (entry_place key)) (moved (λ n c. ReadsAs n c (read.Fits meta size)) reads))
-
-    pub fit_stands : HasMeta there (meta_of meta)
-    fit_stands = by_content there reads
+    pub fit_stands : HasMeta content (meta_of meta)
+    fit_stands = by_content content reads
       where
-        by_content : (content : Option (List ℕ)) → ReadsAs name content (read.Fits meta size) → HasMeta content (meta_of meta)
+        by_content : (o : Option (List ℕ)) → ReadsAs name o (read.Fits meta size) → HasMeta o (meta_of meta)
         by_content None is = absurd is
         by_content (Some c) is = fit_has_meta name c (meta_of meta) is.0 is.1
 

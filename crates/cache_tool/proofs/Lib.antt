@@ -1,9 +1,10 @@
 pub mod Both
-pub mod Chunks
-pub mod Completed
-pub mod Damages
+pub mod Grows
 pub mod Finds
 pub mod Keys
 pub mod Left
 pub mod Numbers
 pub mod Printed
+pub mod Made
+pub mod Chunked
+pub mod Dues

@@ -1,12 +1,10 @@
 pub mod Asked
 pub mod Body
 pub mod Due
-pub mod Found
 pub mod Get
 pub mod NewEntry
 pub mod Place
 pub mod Printing
 pub mod Put
-pub mod Silent
 pub mod StopOf
 pub mod Words

@@ -1,6 +1,6 @@
 -- What a `put` answers, prints and leaves.
 use Rattle.std.specs.Prelude.{ℕ, nat_le, List, [], length, Option, Some, None, option_map, codes, IfSome, if◌then◌else◌}
-use Rattle.cache_base.specs.Limits.{chunk_size}
+use Rattle.cache_base.specs.declared.limits.TheConstants.{BODY_MAX}
 use Rattle.cache_base.specs.declared.status.Status.{Status}
 use Rattle.cache_base.specs.declared.status.Status.TheVariants.{Done, No, Source}
 use Rattle.disk_model.specs.State.{State}
@@ -13,9 +13,9 @@ use Rattle.cache_tool.specs.Printing.{line}
 use Rattle.cache_tool.specs.declared.put.Answer.{Answer}
 use Rattle.cache_tool.specs.declared.put.Answer.TheVariants.{Stored, BadKey, TooLarge, SourceFailed}
 
--- a body has one chunk at most
+-- a body may have so many bytes
 abbrev pub answer_to : List ℕ → Answer
-answer_to body = if nat_le (length body) chunk_size then Stored else TooLarge
+answer_to body = if nat_le (length body) BODY_MAX then Stored else TooLarge
 
 -- the answer that the key and the bytes of the source call for; none is told where the source does not tell them
 abbrev pub due_answer : List ℕ → Option (List ℕ) → Option Answer

@@ -1,11 +1,10 @@
 //! What is printed of a `get`, but for the body.
 
-ghost use Rattle.std.specs.Prelude.{◌≡◌, ◌++◌, ◌∷◌, [], Result, Ok, Err, OnOk, IfOk, decimal, flat_map, codes};
+ghost use Rattle.std.specs.Prelude.{◌≡◌, ◌++◌, ◌∷◌, OnOk, IfOk, decimal};
 ghost use Rattle.cache_base.specs.Bytes.{be16};
 ghost use Rattle.hex.specs.Hex.{encode_upper};
 ghost use Rattle.cache_tool.specs.Printing.{line};
-ghost use Rattle.cache_tool.specs.Found.{head_of};
-ghost use Rattle.cache_tool.specs.Get.{fields, hash_field, refusal_text, found_head, version_of};
+ghost use Rattle.cache_tool.specs.Get.{fields, hash_field, refusal_text, found_head};
 
 use crate::refusal::Refusal;
 use cache_base::{Bytes, NoMemory};
@@ -47,9 +46,10 @@ fn extend_line(to: &mut Bytes, text: &[u8]) -> Result<(), NoMemory>
     to.push(b'\n')
 }
 
-// The line of numbers and the elements of an entry whose body has this length.
-fn head_of_found(alloc: Global, meta: &Meta, body: &[u8]) -> Result<Bytes, NoMemory>
-    ensures { IfOk result (λ head. head ≡ found_head (version_of meta.now body.now)) }
+/// What is printed of an entry before its body.
+#[tactic(auto, unfolding(crate::specs::Get::found_head))]
+pub(crate) fn head(alloc: Global, meta: &Meta) -> Result<Bytes, NoMemory>
+    ensures { IfOk result (λ head. head ≡ found_head meta.now.header meta.now.elements meta.now.offset) }
 {
     let header = meta.header;
     let elements = meta.elements.print();
@@ -63,7 +63,7 @@ fn head_of_found(alloc: Global, meta: &Meta, body: &[u8]) -> Result<Bytes, NoMem
         u64::from(header.expiration),
         u64::from(header.flags),
         elements.len() as u64,
-        body.len() as u64,
+        u64::from(meta.offset),
     ];
     extend_fields(alloc, &mut head, &numbers)?;
     head.push(b'\n')?;
@@ -71,7 +71,7 @@ fn head_of_found(alloc: Global, meta: &Meta, body: &[u8]) -> Result<Bytes, NoMem
     Ok(head)
 }
 
-fn head_of_damage(alloc: Global, damage: Damage) -> Result<Bytes, NoMemory>
+fn damage_line(alloc: Global, damage: Damage) -> Result<Bytes, NoMemory>
     ensures { IfOk result (λ head. head ≡ line (refusal_text (Refusal.Damaged damage))) }
 {
     let mut head = Bytes::new(alloc);
@@ -91,19 +91,13 @@ fn one_line(alloc: Global, text: &[u8]) -> Result<Bytes, NoMemory>
     Ok(head)
 }
 
-/// What is printed before the body of what was found, or all that is printed of a refusal.
-pub(crate) fn head(
-    alloc: Global,
-    found: &Result<Meta, Refusal>,
-    body: &[u8],
-) -> Result<Bytes, NoMemory>
-    ensures { IfOk result (λ head. head ≡ head_of found.now body.now) }
+/// What is printed of a refusal.
+pub(crate) fn refusal_line(alloc: Global, refusal: Refusal) -> Result<Bytes, NoMemory>
+    ensures { IfOk result (λ text. text ≡ line (refusal_text refusal)) }
 {
-    match found {
-        Ok(meta) => head_of_found(alloc, meta, body),
-        Err(Refusal::BadKey) => one_line(alloc, b"bad key"),
-        Err(Refusal::Absent) => one_line(alloc, b"absent"),
-        Err(Refusal::TooLong) => one_line(alloc, b"too long"),
-        Err(Refusal::Damaged(damage)) => head_of_damage(alloc, *damage),
+    match refusal {
+        Refusal::BadKey => one_line(alloc, b"bad key"),
+        Refusal::Absent => one_line(alloc, b"absent"),
+        Refusal::Damaged(damage) => damage_line(alloc, damage),
     }
 }

@@ -8,7 +8,6 @@ mod found;
 mod get;
 mod printing;
 mod put;
-mod real_folder;
 mod refusal;
 mod run;
 mod stop;
@@ -18,7 +17,7 @@ mod words;
 
 use cache_base::Status;
 use cache_io::{StdSink, StdSource};
-use real_folder::RealDisk;
+use real_disk::RealDisk;
 use run::run;
 use std::env;
 use std::process::ExitCode;

@@ -9,6 +9,8 @@ ghost use Rattle.disk_model.specs.Standing.{Puts};
 ghost use Rattle.disk_model.specs.Sound.{IsQuiet};
 ghost use Rattle.disk_model.specs.Calls.{StopsAtFault};
 ghost use Rattle.entry_key.specs.Writing.{may_write as may_write_of};
+ghost use Rattle.entry_file.specs.Held.{held};
+ghost use Rattle.entry_file.specs.NewEntry.{HasBody};
 ghost use Rattle.entry_file.specs.Version.{file_of};
 ghost use Rattle.cache_tool.specs.NewEntry.{new_version};
 ghost use Rattle.cache_tool.specs.Place.{entry_place};
@@ -16,12 +18,13 @@ ghost use Rattle.cache_tool.specs.Printing.{IsPart, IsProperPart};
 ghost use Rattle.cache_tool.specs.Due.{put_due, IsAnswer};
 ghost use Rattle.cache_tool.specs.Put.{answer_to, due_answer, text_of, status_of, Leaves};
 
-use crate::body::{BodyFault, read_body};
+use crate::body::{BodyFault, Ended, append_all};
 use crate::entry::complete;
 use crate::stop::Stop;
 use cache_base::{Moment, Status};
 use cache_io::{Sink, SinkFault, Source, write_whole};
 use disk_model::{Disk, DiskFault, Place};
+use entry_file::{NewEntry, begin};
 use entry_key::may_write;
 use entry_name::name_of;
 use std::alloc::Global;
@@ -36,16 +39,18 @@ pub(crate) enum Answer {
     SourceFailed,
 }
 
-// Makes the entry of the source's bytes out of the empty file at its place, or removes that.
+// Makes the new entry at its place that of the source's bytes, or removes it.
 fn fill<D: Disk, S: Source>(
     alloc: Global,
     now: Moment,
     key: &[u8],
+    entry: NewEntry,
     place: &Place,
     source: &mut S,
     disk: &mut D,
 ) -> Result<Answer, Stop>
     requires good { may_write_of key.now ≡ true }
+    requires new { HasBody (held entry) [] }
     requires told { IsTrue D.tells → standing (D.state disk.old) place.now ≡ Some [] }
     ensures due { IfOk result (λ answer. (answer ≡ Answer.SourceFailed) ⊎ IfSome (S.left source.old) (λ body. answer ≡ answer_to body)) }
     ensures answers { IfOk result (λ answer. answer ≢ Answer.BadKey) }
@@ -59,13 +64,13 @@ fn fill<D: Disk, S: Source>(
     ensures went_on { IfOk result (λ _. IsTrue D.tells → (D.counts disk.new).failed_change ≡ (D.counts disk.old).failed_change) }
     ensures stops { IsTrue D.tells → StopsAtFault (D.counts disk.old) (D.counts disk.new) }
 {
-    match read_body(alloc, source) {
-        Ok(Some(mut file)) => {
-            complete(alloc, &mut file, now, key)?;
-            disk.write_end(place, 0, file.as_slice())?;
+    let mut entry = entry;
+    match append_all(&mut entry, source, disk, place) {
+        Ok(Ended::Whole) => {
+            complete(alloc, now, key, entry, place, disk)?;
             Ok(Answer::Stored)
         }
-        Ok(None) => {
+        Ok(Ended::TooLong) => {
             disk.remove(place)?;
             Ok(Answer::TooLarge)
         }
@@ -73,6 +78,7 @@ fn fill<D: Disk, S: Source>(
             disk.remove(place)?;
             Ok(Answer::SourceFailed)
         }
+        Err(BodyFault::Disk) => Err(Stop::Disk),
         Err(BodyFault::Memory) => Err(Stop::Memory),
     }
 }
@@ -100,8 +106,8 @@ fn store<D: Disk, S: Source>(
         return Ok(Answer::BadKey);
     }
     let place = Place::Entry(name_of(key));
-    disk.create(&place)?;
-    fill(alloc, now, key, &place, source, disk)
+    let entry = begin(alloc, disk, &place)?;
+    fill(alloc, now, key, entry, &place, source, disk)
 }
 
 // What is printed, a line or nothing.

@@ -9,8 +9,6 @@ pub(crate) enum Refusal {
     BadKey,
     /// No file that fits stands at the key's place, or it has another key.
     Absent,
-    /// The body has more than one chunk.
-    TooLong,
-    /// The body's chunk is not as it was written.
+    /// A chunk of the body is not as it was written: the first.
     Damaged(Damage),
 }

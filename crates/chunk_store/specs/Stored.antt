@@ -1,5 +1,5 @@
 -- How chunks stand in the file of an entry.
-use Rattle.std.specs.Prelude.{ℕ, List, [], ◌∷◌, ◌++◌, ◌*◌, ◌-◌, min, length, replicate, Option}
+use Rattle.std.specs.Prelude.{ℕ, List, [], ◌∷◌, ◌++◌, ◌*◌, ◌-◌, ◌/◌, ◌==◌, if◌then◌else◌, min, length, take, replicate, Option}
 use Rattle.cache_base.specs.Limits.{chunk_size}
 use Rattle.disk_model.specs.State.{part_of, Write}
 use Rattle.disk_model.specs.State.Write.{End}
@@ -23,3 +23,11 @@ stop_tail = 255 ∷ 255 ∷ 255 ∷ 255 ∷ []
 -- the write of chunk i at its place in a file that then ends with the stop tail
 abbrev pub chunk_write : ℕ → List ℕ → Write
 chunk_write i bytes = End (i * chunk_size) (bytes ++ stop_tail)
+
+-- so many bytes of a body are in whole chunks
+abbrev pub whole_len : List ℕ → ℕ
+whole_len body = length body / chunk_size * chunk_size
+
+-- the file of a body that is not finished: its whole chunks and the stop tail, or nothing where no chunk is whole
+abbrev pub unfinished_file : List ℕ → List ℕ
+unfinished_file body = if length body / chunk_size == 0 then [] else take (whole_len body) body ++ stop_tail

@@ -3,10 +3,10 @@ use Rattle.std.proofs.Common.{◌≡◌, ◌⊎◌, inl, inr, ℕ, List, zero, s
 use Rattle.std.proofs.lemmas.Bool.{cases_Bool}
 use Rattle.disk_model.specs.declared.place.Place.{Place}
 use Rattle.disk_model.specs.Place.{is_same}
-use Rattle.disk_model.specs.State.{Write, File, Names, State, with_name, content, names_now, with_file, added, settled, removed, add_write}
+use Rattle.disk_model.specs.State.{Write, File, Names, State, with_name, content, names_now, with_file, added, settled, removed, renamed, add_write}
 use Rattle.disk_model.specs.Sound.{names_before, room, AreInside, IsSound}
-use Rattle.disk_model.specs.MemTable.{written_to, names_settled}
-use Rattle.disk_model.proofs.Places.{is_same-refl, one_same}
+use Rattle.disk_model.specs.MemTable.{written_to}
+use Rattle.disk_model.proofs.Places.{one_same, never}
 use Rattle.disk_model.proofs.Files.{with_file-cases}
 
 -- no file at two places
@@ -27,9 +27,6 @@ there p q f names apart = ap (λ (b : Bool). if b then f else names q) apart
 pub found : (p q : Place) (f o : Option ℕ) (names : Names) → with_name p f names q ≡ o → ((q ≡ p) × (f ≡ o)) ⊎ ((names q ≡ o) × (is_same q p ≡ false))
 found p q f o names is =
     ⊎_elim (λ same. inl (one_same q p same, sym (here p q f names same) ∙ is)) (λ apart. inr (sym (there p q f names apart) ∙ is, apart)) (cases_Bool (is_same q p))
-
-pub never : (p q : Place) → q ≡ p → is_same q p ≡ false → ⊥
-never p q e apart = let same : is_same q p ≡ true = subst (λ (r : Place). is_same r p ≡ true) (sym e) (is_same-refl p) in cc
 
 apart_made : (p : Place) (n : ℕ) (names : Names) → IsApart names → IsBelow n names → IsApart (with_name p (Some n) names)
 apart_made p n names apart below a b file at bt =
@@ -82,6 +79,43 @@ sound_added p new s fits sound = record { one_place = one; made = below; inside 
     below zero = below_with p (Some s.made) (s.made + 1) (names_now s) (λ file is. let same : s.made ≡ file = cc in omega arith) (λ a file at. let lt = sound.made 0 a file at in omega (arith, lt))
     below (suc left) = λ a file at. let lt = sound.made left a file at in omega (arith, lt)
 
+apart_moved : (from to : Place) (names : Names) → IsApart names → IsApart (with_name from None (with_name to (names from) names))
+apart_moved from to names apart a b file at bt =
+    elim (stays a at) [
+      | inl here ↦ elim (stays b bt) [
+        | inl also ↦ here.0 ∙ sym also.0
+        | inr old ↦ absurd (old.1 (apart b from file old.0 here.1))
+      ]
+      | inr one ↦ elim (stays b bt) [
+        | inl also ↦ absurd (one.1 (apart a from file one.0 also.1))
+        | inr two ↦ apart a b file one.0 two.0
+      ]
+    ]
+  where
+    -- what stands after the move came from the first place, or stood there before
+    stays : (p : Place) → with_name from None (with_name to (names from) names) p ≡ Some file → ((p ≡ to) × (names from ≡ Some file)) ⊎ ((names p ≡ Some file) × (p ≡ from → ⊥))
+    stays p is =
+        elim (found from p None (Some file) (with_name to (names from) names) is) [
+          | inl gone ↦ cc
+          | inr kept ↦ elim (found to p (names from) (Some file) names kept.0) [
+            | inl here ↦ inl here
+            | inr old ↦ inr (old.0, λ e. never from p e kept.1)
+          ]
+        ]
+
+pub sound_renamed : (from to : Place) (s : State) → IsSound s → IsSound (renamed from to s)
+sound_renamed from to s sound = record { one_place = one; made = below; inside = sound.inside }
+  where
+    one : (left : ℕ) → IsApart (names_before (renamed from to s) left)
+    one zero = apart_moved from to (names_now s) (sound.one_place 0)
+    one (suc left) = sound.one_place left
+
+    below : (left : ℕ) → IsBelow s.made (names_before (renamed from to s) left)
+    below zero =
+        below_with from None s.made (with_name to (names_now s from) (names_now s)) (λ file is. cc)
+        (below_with to (names_now s from) s.made (names_now s) (sound.made 0 from) (sound.made 0))
+    below (suc left) = sound.made left
+
 pub sound_removed : (p : Place) (s : State) → IsSound s → IsSound (removed p s)
 sound_removed p s sound = record { one_place = one; made = below; inside = sound.inside }
   where
@@ -92,6 +126,10 @@ sound_removed p s sound = record { one_place = one; made = below; inside = sound
     below : (left : ℕ) → IsBelow s.made (names_before (removed p s) left)
     below zero = below_with p None s.made (names_now s) (λ file is. cc) (sound.made 0)
     below (suc left) = sound.made left
+
+-- the names of now are those of the last sync
+abbrev pub names_settled : State → State
+names_settled s = record s { names = names_now s; steps = [] }
 
 pub sound_names_settled : (s : State) → IsSound s → IsSound (names_settled s)
 sound_names_settled s sound = record { one_place = one; made = below; inside = sound.inside }

@@ -1,10 +1,11 @@
 -- What stands after each change.
-use Rattle.std.proofs.Common.{◌≡◌, ◌≢◌, ℕ, List, Option, Some, None, Bool, refl, sym, ◌∙◌, ap, if◌then◌else◌}
+use Rattle.std.proofs.Common.{◌≡◌, ◌≢◌, ℕ, List, Option, Some, None, Bool, refl, sym, ◌∙◌, ap, subst, if◌then◌else◌}
 use Rattle.disk_model.specs.declared.place.Place.{Place}
-use Rattle.disk_model.specs.State.{Write, File, State, content, content_of, written, add_write, write_to, names_now, standing, added, wrote, removed, settled}
+use Rattle.disk_model.specs.State.{Write, File, Names, State, with_name, content, content_of, written, add_write, write_to, names_now, standing, added, wrote, renamed, removed, settled}
 use Rattle.disk_model.specs.Sound.{IsSound}
-use Rattle.disk_model.specs.Standing.{Puts, SameStanding}
+use Rattle.disk_model.specs.Standing.{Puts, Moves, SameStanding}
 use Rattle.disk_model.proofs.Places.{is_same-refl, is_same-apart}
+use Rattle.disk_model.proofs.Sound.{names_settled}
 use Rattle.disk_model.proofs.Files.{with_file-same, with_file-apart, with_file-below, content_of-same}
 
 -- a new file
@@ -20,6 +21,12 @@ added_puts place new s sound = record { here = here; others = others }
     others other apart =
         ap (λ (b : Bool). content_of (added place new s).files (if b then Some s.made else names_now s other)) (is_same-apart other place apart)
         ∙ content_of-same s.files (added place new s).files (names_now s other) (λ f at. with_file-below s.made f new s.files (sound.made 0 other f at))
+
+-- the same where the names are then settled
+pub put_puts : (place : Place) (new : File) (s t : State) (bytes : List ℕ) → t ≡ names_settled (added place new s) → content new ≡ bytes → IsSound s → Puts place (Some bytes) s t
+put_puts place new s t bytes is holds sound =
+    subst (λ (u : State). Puts place (Some bytes) s u) (sym is)
+    (subst (λ (c : List ℕ). Puts place (Some c) s (names_settled (added place new s))) holds (let one = added_puts place new s sound in record { here = one.here; others = one.others }))
 
 -- a write into the file that stands there
 pub wrote_puts : (place : Place) (write : Write) (s : State) (c : List ℕ) → IsSound s → standing s place ≡ Some c → Puts place (Some (written write c)) s (wrote place write s)
@@ -47,6 +54,25 @@ removed_puts place s = record { here = here; others = others }
 
     others : (other : Place) → other ≢ place → standing (removed place s) other ≡ standing s other
     others other apart = ap (λ (b : Bool). content_of s.files (if b then None else names_now s other)) (is_same-apart other place apart)
+
+pub renamed_moves : (from to : Place) (s : State) → from ≢ to → IsSound s → Moves from to s (renamed from to s)
+renamed_moves from to s apart sound = record { moved = moved; gone = gone; others = others }
+  where
+    now : Names
+    now = names_now s
+
+    moved : standing (renamed from to s) to ≡ standing s from
+    moved =
+        ap (λ (b : Bool). content_of s.files (if b then None else with_name to (now from) now to)) (is_same-apart to from (λ e. apart (sym e)))
+        ∙ ap (λ (b : Bool). content_of s.files (if b then now from else now to)) (is_same-refl to)
+
+    gone : standing (renamed from to s) from ≡ None
+    gone = ap (λ (b : Bool). content_of s.files (if b then None else with_name to (now from) now from)) (is_same-refl from)
+
+    others : (other : Place) → other ≢ from → other ≢ to → standing (renamed from to s) other ≡ standing s other
+    others other not_from not_to =
+        ap (λ (b : Bool). content_of s.files (if b then None else with_name to (now from) now other)) (is_same-apart other from not_from)
+        ∙ ap (λ (b : Bool). content_of s.files (if b then now from else now other)) (is_same-apart other to not_to)
 
 pub settled_same : (s : State) → SameStanding s (settled s)
 settled_same s place = there (names_now s place)

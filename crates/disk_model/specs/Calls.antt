@@ -1,5 +1,5 @@
 -- What the calls of a disk answer, and how they are counted.
-use Rattle.std.specs.Prelude.{◌≡◌, ◌⊎◌, ℕ, ◌≤◌, List, length, Option, Some, None, Result, Ok, Err}
+use Rattle.std.specs.Prelude.{◌≡◌, ◌⊎◌, ℕ, ◌≤◌, ◌+◌, List, length, Option, Some, None, Result, Ok, Err}
 use Rattle.cache_base.specs.Causes.{one_more}
 use Rattle.disk_model.specs.declared.disk.DiskFault.{DiskFault}
 use Rattle.disk_model.specs.declared.disk.DiskFault.TheVariants.{Failed, Memory}
@@ -47,3 +47,8 @@ StopsAtFault before now = (now.failed_change ≡ before.failed_change) ⊎ (now.
 abbrev pub MayWriteAt : Option (List ℕ) → ℕ → Type 0
 MayWriteAt None from = ⊥
 MayWriteAt (Some content) from = from ≤ length content
+
+-- a file stands there, and has so many bytes from the offset on
+abbrev pub Holds : Option (List ℕ) → ℕ → ℕ → Type 0
+Holds None from len = ⊥
+Holds (Some content) from len = from + len ≤ length content

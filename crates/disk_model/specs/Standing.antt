@@ -1,5 +1,5 @@
 -- How what stands now differs from what stood before.
-use Rattle.std.specs.Prelude.{◌≡◌, ◌≢◌, ℕ, List, Option}
+use Rattle.std.specs.Prelude.{◌≡◌, ◌≢◌, ℕ, List, Option, None}
 use Rattle.disk_model.specs.declared.place.Place.{Place}
 use Rattle.disk_model.specs.State.{State, standing}
 
@@ -11,3 +11,9 @@ pub record Puts (place : Place) (content : Option (List ℕ)) (before now : Stat
 -- what stands is as before
 abbrev pub SameStanding : State → State → Type 0
 SameStanding before now = (place : Place) → standing now place ≡ standing before place
+
+-- the file of the first place stands at the second, and what stands elsewhere is as before
+pub record Moves (from to : Place) (before now : State) : Type 0 where
+  pub moved : standing now to ≡ standing before from
+  pub gone : standing now from ≡ None
+  pub others : (other : Place) → other ≢ from → other ≢ to → standing now other ≡ standing before other

@@ -1,6 +1,6 @@
 -- What a disk holds: what was synced, and the steps since, of which the newest comes first. What stands now is all
 -- steps done.
-use Rattle.std.specs.Prelude.{ℕ, ◌+◌, ◌==◌, if◌then◌else◌, List, [], ◌∷◌, ◌++◌, length, take, drop, Option, Some, None}
+use Rattle.std.specs.Prelude.{ℕ, ◌+◌, ◌==◌, if◌then◌else◌, List, [], ◌∷◌, ◌++◌, length, take, drop, Option, Some, None, option_map}
 use Rattle.disk_model.specs.declared.place.Place.{Place}
 use Rattle.disk_model.specs.declared.place.NameStep.{NameStep}
 use Rattle.disk_model.specs.declared.place.NameStep.TheVariants.{Create, Rename, Remove}
@@ -71,6 +71,10 @@ content_of files (Some file) = Some (content (files file))
 abbrev pub standing : State → Place → Option (List ℕ)
 standing s place = content_of s.files (names_now s place)
 
+-- what stood at a place at the last sync
+abbrev pub synced_at : State → Place → Option (List ℕ)
+synced_at s place = option_map (λ file. (s.files file).synced) (s.names place)
+
 -- a file with nothing in it
 abbrev pub empty_file : File
 empty_file = record { synced = []; writes = [] }
@@ -101,6 +105,10 @@ created place s = added place empty_file s
 -- the file that stands at the place is written to
 abbrev pub wrote : Place → Write → State → State
 wrote place write s = record s { files = write_to (names_now s place) write s.files }
+
+-- the file of the first place takes the second
+abbrev pub renamed : Place → Place → State → State
+renamed from to s = record s { steps = Rename from to ∷ s.steps }
 
 -- no file stands at the place any more
 abbrev pub removed : Place → State → State

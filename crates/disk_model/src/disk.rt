@@ -1,15 +1,18 @@
 //! A disk, and what its calls do.
 
-ghost use Rattle.std.specs.Prelude.{◌≡◌, ◌+◌, ◌-◌, ◌^◌, ◌≤◌, ◌++◌, ℕ, Bool, List, length, drop, IfOk, IsTrue, IsSome, IsErrOf, Option};
+ghost use Rattle.std.specs.Prelude.{◌≡◌, ◌≢◌, ◌+◌, ◌-◌, ◌^◌, ◌≤◌, ◌++◌, ℕ, Bool, List, length, drop, IfOk, OnOk, IsTrue, IsSome, IsErrOf, Option};
 ghost use Rattle.std.specs.Option.{option_map};
 ghost use Rattle.cache_base.specs.Causes.{HasCause};
-ghost use Rattle.disk_model.specs.State.{State, standing, part_of, created, removed, wrote, settled};
-ghost use Rattle.disk_model.specs.State.Write.{End};
+ghost use Rattle.cache_base.specs.Names.{AreRising};
+ghost use Rattle.disk_model.specs.State.{State, standing, part_of, created, renamed, removed, wrote, settled};
+ghost use Rattle.disk_model.specs.State.Write.{End, Patch};
 ghost use Rattle.disk_model.specs.Sound.{IsSound};
-ghost use Rattle.disk_model.specs.Calls.{Counts, counted_change, counted_read, if_ok, if_done, MayWriteAt};
+ghost use Rattle.disk_model.specs.Listing.{AreEntries, AreDoomed, AreRisingNumbers};
+ghost use Rattle.disk_model.specs.Calls.{Counts, counted, counted_change, counted_read, if_ok, if_done, MayWriteAt, Holds};
 ghost use Rattle.disk_model.specs.declared.disk.DiskFault.TheVariants.{Memory};
 
 use crate::Place;
+use cache_base::{Names, NoMemory, Numbers};
 use std::alloc::AllocError;
 
 /// Why a call of a disk was not done.
@@ -26,6 +29,14 @@ impl From<AllocError> for DiskFault {
     ghost from_gives = { λ _ e. e ≡ Memory };
 
     fn from(_: AllocError) -> Self {
+        DiskFault::Memory
+    }
+}
+
+impl From<NoMemory> for DiskFault {
+    ghost from_gives = { λ _ e. e ≡ Memory };
+
+    fn from(_: NoMemory) -> Self {
         DiskFault::Memory
     }
 }
@@ -87,11 +98,43 @@ pub trait Disk {
         ensures counts { IsTrue tells → counts self.new ≡ counted_change result (counts self.old) }
         ensures cause { HasCause (IsErrOf result DiskFault.Failed) (faults self.old) (faults self.new) };
 
+    /// Writes the bytes at the offset `from` inside the file, whose length stays.
+    fn patch(&mut self, place: &Place, from: u64, bytes: &[u8]) -> Result<(), DiskFault>
+        requires limit { from ≤ 2 ^ 40 }
+        requires told { IsTrue tells → Holds (standing (state self.old) place.now) from (length bytes.now) }
+        ensures state { IsTrue tells → state self.new ≡ if_done result (wrote place.now (Patch from bytes.now) (state self.old)) (state self.old) }
+        ensures counts { IsTrue tells → counts self.new ≡ counted_change result (counts self.old) }
+        ensures cause { HasCause (IsErrOf result DiskFault.Failed) (faults self.old) (faults self.new) };
+
+    /// The file of the first place takes the second. A file that stood there loses its name.
+    fn rename(&mut self, from: &Place, to: &Place) -> Result<(), DiskFault>
+        requires stands { IsTrue tells → IsSome (standing (state self.old) from.now) }
+        requires differ { IsTrue tells → from.now ≢ to.now }
+        ensures state { IsTrue tells → state self.new ≡ if_done result (renamed from.now to.now (state self.old)) (state self.old) }
+        ensures counts { IsTrue tells → counts self.new ≡ counted_change result (counts self.old) }
+        ensures cause { HasCause (IsErrOf result DiskFault.Failed) (faults self.old) (faults self.new) };
+
     /// Removes the file at the place.
     fn remove(&mut self, place: &Place) -> Result<(), DiskFault>
         requires { IsTrue tells → IsSome (standing (state self.old) place.now) }
         ensures state { IsTrue tells → state self.new ≡ if_done result (removed place.now (state self.old)) (state self.old) }
         ensures counts { IsTrue tells → counts self.new ≡ counted_change result (counts self.old) }
+        ensures cause { HasCause (IsErrOf result DiskFault.Failed) (faults self.old) (faults self.new) };
+
+    /// The list becomes the names under which entry files stand, rising by their bytes.
+    fn entries(&mut self, out: &mut Names) -> Result<(), DiskFault>
+        ensures rising { OnOk result (AreRising out.new) }
+        ensures names { OnOk result (IsTrue tells → AreEntries (state self.old) out.new) }
+        ensures state { IsTrue tells → state self.new ≡ state self.old }
+        ensures counts { IsTrue tells → counts self.new ≡ counted (counts self.old) }
+        ensures cause { HasCause (IsErrOf result DiskFault.Failed) (faults self.old) (faults self.new) };
+
+    /// The list becomes the numbers under which files of doomed entries stand, rising.
+    fn doomed(&mut self, out: &mut Numbers) -> Result<(), DiskFault>
+        ensures rising { OnOk result (AreRisingNumbers out.new) }
+        ensures numbers { OnOk result (IsTrue tells → AreDoomed (state self.old) out.new) }
+        ensures state { IsTrue tells → state self.new ≡ state self.old }
+        ensures counts { IsTrue tells → counts self.new ≡ counted (counts self.old) }
         ensures cause { HasCause (IsErrOf result DiskFault.Failed) (faults self.old) (faults self.new) };
 
     /// No file stands at two places, and each write lay within its file.

@@ -3,13 +3,19 @@
 #![tactic(auto)]
 
 mod disk;
+mod laws;
 mod mem_disk;
 mod mem_file;
+mod mem_image;
+mod mem_listing;
+mod mem_slots;
 mod mem_table;
 mod place;
 
 pub use disk::{Disk, DiskFault};
+pub use laws::reads_as_image;
 pub use mem_disk::MemDisk;
+pub use mem_image::ImageFault;
 pub use place::{NameStep, Place};
 
 #[cfg(test)]

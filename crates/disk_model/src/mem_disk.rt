@@ -1,15 +1,17 @@
 //! A disk in memory.
 
-ghost use Rattle.std.specs.Prelude.{◌≡◌, ◌≤◌, ◌+◌, ◌-◌, ◌^◌, ◌↔◌, ◌++◌, true, if◌then◌else◌, length, take, drop, IfOk, OnOk, OnErr, IsTrue, IsSome, IsErrOf, MatchBool};
-ghost use Rattle.std.specs.Option.{option_map};
+ghost use Rattle.std.specs.Prelude.{◌≡◌, ◌≤◌, ◌-◌, ◌^◌, ◌↔◌, if◌then◌else◌, length, IfOk, OnOk, OnErr, IsTrue, IsErrOf, MatchBool};
 ghost use Rattle.cache_base.specs.Causes.{one_more, HasCause, Rose};
-ghost use Rattle.disk_model.specs.Calls.{counted_change, counted_read, if_ok, if_done, MayWriteAt};
+ghost use Rattle.disk_model.specs.Calls.{counted, counted_read};
 ghost use Rattle.disk_model.specs.declared.disk.DiskFault.TheVariants.{Failed};
 
+use crate::mem_image::{ImageFault, image};
 use crate::mem_table::Table;
-use crate::{Disk, DiskFault, Place};
+use crate::{DiskFault, Place};
 use cache_base::{Bytes, NoMemory, Numbers};
 use std::alloc::Global;
+
+mod calls;
 
 /// A disk in memory, whose calls fail as planned. It tells all that it holds, so that tests and proofs see what a
 /// caller of a disk leaves.
@@ -28,9 +30,10 @@ pub struct MemDisk {
 
 impl MemDisk {
     ghost use Rattle.std.specs.Prelude.{None, [], MatchOption};
-    ghost use Rattle.disk_model.specs.State.{standing};
+    ghost use Rattle.disk_model.specs.State.{standing, synced_at};
     ghost use Rattle.disk_model.specs.Sound.{IsQuiet};
     ghost use Rattle.disk_model.specs.Standing.{Puts};
+    ghost use Rattle.disk_model.specs.MemImage.{image_of, MayLeave};
     ghost use Rattle.disk_model.specs.declared.place.Place.{Place as Where};
     ghost use Rattle.disk_model.specs.MemDisk.{state_in, counts_in, faults_in, stop_in, planned_in, FailsNext};
 
@@ -43,15 +46,7 @@ impl MemDisk {
         ensures stop { stop_in result ≡ 2 ^ 64 - 1 }
         ensures planned { planned_in result ≡ [] }
     {
-        MemDisk {
-            table: Table::new(alloc),
-            calls: 0,
-            stop: u64::MAX,
-            planned: Numbers::new(alloc),
-            failed_change: 0,
-            entry_reads: 0,
-            faults: 0,
-        }
+        MemDisk::with(Table::new(alloc))
     }
 
     /// Puts a synced file at a place, or leaves the disk as it was. This is no call of the disk.
@@ -108,6 +103,59 @@ impl MemDisk {
         }
     }
 
+    /// What the file at a place held at the last sync, or none where no file stood there then.
+    pub fn synced_file(&self, place: &Place) -> Option<&[u8]>
+        ensures { MatchOption result (synced_at (state_in self.now) place.now ≡ None) (λ bytes. synced_at (state_in self.now) place.now ≡ Some bytes.now) }
+    {
+        match self.table.find_synced(place) {
+            None => None,
+            Some(file) => Some(self.table.synced_content(file)),
+        }
+    }
+
+    /// How many names were made, moved or removed since the last sync.
+    pub fn name_steps(&self) -> usize
+        ensures { result ≡ length (state_in self.now).steps }
+    {
+        self.table.steps.len()
+    }
+
+    /// The disk that a crash leaves with these contents, with the names after the first `names` name steps since the
+    /// last sync: all is synced, no call is counted and no fault planned.
+    pub fn image(&self, names: usize, contents: Vec<(Place, Bytes)>) -> Result<MemDisk, ImageFault>
+        ensures image { OnOk result (MayLeave (state_in self.now) names contents.items) }
+        ensures refused { result ≡ Err ImageFault.NotAnImage → ¬ (MayLeave (state_in self.now) names contents.items) }
+        ensures stands { IfOk result (λ disk. (place : Where) → standing (state_in disk) place ≡ image_of contents.items place) }
+        ensures quiet { IfOk result (λ disk. IsQuiet (state_in disk)) }
+        ensures counts { IfOk result (λ disk. counts_in disk ≡ record { calls = 0; failed_change = 0; entry_reads = 0 }) }
+        ensures faults { IfOk result (λ disk. faults_in disk ≡ 0) }
+        ensures stop { IfOk result (λ disk. stop_in disk ≡ 2 ^ 64 - 1) }
+        ensures planned { IfOk result (λ disk. planned_in disk ≡ []) }
+    {
+        let table = image(&self.table, names, &contents)?;
+        Ok(MemDisk::with(table))
+    }
+
+    // A disk with this table, no call counted and no fault planned.
+    fn with(table: Table) -> MemDisk
+        ensures table { result.table ≡ table }
+        ensures counts { counts_in result ≡ record { calls = 0; failed_change = 0; entry_reads = 0 } }
+        ensures faults { faults_in result ≡ 0 }
+        ensures stop { stop_in result ≡ 2 ^ 64 - 1 }
+        ensures planned { planned_in result ≡ [] }
+    {
+        let planned = Numbers::new(table.alloc);
+        MemDisk {
+            table,
+            calls: 0,
+            stop: u64::MAX,
+            planned,
+            failed_change: 0,
+            entry_reads: 0,
+            faults: 0,
+        }
+    }
+
     // Counts a call, and tells whether it is to fail.
     fn begin(&mut self) -> bool
         ensures fails { IsTrue result ↔ FailsNext self.old }
@@ -135,6 +183,21 @@ impl MemDisk {
         fails
     }
 
+    // The same of a call that lists names.
+    fn begin_list(&mut self) -> bool
+        ensures fails { IsTrue result ↔ FailsNext self.old }
+        ensures table { self.new.table ≡ self.old.table }
+        ensures counts { counts_in self.new ≡ counted (counts_in self.old) }
+        ensures later { self.old.faults ≤ self.new.faults }
+        ensures faults { MatchBool result (Rose self.old.faults self.new.faults) (self.new.faults ≡ self.old.faults) }
+    {
+        let fails = self.begin();
+        if fails {
+            self.faults = self.faults.saturating_add(1);
+        }
+        fails
+    }
+
     // Answers a change that is done.
     fn end_change(&mut self, fails: bool) -> Result<(), DiskFault>
         ensures answer { result ≡ (if fails then Err Failed else Ok tt) }
@@ -150,130 +213,5 @@ impl MemDisk {
             return Err(DiskFault::Failed);
         }
         Ok(())
-    }
-}
-
-impl Disk for MemDisk {
-    ghost use Rattle.disk_model.specs.State.{standing, part_of, created, removed, wrote, settled};
-    ghost use Rattle.disk_model.specs.State.Write.{End};
-    ghost use Rattle.disk_model.specs.MemDisk.{state_in, counts_in, faults_in, FailsNext};
-
-    ghost tells = { true };
-
-    ghost state = { state_in };
-
-    ghost counts = { counts_in };
-
-    ghost faults = { faults_in };
-
-    ghost sound = { λ d _. d.table.sound };
-
-    fn sync(&mut self) -> Result<(), DiskFault>
-        ensures state { state_in self.new ≡ if_ok result (settled (state_in self.old)) (state_in self.old) }
-        ensures counts { counts_in self.new ≡ counted_change result (counts_in self.old) }
-        ensures cause { HasCause (IsErrOf result DiskFault.Failed) (faults_in self.old) (faults_in self.new) }
-        ensures fails { IsErrOf result DiskFault.Failed → FailsNext self.old }
-        ensures done { OnOk result (¬ (FailsNext self.old)) }
-    {
-        if self.begin() {
-            return self.end_change(true);
-        }
-        self.table.sync()?;
-        Ok(())
-    }
-
-    fn size(&mut self, place: &Place) -> Result<Option<u64>, DiskFault>
-        ensures size { IfOk result (λ size. size ≡ option_map length (standing (state_in self.old) place.now)) }
-        ensures state { state_in self.new ≡ state_in self.old }
-        ensures counts { counts_in self.new ≡ counted_read place.now (counts_in self.old) }
-        ensures cause { HasCause (IsErrOf result DiskFault.Failed) (faults_in self.old) (faults_in self.new) }
-        ensures fails { IsErrOf result DiskFault.Failed ↔ FailsNext self.old }
-    {
-        if self.begin_read(place) {
-            return Err(DiskFault::Failed);
-        }
-        match self.table.find(place) {
-            None => Ok(None),
-            Some(file) => Ok(Some(self.table.content(file).len() as u64)),
-        }
-    }
-
-    fn read(&mut self, place: &Place, from: u64, buf: &mut [u8]) -> Result<usize, DiskFault>
-        ensures len { IfOk result (λ n. n ≤ length buf.old) }
-        ensures bytes { IfOk result (λ n.
-            let part = part_of from (length buf.old) (standing (state_in self.old) place.now) in
-            (n ≡ length part) × (buf.new ≡ part ++ drop n buf.old)) }
-        ensures state { state_in self.new ≡ state_in self.old }
-        ensures counts { counts_in self.new ≡ counted_read place.now (counts_in self.old) }
-        ensures cause { HasCause (IsErrOf result DiskFault.Failed) (faults_in self.old) (faults_in self.new) }
-        ensures fails { IsErrOf result DiskFault.Failed ↔ FailsNext self.old }
-    {
-        if self.begin_read(place) {
-            return Err(DiskFault::Failed);
-        }
-        match self.table.find(place) {
-            None => Ok(0),
-            Some(file) => Ok(copy_part(self.table.content(file), from, buf)),
-        }
-    }
-
-    fn create(&mut self, place: &Place) -> Result<(), DiskFault>
-        ensures state { state_in self.new ≡ if_done result (created place.now (state_in self.old)) (state_in self.old) }
-        ensures counts { counts_in self.new ≡ counted_change result (counts_in self.old) }
-        ensures cause { HasCause (IsErrOf result DiskFault.Failed) (faults_in self.old) (faults_in self.new) }
-        ensures fails { IsErrOf result DiskFault.Failed → FailsNext self.old }
-        ensures done { OnOk result (¬ (FailsNext self.old)) }
-    {
-        let fails = self.begin();
-        self.table.create(*place)?;
-        self.end_change(fails)
-    }
-
-    fn write_end(&mut self, place: &Place, from: u64, bytes: &[u8]) -> Result<(), DiskFault>
-        requires limit { from ≤ 2 ^ 40 }
-        requires told { MayWriteAt (standing (state_in self.old) place.now) from }
-        ensures state { state_in self.new ≡ if_done result (wrote place.now (End from bytes.now) (state_in self.old)) (state_in self.old) }
-        ensures counts { counts_in self.new ≡ counted_change result (counts_in self.old) }
-        ensures cause { HasCause (IsErrOf result DiskFault.Failed) (faults_in self.old) (faults_in self.new) }
-        ensures fails { IsErrOf result DiskFault.Failed → FailsNext self.old }
-        ensures done { OnOk result (¬ (FailsNext self.old)) }
-    {
-        let fails = self.begin();
-        match self.table.find(place) {
-            None => unreachable!(),
-            Some(file) => self.table.write_end(file, from as usize, bytes)?,
-        }
-        self.end_change(fails)
-    }
-
-    fn remove(&mut self, place: &Place) -> Result<(), DiskFault>
-        requires { IsSome (standing (state_in self.old) place.now) }
-        ensures state { state_in self.new ≡ if_done result (removed place.now (state_in self.old)) (state_in self.old) }
-        ensures counts { counts_in self.new ≡ counted_change result (counts_in self.old) }
-        ensures cause { HasCause (IsErrOf result DiskFault.Failed) (faults_in self.old) (faults_in self.new) }
-        ensures fails { IsErrOf result DiskFault.Failed → FailsNext self.old }
-        ensures done { OnOk result (¬ (FailsNext self.old)) }
-    {
-        let fails = self.begin();
-        self.table.remove(*place)?;
-        self.end_change(fails)
-    }
-}
-
-// Fills the buffer's front from `from` on.
-fn copy_part(content: &[u8], from: u64, buf: &mut [u8]) -> usize
-    ensures len { result ≡ length (take (length buf.old) (drop from content.now)) }
-    ensures bytes { buf.new ≡ take (length buf.old) (drop from content.now) ++ drop result buf.old }
-{
-    if from >= content.len() as u64 {
-        return 0;
-    }
-    let rest = &content[from as usize..];
-    if rest.len() < buf.len() {
-        buf[..rest.len()].copy_from_slice(rest);
-        rest.len()
-    } else {
-        buf.copy_from_slice(&rest[..buf.len()]);
-        buf.len()
     }
 }

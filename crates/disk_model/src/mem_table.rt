@@ -1,69 +1,63 @@
 // The names and files of a disk in memory.
 
-ghost use Rattle.std.specs.Prelude.{◌≡◌, ◌≤◌, ◌<◌, OnOk, OnErr, IfSome, [], length, reverse, None, Some};
-ghost use Rattle.disk_model.specs.Place.{is_same};
-ghost use Rattle.disk_model.specs.State.{names_after};
+ghost use Rattle.std.specs.Prelude.{◌≡◌, ◌≤◌, ◌<◌, ◌+◌, ℕ, OnOk, OnErr, IfOk, IfSome, length, reverse, None, Some};
+ghost use Rattle.disk_model.specs.State.{names_after, with_file};
 ghost use Rattle.disk_model.specs.Sound.{IsSound};
-ghost use Rattle.disk_model.specs.MemFile.{state_from, no_names};
+ghost use Rattle.disk_model.specs.MemFile.{nth_file, at_rest};
+ghost use Rattle.disk_model.specs.MemSlots.{names_in, synced_names_in};
+ghost use Rattle.disk_model.specs.MemState.{state_from, stepped, ArePending};
 
 use crate::mem_file::MemFile;
+use crate::mem_listing::{doomed_numbers, entry_names};
+use crate::mem_slots::{
+    Slot, file_at, make_slot, make_slots, put_file, settle_names, synced_at, take_step,
+};
 use crate::{NameStep, Place};
+use cache_base::{Names, NoMemory, Numbers};
 use std::alloc::{AllocError, Global};
+use std::collections::BTreeMap;
 
-/// All name steps ever, the oldest first, of which the first `synced` are synced, and all files ever.
+/// The names at the last sync and now, and the name steps between them, the oldest first; all files ever made, by
+/// number, and the numbers of those that may have writes since the sync.
 #[derive(Drop)]
 pub(crate) struct Table {
     pub alloc: Global,
+    pub slots: BTreeMap<Place, Slot>,
     pub steps: Vec<NameStep>,
-    pub synced: usize,
     pub files: Vec<MemFile>,
-    ghost in_range: { synced ≤ length steps.items },
-    ghost sound: { IsSound (state_from steps.items synced files.items) },
+    pub written: Vec<usize>,
+    ghost names: { names_in slots ≡ names_after (synced_names_in slots) (reverse steps.items) },
+    ghost pending: { ArePending files.items written.items },
+    ghost sound: { IsSound (state_from slots steps.items files.items) },
 }
 
-fn are_same(a: &Place, b: &Place) -> bool
-    ensures { result ≡ is_same a.now b.now }
+// What the file of this number holds now is synced.
+fn settle_file(files: &mut [MemFile], number: usize)
+    ensures len { length files.new ≡ length files.old }
+    ensures files { nth_file files.new ≡ with_file number (at_rest (nth_file files.old number)) (nth_file files.old) }
 {
-    a == b
-}
-
-/// The file that stands at a place after these steps. From the newest back, through each rename.
-fn named_in(steps: &[NameStep], place: &Place) -> Option<usize>
-    ensures { result ≡ names_after no_names (reverse steps.now) place.now }
-{
-    let mut at = *place;
-    let mut left = steps.len();
-    while left > 0 {
-        left -= 1;
-        match &steps[left] {
-            NameStep::Create(made, file) => {
-                if are_same(&at, made) {
-                    return Some(*file);
-                }
-            }
-            NameStep::Rename(from, to) => {
-                if are_same(&at, from) {
-                    return None;
-                }
-                if are_same(&at, to) {
-                    at = *from;
-                }
-            }
-            NameStep::Remove(gone) => {
-                if are_same(&at, gone) {
-                    return None;
-                }
-            }
-        }
+    if number < files.len() {
+        files[number].settle();
     }
-    None
+}
+
+// What these files hold now is synced.
+fn settle_files(files: &mut [MemFile], written: &[usize])
+    requires { ArePending files.old written.now }
+    ensures len { length files.new ≡ length files.old }
+    ensures files { (k : ℕ) → nth_file files.new k ≡ at_rest (nth_file files.old k) }
+{
+    for number in written {
+        settle_file(files, *number);
+    }
 }
 
 impl Table {
-    ghost use Rattle.disk_model.specs.State.{names_now, content, standing, added, created, removed, settled};
+    ghost use Rattle.disk_model.specs.State.{names_now, content, standing, created, renamed, removed, settled};
+    ghost use Rattle.cache_base.specs.Names.{AreRising};
+    ghost use Rattle.disk_model.specs.Listing.{AreEntries, AreDoomed, AreRisingNumbers};
     ghost use Rattle.disk_model.specs.Standing.{Puts};
-    ghost use Rattle.disk_model.specs.MemFile.{file_of};
-    ghost use Rattle.disk_model.specs.State.Write.{End};
+    ghost use Rattle.disk_model.specs.State.Write.{End, Patch};
     ghost use Rattle.disk_model.specs.Sound.{IsQuiet};
     ghost use Rattle.disk_model.specs.declared.place.Place.{Place as Where};
     ghost use Rattle.disk_model.specs.MemTable.{state_of, written_to};
@@ -74,9 +68,10 @@ impl Table {
     {
         Table {
             alloc,
+            slots: BTreeMap::new(alloc),
             steps: Vec::new(alloc),
-            synced: 0,
             files: Vec::new(alloc),
+            written: Vec::new(alloc),
         }
     }
 
@@ -85,36 +80,59 @@ impl Table {
         ensures at { result ≡ names_now (state_of self.now) place.now }
         ensures made { IfSome result (λ file. file < length self.now.files.items) }
     {
-        named_in(&self.steps, place)
+        file_at(&self.slots, place)
     }
 
+    /// The file that stood at a place at the last sync.
+    pub fn find_synced(&self, place: &Place) -> Option<usize>
+        ensures at { result ≡ (state_of self.now).names place.now }
+        ensures made { IfSome result (λ file. file < length self.now.files.items) }
+    {
+        synced_at(&self.slots, place)
+    }
+
+    // One name step more.
+    fn step(&mut self, step: NameStep) -> Result<(), AllocError>
+        requires { IsSound (stepped step (state_of self.old)) }
+        ensures ok { OnOk result (state_of self.new ≡ stepped step (state_of self.old)) }
+        ensures err { OnErr result (state_of self.new ≡ state_of self.old) }
+    {
+        make_slots(&mut self.slots, &step)?;
+        self.steps.reserve(1)?;
+        take_step(&mut self.slots, &step);
+        self.steps.push_reserved(step);
+        Ok(())
+    }
+
+    /// No file stands at the place any more.
     pub fn remove(&mut self, place: Place) -> Result<(), AllocError>
         ensures ok { OnOk result (state_of self.new ≡ removed place (state_of self.old)) }
         ensures err { OnErr result (state_of self.new ≡ state_of self.old) }
     {
-        self.steps.push(NameStep::Remove(place))?;
-        Ok(())
+        self.step(NameStep::Remove(place))
     }
 
-    // A new file takes the place.
-    fn add(&mut self, place: Place, file: MemFile) -> Result<(), AllocError>
-        requires { (file_of file).writes ≡ [] }
-        ensures ok { OnOk result (state_of self.new ≡ added place (file_of file) (state_of self.old)) }
+    /// The file of the first place takes the second.
+    pub fn rename(&mut self, from: Place, to: Place) -> Result<(), AllocError>
+        ensures ok { OnOk result (state_of self.new ≡ renamed from to (state_of self.old)) }
         ensures err { OnErr result (state_of self.new ≡ state_of self.old) }
     {
-        self.steps.reserve(1)?;
-        let number = self.files.len();
-        self.files.push(file)?;
-        let _has_room = self.steps.push(NameStep::Create(place, number));
-        Ok(())
+        self.step(NameStep::Rename(from, to))
     }
 
+    /// A new empty file takes the place.
     pub fn create(&mut self, place: Place) -> Result<(), AllocError>
         ensures ok { OnOk result (state_of self.new ≡ created place (state_of self.old)) }
         ensures err { OnErr result (state_of self.new ≡ state_of self.old) }
     {
-        let file = MemFile::new(self.alloc);
-        self.add(place, file)
+        let number = self.files.len();
+        let step = NameStep::Create(place, number);
+        make_slots(&mut self.slots, &step)?;
+        self.steps.reserve(1)?;
+        self.files.push(MemFile::new(self.alloc))?;
+        take_step(&mut self.slots, &step);
+        self.steps.push_reserved(step);
+        Ok(())
     }
 
     /// A synced file takes the place.
@@ -125,9 +143,27 @@ impl Table {
         ensures err { OnErr result (state_of self.new ≡ state_of self.old) }
     {
         let file = MemFile::synced(self.alloc, bytes)?;
-        self.add(place, file)?;
-        self.synced = self.steps.len();
+        make_slot(&mut self.slots, &place)?;
+        let number = self.files.len();
+        self.files.push(file)?;
+        put_file(&mut self.slots, &place, number);
         Ok(())
+    }
+
+    /// The names under which entry files stand.
+    pub fn entries(&self) -> Result<Names, NoMemory>
+        ensures rising { IfOk result AreRising }
+        ensures names { IfOk result (AreEntries (state_of self.now)) }
+    {
+        entry_names(self.alloc, &self.slots)
+    }
+
+    /// The numbers under which files of doomed entries stand.
+    pub fn doomed(&self) -> Result<Numbers, NoMemory>
+        ensures rising { IfOk result AreRisingNumbers }
+        ensures numbers { IfOk result (AreDoomed (state_of self.now)) }
+    {
+        doomed_numbers(self.alloc, &self.slots)
     }
 
     /// The content of a file.
@@ -138,25 +174,43 @@ impl Table {
         &self.files[file].current
     }
 
+    /// The content of a file at the last sync.
+    pub fn synced_content(&self, file: usize) -> &[u8]
+        requires { file < length self.now.files.items }
+        ensures { result.now ≡ ((state_of self.now).files file).synced }
+    {
+        self.files[file].synced_bytes()
+    }
+
+    /// Writes the bytes at an offset of a file, which then ends behind them.
     pub fn write_end(&mut self, file: usize, from: usize, bytes: &[u8]) -> Result<(), AllocError>
         requires stands { file < length self.old.files.items }
         requires inside { from ≤ length (content ((state_of self.old).files file)) }
         ensures ok { OnOk result (state_of self.new ≡ written_to file (End from bytes.now) (state_of self.old)) }
         ensures err { OnErr result (state_of self.new ≡ state_of self.old) }
     {
+        self.written.push(file)?;
         self.files[file].write_end(self.alloc, from, bytes)
     }
 
-    pub fn sync(&mut self) -> Result<(), AllocError>
-        ensures ok { OnOk result (state_of self.new ≡ settled (state_of self.old)) }
+    /// Writes the bytes inside a file, whose length stays.
+    pub fn patch(&mut self, file: usize, from: usize, bytes: &[u8]) -> Result<(), AllocError>
+        requires stands { file < length self.old.files.items }
+        requires inside { from + length bytes.now ≤ length (content ((state_of self.old).files file)) }
+        ensures ok { OnOk result (state_of self.new ≡ written_to file (Patch from bytes.now) (state_of self.old)) }
         ensures err { OnErr result (state_of self.new ≡ state_of self.old) }
     {
-        let mut files = Vec::new(self.alloc);
-        for file in &self.files {
-            files.push(file.settled(self.alloc)?)?;
-        }
-        self.files = files;
-        self.synced = self.steps.len();
-        Ok(())
+        self.written.push(file)?;
+        self.files[file].patch(self.alloc, from, bytes)
+    }
+
+    /// What stands now is synced. The work goes by the steps and writes since the last sync.
+    pub fn sync(&mut self)
+        ensures { state_of self.new ≡ settled (state_of self.old) }
+    {
+        settle_names(&mut self.slots, &self.steps);
+        settle_files(&mut self.files, &self.written);
+        self.steps.clear();
+        self.written.clear();
     }
 }

@@ -3,6 +3,10 @@ use cache_base::{Bytes, Name, NoMemory, Numbers};
 use std::alloc::Global;
 use std::test::Fail;
 
+mod changes;
+mod images;
+mod listing;
+
 const ENTRY: Place = Place::Entry(Name([7; 20]));
 
 // Makes a file with these bytes, through the trait.
@@ -20,6 +24,15 @@ fn remove_there<D: Disk>(disk: &mut D, place: &Place) -> Result<bool, DiskFault>
             Ok(true)
         }
     }
+}
+
+// A disk with one file, which is synced.
+fn disk_with(alloc: Global, place: Place, bytes: &[u8]) -> Result<MemDisk, NoMemory> {
+    let mut disk = MemDisk::new(alloc);
+    let mut file = Bytes::new(alloc);
+    file.extend(bytes)?;
+    disk.put_file(place, file)?;
+    Ok(disk)
 }
 
 fn numbers(alloc: Global, of: &[u32]) -> Result<Numbers, NoMemory> {

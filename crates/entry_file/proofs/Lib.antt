@@ -4,3 +4,10 @@ pub mod ReadFile
 pub mod EntryLaws
 pub mod FitLaws
 pub mod WholeLaws
+pub mod StopLaws
+pub mod Writing
+pub mod Bodies
+pub mod NextChunk
+pub mod Midway
+pub mod FinishedBody
+pub mod Damaged

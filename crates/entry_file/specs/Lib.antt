@@ -2,5 +2,8 @@ pub mod Version
 pub mod EntryFile
 pub mod EntryRead
 pub mod BlockRead
-pub mod Holds
 pub mod Looks
+pub mod Damages
+pub mod Unfinished
+pub mod NewEntry
+pub mod Held

@@ -1,6 +1,7 @@
 //! What follows from the definitions of entry files.
 
 ghost use Rattle.entry_file.specs.EntryFile.{FileReadsWhole, FitsExactly, ReadsWholeExactly};
+ghost use Rattle.entry_file.specs.Unfinished.{StopTailIsShort, UnfinishedIsShort};
 
 /// The file of a version reads as that version, whole.
 pub fn file_reads_whole()
@@ -15,4 +16,11 @@ pub fn fits_exactly()
 /// A content reads as a whole version exactly where it is the file of that version.
 pub fn reads_whole_exactly()
     ensures { ReadsWholeExactly }
+{}
+
+/// A content that ends in the stop tail is too short for an entry's file, whatever stands before it, and so is the file of
+/// any body that is not finished.
+pub fn unfinished_is_short()
+    ensures tail { StopTailIsShort }
+    ensures file { UnfinishedIsShort }
 {}

@@ -1,13 +1,22 @@
 //! Entry files: a body, its metadata block and the block's offset. The laws say what a file reads as; `read_meta` reads
-//! all but the body.
+//! all but the body, and `check_body` holds the body against its hashes. `begin` and `NewEntry` write a file whose body
+//! comes in pieces: until it is finished it is no entry, and by one write it becomes one.
 #![tactic(auto)]
 
+mod beginning;
+mod body;
 mod entry_read;
+mod finishing;
+mod growing;
 mod laws;
+mod new_entry;
 mod reading;
 
+pub use beginning::begin;
+pub use body::check_body;
 pub use entry_read::{EntryRead, Unfit};
-pub use laws::{file_reads_whole, fits_exactly, reads_whole_exactly};
+pub use laws::{file_reads_whole, fits_exactly, reads_whole_exactly, unfinished_is_short};
+pub use new_entry::NewEntry;
 pub use reading::read_meta;
 
 #[cfg(test)]

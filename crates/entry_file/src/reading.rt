@@ -7,7 +7,7 @@ ghost use Rattle.disk_model.specs.State.{standing};
 ghost use Rattle.entry_file.specs.EntryFile.{offset_in, unfit_of};
 ghost use Rattle.entry_file.specs.EntryRead.{ReadsAs};
 ghost use Rattle.entry_file.specs.BlockRead.{BlockReadsAs};
-ghost use Rattle.entry_file.specs.Holds.{Holds};
+ghost use Rattle.disk_model.specs.Calls.{Holds};
 ghost use Rattle.entry_file.specs.Looks.{Looks};
 
 use crate::{EntryRead, Unfit};

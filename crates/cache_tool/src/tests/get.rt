@@ -1,11 +1,6 @@
 use super::*;
 use std::test::Fail;
 
-// What stands behind a body of 262,145 bytes whose chunks have the hashes 0: their hashes are not asked for.
-const BEHIND_A_LONG_BODY: &[u8] =
-    b"D\x92\xed\xc5\0\0\0\0\0\0\0\x03\0\0\0\x01\0\0\x03\xe8\0\0\x03\xe8\0\0\x03\xe8\xff\xff\xff\xff\0\0\0\
-    \x15\0\0\0\0:https://example.com/\0\0\x04\0\x01";
-
 const BROWSER_KEY: &str = "O^partitionKey=%28https%2Cexample.com%29,:https://example.com/style.css";
 
 // What a browser writes behind a body of 1,000 times `x`: 9 fetches, pinned, with six elements.
@@ -66,6 +61,49 @@ fn what_is_put_is_got(rt: HostRuntime) -> Result<(), Fail> {
     Ok(())
 }
 
+// The file of the entry of a chunk of `a` and this byte, as `put` writes it.
+fn file_of_two_chunks(alloc: Global, last: u8) -> Result<Bytes, Fail> {
+    let mut disk = MemDisk::new(alloc);
+    let mut body = bytes(alloc, &vec![in alloc; b'a'; 262_144]?)?;
+    body.push(last)?;
+    let mut source = MemSource::new(alloc, body);
+    let mut sink = MemSink::new(alloc);
+    let words = words_for(alloc, "put", KEY)?;
+    run(alloc, &words, &mut source, &mut sink, &mut disk);
+    let file = disk.file(&place_of(KEY)).ok_or("no file")?;
+    Ok(bytes(alloc, file)?)
+}
+
+#[test]
+fn each_chunk_of_a_body_is_printed(rt: HostRuntime) -> Result<(), Fail> {
+    let alloc = rt.alloc();
+    let file = file_of_two_chunks(alloc, b'b')?;
+    let mut text = bytes(alloc, b"found 1 1000 1000 1000 4294967295 0 0 262145\n\n")?;
+    text.extend(&vec![in alloc; b'a'; 262_144]?)?;
+    text.extend(b"b\n")?;
+    let got = gets(alloc, KEY, file.as_slice(), text.as_slice())?;
+    assert_eq!(rt; got, (Status::Done, true));
+    Ok(())
+}
+
+#[test]
+fn the_first_damaged_chunk_is_named(rt: HostRuntime) -> Result<(), Fail> {
+    let alloc = rt.alloc();
+    let file = file_of_two_chunks(alloc, b'b')?;
+    let behind = file.as_slice().get(262_145..).ok_or("too short")?;
+    for (byte, text) in [
+        (b'a', b"damaged 1 A597 BEDB\n".as_slice()),
+        (0, b"damaged 0 0D4B 1826\n"),
+    ] {
+        let mut damaged = bytes(alloc, &vec![in alloc; byte; 262_144]?)?;
+        damaged.push(b'c')?;
+        damaged.extend(behind)?;
+        let got = gets(alloc, KEY, damaged.as_slice(), text)?;
+        assert_eq!(rt; got, (Status::No, true));
+    }
+    Ok(())
+}
+
 #[test]
 fn the_entry_of_a_browser_is_found_whole(rt: HostRuntime) -> Result<(), Fail> {
     let alloc = rt.alloc();
@@ -93,11 +131,6 @@ fn what_is_no_entry_is_refused(rt: HostRuntime) -> Result<(), Fail> {
     assert_eq!(rt; other_name, (Status::No, true));
     let bad = gets(alloc, "a:x", FILE, b"bad key\n")?;
     assert_eq!(rt; bad, (Status::No, true));
-    let long = vec![in alloc; 0u8; 262_145]?;
-    let mut file = bytes(alloc, &long)?;
-    file.extend(BEHIND_A_LONG_BODY)?;
-    let long = gets(alloc, KEY, file.as_slice(), b"too long\n")?;
-    assert_eq!(rt; long, (Status::No, true));
     Ok(())
 }
 
@@ -114,12 +147,14 @@ fn an_empty_disk_has_no_entry(rt: HostRuntime) -> Result<(), Fail> {
     Ok(())
 }
 
-// The calls look for the size, the last four bytes, the block and the body.
+// The calls look for the size, the last four bytes and the block; the body is read to be checked, and then to be
+// printed.
 #[test]
 fn each_failing_look_ends_the_run(rt: HostRuntime) -> Result<(), Fail> {
     let alloc = rt.alloc();
     let words = words_for(alloc, "get", KEY)?;
-    for call in [1, 2, 3, 4] {
+    let head = b"found 1 1000 1000 1000 4294967295 0 0 5\n\n".as_slice();
+    for (call, printed) in [(1, b"".as_slice()), (2, b""), (3, b""), (4, b""), (5, head)] {
         let mut source = MemSource::new(alloc, bytes(alloc, b"")?);
         let mut sink = MemSink::new(alloc);
         let mut disk = MemDisk::new(alloc);
@@ -127,7 +162,7 @@ fn each_failing_look_ends_the_run(rt: HostRuntime) -> Result<(), Fail> {
         disk.fail_at(one_number(alloc, call)?);
         let status = run(alloc, &words, &mut source, &mut sink, &mut disk);
         assert_eq!(rt; status, Status::Disk, "at call {call}");
-        assert!(rt; sink.bytes().is_empty());
+        assert_eq!(rt; sink.bytes(), printed, "at call {call}");
         assert_eq!(rt; disk.calls(), u64::from(call));
     }
     Ok(())

@@ -63,13 +63,20 @@ fn no_words_have_no_form(rt: HostRuntime) -> Result<(), Fail> {
 
 // A body of so many bytes, over an entry that stands: what is answered, what is printed, and the size of the file.
 #[test]
-fn a_body_has_at_most_a_chunk(rt: HostRuntime) -> Result<(), Fail> {
+fn a_body_has_at_most_52428800_bytes(rt: HostRuntime) -> Result<(), Fail> {
     let alloc = rt.alloc();
     let words = words_for(alloc, "put", KEY)?;
     for (len, want, reply, size) in [
         (0, Status::Done, b"ok\n".as_slice(), Some(62)),
         (262_144, Status::Done, b"ok\n".as_slice(), Some(262_208)),
-        (262_145, Status::No, b"too large\n".as_slice(), None),
+        (262_145, Status::Done, b"ok\n".as_slice(), Some(262_211)),
+        (
+            52_428_800,
+            Status::Done,
+            b"ok\n".as_slice(),
+            Some(52_429_262),
+        ),
+        (52_428_801, Status::No, b"too large\n".as_slice(), None),
     ] {
         let body = vec![in alloc; 7u8; len]?;
         let mut source = MemSource::new(alloc, bytes(alloc, &body)?);
@@ -158,6 +165,26 @@ fn each_failing_disk_call_ends_the_run(rt: HostRuntime) -> Result<(), Fail> {
         assert_eq!(rt; status, Status::Disk, "at call {call}");
         assert_eq!(rt; sink.bytes(), reply, "at call {call}");
         assert_eq!(rt; disk.calls(), u64::from(call));
+    }
+    Ok(())
+}
+
+// What stands after each call of a `put` of two chunks that a stop ends: nothing that has been finished.
+#[test]
+fn a_stop_leaves_an_unfinished_file(rt: HostRuntime) -> Result<(), Fail> {
+    let alloc = rt.alloc();
+    let words = words_for(alloc, "put", KEY)?;
+    let body = vec![in alloc; 7u8; 524_289]?;
+    for (calls, size) in [(1, 0), (2, 262_148), (3, 524_292)] {
+        let mut source = MemSource::new(alloc, bytes(alloc, &body)?);
+        let mut sink = MemSink::new(alloc);
+        let mut disk = MemDisk::new(alloc);
+        disk.fail_at(one_number(alloc, calls)?);
+        let status = run(alloc, &words, &mut source, &mut sink, &mut disk);
+        assert_eq!(rt; status, Status::Disk, "at call {calls}");
+        let file = disk.file(&place_of(KEY)).ok_or("no file")?;
+        assert_eq!(rt; file.len(), size, "at call {calls}");
+        assert!(rt; file.is_empty() || file.ends_with(b"\xff\xff\xff\xff"));
     }
     Ok(())
 }

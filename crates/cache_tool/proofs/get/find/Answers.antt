@@ -1,54 +1,50 @@
-use Rattle.std.proofs.Common.{◌≡◌, Result, true, sym, ◌∙◌, subst, ap, arith}
+use Rattle.std.proofs.Common.{◌≡◌, Result, sym, ◌∙◌, subst}
 use Rattle.std.specs.Bool.{IsTrue}
 use Rattle.disk_model.specs.State.{State, standing}
 use Rattle.disk_model.specs.declared.place.Place.TheVariants.{Entry}
-use Rattle.entry_key.specs.Writing.{may_write}
+use Rattle.entry_file.specs.Damages.{HasMeta}
 use Rattle.entry_file.specs.EntryRead.{ReadsAs}
 use Rattle.entry_file.specs.declared.entry_read.EntryRead.{EntryRead}
 use Rattle.entry_metadata.specs.Meta.{meta_of}
 use Rattle.entry_metadata.specs.declared.meta.Meta.{Meta}
 use Rattle.cache_tool.specs.declared.refusal.Refusal.{Refusal}
-use Rattle.cache_tool.specs.Place.{entry_place}
-use Rattle.cache_tool.specs.Get.{get_answer, answer_in, body_answer, front_of, HasMeta}
+use Rattle.cache_tool.specs.Get.{get_answer, answer_in, body_answer, front_of}
 use Rattle.cache_tool.proofs.Keys.{keys_differ, keys_agree}
 use Rattle.cache_tool.proofs.Finds.{unfit_answers, other_answers, fit_answers, fit_stands, answered}
 use Rattle.cache_tool.proofs.get.find.Goals as goal
 
 pub returns-in-Unfit-clause-found : goal.returns-in-Unfit-clause-found
 returns-in-Unfit-clause-found g c = λ told.
-    let s = g.D.Disk.state c.args.disk.now in
-    let reads = subst (λ (r : EntryRead). ReadsAs c.name_of-name.result.0 (standing s (Entry c.name_of-name.result)) r) c.in-Unfit.is (c.in_ok-read_meta.ensures.reads told) in
-    let good : may_write c.args.key.now ≡ true = grind arith in
-    unfit_answers c.args.key.now c.name_of-name.result.0 s c.name_of-name.ensures c.in-Unfit.field-0 good reads
+    let content = standing (g.D.Disk.state c.args.disk.now) (Entry c.args.name.now) in
+    let reads = subst (λ (r : EntryRead). ReadsAs c.args.name.now.0 content r) c.in-Unfit.is (c.in_ok-read_meta.ensures.reads told) in
+    unfit_answers c.args.key.now c.args.name.now.0 content c.requires.named c.requires.good c.in-Unfit.field-0 reads
 
 pub returns-then-ne-clause-found : goal.returns-then-ne-clause-found
 returns-then-ne-clause-found g c = λ told.
-    let s = g.D.Disk.state c.args.disk.now in
-    let reads = subst (λ (r : EntryRead). ReadsAs c.name_of-name.result.0 (standing s (Entry c.name_of-name.result)) r) c.in-Fits.is (c.in_ok-read_meta.ensures.reads told) in
-    let good : may_write c.args.key.now ≡ true = grind arith in
+    let content = standing (g.D.Disk.state c.args.disk.now) (Entry c.args.name.now) in
+    let reads = subst (λ (r : EntryRead). ReadsAs c.args.name.now.0 content r) c.in-Fits.is (c.in_ok-read_meta.ensures.reads told) in
     let other = keys_differ c.as_slice.result.now c.args.key.now c.in-Fits.meta.key c.ne.result c.ne.ensures c.if-ne.true c.as_slice.ensures in
-    other_answers c.args.key.now c.name_of-name.result.0 s c.name_of-name.ensures c.in-Fits.meta c.in-Fits.size reads good other
+    other_answers c.args.key.now c.args.name.now.0 content c.requires.named c.requires.good c.in-Fits.meta c.in-Fits.size reads other
 
-pub read_body-requires : goal.read_body-requires
-read_body-requires g c = λ told.
+pub check-requires : goal.check-requires
+check-requires g c = λ told.
     let s = g.D.Disk.state c.args.disk.now in
-    let reads = subst (λ (r : EntryRead). ReadsAs c.name_of-name.result.0 (standing s (Entry c.name_of-name.result)) r) c.in-Fits.is (c.in_ok-read_meta.ensures.reads told) in
-    subst (λ (t : State). HasMeta (standing t (Entry c.name_of-name.result)) (meta_of c.in-Fits.meta)) (sym (c.in_ok-read_meta.ensures.state told))
-    (fit_stands c.args.key.now c.name_of-name.result.0 s c.name_of-name.ensures c.in-Fits.meta c.in-Fits.size reads)
+    let content = standing s (Entry c.args.name.now) in
+    let reads = subst (λ (r : EntryRead). ReadsAs c.args.name.now.0 content r) c.in-Fits.is (c.in_ok-read_meta.ensures.reads told) in
+    subst (λ (t : State). HasMeta (standing t (Entry c.args.name.now)) (meta_of c.in-Fits.meta)) (sym (c.in_ok-read_meta.ensures.state told))
+    (fit_stands c.args.key.now c.args.name.now.0 content c.requires.named c.requires.good c.in-Fits.meta c.in-Fits.size reads)
 
 pub returns-else-ne-clause-found : goal.returns-else-ne-clause-found
 returns-else-ne-clause-found g c =
     let s = g.D.Disk.state c.args.disk.now in
-    let place = Entry c.name_of-name.result in
-    let answer = get_answer c.args.key.now (standing s (entry_place c.args.key.now)) in
+    let place = Entry c.args.name.now in
     let meta = c.in-Fits.meta in
-    let good : may_write c.args.key.now ≡ true = grind arith in
     let same = keys_agree c.as_slice.result.now c.args.key.now meta.key c.ne.result c.ne.ensures c.if-ne.false c.as_slice.ensures in
-    let reads = λ (told : IsTrue g.D.Disk.tells). subst (λ (r : EntryRead). ReadsAs c.name_of-name.result.0 (standing s place) r) c.in-Fits.is (c.in_ok-read_meta.ensures.reads told) in
-    let answers = λ (told : IsTrue g.D.Disk.tells). fit_answers c.args.key.now c.name_of-name.result.0 s c.name_of-name.ensures meta c.in-Fits.size (reads told) good same in
-    let body = λ (t : State). body_answer (meta_of meta) (front_of meta.offset (standing t place)) in
-    answered c.read_body.result
-    (λ (found : Result Meta Refusal). IsTrue g.D.Disk.tells → answer_in found c.read_body.new.buf ≡ body (g.D.Disk.state c.read_meta.new.disk))
-    (λ (found : Result Meta Refusal). IsTrue g.D.Disk.tells → answer_in found c.read_body.new.buf ≡ answer)
-    (λ found holds told. holds told ∙ ap body (c.in_ok-read_meta.ensures.state told) ∙ answers told)
-    c.read_body.ensures.found
+    let reads = λ (told : IsTrue g.D.Disk.tells). subst (λ (r : EntryRead). ReadsAs c.args.name.now.0 (standing s place) r) c.in-Fits.is (c.in_ok-read_meta.ensures.reads told) in
+    let answers = λ (told : IsTrue g.D.Disk.tells). fit_answers c.args.key.now c.args.name.now.0 (standing s place) c.requires.named c.requires.good meta c.in-Fits.size (reads told) same in
+    let Answers = λ (found : Result Meta Refusal) (t : State). answer_in found (standing t place) ≡ body_answer (meta_of meta) (front_of meta.offset (standing t place)) in
+    answered c.check.result
+    (λ (found : Result Meta Refusal). IsTrue g.D.Disk.tells → Answers found (g.D.Disk.state c.read_meta.new.disk))
+    (λ (found : Result Meta Refusal). IsTrue g.D.Disk.tells → answer_in found (standing s place) ≡ get_answer c.args.key.now (standing s place))
+    (λ found holds told. subst (λ (t : State). Answers found t) (c.in_ok-read_meta.ensures.state told) (holds told) ∙ answers told)
+    c.check.ensures.found

@@ -1,0 +1,95 @@
+/* What the plain programs share: numbers, the SHA-1 that names a file, and Bob Jenkins' lookup2, written plainly. */
+#include <inttypes.h>
+#include <stdint.h>
+#include <stdio.h>
+#include <stdlib.h>
+#include <string.h>
+
+#define CHUNK 262144u
+
+static uint32_t big(const uint8_t *b)
+{
+    return (uint32_t)b[0] << 24 | (uint32_t)b[1] << 16 | (uint32_t)b[2] << 8 | b[3];
+}
+
+static uint32_t rotate(uint32_t x, int n)
+{
+    return x << n | x >> (32 - n);
+}
+
+static void sha1_block(uint32_t h[5], const uint8_t *block)
+{
+    uint32_t w[80], a = h[0], b = h[1], c = h[2], d = h[3], e = h[4];
+
+    for (int i = 0; i < 16; i++)
+        w[i] = big(block + 4 * i);
+    for (int i = 16; i < 80; i++)
+        w[i] = rotate(w[i - 3] ^ w[i - 8] ^ w[i - 14] ^ w[i - 16], 1);
+    for (int i = 0; i < 80; i++) {
+        uint32_t f, k;
+        if (i < 20) { f = (b & c) | (~b & d); k = 0x5a827999; }
+        else if (i < 40) { f = b ^ c ^ d; k = 0x6ed9eba1; }
+        else if (i < 60) { f = (b & c) | (b & d) | (c & d); k = 0x8f1bbcdc; }
+        else { f = b ^ c ^ d; k = 0xca62c1d6; }
+        uint32_t t = rotate(a, 5) + f + e + k + w[i];
+        e = d; d = c; c = rotate(b, 30); b = a; a = t;
+    }
+    h[0] += a; h[1] += b; h[2] += c; h[3] += d; h[4] += e;
+}
+
+static void sha1(const uint8_t *bytes, size_t n, uint32_t h[5])
+{
+    uint8_t last[128] = {0};
+    size_t whole = n / 64 * 64, rest = n - whole, end = rest < 56 ? 64 : 128;
+
+    h[0] = 0x67452301; h[1] = 0xefcdab89; h[2] = 0x98badcfe; h[3] = 0x10325476; h[4] = 0xc3d2e1f0;
+    for (size_t i = 0; i < whole; i += 64)
+        sha1_block(h, bytes + i);
+    memcpy(last, bytes + whole, rest);
+    last[rest] = 0x80;
+    for (int i = 0; i < 8; i++)
+        last[end - 1 - i] = (uint8_t)((uint64_t)n * 8 >> (8 * i));
+    for (size_t i = 0; i < end; i += 64)
+        sha1_block(h, last + i);
+}
+
+static uint32_t word(const uint8_t *k)
+{
+    return k[0] | (uint32_t)k[1] << 8 | (uint32_t)k[2] << 16 | (uint32_t)k[3] << 24;
+}
+
+#define MIX(a, b, c)                  \
+    do {                              \
+        a -= b; a -= c; a ^= c >> 13; \
+        b -= c; b -= a; b ^= a << 8;  \
+        c -= a; c -= b; c ^= b >> 13; \
+        a -= b; a -= c; a ^= c >> 12; \
+        b -= c; b -= a; b ^= a << 16; \
+        c -= a; c -= b; c ^= b >> 5;  \
+        a -= b; a -= c; a ^= c >> 3;  \
+        b -= c; b -= a; b ^= a << 10; \
+        c -= a; c -= b; c ^= b >> 15; \
+    } while (0)
+
+static uint32_t hash(const uint8_t *k, uint32_t length)
+{
+    uint32_t a = 0x9e3779b9, b = 0x9e3779b9, c = 0, len = length;
+    uint8_t last[12] = {0};
+
+    for (; len >= 12; k += 12, len -= 12) {
+        a += word(k); b += word(k + 4); c += word(k + 8);
+        MIX(a, b, c);
+    }
+    memcpy(last, k, len);
+    a += word(last); b += word(last + 4); c += length + ((word(last + 8) & 0xffffff) << 8);
+    MIX(a, b, c);
+    return c;
+}
+
+static void path_of(char *path, size_t room, const char *dir, const char *key)
+{
+    uint32_t h[5];
+
+    sha1((const uint8_t *)key, strlen(key), h);
+    snprintf(path, room, "%s/entries/%08X%08X%08X%08X%08X", dir, h[0], h[1], h[2], h[3], h[4]);
+}

@@ -1,0 +1,14 @@
+-- Names in the order of their bytes.
+use Rattle.std.specs.Prelude.{List}
+use Rattle.std.specs.declared.cmp.Ordering.{Ordering}
+use Rattle.std.specs.Cmp.Lexicographic.{slice_cmp}
+use Rattle.std.specs.List.Sorted.{IsStrictlySortedBy}
+use Rattle.std.specs.Ordering.{nat_cmp}
+use Rattle.cache_base.specs.declared.name.Name.{Name}
+
+abbrev pub name_cmp : Name → Name → Ordering
+name_cmp a b = slice_cmp nat_cmp a.0 b.0
+
+-- each name is below those after it
+abbrev pub AreRising : List Name → Type 0
+AreRising names = IsStrictlySortedBy name_cmp names

@@ -1,5 +1,0 @@
-use Rattle.std.specs.BTreeSet.{btree_set_len}
-use Rattle.cache_tool.proofs.real_folder.sync_each.Given as goal
-
-abbrev pub decreases-loop-first : goal.decreases-loop-first
-decreases-loop-first g l = btree_set_len l.pending

@@ -1,0 +1,7 @@
+use Rattle.std.proofs.Common.{◌≡◌, ◌++◌}
+use Rattle.disk_model.proofs.MemListing.{picked}
+use Rattle.disk_model.proofs.MemPlaces.{doomed_in}
+use Rattle.disk_model.proofs.mem_listing.doomed_numbers.Given as goal
+
+abbrev pub invariant-loop-place : goal.invariant-loop-place
+invariant-loop-place l = l.numbers ++ picked doomed_in l.place-iterator ≡ picked doomed_in l.slots.entries

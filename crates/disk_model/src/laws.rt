@@ -1,0 +1,16 @@
+// What follows from the definitions, for each disk that tells.
+
+ghost use Rattle.std.specs.Prelude.{◌≡◌, IsTrue};
+ghost use Rattle.disk_model.specs.State.{standing};
+ghost use Rattle.disk_model.specs.Sound.{IsQuiet};
+ghost use Rattle.disk_model.specs.Image.{Files, IsImage};
+ghost use Rattle.disk_model.specs.declared.place.Place.{Place as Where};
+
+use crate::Disk;
+
+/// A disk as it reads is one of the images that a crash may leave, and with nothing pending it is the only one.
+pub fn reads_as_image<D: Disk>(_disk: &D)
+    ensures one { IsTrue D.tells → IsImage (D.state _disk.now) (standing (D.state _disk.now)) }
+    ensures only { IsTrue D.tells → IsQuiet (D.state _disk.now) → (image : Files) → IsImage (D.state _disk.now) image
+        → (place : Where) → image place ≡ standing (D.state _disk.now) place }
+{}

@@ -1,0 +1,47 @@
+-- The first damage of a body whose chunks are checked in order.
+use Rattle.std.proofs.Common.{◌≡◌, ◌≤◌, ◌<◌, ◌+◌, ◌-◌, ℕ, suc, List, take, Option, Some, None, refl, sym, ap, ◌∙◌, arith}
+use Rattle.std.specs.Prelude.{filter_map, IfSome}
+use Rattle.std.specs.List.{cons_option, range_with_len}
+use Rattle.cache_base.specs.Limits.{chunks}
+use Rattle.chunk_store.specs.Chunks.{damage_at, damages}
+use Rattle.chunk_store.specs.declared.damage.Damage.{Damage}
+use Rattle.entry_file.specs.Damages.{first, first_damage}
+use Rattle.entry_metadata.specs.Metadata.{Meta}
+
+-- the first of the damages of the chunks from i on, of n
+abbrev pub first_from : (ℕ → Option Damage) → ℕ → ℕ → Option Damage
+first_from f i n = first (filter_map f (range_with_len i (n - i)))
+
+-- the first chunk's, if it has one, or that of those after it
+first_step : (f : ℕ → Option Damage) (i left : ℕ) → first (filter_map f (range_with_len i (suc left))) ≡ first (cons_option (f i) (filter_map f (range_with_len (i + 1) left)))
+first_step f i left = refl
+
+module _ (f : ℕ → Option Damage) (i n : ℕ) (lt : i < n) where
+  step : first_from f i n ≡ first (cons_option (f i) (filter_map f (range_with_len (i + 1) (n - (i + 1)))))
+  step = let one : n - i ≡ suc (n - (i + 1)) = omega (arith, lt) in ap (λ left. first (filter_map f (range_with_len i left))) one ∙ first_step f i (n - (i + 1))
+
+  pub from_next : None ≡ f i → first_from f i n ≡ first_from f (i + 1) n
+  from_next none = step ∙ ap (λ o. first (cons_option o (filter_map f (range_with_len (i + 1) (n - (i + 1)))))) (sym none)
+
+  pub from_here : (d : Damage) → Some d ≡ f i → first_from f i n ≡ Some d
+  from_here d some = step ∙ ap (λ o. first (cons_option o (filter_map f (range_with_len (i + 1) (n - (i + 1)))))) (sym some)
+
+pub from_end : (f : ℕ → Option Damage) (i n : ℕ) → n ≤ i → first_from f i n ≡ None
+from_end f i n le = let none : n - i ≡ 0 = omega (arith, le) in ap (λ left. first (filter_map f (range_with_len i left))) none
+
+-- The damages are looked for from the first chunk on.
+pub from_first : (m : Meta) (c : List ℕ) → first_damage m c ≡ first_from (damage_at m.hashes (take m.offset c)) 0 (chunks m.offset)
+unfolding damages
+from_first m c =
+    let n = chunks m.offset in
+    let all : n ≡ n - 0 = omega arith in
+    ap (λ k. first (filter_map (damage_at m.hashes (take m.offset c)) (range_with_len 0 k))) all
+
+-- what is known of a content, if there is one, and follows from what is known
+pub of_content : (o : Option (List ℕ)) (P Q R : List ℕ → Type 0) → ((c : List ℕ) → P c → Q c → R c) → IfSome o P → IfSome o Q → IfSome o R
+of_content None P Q R f p q = tt
+of_content (Some c) P Q R f p q = f c p q
+
+pub each_content : (o : Option (List ℕ)) (P : List ℕ → Type 0) → ((c : List ℕ) → P c) → IfSome o P
+each_content None P f = tt
+each_content (Some c) P f = f c

@@ -1,0 +1,31 @@
+//! A new entry.
+
+ghost use Rattle.std.specs.Prelude.{◌≡◌, [], IfOk, OnOk, IsTrue, IsErrOf};
+ghost use Rattle.cache_base.specs.Causes.{HasCause};
+ghost use Rattle.disk_model.specs.State.{created};
+ghost use Rattle.disk_model.specs.Calls.{StopsAtFault, counted, if_done};
+ghost use Rattle.entry_file.specs.NewEntry.{HasBody};
+ghost use Rattle.entry_file.specs.Held.{held};
+
+use crate::NewEntry;
+use cache_base::{BODY_MAX, Buffer, CHUNK, Hashes};
+use disk_model::{Disk, DiskFault, Place};
+use std::alloc::Global;
+
+// The chunks of the longest body.
+const CHUNKS_MAX: usize = BODY_MAX / CHUNK;
+
+/// A new entry with an empty body: a new empty file takes the place. The memory that its body takes while it grows is
+/// taken first.
+pub fn begin<D: Disk>(alloc: Global, disk: &mut D, place: &Place) -> Result<NewEntry, DiskFault>
+    ensures body { IfOk result (λ entry. HasBody (held entry) []) }
+    ensures state { IsTrue D.tells → D.state disk.new ≡ if_done result (created place.now (D.state disk.old)) (D.state disk.old) }
+    ensures calls { OnOk result (IsTrue D.tells → D.counts disk.new ≡ counted (D.counts disk.old)) }
+    ensures stops { IsTrue D.tells → StopsAtFault (D.counts disk.old) (D.counts disk.new) }
+    ensures cause { HasCause (IsErrOf result DiskFault.Failed) (D.faults disk.old) (D.faults disk.new) }
+{
+    let rest = Buffer::new(alloc)?;
+    let hashes = Hashes::with_room(alloc, CHUNKS_MAX)?;
+    disk.create(place)?;
+    Ok(NewEntry { rest, hashes })
+}

@@ -1,0 +1,65 @@
+//! The body of an entry's file against its hashes.
+
+ghost use Rattle.std.specs.Prelude.{◌≡◌, ◌<◌, ◌≤◌, ◌+◌, take, IfOk, IfSome, IsTrue, IsErrOf};
+ghost use Rattle.cache_base.specs.Causes.{HasCause};
+ghost use Rattle.cache_base.specs.Limits.{chunks as chunks_of};
+ghost use Rattle.chunk_store.specs.Chunks.{damage_at};
+ghost use Rattle.disk_model.specs.State.{standing};
+ghost use Rattle.entry_file.specs.Damages.{first_damage, HasMeta};
+ghost use Rattle.entry_metadata.specs.Meta.{meta_of};
+
+use cache_base::{Buffer, chunks};
+use chunk_store::{ChunkAnswer, Damage, check_chunk, read_chunk};
+use disk_model::{Disk, DiskFault, Place};
+use entry_metadata::Meta;
+
+// Reads a chunk of the body that stands at the place with these metadata, and holds it against its hash.
+fn check_one<D: Disk>(
+    disk: &mut D,
+    place: &Place,
+    meta: &Meta,
+    index: u32,
+    buf: &mut Buffer,
+) -> Result<Option<Damage>, DiskFault>
+    requires index { index < chunks_of meta.now.offset }
+    requires told { IsTrue D.tells → HasMeta (standing (D.state disk.old) place.now) (meta_of meta.now) }
+    ensures damage { IfOk result (λ damage. IsTrue D.tells → IfSome (standing (D.state disk.old) place.now) (λ content. damage ≡ damage_at meta.now.hashes (take meta.now.offset content) index)) }
+    ensures state { IsTrue D.tells → D.state disk.new ≡ D.state disk.old }
+    ensures calls { IsTrue D.tells → (D.counts disk.new).calls ≤ (D.counts disk.old).calls + 1 }
+    ensures no_change { IsTrue D.tells → (D.counts disk.new).failed_change ≡ (D.counts disk.old).failed_change }
+    ensures cause { HasCause (IsErrOf result DiskFault.Failed) (D.faults disk.old) (D.faults disk.new) }
+{
+    read_chunk(disk, place, meta.offset, index, buf)?;
+    match check_chunk(meta.hashes.as_slice()[index as usize], buf.as_slice()) {
+        ChunkAnswer::Fits => Ok(None),
+        ChunkAnswer::Differs { stored, found } => Ok(Some(Damage {
+            chunk: index,
+            stored,
+            found,
+        })),
+    }
+}
+
+/// The first chunk that differs of the body that stands at the place with these metadata, or none. Each chunk up to
+/// that one is read into the buffer, by one call of the disk.
+pub fn check_body<D: Disk>(
+    disk: &mut D,
+    place: &Place,
+    meta: &Meta,
+    buf: &mut Buffer,
+) -> Result<Option<Damage>, DiskFault>
+    requires { IsTrue D.tells → HasMeta (standing (D.state disk.old) place.now) (meta_of meta.now) }
+    ensures damage { IfOk result (λ damage. IsTrue D.tells → IfSome (standing (D.state disk.old) place.now) (λ content. damage ≡ first_damage (meta_of meta.now) content)) }
+    ensures state { IsTrue D.tells → D.state disk.new ≡ D.state disk.old }
+    ensures calls { IsTrue D.tells → (D.counts disk.new).calls ≤ (D.counts disk.old).calls + chunks_of meta.now.offset }
+    ensures no_change { IsTrue D.tells → (D.counts disk.new).failed_change ≡ (D.counts disk.old).failed_change }
+    ensures cause { HasCause (IsErrOf result DiskFault.Failed) (D.faults disk.old) (D.faults disk.new) }
+{
+    for index in 0..chunks(u64::from(meta.offset)) as u32 {
+        match check_one(disk, place, meta, index, buf)? {
+            None => {}
+            Some(damage) => return Ok(Some(damage)),
+        }
+    }
+    Ok(None)
+}

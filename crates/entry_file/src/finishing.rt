@@ -1,0 +1,127 @@
+//! A body that is finished to a version.
+
+ghost use Rattle.std.specs.Prelude.{◌≡◌, ◌≤◌, ◌==◌, ◌++◌, ◌∷◌, [], if◌then◌else◌, true, ℕ, List, length, IfOk, OnOk, IsTrue, IsErrOf, Some};
+ghost use Rattle.cache_base.specs.Bytes.{AreBytes, be32};
+ghost use Rattle.cache_base.specs.Causes.{HasCause};
+ghost use Rattle.cache_base.specs.Limits.{chunks};
+ghost use Rattle.cache_base.specs.declared.limits.TheConstants.{BLOCK_MAX};
+ghost use Rattle.chunk_store.specs.Stored.{unfinished_file};
+ghost use Rattle.disk_model.specs.State.{standing, wrote};
+ghost use Rattle.disk_model.specs.Writes.{WritesAt};
+ghost use Rattle.disk_model.specs.Calls.{StopsAtFault, counted, if_done};
+ghost use Rattle.entry_key.specs.Walk.{read_key, reads};
+ghost use Rattle.entry_metadata.specs.Meta.{meta_of};
+ghost use Rattle.entry_metadata.specs.Metadata.{block_bytes, block_length};
+ghost use Rattle.entry_parts.specs.Elements.{AreElements, elements_bytes};
+ghost use Rattle.entry_parts.specs.Header.{IsHeader};
+ghost use Rattle.jenkins_hash.specs.Hash.{hash16_of};
+ghost use Rattle.entry_file.specs.NewEntry.{HasBody, IsItsFile, finished, grown_len, last_write};
+ghost use Rattle.entry_file.specs.Held.{held};
+ghost use Rattle.entry_file.specs.Version.{IsVersion, file_of, version_meta};
+
+use crate::NewEntry;
+use cache_base::{Bytes, CHUNK, Hashes, NoMemory};
+use disk_model::{Disk, DiskFault, Place};
+use entry_metadata::Meta;
+use entry_parts::{Elements, Header};
+use jenkins_hash::hash16;
+use std::alloc::Global;
+
+// What stands in a slice of this type fits a byte.
+fn bytes_fit(b: &[u8])
+    ensures { AreBytes b.now }
+{}
+
+// Values of these types may stand in a block.
+fn parts_fit(header: Header, key: &[u8], elements: &Elements)
+    ensures header { IsHeader header }
+    ensures key { AreBytes key.now }
+    ensures elements { AreElements elements.now }
+    ensures element_bytes { AreBytes (elements_bytes elements.now) }
+{
+    bytes_fit(key);
+    bytes_fit(elements.print());
+}
+
+// The hashes of the whole chunks, and behind them that of the rest, where there is one.
+fn all_hashes(hashes: Hashes, rest: &[u8]) -> Result<Hashes, NoMemory>
+    ensures { IfOk result (λ all. all ≡ (if length rest.now == 0 then hashes else (hashes ++ hash16_of rest.now ∷ []))) }
+{
+    let mut hashes = hashes;
+    if !rest.is_empty() {
+        hashes.push(hash16(rest))?;
+    }
+    Ok(hashes)
+}
+
+// The bytes, and behind them the block and its offset, in one piece.
+fn tail_of(alloc: Global, rest: &[u8], meta: &Meta) -> Result<Bytes, NoMemory>
+    ensures { IfOk result (λ tail. tail ≡ rest.now ++ (block_bytes (meta_of meta.now) ++ be32 meta.now.offset)) }
+{
+    let block = entry_metadata::print(alloc, meta)?;
+    let mut tail = Bytes::with_room(alloc, rest.len() + block.as_slice().len())?;
+    tail.extend(rest)?;
+    tail.extend(block.as_slice())?;
+    Ok(tail)
+}
+
+impl NewEntry {
+    // With these parts a body of bytes makes a version.
+    fn makes_version(&self, header: Header, key: &Bytes, elements: &Elements)
+        requires version { header.version ≡ 3 }
+        requires key_size { header.key_size ≡ length key.now }
+        requires grammar { reads (read_key key.now) ≡ true }
+        requires small { block_length (chunks (grown_len (held self.now))) (length key.now) (length (elements_bytes elements.now)) ≤ BLOCK_MAX }
+        ensures { (body : List ℕ) → HasBody (held self.now) body → AreBytes body → IsVersion (finished header key.now elements.now body) }
+    {
+        parts_fit(header, key.as_slice(), elements);
+    }
+
+    /// Makes the file that of a version with this header, this key and these elements: what the file does not have yet
+    /// of it is written by one call of the disk. Gives the metadata. Whatever the answer, the entry is spent.
+    pub fn finish<D: Disk>(
+        self,
+        alloc: Global,
+        disk: &mut D,
+        place: &Place,
+        header: Header,
+        key: Bytes,
+        elements: Elements,
+    ) -> Result<Meta, DiskFault>
+        requires version { header.version ≡ 3 }
+        requires key_size { header.key_size ≡ length key }
+        requires grammar { reads (read_key key) ≡ true }
+        requires small { block_length (chunks (grown_len (held self))) (length key) (length (elements_bytes elements)) ≤ BLOCK_MAX }
+        requires told { IsTrue D.tells → IsItsFile (held self) (standing (D.state disk.old) place.now) }
+        ensures version { (body : List ℕ) → HasBody (held self) body → AreBytes body → IsVersion (finished header key elements body) }
+        ensures meta { IfOk result (λ meta. (body : List ℕ) → HasBody (held self) body → meta_of meta ≡ version_meta (finished header key elements body)) }
+
+        // The file gets one moment more, which is the file of the version.
+        ensures state { IsTrue D.tells → (body : List ℕ) → HasBody (held self) body → standing (D.state disk.old) place.now ≡ Some (unfinished_file body)
+            → D.state disk.new ≡ if_done result (wrote place.now (last_write (finished header key elements body)) (D.state disk.old)) (D.state disk.old) }
+        ensures writes { IsTrue D.tells → (body : List ℕ) → HasBody (held self) body → standing (D.state disk.old) place.now ≡ Some (unfinished_file body)
+            → WritesAt place.now (λ c. c ≡ file_of (finished header key elements body)) (D.state disk.old) (D.state disk.new) }
+        ensures stands { OnOk result (IsTrue D.tells → (body : List ℕ) → HasBody (held self) body → standing (D.state disk.old) place.now ≡ Some (unfinished_file body)
+            → standing (D.state disk.new) place.now ≡ Some (file_of (finished header key elements body))) }
+        ensures calls { OnOk result (IsTrue D.tells → D.counts disk.new ≡ counted (D.counts disk.old)) }
+        ensures stops { IsTrue D.tells → StopsAtFault (D.counts disk.old) (D.counts disk.new) }
+        ensures cause { HasCause (IsErrOf result DiskFault.Failed) (D.faults disk.old) (D.faults disk.new) }
+    {
+        self.makes_version(header, &key, &elements);
+        let whole = self.hashes.as_slice().len() as u64 * CHUNK as u64;
+        let offset = self.len();
+        let NewEntry { rest, hashes } = self;
+        let rest = rest.as_slice();
+        let hashes = all_hashes(hashes, rest)?;
+        let meta = Meta {
+            header,
+            key,
+            elements,
+            hashes,
+            offset,
+        };
+        let tail = tail_of(alloc, rest, &meta)?;
+        disk.write_end(place, whole, tail.as_slice())?;
+        Ok(meta)
+    }
+}

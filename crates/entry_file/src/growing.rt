@@ -1,0 +1,120 @@
+//! A body that grows.
+
+ghost use Rattle.std.specs.Prelude.{◌≡◌, ◌≤◌, ◌<◌, ◌+◌, ◌*◌, ◌/◌, ◌++◌, ℕ, List, [], ◌∷◌, length, take, OnOk, IsTrue, IsErrOf, Some, Ok};
+ghost use Rattle.cache_base.specs.Causes.{HasCause};
+ghost use Rattle.cache_base.specs.Limits.{chunk_size};
+ghost use Rattle.cache_base.specs.declared.limits.TheConstants.{BODY_MAX, BUFFER_MAX, CHUNK};
+ghost use Rattle.chunk_store.specs.Stored.{chunk_write, unfinished_file};
+ghost use Rattle.disk_model.specs.State.{standing, wrote};
+ghost use Rattle.disk_model.specs.Writes.{WritesAt};
+ghost use Rattle.disk_model.specs.Calls.{MayWriteAt, StopsAtFault, if_done};
+ghost use Rattle.entry_file.specs.NewEntry.{HasBody, IsItsFile, grown_len};
+ghost use Rattle.entry_file.specs.Held.{held};
+ghost use Rattle.entry_file.specs.Unfinished.{IsUnfinished};
+ghost use Rattle.jenkins_hash.specs.Hash.{hash16_of};
+
+use crate::NewEntry;
+use cache_base::{Buffer, CHUNK, Hashes};
+use chunk_store::append_chunk;
+use disk_model::{Disk, DiskFault, Place};
+use jenkins_hash::hash16;
+
+// Copies the bytes to the end of the slice, from a place on.
+fn put_end(slice: &mut [u8], at: usize, b: &[u8])
+    requires { at + length b.now ≡ length slice.old }
+    ensures { slice.new ≡ take at slice.old ++ b.now }
+{
+    slice[at..].copy_from_slice(b);
+}
+
+// Adds the bytes at the end.
+fn extend(buf: &mut Buffer, b: &[u8])
+    requires { length buf.old + length b.now ≤ BUFFER_MAX }
+    ensures { buf.new ≡ buf.old ++ b.now }
+{
+    let at = buf.as_slice().len();
+    buf.set_len(at + b.len());
+    put_end(buf.as_mut_slice(), at, b);
+}
+
+// Adds the hash of the whole chunk, and writes the chunk.
+fn put_full<D: Disk>(
+    disk: &mut D,
+    place: &Place,
+    chunk: &mut Buffer,
+    hashes: &mut Hashes,
+) -> Result<(), DiskFault>
+    requires full { length chunk.old ≡ CHUNK }
+    requires limit { length hashes.old * CHUNK ≤ BODY_MAX }
+    requires told { IsTrue D.tells → MayWriteAt (standing (D.state disk.old) place.now) (length hashes.old * chunk_size) }
+    ensures hashes { OnOk result (hashes.new ≡ hashes.old ++ hash16_of chunk.old ∷ []) }
+    ensures room { length hashes.new ≤ length hashes.old + 1 }
+    ensures state { IsTrue D.tells → D.state disk.new ≡ if_done result (wrote place.now (chunk_write (length hashes.old) chunk.old) (D.state disk.old)) (D.state disk.old) }
+    ensures calls { IsTrue D.tells → (D.counts disk.new).calls ≤ (D.counts disk.old).calls + 1 }
+    ensures went_on { OnOk result (IsTrue D.tells → (D.counts disk.new).failed_change ≡ (D.counts disk.old).failed_change) }
+    ensures stops { IsTrue D.tells → StopsAtFault (D.counts disk.old) (D.counts disk.new) }
+    ensures cause { HasCause (IsErrOf result DiskFault.Failed) (D.faults disk.old) (D.faults disk.new) }
+{
+    let index = hashes.as_slice().len() as u32;
+    hashes.push(hash16(chunk.as_slice()))?;
+    append_chunk(disk, place, index, chunk)
+}
+
+impl NewEntry {
+    // Fills the chunk that is held up with these bytes, and writes it.
+    fn put_chunk<D: Disk>(&mut self, disk: &mut D, place: &Place, b: &[u8]) -> Result<(), DiskFault>
+        requires full { length (held self.old).rest + length b.now ≡ CHUNK }
+        requires limit { grown_len (held self.old) + length b.now ≤ BODY_MAX }
+        requires told { IsTrue D.tells → IsItsFile (held self.old) (standing (D.state disk.old) place.now) }
+        ensures len { OnOk result (grown_len (held self.new) ≡ grown_len (held self.old) + length b.now) }
+        ensures rest { OnOk result ((held self.new).rest ≡ []) }
+        ensures body { OnOk result ((body : List ℕ) → HasBody (held self.old) body → HasBody (held self.new) (body ++ b.now)) }
+        ensures stands { OnOk result (IsTrue D.tells → (body : List ℕ) → HasBody (held self.old) body → standing (D.state disk.old) place.now ≡ Some (unfinished_file body)
+            → standing (D.state disk.new) place.now ≡ Some (unfinished_file (body ++ b.now))) }
+        ensures writes { IsTrue D.tells → WritesAt place.now IsUnfinished (D.state disk.old) (D.state disk.new) }
+        ensures calls { IsTrue D.tells → (D.counts disk.new).calls ≤ (D.counts disk.old).calls + 1 }
+        ensures went_on { OnOk result (IsTrue D.tells → (D.counts disk.new).failed_change ≡ (D.counts disk.old).failed_change) }
+        ensures stops { IsTrue D.tells → StopsAtFault (D.counts disk.old) (D.counts disk.new) }
+        ensures cause { HasCause (IsErrOf result DiskFault.Failed) (D.faults disk.old) (D.faults disk.new) }
+    {
+        extend(&mut self.rest, b);
+        let result = put_full(disk, place, &mut self.rest, &mut self.hashes);
+        self.rest.set_len(0);
+        result
+    }
+
+    /// Adds bytes to the body. Each chunk goes out as soon as it is full; within a chunk nothing is called and no
+    /// memory is taken.
+    pub fn append<D: Disk>(
+        &mut self,
+        disk: &mut D,
+        place: &Place,
+        b: &[u8],
+    ) -> Result<(), DiskFault>
+        requires limit { grown_len (held self.old) + length b.now ≤ BODY_MAX }
+        requires told { IsTrue D.tells → IsItsFile (held self.old) (standing (D.state disk.old) place.now) }
+
+        // The body grows by these bytes, and the file is that of the longer body.
+        ensures body { OnOk result ((body : List ℕ) → HasBody (held self.old) body → HasBody (held self.new) (body ++ b.now)) }
+        ensures stands { OnOk result (IsTrue D.tells → (body : List ℕ) → HasBody (held self.old) body → standing (D.state disk.old) place.now ≡ Some (unfinished_file body)
+            → standing (D.state disk.new) place.now ≡ Some (unfinished_file (body ++ b.now))) }
+        ensures within { length (held self.old).rest + length b.now < CHUNK → (result ≡ Ok tt) × (disk.new ≡ disk.old) }
+
+        // In any case this file alone was written to, and none of its new moments fits.
+        ensures writes { IsTrue D.tells → WritesAt place.now IsUnfinished (D.state disk.old) (D.state disk.new) }
+        ensures calls { IsTrue D.tells → (D.counts disk.new).calls ≤ (D.counts disk.old).calls + (length (held self.old).rest + length b.now) / chunk_size }
+        ensures went_on { OnOk result (IsTrue D.tells → (D.counts disk.new).failed_change ≡ (D.counts disk.old).failed_change) }
+        ensures stops { IsTrue D.tells → StopsAtFault (D.counts disk.old) (D.counts disk.new) }
+        ensures cause { HasCause (IsErrOf result DiskFault.Failed) (D.faults disk.old) (D.faults disk.new) }
+    {
+        let mut left = b;
+        while left.len() >= CHUNK - self.rest.as_slice().len() {
+            let room = CHUNK - self.rest.as_slice().len();
+            let (front, back) = left.split_at(room);
+            self.put_chunk(disk, place, front)?;
+            left = back;
+        }
+        extend(&mut self.rest, left);
+        Ok(())
+    }
+}

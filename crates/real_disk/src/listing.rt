@@ -1,0 +1,54 @@
+//! The names in a folder.
+
+ghost use Rattle.std.specs.Prelude.{IfOk};
+ghost use Rattle.std.specs.List.Sorted.{IsStrictlySortedBy};
+
+use cache_base::{Items, NoMemory};
+use std::alloc::Global;
+use std::collections::BTreeSet;
+use std::fs;
+use std::io::{self, ErrorKind};
+use std::rt::Files;
+
+/// What the names in the folder read as. Those that read as nothing, or are no UTF-8, are foreign and left alone. A
+/// missing folder has no names.
+pub(crate) fn read_names<
+    R: Files + AllocGlobal + Clone + Drop,
+    T: Ord + Drop,
+    P: Fn(&str) -> Option<T>,
+>(rt: &R, folder: &str, read: P) -> io::Result<BTreeSet<T, Global>>
+    requires { P.IsAlwaysCallable read }
+{
+    let mut found = BTreeSet::new(rt.alloc());
+    let names = match fs::read_dir(rt, folder) {
+        Ok(names) => names,
+        Err(error) if error.kind() == ErrorKind::NotFound => return Ok(found),
+        Err(error) => return Err(error),
+    };
+    for name in names {
+        match name {
+            Ok(name) => {
+                if let Some(item) = read(name.file_name()) {
+                    found.insert(item)?;
+                }
+            }
+            Err(error) if error.kind() == ErrorKind::InvalidFilename => {}
+            Err(error) => return Err(error),
+        }
+    }
+    Ok(found)
+}
+
+/// The items of the set, in order.
+pub(crate) fn rising<T: Ord + Drop>(
+    alloc: Global,
+    mut items: BTreeSet<T, Global>,
+) -> Result<Items<T>, NoMemory>
+    ensures { IfOk result (λ list. IsStrictlySortedBy T.cmp list) }
+{
+    let mut list = Items::with_room(alloc, items.len())?;
+    while let Some(item) = items.pop_first() {
+        list.push(item)?;
+    }
+    Ok(list)
+}

@@ -1,0 +1,118 @@
+//! A folder of the machine as a disk.
+
+ghost use Rattle.std.specs.Prelude.{◌≡◌, IfOk, IsErrOf, false};
+ghost use Rattle.cache_base.specs.Causes.{HasCause};
+ghost use Rattle.real_disk.specs.Silent.{nothing, no_counts, never};
+
+use crate::folder::Folder;
+use crate::listing::rising;
+use cache_base::{Names, Numbers};
+use disk_model::{Disk, DiskFault, Place};
+use std::io::{self, ErrorKind};
+use std::rt::Files;
+
+/// A folder of the machine, with the folders `entries` and `doomed` and the files of the index in it.
+///
+/// The folder, and those above it, are made with the first file. Folders are made with the mode 0700 and files with
+/// 0600. Files with other names are left alone.
+///
+/// Each call that fails raises the count of faults by one. Where the system has no memory the call answers so, and
+/// no fault is counted. Contracts are told nothing of what the folder holds.
+#[derive(Drop)]
+pub struct RealDisk<'a, R: Files + AllocGlobal> {
+    folder: Folder<'a, R>,
+    faults: u64,
+}
+
+impl<'a, R: Files + AllocGlobal> RealDisk<'a, R> {
+    /// Makes no call of the machine.
+    pub fn new(rt: &'a R, dir: String) -> Self
+        ensures { result.faults ≡ 0 }
+    {
+        RealDisk {
+            folder: Folder::new(rt, dir),
+            faults: 0,
+        }
+    }
+
+    // The answer of a call. Here alone a failure is counted.
+    fn answer<T>(&mut self, outcome: io::Result<T>) -> Result<T, DiskFault>
+        ensures value { IfOk result (λ value. outcome ≡ Ok value) }
+        ensures cause { HasCause (IsErrOf result DiskFault.Failed) self.old.faults self.new.faults }
+    {
+        match outcome {
+            Ok(value) => Ok(value),
+            Err(error) if error.kind() == ErrorKind::OutOfMemory => Err(DiskFault::Memory),
+            Err(_) => {
+                self.faults = self.faults.saturating_add(1);
+                Err(DiskFault::Failed)
+            }
+        }
+    }
+}
+
+impl<R: Files + AllocGlobal + Clone + Drop> Disk for RealDisk<'_, R> {
+    ghost tells = { false };
+
+    ghost state = { λ _. nothing };
+
+    ghost counts = { λ _. no_counts };
+
+    ghost faults = { λ d. d.faults };
+
+    ghost sound = { λ _ told. never told };
+
+    fn sync(&mut self) -> Result<(), DiskFault> {
+        let outcome = self.folder.sync();
+        self.answer(outcome)
+    }
+
+    fn size(&mut self, place: &Place) -> Result<Option<u64>, DiskFault> {
+        let outcome = self.folder.size(place);
+        self.answer(outcome)
+    }
+
+    fn read(&mut self, place: &Place, from: u64, buf: &mut [u8]) -> Result<usize, DiskFault> {
+        let outcome = self.folder.read(place, from, buf);
+        self.answer(outcome)
+    }
+
+    fn create(&mut self, place: &Place) -> Result<(), DiskFault> {
+        let outcome = self.folder.create(place);
+        self.answer(outcome)
+    }
+
+    fn write_end(&mut self, place: &Place, from: u64, bytes: &[u8]) -> Result<(), DiskFault> {
+        let outcome = self.folder.write_end(place, from, bytes);
+        self.answer(outcome)
+    }
+
+    fn patch(&mut self, place: &Place, from: u64, bytes: &[u8]) -> Result<(), DiskFault> {
+        let outcome = self.folder.patch(place, from, bytes);
+        self.answer(outcome)
+    }
+
+    fn rename(&mut self, from: &Place, to: &Place) -> Result<(), DiskFault> {
+        let outcome = self.folder.rename(from, to);
+        self.answer(outcome)
+    }
+
+    fn remove(&mut self, place: &Place) -> Result<(), DiskFault> {
+        let outcome = self.folder.remove(place);
+        self.answer(outcome)
+    }
+
+    fn entries(&mut self, out: &mut Names) -> Result<(), DiskFault> {
+        let outcome = self.folder.entries();
+        let names = self.answer(outcome)?;
+        *out = rising(self.folder.alloc(), names)?;
+        Ok(())
+    }
+
+    fn doomed(&mut self, out: &mut Numbers) -> Result<(), DiskFault> {
+        let outcome = self.folder.doomed();
+        let numbers = self.answer(outcome)?;
+        *out = rising(self.folder.alloc(), numbers)?;
+        Ok(())
+    }
+}
