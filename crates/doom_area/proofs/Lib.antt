@@ -1,0 +1,2 @@
+pub mod LeastFree
+pub mod ClearedTo

@@ -1,0 +1,49 @@
+//! An entry that loses its name, and later its file.
+
+ghost use Rattle.std.specs.Prelude.{◌≡◌, ◌<◌, ℕ, length, IfOk, IsTrue, IsSome, IsErrOf};
+ghost use Rattle.cache_base.specs.Causes.{HasCause};
+ghost use Rattle.disk_model.specs.State.{standing, renamed, removed};
+ghost use Rattle.disk_model.specs.Calls.{counted_change, if_done};
+ghost use Rattle.disk_model.specs.declared.place.Place.TheVariants.{Entry, Doomed};
+ghost use Rattle.disk_model.specs.declared.disk.DiskFault.TheVariants.{Failed};
+ghost use Rattle.doom_area.specs.DoomArea.{IsLeastFree};
+
+use cache_base::Name;
+use disk_model::{Disk, DiskFault, Place};
+
+// The least number that is not in the list.
+fn least_free(numbers: &[u32]) -> u32
+    requires { length numbers.now < 64 }
+    ensures { IsLeastFree numbers.now result }
+{
+    let mut number: u32 = 0;
+    while numbers.contains(&number) {
+        number += 1;
+    }
+    number
+}
+
+/// Moves the file of an entry among the doomed, under the least number that is not in use, and gives the number. A
+/// doomed file that stands under this number, which no entry uses any more, loses its name.
+pub fn doom<D: Disk>(disk: &mut D, name: &Name, in_use: &[u32]) -> Result<u32, DiskFault>
+    requires few { length in_use.now < 64 }
+    requires told { IsTrue D.tells → IsSome (standing (D.state disk.old) (Entry name.now)) }
+    ensures number { IfOk result (IsLeastFree in_use.now) }
+    ensures state { IsTrue D.tells → (number : ℕ) → IsLeastFree in_use.now number → D.state disk.new ≡ if_done result (renamed (Entry name.now) (Doomed number) (D.state disk.old)) (D.state disk.old) }
+    ensures counts { IsTrue D.tells → D.counts disk.new ≡ counted_change result (D.counts disk.old) }
+    ensures cause { HasCause (IsErrOf result DiskFault.Failed) (D.faults disk.old) (D.faults disk.new) }
+{
+    let number = least_free(in_use);
+    disk.rename(&Place::Entry(*name), &Place::Doomed(number))?;
+    Ok(number)
+}
+
+/// Removes the file of a doomed entry.
+pub fn release<D: Disk>(disk: &mut D, number: u32) -> Result<(), DiskFault>
+    requires { IsTrue D.tells → IsSome (standing (D.state disk.old) (Doomed number)) }
+    ensures state { IsTrue D.tells → D.state disk.new ≡ if_done result (removed (Doomed number) (D.state disk.old)) (D.state disk.old) }
+    ensures counts { IsTrue D.tells → D.counts disk.new ≡ counted_change result (D.counts disk.old) }
+    ensures cause { HasCause (IsErrOf result DiskFault.Failed) (D.faults disk.old) (D.faults disk.new) }
+{
+    disk.remove(&Place::Doomed(number))
+}

@@ -1,0 +1,2 @@
+pub mod Frecency
+pub mod Laws
