@@ -59,6 +59,9 @@ pub fn run<D: Disk, S: Source, K: Sink>(
     ensures kept { WhenGet (asked_in words.now) (λ key. IsTrue D.tells → D.state disk.new ≡ D.state disk.old) }
     ensures ignored { WhenGet (asked_in words.now) (λ key. (source.new ≡ source.old) × (result ≢ Status.Source)) }
 
+    // With nothing pending before, nothing is pending afterwards, but where the disk failed or memory ran out.
+    ensures settled { IsAnswer result ⊎ ((result ≡ Status.Source) ⊎ ((result ≡ Status.Sink) ⊎ (result ≡ Status.Words))) → IsTrue D.tells → IsQuiet (D.state disk.old) → IsQuiet (D.state disk.new) }
+
     // A fault is answered only where its count rose, that of the disk before the others, and where the disk's rose
     // there is no other answer but want of memory. After a change that failed no call follows.
     ensures source { result ≡ Status.Source → Rose (S.faults source.old) (S.faults source.new) }
