@@ -41,6 +41,9 @@ impl From<PartsFault> for MetaFault {
 
     fn from(fault: PartsFault) -> Self {
         match fault {
+            PartsFault::BadName => MetaFault::Elements,
+            PartsFault::BadBytes => MetaFault::Elements,
+            PartsFault::TooLarge => MetaFault::Elements,
             PartsFault::BadForm => MetaFault::Elements,
             PartsFault::Memory => MetaFault::Memory,
         }

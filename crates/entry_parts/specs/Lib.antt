@@ -1,3 +1,5 @@
 pub mod Elements
 pub mod Header
 pub mod Numbers
+pub mod Places
+pub mod Setting

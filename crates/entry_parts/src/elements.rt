@@ -1,8 +1,8 @@
 //! The elements of an entry's metadata, kept as the bytes that spell them.
 
-ghost use Rattle.std.specs.Prelude.{◌≡◌, ℕ, true, false, ◌↔◌, ◌==◌, ◌++◌, ◌∷◌, List, [], Err, IfOk, length, filter, option_map};
+ghost use Rattle.std.specs.Prelude.{◌≡◌, ℕ, true, false, ◌↔◌, ◌==◌, ◌++◌, ◌∷◌, List, [], Err, IfErr, IfOk, ◌⊎◌, length, filter, option_map};
 ghost use Rattle.entry_parts.specs.Elements.{AreElements, Element, HasNoZero, element, elements_bytes, elements_of, have_form};
-ghost use Rattle.entry_parts.specs.declared.fault.PartsFault.TheVariants.{BadForm};
+ghost use Rattle.entry_parts.specs.declared.fault.PartsFault.TheVariants.{BadForm, Memory};
 
 use crate::PartsFault;
 use std::alloc::Global;
@@ -11,7 +11,7 @@ use std::marker::Model;
 /// Names with values, in order. A name may stand more than once, and names and values may be empty.
 #[derive(Drop)]
 pub struct Elements {
-    bytes: Vec<u8>,
+    pub(crate) bytes: Vec<u8>,
 }
 
 impl Model for Elements {
@@ -49,7 +49,7 @@ fn first_zero(b: &[u8]) -> usize
 }
 
 // What stands before the first zero byte, and what behind it.
-fn cut(b: &[u8]) -> (&[u8], &[u8])
+pub(crate) fn cut(b: &[u8]) -> (&[u8], &[u8])
     requires { (field : List ℕ) × (rest : List ℕ) × HasNoZero field × (b.now ≡ field ++ 0 ∷ rest) }
     ensures { (field rest : List ℕ) → HasNoZero field → b.now ≡ field ++ 0 ∷ rest
         → (result.0.now ≡ field) × (result.1.now ≡ rest) }
@@ -73,6 +73,7 @@ impl Elements {
     pub fn parse(alloc: Global, b: &[u8]) -> Result<Elements, PartsFault>
         ensures spelled { IfOk result (λ elements. elements ≡ elements_of b.now) }
         ensures bad_form { (result ≡ Err BadForm) ↔ (have_form b.now ≡ false) }
+        ensures faults { IfErr result (λ fault. (fault ≡ BadForm) ⊎ (fault ≡ Memory)) }
     {
         if !has_form(b) {
             return Err(PartsFault::BadForm);

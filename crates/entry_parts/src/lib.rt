@@ -6,6 +6,7 @@ mod elements;
 mod fault;
 mod header;
 mod laws;
+mod setting;
 
 pub use elements::Elements;
 pub use fault::PartsFault;

@@ -1,4 +1,5 @@
 use super::*;
+use std::alloc::{AllocError, Global};
 use std::test::Fail;
 
 const HEADER: [u8; 32] = [
@@ -109,6 +110,85 @@ fn other_bytes_are_refused(rt: HostRuntime) {
         let read = Elements::parse(rt.alloc(), bytes);
         assert!(rt; matches!(read, Err(PartsFault::BadForm)), "at {what}");
     }
+}
+
+#[test]
+fn an_element_is_set_in_its_place_or_added(rt: HostRuntime) -> Result<(), Fail> {
+    let mut elements = Elements::parse(rt.alloc(), b"x\01\0a\02\0y\0\0a\03\0")?;
+    elements.set(b"a", b"new")?;
+    assert_eq!(rt; elements.print(), b"x\01\0a\0new\0y\0\0a\03\0".as_slice());
+    elements.set(b"xa", b"")?;
+    assert_eq!(rt;
+        elements.print(),
+        b"x\01\0a\0new\0y\0\0a\03\0xa\0\0".as_slice()
+    );
+    let mut elements = Elements::new(rt.alloc());
+    elements.set(b"a", b"b")?;
+    assert_eq!(rt; elements.print(), b"a\0b\0".as_slice());
+    Ok(())
+}
+
+fn is_refused(elements: &mut Elements, name: &[u8], value: &[u8], fault: PartsFault) -> bool {
+    match elements.set(name, value) {
+        Ok(()) => false,
+        Err(found) => found == fault,
+    }
+}
+
+#[test]
+fn the_first_fault_is_answered_and_nothing_changes(rt: HostRuntime) -> Result<(), Fail> {
+    let mut elements = Elements::parse(rt.alloc(), b"a\0b\0")?;
+    let long = ones(rt.alloc(), 65_536)?;
+    for (name, value, fault) in [
+        (b"".as_slice(), b"\0".as_slice(), PartsFault::BadName),
+        (b"a\0".as_slice(), b"\0".as_slice(), PartsFault::BadName),
+        (b"\0a".as_slice(), &long, PartsFault::BadName),
+        (b"a".as_slice(), b"x\0x".as_slice(), PartsFault::BadBytes),
+        (&long, b"\0".as_slice(), PartsFault::BadBytes),
+        (b"c".as_slice(), &long, PartsFault::TooLarge),
+        (&long, &long, PartsFault::TooLarge),
+    ] {
+        assert!(rt; is_refused(&mut elements, name, value, fault));
+        assert_eq!(rt; elements.print(), b"a\0b\0".as_slice());
+    }
+    Ok(())
+}
+
+fn ones(alloc: Global, count: usize) -> Result<Vec<u8>, AllocError> {
+    vec![in alloc; 1; count]
+}
+
+#[test]
+fn elements_have_at_most_65536_bytes(rt: HostRuntime) -> Result<(), Fail> {
+    let mut elements = Elements::parse(rt.alloc(), b"a\0b\0")?;
+    // With another name the four bytes are kept, with this name they are not.
+    let long = ones(rt.alloc(), 65_530)?;
+    assert!(rt; is_refused(&mut elements, b"c", &long, PartsFault::TooLarge));
+    let longer = ones(rt.alloc(), 65_534)?;
+    assert!(rt; is_refused(&mut elements, b"a", &longer, PartsFault::TooLarge));
+    let longest_of_one = ones(rt.alloc(), 65_533)?;
+    elements.set(b"a", &longest_of_one)?;
+    assert_eq!(rt; elements.len(), 65_536);
+    elements.set(b"a", b"b")?;
+    let longest_of_two = ones(rt.alloc(), 65_529)?;
+    elements.set(b"c", &longest_of_two)?;
+    assert_eq!(rt; elements.len(), 65_536);
+    Ok(())
+}
+
+#[test]
+fn the_first_element_of_a_name_is_removed(rt: HostRuntime) -> Result<(), Fail> {
+    let mut elements = Elements::parse(rt.alloc(), b"x\01\0a\02\0y\0\0a\03\0")?;
+    assert!(rt; elements.remove(b"a"));
+    assert_eq!(rt; elements.print(), b"x\01\0y\0\0a\03\0".as_slice());
+    assert!(rt; !elements.remove(b"1"));
+    assert_eq!(rt; elements.print(), b"x\01\0y\0\0a\03\0".as_slice());
+    assert!(rt; elements.remove(b"a"));
+    assert!(rt; elements.remove(b"x"));
+    assert!(rt; elements.remove(b"y"));
+    assert!(rt; elements.print().is_empty());
+    assert!(rt; !elements.remove(b"a"));
+    Ok(())
 }
 
 #[test]

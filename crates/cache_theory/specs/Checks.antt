@@ -1,0 +1,93 @@
+-- The checks of a command, in order: the first that fails is the refusal.
+use Rattle.std.specs.Prelude.{Bool, List, None, Option, Some, [], is_some, length, nat_le, nat_lt, not, option_map, true, false, unwrap_or, ℕ, ◌&&◌, ◌+◌, ◌||◌, ◌∷◌}
+use Rattle.cache_base.specs.Limits.{chunks}
+use Rattle.cache_base.specs.declared.limits.TheConstants.{BLOCK_MAX, BODY_MAX, ELEMENTS_MAX}
+use Rattle.cache_theory.specs.Command.{Command}
+use Rattle.cache_theory.specs.Command.Command.{At, Create, OpenKey, Append, Finish, SetElement, UnsetElement, ElementOf, ReadPart, Close, Doom, Get, Flush}
+use Rattle.cache_theory.specs.Machine.{Machine, is_entry, is_slot, is_writer, object, object_of, on_shelf, used_by}
+use Rattle.cache_theory.specs.declared.refusal.Refusal.{Refusal}
+use Rattle.cache_theory.specs.declared.refusal.Refusal.TheVariants as refused
+use Rattle.entry_file.specs.EntryFile.{Reading}
+use Rattle.entry_file.specs.EntryFile.Reading.{Whole, Damaged, Nothing}
+use Rattle.entry_file.specs.Version.{Version}
+use Rattle.entry_key.specs.Writing.{may_write}
+use Rattle.entry_metadata.specs.Metadata.{block_length}
+use Rattle.entry_parts.specs.Elements.{elements_bytes}
+use Rattle.entry_parts.specs.Setting.{has_zero, with_element}
+
+-- a check: it holds, or the command is refused so
+abbrev pub Check : Type 0
+Check = Bool × Refusal
+
+abbrev pub slot_free : Machine → ℕ → Check
+slot_free m s = (not (is_slot m s), refused.SlotTaken)
+
+abbrev pub slot_used : Machine → ℕ → Check
+slot_used m s = (is_slot m s, refused.NoSlot)
+
+abbrev pub good_key : List ℕ → Check
+good_key key = (may_write key, refused.BadKey)
+
+abbrev pub writer : Machine → ℕ → Check
+writer m s = (is_writer m s, refused.NotWriter)
+
+abbrev pub unfinished : Machine → ℕ → Check
+unfinished m s = (not (object_of m s).finished, refused.Finished)
+
+-- the elements of an unfinished entry are its writer's alone
+abbrev pub may_set : Machine → ℕ → Check
+may_set m s = (is_writer m s || (object_of m s).finished, refused.NotWriter)
+
+-- an undoomed object of the key is in use, or a file of it stands
+abbrev pub there : Machine → List ℕ → Check
+there m key = (is_some (used_by m key) || is_entry (on_shelf m key), refused.Absent)
+
+-- each chunk has its stored hash
+abbrev pub undamaged : Reading → Check
+undamaged (Damaged d) = (false, refused.Damaged d)
+undamaged (Whole v) = (true, refused.Absent)
+undamaged Nothing = (true, refused.Absent)
+
+-- an object in use is joined as it is, and is not checked again
+abbrev pub unless_used : Option ℕ → Check → Check
+unless_used None check = check
+unless_used (Some i) check = (true, check.1)
+
+-- no undoomed object of the key is being written
+abbrev pub not_writing : Machine → List ℕ → Check
+not_writing m key = (unwrap_or (option_map (λ i. (object m i).finished) (used_by m key)) true, refused.Unfinished)
+
+-- a body with so many bytes more is not too large
+abbrev pub room_for : Machine → ℕ → ℕ → Check
+room_for m s more = (nat_le (length (object_of m s).version.body + more) BODY_MAX, refused.TooLarge)
+
+-- the version with an element set
+abbrev pub with_value : List ℕ → List ℕ → Version → Version
+with_value name value v = record v { elements = with_element name value v.elements }
+
+-- an element may have this name and this value
+abbrev pub good_element : List ℕ → List ℕ → Check
+good_element name value = (nat_lt 0 (length name) && not (has_zero name) && not (has_zero value), refused.BadElement)
+
+-- the elements of a version, and its block, are not too large
+abbrev pub small_parts : Version → Check
+small_parts v = (
+  nat_le (length (elements_bytes v.elements)) ELEMENTS_MAX
+      && nat_le (block_length (chunks (length v.body)) (length v.key) (length (elements_bytes v.elements))) BLOCK_MAX,
+  refused.TooLarge,
+)
+
+unfoldable pub checks : Machine → Command → List Check
+checks m (At now) = []
+checks m (Create s key) = slot_free m s ∷ good_key key ∷ []
+checks m (OpenKey s key) = slot_free m s ∷ good_key key ∷ there m key ∷ unless_used (used_by m key) (undamaged (on_shelf m key)) ∷ []
+checks m (Append s bytes) = slot_used m s ∷ writer m s ∷ unfinished m s ∷ room_for m s (length bytes) ∷ []
+checks m (Finish s) = slot_used m s ∷ writer m s ∷ unfinished m s ∷ []
+checks m (SetElement s name value) = slot_used m s ∷ may_set m s ∷ good_element name value ∷ small_parts (with_value name value (object_of m s).version) ∷ []
+checks m (UnsetElement s name) = slot_used m s ∷ may_set m s ∷ []
+checks m (ElementOf s name) = slot_used m s ∷ []
+checks m (ReadPart s from len) = slot_used m s ∷ []
+checks m (Close s) = slot_used m s ∷ []
+checks m (Doom key) = good_key key ∷ there m key ∷ []
+checks m (Get key) = good_key key ∷ not_writing m key ∷ there m key ∷ undamaged (on_shelf m key) ∷ []
+checks m Flush = []

@@ -1,0 +1,31 @@
+-- The commands of the machine, and what it answers.
+use Rattle.std.specs.Prelude.{ℕ, List}
+use Rattle.cache_theory.specs.declared.refusal.Refusal.{Refusal}
+use Rattle.entry_file.specs.Version.{Version}
+
+pub data Command : Type 0 where
+  At : (now : ℕ) → Command
+  Create : (slot : ℕ) (key : List ℕ) → Command
+  OpenKey : (slot : ℕ) (key : List ℕ) → Command
+  Append : (slot : ℕ) (bytes : List ℕ) → Command
+  Finish : (slot : ℕ) → Command
+  SetElement : (slot : ℕ) (name value : List ℕ) → Command
+  UnsetElement : (slot : ℕ) (name : List ℕ) → Command
+  ElementOf : (slot : ℕ) (name : List ℕ) → Command
+  ReadPart : (slot from len : ℕ) → Command
+  Close : (slot : ℕ) → Command
+  Doom : (key : List ℕ) → Command
+  Get : (key : List ℕ) → Command
+  Flush : Command
+
+pub data Reply : Type 0 where
+  Done : Reply
+  Refused : (refusal : Refusal) → Reply
+  -- no such element
+  NoneThere : Reply
+  -- an element's value
+  Value : (value : List ℕ) → Reply
+  -- a part of a body
+  Part : (bytes : List ℕ) → Reply
+  -- a whole entry
+  Found : (version : Version) → Reply

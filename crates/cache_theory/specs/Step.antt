@@ -1,0 +1,143 @@
+-- One step of the machine for each command.
+use Rattle.std.specs.Prelude.{Bool, List, None, Option, Some, [], drop, false, filter, if◌then◌else◌, is_none, length, not, slice_get, slice_set, take, true, unwrap_or, ℕ, ◌&&◌, ◌==◌, ◌++◌, ◌||◌, ◌∷◌}
+use Rattle.std.specs.Str.{bytes_eq}
+use Rattle.cache_base.specs.Checks.{first_failing}
+use Rattle.cache_theory.specs.Checks.{checks, with_value}
+use Rattle.cache_theory.specs.Command.{Command, Reply}
+use Rattle.cache_theory.specs.Command.Command.{At, Create, OpenKey, Append, Finish, SetElement, UnsetElement, ElementOf, ReadPart, Close, Doom, Get, Flush}
+use Rattle.cache_theory.specs.Command.Reply.{Done, Refused, NoneThere, Value, Part, Found}
+use Rattle.cache_theory.specs.Machine.{Machine, Object, Slot, has_slots, is_writer, nobody, number_of, object_of, on_shelf, used_by}
+use Rattle.cache_theory.specs.Table.{get, insert, remove}
+use Rattle.cache_theory.specs.declared.refusal.Refusal.{Refusal}
+use Rattle.cache_theory.specs.declared.refusal.Refusal.TheVariants as refused
+use Rattle.entry_file.specs.EntryFile.{Reading}
+use Rattle.entry_file.specs.EntryFile.Reading.{Whole, Damaged, Nothing}
+use Rattle.entry_file.specs.Version.{Version, file_of}
+use Rattle.entry_name.specs.EntryName.{file_name}
+use Rattle.entry_parts.specs.Elements.{element}
+use Rattle.entry_parts.specs.Setting.{without_element}
+use Rattle.entry_parts.specs.Header.{fresh_header}
+
+-- the names without one
+abbrev pub without : List ℕ → List (List ℕ) → List (List ℕ)
+without name names = filter (λ n. not (bytes_eq n name)) names
+
+-- the object of this number is o now; where it is finished and not doomed its file is on the shelf
+abbrev pub stored : Machine → ℕ → Object → Machine
+stored m i o =
+    let name = file_name o.version.key in
+    let stands = o.finished && not o.doomed in
+    record m {
+      objects = slice_set m.objects i o;
+      shelf = if stands then insert m.shelf name (file_of o.version) else m.shelf;
+      rest = if stands then without name m.rest else m.rest;
+    }
+
+-- the objects with one of them doomed, if there is one
+abbrev pub doomed_at : List Object → Option ℕ → List Object
+doomed_at objects None = objects
+doomed_at objects (Some i) = slice_set objects i (record (unwrap_or (slice_get objects i) nobody) { doomed = true })
+
+-- what stands under a name is doomed
+abbrev pub doomed_under : Machine → List ℕ → Machine
+doomed_under m name = record m {
+  shelf = remove m.shelf name;
+  in_use = remove m.in_use name;
+  objects = doomed_at m.objects (get m.in_use name);
+  rest = without name m.rest;
+}
+
+-- the slots with one of them given this use, or none
+abbrev pub with_slot : ℕ → Option Slot → (ℕ → Option Slot) → ℕ → Option Slot
+with_slot s slot slots t = if t == s then slot else slots t
+
+-- a new object under the name of its key, in the slot
+abbrev pub entered : Machine → ℕ → Bool → Object → Machine
+entered m s writes o = record m {
+  objects = m.objects ++ o ∷ [];
+  in_use = insert m.in_use (file_name o.version.key) (length m.objects);
+  slots = with_slot s (Some (record { object = length m.objects; writes = writes })) m.slots;
+}
+
+-- a new entry
+abbrev pub fresh : ℕ → List ℕ → Object
+fresh now key = record {
+  version = record { header = fresh_header now (length key); key = key; elements = []; body = [] };
+  finished = false;
+  doomed = false;
+}
+
+-- a reader of the object in use, or of the entry on the shelf
+abbrev pub joined : Machine → ℕ → Option ℕ → Reading → Machine
+joined m s (Some i) r = record m { slots = with_slot s (Some (record { object = i; writes = false })) m.slots }
+joined m s None (Whole v) = entered m s false (record { version = v; finished = true; doomed = false })
+joined m s None (Damaged d) = m
+joined m s None Nothing = m
+
+-- the slot is given up; an undoomed object without slots is no longer in use
+abbrev pub released : Machine → ℕ → Machine
+released m s =
+    let after = record m { slots = with_slot s None m.slots } in
+    let o = object_of m s in
+    if has_slots after (number_of m s) || o.doomed then after
+    else record after { in_use = remove m.in_use (file_name o.version.key) }
+
+-- the object of a slot with its version changed
+abbrev pub changed : Machine → ℕ → (Version → Version) → Machine
+changed m s f = let o = object_of m s in stored m (number_of m s) (record o { version = f o.version })
+
+-- a writer's unfinished object is finished
+abbrev pub finished_by : Machine → ℕ → Machine
+finished_by m s = let o = object_of m s in if is_writer m s && not o.finished then stored m (number_of m s) (record o { finished = true }) else m
+
+-- the machine after a command, and the reply
+pub record Answer : Type 0 where
+  pub next : Machine
+  pub reply : Reply
+
+abbrev pub answer : Machine → Reply → Answer
+answer m r = record { next = m; reply = r }
+
+abbrev pub element_reply : Option (List ℕ) → Reply
+element_reply None = NoneThere
+element_reply (Some value) = Value value
+
+abbrev pub found_reply : Reading → Reply
+found_reply (Whole v) = Found v
+found_reply (Damaged d) = Refused (refused.Damaged d)
+found_reply Nothing = Refused refused.Absent
+
+-- what a command does whose checks hold
+unfoldable pub effect : Machine → Command → Answer
+effect m (At now) = answer (record m { moment = now }) Done
+effect m (Create s key) = answer (entered (doomed_under m (file_name key)) s true (fresh m.moment key)) Done
+effect m (OpenKey s key) = answer (joined m s (used_by m key) (on_shelf m key)) Done
+effect m (Append s bytes) = answer (changed m s (λ v. record v { body = v.body ++ bytes })) Done
+effect m (Finish s) = answer (finished_by m s) Done
+effect m (SetElement s name value) = answer (changed m s (with_value name value)) Done
+effect m (UnsetElement s name) =
+    if is_none (element name (object_of m s).version.elements) then answer m NoneThere
+    else answer (changed m s (λ v. record v { elements = without_element name v.elements })) Done
+effect m (ElementOf s name) = answer m (element_reply (element name (object_of m s).version.elements))
+effect m (ReadPart s from len) = answer m (Part (take len (drop from (object_of m s).version.body)))
+effect m (Close s) = answer (released (finished_by m s) s) Done
+effect m (Doom key) = answer (doomed_under m (file_name key)) Done
+effect m (Get key) = answer m (found_reply (on_shelf m key))
+effect m Flush = answer m Done
+
+-- one step: the first failing check is the reply, and then nothing changes
+abbrev pub stepped : Machine → Command → Option Refusal → Answer
+stepped m c None = effect m c
+stepped m c (Some r) = answer m (Refused r)
+
+abbrev pub step : Machine → Command → Answer
+step m c = stepped m c (first_failing (checks m c))
+
+-- the machine after commands, and the replies to them
+abbrev pub after : Machine → List Command → Machine
+after m [] = m
+after m (c ∷ cs) = after (step m c).next cs
+
+abbrev pub replies : Machine → List Command → List Reply
+replies m [] = []
+replies m (c ∷ cs) = (step m c).reply ∷ replies (step m c).next cs
