@@ -4,3 +4,11 @@ pub mod Command
 pub mod Checks
 pub mod Step
 pub mod Laws
+pub mod Text
+pub mod Given
+pub mod Proper
+pub mod Marks
+pub mod Ever
+pub mod Stands
+pub mod Crash
+pub mod Keeps

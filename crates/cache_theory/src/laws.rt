@@ -1,8 +1,47 @@
 //! What follows from the definitions.
 
+ghost use Rattle.cache_theory.specs.Keeps.{BeginKeeps, CreateFilesOnce, CreateKeeps, QuietFilesOnce, QuietIsSafe, RemoveFilesOnce, RemoveKeeps, RenameFilesOnce, RenameKeeps, SafeIsCrashSafe, SyncFilesOnce, SyncKeeps, WholeIsFine, WriteFilesOnce, WriteKeeps};
 ghost use Rattle.cache_theory.specs.Laws.{ShelfStaysTable};
+ghost use Rattle.cache_theory.specs.Proper.{OpensProper, StaysProper};
 
 /// The shelf stays a table, whatever commands come: names rise, and none stands twice.
 pub fn shelf_stays_table()
     ensures { ShelfStaysTable }
+{}
+
+/// The machine begins in a proper state.
+pub fn opens_proper()
+    ensures { OpensProper }
+{}
+
+/// And every command leaves it in one.
+pub fn stays_proper()
+    ensures { StaysProper }
+{}
+
+/// What is kept of the disk makes every image safe, and a disk at rest keeps it.
+pub fn safe_is_crash_safe()
+    ensures safe { SafeIsCrashSafe }
+    ensures quiet { QuietIsSafe }
+{}
+
+/// Each change of the disk keeps it.
+pub fn changes_keep_safe()
+    ensures begin { BeginKeeps }
+    ensures whole { WholeIsFine }
+    ensures write { WriteKeeps }
+    ensures create { CreateKeeps }
+    ensures rename { RenameKeeps }
+    ensures remove { RemoveKeeps }
+    ensures sync { SyncKeeps }
+{}
+
+/// After each change of the disk no file stands at the entry places of two names.
+pub fn changes_file_once()
+    ensures quiet { QuietFilesOnce }
+    ensures write { WriteFilesOnce }
+    ensures create { CreateFilesOnce }
+    ensures rename { RenameFilesOnce }
+    ensures remove { RemoveFilesOnce }
+    ensures sync { SyncFilesOnce }
 {}

@@ -6,5 +6,8 @@
 mod laws;
 mod refusal;
 
-pub use laws::shelf_stays_table;
+pub use laws::{
+    changes_file_once, changes_keep_safe, opens_proper, safe_is_crash_safe, shelf_stays_table,
+    stays_proper,
+};
 pub use refusal::Refusal;

@@ -1,0 +1,22 @@
+-- Commands as a program can give them.
+use Rattle.std.specs.Prelude.{⊤, ◌<◌, ◌^◌}
+use Rattle.cache_base.specs.Bytes.{AreBytes}
+use Rattle.cache_base.specs.declared.limits.TheConstants.{SLOTS}
+use Rattle.cache_theory.specs.Command.{Command}
+use Rattle.cache_theory.specs.Command.Command.{At, Create, OpenKey, Append, Finish, SetElement, UnsetElement, ElementOf, ReadPart, Close, Doom, Get, Flush}
+
+-- numbers fit their types, slots are those that there are, and texts are bytes
+abbrev pub IsGiven : Command → Type 0
+IsGiven (At now) = now < 2 ^ 32
+IsGiven (Create s key) = (s < SLOTS) × AreBytes key
+IsGiven (OpenKey s key) = (s < SLOTS) × AreBytes key
+IsGiven (Append s bytes) = (s < SLOTS) × AreBytes bytes
+IsGiven (Finish s) = s < SLOTS
+IsGiven (SetElement s name value) = (s < SLOTS) × (AreBytes name × AreBytes value)
+IsGiven (UnsetElement s name) = (s < SLOTS) × AreBytes name
+IsGiven (ElementOf s name) = (s < SLOTS) × AreBytes name
+IsGiven (ReadPart s from len) = s < SLOTS
+IsGiven (Close s) = s < SLOTS
+IsGiven (Doom key) = AreBytes key
+IsGiven (Get key) = AreBytes key
+IsGiven Flush = ⊤

@@ -1,0 +1,134 @@
+-- What a stop may lose: the state of the last acknowledged flush, the names that were touched since, and what was
+-- written since.
+use Rattle.std.specs.List.{list_any}
+use Rattle.std.specs.Prelude.{Any, Bool, List, None, Option, Some, [], false, if◌then◌else◌, is_some, not, option_map, slice_get, unwrap_or, ℕ, ◌&&◌, ◌++◌, ◌∷◌, ◌≡◌, ◌⊎◌}
+use Rattle.std.specs.Str.{bytes_eq}
+use Rattle.cache_base.specs.Checks.{first_failing}
+use Rattle.cache_theory.specs.Checks.{checks}
+use Rattle.cache_theory.specs.Command.{Command}
+use Rattle.cache_theory.specs.Command.Command.{At, Create, OpenKey, Append, Finish, SetElement, UnsetElement, ElementOf, ReadPart, Close, Doom, Get, Flush}
+use Rattle.cache_theory.specs.Machine.{Machine, Object, is_writer, number_of, object, object_of}
+use Rattle.cache_theory.specs.Step.{effect, step}
+use Rattle.cache_theory.specs.Table.{get}
+use Rattle.cache_theory.specs.declared.refusal.Refusal.{Refusal}
+use Rattle.entry_file.specs.EntryFile.{found}
+use Rattle.entry_file.specs.Version.{Version}
+use Rattle.entry_name.specs.EntryName.{file_name}
+use Rattle.entry_parts.specs.Elements.{element}
+
+-- a version that was written under a name
+pub record Written : Type 0 where
+  pub name : List ℕ
+  pub version : Version
+
+pub record Marks : Type 0 where
+  -- the machine at the last acknowledged flush, or at the opening
+  pub marked : Machine
+  -- the names that commands touched since
+  pub touched : List (List ℕ)
+  -- the versions that were written since, through objects that were undoomed then or came later
+  pub since : List Written
+
+-- at a flush, and at the opening
+abbrev pub marks_of : Machine → Marks
+marks_of m = record { marked = m; touched = []; since = [] }
+
+-- the object was doomed at the mark
+abbrev pub is_buried : Marks → ℕ → Bool
+is_buried w i = unwrap_or (option_map (λ o. o.doomed) (slice_get w.marked.objects i)) false
+
+-- the number of the object whose file a command finishes or rewrites
+abbrev pub rewritten : Machine → Command → Option ℕ
+rewritten m (Finish s) = Some (number_of m s)
+rewritten m (SetElement s name value) = if (object_of m s).finished then Some (number_of m s) else None
+rewritten m (UnsetElement s name) = if (object_of m s).finished && is_some (element name (object_of m s).version.elements) then Some (number_of m s) else None
+rewritten m (Close s) = if is_writer m s && not (object_of m s).finished then Some (number_of m s) else None
+rewritten m (At now) = None
+rewritten m (Create s key) = None
+rewritten m (OpenKey s key) = None
+rewritten m (Append s bytes) = None
+rewritten m (ElementOf s name) = None
+rewritten m (ReadPart s from len) = None
+rewritten m (Doom key) = None
+rewritten m (Get key) = None
+rewritten m Flush = None
+
+-- the name of an object, if it is undoomed
+abbrev pub undoomed_name : Object → List (List ℕ)
+undoomed_name o = if o.doomed then [] else file_name o.version.key ∷ []
+
+abbrev pub name_of_some : Machine → Option ℕ → List (List ℕ)
+name_of_some m None = []
+name_of_some m (Some i) = undoomed_name (object m i)
+
+-- the names that a command touches: it creates, appends to, finishes, rewrites or dooms there
+abbrev pub touches : Machine → Command → List (List ℕ)
+touches m (Create s key) = file_name key ∷ []
+touches m (Doom key) = file_name key ∷ []
+touches m (Append s bytes) = undoomed_name (object_of m s)
+touches m (Finish s) = name_of_some m (rewritten m (Finish s))
+touches m (SetElement s name value) = name_of_some m (rewritten m (SetElement s name value))
+touches m (UnsetElement s name) = name_of_some m (rewritten m (UnsetElement s name))
+touches m (Close s) = name_of_some m (rewritten m (Close s))
+touches m (At now) = []
+touches m (OpenKey s key) = []
+touches m (ElementOf s name) = []
+touches m (ReadPart s from len) = []
+touches m (Get key) = []
+touches m Flush = []
+
+-- a version that goes out through an object, unless the object was doomed at the mark
+abbrev pub put_out : Marks → Machine → Option ℕ → List Written
+put_out w next None = []
+put_out w next (Some i) =
+    let v = (object next i).version in
+    if is_buried w i then [] else record { name = file_name v.key; version = v } ∷ []
+
+-- the marks when a command whose checks hold has begun
+abbrev pub went_out : Machine → Command → Marks → Marks
+went_out m c w = record w { touched = touches m c ++ w.touched; since = put_out w (effect m c).next (rewritten m c) ++ w.since }
+
+abbrev pub begun_by : Option Refusal → Machine → Command → Marks → Marks
+begun_by None m c w = went_out m c w
+begun_by (Some r) m c w = w
+
+-- the marks when a command has begun
+abbrev pub begun : Machine → Command → Marks → Marks
+begun m c w = begun_by (first_failing (checks m c)) m c w
+
+-- and when it is acknowledged
+abbrev pub acked : Machine → Command → Marks → Marks
+acked m Flush w = marks_of m
+acked m (At now) w = begun m (At now) w
+acked m (Create s key) w = begun m (Create s key) w
+acked m (OpenKey s key) w = begun m (OpenKey s key) w
+acked m (Append s bytes) w = begun m (Append s bytes) w
+acked m (Finish s) w = begun m (Finish s) w
+acked m (SetElement s name value) w = begun m (SetElement s name value) w
+acked m (UnsetElement s name) w = begun m (UnsetElement s name) w
+acked m (ElementOf s name) w = begun m (ElementOf s name) w
+acked m (ReadPart s from len) w = begun m (ReadPart s from len) w
+acked m (Close s) w = begun m (Close s) w
+acked m (Doom key) w = begun m (Doom key) w
+acked m (Get key) w = begun m (Get key) w
+
+-- the marks where these commands are acknowledged, and where they have begun
+abbrev pub all_acked : Machine → List Command → Marks → Marks
+all_acked m [] w = w
+all_acked m (c ∷ cs) w = all_acked (step m c).next cs (acked m c w)
+
+abbrev pub all_begun : Machine → List Command → Marks → Marks
+all_begun m [] w = w
+all_begun m (c ∷ cs) w = all_begun (step m c).next cs (begun m c w)
+
+-- the name was touched since the mark
+abbrev pub is_touched : Marks → List ℕ → Bool
+is_touched w name = list_any (bytes_eq name) w.touched
+
+-- the version was written under the name since the mark
+abbrev pub IsSince : Marks → List ℕ → Version → Type 0
+IsSince w name v = Any (λ written. (written.name ≡ name) × (written.version ≡ v)) w.since
+
+-- the version may be found under a touched name: it was found at the mark, or was written since
+abbrev pub MayFind : Marks → List ℕ → Version → Type 0
+MayFind w name v = (found (get w.marked.shelf) v.key ≡ Some v) ⊎ IsSince w name v

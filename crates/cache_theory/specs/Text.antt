@@ -1,0 +1,162 @@
+-- The text of commands and of replies.
+use Rattle.std.specs.List.{AllByRecursion, join_with_byte}
+use Rattle.std.specs.Prelude.{List, [], codes, decimal, flat_map, length, ℕ, ⊤, ◌+◌, ◌++◌, ◌<◌, ◌^◌, ◌∷◌, ◌≡◌, ◌≢◌, ◌≤◌}
+use Rattle.cache_base.specs.Bytes.{AreBytes, be16}
+use Rattle.cache_base.specs.declared.limits.TheConstants.{ELEMENTS_MAX, LINE_MAX, PIECE_MAX, SCRIPT_MAX, SLOTS}
+use Rattle.cache_theory.specs.Command.{Command, Reply}
+use Rattle.cache_theory.specs.Command.Command.{At, Create, OpenKey, Append, Finish, SetElement, UnsetElement, ElementOf, ReadPart, Close, Doom, Get, Flush}
+use Rattle.cache_theory.specs.Command.Reply.{Done, Refused, NoneThere, Value, Part, Found}
+use Rattle.cache_theory.specs.Machine.{Machine}
+use Rattle.cache_theory.specs.Step.{replies}
+use Rattle.cache_theory.specs.declared.refusal.Refusal.{Refusal}
+use Rattle.cache_theory.specs.declared.refusal.Refusal.TheVariants as refused
+use Rattle.chunk_store.specs.declared.damage.Damage.{Damage}
+use Rattle.entry_file.specs.Version.{Version}
+use Rattle.entry_parts.specs.Elements.{elements_bytes}
+use Rattle.hex.specs.Hex.{encode_upper}
+
+-- words with a space between each two
+abbrev pub spaced : List (List ℕ) → List ℕ
+spaced words = join_with_byte 32 words
+
+-- the same, and a newline
+abbrev pub line : List (List ℕ) → List ℕ
+line words = spaced words ++ 10 ∷ []
+
+-- the words of a damage
+abbrev pub damage_words : Damage → List (List ℕ)
+damage_words d = codes "damaged" ∷ decimal d.chunk ∷ encode_upper (be16 d.stored) ∷ encode_upper (be16 d.found) ∷ []
+
+abbrev pub refusal_words : Refusal → List (List ℕ)
+refusal_words refused.SlotTaken = codes "slot taken" ∷ []
+refusal_words refused.NoSlot = codes "no slot" ∷ []
+refusal_words refused.Absent = codes "absent" ∷ []
+refusal_words refused.Unfinished = codes "unfinished" ∷ []
+refusal_words (refused.Damaged d) = damage_words d
+refusal_words refused.NotWriter = codes "not writer" ∷ []
+refusal_words refused.Finished = codes "finished" ∷ []
+refusal_words refused.TooLarge = codes "too large" ∷ []
+refusal_words refused.BadKey = codes "bad key" ∷ []
+refusal_words refused.BadElement = codes "bad element" ∷ []
+
+-- a word, the number of bytes that follow, the bytes and a newline
+abbrev pub with_bytes : List ℕ → List ℕ → List ℕ
+with_bytes word bytes = line (word ∷ decimal (length bytes) ∷ []) ++ (bytes ++ 10 ∷ [])
+
+-- a whole entry: its numbers, its elements and its body
+abbrev pub version_text : Version → List ℕ
+version_text v =
+    line (codes "found" ∷ decimal v.header.fetch_count ∷ decimal v.header.last_fetched ∷ decimal v.header.last_modified
+    ∷ decimal v.header.frecency ∷ decimal v.header.expiration ∷ decimal v.header.flags
+    ∷ decimal (length (elements_bytes v.elements)) ∷ decimal (length v.body) ∷ [])
+    ++ (elements_bytes v.elements ++ 10 ∷ (v.body ++ 10 ∷ []))
+
+-- what a reply prints
+unfoldable pub reply_text : Reply → List ℕ
+reply_text Done = line (codes "ok" ∷ [])
+reply_text (Refused r) = line (refusal_words r)
+reply_text NoneThere = line (codes "none" ∷ [])
+reply_text (Value value) = with_bytes (codes "value") value
+reply_text (Part bytes) = with_bytes (codes "data") bytes
+reply_text (Found v) = version_text v
+
+-- what the replies to some commands print
+abbrev pub replies_text : Machine → List Command → List ℕ
+replies_text m cs = flat_map reply_text (replies m cs)
+
+-- the words of a command's line
+abbrev pub command_words : Command → List (List ℕ)
+command_words (At now) = codes "at" ∷ decimal now ∷ []
+command_words (Create s key) = codes "create" ∷ decimal s ∷ key ∷ []
+command_words (OpenKey s key) = codes "open" ∷ decimal s ∷ key ∷ []
+command_words (Append s bytes) = codes "append" ∷ decimal s ∷ decimal (length bytes) ∷ []
+command_words (Finish s) = codes "finish" ∷ decimal s ∷ []
+command_words (SetElement s name value) = codes "set" ∷ decimal s ∷ decimal (length value) ∷ name ∷ []
+command_words (UnsetElement s name) = codes "unset" ∷ decimal s ∷ name ∷ []
+command_words (ElementOf s name) = codes "element" ∷ decimal s ∷ name ∷ []
+command_words (ReadPart s from len) = codes "read" ∷ decimal s ∷ decimal from ∷ decimal len ∷ []
+command_words (Close s) = codes "close" ∷ decimal s ∷ []
+command_words (Doom key) = codes "doom" ∷ key ∷ []
+command_words (Get key) = codes "get" ∷ key ∷ []
+command_words Flush = codes "flush" ∷ []
+
+-- the bytes behind a command's line, with their newline
+abbrev pub command_data : Command → List ℕ
+command_data (Append s bytes) = bytes ++ 10 ∷ []
+command_data (SetElement s name value) = value ++ 10 ∷ []
+command_data (At now) = []
+command_data (Create s key) = []
+command_data (OpenKey s key) = []
+command_data (Finish s) = []
+command_data (UnsetElement s name) = []
+command_data (ElementOf s name) = []
+command_data (ReadPart s from len) = []
+command_data (Close s) = []
+command_data (Doom key) = []
+command_data (Get key) = []
+command_data Flush = []
+
+-- the bytes of a command
+unfoldable pub command_bytes : Command → List ℕ
+command_bytes c = line (command_words c) ++ command_data c
+
+-- bytes with no newline
+abbrev pub IsOneLine : List ℕ → Type 0
+IsOneLine xs = AllByRecursion (λ x. x ≢ 10) xs
+
+-- a number of a script
+abbrev pub IsNumber : ℕ → Type 0
+IsNumber n = n < 2 ^ 32
+
+-- the fields of a command are within their limits
+abbrev pub FieldsFit : Command → Type 0
+FieldsFit (At now) = IsNumber now
+FieldsFit (Create s key) = (s < SLOTS) × (AreBytes key × IsOneLine key)
+FieldsFit (OpenKey s key) = (s < SLOTS) × (AreBytes key × IsOneLine key)
+FieldsFit (Append s bytes) = (s < SLOTS) × (AreBytes bytes × (length bytes ≤ PIECE_MAX))
+FieldsFit (Finish s) = s < SLOTS
+FieldsFit (SetElement s name value) = (s < SLOTS) × ((AreBytes name × IsOneLine name) × (AreBytes value × (length value ≤ ELEMENTS_MAX)))
+FieldsFit (UnsetElement s name) = (s < SLOTS) × (AreBytes name × IsOneLine name)
+FieldsFit (ElementOf s name) = (s < SLOTS) × (AreBytes name × IsOneLine name)
+FieldsFit (ReadPart s from len) = (s < SLOTS) × (IsNumber from × IsNumber len)
+FieldsFit (Close s) = s < SLOTS
+FieldsFit (Doom key) = AreBytes key × IsOneLine key
+FieldsFit (Get key) = AreBytes key × IsOneLine key
+FieldsFit Flush = ⊤
+
+-- a command that a script may have
+pub record IsCommand (c : Command) : Type 0 where
+  pub fields : FieldsFit c
+  pub line : length (spaced (command_words c)) ≤ LINE_MAX
+
+-- the bytes of a script
+abbrev pub script_bytes : List Command → List ℕ
+script_bytes cs = flat_map command_bytes cs
+
+-- these are the commands that a front of the bytes spells, within the length of a script, and what follows them
+pub record SpellsFront (bytes : List ℕ) (cs : List Command) (rest : List ℕ) : Type 0 where
+  pub commands : AllByRecursion IsCommand cs
+  pub spelled : bytes ≡ script_bytes cs ++ rest
+  pub short : length (script_bytes cs) ≤ SCRIPT_MAX
+
+-- no command more that would keep the script within its length begins the bytes behind so many of a script
+abbrev pub NoMore : ℕ → List ℕ → Type 0
+NoMore before rest = (c : Command) (more : List ℕ) → IsCommand c → rest ≡ command_bytes c ++ more → SCRIPT_MAX < before + length (command_bytes c)
+
+-- the longest list of commands that a front of the bytes spells
+pub record CommandsIn (bytes : List ℕ) (cs : List Command) : Type 0 where
+  pub rest : List ℕ
+  pub front : SpellsFront bytes cs rest
+  pub longest : NoMore (length (script_bytes cs)) rest
+
+-- the bytes spell a script of these commands
+abbrev pub ScriptSpells : List ℕ → List Command → Type 0
+ScriptSpells bytes cs = SpellsFront bytes cs []
+
+-- no command's bytes begin another's
+abbrev pub NoneBeginsAnother : Type 0
+NoneBeginsAnother = (c d : Command) (more after : List ℕ) → IsCommand c → IsCommand d → command_bytes c ++ more ≡ command_bytes d ++ after → c ≡ d
+
+-- and so the longest list of commands in some bytes is one
+abbrev pub CommandsAreOne : Type 0
+CommandsAreOne = (bytes : List ℕ) (cs ds : List Command) → CommandsIn bytes cs → CommandsIn bytes ds → cs ≡ ds
