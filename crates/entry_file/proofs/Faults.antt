@@ -1,5 +1,5 @@
 -- The first failing check of a file.
-use Rattle.std.proofs.Common.{◌≡◌, ◌≢◌, ℕ, ◌-◌, ◌<◌, ◌≤◌, List, [], ◌∷◌, length, Bool, true, false, cond, not, ◌&&◌, refl, sym, ap, ◌∙◌}
+use Rattle.std.proofs.Common.{◌≡◌, ◌≢◌, ℕ, ◌-◌, ◌<◌, ◌≤◌, List, [], ◌∷◌, length, Bool, true, false, cond, not, ◌&&◌, refl, sym, ap, subst, ◌∙◌, arith}
 use Rattle.std.specs.Prelude.{Option, None, Some}
 use Rattle.std.specs.List.{AllByRecursion}
 use Rattle.std.specs.Str.{bytes_eq}
@@ -9,6 +9,8 @@ use Rattle.entry_name.specs.EntryName.{file_name}
 use Rattle.entry_metadata.specs.declared.fault.MetaFault.{MetaFault}
 use Rattle.entry_metadata.specs.declared.fault.MetaFault.TheVariants as faults
 use Rattle.entry_metadata.specs.Checks.{block_fault, checks_of, meta_in}
+use Rattle.entry_metadata.specs.Metadata.{Meta}
+use Rattle.entry_file.specs.Damages.{HasMeta}
 use Rattle.entry_file.specs.declared.entry_read.Unfit.TheVariants as unfit
 use Rattle.entry_file.specs.EntryFile.{block_in, file_fault, file_meta, has_offset, named_fault, offset_in, unfit_of}
 
@@ -84,3 +86,14 @@ passed name c e = go (has_offset c) refl
         let both = no_fault (block_fault (block_in c) (offset_in c)) (bytes_eq (file_name (file_meta c).key) name) (never_memory (block_in c) (offset_in c)) (sym (by_block name c h) ∙ e) in
         (h, both.0, both.1)
     go false h = absurd (let bad = sym e ∙ short name c h in cc bad)
+
+-- the body of a content that fits stands before its offset
+pub offset_within : (name c : List ℕ) → file_fault name c ≡ None → offset_in c ≤ length c
+offset_within name c none =
+    let ending = has_parts c (passed name c none).0 in
+    let within : offset_in c ≤ length c - 4 = ending.2 in
+    omega (arith, within)
+
+pub fit_has_meta : (name c : List ℕ) (m : Meta) → file_fault name c ≡ None → m ≡ file_meta c → HasMeta (Some c) m
+unfolding meta_in
+fit_has_meta name c m none says = (says, subst (λ n. n ≤ length c) (sym (ap (λ (s : Meta). s.offset) says)) (offset_within name c none))

@@ -23,6 +23,7 @@ use Rattle.entry_parts.specs.Header.{IsHeader}
 use Rattle.entry_parts.specs.declared.header.Header.{Header}
 use Rattle.entry_file.specs.NewEntry.{Growing, HasBody, finished, grown_len, last_write}
 use Rattle.entry_file.specs.Version.{IsVersion, Version, file_of, version_meta}
+use Rattle.entry_file.proofs.Writing.{written_same}
 use Rattle.entry_file.proofs.Bodies.{count, first_hashes, grown, rest_long, unfinished_front}
 use Rattle.jenkins_hash.specs.Hash.{hash16_of}
 
@@ -106,9 +107,7 @@ done_along place s t r w v same is = is ∙ ap (λ (x : Write). if_done r (wrote
 
 -- and what it adds to the file that stood there
 pub will_be : (v : Version) (w : Write) → w ≡ last_write v → (o : Option (List ℕ)) → o ≡ Some (unfinished_file v.body) → (c : List ℕ) → o ≡ Some c → written w c ≡ file_of v
-will_be v w same o stood c is =
-    let content : c ≡ unfinished_file v.body = cc in
-    (λ i. written (same i) (content i)) ∙ last_written v
+will_be v w same o stood c is = written_same w (last_write v) same o (unfinished_file v.body) stood c is ∙ last_written v
 
 -- so it is the write of what is held and of these parts
 pub write_is : (e : Growing) (body : List ℕ) → HasBody e body → length e.rest < 262144 → (header : Header) (key : List ℕ) (elements : List Element) (hashes : List ℕ) (offset : ℕ) (chunks rest tail bytes : List ℕ)

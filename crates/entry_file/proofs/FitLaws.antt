@@ -19,20 +19,16 @@ none_of : (o : Option Unfit) → is_none o ≡ true → o ≡ None
 none_of None h = refl
 none_of (Some f) h = absurd (cc)
 
-pub Fits-fits : (name c : List ℕ) → AreBytes c → fits name c ≡ true → Fits name c (file_meta c)
+-- a content that passes its checks, whose block spells its metadata and which ends in bytes
+pub joined : (name c : List ℕ) → file_fault name c ≡ None → AreBytes (drop (length c - 4) c) → Spells (block_in c) (offset_in c) (file_meta c) → Fits name c (file_meta c)
 unfolding meta_in
-Fits-fits name c bytes fit =
-    let rows = passed name c (none_of (file_fault name c) fit) in
+joined name c none tail_bytes spelled =
+    let rows = passed name c none in
     let ending = has_parts c rows.0 in
     let enough : 4 ≤ length c = ending.0 in
     let within : offset_in c ≤ length c - 4 = ending.2 in
     let tail : List ℕ = drop (length c - 4) c in
-    let tail_bytes : AreBytes tail = bytes_drop (length c - 4) c bytes in
-    let word : offset_in c < 2 ^ 32 = small32 tail tail_bytes in
-    let low : offset_in c < 2 ^ 32 - 1 = let other = ending.1 in omega (arith, word, other) in
     let tail_long : length tail ≡ 4 = length-drop (length c - 4) c ∙ omega (arith, enough) in
-    let block_bytes_are : AreBytes (block_in c) = bytes_take (length c - 4 - offset_in c) (drop (offset_in c) c) (bytes_drop (offset_in c) c bytes) in
-    let spelled : Spells (block_in c) (offset_in c) (file_meta c) = passes-Spells (block_in c) (offset_in c) block_bytes_are low rows.1 in
     let tail_spelled : be32 (offset_in c) ≡ tail =
     four tail tail_bytes (omega (arith, tail_long)) ∙ ap (λ n. take n tail) (sym tail_long) ∙ take-length tail in
     let place : offset_in c + (length c - 4 - offset_in c) ≡ length c - 4 = omega (arith, within) in
@@ -47,6 +43,17 @@ Fits-fits name c bytes fit =
           ∙ ap (λ ys. take (offset_in c) c ++ ys) (cut c (offset_in c) (length c - 4 - offset_in c))
           ∙ take-append-drop (offset_in c) c);
     }
+
+pub Fits-fits : (name c : List ℕ) → AreBytes c → fits name c ≡ true → Fits name c (file_meta c)
+Fits-fits name c bytes fit =
+    let none = none_of (file_fault name c) fit in
+    let rows = passed name c none in
+    let ending = has_parts c rows.0 in
+    let tail_bytes : AreBytes (drop (length c - 4) c) = bytes_drop (length c - 4) c bytes in
+    let word : offset_in c < 2 ^ 32 = small32 (drop (length c - 4) c) tail_bytes in
+    let low : offset_in c < 2 ^ 32 - 1 = let other = ending.1 in omega (arith, word, other) in
+    let block_bytes_are : AreBytes (block_in c) = bytes_take (length c - 4 - offset_in c) (drop (offset_in c) c) (bytes_drop (offset_in c) c bytes) in
+    joined name c none tail_bytes (passes-Spells (block_in c) (offset_in c) block_bytes_are low rows.1)
 
 pub fits_exactly : FitsExactly
 fits_exactly name c bytes = (λ fit. (file_meta c, Fits-fits name c bytes fit), λ f. fits-Fits name c f.0 f.1)

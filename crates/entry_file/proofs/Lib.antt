@@ -3,7 +3,9 @@ pub mod ReadBlock
 pub mod ReadFile
 pub mod EntryLaws
 pub mod FitLaws
+pub mod StoredBody
 pub mod WholeLaws
+pub mod ReadJoin
 pub mod StopLaws
 pub mod Writing
 pub mod Bodies

@@ -3,6 +3,7 @@ use Rattle.std.proofs.Common.{◌≡◌, ◌≢◌, ℕ, ◌+◌, ◌-◌, ◌^�
 use Rattle.std.specs.Prelude.{IfOk, IfSome, Option, None, Some, Result, Ok, Err, slice_range}
 use Rattle.std.specs.Option.{option_map}
 use Rattle.std.specs.Str.{bytes_eq}
+use Rattle.cache_base.specs.Bytes.{AreBytes}
 use Rattle.cache_base.specs.Limits.{chunks}
 use Rattle.cache_base.specs.declared.limits.TheConstants.{BLOCK_MAX}
 use Rattle.disk_model.specs.State.{State, standing}
@@ -12,24 +13,29 @@ use Rattle.entry_name.specs.EntryName.{file_name}
 use Rattle.entry_metadata.specs.declared.fault.MetaFault.{MetaFault}
 use Rattle.entry_metadata.specs.declared.fault.MetaFault.TheVariants as faults
 use Rattle.entry_metadata.specs.Checks.{block_fault}
+use Rattle.entry_metadata.specs.Metadata.{Spells}
 use Rattle.entry_metadata.proofs.FirstFault as first
 use Rattle.entry_file.specs.declared.entry_read.EntryRead.{EntryRead}
 use Rattle.entry_file.specs.declared.entry_read.EntryRead.TheVariants as reads
 use Rattle.entry_file.specs.declared.entry_read.Unfit.TheVariants as unfit
 use Rattle.entry_file.specs.EntryFile.{block_in, file_meta, has_offset, named_fault, offset_in}
-use Rattle.entry_file.specs.EntryRead.{ReadsAs}
+use Rattle.entry_file.specs.EntryRead.{IfFits, Joins, ReadsAs}
 use Rattle.entry_file.specs.BlockRead.{BlockReadsAs}
+use Rattle.entry_file.proofs.ReadJoin.{joins}
 use Rattle.entry_file.proofs.Faults.{beyond, by_block, has_one, short, too_short, unfinished}
 
 -- a file of a known size
 module _ (name : List ℕ) (o : Option (List ℕ)) (size : ℕ) (told : Some size ≡ option_map length o) where
   -- what holds of each content of this size
-  of_content : (read : EntryRead) → ((c : List ℕ) → o ≡ Some c → size ≡ length c → ReadsAs name (Some c) read) → ReadsAs name o read
-  of_content read f = go o told f
+  of_each : (P : Option (List ℕ) → Type 0) → ((c : List ℕ) → o ≡ Some c → size ≡ length c → P (Some c)) → P o
+  of_each P f = go o told f
     where
-      go : (p : Option (List ℕ)) → Some size ≡ option_map length p → ((c : List ℕ) → p ≡ Some c → size ≡ length c → ReadsAs name (Some c) read) → ReadsAs name p read
+      go : (p : Option (List ℕ)) → Some size ≡ option_map length p → ((c : List ℕ) → p ≡ Some c → size ≡ length c → P (Some c)) → P p
       go None e f = absurd (cc)
       go (Some c) e f = f c refl (cc)
+
+  of_content : (read : EntryRead) → ((c : List ℕ) → o ≡ Some c → size ≡ length c → ReadsAs name (Some c) read) → ReadsAs name o read
+  of_content read f = of_each (λ p. ReadsAs name p read) f
 
   pub small : size < 4 → ReadsAs name o (reads.Unfit unfit.Short)
   small lt = of_content _ (λ c at long. short name c (too_short c (omega (arith, lt, long))))
@@ -69,16 +75,26 @@ module _ (name : List ℕ) (o : Option (List ℕ)) (size : ℕ) (told : Some siz
             subst (λ (p : Option (List ℕ)). IfSome p (λ c. block ≡ slice_range c offset (offset + len))) at part
             ∙ (λ i. slice_range c (e i) (end i))
 
-        pub as_block : (read : EntryRead) → BlockReadsAs name block offset size read → ReadsAs name o read
-        as_block read h = of_content read (λ c at long.
+        as_block_of : (c : List ℕ) → o ≡ Some c → size ≡ length c → (read : EntryRead) → BlockReadsAs name block offset size read → ReadsAs name (Some c) read
+        as_block_of c at long read h =
             let h2 = subst (λ (b : List ℕ). BlockReadsAs name b offset size read) (block_at c at long) h in
             let h3 = subst (λ (n : ℕ). BlockReadsAs name (block_in c) n size read) (offset_at c at) h2 in
-            of_read c (has c at long) long read h3)
+            of_read c (has c at long) long read h3
           where
             of_read : (c : List ℕ) → has_offset c ≡ true → size ≡ length c → (read : EntryRead) → BlockReadsAs name (block_in c) (offset_in c) size read → ReadsAs name (Some c) read
             of_read c one long reads.Absent h = absurd h
             of_read c one long (reads.Unfit check) h = by_block name c one ∙ h
             of_read c one long (reads.Fits meta n) h = (by_block name c one ∙ h.0, h.1, h.2 ∙ long)
+
+        pub as_block : (read : EntryRead) → BlockReadsAs name block offset size read → ReadsAs name o read
+        as_block read h = of_content read (λ c at long. as_block_of c at long read h)
+
+        -- and so do its metadata
+        pub as_join : IfSome o (λ c. AreBytes (drop (length c - 4) c)) → (read : EntryRead) → BlockReadsAs name block offset size read → IfFits read (Spells block offset) → IfFits read (Joins name o)
+        as_join tail read h spelled = of_each (λ p. IfFits read (Joins name p)) (λ c at long.
+            joins name c read (as_block_of c at long read h)
+            (subst (λ (p : Option (List ℕ)). IfSome p (λ c. AreBytes (drop (length c - 4) c))) at tail)
+            (subst (λ (n : ℕ). IfFits read (Spells (block_in c) n)) (offset_at c at) (subst (λ (b : List ℕ). IfFits read (Spells b offset)) (block_at c at long) spelled)))
 
 -- what a later call of the disk read
 pub part_along : (s t : State) (place : Place) (items block : List ℕ) (from offset len : ℕ) → t ≡ s → from ≡ offset → block ≡ items
@@ -89,6 +105,9 @@ part_along s t place items block from offset len same at is h =
     subst (λ (b : List ℕ). IfSome (standing s place) (λ c. b ≡ slice_range c offset (offset + len))) (sym is) h3
 
 -- the same of an answer
+pub of_answers : (T : Type 0) (P Q R : EntryRead → Type 0) (r : Result EntryRead DiskFault) → (T → (read : EntryRead) → P read → Q read → R read) → IfOk r P → IfOk r Q → IfOk r (λ read. T → R read)
+of_answers T P Q R (Ok read) f p q = λ told. f told read p q
+of_answers T P Q R (Err fault) f p q = tt
+
 pub of_answer : (T : Type 0) (P Q : EntryRead → Type 0) (r : Result EntryRead DiskFault) → (T → (read : EntryRead) → P read → Q read) → IfOk r P → IfOk r (λ read. T → Q read)
-of_answer T P Q (Ok read) f h = λ told. f told read h
-of_answer T P Q (Err fault) f h = tt
+of_answer T P Q r f h = of_answers T P P Q r (λ told read p again. f told read p) h h

@@ -1,5 +1,5 @@
 -- What is added to the write steps of a file.
-use Rattle.std.proofs.Common.{◌≡◌, ◌⊎◌, inl, inr, ℕ, zero, suc, ◌+◌, ◌-◌, ◌<◌, ◌≤◌, List, [], ◌∷◌, ◌++◌, length, length-append, append_assoc, drop, Some, Result, Ok, Err, refl, sym, ap, subst, ◌∙◌, arith}
+use Rattle.std.proofs.Common.{◌≡◌, ◌⊎◌, inl, inr, ℕ, zero, suc, ◌+◌, ◌-◌, ◌<◌, ◌≤◌, List, [], ◌∷◌, ◌++◌, length, length-append, append_assoc, drop, Option, Some, Result, Ok, Err, refl, sym, ap, subst, ◌∙◌, arith}
 use Rattle.std.proofs.lemmas.Bool.{cases_lt}
 use Rattle.std.proofs.lemmas.List.{drop_at, drop-drop}
 use Rattle.disk_model.specs.declared.disk.DiskFault.{DiskFault}
@@ -72,6 +72,10 @@ written_once place P write s will file at =
     each : (wrote place write s).files file ≡ add_write write (s.files file) → (left : ℕ) → left < 1 → P (moment ((wrote place write s).files file) left)
     each here zero lt = subst (λ (f : File). P (moment f zero)) (sym here) (will (content (s.files file)) (ap (content_of s.files) at))
     each here (suc left) lt = absurd (omega (arith, lt))
+
+-- what a write makes of the file that stood there, under other names
+pub written_same : (w x : Write) → w ≡ x → (o : Option (List ℕ)) (c : List ℕ) → o ≡ Some c → (d : List ℕ) → o ≡ Some d → written w d ≡ written x c
+written_same w x same o c stood d is = let content : d ≡ c = cc in λ i. written (same i) (content i)
 
 -- by a call of the disk
 pub written_by : {T : Type 0} (place : Place) (P : List ℕ → Type 0) (write : Write) (s t : State) (r : Result T DiskFault) → t ≡ if_done r (wrote place write s) s

@@ -6,4 +6,5 @@ pub mod Looks
 pub mod Damages
 pub mod Unfinished
 pub mod NewEntry
+pub mod Rewriting
 pub mod Held

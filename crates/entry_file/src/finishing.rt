@@ -20,17 +20,13 @@ ghost use Rattle.entry_file.specs.Held.{held};
 ghost use Rattle.entry_file.specs.Version.{IsVersion, file_of, version_meta};
 
 use crate::NewEntry;
+use crate::bytes::bytes_fit;
 use cache_base::{Bytes, CHUNK, Hashes, NoMemory};
 use disk_model::{Disk, DiskFault, Place};
 use entry_metadata::Meta;
 use entry_parts::{Elements, Header};
 use jenkins_hash::hash16;
 use std::alloc::Global;
-
-// What stands in a slice of this type fits a byte.
-fn bytes_fit(b: &[u8])
-    ensures { AreBytes b.now }
-{}
 
 // Values of these types may stand in a block.
 fn parts_fit(header: Header, key: &[u8], elements: &Elements)

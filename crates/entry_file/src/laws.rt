@@ -1,6 +1,7 @@
 //! What follows from the definitions of entry files.
 
 ghost use Rattle.entry_file.specs.EntryFile.{FileReadsWhole, FitsExactly, ReadsWholeExactly};
+ghost use Rattle.entry_file.specs.Rewriting.{RewritesToVersion, StoresWhole};
 ghost use Rattle.entry_file.specs.Unfinished.{StopTailIsShort, UnfinishedIsShort};
 
 /// The file of a version reads as that version, whole.
@@ -16,6 +17,16 @@ pub fn fits_exactly()
 /// A content reads as a whole version exactly where it is the file of that version.
 pub fn reads_whole_exactly()
     ensures { ReadsWholeExactly }
+{}
+
+/// A content that fits, and whose body has the hashes of its metadata, is the file of the version that it stores.
+pub fn stores_whole()
+    ensures { StoresWhole }
+{}
+
+/// The file of a version, rewritten with the metadata of another version of the same body, is the file of that one.
+pub fn rewrites_to_version()
+    ensures { RewritesToVersion }
 {}
 
 /// A content that ends in the stop tail is too short for an entry's file, whatever stands before it, and so is the file of

@@ -1,23 +1,30 @@
 //! Entry files: a body, its metadata block and the block's offset. The laws say what a file reads as; `read_meta` reads
 //! all but the body, and `check_body` holds the body against its hashes. `begin` and `NewEntry` write a file whose body
-//! comes in pieces: until it is finished it is no entry, and by one write it becomes one.
+//! comes in pieces: until it is finished it is no entry, and by one write it becomes one. `rewrite_meta` writes the block of
+//! a file anew.
 #![tactic(auto)]
 
 mod beginning;
 mod body;
+mod bytes;
 mod entry_read;
 mod finishing;
 mod growing;
 mod laws;
 mod new_entry;
 mod reading;
+mod rewriting;
 
 pub use beginning::begin;
 pub use body::check_body;
 pub use entry_read::{EntryRead, Unfit};
-pub use laws::{file_reads_whole, fits_exactly, reads_whole_exactly, unfinished_is_short};
+pub use laws::{
+    file_reads_whole, fits_exactly, reads_whole_exactly, rewrites_to_version, stores_whole,
+    unfinished_is_short,
+};
 pub use new_entry::NewEntry;
 pub use reading::read_meta;
+pub use rewriting::rewrite_meta;
 
 #[cfg(test)]
 mod tests;

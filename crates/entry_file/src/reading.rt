@@ -1,15 +1,19 @@
 //! Reading an entry's file without its body.
 
-ghost use Rattle.std.specs.Prelude.{◌≡◌, ◌≤◌, ◌<◌, ◌+◌, ◌-◌, ◌^◌, IfOk, IfErr, IfSome, IsTrue, IsErrOf, Some, length, slice_range};
+ghost use Rattle.std.specs.Prelude.{◌≡◌, ◌≤◌, ◌<◌, ◌+◌, ◌-◌, ◌^◌, IfOk, IfErr, OnOk, IfSome, IsTrue, IsErrOf, Some, drop, length, slice_range};
 ghost use Rattle.std.specs.Option.{option_map};
+ghost use Rattle.cache_base.specs.Bytes.{AreBytes};
 ghost use Rattle.cache_base.specs.Causes.{HasCause};
 ghost use Rattle.disk_model.specs.State.{standing};
 ghost use Rattle.entry_file.specs.EntryFile.{offset_in, unfit_of};
-ghost use Rattle.entry_file.specs.EntryRead.{ReadsAs};
+ghost use Rattle.entry_file.specs.Damages.{HasMeta};
+ghost use Rattle.entry_file.specs.EntryRead.{IfFits, Joins, ReadsAs};
 ghost use Rattle.entry_file.specs.BlockRead.{BlockReadsAs};
 ghost use Rattle.disk_model.specs.Calls.{Holds};
 ghost use Rattle.entry_file.specs.Looks.{Looks};
+ghost use Rattle.entry_metadata.specs.Metadata.{Spells};
 
+use crate::bytes::bytes_fit;
 use crate::{EntryRead, Unfit};
 use cache_base::{BLOCK_MAX, Name};
 use disk_model::{Disk, DiskFault, Place};
@@ -43,6 +47,7 @@ fn read_of_block(
 ) -> Result<EntryRead, DiskFault>
     requires { offset < 2 ^ 32 - 1 }
     ensures reads { IfOk result (BlockReadsAs name.now.0 block.now offset size) }
+    ensures spelled { IfOk result (λ read. IfFits read (Spells block.now offset)) }
     ensures memory { IfErr result (λ fault. fault ≡ DiskFault.Memory) }
 {
     match entry_metadata::parse(alloc, block, offset) {
@@ -64,12 +69,14 @@ fn read_of_block(
 fn last_offset<D: Disk>(disk: &mut D, place: &Place, end: u64) -> Result<u32, DiskFault>
     requires { IsTrue D.tells → Some (end + 4) ≡ option_map length (standing (D.state disk.old) place.now) }
     ensures offset { IfOk result (λ offset. IsTrue D.tells → IfSome (standing (D.state disk.old) place.now) (λ content. offset ≡ offset_in content)) }
+    ensures bytes { OnOk result (IsTrue D.tells → IfSome (standing (D.state disk.old) place.now) (λ content. AreBytes (drop (length content - 4) content))) }
     ensures state { IsTrue D.tells → D.state disk.new ≡ D.state disk.old }
     ensures looks { IsTrue D.tells → Looks 1 (D.counts disk.old) (D.counts disk.new) }
     ensures cause { HasCause (IsErrOf result DiskFault.Failed) (D.faults disk.old) (D.faults disk.new) }
 {
     let mut bytes = [0; 4];
     disk.read(place, end, &mut bytes)?;
+    bytes_fit(&bytes);
     Ok(u32::from_be_bytes(bytes))
 }
 
@@ -102,6 +109,8 @@ fn read_sized<D: Disk>(
 ) -> Result<EntryRead, DiskFault>
     requires { IsTrue D.tells → Some size ≡ option_map length (standing (D.state disk.old) place.now) }
     ensures reads { IfOk result (λ read. IsTrue D.tells → ReadsAs name.now.0 (standing (D.state disk.old) place.now) read) }
+    ensures has_meta { IfOk result (λ read. IsTrue D.tells → IfFits read (HasMeta (standing (D.state disk.old) place.now))) }
+    ensures join { IfOk result (λ read. IsTrue D.tells → IfFits read (Joins name.now.0 (standing (D.state disk.old) place.now))) }
     ensures state { IsTrue D.tells → D.state disk.new ≡ D.state disk.old }
     ensures looks { IsTrue D.tells → Looks 2 (D.counts disk.old) (D.counts disk.new) }
     ensures cause { HasCause (IsErrOf result DiskFault.Failed) (D.faults disk.old) (D.faults disk.new) }
@@ -133,6 +142,8 @@ pub fn read_meta<D: Disk>(
     name: &Name,
 ) -> Result<EntryRead, DiskFault>
     ensures reads { IfOk result (λ read. IsTrue D.tells → ReadsAs name.now.0 (standing (D.state disk.old) place.now) read) }
+    ensures has_meta { IfOk result (λ read. IsTrue D.tells → IfFits read (HasMeta (standing (D.state disk.old) place.now))) }
+    ensures join { IfOk result (λ read. IsTrue D.tells → IfFits read (Joins name.now.0 (standing (D.state disk.old) place.now))) }
     ensures state { IsTrue D.tells → D.state disk.new ≡ D.state disk.old }
     ensures calls { IsTrue D.tells → (D.counts disk.new).calls ≤ (D.counts disk.old).calls + 4 }
     ensures entry_reads { IsTrue D.tells → (D.counts disk.new).entry_reads ≤ (D.counts disk.old).entry_reads + 4 }

@@ -6,7 +6,8 @@ use Rattle.chunk_store.specs.declared.damage.Damage.{Damage}
 use Rattle.disk_model.specs.State.{State, standing}
 use Rattle.entry_file.specs.Damages.{first_damage}
 use Rattle.entry_metadata.specs.Meta.{meta_of}
-use Rattle.entry_file.proofs.Damaged.{first_from, from_first, from_here, from_next, of_content, each_content}
+use Rattle.entry_file.proofs.Damaged.{first_from, from_end, from_first, from_here, from_next, of_content, each_content}
+use Rattle.entry_file.proofs.StoredBody.{undamaged_stores}
 use Rattle.entry_file.proofs.body.check_body.Goals as goal
 
 pub loop-index-init : goal.loop-index-init
@@ -33,6 +34,16 @@ returns-in-Some-clause-damage g c = λ told.
     (subst (λ (s : State). IfSome (standing s place) (λ b. c.in_ok-check_one.field-0 ≡ test b i)) (c.loop-index.invariant.1 told) (c.in_ok-check_one.ensures.damage told)) in
     of_content content (λ b. first_damage meta b ≡ first_from (test b) i (chunks meta.offset)) (λ b. Some c.in-Some.damage ≡ test b i) (λ b. Some c.in-Some.damage ≡ first_damage meta b)
     (λ b so_far is. sym (so_far ∙ from_here (test b) i (chunks meta.offset) within c.in-Some.damage is)) (c.loop-index.invariant.0 told) here
+
+pub returns-clause-stores : goal.returns-clause-stores
+returns-clause-stores g c = λ told none.
+    let meta = meta_of c.args.meta.now in
+    let i = c.loop-index.index in
+    let content = standing (g.D.Disk.state c.args.disk.now) c.args.place.now in
+    let SoFar = λ (b : List ℕ). first_damage meta b ≡ first_from (damage_at meta.hashes (take meta.offset b)) i (chunks meta.offset) in
+    undamaged_stores content meta c.args.meta.now.hash_count (c.requires told)
+    (of_content content SoFar SoFar (λ b. None ≡ first_damage meta b)
+    (λ b so_far again. sym (so_far ∙ from_end (damage_at meta.hashes (take meta.offset b)) i (chunks meta.offset) (search rules))) (c.loop-index.invariant.0 told) (c.loop-index.invariant.0 told))
 
 pub loop-index-preserved : goal.loop-index-preserved
 loop-index-preserved g c =

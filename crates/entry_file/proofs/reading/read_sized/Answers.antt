@@ -1,9 +1,13 @@
 use Rattle.std.proofs.Common.{◌-◌, arith}
 use Rattle.std.specs.Prelude.{IsTrue}
 use Rattle.disk_model.specs.State.{standing}
-use Rattle.entry_file.specs.EntryRead.{ReadsAs}
+use Rattle.entry_metadata.specs.Metadata.{Spells}
+use Rattle.entry_file.specs.Damages.{HasMeta}
+use Rattle.entry_file.specs.declared.entry_read.EntryRead.{EntryRead}
+use Rattle.entry_file.specs.EntryRead.{IfFits, Joins, ReadsAs}
 use Rattle.entry_file.specs.BlockRead.{BlockReadsAs}
-use Rattle.entry_file.proofs.ReadFile.{as_block, large, no_offset, of_answer, outside, part_along, small}
+use Rattle.entry_file.proofs.ReadFile.{as_block, as_join, large, no_offset, of_answer, of_answers, outside, part_along, small}
+use Rattle.entry_file.proofs.ReadJoin.{has_meta}
 use Rattle.entry_file.proofs.reading.read_sized.Goals as goal
 use Rattle.entry_file.proofs.reading.read_sized.Goals.{then-offset-via-then-offset, then-offset-via-else-offset+then-from-end}
 
@@ -39,3 +43,25 @@ returns-clause-reads g c =
     (part_along _ _ c.args.place.now c.in_ok-block.block.items block c.from-from.result offset _ (c.in_ok-offset.ensures.state told) c.from-from.ensures c.as_slice.ensures.value
     (c.in_ok-block.ensures.bytes told)))
     c.read_of_block.ensures.reads
+
+pub returns-clause-has_meta : goal.returns-clause-has_meta
+returns-clause-has_meta g c =
+    let name = c.args.name.now.0 in
+    let o = standing (g.D.Disk.state c.args.disk.now) c.args.place.now in
+    let Reads = λ (read : EntryRead). IsTrue g.D.Disk.tells → ReadsAs name o read in
+    of_answer (IsTrue g.D.Disk.tells) Reads (λ read. IfFits read (HasMeta o)) c.read_of_block.result
+    (λ told read reads. has_meta name o read (reads told)) (returns-clause-reads g c)
+
+pub returns-clause-join : goal.returns-clause-join
+returns-clause-join g c =
+    let name = c.args.name.now.0 in
+    let o = standing (g.D.Disk.state c.args.disk.now) c.args.place.now in
+    let block = c.as_slice.result.now in
+    let offset = c.in_ok-offset.offset in
+    of_answers (IsTrue g.D.Disk.tells) (BlockReadsAs name block offset c.args.size) (λ read. IfFits read (Spells block offset)) (λ read. IfFits read (Joins name o)) c.read_of_block.result
+    (λ told. as_join name o c.args.size (c.requires told) (omega arith) offset (c.in_ok-offset.ensures.offset told) c.if-offset.false (omega arith)
+    (c.args.size - 4 - c.from-from.result) (omega arith) block
+    (part_along _ _ c.args.place.now c.in_ok-block.block.items block c.from-from.result offset _ (c.in_ok-offset.ensures.state told) c.from-from.ensures c.as_slice.ensures.value
+    (c.in_ok-block.ensures.bytes told))
+    (c.in_ok-offset.ensures.bytes told))
+    c.read_of_block.ensures.reads c.read_of_block.ensures.spelled

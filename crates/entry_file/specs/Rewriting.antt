@@ -1,0 +1,35 @@
+-- The metadata of a file, written anew behind the same body.
+use Rattle.std.specs.Prelude.{ℕ, ◌≡◌, ◌≤◌, List, ◌++◌, length, take, Option, None, Some}
+use Rattle.cache_base.specs.Bytes.{be32}
+use Rattle.chunk_store.specs.Chunks.{chunk_hashes}
+use Rattle.disk_model.specs.State.{Write}
+use Rattle.disk_model.specs.State.Write.{End}
+use Rattle.entry_metadata.specs.Metadata.{Meta, block_bytes}
+use Rattle.entry_file.specs.EntryFile.{Fits}
+use Rattle.entry_file.specs.NewEntry.{finished}
+use Rattle.entry_file.specs.Version.{Version, file_of, version_meta}
+
+-- a file stands there, and the chunks of its first n bytes have these hashes
+abbrev pub HasChunks : Option (List ℕ) → ℕ → List ℕ → Type 0
+HasChunks None n hashes = ⊥
+HasChunks (Some c) n hashes = (n ≤ length c) × (hashes ≡ chunk_hashes (take n c))
+
+-- a file stands there that begins with the body of these metadata, by their hashes
+abbrev pub StoresBody : Option (List ℕ) → Meta → Type 0
+StoresBody file m = HasChunks file m.offset m.hashes
+
+-- the version with these metadata, whose body is the front of the content up to their offset
+abbrev pub rewritten : Meta → List ℕ → Version
+rewritten m c = finished m.header m.key m.elements (take m.offset c)
+
+-- the write of the block and its offset behind the body
+abbrev pub block_write : Meta → Write
+block_write m = End m.offset (block_bytes m ++ be32 m.offset)
+
+-- a content that fits, and whose body has the hashes of its metadata, is the file of the version that it stores
+abbrev pub StoresWhole : Type 0
+StoresWhole = (name c : List ℕ) (m : Meta) → Fits name c m → StoresBody (Some c) m → c ≡ file_of (rewritten m c)
+
+-- the file of a version, rewritten with the metadata of another one of the same body, is the file of that one
+abbrev pub RewritesToVersion : Type 0
+RewritesToVersion = (v w : Version) → v.body ≡ w.body → StoresBody (Some (file_of w)) (version_meta v) × (rewritten (version_meta v) (file_of w) ≡ v)
