@@ -1,9 +1,8 @@
 -- What a `get` answers, by what was read at the key's place.
-use Rattle.std.proofs.Common.{◌≡◌, ◌≢◌, ◌≤◌, ◌∙◌, ℕ, List, length, take, Bool, true, false, Option, Some, None, Result, Ok, Err, refl, sym, ap, subst, arith}
+use Rattle.std.proofs.Common.{◌≡◌, ◌≢◌, ◌∙◌, ℕ, List, take, Bool, true, false, Option, Some, None, Result, Ok, Err, refl, sym, ap, subst}
 use Rattle.std.specs.Prelude.{if◌then◌else◌, IfOk}
 use Rattle.std.specs.Str.{bytes_eq}
 use Rattle.std.specs.Cmp.Lexicographic.{bytes_decides}
-use Rattle.std.proofs.lemmas.Bool.Decides.{nat_tests}
 use Rattle.chunk_store.specs.Chunks.{damages}
 use Rattle.entry_key.specs.Writing.{may_write}
 use Rattle.entry_name.specs.EntryName.{file_name}
@@ -11,8 +10,7 @@ use Rattle.entry_metadata.specs.Checks.{meta_in}
 use Rattle.entry_metadata.specs.Metadata.{Meta as Said}
 use Rattle.entry_metadata.specs.Meta.{meta_of}
 use Rattle.entry_metadata.specs.declared.meta.Meta.{Meta}
-use Rattle.entry_file.specs.Damages.{HasMeta}
-use Rattle.entry_file.specs.EntryFile.{by_damages, by_fault, file_fault, file_meta, has_offset, offset_in, body_in, read as reading, read_for}
+use Rattle.entry_file.specs.EntryFile.{by_damages, by_fault, file_fault, file_meta, offset_in, body_in, read as reading, read_for}
 use Rattle.entry_file.specs.EntryFile.Reading.{Nothing}
 use Rattle.entry_file.specs.EntryRead.{ReadsAs}
 use Rattle.entry_file.specs.declared.entry_read.EntryRead.TheVariants as read
@@ -74,19 +72,6 @@ fit_is_read key c good none same = sym (writable key (Some c) good ∙ all)
         ap of_reading (read_if key c true ((bytes_decides (file_meta c).key key).1 same) ∙ reads_body (file_name key) c none)
         ∙ ap (λ (b : List ℕ). body_answer (file_meta c) b) body
 
-offset_fits : (name c : List ℕ) → file_fault name c ≡ None → offset_in c ≤ length c
-unfolding file_fault
-offset_fits name c fine = go (has_offset c) refl
-  where
-    go : (b : Bool) → has_offset c ≡ b → offset_in c ≤ length c
-    go true is = grind (arith, nat_tests)
-    go false is = grind (arith, nat_tests)
-
--- the body of a file that fits stands before its offset
-fit_has_meta : (name c : List ℕ) (m : Said) → file_fault name c ≡ None → m ≡ file_meta c → HasMeta (Some c) m
-fit_has_meta name c m none says =
-    (says, subst (λ n. n ≤ length c) (sym (ap (λ (s : Said). s.offset) says ∙ offset_of_meta c)) (offset_fits name c none))
-
 -- The same of what stands at a place of a key that may be written, and whose name this is.
 module _ (key name : List ℕ) (content : Option (List ℕ)) (named : name ≡ file_name key) (good : may_write key ≡ true) where
   by_name : (P : List ℕ → Type 0) → P name → P (file_name key)
@@ -122,13 +107,6 @@ module _ (key name : List ℕ) (content : Option (List ℕ)) (named : name ≡ f
         by_content (Some c) is =
             ap (λ (m : Said). body_answer m (take m.offset c)) is.1
             ∙ fit_is_read key c good (by_name (λ n. file_fault n c ≡ None) is.0) (sym (ap (λ (m : Said). m.key) is.1) ∙ same)
-
-    pub fit_stands : HasMeta content (meta_of meta)
-    fit_stands = by_content content reads
-      where
-        by_content : (o : Option (List ℕ)) → ReadsAs name o (read.Fits meta size) → HasMeta o (meta_of meta)
-        by_content None is = absurd is
-        by_content (Some c) is = fit_has_meta name c (meta_of meta) is.0 is.1
 
 -- an answer that is mapped
 pub answered : {A E : Type 0} (r : Result A E) (P Q : A → Type 0) → ((a : A) → P a → Q a) → IfOk r P → IfOk r Q

@@ -88,6 +88,10 @@ fits-Fits name c m f =
     subst (λ x. file_fault (file_name m.key) x ≡ None) (sym f.bytes) (content_passes m f.meta f.body f.ends) in
     subst (λ n. is_none (file_fault n c) ≡ true) f.named (ap is_none passed)
 
+pub fits_meta : (name c : List ℕ) (m : Meta) → Fits name c m → file_meta c ≡ m
+unfolding content
+fits_meta name c m f = ap file_meta f.bytes ∙ content_meta m f.meta f.body f.ends
+
 module _ (v : Version) (is : IsVersion v) where
   body_is : body_in (file_of v) ≡ v.body
   unfolding file_of content

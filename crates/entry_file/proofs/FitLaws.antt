@@ -15,7 +15,7 @@ use Rattle.entry_file.specs.EntryFile.{offset_in, block_in, file_fault, file_met
 use Rattle.entry_file.proofs.EntryLaws.{fits-Fits}
 use Rattle.entry_file.proofs.Faults.{has_parts, passed}
 
-none_of : (o : Option Unfit) → is_none o ≡ true → o ≡ None
+pub none_of : (o : Option Unfit) → is_none o ≡ true → o ≡ None
 none_of None h = refl
 none_of (Some f) h = absurd (cc)
 

@@ -1,5 +1,5 @@
 -- A content reads as a whole version exactly where it is the file of that version.
-use Rattle.std.proofs.Common.{◌≡◌, ℕ, ◌≤◌, List, [], ◌∷◌, length, refl, sym, ap, subst}
+use Rattle.std.proofs.Common.{◌≡◌, ℕ, ◌≤◌, List, [], ◌∷◌, length, take, refl, sym, ap, subst, ◌∙◌}
 use Rattle.std.specs.Prelude.{Option, None, Some, is_none}
 use Rattle.std.proofs.lemmas.List.{length-take-le}
 use Rattle.cache_base.specs.Bytes.{AreBytes}
@@ -11,11 +11,12 @@ use Rattle.entry_metadata.specs.Checks.{meta_in}
 use Rattle.entry_metadata.specs.Metadata.{Meta}
 use Rattle.entry_file.specs.declared.entry_read.Unfit.{Unfit}
 use Rattle.entry_file.specs.EntryFile.{body_in, offset_in, file_fault, file_meta, Fits, Reading, Whole, Damaged, Nothing, by_damages, by_fault, read, ReadsWholeExactly}
-use Rattle.entry_file.specs.Rewriting.{StoresBody}
+use Rattle.entry_file.specs.Damages.{first}
+use Rattle.entry_file.specs.Rewriting.{ReadsByDamage, StoresBody, whole_or}
 use Rattle.entry_file.specs.Version.{Version, IsVersion, file_of}
-use Rattle.entry_file.proofs.EntryLaws.{read-file_of}
+use Rattle.entry_file.proofs.EntryLaws.{fits-Fits, fits_meta, read-file_of}
 use Rattle.entry_file.proofs.Faults.{offset_within}
-use Rattle.entry_file.proofs.FitLaws.{Fits-fits}
+use Rattle.entry_file.proofs.FitLaws.{Fits-fits, none_of}
 use Rattle.entry_file.proofs.StoredBody.{hashes_same, is_version, stores_whole}
 
 -- the version that metadata and a body make
@@ -55,3 +56,17 @@ reads_whole_exactly name c v bytes = (
   whole_is_file name c v bytes,
   λ h. subst (λ x. read name x ≡ Whole v) (sym h.2) (subst (λ n. read n (file_of v) ≡ Whole v) h.1 (read-file_of v h.0)),
 )
+
+-- ---- by the first damage
+
+by_first : (m : Meta) (body : List ℕ) (ds : List Damage) → by_damages m body ds ≡ whole_or (first ds) (made m body)
+by_first m body [] = refl
+by_first m body (d ∷ ds) = refl
+
+pub reads_by_damage : ReadsByDamage
+unfolding read meta_in
+reads_by_damage name c m f =
+    ap (λ (o : Option Unfit). by_fault o c) (none_of (file_fault name c) (fits-Fits name c m f))
+    ∙ (λ i. by_damages (fits_meta name c m f i) (take (fits_meta name c m f i).offset c)
+    (damages (fits_meta name c m f i).hashes (fits_meta name c m f i).offset (take (fits_meta name c m f i).offset c)))
+    ∙ by_first m (take m.offset c) (damages m.hashes m.offset (take m.offset c))

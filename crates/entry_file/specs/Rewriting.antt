@@ -2,10 +2,12 @@
 use Rattle.std.specs.Prelude.{ℕ, ◌≡◌, ◌≤◌, List, ◌++◌, length, take, Option, None, Some}
 use Rattle.cache_base.specs.Bytes.{be32}
 use Rattle.chunk_store.specs.Chunks.{chunk_hashes}
+use Rattle.chunk_store.specs.declared.damage.Damage.{Damage}
 use Rattle.disk_model.specs.State.{Write}
 use Rattle.disk_model.specs.State.Write.{End}
 use Rattle.entry_metadata.specs.Metadata.{Meta, block_bytes}
-use Rattle.entry_file.specs.EntryFile.{Fits}
+use Rattle.entry_file.specs.Damages.{first_damage}
+use Rattle.entry_file.specs.EntryFile.{Fits, Reading, Whole, Damaged, read}
 use Rattle.entry_file.specs.NewEntry.{finished}
 use Rattle.entry_file.specs.Version.{Version, file_of, version_meta}
 
@@ -25,6 +27,15 @@ rewritten m c = finished m.header m.key m.elements (take m.offset c)
 -- the write of the block and its offset behind the body
 abbrev pub block_write : Meta → Write
 block_write m = End m.offset (block_bytes m ++ be32 m.offset)
+
+-- what a file reads as, by the first damage of its body
+abbrev pub whole_or : Option Damage → Version → Reading
+whole_or None v = Whole v
+whole_or (Some damage) v = Damaged damage
+
+-- a content that fits reads as damaged by the first damage of its body, or else as the version that it stores
+abbrev pub ReadsByDamage : Type 0
+ReadsByDamage = (name c : List ℕ) (m : Meta) → Fits name c m → read name c ≡ whole_or (first_damage m c) (rewritten m c)
 
 -- a content that fits, and whose body has the hashes of its metadata, is the file of the version that it stores
 abbrev pub StoresWhole : Type 0

@@ -1,7 +1,7 @@
 //! What follows from the definitions of entry files.
 
 ghost use Rattle.entry_file.specs.EntryFile.{FileReadsWhole, FitsExactly, ReadsWholeExactly};
-ghost use Rattle.entry_file.specs.Rewriting.{RewritesToVersion, StoresWhole};
+ghost use Rattle.entry_file.specs.Rewriting.{ReadsByDamage, RewritesToVersion, StoresWhole};
 ghost use Rattle.entry_file.specs.Unfinished.{StopTailIsShort, UnfinishedIsShort};
 
 /// The file of a version reads as that version, whole.
@@ -17,6 +17,11 @@ pub fn fits_exactly()
 /// A content reads as a whole version exactly where it is the file of that version.
 pub fn reads_whole_exactly()
     ensures { ReadsWholeExactly }
+{}
+
+/// A content that fits reads as damaged by the first damage of its body, or else as the version that it stores.
+pub fn reads_by_damage()
+    ensures { ReadsByDamage }
 {}
 
 /// A content that fits, and whose body has the hashes of its metadata, is the file of the version that it stores.

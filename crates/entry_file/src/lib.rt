@@ -19,8 +19,8 @@ pub use beginning::begin;
 pub use body::check_body;
 pub use entry_read::{EntryRead, Unfit};
 pub use laws::{
-    file_reads_whole, fits_exactly, reads_whole_exactly, rewrites_to_version, stores_whole,
-    unfinished_is_short,
+    file_reads_whole, fits_exactly, reads_by_damage, reads_whole_exactly, rewrites_to_version,
+    stores_whole, unfinished_is_short,
 };
 pub use new_entry::NewEntry;
 pub use reading::read_meta;

@@ -2,6 +2,7 @@
 
 mod new_entry;
 mod reading;
+mod rewriting;
 
 use cache_base::{Bytes, Name, NoMemory};
 use disk_model::{MemDisk, Place};

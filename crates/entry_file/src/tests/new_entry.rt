@@ -29,14 +29,14 @@ fn hello_meta(alloc: Global) -> Result<Meta, Fail>
 }
 
 // A body of so many bytes.
-fn body_of(alloc: Global, len: usize) -> Result<Vec<u8>, Fail>
+pub(super) fn body_of(alloc: Global, len: usize) -> Result<Vec<u8>, Fail>
     ensures { IfOk result (λ body. length body.items ≡ len) }
 {
     Ok(vec![in alloc; b'x'; len]?)
 }
 
 // A new entry whose body comes in three pieces.
-fn grow<D: Disk>(
+pub(super) fn grow<D: Disk>(
     alloc: Global,
     disk: &mut D,
     place: &Place,
@@ -55,7 +55,7 @@ fn grow<D: Disk>(
 }
 
 // What the place reads as before and after the entry is finished with the header, the key and the elements of `hello`.
-fn finish<D: Disk>(
+pub(super) fn finish<D: Disk>(
     alloc: Global,
     disk: &mut D,
     place: &Place,

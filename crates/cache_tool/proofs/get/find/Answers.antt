@@ -3,14 +3,14 @@ use Rattle.std.specs.Bool.{IsTrue}
 use Rattle.disk_model.specs.State.{State, standing}
 use Rattle.disk_model.specs.declared.place.Place.TheVariants.{Entry}
 use Rattle.entry_file.specs.Damages.{HasMeta}
-use Rattle.entry_file.specs.EntryRead.{ReadsAs}
+use Rattle.entry_file.specs.EntryRead.{IfFits, ReadsAs}
 use Rattle.entry_file.specs.declared.entry_read.EntryRead.{EntryRead}
 use Rattle.entry_metadata.specs.Meta.{meta_of}
 use Rattle.entry_metadata.specs.declared.meta.Meta.{Meta}
 use Rattle.cache_tool.specs.declared.refusal.Refusal.{Refusal}
 use Rattle.cache_tool.specs.Get.{get_answer, answer_in, body_answer, front_of}
 use Rattle.cache_tool.proofs.Keys.{keys_differ, keys_agree}
-use Rattle.cache_tool.proofs.Finds.{unfit_answers, other_answers, fit_answers, fit_stands, answered}
+use Rattle.cache_tool.proofs.Finds.{unfit_answers, other_answers, fit_answers, answered}
 use Rattle.cache_tool.proofs.get.find.Goals as goal
 
 pub returns-in-Unfit-clause-found : goal.returns-in-Unfit-clause-found
@@ -28,11 +28,9 @@ returns-then-ne-clause-found g c = λ told.
 
 pub check-requires : goal.check-requires
 check-requires g c = λ told.
-    let s = g.D.Disk.state c.args.disk.now in
-    let content = standing s (Entry c.args.name.now) in
-    let reads = subst (λ (r : EntryRead). ReadsAs c.args.name.now.0 content r) c.in-Fits.is (c.in_ok-read_meta.ensures.reads told) in
-    subst (λ (t : State). HasMeta (standing t (Entry c.args.name.now)) (meta_of c.in-Fits.meta)) (sym (c.in_ok-read_meta.ensures.state told))
-    (fit_stands c.args.key.now c.args.name.now.0 content c.requires.named c.requires.good c.in-Fits.meta c.in-Fits.size reads)
+    let content = standing (g.D.Disk.state c.args.disk.now) (Entry c.args.name.now) in
+    let has = subst (λ (r : EntryRead). IfFits r (HasMeta content)) c.in-Fits.is (c.in_ok-read_meta.ensures.has_meta told) in
+    subst (λ (t : State). HasMeta (standing t (Entry c.args.name.now)) (meta_of c.in-Fits.meta)) (sym (c.in_ok-read_meta.ensures.state told)) has
 
 pub returns-else-ne-clause-found : goal.returns-else-ne-clause-found
 returns-else-ne-clause-found g c =
