@@ -1,0 +1,22 @@
+//! Why records can't be read from a file.
+
+use cache_base::NoMemory;
+
+/// Why the part of a file behind its front holds no records.
+#[derive(Clone, Copy, Debug, PartialEq, Eq)]
+pub enum RecordsFault {
+    /// The bytes before the hash are no whole number of records.
+    Length,
+    /// The hash is not that of the records' bytes.
+    Hash,
+    /// A name stands twice.
+    Repeated,
+    /// Memory ran out.
+    Memory,
+}
+
+impl From<NoMemory> for RecordsFault {
+    fn from(_: NoMemory) -> Self {
+        RecordsFault::Memory
+    }
+}
