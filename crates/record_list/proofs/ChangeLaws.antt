@@ -89,7 +89,7 @@ still_below a b (n ∷ names) less h = (below_trans a b n less h.0, still_below 
 some_not_none : (r : IndexRecord) → Some r ≡ None → ⊥
 some_not_none r e = absurd (cc)
 
-some_same : (r s : IndexRecord) → Some r ≡ Some s → r ≡ s
+pub some_same : (r s : IndexRecord) → Some r ≡ Some s → r ≡ s
 some_same r s e = ap (λ o. unwrap_or o r) e
 
 -- the records behind the first, at a name that is not the first's

@@ -1,2 +1,10 @@
 pub mod NameLaws
+pub mod OrderLaws
 pub mod ChangeLaws
+pub mod StoredLaws
+pub mod Wanted
+pub mod ReadingLaws
+pub mod FirstFault
+pub mod Pushed
+pub mod Printed
+pub mod SortedLaws

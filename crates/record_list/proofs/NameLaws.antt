@@ -40,15 +40,17 @@ below_apart a b less = go (same_name a b) refl
         let own : name_cmp b b ≡ Equal = tied_itself nat_list_cmp_total b.0 in
         absurd (cc)
 
-pub below_apart_back : (a b : Name) → name_cmp a b ≡ Less → same_name b a ≡ false
-below_apart_back a b less = go (same_name b a) refl
+pub same_back : (a b : Name) → same_name a b ≡ same_name b a
+same_back a b = go (same_name a b) (same_name b a) refl refl
   where
-    go : (t : Bool) → same_name b a ≡ t → t ≡ false
-    go false e = refl
-    go true e =
-        let forth : same_name a b ≡ true = (bytes_eq-Decides a.0 b.0).1 (sym ((bytes_eq-Decides b.0 a.0).0 e)) in
-        let apart : same_name a b ≡ false = below_apart a b less in
-        absurd (cc)
+    go : (s t : Bool) → same_name a b ≡ s → same_name b a ≡ t → s ≡ t
+    go true true e f = refl
+    go false false e f = refl
+    go true false e f = let both : same_name b a ≡ true = (bytes_eq-Decides b.0 a.0).1 (sym ((bytes_eq-Decides a.0 b.0).0 e)) in absurd (cc)
+    go false true e f = let both : same_name a b ≡ true = (bytes_eq-Decides a.0 b.0).1 (sym ((bytes_eq-Decides b.0 a.0).0 f)) in absurd (cc)
+
+pub below_apart_back : (a b : Name) → name_cmp a b ≡ Less → same_name b a ≡ false
+below_apart_back a b less = sym (same_back a b) ∙ below_apart a b less
 
 all_apart : (a : Name) (names : List Name) → AllByRecursion (λ y. name_cmp a y ≡ Less) names → AllByRecursion (λ y. same_name a y ≡ false) names
 all_apart a [] h = tt

@@ -1,3 +1,4 @@
 pub mod Lists
 pub mod Stored
 pub mod Change
+pub mod Laws

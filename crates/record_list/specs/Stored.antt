@@ -1,13 +1,13 @@
 -- Records as they stand in a file, behind its front: the bytes of the records, and the hash of these bytes.
 use Rattle.std.specs.List.{AllByRecursion, list_any}
-use Rattle.std.specs.Prelude.{Bool, List, Option, Some, [], filter, length, map, not, take, true, ℕ, ◌%◌, ◌&&◌, ◌++◌, ◌-◌, ◌==◌, ◌∷◌, ◌≡◌}
+use Rattle.std.specs.Prelude.{Bool, List, Option, Some, [], false, filter, length, map, not, take, true, ℕ, ◌%◌, ◌&&◌, ◌++◌, ◌-◌, ◌==◌, ◌∷◌, ◌≡◌}
 use Rattle.cache_base.specs.Bytes.{be32, be32_at}
 use Rattle.cache_base.specs.Checks.{first_failing}
 use Rattle.cache_base.specs.declared.name.Name.{Name}
-use Rattle.index_record.specs.Record.{IsRecord, cleared, is_removed}
+use Rattle.index_record.specs.Record.{IsRecord, cleared, has_bit, is_removed}
 use Rattle.index_record.specs.declared.record.IndexRecord.{IndexRecord}
 use Rattle.jenkins_hash.specs.Hash.{hash_of}
-use Rattle.record_list.specs.Lists.{HasNames, names_of, records_bytes, records_in, same_name}
+use Rattle.record_list.specs.Lists.{HasNames, IsByName, names_of, records_bytes, records_in, same_name}
 use Rattle.record_list.specs.declared.fault.RecordsFault.{RecordsFault}
 use Rattle.record_list.specs.declared.fault.RecordsFault.TheVariants as faults
 
@@ -54,6 +54,22 @@ IsFirstFault part f = records_fault part ≡ Some f
 abbrev pub read_as : List IndexRecord → List IndexRecord
 read_as stored = map cleared stored
 
+-- a record has neither the dirty bit 28 nor the fresh bit 27
+abbrev pub IsClean : IndexRecord → Type 0
+IsClean r = (has_bit 28 r.flags ≡ false) × (has_bit 27 r.flags ≡ false)
+
+-- no record has
+abbrev pub AreClean : List IndexRecord → Type 0
+AreClean rs = AllByRecursion IsClean rs
+
 -- the records that are not removed
 abbrev pub present : List IndexRecord → List IndexRecord
 present rs = filter (λ r. not (is_removed r)) rs
+
+-- the bytes are a front, and behind it these records by rising names
+pub record IsPrinted (front : List ℕ) (rs : List IndexRecord) (bytes : List ℕ) : Type 0 where
+  pub sorted : List IndexRecord
+  pub by_name : IsByName rs sorted
+  pub stored : AreStored sorted
+  pub clean : AreClean sorted
+  pub spelled : bytes ≡ front ++ stored_bytes sorted

@@ -1,4 +1,7 @@
-//! Why records can't be read from a file.
+//! Why no records can be read from a file.
+
+ghost use Rattle.std.specs.Prelude.{◌≡◌};
+ghost use Rattle.record_list.specs.declared.fault.RecordsFault.TheVariants.{Memory};
 
 use cache_base::NoMemory;
 
@@ -16,6 +19,8 @@ pub enum RecordsFault {
 }
 
 impl From<NoMemory> for RecordsFault {
+    ghost from_gives = { λ _ e. e ≡ Memory };
+
     fn from(_: NoMemory) -> Self {
         RecordsFault::Memory
     }

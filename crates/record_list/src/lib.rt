@@ -1,8 +1,20 @@
-//! Lists of the index's records, as they stand in the files `index` and `index.log`.
+//! Lists of the index's records, as they stand in the files `index` and `index.log`: the bytes of the records, and a
+//! hash of these bytes. What is parsed is what the bytes spell, and a fault is the first failing check; what is printed
+//! stands by rising name. What a journal of changes says, applied to the records that changed, gives the records now.
 #![tactic(auto)]
 
 mod fault;
 mod laws;
+mod printing;
+mod reading;
 
 pub use fault::RecordsFault;
-pub use laws::diff_then_apply;
+pub use laws::{
+    by_name_keeps, clean_reads_same, diff_then_apply, rising_has_names, stored_fits_exactly,
+    stored_reads_back,
+};
+pub use printing::{by_name, print};
+pub use reading::{parse, parse_present};
+
+#[cfg(test)]
+mod tests;

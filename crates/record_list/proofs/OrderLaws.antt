@@ -1,0 +1,105 @@
+-- Lists that are sorted by name, and names none of which stands twice.
+use Rattle.std.proofs.Common.{◌≡◌, ℕ, ◌+◌, ◌<◌, List, [], ◌∷◌, length, get_or, Bool, true, false, not, ◌&&◌, ◌||◌, refl, sym, ap, ◌∙◌, arith}
+use Rattle.std.specs.Prelude.{map}
+use Rattle.std.specs.Cmp.{IsTotalOrder}
+use Rattle.std.specs.List.{AllByRecursion, IsAllAdjacentAnswer, IsDistinct, list_any}
+use Rattle.std.specs.List.Sorted.{IsPermutation, IsSorted, IsSortedByKey}
+use Rattle.std.specs.Ordering.{is_lt}
+use Rattle.std.specs.declared.cmp.Ordering.{Ordering}
+use Rattle.std.specs.declared.cmp.Ordering.TheVariants.{Less, Equal, Greater}
+use Rattle.std.proofs.lemmas.Bool.{and_parts}
+use Rattle.std.proofs.lemmas.Cmp.{nat_list_cmp_total, on_total}
+use Rattle.std.proofs.lemmas.List.{get_or-map, length-map}
+use Rattle.std.proofs.lemmas.List.Sorted.{IsPermutation-sym}
+use Rattle.std.proofs.lemmas.Map.Keys.{IsDistinct-IsPermutation, apart_from_distinct, sorted_from_all_adjacent}
+use Rattle.cache_base.specs.Names.{AreRising, name_cmp}
+use Rattle.cache_base.specs.declared.name.Name.{Name}
+use Rattle.record_list.specs.Lists.{same_name}
+use Rattle.record_list.specs.Stored.{are_distinct}
+use Rattle.record_list.proofs.NameLaws.{above_below, rising_distinct, same_back, same_itself, tied_same}
+
+name_cmp_total : IsTotalOrder name_cmp
+name_cmp_total = on_total (λ (n : Name). n.0) nat_list_cmp_total
+
+-- a name that is not above another, nor the same, is below it
+neighbours : (a b : Name) → is_lt (name_cmp b a) ≡ false → same_name a b ≡ false → name_cmp a b ≡ Less
+neighbours a b sorted apart = go (name_cmp a b) refl
+  where
+    go : (o : Ordering) → name_cmp a b ≡ o → o ≡ Less
+    go Less e = refl
+    go Equal e = let same : same_name a b ≡ true = ap (λ n. same_name a n) (sym (tied_same a b e)) ∙ same_itself a in absurd (cc)
+    go Greater e = let less : is_lt (name_cmp b a) ≡ true = ap is_lt (above_below a b e) in absurd (cc)
+
+-- what is sorted by names that are distinct rises
+pub sorted_rises : {X : Type 0} (key : X → Name) (none : X) (xs : List X) → IsSortedByKey key name_cmp xs → IsDistinct same_name (map key xs) → AreRising (map key xs)
+sorted_rises key none xs sorted apart = sorted_from_all_adjacent name_cmp_total (map key xs) (key none) step
+  where
+    step : (k : ℕ) → k + 1 < length (map key xs) → name_cmp (get_or (map key xs) k (key none)) (get_or (map key xs) (k + 1) (key none)) ≡ Less
+    step k h =
+        let long : length (map key xs) ≡ length xs = length-map xs key in
+        let here : get_or (map key xs) k (key none) ≡ key (get_or xs k none) = get_or-map key xs k none (key none) (omega arith) in
+        let next : get_or (map key xs) (k + 1) (key none) ≡ key (get_or xs (k + 1) none) = get_or-map key xs (k + 1) none (key none) (omega arith) in
+        neighbours (get_or (map key xs) k (key none)) (get_or (map key xs) (k + 1) (key none))
+        ((λ i. is_lt (name_cmp (next i) (here i))) ∙ sorted k none (omega arith) (omega arith))
+        (apart_from_distinct same_name (map key xs) k (k + 1) (key none) apart (omega arith) h)
+
+none_alike : (name : Name) (names : List Name) → AllByRecursion (λ y. same_name name y ≡ false) names → list_any (same_name name) names ≡ false
+none_alike name [] h = refl
+none_alike name (n ∷ names) h = ap (λ b. b || list_any (same_name name) names) h.0 ∙ none_alike name names h.1
+
+-- names none of which stands twice pass the test
+pub are_apart : (names : List Name) → IsDistinct same_name names → are_distinct names ≡ true
+unfolding IsDistinct
+are_apart [] h = refl
+are_apart (name ∷ names) h = ap (λ b. not b && are_distinct names) (none_alike name names h.0) ∙ are_apart names h.1
+
+neither : (a b : Bool) → (a || b) ≡ false → (a ≡ false) × (b ≡ false)
+neither true b h = absurd (cc)
+neither false b h = (refl, h)
+
+not_true : (b : Bool) → not b ≡ true → b ≡ false
+not_true true h = absurd (cc)
+not_true false h = refl
+
+all_unlike : (name : Name) (names : List Name) → list_any (same_name name) names ≡ false → AllByRecursion (λ y. same_name name y ≡ false) names
+all_unlike name [] h = tt
+all_unlike name (n ∷ names) h = let parts = neither (same_name name n) (list_any (same_name name) names) h in (parts.0, all_unlike name names parts.1)
+
+-- and names that pass it are such names
+pub distinct_are : (names : List Name) → are_distinct names ≡ true → IsDistinct same_name names
+unfolding IsDistinct
+distinct_are [] h = tt
+distinct_are (name ∷ names) h =
+    let parts = and_parts (not (list_any (same_name name) names)) (are_distinct names) h in
+    (all_unlike name names (not_true _ parts.0), distinct_are names parts.1)
+
+-- a list and its permutation have distinct names alike
+pub distinct_permutation : (xs ys : List Name) → IsPermutation xs ys → IsDistinct same_name xs → IsDistinct same_name ys
+distinct_permutation xs ys moved = IsDistinct-IsPermutation same_name same_back xs ys moved
+
+no_name : Name
+no_name = record { 0 = [] }
+
+below_from_test : (o : Ordering) → true ≡ is_lt o → o ≡ Less
+below_from_test Less h = refl
+below_from_test Equal h = absurd (cc)
+below_from_test Greater h = absurd (cc)
+
+-- names are distinct exactly where each of them is below the next once they are sorted
+pub distinct_answer : (names sorted : List Name) → IsPermutation names sorted → IsSorted name_cmp sorted
+    → (r : Bool) → IsAllAdjacentAnswer (λ a b t. t ≡ is_lt (name_cmp a b)) sorted r → r ≡ are_distinct names
+distinct_answer names sorted moved up true answer =
+    let rising : AreRising sorted = sorted_from_all_adjacent name_cmp_total sorted no_name (λ k h. below_from_test _ (answer k no_name h)) in
+    sym (are_apart names (distinct_permutation sorted names (IsPermutation-sym names sorted moved) (rising_distinct sorted rising)))
+distinct_answer names sorted moved up false answer = go (are_distinct names) refl
+  where
+    go : (b : Bool) → are_distinct names ≡ b → false ≡ b
+    go false e = refl
+    go true e =
+        let apart : IsDistinct same_name sorted = distinct_permutation names sorted moved (distinct_are names e) in
+        let a : Name = get_or sorted answer.0 no_name in
+        let b : Name = get_or sorted (answer.0 + 1) no_name in
+        let less : name_cmp a b ≡ Less = neighbours a b (up answer.0 no_name (omega arith) answer.1) (apart_from_distinct same_name sorted answer.0 (answer.0 + 1) no_name apart (omega arith) answer.1) in
+        let test : is_lt (name_cmp a b) ≡ true = ap is_lt less in
+        let failed : false ≡ is_lt (name_cmp a b) = answer.2 no_name in
+        absurd (cc)

@@ -1,0 +1,75 @@
+//! Records by rising name, and their bytes.
+
+ghost use Rattle.std.specs.List.{AllByRecursion};
+ghost use Rattle.std.specs.Prelude.{◌≡◌, ◌≤◌, ◌++◌, IfOk, OnOk, List, drop, length};
+ghost use Rattle.cache_base.specs.Bytes.{be32};
+ghost use Rattle.index_record.specs.Record.{IsRecord};
+ghost use Rattle.jenkins_hash.specs.Hash.{hash_of};
+ghost use Rattle.record_list.specs.Lists.{HasNames, IsByName, records_bytes};
+ghost use Rattle.record_list.specs.Stored.{AreClean, IsPrinted, read_as};
+
+use cache_base::{Bytes, NoMemory};
+use index_record::{IndexRecord, Records};
+use std::alloc::Global;
+
+fn sort(records: &mut Vec<IndexRecord>)
+    requires { HasNames records.old.items }
+    ensures { IsByName records.old.items records.new.items }
+{
+    records.sort_unstable_by_key(|record| record.name);
+}
+
+/// The records by rising name.
+pub fn by_name(alloc: Global, mut records: Vec<IndexRecord>) -> Result<Records, NoMemory>
+    requires { HasNames records.items }
+    ensures { IfOk result (IsByName records.items) }
+{
+    sort(&mut records);
+    let mut list = Records::with_room(alloc, records.len())?;
+    for record in &records {
+        list.push(*record)?;
+    }
+    Ok(list)
+}
+
+fn push_records(out: &mut Bytes, records: &[IndexRecord]) -> Result<(), NoMemory>
+    ensures bytes { OnOk result (out.new ≡ out.old ++ records_bytes (read_as records.now)) }
+    ensures widths { OnOk result (AllByRecursion IsRecord records.now) }
+{
+    for record in records {
+        out.extend(&index_record::write(record))?;
+    }
+    Ok(())
+}
+
+fn push_hash(out: &mut Bytes, front: usize) -> Result<(), NoMemory>
+    requires { front ≤ length out.old }
+    ensures { OnOk result (out.new ≡ out.old ++ be32 (hash_of (drop front out.old))) }
+{
+    let hash = jenkins_hash::hash(&out.as_slice()[front..]);
+    out.extend(&hash.to_be_bytes())
+}
+
+// So many records, with a front before them and a hash behind them, have at least so many bytes.
+fn room(front: usize, records: usize) -> usize {
+    records
+        .saturating_mul(41)
+        .saturating_add(front)
+        .saturating_add(4)
+}
+
+/// The front of a file, and behind it the records by rising name and their hash.
+pub fn print(alloc: Global, front: &[u8], records: &Records) -> Result<Bytes, NoMemory>
+    requires distinct { HasNames records.now }
+    requires clean { AreClean records.now }
+    ensures { IfOk result (IsPrinted front.now records.now) }
+{
+    let records = records.as_slice();
+    let mut sorted = Vec::from_slice(alloc, records)?;
+    sort(&mut sorted);
+    let mut out = Bytes::with_room(alloc, room(front.len(), records.len()))?;
+    out.extend(front)?;
+    push_records(&mut out, sorted.as_slice())?;
+    push_hash(&mut out, front.len())?;
+    Ok(out)
+}

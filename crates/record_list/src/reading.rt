@@ -1,0 +1,103 @@
+//! Reading records from a file.
+
+ghost use Rattle.std.specs.Prelude.{◌≡◌, ◌≤◌, ◌||◌, IfErr, IfOk, None, OnOk, filter, length, map, not};
+ghost use Rattle.cache_base.specs.Bytes.{be32_at};
+ghost use Rattle.index_record.specs.Record.{cleared, is_removed as is_removed_of, record_in};
+ghost use Rattle.record_list.specs.Change.{HasNoRemoved};
+ghost use Rattle.record_list.specs.Lists.{HasNames, names_of};
+ghost use Rattle.record_list.specs.Stored.{AreClean, IsFirstFault, are_distinct, present, read_as, records_fault, stored_in};
+
+use crate::RecordsFault;
+use byteorder::{BigEndian, ByteOrder};
+use cache_base::{Name, NoMemory};
+use index_record::{Records, is_removed};
+use std::alloc::Global;
+
+fn number_at_front(b: &[u8]) -> u32
+    requires { 4 ≤ length b.now }
+    ensures { result ≡ be32_at b.now 0 }
+{
+    BigEndian::read_u32(b)
+}
+
+fn names_in(alloc: Global, groups: &[[u8; 41]]) -> Result<Vec<Name>, NoMemory>
+    ensures { IfOk result (λ names. names.items ≡ names_of (map record_in groups.now)) }
+{
+    let mut names = Vec::with_capacity(alloc, groups.len())?;
+    for group in groups {
+        names.push(index_record::read(group).name)?;
+    }
+    Ok(names)
+}
+
+// Whether no name stands twice.
+fn all_distinct(mut names: Vec<Name>) -> bool
+    ensures { result ≡ are_distinct names.items }
+{
+    names.sort_unstable();
+    names.is_sorted_by(|a, b| a.cmp(b).is_lt())
+}
+
+// The records in these groups, or those that are not removed.
+fn records_of(alloc: Global, groups: &[[u8; 41]], removed: bool) -> Result<Records, NoMemory>
+    ensures { IfOk result (λ records.
+        records ≡ map cleared (filter (λ r. removed || not (is_removed_of r)) (map record_in groups.now))) }
+{
+    let mut records = Records::with_room(alloc, groups.len())?;
+    for group in groups {
+        let record = index_record::read(group);
+        if removed || !is_removed(&record) {
+            records.push(record)?;
+        }
+    }
+    Ok(records)
+}
+
+// The groups of 41 bytes of a part that passes all checks.
+fn check(alloc: Global, part: &[u8]) -> Result<&[[u8; 41]], RecordsFault>
+    requires { 4 ≤ length part.now }
+    ensures passes { OnOk result (records_fault part.now ≡ None) }
+    ensures groups { IfOk result (λ groups. map record_in groups.now ≡ stored_in part.now) }
+    ensures fault { IfErr result (IsFirstFault part.now) }
+{
+    let (body, hash) = part.split_at(part.len() - 4);
+    let (groups, rest) = body.as_chunks::<41>();
+    if !rest.is_empty() {
+        return Err(RecordsFault::Length);
+    }
+    if number_at_front(hash) != jenkins_hash::hash(body) {
+        return Err(RecordsFault::Hash);
+    }
+    if !all_distinct(names_in(alloc, groups)?) {
+        return Err(RecordsFault::Repeated);
+    }
+    Ok(groups)
+}
+
+/// The records in the part of a file behind its front, in the order of the file. Their dirty and fresh bits are
+/// cleared.
+pub fn parse(alloc: Global, part: &[u8]) -> Result<Records, RecordsFault>
+    requires { 4 ≤ length part.now }
+    ensures passes { OnOk result (records_fault part.now ≡ None) }
+    ensures records { IfOk result (λ records. records ≡ read_as (stored_in part.now)) }
+    ensures distinct { IfOk result HasNames }
+    ensures clean { IfOk result AreClean }
+    ensures fault { IfErr result (IsFirstFault part.now) }
+{
+    let groups = check(alloc, part)?;
+    Ok(records_of(alloc, groups, true)?)
+}
+
+/// As `parse`, but the removed records are left out. They are checked like all others.
+pub fn parse_present(alloc: Global, part: &[u8]) -> Result<Records, RecordsFault>
+    requires { 4 ≤ length part.now }
+    ensures passes { OnOk result (records_fault part.now ≡ None) }
+    ensures records { IfOk result (λ records. records ≡ read_as (present (stored_in part.now))) }
+    ensures distinct { IfOk result HasNames }
+    ensures clean { IfOk result AreClean }
+    ensures present { IfOk result HasNoRemoved }
+    ensures fault { IfErr result (IsFirstFault part.now) }
+{
+    let groups = check(alloc, part)?;
+    Ok(records_of(alloc, groups, false)?)
+}
