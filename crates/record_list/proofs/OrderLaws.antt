@@ -18,7 +18,7 @@ use Rattle.record_list.specs.Lists.{same_name}
 use Rattle.record_list.specs.Stored.{are_distinct}
 use Rattle.record_list.proofs.NameLaws.{above_below, rising_distinct, same_back, same_itself, tied_same}
 
-name_cmp_total : IsTotalOrder name_cmp
+pub name_cmp_total : IsTotalOrder name_cmp
 name_cmp_total = on_total (λ (n : Name). n.0) nat_list_cmp_total
 
 -- a name that is not above another, nor the same, is below it
@@ -61,7 +61,7 @@ not_true : (b : Bool) → not b ≡ true → b ≡ false
 not_true true h = absurd (cc)
 not_true false h = refl
 
-all_unlike : (name : Name) (names : List Name) → list_any (same_name name) names ≡ false → AllByRecursion (λ y. same_name name y ≡ false) names
+pub all_unlike : (name : Name) (names : List Name) → list_any (same_name name) names ≡ false → AllByRecursion (λ y. same_name name y ≡ false) names
 all_unlike name [] h = tt
 all_unlike name (n ∷ names) h = let parts = neither (same_name name n) (list_any (same_name name) names) h in (parts.0, all_unlike name names parts.1)
 

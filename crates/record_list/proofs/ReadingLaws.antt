@@ -25,7 +25,7 @@ names_read (r ∷ rs) = ap (λ ns. r.name ∷ ns) (names_read rs)
 pub read_distinct : (rs : List IndexRecord) → HasNames rs → HasNames (read_as rs)
 read_distinct rs h = subst (IsDistinct same_name) (sym (names_read rs)) h
 
-all_left : (P : Name → Type 0) (p : IndexRecord → Bool) (rs : List IndexRecord) → AllByRecursion P (names_of rs) → AllByRecursion P (names_of (filter p rs))
+pub all_left : (P : Name → Type 0) (p : IndexRecord → Bool) (rs : List IndexRecord) → AllByRecursion P (names_of rs) → AllByRecursion P (names_of (filter p rs))
 all_left P p [] h = tt
 all_left P p (r ∷ rs) h = elim (p r) as (λ b. AllByRecursion P (names_of (cond b (r ∷ filter p rs) (filter p rs)))) [
   | true ↦ (h.0, all_left P p rs h.1)

@@ -1,0 +1,4 @@
+pub mod FirstFault
+pub mod IndexLaws
+pub mod ReadIndex
+pub mod PrintedIndex

@@ -1,0 +1,12 @@
+use Rattle.std.proofs.Common.{arith}
+use Rattle.cache_base.proofs.ByteLaws.{all_below}
+use Rattle.index_file.proofs.ReadIndex.{refused, spelled}
+use Rattle.index_file.proofs.reading.parse.Goals as goal
+
+pub returns-clause-spelled : goal.returns-clause-spelled
+returns-clause-spelled c =
+    spelled c.args.b.now (all_below 256 c.args.b.now (λ i. omega (arith, c.type_inv.b i))) c.read_all.result
+    c.read_all.ensures.passes c.read_all.ensures.timestamp c.read_all.ensures.dirty c.read_all.ensures.records
+
+pub returns-clause-refused : goal.returns-clause-refused
+returns-clause-refused c = λ timestamp dirty rs s. refused c.args.b.now c.read_all.result timestamp dirty rs s c.read_all.ensures.fault

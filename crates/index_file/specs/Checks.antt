@@ -1,0 +1,33 @@
+-- The checks of an index, in order, and what is read of one that passes them.
+use Rattle.std.specs.Option.{option_or}
+use Rattle.std.specs.Prelude.{Bool, List, Option, Some, [], drop, length, nat_le, not, option_map, ℕ, ◌==◌, ◌∷◌, ◌≡◌}
+use Rattle.cache_base.specs.Bytes.{be32_at}
+use Rattle.cache_base.specs.Checks.{first_failing}
+use Rattle.index_file.specs.RecordsFault.{fault_of}
+use Rattle.index_file.specs.declared.fault.IndexFault.{IndexFault}
+use Rattle.index_file.specs.declared.fault.IndexFault.TheVariants as faults
+use Rattle.index_record.specs.declared.record.IndexRecord.{IndexRecord}
+use Rattle.record_list.specs.Stored.{present, read_as, records_fault, stored_in}
+
+-- the checks of the header
+unfoldable pub header_checks : List ℕ → List (Bool × IndexFault)
+header_checks xs = (nat_le 20 (length xs), faults.Short) ∷ (be32_at xs 0 == 0xA, faults.Version) ∷ []
+
+-- the fault of the first failing check of the header, or else of the records behind its 16 bytes
+abbrev pub index_fault : List ℕ → Option IndexFault
+index_fault xs = option_or (first_failing (header_checks xs)) (option_map fault_of (records_fault (drop 16 xs)))
+
+-- the fault is that of the first failing check, or want of memory
+abbrev pub IsFirstFault : List ℕ → IndexFault → Type 0
+IsFirstFault xs faults.Memory = Unit {0}
+IsFirstFault xs f = index_fault xs ≡ Some f
+
+-- the moment, whether the index is dirty, and its records
+abbrev pub timestamp_in : List ℕ → ℕ
+timestamp_in xs = be32_at xs 4
+
+abbrev pub is_dirty_in : List ℕ → Bool
+is_dirty_in xs = not (be32_at xs 8 == 0)
+
+abbrev pub index_in : List ℕ → List IndexRecord
+index_in xs = read_as (present (stored_in (drop 16 xs)))

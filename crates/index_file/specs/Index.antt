@@ -1,0 +1,28 @@
+-- The file `index`: a header of four numbers, the records, and the hash of the records' bytes.
+use Rattle.std.specs.Prelude.{Bool, List, if◌then◌else◌, not, ℕ, ◌++◌, ◌<◌, ◌==◌, ◌^◌, ◌≡◌}
+use Rattle.cache_base.specs.Bytes.{be32}
+use Rattle.index_record.specs.declared.record.IndexRecord.{IndexRecord}
+use Rattle.record_list.specs.Stored.{AreStored, present, read_as, stored_bytes}
+
+-- the header: the version, a moment, whether the index is dirty, and kilobytes that are not read
+unfoldable pub header_bytes : ℕ → ℕ → ℕ → List ℕ
+header_bytes timestamp flag kilobytes = be32 0xA ++ (be32 timestamp ++ (be32 flag ++ be32 kilobytes))
+
+-- the bytes of an index with these numbers and records
+abbrev pub index_bytes : ℕ → ℕ → ℕ → List IndexRecord → List ℕ
+index_bytes timestamp flag kilobytes stored = header_bytes timestamp flag kilobytes ++ stored_bytes stored
+
+-- the bytes spell an index of this moment with these records: removed ones are no part of it, any flag but 0 is dirty
+pub record IndexSpells (bytes : List ℕ) (timestamp : ℕ) (dirty : Bool) (rs : List IndexRecord) : Type 0 where
+  pub stored : List IndexRecord
+  pub flag : ℕ
+  pub kilobytes : ℕ
+  pub are_stored : AreStored stored
+  pub same : rs ≡ read_as (present stored)
+  pub is_dirty : dirty ≡ not (flag == 0)
+  pub small : (timestamp < 2 ^ 32) × (flag < 2 ^ 32) × (kilobytes < 2 ^ 32)
+  pub spelled : bytes ≡ index_bytes timestamp flag kilobytes stored
+
+-- the flag as it is written
+abbrev pub flag_of : Bool → ℕ
+flag_of dirty = if dirty then 1 else 0

@@ -1,0 +1,26 @@
+//! The file `index` of the cache (`CacheIndex` of Firefox's CacheIndex.cpp): a header of four numbers, the records, and
+//! the hash of the records' bytes. What is parsed is what the bytes spell, and a fault is the first failing check. What
+//! is printed stands by rising name, and is parsed as the same again. A removed record of the file is checked like all
+//! others and then left out.
+#![tactic(auto)]
+
+mod fault;
+mod image;
+mod laws;
+mod printing;
+mod reading;
+
+pub use fault::IndexFault;
+pub use image::IndexImage;
+pub use laws::{index_fits_exactly, index_reads_back};
+pub use printing::print;
+pub use reading::parse;
+
+/// The version of an index (`kIndexVersion` of CacheIndex.cpp).
+pub const VERSION: u32 = 0xA;
+
+/// The bytes of an index's header.
+pub const HEADER: usize = 16;
+
+#[cfg(test)]
+mod tests;

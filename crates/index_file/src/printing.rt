@@ -1,0 +1,41 @@
+//! Printing an index.
+
+ghost use Rattle.std.specs.Prelude.{◌≡◌, IfOk};
+ghost use Rattle.index_file.specs.Index.{flag_of, header_bytes};
+ghost use Rattle.index_file.specs.Printed.{IsPrinted};
+ghost use Rattle.record_list.specs.Change.{HasNoRemoved};
+ghost use Rattle.record_list.specs.Lists.{HasNames};
+ghost use Rattle.record_list.specs.Stored.{AreClean};
+
+use crate::{HEADER, VERSION};
+use byteorder::{BigEndian, ByteOrder};
+use cache_base::{Bytes, NoMemory};
+use index_record::Records;
+use std::alloc::Global;
+
+#[tactic(auto, unfolding(crate::specs::Index::header_bytes))]
+fn header(timestamp: u32, dirty: bool) -> [u8; HEADER]
+    ensures { result ≡ header_bytes timestamp (flag_of dirty) 0 }
+{
+    let mut out = [0; HEADER];
+    BigEndian::write_u32(&mut out[0..4], VERSION);
+    BigEndian::write_u32(&mut out[4..8], timestamp);
+    BigEndian::write_u32(&mut out[8..12], u32::from(dirty));
+    BigEndian::write_u32(&mut out[12..16], 0);
+    out
+}
+
+/// The bytes of the file `index` with these records, by rising name. Fails only for want of memory.
+pub fn print(
+    alloc: Global,
+    records: &Records,
+    timestamp: u32,
+    dirty: bool,
+) -> Result<Bytes, NoMemory>
+    requires distinct { HasNames records.now }
+    requires present { HasNoRemoved records.now }
+    requires clean { AreClean records.now }
+    ensures { IfOk result (IsPrinted records.now timestamp dirty) }
+{
+    record_list::print(alloc, &header(timestamp, dirty), records)
+}

@@ -1,0 +1,66 @@
+//! Reading an index.
+
+ghost use Rattle.std.specs.Prelude.{◌≡◌, ◌≤◌, ◌+◌, ℕ, Bool, IfErr, IfOk, List, None, OnOk, length};
+ghost use Rattle.cache_base.specs.Bytes.{be32_at};
+ghost use Rattle.index_file.specs.Checks.{IsFirstFault, index_fault, index_in, is_dirty_in, timestamp_in};
+ghost use Rattle.index_file.specs.Index.{IndexSpells};
+ghost use Rattle.index_file.specs.declared.fault.IndexFault.TheVariants.{Memory};
+ghost use Rattle.index_record.specs.declared.record.IndexRecord.{IndexRecord};
+ghost use Rattle.record_list.specs.Change.{HasNoRemoved};
+ghost use Rattle.record_list.specs.Lists.{HasNames};
+ghost use Rattle.record_list.specs.Stored.{AreClean};
+
+use crate::{HEADER, IndexFault, IndexImage, VERSION};
+use byteorder::{BigEndian, ByteOrder};
+use record_list::parse_present;
+use std::alloc::Global;
+
+// The fewest bytes of an index: its header and the hash of no records.
+const LEAST: usize = HEADER + 4;
+
+fn number_at(b: &[u8], at: usize) -> u32
+    requires { at + 4 ≤ length b.now }
+    ensures { result ≡ be32_at b.now at }
+{
+    BigEndian::read_u32(&b[at..])
+}
+
+fn read_all(alloc: Global, b: &[u8]) -> Result<IndexImage, IndexFault>
+    ensures passes { OnOk result (index_fault b.now ≡ None) }
+    ensures timestamp { IfOk result (λ image. image.timestamp ≡ timestamp_in b.now) }
+    ensures dirty { IfOk result (λ image. image.dirty ≡ is_dirty_in b.now) }
+    ensures records { IfOk result (λ image. image.records ≡ index_in b.now) }
+    ensures distinct { IfOk result (λ image. HasNames image.records) }
+    ensures clean { IfOk result (λ image. AreClean image.records) }
+    ensures present { IfOk result (λ image. HasNoRemoved image.records) }
+    ensures fault { IfErr result (IsFirstFault b.now) }
+{
+    if b.len() < LEAST {
+        return Err(IndexFault::Short);
+    }
+    if number_at(b, 0) != VERSION {
+        return Err(IndexFault::Version);
+    }
+    let (_, part) = b.split_at(HEADER);
+    let records = parse_present(alloc, part)?;
+    Ok(IndexImage {
+        timestamp: number_at(b, 4),
+        dirty: number_at(b, 8) != 0,
+        records,
+    })
+}
+
+/// What the bytes of the file `index` say, or their first failing check. The kilobytes of the header are not read.
+pub fn parse(alloc: Global, b: &[u8]) -> Result<IndexImage, IndexFault>
+    // What is read is what the bytes spell.
+    ensures spelled { IfOk result (λ image. IndexSpells b.now image.timestamp image.dirty image.records) }
+    // Bytes that spell an index are refused only for want of memory.
+    ensures refused { (timestamp : ℕ) (dirty : Bool) (rs : List IndexRecord) → IndexSpells b.now timestamp dirty rs
+        → IfErr result (λ f. f ≡ Memory) }
+    ensures distinct { IfOk result (λ image. HasNames image.records) }
+    ensures clean { IfOk result (λ image. AreClean image.records) }
+    ensures present { IfOk result (λ image. HasNoRemoved image.records) }
+    ensures fault { IfErr result (IsFirstFault b.now) }
+{
+    read_all(alloc, b)
+}

@@ -1,0 +1,4 @@
+pub mod JournalLaws
+pub mod MergedLaws
+pub mod AppliedLaws
+pub mod Searched

@@ -1,0 +1,6 @@
+use Rattle.std.proofs.Common.{◌≡◌, take}
+use Rattle.record_list.specs.Lists.{names_of}
+use Rattle.index_journal.proofs.applying.sorted_names.Given as goal
+
+abbrev pub invariant-loop-record : goal.invariant-loop-record
+invariant-loop-record l = l.names.items ≡ names_of (take l.record-index l.records)

@@ -1,0 +1,5 @@
+pub mod Journal
+pub mod RecordsFault
+pub mod Checks
+pub mod Merged
+pub mod Laws
