@@ -1,0 +1,10 @@
+pub mod CutLaws
+pub mod FormLaws
+pub mod FrameLaws
+pub mod FrontLaws
+pub mod LineLaws
+pub mod ListLaws
+pub mod NumberLaws
+pub mod ReaderLaws
+pub mod ReadingLaws
+pub mod WindowLaws

@@ -1,0 +1,69 @@
+-- What a step of a reader leaves and why it stops.
+use Rattle.std.proofs.Common.{◌≡◌, ◌≢◌, ℕ, ◌+◌, ◌<◌, ◌≤◌, List, [], ◌∷◌, ◌++◌, length, drop, Option, None, Some, IfSome, sym, ap, ◌∙◌, subst, arith}
+use Rattle.std.proofs.lemmas.List.{append_assoc, length-append}
+use Rattle.std.specs.Io.KnownBytes.{Consumes, IsAtEnd, prepend_known}
+use Rattle.cache_base.specs.declared.limits.TheConstants.{SCRIPT_MAX}
+use Rattle.cache_theory.specs.Command.{Command}
+use Rattle.cache_theory.specs.Text.{IsCommand, NoMore, command_bytes, command_words, command_data, spaced}
+use Rattle.cache_script.specs.Front.{Begins, IsPart}
+use Rattle.cache_script.specs.Reader.{IsBadScript}
+use Rattle.cache_script.specs.Reading.{IsStuck}
+use Rattle.cache_script.specs.Window.{Grew}
+use Rattle.cache_script.proofs.FrameLaws.{none_begins_another}
+
+-- what holds of the bytes that are held after reads and of what is then left holds of the rest of the script before them
+pub of_rest : (P : List ℕ → Type 0) (held new : List ℕ) (left now : Option (List ℕ)) → Grew held new left now → IfSome now (λ rest. P (new ++ rest)) → IfSome (prepend_known held left) P
+of_rest P held new left now g h = go left now g.read h
+  where
+    go : (left now : Option (List ℕ)) → Consumes left now g.piece → IfSome now (λ rest. P (new ++ rest)) → IfSome (prepend_known held left) P
+    go None now read h = tt
+    go (Some xs) None read h = absurd read
+    go (Some xs) (Some ys) read h = subst P (ap (λ l. l ++ ys) g.grown ∙ append_assoc held g.piece ys ∙ ap (λ l. held ++ l) (sym read)) h
+
+if_some : {X : Type 0} (o : Option X) (P Q : X → Type 0) → ((x : X) → P x → Q x) → IfSome o P → IfSome o Q
+if_some None P Q step h = tt
+if_some (Some x) P Q step h = step x h
+
+pub stuck_is_bad : (used : ℕ) (held new : List ℕ) (left now : Option (List ℕ)) → Grew held new left now → IfSome now (λ rest. IsStuck (new ++ rest)) → IsBadScript used (prepend_known held left)
+stuck_is_bad used held new left now g h =
+    if_some (prepend_known held left) IsStuck (λ bytes. (bytes ≢ []) × NoMore used bytes) (λ bytes stuck. (stuck.0, λ c more is e. absurd (stuck.1 c more is e)))
+    (of_rest IsStuck held new left now g h)
+
+pub some_bytes : (c : Command) → 0 < length (command_bytes c)
+unfolding command_bytes
+some_bytes c =
+    let text = spaced (command_words c) in
+    omega (arith, length-append (text ++ 10 ∷ []) (command_data c), length-append text (10 ∷ []))
+
+always : {X : Type 0} (o : Option X) (P : X → Type 0) → ((x : X) → P x) → IfSome o P
+always None P h = tt
+always (Some x) P h = h x
+
+pub long_is_bad : (used n : ℕ) (held new : List ℕ) (left now : Option (List ℕ)) → Grew held new left now → Begins new n → SCRIPT_MAX < used + n → IsBadScript used (prepend_known held left)
+long_is_bad used n held new left now g b long =
+    of_rest (λ bytes. (bytes ≢ []) × NoMore used bytes) held new left now g (always now (λ rest. (new ++ rest ≢ []) × NoMore used (new ++ rest)) (λ rest.
+    let spelled : new ++ rest ≡ command_bytes b.command ++ (drop n new ++ rest) = ap (λ l. l ++ rest) b.spelled ∙ append_assoc (command_bytes b.command) (drop n new) rest in (
+      λ none. omega (arith, some_bytes b.command, ap length (sym spelled ∙ none), length-append (command_bytes b.command) (drop n new ++ rest)),
+      λ c more is e.
+          let one : b.command ≡ c = none_begins_another b.command c (drop n new ++ rest) more b.is is (sym spelled ∙ e) in
+          omega (arith, long, b.len, ap (λ x. length (command_bytes x)) one),
+    )))
+
+-- a part at whose front is a command, or a line that is bad, is none
+pub command_is_no_part : (bytes : List ℕ) (c : Command) (after : List ℕ) → IsCommand c → bytes ≡ command_bytes c ++ after → ¬ (IsPart bytes)
+command_is_no_part bytes c after is e = λ part. part.none c after is e
+
+-- the end is reached behind what was held
+pub ended : (held new : List ℕ) (left now : Option (List ℕ)) → Grew held new left now → new ≡ [] → IsAtEnd now → IsAtEnd (prepend_known held left)
+ended held new left now g none end = go left now g.read end
+  where
+    go : (left now : Option (List ℕ)) → Consumes left now g.piece → IsAtEnd now → IsAtEnd (prepend_known held left)
+    go None now read end = tt
+    go (Some xs) None read end = absurd read
+    go (Some xs) (Some ys) read end = ap (λ l. held ++ l) read ∙ sym (append_assoc held g.piece ys) ∙ ap (λ l. l ++ ys) (sym g.grown ∙ none) ∙ end
+
+pub begun_is_some : (bytes : List ℕ) (n : ℕ) → Begins bytes n → (0 < n) × (n ≤ length bytes)
+begun_is_some bytes n b = (
+  omega (arith, some_bytes b.command, b.len),
+  omega (arith, b.len, ap length b.spelled, length-append (command_bytes b.command) (drop n bytes)),
+)

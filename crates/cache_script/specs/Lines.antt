@@ -1,0 +1,106 @@
+-- The lines of commands.
+use Rattle.std.specs.Prelude.{◌≡◌, ℕ, ◌+◌, ◌<◌, ◌≤◌, List, [], ◌∷◌, length, Option, None, Some, codes, decimal, nat_eq, nat_lt, ◌==◌, if◌then◌else◌}
+use Rattle.std.specs.Cmp.Lexicographic.{pointwise}
+use Rattle.std.specs.Option.{option_map, option_and_then}
+use Rattle.cache_base.specs.Bytes.{AreBytes}
+use Rattle.cache_base.specs.declared.limits.TheConstants.{ELEMENTS_MAX, PIECE_MAX, SLOTS}
+use Rattle.cache_theory.specs.Command.{Command}
+use Rattle.cache_theory.specs.Command.Command.{At, Create, OpenKey, Append, Finish, SetElement, UnsetElement, ElementOf, ReadPart, Close, Doom, Get, Flush}
+use Rattle.cache_theory.specs.Text.{FieldsFit, IsOneLine, command_data, command_words}
+use Rattle.cache_script.specs.Command.{command_of}
+use Rattle.cache_script.specs.Numbers.{number_in}
+use Rattle.cache_script.specs.declared.lines.Line.{Line}
+use Rattle.cache_script.specs.declared.lines.Line.TheVariants as line
+
+-- what a line tells: a whole command, or one behind whose line so many bytes follow
+pub data Form : Type 0 where
+  WholeLine : (command : Command) → Form
+  AppendLine : (slot len : ℕ) → Form
+  SetLine : (slot len : ℕ) (name : List ℕ) → Form
+
+-- what the line of a command tells
+abbrev pub form_of : Command → Form
+form_of (Append s bytes) = Form.AppendLine s (length bytes)
+form_of (SetElement s name value) = Form.SetLine s (length value) name
+form_of (At now) = Form.WholeLine (At now)
+form_of (Create s key) = Form.WholeLine (Create s key)
+form_of (OpenKey s key) = Form.WholeLine (OpenKey s key)
+form_of (Finish s) = Form.WholeLine (Finish s)
+form_of (UnsetElement s name) = Form.WholeLine (UnsetElement s name)
+form_of (ElementOf s name) = Form.WholeLine (ElementOf s name)
+form_of (ReadPart s from len) = Form.WholeLine (ReadPart s from len)
+form_of (Close s) = Form.WholeLine (Close s)
+form_of (Doom key) = Form.WholeLine (Doom key)
+form_of (Get key) = Form.WholeLine (Get key)
+form_of Flush = Form.WholeLine Flush
+
+-- the same of a line of the code
+abbrev pub line_form : Line → Form
+line_form (line.Whole c) = Form.WholeLine (command_of c)
+line_form (line.Append s len) = Form.AppendLine s len
+line_form (line.Set s len name) = Form.SetLine s len name.now
+
+-- what stands before the first such byte and what behind it, where there is one
+abbrev pub cut : ℕ → List ℕ → Option (List ℕ × List ℕ)
+cut byte [] = None
+cut byte (x ∷ xs) = if x == byte then Some ([], xs) else option_map (λ parts. (x ∷ parts.0, parts.1)) (cut byte xs)
+
+-- a number below a limit
+abbrev pub number_below : ℕ → List ℕ → Option ℕ
+number_below limit word = option_and_then (λ n. if nat_lt n limit then Some n else None) (number_in word)
+
+abbrev pub slot_in : List ℕ → Option ℕ
+slot_in word = number_below SLOTS word
+
+-- the words of these two bytes after each other, where they are numbers
+abbrev pub read_in : ℕ → List ℕ → List ℕ → Option Form
+read_in s from len = option_and_then (λ f. option_map (λ n. Form.WholeLine (ReadPart s f n)) (number_in len)) (number_in from)
+
+abbrev pub set_in : ℕ → List ℕ → List ℕ → Option Form
+set_in s len name = option_map (λ n. Form.SetLine s n name) (number_below (ELEMENTS_MAX + 1) len)
+
+-- a verb, a slot, and what follows them
+unfoldable pub slot_form : List ℕ → ℕ → List ℕ → Option Form
+slot_form verb s rest =
+    if pointwise nat_eq verb (codes "create") then Some (Form.WholeLine (Create s rest))
+    else if pointwise nat_eq verb (codes "open") then Some (Form.WholeLine (OpenKey s rest))
+    else if pointwise nat_eq verb (codes "unset") then Some (Form.WholeLine (UnsetElement s rest))
+    else if pointwise nat_eq verb (codes "element") then Some (Form.WholeLine (ElementOf s rest))
+    else if pointwise nat_eq verb (codes "append") then option_map (λ n. Form.AppendLine s n) (number_below (PIECE_MAX + 1) rest)
+    else if pointwise nat_eq verb (codes "set") then option_and_then (λ parts. set_in s parts.0 parts.1) (cut 32 rest)
+    else if pointwise nat_eq verb (codes "read") then option_and_then (λ parts. read_in s parts.0 parts.1) (cut 32 rest)
+    else None
+
+-- a verb, and what follows it
+unfoldable pub verb_form : List ℕ → List ℕ → Option Form
+verb_form verb rest =
+    if pointwise nat_eq verb (codes "at") then option_map (λ n. Form.WholeLine (At n)) (number_in rest)
+    else if pointwise nat_eq verb (codes "doom") then Some (Form.WholeLine (Doom rest))
+    else if pointwise nat_eq verb (codes "get") then Some (Form.WholeLine (Get rest))
+    else if pointwise nat_eq verb (codes "finish") then option_map (λ s. Form.WholeLine (Finish s)) (slot_in rest)
+    else if pointwise nat_eq verb (codes "close") then option_map (λ s. Form.WholeLine (Close s)) (slot_in rest)
+    else option_and_then (λ parts. option_and_then (λ s. slot_form verb s parts.1) (slot_in parts.0)) (cut 32 rest)
+
+-- what a line tells, if it is the line of a command
+unfoldable pub form_in : List ℕ → Option Form
+form_in text =
+    if pointwise nat_eq text (codes "flush") then Some (Form.WholeLine Flush)
+    else option_and_then (λ parts. verb_form parts.0 parts.1) (cut 32 text)
+
+-- the words of such a line
+abbrev pub form_words : Form → List (List ℕ)
+form_words (Form.WholeLine c) = command_words c
+form_words (Form.AppendLine s len) = codes "append" ∷ decimal s ∷ decimal len ∷ []
+form_words (Form.SetLine s len name) = codes "set" ∷ decimal s ∷ decimal len ∷ name ∷ []
+
+-- its fields are within their limits, and a whole command has no bytes behind its line
+abbrev pub FormFits : Form → Type 0
+FormFits (Form.WholeLine c) = FieldsFit c × (command_data c ≡ [])
+FormFits (Form.AppendLine s len) = (s < SLOTS) × (len ≤ PIECE_MAX)
+FormFits (Form.SetLine s len name) = (s < SLOTS) × ((AreBytes name × IsOneLine name) × (len ≤ ELEMENTS_MAX))
+
+-- how many bytes of the command stand behind its line
+abbrev pub data_len : Form → ℕ
+data_len (Form.WholeLine c) = 0
+data_len (Form.AppendLine s len) = len + 1
+data_len (Form.SetLine s len name) = len + 1

@@ -1,0 +1,67 @@
+//! The commands of a script.
+
+use cache_base::Moment;
+
+/// A command, with its texts as they stand in the script. A slot is a number below 64.
+#[derive(Clone, Copy, Debug, PartialEq, Eq)]
+pub enum Command<'a> {
+    /// The moment from now on.
+    At {
+        now: Moment,
+    },
+    /// A new entry of the key, with the slot as its writer.
+    Create {
+        slot: u8,
+        key: &'a [u8],
+    },
+    /// The entry of the key, with the slot as a reader.
+    OpenKey {
+        slot: u8,
+        key: &'a [u8],
+    },
+    /// These bytes are added to the body, at most `PIECE_MAX`.
+    Append {
+        slot: u8,
+        bytes: &'a [u8],
+    },
+    /// The entry is finished.
+    Finish {
+        slot: u8,
+    },
+    /// The element of the name gets the value, at most `ELEMENTS_MAX` bytes.
+    SetElement {
+        slot: u8,
+        name: &'a [u8],
+        value: &'a [u8],
+    },
+    /// The element of the name is removed.
+    UnsetElement {
+        slot: u8,
+        name: &'a [u8],
+    },
+    /// The value of the element of the name.
+    Element {
+        slot: u8,
+        name: &'a [u8],
+    },
+    /// The bytes of the body from a place on, at most `len`.
+    ReadPart {
+        slot: u8,
+        from: u32,
+        len: u32,
+    },
+    /// The slot is given up.
+    Close {
+        slot: u8,
+    },
+    /// The entry of the key is doomed.
+    Doom {
+        key: &'a [u8],
+    },
+    /// The whole entry of the key.
+    Get {
+        key: &'a [u8],
+    },
+    /// All that was done is brought to the disk.
+    Flush,
+}

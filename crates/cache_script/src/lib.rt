@@ -1,0 +1,18 @@
+//! The text of a script: its commands one after another, read from a source, and what is printed of a refusal.
+#![tactic(auto)]
+
+mod command;
+mod front;
+mod giving;
+mod laws;
+mod lines;
+mod numbers;
+mod reader;
+mod reading;
+mod refusals;
+mod window;
+
+pub use command::Command;
+pub use laws::{commands_are_one, none_begins_another};
+pub use reader::{Reader, ScriptFault};
+pub use refusals::refusal_text;

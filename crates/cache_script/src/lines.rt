@@ -1,0 +1,129 @@
+//! The lines of commands.
+
+ghost use Rattle.std.specs.Prelude.{◌≡◌};
+ghost use Rattle.std.specs.Option.{option_map};
+ghost use Rattle.cache_script.specs.Lines.{cut as cut_of, number_below as number_below_of, slot_in, set_in, read_in, slot_form, verb_form, form_in, line_form};
+
+use crate::Command;
+use crate::numbers::number;
+use cache_base::{ELEMENTS_MAX, PIECE_MAX, SLOTS};
+use memchr::memchr;
+
+/// What the line of a command tells of it.
+#[derive(Clone, Copy)]
+pub(crate) enum Line<'a> {
+    /// The line is the whole command.
+    Whole(Command<'a>),
+    /// So many bytes follow, which are appended.
+    Append { slot: u8, len: u32 },
+    /// So many bytes follow, which are the value of the element.
+    Set { slot: u8, len: u32, name: &'a [u8] },
+}
+
+/// What stands before the first such byte, and what behind it.
+pub(crate) fn cut(text: &[u8], byte: u8) -> Option<(&[u8], &[u8])>
+    ensures { option_map (λ parts. (parts.0.now, parts.1.now)) result ≡ cut_of byte text.now }
+{
+    let at = memchr(byte, text)?;
+    Some((&text[..at], &text[at + 1..]))
+}
+
+fn number_below(word: &[u8], limit: u32) -> Option<u32>
+    ensures { result ≡ number_below_of limit word.now }
+{
+    let n = number(word)?;
+    if n < limit { Some(n) } else { None }
+}
+
+fn slot(word: &[u8]) -> Option<u8>
+    ensures { result ≡ slot_in word.now }
+{
+    let slot = number_below(word, SLOTS as u32)?;
+    Some(slot as u8)
+}
+
+fn set_line<'a>(slot: u8, len: &[u8], name: &'a [u8]) -> Option<Line<'a>>
+    ensures { option_map line_form result ≡ set_in slot len.now name.now }
+{
+    let len = number_below(len, ELEMENTS_MAX as u32 + 1)?;
+    Some(Line::Set { slot, len, name })
+}
+
+fn read_line<'a>(slot: u8, from: &[u8], len: &[u8]) -> Option<Line<'a>>
+    ensures { option_map line_form result ≡ read_in slot from.now len.now }
+{
+    let from = number(from)?;
+    let len = number(len)?;
+    Some(Line::Whole(Command::ReadPart { slot, from, len }))
+}
+
+// What a verb tells that has a slot and more.
+#[tactic(auto, unfolding(crate::specs::Lines::slot_form))]
+fn slot_line<'a>(verb: &[u8], slot: u8, rest: &'a [u8]) -> Option<Line<'a>>
+    ensures { option_map line_form result ≡ slot_form verb.now slot rest.now }
+{
+    if verb == b"create".as_slice() {
+        return Some(Line::Whole(Command::Create { slot, key: rest }));
+    }
+    if verb == b"open".as_slice() {
+        return Some(Line::Whole(Command::OpenKey { slot, key: rest }));
+    }
+    if verb == b"unset".as_slice() {
+        return Some(Line::Whole(Command::UnsetElement { slot, name: rest }));
+    }
+    if verb == b"element".as_slice() {
+        return Some(Line::Whole(Command::Element { slot, name: rest }));
+    }
+    if verb == b"append".as_slice() {
+        let len = number_below(rest, PIECE_MAX as u32 + 1)?;
+        return Some(Line::Append { slot, len });
+    }
+    if verb == b"set".as_slice() {
+        let (len, name) = cut(rest, b' ')?;
+        return set_line(slot, len, name);
+    }
+    if verb == b"read".as_slice() {
+        let (from, len) = cut(rest, b' ')?;
+        return read_line(slot, from, len);
+    }
+    None
+}
+
+// What a verb tells that has more behind it.
+#[tactic(auto, unfolding(crate::specs::Lines::verb_form))]
+fn verb_line<'a>(verb: &[u8], rest: &'a [u8]) -> Option<Line<'a>>
+    ensures { option_map line_form result ≡ verb_form verb.now rest.now }
+{
+    if verb == b"at".as_slice() {
+        let now = number(rest)?;
+        return Some(Line::Whole(Command::At { now }));
+    }
+    if verb == b"doom".as_slice() {
+        return Some(Line::Whole(Command::Doom { key: rest }));
+    }
+    if verb == b"get".as_slice() {
+        return Some(Line::Whole(Command::Get { key: rest }));
+    }
+    if verb == b"finish".as_slice() {
+        let slot = slot(rest)?;
+        return Some(Line::Whole(Command::Finish { slot }));
+    }
+    if verb == b"close".as_slice() {
+        let slot = slot(rest)?;
+        return Some(Line::Whole(Command::Close { slot }));
+    }
+    let (first, rest) = cut(rest, b' ')?;
+    slot_line(verb, slot(first)?, rest)
+}
+
+/// What the line of a command tells, given without its newline; or none where it is the line of no command.
+#[tactic(auto, unfolding(crate::specs::Lines::form_in))]
+pub(crate) fn line_in(text: &[u8]) -> Option<Line<'_>>
+    ensures { option_map line_form result ≡ form_in text.now }
+{
+    if text == b"flush".as_slice() {
+        return Some(Line::Whole(Command::Flush));
+    }
+    let (verb, rest) = cut(text, b' ')?;
+    verb_line(verb, rest)
+}
