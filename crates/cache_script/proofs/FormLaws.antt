@@ -1,5 +1,5 @@
 -- A line that is read is the line of what it tells.
-use Rattle.std.proofs.Common.{◌≡◌, ◌≢◌, ℕ, ◌+◌, ◌<◌, ◌^◌, Bool, true, false, cond, List, ◌∷◌, ◌++◌, codes, decimal, Option, None, Some, IfSome, MatchOption, refl, sym, ap, ◌∙◌, subst, arith, nat_lt, nat_eq}
+use Rattle.std.proofs.Common.{◌≡◌, ◌≢◌, ℕ, ◌+◌, ◌<◌, ◌^◌, Bool, true, false, cond, List, ◌∷◌, ◌++◌, codes, decimal, Option, None, Some, IfSome, IfNone, MatchOption, refl, sym, ap, ◌∙◌, subst, arith, nat_lt, nat_eq}
 use Rattle.std.specs.Cmp.Lexicographic.{pointwise}
 use Rattle.std.specs.Option.{option_map, option_and_then}
 use Rattle.std.proofs.lemmas.Bool.Decides.{nat_tests}
@@ -7,20 +7,17 @@ use Rattle.std.proofs.lemmas.Slice.Eq.{bytes_eq-Decides}
 use Rattle.cache_base.specs.Bytes.{AreBytes}
 use Rattle.cache_base.specs.declared.limits.TheConstants.{ELEMENTS_MAX, PIECE_MAX, SLOTS}
 use Rattle.cache_theory.specs.Command.Command.{At, Finish, ReadPart, Close}
-use Rattle.cache_theory.specs.Text.{IsOneLine, spaced}
-use Rattle.cache_script.specs.Lines.{Form, FormFits, form_words, cut, number_below, slot_in, read_in, set_in, slot_form, verb_form, form_in}
+use Rattle.cache_theory.specs.Command.{Command}
+use Rattle.cache_theory.specs.Text.{FieldsFit, IsOneLine, command_words, spaced}
+use Rattle.cache_script.specs.Lines.{Form, FormFits, Tells, form_words, cut, number_below, slot_in, read_in, set_in, slot_form, verb_form, form_in}
 use Rattle.cache_script.specs.Numbers.{number_in}
 use Rattle.cache_script.proofs.CutLaws.{Lacks, IsCut, cut_is}
-use Rattle.cache_script.proofs.LineLaws.{all_behind}
+use Rattle.cache_script.proofs.LineLaws.{all_behind, line_read}
 use Rattle.cache_script.proofs.NumberLaws.{number_spelled}
 
 -- bytes with no newline among them
 abbrev pub IsLine : List ℕ → Type 0
 IsLine text = AreBytes text × IsOneLine text
-
--- the text is the line of what it tells
-abbrev pub Tells : List ℕ → Form → Type 0
-Tells text form = (text ≡ spaced (form_words form)) × FormFits form
 
 mapped : {X Y : Type 0} (f : X → Y) (o : Option X) (P : X → Type 0) (Q : Y → Type 0) → ((x : X) → P x → Q (f x)) → IfSome o P → IfSome (option_map f o) Q
 mapped f None P Q step h = tt
@@ -142,3 +139,14 @@ form_spelled text line =
     (chained (λ (parts : List ℕ × List ℕ). verb_form parts.0 parts.1) (cut 32 text) (Lacks 32 text) (IsCut 32 text) (Tells text)
     (λ parts h. subst (λ (t : List ℕ). IfSome (verb_form parts.0 parts.1) (Tells t)) (sym h.0)
     (verb_spelled parts.0 parts.1 (line_behind 32 parts.0 parts.1 (subst IsLine h.0 line)))) (cut_is 32 text))
+
+none_or_some : {X : Type 0} {x : X} → None ≡ Some x → ⊥
+none_or_some e = cc
+
+pub told_by : {X : Type 0} (text : List ℕ) (r : Option X) (form : X → Form) → IsLine text → option_map form r ≡ form_in text → IfSome r (λ x. Tells text (form x))
+told_by text None form line e = tt
+told_by text (Some x) form line e = subst (λ (o : Option Form). IfSome o (Tells text)) (sym e) (form_spelled text line)
+
+pub told_none : {X : Type 0} (text : List ℕ) (r : Option X) (form : X → Form) → option_map form r ≡ form_in text → IfNone r ((c : Command) → FieldsFit c → text ≢ spaced (command_words c))
+told_none text (Some x) form e = tt
+told_none text None form e = λ c fits is. none_or_some (e ∙ ap form_in is ∙ line_read c fits)

@@ -11,9 +11,9 @@ use Rattle.cache_theory.specs.Command.{Command}
 use Rattle.cache_theory.specs.Command.Command.{At, Create, OpenKey, Append, Finish, SetElement, UnsetElement, ElementOf, ReadPart, Close, Doom, Get, Flush}
 use Rattle.cache_theory.specs.Text.{FieldsFit, IsCommand, command_words, command_data, command_bytes, spaced}
 use Rattle.cache_script.specs.Front.{Begins, IsBad, IsPart, IsSearched, HasLine, cut_by}
-use Rattle.cache_script.specs.Lines.{Form, FormFits, form_of, form_words, cut, data_len, form_in}
+use Rattle.cache_script.specs.Lines.{Form, FormFits, Tells, form_of, form_words, cut, data_len, form_in}
 use Rattle.cache_script.proofs.CutLaws.{Lacks, IsCut, cut_at, cut_is, cut_none, cut_first}
-use Rattle.cache_script.proofs.FormLaws.{IsLine, Tells, form_spelled}
+use Rattle.cache_script.proofs.FormLaws.{IsLine, form_spelled}
 use Rattle.cache_script.proofs.FrameLaws.{LineOf, line_of, first_line, completed, command_is, some_same}
 use Rattle.cache_script.proofs.LineLaws.{all_behind, all_joined}
 

@@ -67,3 +67,15 @@ begun_is_some bytes n b = (
   omega (arith, some_bytes b.command, b.len),
   omega (arith, b.len, ap length b.spelled, length-append (command_bytes b.command) (drop n bytes)),
 )
+
+-- bytes that were held and read are a command's and others: so it is with all that is left
+pub told_rest : (held bytes rest piece : List ℕ) (left now : Option (List ℕ)) → Consumes left now piece → held ++ piece ≡ bytes ++ rest → Consumes (prepend_known held left) (prepend_known rest now) bytes
+told_rest held bytes rest piece None now read e = tt
+told_rest held bytes rest piece (Some xs) None read e = absurd read
+told_rest held bytes rest piece (Some xs) (Some ys) read e =
+    ap (λ l. held ++ l) read ∙ sym (append_assoc held piece ys) ∙ ap (λ l. l ++ ys) e ∙ append_assoc bytes rest ys
+
+pub rest_begins : (rest after : Option (List ℕ)) (c : Command) → Consumes rest after (command_bytes c) → IfSome rest (λ bytes. (more : List ℕ) × (bytes ≡ command_bytes c ++ more))
+rest_begins None after c h = tt
+rest_begins (Some xs) None c h = absurd h
+rest_begins (Some xs) (Some ys) c h = (ys, h)

@@ -6,7 +6,7 @@ use Rattle.cache_base.specs.Bytes.{AreBytes}
 use Rattle.cache_base.specs.declared.limits.TheConstants.{ELEMENTS_MAX, PIECE_MAX, SLOTS}
 use Rattle.cache_theory.specs.Command.{Command}
 use Rattle.cache_theory.specs.Command.Command.{At, Create, OpenKey, Append, Finish, SetElement, UnsetElement, ElementOf, ReadPart, Close, Doom, Get, Flush}
-use Rattle.cache_theory.specs.Text.{FieldsFit, IsOneLine, command_data, command_words}
+use Rattle.cache_theory.specs.Text.{FieldsFit, IsOneLine, command_data, command_words, spaced}
 use Rattle.cache_script.specs.Command.{command_of}
 use Rattle.cache_script.specs.Numbers.{number_in}
 use Rattle.cache_script.specs.declared.lines.Line.{Line}
@@ -98,6 +98,10 @@ abbrev pub FormFits : Form → Type 0
 FormFits (Form.WholeLine c) = FieldsFit c × (command_data c ≡ [])
 FormFits (Form.AppendLine s len) = (s < SLOTS) × (len ≤ PIECE_MAX)
 FormFits (Form.SetLine s len name) = (s < SLOTS) × ((AreBytes name × IsOneLine name) × (len ≤ ELEMENTS_MAX))
+
+-- the text is the line of what it tells
+abbrev pub Tells : List ℕ → Form → Type 0
+Tells text form = (text ≡ spaced (form_words form)) × FormFits form
 
 -- how many bytes of the command stand behind its line
 abbrev pub data_len : Form → ℕ

@@ -36,9 +36,11 @@ pub record Gives (old new : Reader) (left now : Option (List ℕ)) (c : Command)
   pub read : List ℕ
   pub taken : Consumes left now read
   pub spelled : held_in old ++ read ≡ command_bytes c ++ held_in new
+  pub told : Consumes (rest_of old left) (rest_of new now) (command_bytes c)
   pub given : given_in new ≡ given_in old + 1
   pub used : used_in new ≡ used_in old + length (command_bytes c)
   pub short : used_in new ≤ SCRIPT_MAX
+  pub counted : given_in new ≤ used_in new
 
 -- The script has ended.
 pub record Ends (old new : Reader) (left now : Option (List ℕ)) : Type 0 where
@@ -72,3 +74,7 @@ abbrev pub Advances : Reader → Reader → Option (List ℕ) → Option (List �
 Advances old new left now (Ok true) = (c : Command) × Gives old new left now c × (items new.window ≡ command_bytes c ++ held_in new)
 Advances old new left now (Ok false) = Ends old new left now
 Advances old new left now (Err fault) = Unit {0}
+
+-- the rest of a script begins with the command, where it is told
+abbrev pub Begins : Option (List ℕ) → Command → Type 0
+Begins rest c = IfSome rest (λ bytes. (after : List ℕ) × (bytes ≡ command_bytes c ++ after))

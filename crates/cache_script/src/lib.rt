@@ -16,3 +16,6 @@ pub use command::Command;
 pub use laws::{commands_are_one, none_begins_another};
 pub use reader::{Reader, ScriptFault};
 pub use refusals::refusal_text;
+
+#[cfg(test)]
+mod tests;

@@ -1,8 +1,10 @@
 //! The lines of commands.
 
-ghost use Rattle.std.specs.Prelude.{◌≡◌};
+ghost use Rattle.std.specs.Prelude.{◌≡◌, ◌≢◌, IfNone, IfSome};
 ghost use Rattle.std.specs.Option.{option_map};
-ghost use Rattle.cache_script.specs.Lines.{cut as cut_of, number_below as number_below_of, slot_in, set_in, read_in, slot_form, verb_form, form_in, line_form};
+ghost use Rattle.cache_theory.specs.Command.{Command as MachineCommand};
+ghost use Rattle.cache_theory.specs.Text.{FieldsFit, IsOneLine, command_words, spaced};
+ghost use Rattle.cache_script.specs.Lines.{Tells, cut as cut_of, number_below as number_below_of, slot_in, set_in, read_in, slot_form, verb_form, form_in, line_form};
 
 use crate::Command;
 use crate::numbers::number;
@@ -116,9 +118,8 @@ fn verb_line<'a>(verb: &[u8], rest: &'a [u8]) -> Option<Line<'a>>
     slot_line(verb, slot(first)?, rest)
 }
 
-/// What the line of a command tells, given without its newline; or none where it is the line of no command.
 #[tactic(auto, unfolding(crate::specs::Lines::form_in))]
-pub(crate) fn line_in(text: &[u8]) -> Option<Line<'_>>
+fn text_line(text: &[u8]) -> Option<Line<'_>>
     ensures { option_map line_form result ≡ form_in text.now }
 {
     if text == b"flush".as_slice() {
@@ -126,4 +127,13 @@ pub(crate) fn line_in(text: &[u8]) -> Option<Line<'_>>
     }
     let (verb, rest) = cut(text, b' ')?;
     verb_line(verb, rest)
+}
+
+/// What the line of a command tells, given without its newline; or none where it is the line of no command.
+pub(crate) fn line_in(text: &[u8]) -> Option<Line<'_>>
+    ensures exact { option_map line_form result ≡ form_in text.now }
+    ensures tells { IsOneLine text.now → IfSome result (λ line. Tells text.now (line_form line)) }
+    ensures none { IfNone result ((c : MachineCommand) → FieldsFit c → text.now ≢ spaced (command_words c)) }
+{
+    text_line(text)
 }

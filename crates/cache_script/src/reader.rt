@@ -1,12 +1,13 @@
 //! Reading a script.
 
-ghost use Rattle.std.specs.Prelude.{◌≡◌, ◌+◌, ◌++◌, ◌≤◌, ℕ, List, [], length, IfOk, IfErr, IsErrOf, IsTrue, Ok, None};
+ghost use Rattle.std.specs.Prelude.{◌≡◌, ◌+◌, ◌++◌, ◌≤◌, ℕ, List, [], length, IfOk, IfErr, IfSome, IfNone, IsErrOf};
 ghost use Rattle.std.specs.Borrow.{sem};
 ghost use Rattle.std.specs.Io.KnownBytes.{IsAtEnd};
 ghost use Rattle.cache_base.specs.Causes.{HasCause};
 ghost use Rattle.cache_base.specs.declared.limits.TheConstants.{SCRIPT_MAX};
 ghost use Rattle.cache_theory.specs.Command.{Command as MachineCommand};
 ghost use Rattle.cache_theory.specs.Text.{IsCommand, command_bytes};
+ghost use Rattle.cache_script.specs.Command.{command_of};
 ghost use Rattle.cache_script.specs.Front.{HasBadLine};
 ghost use Rattle.cache_script.specs.Window.{items};
 
@@ -42,7 +43,7 @@ pub struct Reader {
 }
 
 impl Reader {
-    ghost use Rattle.cache_script.specs.Reader.{held_in, given_in, used_in, rest_of, Advances, Lent, Refuses};
+    ghost use Rattle.cache_script.specs.Reader.{held_in, given_in, used_in, rest_of, Advances, Begins, Lent, Refuses};
 
     /// A reader at the front of a script. Fails only for want of memory.
     pub fn new(alloc: Global) -> Result<Reader, NoMemory>
@@ -93,6 +94,10 @@ impl Reader {
         source: &mut S,
     ) -> Result<Option<Command<'_>>, ScriptFault>
         ensures* leaves { sem 𝓛 (Lent self.entry (S.left source.old) (S.left source.new) result) }
+        ensures command { IfOk result (λ next. IfSome next (λ c. IsCommand (command_of c))) }
+        ensures short { IfOk result (λ next. IfSome next (λ c. used_in self.old + length (command_bytes (command_of c)) ≤ SCRIPT_MAX)) }
+        ensures begins { IfOk result (λ next. IfSome next (λ c. Begins (rest_of self.old (S.left source.old)) (command_of c))) }
+        ensures end { IfOk result (λ next. IfNone next (IsAtEnd (rest_of self.old (S.left source.old)))) }
         ensures bad { IfErr result (λ fault. Refuses self.old (S.left source.old) fault) }
         ensures cause { HasCause (IsErrOf result ScriptFault.Source) (S.faults source.old) (S.faults source.new) }
         ensures whole { (c : MachineCommand) (after : List ℕ) → IsCommand c → held_in self.old ≡ command_bytes c ++ after → source.new ≡ source.old }

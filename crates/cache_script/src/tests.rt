@@ -1,0 +1,306 @@
+ghost use Rattle.std.specs.Prelude.{◌<◌};
+
+use crate::{Command, Reader, ScriptFault, refusal_text};
+use cache_base::{Bytes, NoMemory, Numbers};
+use cache_io::{MemSource, Source};
+use cache_theory::Refusal;
+use chunk_store::Damage;
+use std::alloc::Global;
+use std::process::Abort;
+use std::test::Fail;
+
+const AT_ONCE: usize = 1_000_000;
+
+// A source of these bytes, of which one read gives no more than a piece.
+fn source_of(alloc: Global, script: &[u8], piece: usize) -> Result<MemSource, NoMemory>
+    requires { 0 < piece }
+{
+    let mut bytes = Bytes::new(alloc);
+    bytes.extend(script)?;
+    Ok(MemSource::with_plan(bytes, Numbers::new(alloc), piece))
+}
+
+// How many commands are given to the end, or to the thousandth.
+fn count<S: Source>(reader: &mut Reader, source: &mut S) -> Result<u64, ScriptFault> {
+    for count in 0..1000 {
+        if reader.next_command(source)?.is_none() {
+            return Ok(count);
+        }
+    }
+    Ok(1000)
+}
+
+fn count_in(
+    alloc: Global,
+    script: &[u8],
+    piece: usize,
+) -> Result<Result<u64, ScriptFault>, NoMemory>
+    requires { 0 < piece }
+{
+    let mut source = source_of(alloc, script, piece)?;
+    let mut reader = Reader::new(alloc)?;
+    Ok(count(&mut reader, &mut source))
+}
+
+fn all_count(
+    rt: &impl Abort,
+    alloc: Global,
+    scripts: &[&[u8]],
+    expected: Result<u64, ScriptFault>,
+) -> Result<(), NoMemory> {
+    for script in scripts {
+        assert_eq!(rt; count_in(alloc, script, AT_ONCE)?, expected, "{script:?}");
+        assert_eq!(rt;
+            count_in(alloc, script, 1)?,
+            expected,
+            "{script:?}, a byte at a time"
+        );
+    }
+    Ok(())
+}
+
+#[test]
+fn lines_of_the_table_are_commands(rt: HostRuntime) -> Result<(), Fail> {
+    let scripts: [&[u8]; 20] = [
+        b"at 0\n",
+        b"at 4294967295\n",
+        b"create 63 :x\n",
+        b"create 1 \n",
+        b"open 0 a key\n",
+        b"append 0 3\nabc\n",
+        b"append 0 0\n\n",
+        b"append 0 1\n\n\n",
+        b"finish 0\n",
+        b"set 0 1 ctid\n5\n",
+        b"set 0 0 \n\n",
+        b"unset 0 a name\n",
+        b"element 0 \n",
+        b"read 0 0 4294967295\n",
+        b"close 10\n",
+        b"doom :x\n",
+        b"doom \n",
+        b"get :x\n",
+        b"get  \n",
+        b"flush\n",
+    ];
+    all_count(&rt, rt.alloc(), &scripts, Ok(1))?;
+    Ok(())
+}
+
+#[test]
+fn other_lines_are_bad(rt: HostRuntime) -> Result<(), Fail> {
+    let scripts: [&[u8]; 24] = [
+        b"\n",
+        b"fly\n",
+        b"Flush\n",
+        b"flush \n",
+        b" flush\n",
+        b"at\n",
+        b"at \n",
+        b"at 007\n",
+        b"at +1\n",
+        b"at 1 2\n",
+        b"at 4294967296\n",
+        b"at 99999999999999999999\n",
+        b"create 64 :x\n",
+        b"create 01 :x\n",
+        b"create  1 :x\n",
+        b"create 1\n",
+        b"open x :x\n",
+        b"finish\n",
+        b"finish 0 \n",
+        b"close 64\n",
+        b"get\n",
+        b"read 0 0\n",
+        b"read 0 0 4294967296\n",
+        b"has :x\n",
+    ];
+    all_count(&rt, rt.alloc(), &scripts, Err(ScriptFault::Script(1)))?;
+    Ok(())
+}
+
+#[test]
+fn bytes_behind_a_line_are_bad(rt: HostRuntime) -> Result<(), Fail> {
+    let scripts: [&[u8]; 9] = [
+        b"append 0 1048577\n",
+        b"append 0\n",
+        b"append 0 3\nabcd\n",
+        b"append 0 3\nab",
+        b"append 0 3\nabc",
+        b"set 0 65537 n\n",
+        b"set 0 1\n5\n",
+        b"set 0 1 n\n55\n",
+        b"at 1",
+    ];
+    all_count(&rt, rt.alloc(), &scripts, Err(ScriptFault::Script(1)))?;
+    Ok(())
+}
+
+#[test]
+fn commands_are_numbered(rt: HostRuntime) -> Result<(), Fail> {
+    all_count(&rt, rt.alloc(), &[b"".as_slice()], Ok(0))?;
+    let second = Err(ScriptFault::Script(2));
+    all_count(
+        &rt,
+        rt.alloc(),
+        &[b"append 0 3\nab\n\n\n".as_slice()],
+        second,
+    )?;
+    all_count(
+        &rt,
+        rt.alloc(),
+        &[b"at 5\nflush\nfly\n".as_slice()],
+        Err(ScriptFault::Script(3)),
+    )?;
+    all_count(
+        &rt,
+        rt.alloc(),
+        &[b"at 5\nappend 0 1\n".as_slice()],
+        Err(ScriptFault::Script(2)),
+    )?;
+    Ok(())
+}
+
+// A line of `get` with so many bytes.
+fn long_line(alloc: Global, len: usize) -> Result<Bytes, NoMemory> {
+    let mut line = Bytes::new(alloc);
+    line.extend(b"get ")?;
+    for _ in 4..len {
+        line.push(b'x')?;
+    }
+    line.push(b'\n')?;
+    Ok(line)
+}
+
+#[test]
+fn a_line_has_at_most_20000_bytes(rt: HostRuntime) -> Result<(), Fail> {
+    let longest = long_line(rt.alloc(), 20_000)?;
+    assert_eq!(rt; count_in(rt.alloc(), longest.as_slice(), AT_ONCE)?, Ok(1));
+    let longer = long_line(rt.alloc(), 20_001)?;
+    assert_eq!(rt;
+        count_in(rt.alloc(), longer.as_slice(), AT_ONCE)?,
+        Err(ScriptFault::Script(1))
+    );
+    let mut source = source_of(rt.alloc(), longer.as_slice(), 1)?;
+    let mut reader = Reader::new(rt.alloc())?;
+    assert_eq!(rt;
+        count(&mut reader, &mut source),
+        Err(ScriptFault::Script(1))
+    );
+    Ok(())
+}
+
+// So many pieces, each as long as one may be.
+fn long_pieces(alloc: Global, pieces: usize) -> Result<Bytes, NoMemory> {
+    let piece = vec![in alloc; b'x'; 1_048_576]?;
+    let mut script = Bytes::new(alloc);
+    for _ in 0..pieces {
+        script.extend(b"append 0 1048576\n")?;
+        script.extend(piece.as_slice())?;
+        script.push(b'\n')?;
+    }
+    Ok(script)
+}
+
+#[test]
+fn a_piece_has_at_most_1048576_bytes(rt: HostRuntime) -> Result<(), Fail> {
+    let script = long_pieces(rt.alloc(), 3)?;
+    assert_eq!(rt; count_in(rt.alloc(), script.as_slice(), AT_ONCE)?, Ok(3));
+    assert_eq!(rt; count_in(rt.alloc(), script.as_slice(), 65_536)?, Ok(3));
+    assert_eq!(rt; count_in(rt.alloc(), script.as_slice(), 1_000_003)?, Ok(3));
+    Ok(())
+}
+
+fn plan(alloc: Global, number: u32) -> Result<Numbers, NoMemory> {
+    let mut list = Numbers::new(alloc);
+    list.push(number)?;
+    Ok(list)
+}
+
+#[test]
+fn a_source_that_fails_ends_the_script(rt: HostRuntime) -> Result<(), Fail> {
+    let mut script = Bytes::new(rt.alloc());
+    script.extend(b"at 5\nflush\n")?;
+    let mut source = MemSource::with_plan(script, plan(rt.alloc(), 2)?, 5);
+    let mut reader = Reader::new(rt.alloc())?;
+    assert_eq!(rt;
+        reader.next_command(&mut source),
+        Ok(Some(Command::At { now: 5 }))
+    );
+    assert_eq!(rt; reader.next_command(&mut source), Err(ScriptFault::Source));
+    Ok(())
+}
+
+#[test]
+fn commands_have_their_fields(rt: HostRuntime) -> Result<(), Fail> {
+    let script =
+        b"create 63 :x \nappend 7 2\n\n \nset 1 1 na me\nv\nread 2 3 4\nelement 5 \nflush\n";
+    let mut source = source_of(rt.alloc(), script, 4)?;
+    let mut reader = Reader::new(rt.alloc())?;
+    let key = b":x ".as_slice();
+    assert_eq!(rt;
+        reader.next_command(&mut source),
+        Ok(Some(Command::Create { slot: 63, key }))
+    );
+    let bytes = b"\n ".as_slice();
+    assert_eq!(rt;
+        reader.next_command(&mut source),
+        Ok(Some(Command::Append { slot: 7, bytes }))
+    );
+    let (name, value) = (b"na me".as_slice(), b"v".as_slice());
+    assert_eq!(rt;
+        reader.next_command(&mut source),
+        Ok(Some(Command::SetElement {
+            slot: 1,
+            name,
+            value
+        }))
+    );
+    assert_eq!(rt;
+        reader.next_command(&mut source),
+        Ok(Some(Command::ReadPart {
+            slot: 2,
+            from: 3,
+            len: 4
+        }))
+    );
+    let name = b"".as_slice();
+    assert_eq!(rt;
+        reader.next_command(&mut source),
+        Ok(Some(Command::Element { slot: 5, name }))
+    );
+    assert_eq!(rt; reader.next_command(&mut source), Ok(Some(Command::Flush)));
+    assert_eq!(rt; reader.next_command(&mut source), Ok(None));
+    assert_eq!(rt; reader.next_command(&mut source), Ok(None));
+    Ok(())
+}
+
+fn texts_are(rt: &impl Abort, alloc: Global, table: &[(Refusal, &str)]) -> Result<(), NoMemory> {
+    for (refusal, text) in table {
+        assert_eq!(rt; refusal_text(alloc, refusal)?.as_str(), *text);
+    }
+    Ok(())
+}
+
+#[test]
+fn refusals_have_their_texts(rt: HostRuntime) -> Result<(), Fail> {
+    let damage = Damage {
+        chunk: 0,
+        stored: 0x399e,
+        found: 0x6daa,
+    };
+    let table = [
+        (Refusal::SlotTaken, "slot taken"),
+        (Refusal::NoSlot, "no slot"),
+        (Refusal::Absent, "absent"),
+        (Refusal::Unfinished, "unfinished"),
+        (Refusal::Damaged(damage), "damaged 0 399E 6DAA"),
+        (Refusal::NotWriter, "not writer"),
+        (Refusal::Finished, "finished"),
+        (Refusal::TooLarge, "too large"),
+        (Refusal::BadKey, "bad key"),
+        (Refusal::BadElement, "bad element"),
+    ];
+    texts_are(&rt, rt.alloc(), &table)?;
+    Ok(())
+}
