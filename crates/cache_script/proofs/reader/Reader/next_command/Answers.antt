@@ -1,4 +1,4 @@
-use Rattle.std.proofs.Common.{◌≡◌, ◌++◌, ℕ, List, refl, sym, ap, subst, ◌∙◌, rules, arith}
+use Rattle.std.proofs.Common.{◌≡◌, refl, sym, subst, ◌∙◌, rules, arith}
 use Rattle.cache_theory.specs.Command.{Command}
 use Rattle.cache_script.specs.Command.{command_of}
 use Rattle.cache_script.specs.Reader.{Gives, held_in, rest_of}
