@@ -1,0 +1,4 @@
+pub mod Prefix
+pub mod Sets
+pub mod Sorting
+pub mod Stable

@@ -1,0 +1,13 @@
+//! What follows from the definitions of the order and the victims.
+
+ghost use Rattle.evictor.specs.Evict.{OrderSorts, VictimsSuffice};
+
+/// The order only moves records, and no record stands before one that is evicted earlier.
+pub fn order_sorts()
+    ensures { OrderSorts }
+{}
+
+/// The victims are the shortest prefix of the candidates that is enough, or all of them.
+pub fn victims_suffice()
+    ensures { VictimsSuffice }
+{}
