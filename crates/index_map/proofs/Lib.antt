@@ -1,0 +1,9 @@
+pub mod Counting
+pub mod Differences
+pub mod ListSteps
+pub mod Lookups
+pub mod Puts
+pub mod Shown
+pub mod Steps
+pub mod Sums
+pub mod Tables

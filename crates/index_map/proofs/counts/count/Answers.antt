@@ -1,0 +1,19 @@
+use Rattle.std.proofs.Common.{ap, take, arith, length-take}
+use Rattle.index_map.specs.declared.counts.Counts.{Counts}
+use Rattle.index_map.proofs.Sums.{changed-le, kilobytes-le, records-le}
+use Rattle.index_map.proofs.counts.count.Goals as goal
+
+pub with-counts-requires-clause-records : goal.with-counts-requires-clause-records
+with-counts-requires-clause-records c =
+    let front = take c.loop-slot.slot-index c.args.slots.now in
+    omega (arith, ap (λ (n : Counts). n.records) c.loop-slot.invariant, records-le front, length-take c.loop-slot.slot-index c.args.slots.now)
+
+pub with-counts-requires-clause-kilobytes : goal.with-counts-requires-clause-kilobytes
+with-counts-requires-clause-kilobytes c =
+    let front = take c.loop-slot.slot-index c.args.slots.now in
+    omega (arith, ap (λ (n : Counts). n.kilobytes) c.loop-slot.invariant, kilobytes-le front, length-take c.loop-slot.slot-index c.args.slots.now)
+
+pub with-counts-requires-clause-changed : goal.with-counts-requires-clause-changed
+with-counts-requires-clause-changed c =
+    let front = take c.loop-slot.slot-index c.args.slots.now in
+    omega (arith, ap (λ (n : Counts). n.changed) c.loop-slot.invariant, changed-le front, length-take c.loop-slot.slot-index c.args.slots.now)

@@ -1,0 +1,10 @@
+use Rattle.std.proofs.Common.{ap, ◌∙◌}
+use Rattle.index_map.specs.Known.{Known}
+use Rattle.index_map.specs.Slots.{shown}
+use Rattle.index_map.proofs.Shown.{shown-seen_only}
+use Rattle.index_map.proofs.map.RecordMap.drop_unseen.Goals as goal
+
+pub returns : goal.returns
+returns c =
+    ap (λ t. shown t c.self.inside.has_base) c.keep_seen.ensures.slots ∙ shown-seen_only c.self.inside.table c.self.inside.has_base
+    ∙ ap (λ (m : Known). record m { records = m.seen }) c.self.view_is

@@ -1,0 +1,39 @@
+//! What a table has under a name.
+
+ghost use Rattle.std.specs.Prelude.{◌≡◌, option_and_then};
+ghost use Rattle.std.specs.Map.{lookup};
+ghost use Rattle.std.specs.Option.{option_copied};
+ghost use Rattle.record_list.specs.Lists.{same_name};
+ghost use Rattle.index_map.specs.Slots as spec;
+
+use crate::table::Table;
+use cache_base::Name;
+use index_record::IndexRecord;
+
+/// The record of a name in the base.
+pub(crate) fn base_at(table: &Table, name: &Name) -> Option<IndexRecord>
+    ensures base { result ≡ option_and_then (λ slot. slot.base) (lookup (same_name name.now) table.now) }
+    ensures table { spec.IsTable table.now }
+{
+    match table.get(name) {
+        Some(slot) => slot.base,
+        None => None,
+    }
+}
+
+/// The record of a name now, if it was seen.
+pub(crate) fn seen_at<'a>(table: &'a Table, name: &Name) -> Option<&'a IndexRecord>
+    ensures record { option_copied result ≡ option_and_then spec.seen_of (lookup (same_name name.now) table.now) }
+    ensures table { spec.IsTable table.now }
+{
+    match table.get(name) {
+        Some(slot) => {
+            if slot.seen {
+                slot.current.as_ref()
+            } else {
+                None
+            }
+        }
+        None => None,
+    }
+}
