@@ -1,0 +1,74 @@
+-- The handles at an opening.
+use Rattle.std.proofs.Common.{◌≡◌, ◌∙◌, inl, inr, ℕ, zero, suc, List, length, get_or, replicate, Option, Some, None, refl, sym, ap, arith}
+use Rattle.std.specs.Prelude.{EachIndex, option_map, slice_get, slice_index_or, unwrap_or}
+use Rattle.std.proofs.lemmas.Bool.{cases_Bool, ltb-false, ltb-true}
+use Rattle.std.proofs.Common.{ltb}
+use Rattle.std.proofs.lemmas.Option.{slice_get_past, unwrap_or-slice_get}
+use Rattle.cache_theory.specs.Machine.{opened}
+use Rattle.cache_theory.specs.Proper.{OpensProper}
+use Rattle.cache_theory.specs.Stands.{IsHeldDoomed}
+use Rattle.cache_theory.specs.Table.{Table}
+use Rattle.cache_theory.proofs.Slots.{slot_of as slot_with}
+use Rattle.file_handles.specs.Carries.{Begins}
+use Rattle.file_handles.specs.Kept.{Kept, object_at, use_at}
+use Rattle.file_handles.specs.Stands.{HandlesStand}
+use Rattle.file_handles.specs.declared.object.Object.{Object}
+use Rattle.file_handles.specs.declared.object.Use.{Use}
+
+-- every element of a list of one value
+pub same_in : {X : Type 0} (n i : ℕ) (x : X) → get_or (replicate n x) i x ≡ x
+same_in zero i x = refl
+same_in (suc n) zero x = refl
+same_in (suc n) (suc i) x = same_in n i x
+
+-- at any index of a list with none at its own
+pub none_at : {X : Type 0} (xs : List (Option X)) (i : ℕ) → EachIndex xs (λ i. slice_index_or xs i None ≡ None) → unwrap_or (slice_get xs i) None ≡ None
+none_at xs i each = elim (cases_Bool (ltb i (length xs))) [
+  | inl within ↦ unwrap_or-slice_get xs i None ∙ each i (ltb-true i (length xs) within)
+  | inr past ↦ ap (λ o. unwrap_or o None) (slice_get_past xs i (ltb-false i (length xs) past))
+]
+
+never_some : {X : Type 0} (P : Type 0) (x : X) → None ≡ Some x → P
+never_some P x e = absurd (cc)
+
+-- handles without objects and uses
+module _ (k : Kept) (objects : (p : ℕ) → object_at k p ≡ None) (uses : (t : ℕ) → use_at k t ≡ None) (proper_opens : OpensProper) where
+  no_object : (p : ℕ) (x : Object) → object_at k p ≡ Some x → ⊥
+  no_object p x at = never_some ⊥ x (sym (objects p) ∙ at)
+
+  no_use : (t : ℕ) (u : Use) → use_at k t ≡ Some u → ⊥
+  no_use t u at = never_some ⊥ u (sym (uses t) ∙ at)
+
+  none_held : (now : ℕ) (shelf : Table (List ℕ)) (rest : List (List ℕ)) (i : ℕ) → IsHeldDoomed (opened now shelf rest) i → ⊥
+  none_held now shelf rest i h = let slot = slot_with (opened now shelf rest) i h.slots in never_some ⊥ _ slot.at
+
+  none_there : (now : ℕ) (shelf : Table (List ℕ)) (rest : List (List ℕ)) → HandlesStand k (opened now shelf rest) (λ p. 0)
+  none_there now shelf rest = record {
+    slots = λ t lt. ap (option_map (λ (u : Use). record { object = 0; writes = u.writes })) (sym (uses t));
+    used = λ t u at. absurd (no_use t u at);
+    objects = λ p x at. absurd (no_object p x at);
+    apart = λ p q x y at also same. absurd (no_object p x at);
+  }
+
+  pub begins : Begins k
+  begins s now shelf rest small is no_doomed once safe = record {
+    number = λ p. 0;
+    stands = record {
+      proper = proper_opens now shelf rest small is.table is.bytes;
+      handles = none_there now shelf rest;
+      entries = is.entries_are;
+      doomed = record {
+        held = λ i h. absurd (none_held now shelf rest i h);
+        only = λ d some. absurd (some (no_doomed d));
+        one_object = λ d i j a b. absurd (no_object a.place a.object a.at_place);
+        one_number = λ d e i a b. absurd (no_object a.place a.object a.at_place);
+      };
+    };
+    crash_kept = record {
+      safe = safe;
+      once = once;
+      doomed = λ d i file name a h now ever. absurd (no_object a.place a.object a.at_place);
+      unburied = λ i o at un. never_some _ o at;
+      young = omega arith;
+    };
+  }

@@ -1,0 +1,300 @@
+-- All slots are given up: the files that do not outlast the handles are removed.
+use Rattle.std.proofs.Common.{◌≡◌, ◌≢◌, inl, inr, ◌⊎◌, ℕ, ◌+◌, ◌<◌, ◌≤◌, List, length, Bool, true, false, not, ◌&&◌, get_or, Option, Some, None, IsSome, is_some, Result, Ok, Err, refl, sym, ap, subst, ◌∙◌, arith}
+use Rattle.std.specs.Prelude.{IsErrOf, if◌then◌else◌, is_none, option_map, unwrap_or}
+use Rattle.std.specs.Str.{bytes_eq}
+use Rattle.std.proofs.lemmas.Bool.{cases_Bool, cases_eq, cond_both}
+use Rattle.std.proofs.lemmas.Option.{slice_get-get_or}
+use Rattle.cache_theory.specs.Crash.{IsAsMarked, IsSafe}
+use Rattle.cache_theory.specs.Ever.{IsKept, entries, entry_place}
+use Rattle.cache_theory.specs.Machine.{Machine, Object as MachineObject, object}
+use Rattle.cache_theory.specs.Marks.{Marks, is_touched}
+use Rattle.cache_theory.specs.Proper.{IsInUse}
+use Rattle.cache_theory.specs.Stands.{entry_file, file_under, object_file}
+use Rattle.cache_theory.specs.Table.{get}
+use Rattle.cache_theory.proofs.DiskChanges.{moment_synced, remove_keeps}
+use Rattle.cache_theory.proofs.EntryFiles.{entry_unused, unfinished_file_is}
+use Rattle.cache_theory.proofs.FiledOnce.{one_name as one_place_name}
+use Rattle.cache_theory.proofs.Readings.{unfit_reads}
+use Rattle.cache_theory.proofs.Slots.{HasSlot, same_use, slot_of as slot_with, use_of}
+use Rattle.cache_theory.proofs.Users.{same_number, undoomed_user}
+use Rattle.chunk_store.specs.Stored.{unfinished_file}
+use Rattle.disk_model.specs.Calls.{if_done}
+use Rattle.disk_model.specs.Place.{is_same}
+use Rattle.disk_model.specs.Standing.{Puts}
+use Rattle.disk_model.specs.State.{State, content, content_of, names_now, removed, standing}
+use Rattle.disk_model.specs.declared.disk.DiskFault.{DiskFault}
+use Rattle.disk_model.specs.declared.disk.DiskFault.TheVariants.{Failed, Memory}
+use Rattle.disk_model.specs.declared.place.Place.{Place}
+use Rattle.disk_model.specs.declared.place.Place.TheVariants.{Doomed}
+use Rattle.disk_model.proofs.Places.{never, one_same}
+use Rattle.disk_model.proofs.Standing.{removed_puts}
+use Rattle.entry_file.specs.EntryFile.{file_meta, found, read, read_for, whole_in}
+use Rattle.entry_file.specs.EntryFile.Reading.{Nothing}
+use Rattle.entry_file.proofs.StopLaws.{unfinished_is_short}
+use Rattle.entry_name.specs.EntryName.{file_name}
+use Rattle.file_handles.specs.Closing.{ClosesAll, IsClosed, dropped}
+use Rattle.file_handles.specs.Held.{IsEntryOf, is_draft, object_place, place_of}
+use Rattle.file_handles.specs.Kept.{Kept, object_at, use_at}
+use Rattle.file_handles.specs.Stands.{IsIn, Stands, StandsSomehow, slot_of}
+use Rattle.file_handles.specs.declared.object.Entry.{Entry}
+use Rattle.file_handles.specs.declared.object.Entry.TheVariants as entry
+use Rattle.file_handles.specs.declared.object.Object.{Object}
+use Rattle.file_handles.specs.declared.object.Use.{Use}
+use Rattle.file_handles.proofs.KeptLaws.{place_within}
+use Rattle.file_handles.proofs.Places.{doomed_at, file_stands, undoomed_is, undoomed_place}
+use Rattle.file_handles.proofs.Released.{some_object}
+
+-- the file of an object outlasts the handles
+abbrev pub stays : Object → Bool
+stays x = is_none x.doomed && not (is_draft x.entry)
+
+-- nothing is lost with this file: where it is an entry's, its name is touched, or nothing was found there at the mark
+abbrev pub MayDrop : Marks → Object → Type 0
+MayDrop w x = (name : List ℕ) → object_place x ≡ entry_place name
+    → (is_touched w name ≡ true) ⊎ ((key : List ℕ) → file_name key ≡ name → found (get w.marked.shelf) key ≡ None)
+
+-- the files of the objects before this place that do not outlast the handles are gone, and all else is as before
+pub record IsDroppedTo (k : Kept) (i : ℕ) (before now : State) : Type 0 where
+  pub gone : (j : ℕ) (x : Object) → j < i → object_at k j ≡ Some x → stays x ≡ false → standing now (object_place x) ≡ None
+  pub others : (q : Place) → ((j : ℕ) (x : Object) → j < i → object_at k j ≡ Some x → stays x ≡ false → q ≢ object_place x) → standing now q ≡ standing before q
+  pub safe : (w : Marks) → ((j : ℕ) (x : Object) → object_at k j ≡ Some x → stays x ≡ false → MayDrop w x) → IsSafe before w → IsSafe now w
+
+pub dropped_none : (k : Kept) (s : State) → IsDroppedTo k 0 s s
+dropped_none k s = record { gone = λ j x lt at no_stay. absurd (omega (arith, lt)); others = λ q apart. refl; safe = λ w may safe. safe }
+
+dropped_is : (x : Object) (s : State) → stays x ≡ false → dropped x s ≡ removed (object_place x) s
+dropped_is x s not_stays = ap (λ (b : Bool). if b then s else removed (object_place x) s) not_stays
+
+stays_is : (x : Object) (s : State) → stays x ≡ true → dropped x s ≡ s
+stays_is x s stay = ap (λ (b : Bool). if b then s else removed (object_place x) s) stay
+
+-- one place more, where nothing is removed
+same_at : (k : Kept) (i : ℕ) (s t : State) → ((x : Object) → object_at k i ≡ Some x → stays x ≡ true) → IsDroppedTo k i s t → IsDroppedTo k (i + 1) s t
+same_at k i s t stay before = record {
+  gone = λ j x lt at no_stay. before.gone j x (earlier j x lt at no_stay) at no_stay;
+  others = λ q apart. before.others q (λ j x lt at no_stay. apart j x (omega (arith, lt)) at no_stay);
+  safe = before.safe;
+}
+  where
+    earlier : (j : ℕ) (x : Object) → j < i + 1 → object_at k j ≡ Some x → stays x ≡ false → j < i
+    earlier j x lt at no_stay = elim (cases_eq j i) [
+      | inl same ↦ absurd (let stay = stay x (ap (object_at k) (sym same) ∙ at) in let both : true ≡ false = sym stay ∙ no_stay in cc)
+      | inr apart ↦ omega (arith, lt, apart)
+    ]
+
+-- the object at a place of the list
+pub item_at : (k : Kept) (i : ℕ) (d x : Option Object) → i < length k.objects → get_or k.objects i d ≡ x → object_at k i ≡ x
+item_at k i d x lt is = ap (λ o. unwrap_or o None) (slice_get-get_or k.objects i d lt) ∙ is
+
+pub none_dropped : (k : Kept) (i : ℕ) (s t : State) → object_at k i ≡ None → IsDroppedTo k i s t → IsDroppedTo k (i + 1) s t
+none_dropped k i s t none before = same_at k i s t (λ x at. absurd (let both : None ≡ Some x = sym none ∙ at in cc)) before
+
+one_place : (p q : Place) → (p ≡ q) ⊎ (p ≢ q)
+one_place p q = elim (cases_Bool (is_same p q)) [
+  | inl same ↦ inl (one_same p q same)
+  | inr other ↦ inr (λ same. never q p same other)
+]
+
+-- and where one is
+removed_one : (k : Kept) (i : ℕ) (x : Object) (s t : State) → object_at k i ≡ Some x → stays x ≡ false → IsDroppedTo k i s t → IsDroppedTo k (i + 1) s (removed (object_place x) t)
+removed_one k i x s t at_x not_stays before = record {
+  gone = λ j y lt at no_stay. elim (one_place (object_place y) (object_place x)) [
+    | inl same ↦ ap (standing (removed (object_place x) t)) same ∙ puts.here
+    | inr apart ↦ puts.others (object_place y) apart ∙ before.gone j y (earlier j y lt at apart) at no_stay
+  ];
+  others = λ q apart. puts.others q (apart i x (omega arith) at_x not_stays) ∙ before.others q (λ j y lt at no_stay. apart j y (omega (arith, lt)) at no_stay);
+  safe = λ w may safe. remove_keeps t w (object_place x) (may i x at_x not_stays) (before.safe w may safe);
+}
+  where
+    puts : Puts (object_place x) None t (removed (object_place x) t)
+    puts = removed_puts (object_place x) t
+
+    earlier : (j : ℕ) (y : Object) → j < i + 1 → object_at k j ≡ Some y → object_place y ≢ object_place x → j < i
+    earlier j y lt at apart = elim (cases_eq j i) [
+      | inl same ↦ absurd (apart (let both : Some y ≡ Some x = sym at ∙ ap (object_at k) same ∙ at_x in let one : y ≡ x = cc in ap object_place one))
+      | inr other ↦ omega (arith, lt, other)
+    ]
+
+pub one_dropped : (k : Kept) (i : ℕ) (x : Object) (s t u : State) → object_at k i ≡ Some x → u ≡ dropped x t → IsDroppedTo k i s t → IsDroppedTo k (i + 1) s u
+one_dropped k i x s t u at_x is before = subst (IsDroppedTo k (i + 1) s) (sym is) (elim (cases_Bool (stays x)) [
+  | inl stay ↦ subst (IsDroppedTo k (i + 1) s) (sym (stays_is x t stay))
+      (same_at k i s t (λ y at. let both : Some x ≡ Some y = sym at_x ∙ at in let one : x ≡ y = cc in ap stays (sym one) ∙ stay) before)
+  | inr not_stays ↦ subst (IsDroppedTo k (i + 1) s) (sym (dropped_is x t not_stays)) (removed_one k i x s t at_x not_stays before)
+])
+
+-- an Ok is no fault
+pub no_fault : {T : Type 0} (value : T) → IsErrOf {T = T} (Ok value) Failed → ⊥
+no_fault value is = cc
+
+-- A call that may have failed is one of the two.
+pub safe_done : {T : Type 0} (k : Kept) (i : ℕ) (x : Object) (r : Result T DiskFault) (s t u : State) → object_at k i ≡ Some x → u ≡ if_done r (dropped x t) t → IsDroppedTo k i s t
+    → (w : Marks) → ((j : ℕ) (x : Object) → object_at k j ≡ Some x → stays x ≡ false → MayDrop w x) → IsSafe s w → IsSafe u w
+safe_done k i x (Ok value) s t u at_x is before w may safe = (one_dropped k i x s t u at_x is before).safe w may safe
+safe_done k i x (Err Failed) s t u at_x is before w may safe = (one_dropped k i x s t u at_x is before).safe w may safe
+safe_done k i x (Err Memory) s t u at_x is before w may safe = subst (λ (v : State). IsSafe v w) (sym is) (before.safe w may safe)
+
+-- The places of the objects, by what they stand for.
+module _ (s : State) (k : Kept) (m : Machine) (number : ℕ → ℕ) (stands : Stands (standing s) k m number) where
+  -- an entry's place is that of the user of its name
+  entry_user : (p : ℕ) (x : Object) (name : List ℕ) → object_at k p ≡ Some x → object_place x ≡ entry_place name → (x.doomed ≡ None) × (get m.in_use name ≡ Some (number p))
+  entry_user p x name at place = go x.doomed refl
+    where
+      go : (n : Option ℕ) → x.doomed ≡ n → (x.doomed ≡ None) × (get m.in_use name ≡ Some (number p))
+      go None e =
+          let named : file_name (object m (number p)).version.key ≡ name = one_place_name (file_name (object m (number p)).version.key) name (sym (undoomed_place s k m number stands p x at e) ∙ place) in
+          (e, ap (get m.in_use) (sym named) ∙ undoomed_user m stands.proper (number p) (stands.handles.objects p x at).in_use (undoomed_is s k m number stands p x at e))
+      go (Some d) e = absurd (let both : Doomed d ≡ entry_place name = sym (ap (place_of x.name) e) ∙ place in cc)
+
+  -- two objects have two places
+  two_places : (p q : ℕ) (x y : Object) → object_at k p ≡ Some x → object_at k q ≡ Some y → object_place x ≡ object_place y → p ≡ q
+  two_places p q x y at_x at_y same = stands.handles.apart p q x y at_x at_y (go x.doomed refl)
+    where
+      go : (n : Option ℕ) → x.doomed ≡ n → number p ≡ number q
+      go None e =
+          let name : List ℕ = file_name (object m (number p)).version.key in
+          let place : object_place x ≡ entry_place name = undoomed_place s k m number stands p x at_x e in
+          same_number (number p) (number q) (sym (entry_user p x name at_x place).1 ∙ (entry_user q y name at_y (sym same ∙ place)).1)
+      go (Some d) e = other y.doomed refl
+        where
+          other : (n : Option ℕ) → y.doomed ≡ n → number p ≡ number q
+          other None f =
+              absurd (let both : Doomed d ≡ entry_place (file_name (object m (number q)).version.key) = sym (ap (place_of x.name) e) ∙ same ∙ undoomed_place s k m number stands q y at_y f in cc)
+          other (Some c) f =
+              let both : Doomed c ≡ Doomed d = sym (ap (place_of y.name) f) ∙ sym same ∙ ap (place_of x.name) e in
+              let one : c ≡ d = cc in
+              stands.doomed.one_object d (number p) (number q) (doomed_at s k m number stands p x at_x d e) (doomed_at s k m number stands q y at_y d (f ∙ ap (λ n. Some n) one))
+
+  -- the file of the next object stands
+  pub next_stands : (i : ℕ) (x : Object) (t : State) → object_at k i ≡ Some x → IsDroppedTo k i s t → IsSome (standing t (object_place x))
+  next_stands i x t at to =
+      let same : standing t (object_place x) ≡ Some (object_file (object m (number i))) =
+      to.others (object_place x) (λ j y lt at_y no_stay same. let one = two_places i j x y at at_y same in omega (arith, lt, one)) ∙ file_stands s k m number stands i x at in
+      subst IsSome (sym same) refl
+
+  -- an object in use has a place
+  used_place : (i : ℕ) → IsInUse m i → (p : ℕ) × ((x : Object) × ((object_at k p ≡ Some x) × (number p ≡ i)))
+  used_place i used =
+      let has = slot_with m i used.slots in
+      go has (use_at k has.slot) refl
+    where
+      go : (has : HasSlot m.slots i) (o : Option Use) → use_at k has.slot ≡ o → (p : ℕ) × ((x : Object) × ((object_at k p ≡ Some x) × (number p ≡ i)))
+      go has None at = absurd (let never : None ≡ use_of i has.writes = sym (ap (option_map (slot_of number)) at) ∙ sym (stands.handles.slots has.slot has.small) ∙ has.at in cc)
+      go has (Some u) at =
+          let same = same_use (number u.place) i u.writes has.writes (sym (ap (option_map (slot_of number)) at) ∙ sym (stands.handles.slots has.slot has.small) ∙ has.at) in
+          let there = some_object (object_at k u.place) (stands.handles.used has.slot u at) in
+          (u.place, (there.0, (there.1, same.0)))
+
+  -- an undoomed object whose file does not outlast the handles is not finished
+  draft_unfinished : (e : Entry) (o : MachineObject) → IsEntryOf e o → not (is_draft e) ≡ false → o.finished ≡ false
+  draft_unfinished (entry.Draft d) o is no_stay = is.0
+  draft_unfinished (entry.Finished meta) o is no_stay = absurd (cc)
+
+  finished_stays : (e : Entry) (o : MachineObject) → IsEntryOf e o → o.finished ≡ false → is_draft e ≡ true
+  finished_stays (entry.Draft d) o is un = refl
+  finished_stays (entry.Finished meta) o is un = absurd (let both : true ≡ false = sym is.0 ∙ un in cc)
+
+  unfinished_by : (p : ℕ) (x : Object) → object_at k p ≡ Some x → x.doomed ≡ None → stays x ≡ false → (object m (number p)).finished ≡ false
+  unfinished_by p x at none no_stay =
+      draft_unfinished x.entry (object m (number p)) (stands.handles.objects p x at).as_held.held_entry (ap (λ n. is_none n && not (is_draft x.entry)) (sym none) ∙ no_stay)
+
+  module _ (t : State) (n : ℕ) (all : length k.objects ≤ n) (to : IsDroppedTo k n s t) where
+    within : (p : ℕ) (x : Object) → object_at k p ≡ Some x → p < n
+    within p x at = let lt = place_within k p x at in omega (arith, lt, all)
+
+    entries_left : (name : List ℕ) → entries (standing t) name ≡ get m.shelf name
+    entries_left name = go (get m.in_use name) refl
+      where
+        same_file : ((p : ℕ) (x : Object) → object_at k p ≡ Some x → stays x ≡ false → object_place x ≡ entry_place name → ⊥) → entries (standing t) name ≡ entry_file m name
+        same_file none = to.others (entry_place name) (λ j x lt at no_stay same. none j x at no_stay (sym same)) ∙ stands.entries name
+
+        go : (o : Option ℕ) → get m.in_use name ≡ o → entries (standing t) name ≡ get m.shelf name
+        go None at =
+            same_file (λ p x at_x no_stay place. let both : None ≡ Some (number p) = sym at ∙ (entry_user p x name at_x place).1 in cc)
+            ∙ entry_unused m name at
+        go (Some i) at = elim (cases_Bool (object m i).finished) [
+          | inl done ↦
+              same_file (λ p x at_x no_stay place.
+              let user = entry_user p x name at_x place in
+              let one : number p ≡ i = same_number (number p) i (sym user.1 ∙ at) in
+              let both : true ≡ false = sym done ∙ ap (λ j. (object m j).finished) (sym one) ∙ unfinished_by p x at_x user.0 no_stay in
+              cc)
+              ∙ ap (file_under m name) at
+              ∙ ap (λ (b : Bool). if b then get m.shelf name else Some (object_file (object m i))) done
+          | inr un ↦
+              let user = stands.proper.user name i at in
+              let used = used_place i user.in_use in
+              let x : Object = used.1.0 in
+              let held = (stands.handles.objects used.0 x used.1.1.0).as_held in
+              let is_unfinished : (object m (number used.0)).finished ≡ false = ap (λ j. (object m j).finished) used.1.1.1 ∙ un in
+              let is_undoomed : is_some x.doomed ≡ false = held.doomed ∙ ap (λ j. (object m j).doomed) used.1.1.1 ∙ user.undoomed in
+              let none : x.doomed ≡ None = no_number x.doomed is_undoomed in
+              let draft = finished_stays x.entry (object m (number used.0)) held.held_entry is_unfinished in
+              let not_stays : stays x ≡ false = λ j. is_none (none j) && not (draft j) in
+              let place : object_place x ≡ entry_place name =
+              undoomed_place s k m number stands used.0 x used.1.1.0 none ∙ ap (λ j. entry_place (file_name (object m j).version.key)) used.1.1.1 ∙ ap entry_place user.named in
+              ap (standing t) (sym place) ∙ to.gone used.0 x (within used.0 x used.1.1.0) used.1.1.0 not_stays ∙ sym (stands.proper.unstored name i at un)
+        ]
+          where
+            no_number : (o : Option ℕ) → is_some o ≡ false → o ≡ None
+            no_number None e = refl
+            no_number (Some d) e = absurd (cc)
+
+    none_doomed : (d : ℕ) → standing t (Doomed d) ≡ None
+    none_doomed d = go (standing s (Doomed d)) refl
+      where
+        go : (o : Option (List ℕ)) → standing s (Doomed d) ≡ o → standing t (Doomed d) ≡ None
+        go None e =
+            to.others (Doomed d) (λ j x lt at no_stay same.
+            let both : None ≡ Some (object_file (object m (number j))) = sym e ∙ ap (standing s) same ∙ file_stands s k m number stands j x at in cc)
+            ∙ e
+        go (Some c) e =
+            let a = (stands.doomed.only d (λ none. let both : None ≡ Some c = sym none ∙ e in cc)).1.0 in
+            ap (λ o. standing t (place_of a.object.name o)) (sym a.is_doomed)
+            ∙ to.gone a.place a.object (within a.place a.object a.at_place) a.at_place (ap (λ o. is_none o && not (is_draft a.object.entry)) a.is_doomed)
+
+    pub closed : IsClosed (standing t) m
+    closed = record { entries_are = entries_left; no_doomed = none_doomed }
+
+-- What is found of an unfinished entry.
+
+unfinished_found : (key body : List ℕ) → whole_in (read_for key (Some (unfinished_file body))) ≡ None
+unfinished_found key body =
+    ap whole_in
+    (cond_both (bytes_eq (file_meta (unfinished_file body)).key key) (read (file_name key) (unfinished_file body)) Nothing (λ r. r ≡ Nothing)
+    (λ same. unfit_reads (file_name key) (unfinished_file body) (ap is_none (unfinished_is_short (file_name key) body)))
+    (λ other. refl))
+
+-- so nothing is lost with any file that is removed
+pub may_drop : (s : State) (k : Kept) (m : Machine) (w : Marks) (is : IsIn s k m w) (p : ℕ) (x : Object) → object_at k p ≡ Some x → stays x ≡ false → MayDrop w x
+may_drop s k m w is p x at no_stay name place = elim (cases_Bool (is_touched w name)) [
+  | inl touched ↦ inl touched
+  | inr un ↦ inr (go (names_now s (entry_place name)) refl (is.crash_kept.safe.untouched name un))
+]
+  where
+    stands : standing s (entry_place name) ≡ Some (unfinished_file (object m (is.number p)).version.body)
+    stands =
+        let user = entry_user s k m is.number is.stands p x name at place in
+        ap (standing s) (sym place) ∙ file_stands s k m is.number is.stands p x at
+        ∙ ap (λ c. Some c) (unfinished_file_is (object m (is.number p)) (unfinished_by s k m is.number is.stands p x at user.0 no_stay))
+
+    go : (f : Option ℕ) → names_now s (entry_place name) ≡ f → IsKept s (entry_place name) (IsAsMarked w name) → (key : List ℕ) → file_name key ≡ name → found (get w.marked.shelf) key ≡ None
+    go None now kept key named =
+        absurd (let both : None ≡ Some (unfinished_file (object m (is.number p)).version.body) = ap (content_of s.files) (sym now) ∙ stands in cc)
+    go (Some file) now kept key named =
+        let both : Some (content (s.files file)) ≡ Some (unfinished_file (object m (is.number p)).version.body) = ap (content_of s.files) (sym now) ∙ stands in
+        let holds : content (s.files file) ≡ unfinished_file (object m (is.number p)).version.body = cc in
+        let synced : (s.files file).synced ≡ unfinished_file (object m (is.number p)).version.body = sym (moment_synced (s.files file) 0 (kept.unwritten file (0, now))) ∙ holds in
+        sym (kept.some file (0, now) key named) ∙ ap (λ c. whole_in (read_for key (Some c))) synced ∙ unfinished_found key (object m (is.number p)).version.body
+
+-- All that is closed.
+
+pub all_closed : (s t : State) (k : Kept) (n : ℕ) → length k.objects ≤ n → IsDroppedTo k n s t → ClosesAll (Ok tt) s t k
+all_closed s t k n all to m w is = (to.safe w (may_drop s k m w is) is.crash_kept.safe, closed s k m is.number is.stands t n all to)
+
+pub all_failed : {T : Type 0} (k : Kept) (i : ℕ) (x : Object) (r : Result T DiskFault) (s t u : State) → object_at k i ≡ Some x → u ≡ if_done r (dropped x t) t → IsDroppedTo k i s t
+    → (m : Machine) (w : Marks) → IsIn s k m w → IsSafe u w
+all_failed k i x r s t u at_x is to m w stands = safe_done k i x r s t u at_x is to w (may_drop s k m w stands) stands.crash_kept.safe
+
+-- the next file stands, whatever the machine is
+pub next_somehow : (s t : State) (k : Kept) (i : ℕ) (x : Object) → StandsSomehow s k → object_at k i ≡ Some x → IsDroppedTo k i s t → IsSome (standing t (object_place x))
+next_somehow s t k i x (m, (number, stands)) at to = next_stands s k m number stands i x t at to

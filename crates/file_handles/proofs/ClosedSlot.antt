@@ -1,0 +1,224 @@
+-- A slot is closed: its writer finishes its object first.
+use Rattle.std.proofs.Common.{◌≡◌, ℕ, ◌<◌, Bool, true, false, not, ◌&&◌, Some, None, IsSome, Result, Ok, Err, refl, sym, ap, subst, ◌∙◌}
+use Rattle.std.specs.Prelude.{IfOk, IsErrAnd, IsOkAnd, IsSomeAnd, OnOk, if◌then◌else◌, option_map}
+use Rattle.std.proofs.lemmas.Bool.{and_parts, cond-false, cond-true, not-true}
+use Rattle.cache_base.specs.Checks.{first_failing}
+use Rattle.cache_base.specs.declared.limits.TheConstants.{SLOTS}
+use Rattle.cache_theory.specs.Checks.{checks}
+use Rattle.cache_theory.specs.Command.Command.{Close}
+use Rattle.cache_theory.specs.Command.Reply.{Done}
+use Rattle.cache_theory.specs.Crash.{IsSafe}
+use Rattle.cache_theory.specs.Machine.{Machine, Object as MachineObject, is_slot, is_writer, number_of, object, object_of}
+use Rattle.cache_theory.specs.Marks.{Marks, begun, rewritten}
+use Rattle.cache_theory.specs.Step.{Answer, answer, effect, finished_by, released, step, stepped, stored}
+use Rattle.cache_theory.specs.declared.refusal.Refusal.{Refusal}
+use Rattle.cache_theory.specs.declared.refusal.Refusal.TheVariants.{NoSlot}
+use Rattle.cache_theory.proofs.Changes.{finished_reads, may_finish}
+use Rattle.cache_theory.proofs.Objects.{nth}
+use Rattle.cache_theory.proofs.Storing.{MayStand, stored_here}
+use Rattle.disk_model.specs.Sound.{IsSound}
+use Rattle.disk_model.specs.State.{State, standing}
+use Rattle.file_handles.specs.Answers.{done_or, reply_in}
+use Rattle.file_handles.specs.Carries.{Leaves}
+use Rattle.file_handles.specs.Changes.{Becomes, ChangesAt, ChangesThere, IsFiledAs, completed}
+use Rattle.file_handles.specs.Closing.{GivesUp, MayGiveUp, is_some_draft}
+use Rattle.file_handles.specs.Held.{IsEntryOf, is_draft, object_place}
+use Rattle.file_handles.specs.Kept.{Kept, object_at, use_at, used, with_object}
+use Rattle.file_handles.specs.Refuses.{Refuses}
+use Rattle.file_handles.specs.Stands.{IsIn, Stands, StandsSomehow}
+use Rattle.file_handles.specs.declared.fault.HandleFault.{HandleFault}
+use Rattle.file_handles.specs.declared.fault.HandleFault.TheVariants as fault
+use Rattle.file_handles.specs.declared.object.Entry.{Entry}
+use Rattle.file_handles.specs.declared.object.Entry.TheVariants as entry
+use Rattle.file_handles.specs.declared.object.Object.{Object}
+use Rattle.file_handles.specs.declared.object.Use.{Use}
+use Rattle.file_handles.proofs.Begun.{begun_in}
+use Rattle.file_handles.proofs.Changed.{MayGoOut, changed_in_safe, changed_safe}
+use Rattle.file_handles.proofs.ElementMarks.{goes_out}
+use Rattle.file_handles.proofs.ElementSlots.{no_slot, no_use_found, slot_is, slot_number, slot_writes}
+use Rattle.file_handles.proofs.KeptLaws.{object_set_here, place_within}
+use Rattle.file_handles.proofs.Places.{file_stands, is_filed}
+use Rattle.file_handles.proofs.Refused.{refused_leaves}
+use Rattle.file_handles.proofs.Released.{released_objects, some_object}
+
+-- A slot that is not in use.
+
+close_no_slot : (k : Kept) (slot : ℕ) → slot < SLOTS → (r : Refusal) → used (use_at k slot) ≡ Err r → Refuses k (Close slot) r
+unfolding checks
+close_no_slot k slot small r is m number proper stand =
+    let parts = no_use_found (use_at k slot) r is in
+    cond-false (is_slot m slot) None (Some NoSlot) (no_slot k m number stand slot small parts.0) ∙ ap Some (sym parts.1)
+
+-- the reply of an answer that is this fault
+reply_is : {T : Type 0} (r : Result T HandleFault) (f : HandleFault) → IsErrAnd r (λ e. e ≡ f) → done_or r ≡ reply_in f
+reply_is (Ok value) f is = absurd is
+reply_is (Err e) f is = ap reply_in is
+
+pub unused_leaves : {T : Type 0} (s : State) (k : Kept) (slot : ℕ) → slot < SLOTS → (refusal : Refusal) → used (use_at k slot) ≡ Err refusal → (r : Result T HandleFault) → IsErrAnd r (λ e. e ≡ fault.Refused refusal)
+    → (m : Machine) (w : Marks) → IsIn s k m w → Leaves (Close slot) m w (done_or r) s k
+unused_leaves s k slot small refusal is r same m w stands =
+    subst (λ o. Leaves (Close slot) m w o s k) (sym (reply_is r (fault.Refused refusal) same)) (refused_leaves s k (Close slot) refusal (close_no_slot k slot small refusal is) m w stands)
+
+-- A fault that is no refusal has no reply.
+
+no_reply : {T : Type 0} (r : Result T HandleFault) (f : HandleFault) → IsErrAnd r (λ e. e ≡ f) → ((refusal : Refusal) → f ≡ fault.Refused refusal → ⊥) → done_or r ≡ None
+no_reply r f is none = reply_is r f is ∙ go f none
+  where
+    go : (f : HandleFault) → ((refusal : Refusal) → f ≡ fault.Refused refusal → ⊥) → reply_in f ≡ None
+    go fault.Disk none = refl
+    go fault.Memory none = refl
+    go (fault.Refused refusal) none = absurd (none refusal refl)
+
+pub faulted_leaves : {T : Type 0} (slot : ℕ) (r : Result T HandleFault) (f : HandleFault) (t : State) (after : Kept) (m : Machine) (w : Marks) → IsErrAnd r (λ e. e ≡ f) → ((refusal : Refusal) → f ≡ fault.Refused refusal → ⊥)
+    → IsSafe t (begun m (Close slot) w) → Leaves (Close slot) m w (done_or r) t after
+faulted_leaves slot r f t after m w is none safe = subst (λ o. Leaves (Close slot) m w o t after) (sym (no_reply r f is none)) (record { safe = safe; replies = tt; next = tt })
+
+-- an entry is a draft where the object is not finished
+draft_is : (x : Entry) (o : MachineObject) → IsEntryOf x o → not o.finished ≡ is_draft x
+draft_is (entry.Draft d) o is = ap not is.0
+draft_is (entry.Finished meta) o is = ap not is.0
+
+module _ (s : State) (k : Kept) (slot : ℕ) (small : slot < SLOTS) (u : Use) (at : use_at k slot ≡ Some u) where
+  module _ (m : Machine) (number : ℕ → ℕ) (stands : Stands (standing s) k m number) where
+    object_there : (x : Object) × (object_at k u.place ≡ Some x)
+    object_there = some_object (object_at k u.place) (stands.handles.used slot u at)
+
+    has_slot : is_slot m slot ≡ true
+    has_slot = slot_is k m number stands.handles slot small u at
+
+    numbered : number_of m slot ≡ number u.place
+    numbered = slot_number k m number stands.handles slot small u at
+
+    finishes : (is_writer m slot && not (object_of m slot).finished) ≡ (u.writes && is_some_draft (object_at k u.place))
+    finishes =
+        let x = object_there in
+        let held = (stands.handles.objects u.place x.0 x.1).as_held.held_entry in
+        (λ i. slot_writes k m number stands.handles slot small u at i && not (object m (numbered i)).finished)
+        ∙ ap (λ b. u.writes && b) (draft_is x.0.entry (object m (number u.place)) held ∙ ap is_some_draft (sym x.1))
+
+    pub close_passes : first_failing (checks m (Close slot)) ≡ None
+    unfolding checks
+    close_passes = cond-true (is_slot m slot) None (Some NoSlot) has_slot
+
+    pub close_step : step m (Close slot) ≡ answer (released (finished_by m slot) slot) Done
+    unfolding effect
+    close_step = ap (stepped m (Close slot)) close_passes
+
+    -- an object that is not finished by the slot has its file
+    pub may_give_up : MayGiveUp slot u.place s k
+    may_give_up =
+        let x = object_there in
+        record {
+          placed = ap (option_map (λ (v : Use). v.place)) at;
+          there = subst (λ o. IsSomeAnd o (λ x. IsSome (standing s (object_place x)))) (sym x.1) (subst IsSome (sym (file_stands s k m number stands u.place x.0 x.1)) refl);
+        }
+
+  -- Nothing is to be finished.
+  module _ (not_finishes : (u.writes && is_some_draft (object_at k u.place)) ≡ false) (m : Machine) (w : Marks) (is : IsIn s k m w) where
+    pub unchanged_in : IsIn s k (finished_by m slot) (begun m (Close slot) w)
+    unchanged_in =
+        let same : finished_by m slot ≡ m = ap (λ (b : Bool). if b then stored m (number_of m slot) (completed (object_of m slot)) else m) (finishes m is.number is.stands ∙ not_finishes) in
+        subst (λ (n : Machine). IsIn s k n (begun m (Close slot) w)) (sym same) (begun_in s k m (Close slot) w is)
+
+  -- The object is finished.
+  module _ (to_finish : (u.writes && is_some_draft (object_at k u.place)) ≡ true) {T : Type 0} (r : Result T HandleFault) (t : State) (after : Kept) (changes : ChangesThere u.place completed r s t k after) where
+    module _ (m : Machine) (w : Marks) (is : IsIn s k m (begun m (Close slot) w)) where
+      writes : (is_writer m slot && not (object_of m slot).finished) ≡ true
+      writes = finishes m is.number is.stands ∙ to_finish
+
+      unfinished : (object_of m slot).finished ≡ false
+      unfinished = not-true (object_of m slot).finished (and_parts (is_writer m slot) (not (object_of m slot).finished) writes).1
+
+      may_here : MayStand m (number_of m slot) (completed (object_of m slot))
+      may_here = may_finish m slot is.stands.proper (has_slot m is.number is.stands) unfinished
+
+      may : MayStand m (is.number u.place) (completed (object m (is.number u.place)))
+      may = subst (λ j. MayStand m j (completed (object m j))) (numbered m is.number is.stands) may_here
+
+      finished_is : finished_by m slot ≡ stored m (number_of m slot) (completed (object_of m slot))
+      finished_is = ap (λ (b : Bool). if b then stored m (number_of m slot) (completed (object_of m slot)) else m) writes
+
+      becomes : object (effect m (Close slot)).next (number_of m slot) ≡ completed (object_of m slot)
+      unfolding effect
+      becomes =
+          ap (λ objects. nth objects (number_of m slot)) (released_objects (finished_by m slot) slot)
+          ∙ ap (λ (n : Machine). object n (number_of m slot)) finished_is
+          ∙ stored_here m (number_of m slot) (completed (object_of m slot)) is.stands.proper may_here (number_of m slot) refl
+
+      out : MayGoOut (begun m (Close slot) w) (is.number u.place) (completed (object m (is.number u.place)))
+      out =
+          let writes_it : rewritten m (Close slot) ≡ Some (number_of m slot) = ap (λ (b : Bool). if b then Some (number_of m slot) else None) writes in
+          subst (λ j. MayGoOut (begun m (Close slot) w) j (completed (object m j))) (numbered m is.number is.stands)
+          (goes_out m (Close slot) w (close_passes m is.number is.stands) (number_of m slot) (completed (object_of m slot)) writes_it refl becomes refl refl)
+
+      there : ChangesAt u.place completed r s t k after (object_there m is.number is.stands).0
+      there = let x = object_there m is.number is.stands in changes x.0 x.1
+
+      pub finished_safe : IsSafe t (begun m (Close slot) w)
+      finished_safe =
+          let x = object_there m is.number is.stands in
+          changed_safe s t k m (begun m (Close slot) w) is u.place x.0 completed there.changed x.1 there.changes may out
+
+      finished_when : IsSound s → IsOkAnd there.changed (λ y. after ≡ with_object k u.place (Some y)) → IsIn t after (finished_by m slot) (begun m (Close slot) w)
+      finished_when sound put = go there.changed refl put
+        where
+          go : (changed : Result Object HandleFault) → there.changed ≡ changed → IsOkAnd changed (λ y. after ≡ with_object k u.place (Some y)) → IsIn t after (finished_by m slot) (begun m (Close slot) w)
+          go (Err f) e put = absurd put
+          go (Ok y) e put =
+              let x = object_there m is.number is.stands in
+              let stands : IsIn t (with_object k u.place (Some y)) (stored m (is.number u.place) (completed (object m (is.number u.place)))) (begun m (Close slot) w) =
+              changed_in_safe s t k m (begun m (Close slot) w) is u.place x.0 y completed there.changed sound x.1 there.changes e may finished_safe in
+              let same : stored m (is.number u.place) (completed (object m (is.number u.place))) ≡ finished_by m slot = ap (λ j. stored m j (completed (object m j))) (sym (numbered m is.number is.stands)) ∙ sym finished_is in
+              subst (λ (l : Kept). IsIn t l (finished_by m slot) (begun m (Close slot) w)) (sym put)
+              (subst (λ (n : Machine). IsIn t (with_object k u.place (Some y)) n (begun m (Close slot) w)) same stands)
+
+      pub finished_in : IsSound s → OnOk r (IsIn t after (finished_by m slot) (begun m (Close slot) w))
+      finished_in sound = go r there.put_back
+        where
+          go : (r : Result T HandleFault) → OnOk r (IsOkAnd there.changed (λ y. after ≡ with_object k u.place (Some y))) → OnOk r (IsIn t after (finished_by m slot) (begun m (Close slot) w))
+          go (Ok value) put = finished_when sound put
+          go (Err f) put = tt
+
+    -- and its file stands where it stood
+    still_there : (m : Machine) (number : ℕ → ℕ) (stands : Stands (standing s) k m number) (x : Object) (at_x : object_at k u.place ≡ Some x) (change : ChangesAt u.place completed r s t k after x)
+        → (changed : Result Object HandleFault) → change.changed ≡ changed → IsOkAnd changed (λ y. after ≡ with_object k u.place (Some y)) → MayGiveUp slot u.place t after
+    still_there m number stands x at_x change (Err f) e put = absurd put
+    still_there m number stands x at_x change (Ok y) e put =
+        let filed = is_filed s k m number stands u.place x at_x in
+        let ok : IfOk {E = HandleFault} (Ok y) (λ y. (o : MachineObject) → IsFiledAs x o s → Becomes x y (completed o) t) =
+        subst (λ (changed : Result Object HandleFault). IfOk changed (λ y. (o : MachineObject) → IsFiledAs x o s → Becomes x y (completed o) t)) e change.changes.becomes in
+        let becomes : Becomes x y (completed (object m (number u.place))) t = ok (object m (number u.place)) filed in
+        let placed : object_at after u.place ≡ Some y = ap (λ (l : Kept). object_at l u.place) put ∙ object_set_here k u.place u.place (Some y) (place_within k u.place x at_x) refl in
+        record {
+          placed = ap (λ (l : Kept). option_map (λ (v : Use). v.place) (use_at l slot)) put ∙ ap (option_map (λ (v : Use). v.place)) at;
+          there = subst (λ o. IsSomeAnd o (λ x. IsSome (standing t (object_place x)))) (sym placed) (subst IsSome (sym (ap (standing t) becomes.same_place ∙ becomes.file)) refl);
+        }
+
+    pub finished_may : StandsSomehow s k → OnOk r (MayGiveUp slot u.place t after)
+    finished_may (m, (number, stands)) = go r (let x = object_there m number stands in changes x.0 x.1).put_back
+      where
+        go : (r' : Result T HandleFault) → OnOk r' (IsOkAnd (let x = object_there m number stands in changes x.0 x.1).changed (λ y. after ≡ with_object k u.place (Some y))) → OnOk r' (MayGiveUp slot u.place t after)
+        go (Ok value) put = let x = object_there m number stands in still_there m number stands x.0 x.1 (changes x.0 x.1) (changes x.0 x.1).changed refl put
+        go (Err f) put = tt
+
+  -- The slot is given up then.
+  module _ (t : State) (mid after : Kept) (m : Machine) (w : Marks) (is : IsIn s k m w) (stands : IsIn t mid (finished_by m slot) (begun m (Close slot) w)) (v : State) where
+    reads : (object_of (finished_by m slot) slot).finished ≡ false → is_writer (finished_by m slot) slot ≡ false
+    reads = finished_reads m slot is.stands.proper (has_slot m is.number is.stands)
+
+    pub closed_safe : (r : Result (Unit {0}) HandleFault) → GivesUp slot r t v mid after → IsSafe v (begun m (Close slot) w)
+    closed_safe r gives = (gives (finished_by m slot) (begun m (Close slot) w) reads stands).0
+
+    pub closed_leaves : GivesUp slot (Ok tt) t v mid after → Leaves (Close slot) m w (Some Done) v after
+    closed_leaves gives =
+        let given = gives (finished_by m slot) (begun m (Close slot) w) reads stands in
+        record {
+          safe = given.0;
+          replies = ap (λ (a : Answer). a.reply) (sym (close_step m is.number is.stands));
+          next = subst (λ (n : Machine). IsIn v after n (begun m (Close slot) w)) (ap (λ (a : Answer). a.next) (sym (close_step m is.number is.stands))) given.1;
+        }
+
+-- what holds of an Ok where the disk tells
+pub told_then : {T : Type 0} (r : Result T HandleFault) (Told P : Type 0) → (Told → OnOk r P) → OnOk r (Told → P)
+told_then (Ok value) Told P each = each
+told_then (Err f) Told P each = tt

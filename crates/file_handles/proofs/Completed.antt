@@ -1,0 +1,61 @@
+-- A draft that is finished.
+use Rattle.std.proofs.Common.{◌≡◌, inr, ℕ, List, Some, refl, sym, ap, subst, ◌∙◌}
+use Rattle.cache_theory.specs.Machine.{Object as MachineObject}
+use Rattle.cache_theory.proofs.EntryFiles.{finished_file_is, unfinished_file_is}
+use Rattle.chunk_store.specs.Stored.{unfinished_file}
+use Rattle.disk_model.specs.State.{State, names_now, standing}
+use Rattle.disk_model.specs.Writes.{WritesAt}
+use Rattle.disk_model.specs.declared.place.Place.{Place}
+use Rattle.entry_file.specs.Held.{held}
+use Rattle.entry_file.specs.NewEntry.{HasBody, finished}
+use Rattle.entry_file.specs.Version.{file_of, version_meta}
+use Rattle.entry_metadata.specs.Meta.{meta_of}
+use Rattle.entry_metadata.specs.declared.meta.Meta.{Meta}
+use Rattle.file_handles.specs.Changes.{Becomes, IsFiledAs, IsMomentOf, completed}
+use Rattle.file_handles.specs.Held.{IsEntryOf, object_place}
+use Rattle.file_handles.specs.declared.object.Draft.{Draft}
+use Rattle.file_handles.specs.declared.object.Entry.TheVariants as entry
+use Rattle.file_handles.specs.declared.object.Object.{Object}
+use Rattle.file_handles.proofs.Changed.{writes_weaker}
+
+module _ (x : Object) (d : Draft) (is : x.entry ≡ entry.Draft d) where
+  was_draft : (o : MachineObject) (s : State) → IsFiledAs x o s → IsEntryOf (entry.Draft d) o
+  was_draft o s filed = subst (λ z. IsEntryOf z o) is filed.as_held.held_entry
+
+  -- it is finished to its version so far
+  version_is : (o : MachineObject) → IsEntryOf (entry.Draft d) o → finished d.header d.key d.elements o.version.body ≡ o.version
+  version_is o was = λ i. finished (was.1.header i) (was.1.key i) (was.1.elements i) o.version.body
+
+  module _ (s t : State) (place : Place) (at : place ≡ object_place x) where
+    stood : (o : MachineObject) → IsFiledAs x o s → standing s place ≡ Some (unfinished_file o.version.body)
+    stood o filed = ap (standing s) at ∙ filed.file ∙ ap (λ c. Some c) (unfinished_file_is o (was_draft o s filed).0)
+
+    -- its file gets the moment of that version
+    pub completed_writes : ((body : List ℕ) → HasBody (held d.body) body → standing s place ≡ Some (unfinished_file body) → WritesAt place (λ c. c ≡ file_of (finished d.header d.key d.elements body)) s t)
+        → (o : MachineObject) → IsFiledAs x o s → WritesAt (object_place x) (IsMomentOf (completed o)) s t
+    completed_writes writes o filed file now =
+        let was = was_draft o s filed in
+        writes_weaker s t file (λ c. c ≡ file_of (finished d.header d.key d.elements o.version.body)) (IsMomentOf (completed o)) (λ c e. inr (refl, e ∙ ap file_of (version_is o was)))
+        (writes o.version.body was.1.body (stood o filed) file (ap (names_now s) at ∙ now))
+
+    -- and it is the finished entry
+    pub completed_becomes : (meta : Meta) → ((body : List ℕ) → HasBody (held d.body) body → meta_of meta ≡ version_meta (finished d.header d.key d.elements body))
+        → ((body : List ℕ) → HasBody (held d.body) body → standing s place ≡ Some (unfinished_file body) → standing t place ≡ Some (file_of (finished d.header d.key d.elements body)))
+        → (o : MachineObject) → IsFiledAs x o s → Becomes x (record { name = x.name; doomed = x.doomed; entry = entry.Finished meta }) (completed o) t
+    completed_becomes meta metas stands o filed =
+        let was = was_draft o s filed in
+        record {
+          same_place = refl;
+          same_name = refl;
+          same_number = refl;
+          as_held = record {
+            named = filed.as_held.named;
+            doomed = filed.as_held.doomed;
+            held_entry = (refl, metas o.version.body was.1.body ∙ ap version_meta (version_is o was));
+          };
+          file =
+              ap (standing t) (sym at)
+              ∙ stands o.version.body was.1.body (stood o filed)
+              ∙ ap (λ v. Some (file_of v)) (version_is o was)
+              ∙ ap (λ c. Some c) (sym (finished_file_is (completed o) refl));
+        }

@@ -1,0 +1,134 @@
+-- What a `create` leaves at each exit.
+use Rattle.std.proofs.Common.{◌≡◌, ◌≢◌, ◌⊎◌, ℕ, ◌<◌, List, [], ◌∷◌, length, Bool, true, false, not, Option, Some, None, Result, Ok, Err, is_ok, refl, sym, ap, subst, ◌∙◌}
+use Rattle.std.specs.List.{position}
+use Rattle.cache_base.specs.Bytes.{AreBytes}
+use Rattle.cache_base.specs.Checks.{first_failing}
+use Rattle.cache_base.specs.declared.limits.TheConstants.{SLOTS}
+use Rattle.cache_base.specs.declared.name.Name.{Name}
+use Rattle.cache_theory.specs.Checks.{checks}
+use Rattle.cache_theory.specs.Command.Command.{Create}
+use Rattle.cache_theory.specs.Command.Reply.{Done, Refused}
+use Rattle.cache_theory.specs.Crash.{IsSafe}
+use Rattle.cache_theory.specs.Machine.{Machine, is_slot}
+use Rattle.cache_theory.specs.Marks.{Marks, begun, is_touched}
+use Rattle.cache_theory.specs.Step.{doomed_under, effect, entered, fresh}
+use Rattle.cache_theory.specs.declared.refusal.Refusal.{Refusal}
+use Rattle.cache_theory.specs.declared.refusal.Refusal.TheVariants as refused
+use Rattle.cache_theory.proofs.Changes.{may_create}
+use Rattle.disk_model.specs.declared.place.Place.TheVariants.{Entry}
+use Rattle.disk_model.specs.Sound.{IsSound}
+use Rattle.disk_model.specs.State.{State, created}
+use Rattle.entry_key.specs.Writing.{may_write}
+use Rattle.entry_name.specs.EntryName.{file_name}
+use Rattle.file_handles.specs.Carries.{CarriesOutAt, Leaves}
+use Rattle.file_handles.specs.Dooming.{DoomsUnder}
+use Rattle.file_handles.specs.Finding.{is_user}
+use Rattle.file_handles.specs.Held.{IsHeldAs}
+use Rattle.file_handles.specs.Joining.{Adds}
+use Rattle.file_handles.specs.Kept.{Kept, use_at, used}
+use Rattle.file_handles.specs.Stands.{IsIn}
+use Rattle.file_handles.specs.declared.fault.HandleFault.{HandleFault}
+use Rattle.file_handles.specs.declared.object.Object.{Object}
+use Rattle.file_handles.specs.declared.object.Use.{Use}
+use Rattle.file_handles.proofs.Begun.{begun_in}
+use Rattle.file_handles.proofs.CreatedIn.{after_doom, created_in, made_safe}
+use Rattle.file_handles.proofs.DoomedBut.{IsInBut}
+use Rattle.file_handles.proofs.DoomedCarried.{done_in, touches_name}
+use Rattle.file_handles.proofs.ElementSlots.{no_slot, slot_is}
+use Rattle.file_handles.proofs.JoinedObject.{MayAdd}
+use Rattle.file_handles.proofs.JoinedOpen.{used_none}
+use Rattle.file_handles.proofs.Refused.{refused_leaves}
+
+-- The checks, with what they test.
+
+checked : Bool → Bool → Option Refusal
+checked free good = first_failing ((free, refused.SlotTaken) ∷ (good, refused.BadKey) ∷ [])
+
+create_checks : (m : Machine) (s : ℕ) (key : List ℕ) → first_failing (checks m (Create s key)) ≡ checked (not (is_slot m s)) (may_write key)
+unfolding checks checked
+create_checks m s key = refl
+
+used_some : (o : Option Use) → is_ok (used o) ≡ true → (u : Use) × (o ≡ Some u)
+used_some None ok = absurd (let never : false ≡ true = ok in cc)
+used_some (Some u) ok = (u, refl)
+
+module _ (s : State) (k : Kept) (slot : ℕ) (key : List ℕ) (small : slot < SLOTS) where
+  pub taken_leaves : (r : Result Use Refusal) → r ≡ used (use_at k slot) → is_ok r ≡ true → (now : ℕ) → CarriesOutAt now (Create slot key) (Some (Refused refused.SlotTaken)) s s k k
+  unfolding checked
+  taken_leaves r is ok now m w moment =
+      let at = used_some (use_at k slot) (ap (λ o. is_ok o) (sym is) ∙ ok) in
+      refused_leaves s k (Create slot key) refused.SlotTaken
+      (λ n number proper stand. create_checks n slot key ∙ ap (λ b. checked (not b) (may_write key)) (slot_is k n number stand slot small at.0 at.1)) m w
+
+  pub bad_key_leaves : use_at k slot ≡ None → may_write key ≡ false → (now : ℕ) → CarriesOutAt now (Create slot key) (Some (Refused refused.BadKey)) s s k k
+  unfolding checked
+  bad_key_leaves unused bad now m w moment =
+      refused_leaves s k (Create slot key) refused.BadKey (λ n number proper stand. create_checks n slot key ∙ (λ i. checked (not (no_slot k n number stand slot small unused i)) (bad i))) m w
+
+-- The checks hold.
+
+pub record MayCreate (k : Kept) (slot : ℕ) (key : List ℕ) (name : Name) : Type 0 where
+  pub small : slot < SLOTS
+  pub unused : use_at k slot ≡ None
+  pub good : may_write key ≡ true
+  pub named : name.0 ≡ file_name key
+
+pub may_create_by : (k : Kept) (slot : ℕ) (key : List ℕ) (name : Name) → slot < SLOTS → (r : Result Use Refusal) → r ≡ used (use_at k slot) → (free good : Bool) → free ≡ is_ok r → free ≡ false → good ≡ may_write key → good ≡ true
+    → name.0 ≡ file_name key → MayCreate k slot key name
+may_create_by k slot key name small r is free good ok unused writes fine named =
+    record { small = small; unused = used_none (use_at k slot) r is (sym ok ∙ unused); good = sym writes ∙ fine; named = named }
+
+module _ (s : State) (k : Kept) (slot : ℕ) (key : List ℕ) (name : Name) (may : MayCreate k slot key name) (m : Machine) (w : Marks) (stand : IsIn s k m w) where
+  slot_free : is_slot m slot ≡ false
+  slot_free = no_slot k m stand.number stand.stands.handles slot may.small may.unused
+
+  passes : first_failing (checks m (Create slot key)) ≡ None
+  unfolding checked
+  passes = create_checks m slot key ∙ (λ i. checked (not (slot_free i)) (may.good i))
+
+  touched : is_touched (begun m (Create slot key) w) name.0 ≡ true
+  touched = touches_name m (Create slot key) w name.0 passes (ap (λ n. n ∷ []) (sym may.named))
+
+  here : IsIn s k m (begun m (Create slot key) w)
+  here = begun_in s k m (Create slot key) w stand
+
+  -- who was in use could not be doomed
+  pub doom_fails : (u : State) (after : Kept) (f : HandleFault) → (position (is_user name) k.objects ≢ None → DoomsUnder {T = Bool} name.0 (Err f) s u k after) → (position (is_user name) k.objects ≢ None)
+      → IsSafe u (begun m (Create slot key) w)
+  doom_fails u after f dooms some = (dooms some m (begun m (Create slot key) w) touched here).0
+
+  -- or is doomed, if there was one
+  pub doom_done : {D X : Type 0} (state : D → State) (d e : D) (after : Kept) (b : Bool) → state d ≡ s → (position (is_user name) k.objects ≢ None → DoomsUnder {T = Bool} name.0 (Ok b) s (state e) k after)
+      → (position (is_user name) k.objects ≡ None → X × ((e ≡ d) × (after ≡ k))) → IsInBut name.0 (state e) after (doomed_under m name.0) (begun m (Create slot key) w)
+  doom_done state d e after b is dooms still =
+      after_doom s (state e) k after name m (begun m (Create slot key) w) here (λ some. (dooms some m (begun m (Create slot key) w) touched here).1)
+      (λ bare. let same = (still bare).1 in (ap state same.0 ∙ is, same.1))
+
+  module _ (u t : State) (before : Kept) (sound : IsSound u) (but : IsInBut name.0 u before (doomed_under m name.0) (begun m (Create slot key) w)) where
+    -- its file may be made
+    pub draft_safe : (t ≡ created (Entry name) u) ⊎ (t ≡ u) → IsSafe t (begun m (Create slot key) w)
+    draft_safe either = made_safe u name sound (begun m (Create slot key) w) touched t either but.crash_kept.safe
+
+    -- and its object is added
+    pub added_leaves : (after : Kept) (x : Object) → AreBytes key → t ≡ created (Entry name) u → IsHeldAs x (fresh m.moment key) → Adds slot x true before after → slot < length before.slots
+        → ((p : ℕ) → p < SLOTS → p < length before.objects) → Leaves (Create slot key) m w (Some Done) t after
+    unfolding effect
+    added_leaves after x bytes is held adds within places =
+        let v : Marks = begun m (Create slot key) w in
+        let use_ : Use = adds.joins.use_ in
+        let next : Machine = doomed_under m (file_name key) in
+        let last : Machine = entered next slot true (fresh m.moment key) in
+        let add : MayAdd before next slot true (fresh m.moment key) x adds.place use_ = record {
+          enters = may_create m slot key stand.stands.proper may.small bytes (ap not slot_free) may.good;
+          as_held = held;
+          free = adds.free;
+          ranged = places adds.place adds.ranged;
+          within = within;
+          placed = adds.joins.placed;
+          writing = adds.joins.writing;
+        }
+        in
+        let but_key : IsInBut name.0 u before next v = subst (λ n. IsInBut name.0 u before (doomed_under m n) v) may.named but in
+        let done = created_in u name sound v touched before next slot m.moment key x adds.place use_ may.named add but_key in
+        let kept_so : IsIn (created (Entry name) u) after last v = subst (λ (a : Kept). IsIn (created (Entry name) u) a last v) (sym adds.joins.same) done in
+        done_in t after (Create slot key) m w passes refl refl (subst (λ z. IsIn z after last v) (sym is) kept_so)

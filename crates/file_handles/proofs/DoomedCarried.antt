@@ -1,0 +1,66 @@
+-- What a command leaves that is refused, that fails, or that is done.
+use Rattle.std.proofs.Common.{◌≡◌, ℕ, List, [], ◌∷◌, ◌++◌, true, Some, None, refl, sym, ap, subst, ◌∙◌}
+use Rattle.std.specs.Prelude.{◌||◌}
+use Rattle.std.specs.List.{list_any}
+use Rattle.std.specs.Str.{bytes_eq}
+use Rattle.std.specs.Cmp.Lexicographic.{bytes_decides}
+use Rattle.cache_base.specs.Checks.{first_failing}
+use Rattle.cache_theory.specs.Checks.{checks}
+use Rattle.cache_theory.specs.Command.{Command}
+use Rattle.cache_theory.specs.Command.Command.{At, Create, OpenKey, Append, Finish, SetElement, UnsetElement, ElementOf, ReadPart, Close, Doom, Get, Flush}
+use Rattle.cache_theory.specs.Command.Reply.{Done, Refused}
+use Rattle.cache_theory.specs.Crash.{IsSafe}
+use Rattle.cache_theory.specs.Machine.{Machine}
+use Rattle.cache_theory.specs.Marks.{Marks, acked, begun, begun_by, is_touched, touches}
+use Rattle.cache_theory.specs.Step.{effect, step, stepped}
+use Rattle.cache_theory.specs.declared.refusal.Refusal.{Refusal}
+use Rattle.disk_model.specs.State.{State}
+use Rattle.file_handles.specs.Carries.{Leaves}
+use Rattle.file_handles.specs.Kept.{Kept}
+use Rattle.file_handles.specs.Stands.{IsIn}
+use Rattle.file_handles.proofs.Begun.{begun_in}
+
+acked_refused : (m : Machine) (c : Command) (w : Marks) (r : Refusal) → first_failing (checks m c) ≡ Some r → acked m c w ≡ w
+unfolding checks
+acked_refused m Flush w r e = absurd (cc)
+acked_refused m (At now) w r e = ap (λ o. begun_by o m (At now) w) e
+acked_refused m (Create s key) w r e = ap (λ o. begun_by o m (Create s key) w) e
+acked_refused m (OpenKey s key) w r e = ap (λ o. begun_by o m (OpenKey s key) w) e
+acked_refused m (Append s bytes) w r e = ap (λ o. begun_by o m (Append s bytes) w) e
+acked_refused m (Finish s) w r e = ap (λ o. begun_by o m (Finish s) w) e
+acked_refused m (SetElement s name value) w r e = ap (λ o. begun_by o m (SetElement s name value) w) e
+acked_refused m (UnsetElement s name) w r e = ap (λ o. begun_by o m (UnsetElement s name) w) e
+acked_refused m (ElementOf s name) w r e = ap (λ o. begun_by o m (ElementOf s name) w) e
+acked_refused m (ReadPart s from len) w r e = ap (λ o. begun_by o m (ReadPart s from len) w) e
+acked_refused m (Close s) w r e = ap (λ o. begun_by o m (Close s) w) e
+acked_refused m (Doom key) w r e = ap (λ o. begun_by o m (Doom key) w) e
+acked_refused m (Get key) w r e = ap (λ o. begun_by o m (Get key) w) e
+
+-- a refusal in this state of the machine
+pub refused_in : (s : State) (k : Kept) (c : Command) (r : Refusal) (m : Machine) (w : Marks) → IsIn s k m w → first_failing (checks m c) ≡ Some r → Leaves c m w (Some (Refused r)) s k
+refused_in s k c r m w is fails = record {
+  safe = (begun_in s k m c w is).crash_kept.safe;
+  replies = ap (λ o. (stepped m c o).reply) (sym fails);
+  next = subst (λ (v : Marks). IsIn s k (step m c).next v) (sym (acked_refused m c w r fails)) (subst (λ (n : Machine). IsIn s k n w) (ap (λ o. (stepped m c o).next) (sym fails)) is);
+}
+
+-- no reply
+pub failed_in : (t : State) (after : Kept) (c : Command) (m : Machine) (w : Marks) → IsSafe t (begun m c w) → Leaves c m w None t after
+failed_in t after c m w safe = record { safe = safe; replies = tt; next = tt }
+
+-- it is done
+pub done_in : (t : State) (after : Kept) (c : Command) (m : Machine) (w : Marks) → first_failing (checks m c) ≡ None → acked m c w ≡ begun m c w → (effect m c).reply ≡ Done
+    → IsIn t after (effect m c).next (begun m c w) → Leaves c m w (Some Done) t after
+done_in t after c m w passes acks replies is = record {
+  safe = is.crash_kept.safe;
+  replies = sym (ap (λ o. (stepped m c o).reply) passes ∙ replies);
+  next = subst (λ (v : Marks). IsIn t after (step m c).next v) (sym acks) (subst (λ (n : Machine). IsIn t after n (begun m c w)) (ap (λ o. (stepped m c o).next) (sym passes)) is);
+}
+
+touched_first : (name : List ℕ) (names : List (List ℕ)) → list_any (bytes_eq name) (name ∷ names) ≡ true
+touched_first name names = ap (λ b. b || list_any (bytes_eq name) names) ((bytes_decides name name).1 refl)
+
+-- the name that a command touches first
+pub touches_name : (m : Machine) (c : Command) (w : Marks) (name : List ℕ) → first_failing (checks m c) ≡ None → touches m c ≡ name ∷ [] → is_touched (begun m c w) name ≡ true
+touches_name m c w name passes names =
+    ap (λ o. is_touched (begun_by o m c w) name) passes ∙ ap (λ (l : List (List ℕ)). list_any (bytes_eq name) (l ++ w.touched)) names ∙ touched_first name w.touched

@@ -1,0 +1,81 @@
+-- The object in use of a name is doomed, or the disk failed on the way.
+use Rattle.std.proofs.Common.{◌≡◌, ◌⊎◌, inl, inr, ℕ, zero, suc, ◌+◌, ◌<◌, List, length, Option, Some, None, IsSome, Contains, Err, true, eqb, refl, sym, ap, subst, ◌∙◌, arith}
+use Rattle.std.specs.List.{list_any, position}
+use Rattle.std.proofs.lemmas.Bool.{cases_Bool, eqb-true}
+use Rattle.std.proofs.lemmas.Cmp.{nat_eq_equiv}
+use Rattle.std.proofs.lemmas.List.{set-set}
+use Rattle.std.proofs.lemmas.Map.Views.{Contains-from_any, list_any-from_Contains}
+use Rattle.cache_base.specs.declared.name.Name.{Name}
+use Rattle.cache_theory.specs.Crash.{IsSafe}
+use Rattle.cache_theory.specs.Machine.{Machine, object}
+use Rattle.cache_theory.specs.Marks.{Marks, is_touched}
+use Rattle.cache_theory.specs.Stands.{object_file}
+use Rattle.cache_theory.specs.Step.{doomed_under}
+use Rattle.cache_theory.proofs.DiskChanges.{rename_keeps}
+use Rattle.cache_theory.proofs.EntryFiles.{entry_used}
+use Rattle.disk_model.specs.Calls.{if_done}
+use Rattle.disk_model.specs.declared.disk.DiskFault.{DiskFault}
+use Rattle.disk_model.specs.declared.disk.DiskFault.TheVariants.{Failed, Memory}
+use Rattle.disk_model.specs.declared.place.Place.TheVariants.{Doomed, Entry}
+use Rattle.disk_model.specs.Sound.{IsSound}
+use Rattle.disk_model.specs.State.{State, renamed, standing}
+use Rattle.doom_area.specs.DoomArea.{IsLeastFree}
+use Rattle.doom_area.proofs.LeastFree.{lesser_more, long_enough}
+use Rattle.file_handles.specs.Dooming.{numbers_in}
+use Rattle.file_handles.specs.Finding.{is_user}
+use Rattle.file_handles.specs.Kept.{Kept, object_at, with_object}
+use Rattle.file_handles.specs.Stands.{IsIn, StandsSomehow}
+use Rattle.file_handles.specs.declared.object.Object.{Object}
+use Rattle.file_handles.proofs.DoomedKeeps.{dooms_user}
+use Rattle.file_handles.proofs.DoomedStands.{doomed_as}
+use Rattle.file_handles.proofs.User.{user_is_used}
+
+-- the file of the object in use of a name stands
+pub user_stands : (s : State) (k : Kept) (name : Name) (p : ℕ) → position (is_user name) k.objects ≡ Some p → StandsSomehow s k → IsSome (standing s (Entry name))
+user_stands s k name p is (m, (number, stands)) =
+    let used = user_is_used k m number stands.proper stands.handles name p is in
+    let file : standing s (Entry name) ≡ Some (object_file (object m (number p))) = stands.entries name.0 ∙ entry_used m name.0 (number p) stands.proper used in
+    subst (λ (o : Option (List ℕ)). IsSome o) (sym file) refl
+
+-- There is a least free number.
+
+contains_or_not : (xs : List ℕ) (n : ℕ) → Contains xs n ⊎ (Contains xs n → ⊥)
+contains_or_not xs n = elim (cases_Bool (list_any (eqb n) xs)) [
+  | inl has ↦ inl (Contains-from_any eqb-true n xs has)
+  | inr lacks ↦ inr (λ h. let has = list_any-from_Contains nat_eq_equiv n xs h in cc)
+]
+
+least_from : (xs : List ℕ) (left n : ℕ) → n + left ≡ length xs + 1 → ((k : ℕ) → k < n → Contains xs k) → (l : ℕ) × IsLeastFree xs l
+least_from xs zero n e lesser = absurd (let le = long_enough xs n lesser in omega (arith, le, e))
+least_from xs (suc left) n e lesser = elim (contains_or_not xs n) [
+  | inl has ↦ least_from xs left (n + 1) (omega (arith, e)) (lesser_more xs n lesser has)
+  | inr lacks ↦ (n, record { free = lacks; lesser = lesser })
+]
+
+least_free : (xs : List ℕ) → (l : ℕ) × IsLeastFree xs l
+least_free xs = least_from xs (length xs + 1) 0 (omega arith) (λ k lt. absurd (omega (arith, lt)))
+
+-- The answers of the move.
+
+moved_or_not : (s t : State) (w : Marks) (name : Name) (n : ℕ) (f : DiskFault) → t ≡ if_done {T = ℕ} (Err f) (renamed (Entry name) (Doomed n) s) s → is_touched w name.0 ≡ true → IsSafe s w → IsSafe t w
+moved_or_not s t w name n Failed is touched safe = subst (λ u. IsSafe u w) (sym is) (rename_keeps s w name.0 n touched safe)
+moved_or_not s t w name n Memory is touched safe = subst (λ u. IsSafe u w) (sym is) safe
+
+-- it failed: a crash may lose no more
+pub dooms_not : (s t : State) (w : Marks) (name : Name) (xs : List ℕ) (f : DiskFault) → ((n : ℕ) → IsLeastFree xs n → t ≡ if_done {T = ℕ} (Err f) (renamed (Entry name) (Doomed n) s) s)
+    → is_touched w name.0 ≡ true → IsSafe s w → IsSafe t w
+dooms_not s t w name xs f is touched safe = let l = least_free xs in moved_or_not s t w name l.0 f (is l.0 l.1) touched safe
+
+-- it was done: the object was taken out and put back
+
+object_again : (k : Kept) (p : ℕ) (x y : Option Object) → with_object (with_object k p x) p y ≡ with_object k p y
+object_again k p x y = ap (λ objects. record k { objects = objects }) (set-set k.objects p x y)
+
+pub dooms_there : (s t : State) (k a b : Kept) (name : Name) (p : ℕ) (x : Object) (n : ℕ) → IsSound s → position (is_user name) k.objects ≡ Some p → object_at k p ≡ Some x → IsLeastFree (numbers_in k.objects) n
+    → t ≡ renamed (Entry name) (Doomed n) s → a ≡ with_object k p None → b ≡ with_object a p (Some (doomed_as x n))
+    → (m : Machine) (w : Marks) → is_touched w name.0 ≡ true → IsIn s k m w → IsSafe t w × IsIn t b (doomed_under m name.0) w
+dooms_there s t k a b name p x n sound is at free moved taken put m w touched stand =
+    let same : b ≡ with_object k p (Some (doomed_as x n)) = put ∙ ap (λ c. with_object c p (Some (doomed_as x n))) taken ∙ object_again k p None (Some (doomed_as x n)) in
+    let done = dooms_user s k name p x n sound is at free m w touched stand in
+    let all : IsIn t b (doomed_under m name.0) w = subst (λ u. IsIn u b (doomed_under m name.0) w) (sym moved) (subst (λ c. IsIn (renamed (Entry name) (Doomed n) s) c (doomed_under m name.0) w) (sym same) done) in
+    (all.crash_kept.safe, all)

@@ -1,0 +1,137 @@
+-- An entry whose elements are changed, and its file.
+use Rattle.std.proofs.Common.{◌≡◌, inr, ℕ, List, Option, Some, Result, Ok, Err, IsErrAnd, true, refl, sym, ap, subst, ◌∙◌}
+use Rattle.std.specs.Prelude.{IsErrOf}
+use Rattle.cache_base.specs.Causes.{HasCause}
+use Rattle.cache_theory.specs.Machine.{Object as MachineObject}
+use Rattle.cache_theory.specs.Stands.{object_file}
+use Rattle.cache_theory.proofs.EntryFiles.{finished_file_is, unfinished_file_is}
+use Rattle.disk_model.specs.State.{State, standing}
+use Rattle.disk_model.specs.Writes.{WritesAt}
+use Rattle.disk_model.specs.declared.disk.DiskFault.{DiskFault}
+use Rattle.disk_model.specs.declared.disk.DiskFault.TheVariants as disk
+use Rattle.disk_model.specs.declared.place.Place.{Place}
+use Rattle.entry_file.specs.Held.{held}
+use Rattle.entry_file.specs.NewEntry.{HasBody}
+use Rattle.entry_file.specs.Rewriting.{StoresBody, rewritten}
+use Rattle.entry_file.specs.Version.{Version, file_of, version_meta}
+use Rattle.entry_file.specs.declared.new_entry.NewEntry.{NewEntry}
+use Rattle.entry_file.proofs.StoredBody.{rewrites_to_version}
+use Rattle.entry_metadata.specs.Meta.{meta_of}
+use Rattle.entry_metadata.specs.Metadata.{Meta as Said}
+use Rattle.entry_metadata.specs.declared.meta.Meta.{Meta}
+use Rattle.entry_parts.specs.Elements.{Element}
+use Rattle.file_handles.specs.Answers.{fault_of}
+use Rattle.file_handles.specs.Changes.{Becomes, IsFiledAs, IsMomentOf, with_version}
+use Rattle.file_handles.specs.Held.{IsEntryOf, object_place}
+use Rattle.file_handles.specs.declared.fault.HandleFault.{HandleFault}
+use Rattle.file_handles.specs.declared.fault.HandleFault.TheVariants as fault
+use Rattle.file_handles.specs.declared.object.Draft.{Draft as DraftOf}
+use Rattle.file_handles.specs.declared.object.Entry.{Entry}
+use Rattle.file_handles.specs.declared.object.Entry.TheVariants.{Draft, Finished}
+use Rattle.file_handles.specs.declared.object.Object.{Object}
+use Rattle.file_handles.proofs.Changed.{writes_weaker}
+
+-- the metadata with other elements
+pub record IsMetaWith (es : List Element → List Element) (old new : Meta) : Type 0 where
+  pub header : new.header ≡ old.header
+  pub key : new.key ≡ old.key
+  pub elements : new.elements ≡ es old.elements
+  pub hashes : new.hashes ≡ old.hashes
+  pub offset : new.offset ≡ old.offset
+
+-- and the draft
+pub record IsDraftWith (es : List Element → List Element) (old new : DraftOf) : Type 0 where
+  pub body : new.body ≡ old.body
+  pub header : new.header ≡ old.header
+  pub key : new.key ≡ old.key
+  pub elements : new.elements ≡ es old.elements
+
+writes_at_weaker : (place : Place) (P Q : List ℕ → Type 0) (s t : State) → ((c : List ℕ) → P c → Q c) → WritesAt place P s t → WritesAt place Q s t
+writes_at_weaker place P Q s t all writes file at = writes_weaker s t file P Q all (writes file at)
+
+module _ (es : List Element → List Element) where
+  abbrev pub with_es : Version → Version
+  with_es v = record v { elements = es v.elements }
+
+  abbrev pub with_elements : MachineObject → MachineObject
+  with_elements o = with_version with_es o
+
+  -- what becomes of an object with another entry
+  entry_becomes : (x : Object) (o : MachineObject) (s t : State) (e : Entry) → IsFiledAs x o s → IsEntryOf e (with_elements o) → standing t (object_place x) ≡ Some (object_file (with_elements o))
+      → Becomes x (record { name = x.name; doomed = x.doomed; entry = e }) (with_elements o) t
+  entry_becomes x o s t e filed is file = record {
+    same_place = refl;
+    same_name = refl;
+    same_number = refl;
+    as_held = record { named = filed.as_held.named; doomed = filed.as_held.doomed; held_entry = is };
+    file = file;
+  }
+
+  -- an object whose entry is finished
+  module _ (x : Object) (o : MachineObject) (s : State) (filed : IsFiledAs x o s) (old new : Meta) (is : x.entry ≡ Finished old) (with : IsMetaWith es old new) where
+    entry_is : (o.finished ≡ true) × (meta_of old ≡ version_meta o.version)
+    entry_is = subst (λ (e : Entry). IsEntryOf e o) is filed.as_held.held_entry
+
+    pub meta_is : meta_of new ≡ version_meta (with_es o.version)
+    meta_is =
+        let old_is = entry_is.1 in
+        λ i. record {
+          header = (with.header ∙ ap (λ (m : Said). m.header) old_is) i;
+          key = (with.key ∙ ap (λ (m : Said). m.key) old_is) i;
+          elements = (with.elements ∙ ap (λ (m : Said). es m.elements) old_is) i;
+          hashes = (with.hashes ∙ ap (λ (m : Said). m.hashes) old_is) i;
+          offset = (with.offset ∙ ap (λ (m : Said). m.offset) old_is) i;
+        }
+
+    pub stands_whole : standing s (object_place x) ≡ Some (file_of o.version)
+    stands_whole = filed.file ∙ ap Some (finished_file_is o entry_is.0)
+
+    -- its file has the body of the new metadata
+    pub stores : (place : Place) → place ≡ object_place x → StoresBody (standing s place) (meta_of new)
+    stores place same =
+        subst (λ (c : Option (List ℕ)). StoresBody c (meta_of new)) (sym (ap (standing s) same ∙ stands_whole))
+        (subst (λ (m : Said). StoresBody (Some (file_of o.version)) m) (sym meta_is) (rewrites_to_version (with_es o.version) o.version refl).0)
+
+    whole : file_of (rewritten (meta_of new) (file_of o.version)) ≡ file_of (with_es o.version)
+    whole = ap file_of (ap (λ (m : Said). rewritten m (file_of o.version)) meta_is ∙ (rewrites_to_version (with_es o.version) o.version refl).1)
+
+    module _ (t : State) (place : Place) (same : place ≡ object_place x) where
+      pub meta_writes : ((content : List ℕ) → standing s place ≡ Some content → WritesAt place (λ c. c ≡ file_of (rewritten (meta_of new) content)) s t)
+          → WritesAt (object_place x) (IsMomentOf (with_elements o)) s t
+      meta_writes writes =
+          subst (λ (q : Place). WritesAt q (IsMomentOf (with_elements o)) s t) same
+          (writes_at_weaker place (λ c. c ≡ file_of (rewritten (meta_of new) (file_of o.version))) (IsMomentOf (with_elements o)) s t (λ c is. inr (entry_is.0, is ∙ whole))
+          (writes (file_of o.version) (ap (standing s) same ∙ stands_whole)))
+
+      pub meta_becomes : ((content : List ℕ) → standing s place ≡ Some content → standing t place ≡ Some (file_of (rewritten (meta_of new) content)))
+          → Becomes x (record { name = x.name; doomed = x.doomed; entry = Finished new }) (with_elements o) t
+      meta_becomes stands =
+          entry_becomes x o s t (Finished new) filed (entry_is.0, meta_is)
+          (ap (standing t) (sym same) ∙ stands (file_of o.version) (ap (standing s) same ∙ stands_whole) ∙ ap Some (whole ∙ sym (finished_file_is (with_elements o) entry_is.0)))
+
+  -- one that is being written
+  pub draft_becomes : (x : Object) (o : MachineObject) (s : State) → IsFiledAs x o s → (old new : DraftOf) → x.entry ≡ Draft old → IsDraftWith es old new
+      → Becomes x (record { name = x.name; doomed = x.doomed; entry = Draft new }) (with_elements o) s
+  draft_becomes x o s filed old new is with =
+      let was = subst (λ (e : Entry). IsEntryOf e o) is filed.as_held.held_entry in
+      let body = subst (λ (b : NewEntry). HasBody (held b) o.version.body) (sym with.body) was.1.body in
+      entry_becomes x o s s (Draft new) filed
+      (was.0, record { body = body; header = with.header ∙ was.1.header; key = with.key ∙ was.1.key; elements = with.elements ∙ ap es was.1.elements })
+      (filed.file ∙ ap Some (unfinished_file_is o was.0 ∙ sym (unfinished_file_is (with_elements o) was.0)))
+
+-- The cause of a fault that is handed on.
+
+cause_along : (A B : Type 0) (before now : ℕ) → (A → B) → (B → A) → HasCause A before now → HasCause B before now
+cause_along A B before now to from cause = record { later = cause.later; rose = λ b. cause.rose (from b); kept = λ not. cause.kept (λ a. not (to a)) }
+
+failed_of : (f : DiskFault) → fault_of f ≡ fault.Disk → f ≡ disk.Failed
+failed_of disk.Failed is = refl
+failed_of disk.Memory is = cc
+
+pub cause_handed_on : {T X : Type 0} (r : Result X DiskFault) (f : DiskFault) (out : Result T HandleFault) (before now : ℕ) → r ≡ Err f → IsErrAnd out (λ e. e ≡ fault_of f)
+    → HasCause (IsErrOf r disk.Failed) before now → HasCause (IsErrOf out fault.Disk) before now
+cause_handed_on r f (Ok value) before now at is cause = absurd is
+cause_handed_on r f (Err e) before now at is cause =
+    cause_along (IsErrOf r disk.Failed) (IsErrOf (Err e) fault.Disk) before now
+    (λ failed. let same : f ≡ disk.Failed = cc in ap Err (is ∙ ap fault_of same))
+    (λ failed. at ∙ ap Err (failed_of f (sym is ∙ (let same : e ≡ fault.Disk = cc in same)))) cause

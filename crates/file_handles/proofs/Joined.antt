@@ -1,0 +1,40 @@
+-- A slot that begins to use an object.
+use Rattle.std.proofs.Common.{◌≡◌, ◌∙◌, ℕ, ◌<◌, Bool, true, Option, Some, None, get_or, refl, sym, ap, subst}
+use Rattle.std.specs.List.{position}
+use Rattle.std.specs.Prelude.{Ok, is_none, slice_set}
+use Rattle.std.proofs.lemmas.List.Quantifiers.{position-Some}
+use Rattle.std.proofs.lemmas.Option.{unwrap_or-slice_get}
+use Rattle.cache_base.specs.declared.limits.TheConstants.{SLOTS}
+use Rattle.file_handles.specs.Finding.{is_free}
+use Rattle.file_handles.specs.Joining.{AddsTo, JoinsAt}
+use Rattle.file_handles.specs.Kept.{Kept, object_at, with_object, with_use}
+use Rattle.file_handles.specs.declared.object.Object.{Object}
+use Rattle.file_handles.specs.declared.object.Use.{Use}
+
+pub joins_at : (slot s : ℕ) (k : Kept) (u : Use) {place : ℕ} {writes : Bool} → u.place ≡ place → u.writes ≡ writes → s ≡ slot → JoinsAt slot place writes k (record k { slots = slice_set k.slots s (Some u) })
+joins_at slot s k u placed writing same = record { use_ = u; placed = placed; writing = writing; same = ap (λ t. with_use k t (Some u)) same }
+
+-- the place that is free
+pub free_is_none : (k : Kept) (p : ℕ) → position is_free k.objects ≡ Some p → object_at k p ≡ None
+free_is_none k p is = go (object_at k p) refl
+  where
+    here : is_none (get_or k.objects p None) ≡ true
+    here = (position-Some is_free k.objects p None is).1
+
+    go : (o : Option Object) → object_at k p ≡ o → o ≡ None
+    go None at = refl
+    go (Some x) at = absurd (let e : get_or k.objects p None ≡ Some x = sym (unwrap_or-slice_get k.objects p None) ∙ at in let n = sym (ap (λ (o : Option Object). is_none o) e) ∙ here in cc)
+
+-- an object that is put at the place that was found free, for a slot
+pub added : (slot : ℕ) (x : Object) (writes : Bool) (before put after : Kept) (p : ℕ) → p < SLOTS → position is_free before.objects ≡ Some p → put ≡ with_object before p (Some x) → JoinsAt slot p writes put after
+    → AddsTo slot x writes (Ok tt) before after
+added slot x writes before put after p ranged found is joins = record {
+  added = record {
+    place = p;
+    ranged = ranged;
+    free = free_is_none before p found;
+    joins = let P : Kept → Type 0 = λ k. JoinsAt slot p writes k after in subst P is joins;
+  };
+  refused = tt;
+  memory = tt;
+}

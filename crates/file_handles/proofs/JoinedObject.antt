@@ -1,0 +1,204 @@
+-- An object more, at a place that was free, and the slot that uses it.
+use Rattle.std.proofs.Common.{◌≡◌, ◌≢◌, inl, inr, ℕ, ◌<◌, [], ◌∷◌, ◌++◌, length, Option, Some, None, is_some, Bool, true, false, cond, IsSome, refl, sym, ap, subst, ◌∙◌, arith, eq-eqb}
+use Rattle.std.specs.Prelude.{◌==◌, if◌then◌else◌, option_map, slice_get, unwrap_or}
+use Rattle.std.proofs.lemmas.Bool.{cases_eq, ne_eqb}
+use Rattle.std.proofs.lemmas.Option.{slice_get_past, slice_get_within}
+use Rattle.cache_theory.specs.Crash.{IsCrashKept, WasUnder}
+use Rattle.cache_theory.specs.Machine.{Machine, Object as MachineObject}
+use Rattle.cache_theory.specs.Marks.{Marks, is_buried}
+use Rattle.cache_theory.specs.Proper.{IsProper}
+use Rattle.cache_theory.specs.Stands.{DoomedStand, IsHeldDoomed, object_file}
+use Rattle.cache_theory.specs.Step.{entered}
+use Rattle.cache_theory.proofs.Entering.{MayEnter, entered_here, entered_there}
+use Rattle.cache_theory.proofs.HeldDoomed.{held_before_entered, held_entered, held_number}
+use Rattle.cache_theory.proofs.Objects.{length_more, nth, nth-append_old, nth_is, nth_there}
+use Rattle.cache_theory.proofs.Slots.{free_is_none, has_slots_of, slot_kept, slot_of as slot_with, use_of, with_slot_other, with_slot_same}
+use Rattle.cache_theory.proofs.Users.{in_use_along}
+use Rattle.disk_model.specs.Image.{Files}
+use Rattle.disk_model.specs.State.{State}
+use Rattle.file_handles.specs.Held.{IsHeldAs}
+use Rattle.file_handles.specs.Kept.{Kept, object_at, use_at, with_object, with_use}
+use Rattle.file_handles.specs.Stands.{HandlesStand, IsAt, IsObjectOf, slot_of}
+use Rattle.file_handles.specs.declared.object.Object.{Object}
+use Rattle.file_handles.specs.declared.object.Use.{Use}
+use Rattle.file_handles.proofs.JoinedSlots.{same_place, use_set_here, use_set_other}
+use Rattle.file_handles.proofs.KeptLaws.{object_set_here, object_set_other}
+
+-- the object x that is the machine's new one may be added there
+pub record MayAdd (k : Kept) (m : Machine) (slot : ℕ) (writes : Bool) (o : MachineObject) (x : Object) (p : ℕ) (u : Use) : Type 0 where
+  pub enters : MayEnter m slot writes o
+  pub as_held : IsHeldAs x o
+  pub free : object_at k p ≡ None
+  pub ranged : p < length k.objects
+  pub within : slot < length k.slots
+  pub placed : u.place ≡ p
+  pub writing : u.writes ≡ writes
+
+module _ (k : Kept) (m : Machine) (number : ℕ → ℕ) (proper : IsProper m) (stand : HandlesStand k m number) (slot : ℕ) (writes : Bool) (o : MachineObject) (x : Object) (p : ℕ) (u : Use) (may : MayAdd k m slot writes o x p u) where
+  abbrev pub next : Machine
+  next = entered m slot writes o
+
+  abbrev pub after : Kept
+  after = with_use (with_object k p (Some x)) slot (Some u)
+
+  abbrev pub numbers : ℕ → ℕ
+  numbers q = if q == p then length m.objects else number q
+
+  new_number : (q : ℕ) → q ≡ p → numbers q ≡ length m.objects
+  new_number q e = ap (λ b. cond b (length m.objects) (number q)) (eq-eqb q p e)
+
+  old_number : (q : ℕ) → q ≢ p → numbers q ≡ number q
+  old_number q apart = ap (λ b. cond b (length m.objects) (number q)) (ne_eqb q p apart)
+
+  here : (q : ℕ) → q ≡ p → object_at after q ≡ Some x
+  here q e = object_set_here k p q (Some x) may.ranged e
+
+  there : (q : ℕ) → q ≢ p → object_at after q ≡ object_at k q
+  there q apart = object_set_other k p q (Some x) apart
+
+  not_free : (q : ℕ) (y : Object) → object_at k q ≡ Some y → q ≢ p
+  not_free q y at e = let never : None ≡ Some y = sym may.free ∙ ap (object_at k) (sym e) ∙ at in cc
+
+  place_taken : (t : ℕ) (v : Use) → use_at k t ≡ Some v → v.place ≢ p
+  place_taken t v at e = go (object_at k v.place) (ap (object_at k) e ∙ may.free) (stand.used t v at)
+    where
+      go : (y : Option Object) → y ≡ None → IsSome y → ⊥
+      go None none some = cc
+      go (Some y) none some = cc
+
+  same_slot : (t : ℕ) (v : Option Use) → use_at k t ≡ v → option_map (slot_of number) v ≡ option_map (slot_of numbers) v
+  same_slot t None at = refl
+  same_slot t (Some v) at = ap (λ n. use_of n v.writes) (sym (old_number v.place (place_taken t v at)))
+
+  -- the objects
+  new_object : IsObjectOf next (length m.objects) x
+  new_object = record {
+    in_use = record {
+      number = (let l = length_more m.objects o in omega (arith, l));
+      slots = has_slots_of next (length m.objects) (record { slot = slot; small = may.enters.small; writes = writes; at = with_slot_same m.slots slot slot (use_of (length m.objects) writes) refl });
+    };
+    as_held = subst (λ y. IsHeldAs x y) (sym (entered_here m slot writes o proper may.enters (length m.objects) refl)) may.as_held;
+  }
+
+  old_object : (q : ℕ) (y : Object) → object_at k q ≡ Some y → IsObjectOf next (number q) y
+  old_object q y at =
+      let old = stand.objects q y at in
+      record {
+        in_use = in_use_along m next (number q) (let l = length_more m.objects o in omega (arith, l))
+            (slot_kept m.slots slot (use_of (length m.objects) writes) (number q) (free_is_none m.slots slot (number q) may.enters.free)) old.in_use;
+        as_held = subst (λ z. IsHeldAs y z) (sym (entered_there m slot writes o proper may.enters (number q) old.in_use.number)) old.as_held;
+      }
+
+  same_object : (i j : ℕ) (y z : Object) → i ≡ j → y ≡ z → IsObjectOf next j z → IsObjectOf next i y
+  same_object i j y z e f h = subst (λ a. IsObjectOf next i a) (sym f) (subst (λ a. IsObjectOf next a z) (sym e) h)
+
+  one_object_there : (q : ℕ) (y : Object) → object_at after q ≡ Some y → q ≡ p → y ≡ x
+  one_object_there q y at e = let same : Some y ≡ Some x = sym at ∙ here q e in cc
+
+  objects_next : (q : ℕ) (y : Object) → object_at after q ≡ Some y → IsObjectOf next (numbers q) y
+  objects_next q y at = elim (cases_eq q p) [
+    | inl e ↦ same_object (numbers q) (length m.objects) y x (new_number q e) (one_object_there q y at e) new_object
+    | inr apart ↦ same_object (numbers q) (number q) y y (old_number q apart) refl (old_object q y (sym (there q apart) ∙ at))
+  ]
+
+  number_below : (q : ℕ) (y : Object) → object_at k q ≡ Some y → number q < length m.objects
+  number_below q y at = (stand.objects q y at).in_use.number
+
+  apart_next : (q r : ℕ) (y z : Object) → object_at after q ≡ Some y → object_at after r ≡ Some z → numbers q ≡ numbers r → q ≡ r
+  apart_next q r y z at_q at_r same = elim (cases_eq q p) [
+    | inl e ↦ elim (cases_eq r p) [
+      | inl f ↦ e ∙ sym f
+      | inr f ↦
+          let lt = number_below r z (sym (there r f) ∙ at_r) in
+          let equal : length m.objects ≡ number r = sym (new_number q e) ∙ same ∙ old_number r f in
+          absurd (omega (arith, lt, equal))
+    ]
+    | inr e ↦ elim (cases_eq r p) [
+      | inl f ↦
+          let lt = number_below q y (sym (there q e) ∙ at_q) in
+          let equal : number q ≡ length m.objects = sym (old_number q e) ∙ same ∙ new_number r f in
+          absurd (omega (arith, lt, equal))
+      | inr f ↦ stand.apart q r y z (sym (there q e) ∙ at_q) (sym (there r f) ∙ at_r) (sym (old_number q e) ∙ same ∙ old_number r f)
+    ]
+  ]
+
+  pub handles_added : HandlesStand after next numbers
+  handles_added = record {
+    slots = λ t lt. elim (cases_eq t slot) [
+      | inl e ↦
+          let n : length m.objects ≡ numbers u.place = sym (new_number u.place may.placed) in
+          with_slot_same m.slots slot t (use_of (length m.objects) writes) e ∙ (λ i. use_of (n i) (sym may.writing i))
+          ∙ sym (ap (option_map (slot_of numbers)) (use_set_here (with_object k p (Some x)) slot t (Some u) may.within e))
+      | inr apart ↦
+          with_slot_other m.slots slot t (use_of (length m.objects) writes) apart ∙ stand.slots t lt ∙ same_slot t (use_at k t) refl
+          ∙ sym (ap (option_map (slot_of numbers)) (use_set_other (with_object k p (Some x)) slot t (Some u) apart))
+    ];
+    used = λ t v at. elim (cases_eq t slot) [
+      | inl e ↦
+          let same = same_place u v (sym (use_set_here (with_object k p (Some x)) slot t (Some u) may.within e) ∙ at) in
+          subst (λ (y : Option Object). IsSome y) (sym (here v.place (sym same ∙ may.placed))) refl
+      | inr apart ↦
+          let old : use_at k t ≡ Some v = sym (use_set_other (with_object k p (Some x)) slot t (Some u) apart) ∙ at in
+          subst (λ (y : Option Object). IsSome y) (sym (there v.place (place_taken t v old))) (stand.used t v old)
+    ];
+    objects = objects_next;
+    apart = apart_next;
+  }
+
+  -- The doomed objects are the same.
+
+  at_on : (d i : ℕ) → IsAt k number d i → IsAt after numbers d i
+  at_on d i a =
+      let apart = not_free a.place a.object a.at_place in
+      record { place = a.place; object = a.object; at_place = there a.place apart ∙ a.at_place; is_doomed = a.is_doomed; numbered = old_number a.place apart ∙ a.numbered }
+
+  new_undoomed : (d i : ℕ) (a : IsAt after numbers d i) → a.place ≢ p
+  new_undoomed d i a e =
+      let same = one_object_there a.place a.object a.at_place e in
+      let never : true ≡ false = sym (ap is_some a.is_doomed) ∙ ap (λ (y : Object). is_some y.doomed) same ∙ may.as_held.doomed ∙ may.enters.undoomed in
+      cc
+
+  pub at_off : (d i : ℕ) → IsAt after numbers d i → IsAt k number d i
+  at_off d i a =
+      let apart = new_undoomed d i a in
+      record { place = a.place; object = a.object; at_place = sym (there a.place apart) ∙ a.at_place; is_doomed = a.is_doomed; numbered = sym (old_number a.place apart) ∙ a.numbered }
+
+  held_below : (i : ℕ) → IsHeldDoomed m i → i < length m.objects
+  held_below i h = held_number m i proper (slot_with m i h.slots)
+
+  pub doomed_added : (files : Files) → DoomedStand files m (IsAt k number) → DoomedStand files next (IsAt after numbers)
+  doomed_added files doomed = record {
+    held = λ i h.
+        let was = held_before_entered m slot writes o proper may.enters i h in
+        let old = doomed.held i was in
+        (old.0, (at_on old.0 i old.1.0, old.1.1 ∙ ap (λ (y : MachineObject). Some (object_file y)) (sym (entered_there m slot writes o proper may.enters i (held_below i was)))));
+    only = λ d some. let old = doomed.only d some in (old.0, (at_on d old.0 old.1.0, held_entered m slot writes o proper may.enters old.0 old.1.1));
+    one_object = λ d i j a b. doomed.one_object d i j (at_off d i a) (at_off d j b);
+    one_number = λ d e i a b. doomed.one_number d e i (at_off d i a) (at_off e i b);
+  }
+
+  -- And what a crash may leave.
+
+  unburied_next : (w : Marks) (s : State) → IsCrashKept s m w (IsAt k number) → (i : ℕ) (y : MachineObject) → slice_get (m.objects ++ o ∷ []) i ≡ Some y → y.doomed ≡ false → is_buried w i ≡ false
+  unburied_next w s kept i y at un = elim (cases_eq i (length m.objects)) [
+    | inl e ↦
+        let young = kept.young in
+        ap (λ z. unwrap_or (option_map (λ (a : MachineObject). a.doomed) z) false) (slice_get_past w.marked.objects i (omega (arith, young, e)))
+    | inr apart ↦
+        let within = slice_get_within (m.objects ++ o ∷ []) i y at in
+        let long = length_more m.objects o in
+        let lt : i < length m.objects = omega (arith, within, long, apart) in
+        let same : nth m.objects i ≡ y = sym (nth-append_old m.objects o i lt) ∙ nth_is (m.objects ++ o ∷ []) i y at in
+        kept.unburied i (nth m.objects i) (nth_there m.objects i lt) (ap (λ (a : MachineObject). a.doomed) same ∙ un)
+  ]
+
+  pub crash_added : (w : Marks) (s : State) → IsCrashKept s m w (IsAt k number) → IsCrashKept s next w (IsAt after numbers)
+  crash_added w s kept = record {
+    safe = kept.safe;
+    once = kept.once;
+    doomed = λ d i file name a h now ever.
+        let was = held_before_entered m slot writes o proper may.enters i h in
+        subst (λ y. WasUnder w i y name) (sym (entered_there m slot writes o proper may.enters i (held_below i was))) (kept.doomed d i file name (at_off d i a) was now ever);
+    unburied = unburied_next w s kept;
+    young = (let young = kept.young in let long = length_more m.objects o in omega (arith, young, long));
+  }

@@ -1,0 +1,103 @@
+-- Whose body a slot reads.
+use Rattle.std.proofs.Common.{◌≡◌, ◌∙◌, ℕ, ◌<◌, List, length, cond, Option, Some, None, Result, Ok, Err, IfErr, IsErrAnd, refl, sym, ap, subst, arith}
+use Rattle.std.specs.Prelude.{IfOk, IfSome, IsErrOf}
+use Rattle.cache_base.specs.Causes.{HasCause}
+use Rattle.cache_base.specs.declared.limits.TheConstants.{SLOTS}
+use Rattle.cache_theory.specs.Checks.{checks}
+use Rattle.cache_theory.specs.Command.Command.{ReadPart}
+use Rattle.cache_theory.specs.Machine.{Machine, Object as MachineObject, object, object_of}
+use Rattle.cache_theory.specs.declared.refusal.Refusal.{Refusal}
+use Rattle.cache_theory.specs.declared.refusal.Refusal.TheVariants.{NoSlot}
+use Rattle.disk_model.specs.State.{State, standing}
+use Rattle.file_handles.specs.Answers.{OnRefused}
+use Rattle.file_handles.specs.Changes.{IsFiledAs}
+use Rattle.file_handles.specs.Held.{body_len_in}
+use Rattle.file_handles.specs.Kept.{Kept, object_at, use_at, used}
+use Rattle.file_handles.specs.Refuses.{Refuses}
+use Rattle.file_handles.specs.Reading.{part_in, part_of_body}
+use Rattle.file_handles.specs.Stands.{HandlesStand, Stands}
+use Rattle.file_handles.specs.declared.fault.HandleFault.{HandleFault}
+use Rattle.file_handles.specs.declared.fault.HandleFault.TheVariants as fault
+use Rattle.file_handles.specs.declared.object.Object.{Object}
+use Rattle.file_handles.specs.declared.object.Use.{Use}
+use Rattle.file_handles.proofs.ElementSlots.{has_object, no_slot, no_use_found, slot_number, use_found}
+use Rattle.file_handles.proofs.ElementEntries.{body_len_is}
+use Rattle.file_handles.proofs.Places.{is_filed}
+
+-- a refusal that is handed on
+pub refused_on : {T : Type 0} (r : Result T Refusal) (f : Refusal) (P : Refusal → Type 0) → IsErrAnd r (λ e. e ≡ f) → P f → IfErr r P
+refused_on (Ok x) f P is p = tt
+refused_on (Err e) f P is p = subst P (sym is) p
+
+module _ (k : Kept) (s : ℕ) (small : s < SLOTS) where
+  -- a slot that is not in use
+  pub part_no_slot : (r : Refusal) → used (use_at k s) ≡ Err r → (from len : ℕ) → Refuses k (ReadPart s from len) r
+  unfolding checks
+  part_no_slot r is from len m number proper stand =
+      let parts = no_use_found (use_at k s) r is in
+      ap (λ b. cond b None (Some NoSlot)) (no_slot k m number stand s small parts.0) ∙ ap Some (sym parts.1)
+
+  -- one that is has an object
+  pub part_no_object : (r : Refusal) (u : Use) → used (use_at k s) ≡ Ok u → object_at k u.place ≡ None → (from len : ℕ) → Refuses k (ReadPart s from len) r
+  part_no_object r u is none from len m number proper stand = absurd (has_object k m number stand s small u (use_found (use_at k s) u is) none)
+
+  -- which is the machine's
+  pub part_object : (m : Machine) (number : ℕ → ℕ) → HandlesStand k m number → (u : Use) → used (use_at k s) ≡ Ok u → object_of m s ≡ object m (number u.place)
+  part_object m number stand u is = ap (object m) (slot_number k m number stand s small u (use_found (use_at k s) u is))
+
+  pub part_len : (m : Machine) (number : ℕ → ℕ) → HandlesStand k m number → (u : Use) (x : Object) → used (use_at k s) ≡ Ok u → object_at k u.place ≡ Some x → body_len_in x.entry ≡ length (object_of m s).version.body
+  part_len m number stand u x is at =
+      body_len_is x.entry (object m (number u.place)) (stand.objects u.place x at).as_held.held_entry ∙ ap (λ o. length o.version.body) (sym (part_object m number stand u is))
+
+-- what is read of a slot's body, once its part was fetched
+pub part_read : (s : State) (k : Kept) (slot : ℕ) → slot < SLOTS → (u : Use) → used (use_at k slot) ≡ Ok u → (shown chunk : List ℕ) (from len : ℕ)
+    → ((x : Object) (o : MachineObject) → object_at k u.place ≡ Some x → IsFiledAs x o s → part_in x.entry chunk from len ≡ part_of_body o.version.body from len)
+    → IfSome (object_at k u.place) (λ x. shown ≡ part_in x.entry chunk from len)
+    → (m : Machine) (number : ℕ → ℕ) → Stands (standing s) k m number → shown ≡ part_of_body (object_of m slot).version.body from len
+part_read s k slot small u is shown chunk from len fetched lent m number stands = go (object_at k u.place) refl
+  where
+    whose : object m (number u.place) ≡ object_of m slot
+    whose = sym (part_object k slot small m number stands.handles u is)
+
+    go : (o : Option Object) → object_at k u.place ≡ o → shown ≡ part_of_body (object_of m slot).version.body from len
+    go None at = absurd (has_object k m number stands.handles slot small u (use_found (use_at k slot) u is) at)
+    go (Some x) at =
+        let P : Option Object → Type 0 = λ o. IfSome o (λ x. shown ≡ part_in x.entry chunk from len) in
+        subst P at lent ∙ fetched x (object m (number u.place)) at (is_filed s k m number stands u.place x at) ∙ ap (λ (o : MachineObject). part_of_body o.version.body from len) whose
+
+-- an error that is handed on
+pub err_is : {T E : Type 0} (r : Result T E) (e : E) → IsErrAnd r (λ f. f ≡ e) → r ≡ Err e
+err_is (Ok x) e is = absurd is
+err_is (Err f) e is = ap (λ e. Err e) is
+
+pub cause_on : {T U : Type 0} (r : Result T HandleFault) (q : Result U HandleFault) (e : HandleFault) (before now : ℕ) → r ≡ Err e → q ≡ Err e → HasCause (IsErrOf r fault.Disk) before now → HasCause (IsErrOf q fault.Disk) before now
+cause_on r q e before now is same h = record {
+  later = h.later;
+  rose = λ f. h.rose (is ∙ ap (λ e. Err e) (disk_of q same f));
+  kept = λ not. h.kept (λ f. not (same ∙ ap (λ e. Err e) (disk_of r is f)));
+}
+  where
+    disk_of : {X : Type 0} (a : Result X HandleFault) → a ≡ Err e → a ≡ Err fault.Disk → e ≡ fault.Disk
+    disk_of {X = X} a is f = let both : ◌≡◌ {A = Result X HandleFault} (Err e) (Err fault.Disk) = sym is ∙ f in cc
+
+-- a refusal is no fault of the disk
+pub no_cause : {T : Type 0} (r : Result T HandleFault) (f : Refusal) (n : ℕ) → r ≡ Err (fault.Refused f) → HasCause (IsErrOf r fault.Disk) n n
+no_cause {T = T} r f n is = record {
+  later = omega arith;
+  rose = λ disk. absurd (let both : ◌≡◌ {A = Result T HandleFault} (Err (fault.Refused f)) (Err fault.Disk) = sym is ∙ disk in let never : fault.Refused f ≡ fault.Disk = cc in cc);
+  kept = λ not. refl;
+}
+
+-- nor is what is read
+pub cause_ok : {T U : Type 0} (r : Result T HandleFault) (x : T) (y : U) (before now : ℕ) → r ≡ Ok x → HasCause (IsErrOf r fault.Disk) before now → HasCause (IsErrOf (Ok y) fault.Disk) before now
+cause_ok {T = T} r x y before now is h = record {
+  later = h.later;
+  rose = λ f. absurd (cc);
+  kept = λ not. h.kept (λ f. let both : ◌≡◌ {A = Result T HandleFault} (Ok x) (Err fault.Disk) = sym is ∙ f in cc);
+}
+
+-- what an error says
+pub error_says : {T : Type 0} (r : Result T HandleFault) (e : HandleFault) (Q : T → Type 0) (P : Refusal → Type 0) → r ≡ Err e → ((f : Refusal) → e ≡ fault.Refused f → P f) → IfOk r Q × OnRefused r P
+error_says {T = T} (Ok x) e Q P is refuses = absurd (cc)
+error_says {T = T} (Err d) e Q P is refuses =
+    (tt, λ f same. refuses f (let both : ◌≡◌ {A = Result T HandleFault} (Err d) (Err e) = is in let one : d ≡ e = cc in sym one ∙ same))

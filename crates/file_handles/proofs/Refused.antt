@@ -1,0 +1,47 @@
+-- A command that is refused changes nothing.
+use Rattle.std.proofs.Common.{◌≡◌, Some, sym, ap, subst}
+use Rattle.cache_base.specs.Checks.{first_failing}
+use Rattle.cache_theory.specs.Checks.{checks}
+use Rattle.cache_theory.specs.Command.{Command}
+use Rattle.cache_theory.specs.Command.Command.{At, Create, OpenKey, Append, Finish, SetElement, UnsetElement, ElementOf, ReadPart, Close, Doom, Get, Flush}
+use Rattle.cache_theory.specs.Command.Reply.{Refused}
+use Rattle.cache_theory.specs.Machine.{Machine}
+use Rattle.cache_theory.specs.Marks.{Marks, acked, begun, begun_by}
+use Rattle.cache_theory.specs.Step.{step, stepped}
+use Rattle.cache_theory.specs.declared.refusal.Refusal.{Refusal}
+use Rattle.disk_model.specs.State.{State}
+use Rattle.file_handles.specs.Carries.{CarriesOut}
+use Rattle.file_handles.specs.Kept.{Kept}
+use Rattle.file_handles.specs.Refuses.{Refuses}
+use Rattle.file_handles.specs.Stands.{IsIn}
+use Rattle.file_handles.proofs.Begun.{begun_in}
+
+begun_refused : (m : Machine) (c : Command) (w : Marks) (r : Refusal) → first_failing (checks m c) ≡ Some r → begun m c w ≡ w
+begun_refused m c w r e = ap (λ o. begun_by o m c w) e
+
+-- and no mark: a flush is not refused
+acked_refused : (m : Machine) (c : Command) (w : Marks) (r : Refusal) → first_failing (checks m c) ≡ Some r → acked m c w ≡ w
+unfolding checks
+acked_refused m Flush w r e = absurd (cc)
+acked_refused m (At now) w r e = begun_refused m (At now) w r e
+acked_refused m (Create s key) w r e = begun_refused m (Create s key) w r e
+acked_refused m (OpenKey s key) w r e = begun_refused m (OpenKey s key) w r e
+acked_refused m (Append s bytes) w r e = begun_refused m (Append s bytes) w r e
+acked_refused m (Finish s) w r e = begun_refused m (Finish s) w r e
+acked_refused m (SetElement s name value) w r e = begun_refused m (SetElement s name value) w r e
+acked_refused m (UnsetElement s name) w r e = begun_refused m (UnsetElement s name) w r e
+acked_refused m (ElementOf s name) w r e = begun_refused m (ElementOf s name) w r e
+acked_refused m (ReadPart s from len) w r e = begun_refused m (ReadPart s from len) w r e
+acked_refused m (Close s) w r e = begun_refused m (Close s) w r e
+acked_refused m (Doom key) w r e = begun_refused m (Doom key) w r e
+acked_refused m (Get key) w r e = begun_refused m (Get key) w r e
+
+-- so it is carried out, whatever the state of the machine and the marks
+pub refused_leaves : (s : State) (k : Kept) (c : Command) (r : Refusal) → Refuses k c r → CarriesOut c (Some (Refused r)) s s k k
+refused_leaves s k c r refuses m w is =
+    let fails : first_failing (checks m c) ≡ Some r = refuses m is.number is.stands.proper is.stands.handles in
+    record {
+      safe = (begun_in s k m c w is).crash_kept.safe;
+      replies = ap (λ o. (stepped m c o).reply) (sym fails);
+      next = subst (λ (v : Marks). IsIn s k (step m c).next v) (sym (acked_refused m c w r fails)) (subst (λ (n : Machine). IsIn s k n w) (ap (λ o. (stepped m c o).next) (sym fails)) is);
+    }

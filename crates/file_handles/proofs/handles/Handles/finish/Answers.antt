@@ -1,0 +1,22 @@
+use Rattle.std.proofs.Common.{inl}
+use Rattle.cache_theory.specs.Command.Command.{Finish}
+use Rattle.file_handles.specs.Changes.{completed}
+use Rattle.file_handles.specs.Kept.{kept}
+use Rattle.file_handles.proofs.Carried.{change_carried}
+use Rattle.file_handles.proofs.ElementChecks.{the_object}
+use Rattle.file_handles.proofs.Places.{filed_somehow}
+use Rattle.file_handles.proofs.WriterCommands.{finish_makes}
+use Rattle.file_handles.proofs.handles.Handles.finish.Goals as goal
+
+pub finish_at-requires-clause-told : goal.finish_at-requires-clause-told
+finish_at-requires-clause-told g c told = filed_somehow _ _ _ (c.requires.told told)
+
+pub returns-clause-carried : goal.returns-clause-carried
+returns-clause-carried g c told =
+    let s = g.D.Disk.state c.args.disk.now in
+    let t = g.D.Disk.state c.finish_at.new.disk in
+    let k = kept c.args.self.now in
+    let there = the_object _ _ c.in_ok-place.ensures.object in
+    change_carried s t (g.met.D.Disk.sound c.args.disk.now told) k (kept c.finish_at.new.self) (Finish c.args.slot) c.args.slot c.requires.slot c.in_ok-place.place there.0 there.1.1.0 completed (λ o. Unit {0})
+    (finish_makes k c.args.slot c.in_ok-place.ensures.passes)
+    c.finish_at.result (c.finish_at.ensures.changes told there.0 there.1.0) (λ o held. inl tt) c.finish_at.ensures.refused

@@ -1,0 +1,71 @@
+use Rattle.std.proofs.Common.{◌≡◌, ◌∙◌, ℕ, List, Bor, refl, sym, subst}
+use Rattle.std.specs.Prelude.{IfSome}
+use Rattle.std.specs.Bool.{IsTrue}
+use Rattle.cache_theory.specs.Command.Command.{ReadPart}
+use Rattle.cache_theory.specs.Machine.{Machine, object_of}
+use Rattle.cache_theory.specs.declared.refusal.Refusal.{Refusal}
+use Rattle.disk_model.specs.State.{standing}
+use Rattle.file_handles.specs.Kept.{Kept, kept, object_at}
+use Rattle.file_handles.specs.Reading.{part_in, part_of_body}
+use Rattle.file_handles.specs.Refuses.{Refuses}
+use Rattle.file_handles.specs.Stands.{Stands}
+use Rattle.file_handles.specs.declared.fault.HandleFault.TheVariants as fault
+use Rattle.file_handles.proofs.PartsSlots.{cause_ok, cause_on, err_is, error_says, no_cause, part_no_object, part_no_slot, part_read}
+use Rattle.file_handles.proofs.handles.Handles.read_part.Goals as goal
+
+pub returns-in_err-used : goal.returns-in_err-used
+returns-in_err-used g c =
+    let s = g.D.Disk.state c.args.disk.now in
+    let k = kept c.args.self.now in
+    let f : Refusal = c.in_err-used.field-0.0 in
+    let is = err_is c.from_residual.result (fault.Refused f) c.from_residual.ensures.1 in
+    let says = error_says c.from_residual.result (fault.Refused f)
+    (λ (part : Bor (List ℕ)). IsTrue g.D.Disk.tells → (m : Machine) (number : ℕ → ℕ) → Stands (standing s) k m number → part.now ≡ part_of_body (object_of m c.args.slot).version.body c.args.from c.args.len)
+    (λ (r : Refusal). Refuses k (ReadPart c.args.slot c.args.from c.args.len) r) is
+    (λ r same.
+    let one : f ≡ r = cc in
+    subst (λ (q : Refusal). Refuses k (ReadPart c.args.slot c.args.from c.args.len) q) one (part_no_slot k c.args.slot c.requires.slot f (sym c.use_of.ensures ∙ c.in_err-used.was) c.args.from c.args.len)) in (
+      (refl, λ _. tt, refl),
+      record { part = says.0; refused = says.1; kept = tt; state = λ told. refl; no_change = λ told. refl; cause = no_cause c.from_residual.result f _ is },
+    )
+
+pub returns-in_err-fetch_part : goal.returns-in_err-fetch_part
+returns-in_err-fetch_part g c =
+    let s = g.D.Disk.state c.args.disk.now in
+    let k = kept c.args.self.now in
+    let e = c.in_err-fetch_part.field-0.0 in
+    let is = err_is c.from_residual-in_err-fetch_part.result e c.from_residual-in_err-fetch_part.ensures.1 in
+    let says = error_says c.from_residual-in_err-fetch_part.result e
+    (λ (part : Bor (List ℕ)). IsTrue g.D.Disk.tells → (m : Machine) (number : ℕ → ℕ) → Stands (standing s) k m number → part.now ≡ part_of_body (object_of m c.args.slot).version.body c.args.from c.args.len)
+    (λ (r : Refusal). Refuses k (ReadPart c.args.slot c.args.from c.args.len) r) is
+    (λ r same. part_no_object k c.args.slot c.requires.slot r c.in_ok-used.used (sym c.use_of.ensures ∙ c.in_ok-used.was) (c.in_err-fetch_part.ensures.refused r same) c.args.from c.args.len) in (
+      (refl, λ _. tt, c.fetch_part.ensures.kept),
+      record {
+        part = says.0;
+        refused = says.1;
+        kept = tt;
+        state = c.fetch_part.ensures.state;
+        no_change = c.fetch_part.ensures.no_change;
+        cause = cause_on c.fetch_part.result c.from_residual-in_err-fetch_part.result e _ _ c.in_err-fetch_part.was is c.fetch_part.ensures.cause;
+      },
+    )
+
+pub returns : goal.returns
+returns g c =
+    let s = g.D.Disk.state c.args.disk.now in
+    let k = kept c.args.self.now in
+    let u = c.in_ok-used.used in
+    let P : Kept → Type 0 = λ l. IfSome (object_at l u.place) (λ x. c.lend_part.result.now ≡ part_in x.entry c.fetch_part.new.self.chunk c.args.from c.args.len) in
+    let lent = subst P c.fetch_part.ensures.kept c.lend_part.ensures in (
+      (refl, λ _. tt, c.fetch_part.ensures.kept),
+      record {
+        part = λ told.
+            part_read s k c.args.slot c.requires.slot u (sym c.use_of.ensures ∙ c.in_ok-used.was) c.lend_part.result.now c.fetch_part.new.self.chunk c.args.from c.args.len
+            (c.in_ok-fetch_part.ensures.part told) lent;
+        refused = tt;
+        kept = tt;
+        state = c.fetch_part.ensures.state;
+        no_change = c.fetch_part.ensures.no_change;
+        cause = cause_ok c.fetch_part.result c.in_ok-fetch_part.field-0 c.lend_part.result _ _ c.in_ok-fetch_part.was c.fetch_part.ensures.cause;
+      },
+    )

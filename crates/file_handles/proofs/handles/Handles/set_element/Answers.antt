@@ -1,0 +1,29 @@
+use Rattle.std.proofs.Common.{arith}
+use Rattle.cache_base.specs.Bytes.{AreBytes}
+use Rattle.cache_base.proofs.ByteLaws.{all_below}
+use Rattle.file_handles.specs.Kept.{kept, object_at}
+use Rattle.entry_parts.specs.Setting.{with_element}
+use Rattle.file_handles.specs.Held.{elements_in}
+use Rattle.file_handles.specs.Refuses.{HasAt}
+use Rattle.file_handles.specs.Setting.{HasRoom}
+use Rattle.file_handles.proofs.ElementChecks.{the_object}
+use Rattle.file_handles.proofs.ElementCommands.{set_leaves}
+use Rattle.file_handles.proofs.Places.{filed_somehow}
+use Rattle.file_handles.proofs.handles.Handles.set_element.Goals as goal
+
+pub change_at-requires-clause-told : goal.change_at-requires-clause-told
+change_at-requires-clause-told g c told = filed_somehow _ _ _ (c.requires.told told)
+
+pub returns-clause-carried : goal.returns-clause-carried
+returns-clause-carried g c told =
+    let s = g.D.Disk.state c.args.disk.now in
+    let t = g.D.Disk.state c.change_at.new.disk in
+    let k = kept c.args.self.now in
+    let name = c.args.name.now in
+    let value = c.args.value.now in
+    let name_bytes : AreBytes name = all_below 256 name (λ i. omega (arith, c.type_inv.name i)) in
+    let value_bytes : AreBytes value = all_below 256 value (λ i. omega (arith, c.type_inv.value i)) in
+    let there = the_object (object_at k c.in_ok-place.place) (λ x. HasAt k c.args.slot c.in_ok-place.place x × HasRoom x.entry (with_element name value (elements_in x.entry))) c.in_ok-place.ensures.object in
+    set_leaves s t (g.met.D.Disk.sound c.args.disk.now told) k (kept c.change_at.new.self) c.args.slot c.requires.slot c.in_ok-place.place there.0 there.1.1.0 name c.change_at.result
+    (c.change_at.ensures.quiet told) c.change_at.ensures.refused
+    value name_bytes value_bytes c.in_ok-place.ensures.passes (c.change_at.ensures.changes told)

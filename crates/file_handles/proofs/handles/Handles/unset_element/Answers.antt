@@ -1,0 +1,53 @@
+use Rattle.std.proofs.Common.{Ok, sym, ap, subst, ◌∙◌}
+use Rattle.cache_theory.specs.Command.Command.{UnsetElement}
+use Rattle.entry_parts.specs.Elements.{element}
+use Rattle.file_handles.specs.Answers.{done_or}
+use Rattle.file_handles.specs.Carries.{CarriesOut}
+use Rattle.file_handles.specs.Kept.{kept, object_at}
+use Rattle.file_handles.specs.Refuses.{HasAt}
+use Rattle.file_handles.proofs.ElementChecks.{at_object}
+use Rattle.file_handles.proofs.ElementCommands.{fault_reply, unset_leaves}
+use Rattle.file_handles.proofs.ElementEntries.{room_without}
+use Rattle.file_handles.proofs.ElementReads.{mapped_none, mapped_some, unset_none_leaves}
+use Rattle.file_handles.proofs.Places.{filed_somehow}
+use Rattle.file_handles.proofs.handles.Handles.unset_element.Goals as goal
+
+pub returns-then-is_none-clause-carried : goal.returns-then-is_none-clause-carried
+returns-then-is_none-clause-carried g c told =
+    let k = kept c.args.self.now in
+    let name = c.args.name.now in
+    let x = c.in_ok-object_at.field-0.now in
+    let has = at_object _ x (HasAt k c.args.slot c.in_ok-place.place) c.in_ok-object_at.ensures.found c.in_ok-place.ensures.object in
+    unset_none_leaves (g.D.Disk.state c.args.disk.now) k c.args.slot c.requires.slot c.in_ok-place.place x has name (c.in_ok-place.ensures.passes name)
+    (mapped_none _ c.get.result _ (c.get.ensures ∙ ap (element name) c.elements.ensures) c.if-is_none.ensures)
+
+pub change_at-requires-clause-room : goal.change_at-requires-clause-room
+change_at-requires-clause-room g c = room_without (object_at (kept c.args.self.now) c.in_ok-place.place) c.args.name.now
+
+pub change_at-requires-clause-told : goal.change_at-requires-clause-told
+change_at-requires-clause-told g c told = filed_somehow _ _ _ (c.requires.told told)
+
+pub returns-in_err-effect-clause-carried : goal.returns-in_err-effect-clause-carried
+returns-in_err-effect-clause-carried g c told =
+    let s = g.D.Disk.state c.args.disk.now in
+    let t = g.D.Disk.state c.change_at.new.disk in
+    let k = kept c.args.self.now in
+    let after = kept c.change_at.new.self in
+    let name = c.args.name.now in
+    let x = c.in_ok-object_at.field-0.now in
+    let has = at_object _ x (HasAt k c.args.slot c.in_ok-place.place) c.in_ok-object_at.ensures.found c.in_ok-place.ensures.object in
+    let some = mapped_some _ c.get.result _ (c.get.ensures ∙ ap (element name) c.elements.ensures) c.if-is_none.ensures in
+    subst (λ reply. CarriesOut (UnsetElement c.args.slot name) reply s t k after)
+    (ap done_or c.in_err-effect.was ∙ sym (fault_reply c.from_residual-in_err-effect.result c.in_err-effect.field-0.0 c.from_residual-in_err-effect.ensures.1))
+    (unset_leaves s t (g.met.D.Disk.sound c.args.disk.now told) k after c.args.slot c.requires.slot c.in_ok-place.place x has name c.change_at.result (c.change_at.ensures.quiet told) c.change_at.ensures.refused
+    some.0 some.1 (c.in_ok-place.ensures.passes name) (c.change_at.ensures.changes told))
+
+pub returns-clause-carried : goal.returns-clause-carried
+returns-clause-carried g c told =
+    let k = kept c.args.self.now in
+    let name = c.args.name.now in
+    let x = c.in_ok-object_at.field-0.now in
+    let has = at_object _ x (HasAt k c.args.slot c.in_ok-place.place) c.in_ok-object_at.ensures.found c.in_ok-place.ensures.object in
+    let some = mapped_some _ c.get.result _ (c.get.ensures ∙ ap (element name) c.elements.ensures) c.if-is_none.ensures in
+    unset_leaves _ _ (g.met.D.Disk.sound c.args.disk.now told) k _ c.args.slot c.requires.slot c.in_ok-place.place x has name (Ok c.in_ok-effect.effect) (c.change_at.ensures.quiet told) c.in_ok-effect.ensures.refused
+    some.0 some.1 (c.in_ok-place.ensures.passes name) (c.in_ok-effect.ensures.changes told)

@@ -1,0 +1,61 @@
+-- What a call does that changes one object, and writes to its file alone.
+use Rattle.std.specs.Prelude.{IfOk, IsOkAnd, List, OnOk, Result, Some, false, true, ℕ, ◌++◌, ◌≡◌, ◌⊎◌}
+use Rattle.cache_theory.specs.Machine.{Object as MachineObject}
+use Rattle.cache_theory.specs.Proper.{IsObject}
+use Rattle.cache_theory.specs.Stands.{object_file}
+use Rattle.disk_model.specs.State.{State, standing}
+use Rattle.disk_model.specs.Writes.{WritesAt}
+use Rattle.entry_file.specs.EntryFile.{fits}
+use Rattle.entry_file.specs.Version.{Version, file_of}
+use Rattle.file_handles.specs.Held.{IsHeldAs, object_place}
+use Rattle.file_handles.specs.Kept.{Kept, object_at, with_object}
+use Rattle.file_handles.specs.declared.fault.HandleFault.{HandleFault}
+use Rattle.file_handles.specs.declared.object.Object.{Object}
+
+-- a new moment of the file of an object that becomes `o`: it fits under no name, or is the file of o's version
+abbrev pub IsMomentOf : MachineObject → List ℕ → Type 0
+IsMomentOf o c = ((name : List ℕ) → fits name c ≡ false) ⊎ ((o.finished ≡ true) × (c ≡ file_of o.version))
+
+-- the object is the machine's, and its file stands where it should
+pub record IsFiledAs (x : Object) (o : MachineObject) (s : State) : Type 0 where
+  pub as_held : IsHeldAs x o
+  pub object : IsObject o
+  pub file : standing s (object_place x) ≡ Some (object_file o)
+
+-- the object that x becomes is that of a change of the machine's objects
+pub record Becomes (x y : Object) (o : MachineObject) (t : State) : Type 0 where
+  pub same_place : object_place y ≡ object_place x
+  pub same_name : y.name ≡ x.name
+  pub same_number : y.doomed ≡ x.doomed
+  pub as_held : IsHeldAs y o
+  pub file : standing t (object_place x) ≡ Some (object_file o)
+
+-- a call makes this change of every machine's object that x is: at every exit its file alone was written to, and after
+-- an Ok it is changed
+pub record Changes (x : Object) (change : MachineObject → MachineObject) (changed : Result Object HandleFault) (s t : State) : Type 0 where
+  pub writes : (o : MachineObject) → IsFiledAs x o s → WritesAt (object_place x) (IsMomentOf (change o)) s t
+  pub becomes : IfOk changed (λ y. (o : MachineObject) → IsFiledAs x o s → Becomes x y (change o) t)
+
+-- it makes it of the object at a place, and changes nothing else of the handles
+pub record ChangesAt {T : Type 0} (p : ℕ) (change : MachineObject → MachineObject) (answer : Result T HandleFault) (s t : State) (before after : Kept) (x : Object) : Type 0 where
+  pub changed : Result Object HandleFault
+  pub changes : Changes x change changed s t
+  pub put_back : OnOk answer (IsOkAnd changed (λ y. after ≡ with_object before p (Some y)))
+
+-- the object at a place, if there is one
+abbrev pub ChangesThere : {T : Type 0} → ℕ → (MachineObject → MachineObject) → Result T HandleFault → State → State → Kept → Kept → Type 0
+ChangesThere p change answer s t before after = (x : Object) → object_at before p ≡ Some x → ChangesAt p change answer s t before after x
+
+-- the object at a place is that of a machine's, with its file
+abbrev pub IsFiledAt : State → Kept → ℕ → Type 0
+IsFiledAt s k p = (x : Object) → object_at k p ≡ Some x → (o : MachineObject) × IsFiledAs x o s
+
+-- the changes: bytes more in the body, the entry finished, and its elements changed
+abbrev pub appended : List ℕ → MachineObject → MachineObject
+appended bytes o = record o { version = record (o.version) { body = o.version.body ++ bytes } }
+
+abbrev pub completed : MachineObject → MachineObject
+completed o = record o { finished = true }
+
+abbrev pub with_version : (Version → Version) → MachineObject → MachineObject
+with_version f o = record o { version = f o.version }

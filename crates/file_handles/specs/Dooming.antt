@@ -1,0 +1,33 @@
+-- An object that loses its name.
+use Rattle.std.specs.Prelude.{List, OnOk, Option, Result, filter_map, option_and_then, true, ℕ, ◌≡◌}
+use Rattle.cache_base.specs.Checks.{first_failing}
+use Rattle.cache_theory.specs.Checks.{checks}
+use Rattle.cache_theory.specs.Command.{Command}
+use Rattle.cache_theory.specs.Crash.{IsSafe}
+use Rattle.cache_theory.specs.Machine.{Machine}
+use Rattle.cache_theory.specs.Marks.{Marks, is_touched}
+use Rattle.cache_theory.specs.Step.{doomed_under}
+use Rattle.cache_theory.specs.declared.refusal.Refusal.{Refusal}
+use Rattle.disk_model.specs.State.{State, standing}
+use Rattle.file_handles.specs.Kept.{Kept}
+use Rattle.file_handles.specs.Stands.{IsIn, Stands}
+use Rattle.file_handles.specs.declared.fault.HandleFault.{HandleFault}
+use Rattle.file_handles.specs.declared.object.Object.{Object}
+
+-- the number of a doomed object
+abbrev pub number_in : Option Object → Option ℕ
+number_in x = option_and_then (λ y. y.doomed) x
+
+-- the numbers of the doomed objects
+abbrev pub numbers_in : List (Option Object) → List ℕ
+numbers_in objects = filter_map number_in objects
+
+-- the object in use under a name is doomed, whatever the state of the machine, and the marks in which the name is touched
+abbrev pub DoomsUnder : {T : Type 0} → List ℕ → Result T HandleFault → State → State → Kept → Kept → Type 0
+DoomsUnder name answer s t before after =
+    (m : Machine) (w : Marks) → is_touched w name ≡ true → IsIn s before m w
+    → IsSafe t w × OnOk answer (IsIn t after (doomed_under m name) w)
+
+-- the checks of a command end so, whatever machine the files and the handles stand for
+abbrev pub EndsOn : State → Kept → Command → Option Refusal → Type 0
+EndsOn s k c end = (m : Machine) (number : ℕ → ℕ) → Stands (standing s) k m number → first_failing (checks m c) ≡ end

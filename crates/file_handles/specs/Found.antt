@@ -1,0 +1,32 @@
+-- The test part of a `get`.
+use Rattle.std.specs.Prelude.{IfOk, List, Result, Some, ℕ, ◌≡◌}
+use Rattle.cache_theory.specs.Command.Command.{Get}
+use Rattle.cache_theory.specs.Command.Reply.{Found, Refused}
+use Rattle.cache_theory.specs.Ever.{entries}
+use Rattle.cache_theory.specs.Machine.{Machine}
+use Rattle.cache_theory.specs.Step.{step}
+use Rattle.disk_model.specs.State.{State, standing}
+use Rattle.entry_file.specs.Version.{IsVersion, Version, file_of, version_meta}
+use Rattle.entry_metadata.specs.Meta.{meta_of}
+use Rattle.entry_metadata.specs.declared.meta.Meta.{Meta}
+use Rattle.entry_name.specs.EntryName.{file_name}
+use Rattle.file_handles.specs.Answers.{OnRefused}
+use Rattle.file_handles.specs.Kept.{Kept}
+use Rattle.file_handles.specs.Stands.{Stands}
+use Rattle.file_handles.specs.declared.fault.HandleFault.{HandleFault}
+
+-- the machine finds this version, of these metadata, and its file stands
+pub record IsFound (m : Machine) (key : List ℕ) (meta : Meta) (s : State) : Type 0 where
+  pub version : Version
+  pub fits : IsVersion version
+  pub reply : (step m (Get key)).reply ≡ Found version
+  pub of_meta : meta_of meta ≡ version_meta version
+  pub file : entries (standing s) (file_name key) ≡ Some (file_of version)
+
+-- it finds what the machine finds, whatever its state
+pub record FindsIn (key : List ℕ) (answer : Result Meta HandleFault) (s : State) (m : Machine) : Type 0 where
+  pub some : IfOk answer (λ meta. IsFound m key meta s)
+  pub none : OnRefused answer (λ r. (step m (Get key)).reply ≡ Refused r)
+
+abbrev pub Finds : List ℕ → Result Meta HandleFault → State → Kept → Type 0
+Finds key answer s k = (m : Machine) (number : ℕ → ℕ) → Stands (standing s) k m number → FindsIn key answer s m

@@ -1,0 +1,40 @@
+-- What the handles keep: an object at some of the places, and a use for some of the slots.
+use Rattle.std.specs.Prelude.{Err, List, None, Ok, Option, Result, Some, if◌then◌else◌, option_and_then, slice_get, slice_set, unwrap_or, ℕ}
+use Rattle.cache_theory.specs.declared.refusal.Refusal.{Refusal}
+use Rattle.cache_theory.specs.declared.refusal.Refusal.TheVariants as refused
+use Rattle.file_handles.specs.declared.handles.Handles.{Handles}
+use Rattle.file_handles.specs.declared.object.Object.{Object}
+use Rattle.file_handles.specs.declared.object.Use.{Use}
+
+pub record Kept : Type 0 where
+  pub objects : List (Option Object)
+  pub slots : List (Option Use)
+
+abbrev pub kept : Handles → Kept
+kept h = record { objects = h.objects; slots = h.slots }
+
+-- the object at a place, the use of a slot, and the object of a slot
+abbrev pub object_at : Kept → ℕ → Option Object
+object_at k p = unwrap_or (slice_get k.objects p) None
+
+abbrev pub use_at : Kept → ℕ → Option Use
+use_at k s = unwrap_or (slice_get k.slots s) None
+
+abbrev pub object_in : Kept → ℕ → Option Object
+object_in k s = option_and_then (λ u. object_at k u.place) (use_at k s)
+
+-- another object at a place, or none, and another use of a slot
+abbrev pub with_object : Kept → ℕ → Option Object → Kept
+with_object k p x = record k { objects = slice_set k.objects p x }
+
+abbrev pub with_use : Kept → ℕ → Option Use → Kept
+with_use k s u = record k { slots = slice_set k.slots s u }
+
+-- the use of a slot that has one, and that of one that writes
+abbrev pub used : Option Use → Result Use Refusal
+used None = Err refused.NoSlot
+used (Some u) = Ok u
+
+abbrev pub writing : Option Use → Result Use Refusal
+writing None = Err refused.NoSlot
+writing (Some u) = if u.writes then Ok u else Err refused.NotWriter

@@ -1,0 +1,28 @@
+-- Commands that the machine refuses, and those that it does not, as the handles alone tell.
+use Rattle.std.specs.Prelude.{None, Option, Some, option_map, ℕ, ◌<◌, ◌≡◌}
+use Rattle.cache_base.specs.Checks.{first_failing}
+use Rattle.cache_base.specs.declared.limits.TheConstants.{SLOTS}
+use Rattle.cache_theory.specs.Checks.{checks}
+use Rattle.cache_theory.specs.Command.{Command}
+use Rattle.cache_theory.specs.Machine.{Machine}
+use Rattle.cache_theory.specs.Proper.{IsProper}
+use Rattle.cache_theory.specs.declared.refusal.Refusal.{Refusal}
+use Rattle.file_handles.specs.Kept.{Kept, object_at, use_at}
+use Rattle.file_handles.specs.Stands.{HandlesStand}
+use Rattle.file_handles.specs.declared.object.Object.{Object}
+
+-- whatever machine the handles stand for, its checks of the command end so
+abbrev pub EndsIn : Kept → Command → Option Refusal → Type 0
+EndsIn k c end = (m : Machine) (number : ℕ → ℕ) → IsProper m → HandlesStand k m number → first_failing (checks m c) ≡ end
+
+abbrev pub Refuses : Kept → Command → Refusal → Type 0
+Refuses k c r = EndsIn k c (Some r)
+
+abbrev pub Passes : Kept → Command → Type 0
+Passes k c = EndsIn k c None
+
+-- the slot has this place, and this object is there
+pub record HasAt (k : Kept) (s p : ℕ) (x : Object) : Type 0 where
+  pub ranged : p < SLOTS
+  pub place : option_map (λ u. u.place) (use_at k s) ≡ Some p
+  pub found : object_at k p ≡ Some x

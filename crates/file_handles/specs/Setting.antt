@@ -1,0 +1,36 @@
+-- A change of an entry's elements.
+use Rattle.std.specs.Prelude.{Bool, List, None, Option, Some, if◌then◌else◌, length, nat_le, ℕ, ◌&&◌, ◌≤◌}
+use Rattle.cache_base.specs.Limits.{chunks}
+use Rattle.cache_base.specs.declared.limits.TheConstants.{BLOCK_MAX, ELEMENTS_MAX}
+use Rattle.entry_file.specs.Version.{Version}
+use Rattle.entry_metadata.specs.Metadata.{block_length}
+use Rattle.entry_parts.specs.Elements.{Element, elements_bytes}
+use Rattle.entry_parts.specs.Setting.{with_element, without_element}
+use Rattle.file_handles.specs.Held.{body_len_in, key_in}
+use Rattle.file_handles.specs.declared.elements.Change.{Change}
+use Rattle.file_handles.specs.declared.elements.Change.TheVariants as change
+use Rattle.file_handles.specs.declared.object.Entry.{Entry}
+use Rattle.file_handles.specs.declared.object.Entry.TheVariants as entry
+
+-- the elements after a change
+abbrev pub changed_by : Change → List Element → List Element
+changed_by (change.Set name value) es = with_element name.now value.now es
+changed_by (change.Remove name) es = without_element name.now es
+
+abbrev pub with_change : Change → Version → Version
+with_change c v = record v { elements = changed_by c v.elements }
+
+-- the entry has room for these elements
+abbrev pub HasRoom : Entry → List Element → Type 0
+HasRoom (entry.Draft d) es = length (elements_bytes es) ≤ ELEMENTS_MAX
+HasRoom (entry.Finished meta) es = block_length (length meta.hashes) (length meta.key) (length (elements_bytes es)) ≤ BLOCK_MAX
+
+-- the elements are small, and so is the block of the entry with them
+abbrev pub are_small : Entry → List Element → Bool
+are_small x es =
+    nat_le (length (elements_bytes es)) ELEMENTS_MAX
+    && nat_le (block_length (chunks (body_len_in x)) (length (key_in x)) (length (elements_bytes es))) BLOCK_MAX
+
+-- a length that is small
+abbrev pub small_len : ℕ → Option ℕ
+small_len n = if nat_le n ELEMENTS_MAX then Some n else None

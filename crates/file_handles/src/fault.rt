@@ -1,0 +1,58 @@
+//! What a call answers.
+
+ghost use Rattle.std.specs.Prelude.{◌≡◌};
+ghost use Rattle.file_handles.specs.Answers.{fault_of};
+ghost use Rattle.file_handles.specs.declared.fault.HandleFault.TheVariants.{Memory, Refused};
+
+use cache_base::{Name, NoMemory};
+use cache_theory::Refusal;
+use disk_model::DiskFault;
+
+/// Why a call did nothing, or failed.
+#[derive(Clone, Copy, Debug, PartialEq, Eq)]
+pub enum HandleFault {
+    /// The command is refused, and nothing changed.
+    Refused(Refusal),
+    /// The disk failed. The handles may only be dropped.
+    Disk,
+    /// Memory ran out. The handles may only be dropped.
+    Memory,
+}
+
+impl From<DiskFault> for HandleFault {
+    ghost from_gives = { λ fault e. e ≡ fault_of fault };
+
+    fn from(fault: DiskFault) -> Self {
+        match fault {
+            DiskFault::Failed => HandleFault::Disk,
+            DiskFault::Memory => HandleFault::Memory,
+        }
+    }
+}
+
+impl From<NoMemory> for HandleFault {
+    ghost from_gives = { λ _ e. e ≡ Memory };
+
+    fn from(_: NoMemory) -> Self {
+        HandleFault::Memory
+    }
+}
+
+impl From<Refusal> for HandleFault {
+    ghost from_gives = { λ refusal e. e ≡ Refused refusal };
+
+    fn from(refusal: Refusal) -> Self {
+        HandleFault::Refused(refusal)
+    }
+}
+
+/// What an index must learn of a call.
+#[derive(Clone, Copy, Debug, PartialEq, Eq)]
+pub enum Effect {
+    /// No entry file changed that is not doomed.
+    Same,
+    /// No finished entry stands under the name any more.
+    Gone(Name),
+    /// An entry was finished under the name, or its metadata were written anew.
+    Wrote(Name),
+}

@@ -1,0 +1,121 @@
+//! An entry that its writer finishes.
+
+ghost use Rattle.std.specs.Prelude.{◌≡◌, ◌<◌, IfErr, IfOk, IfSome, IsErrOf, IsSomeAnd, IsTrue, None, OnOk, true};
+ghost use Rattle.cache_base.specs.Causes.{HasCause};
+ghost use Rattle.cache_base.specs.declared.limits.TheConstants.{SLOTS};
+ghost use Rattle.cache_theory.specs.Command.Command.{Finish};
+ghost use Rattle.disk_model.specs.Calls.{StopsAtFault};
+ghost use Rattle.file_handles.specs.Answers.{OnRefused, done_or};
+ghost use Rattle.file_handles.specs.Effects.{wrote_effect, wrote_where};
+ghost use Rattle.file_handles.specs.Held.{is_draft};
+
+use crate::object::{Draft, Entry, Object};
+use crate::{Effect, HandleFault, Handles};
+use cache_base::BODY_MAX;
+use cache_theory::Refusal;
+use disk_model::Disk;
+use std::alloc::Global;
+
+impl Object {
+    /// What an index must learn where its file was written whole.
+    pub(crate) fn wrote(&self) -> Effect
+        ensures { result ≡ wrote_effect self.now.name self.now.doomed }
+    {
+        match self.doomed {
+            Some(_) => Effect::Same,
+            None => Effect::Wrote(self.name),
+        }
+    }
+}
+
+impl Handles {
+    ghost use Rattle.file_handles.specs.Carries.{CarriesOut};
+    ghost use Rattle.file_handles.specs.Changes.{ChangesThere, IsFiledAt, completed};
+    ghost use Rattle.file_handles.specs.Kept.{kept, object_at as object_kept_at, object_in};
+    ghost use Rattle.file_handles.specs.Refuses.{HasAt, Passes, Refuses};
+    ghost use Rattle.file_handles.specs.Stands.{StandsSomehow};
+
+    // The place of the draft that a slot may finish.
+    fn may_finish(&self, slot: u8) -> Result<usize, Refusal>
+        requires { slot < SLOTS }
+        ensures refused { IfErr result (λ r. Refuses (kept self.now) (Finish slot) r) }
+        ensures passes { OnOk result (Passes (kept self.now) (Finish slot)) }
+        ensures object { IfOk result (λ place. IsSomeAnd (object_kept_at (kept self.now) place) (λ x. HasAt (kept self.now) slot place x × (is_draft x.entry ≡ true))) }
+    {
+        let used = self.writing(slot)?;
+        match self.object_at(used.place)?.entry {
+            Entry::Draft(_) => Ok(used.place),
+            Entry::Finished(_) => Err(Refusal::Finished),
+        }
+    }
+
+    /// Finishes the draft at a place: its file becomes whole, by one call of the disk.
+    pub(crate) fn finish_at<D: Disk>(
+        &mut self,
+        alloc: Global,
+        disk: &mut D,
+        place: usize,
+    ) -> Result<Effect, HandleFault>
+        requires place { place < SLOTS }
+        requires draft { IfSome (object_kept_at (kept self.old) place) (λ x. is_draft x.entry ≡ true) }
+        requires told { IsTrue D.tells → IsFiledAt (D.state disk.old) (kept self.old) place }
+        ensures changes { IsTrue D.tells → ChangesThere place completed result (D.state disk.old) (D.state disk.new) (kept self.old) (kept self.new) }
+        ensures effect { IfOk result (λ effect. effect ≡ wrote_where (λ x. true) (object_kept_at (kept self.old) place)) }
+        ensures refused { OnRefused result (λ _. object_kept_at (kept self.old) place ≡ None) }
+        ensures went_on { OnOk result (IsTrue D.tells → (D.counts disk.new).failed_change ≡ (D.counts disk.old).failed_change) }
+        ensures stops { IsTrue D.tells → StopsAtFault (D.counts disk.old) (D.counts disk.new) }
+        ensures cause { HasCause (IsErrOf result HandleFault.Disk) (D.faults disk.old) (D.faults disk.new) }
+    {
+        let object = self.take(place)?;
+        let file = object.file_place();
+        let effect = object.wrote();
+        let Object {
+            name,
+            doomed,
+            entry,
+        } = object;
+        let Entry::Draft(draft) = entry else {
+            return Err(HandleFault::Memory);
+        };
+        // No body is longer, so that its block is small.
+        if draft.body.len() as usize > BODY_MAX {
+            return Err(HandleFault::Memory);
+        }
+        let Draft {
+            body,
+            header,
+            key,
+            elements,
+        } = draft;
+        let meta = body.finish(alloc, disk, &file, header, key, elements)?;
+        let entry = Entry::Finished(meta);
+        self.put(
+            place,
+            Object {
+                name,
+                doomed,
+                entry,
+            },
+        );
+        Ok(effect)
+    }
+
+    /// Finishes the entry of a slot: its file becomes whole, by one call of the disk.
+    pub fn finish<D: Disk>(
+        &mut self,
+        alloc: Global,
+        disk: &mut D,
+        slot: u8,
+    ) -> Result<Effect, HandleFault>
+        requires slot { slot < SLOTS }
+        requires told { IsTrue D.tells → StandsSomehow (D.state disk.old) (kept self.old) }
+        ensures carried { IsTrue D.tells → CarriesOut (Finish slot) (done_or result) (D.state disk.old) (D.state disk.new) (kept self.old) (kept self.new) }
+        ensures effect { IfOk result (λ effect. effect ≡ wrote_where (λ x. true) (object_in (kept self.old) slot)) }
+        ensures went_on { OnOk result (IsTrue D.tells → (D.counts disk.new).failed_change ≡ (D.counts disk.old).failed_change) }
+        ensures stops { IsTrue D.tells → StopsAtFault (D.counts disk.old) (D.counts disk.new) }
+        ensures cause { HasCause (IsErrOf result HandleFault.Disk) (D.faults disk.old) (D.faults disk.new) }
+    {
+        let place = self.may_finish(slot)?;
+        self.finish_at(alloc, disk, place)
+    }
+}

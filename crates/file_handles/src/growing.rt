@@ -1,0 +1,116 @@
+//! Bytes more for a body.
+
+ghost use Rattle.std.specs.Prelude.{ℕ, List, ◌≡◌, ◌<◌, IfErr, IfOk, IfSome, IsErrOf, IsSomeAnd, IsTrue, None, OnOk, length, Ok};
+ghost use Rattle.cache_base.specs.Causes.{HasCause};
+ghost use Rattle.cache_base.specs.declared.limits.TheConstants.{SLOTS};
+ghost use Rattle.cache_theory.specs.Command.Command.{Append};
+ghost use Rattle.disk_model.specs.Calls.{StopsAtFault};
+ghost use Rattle.file_handles.specs.Answers.{OnRefused, done_or};
+ghost use Rattle.file_handles.specs.Growing.{grow_fault};
+
+use crate::object::{Draft, Entry, Object};
+use crate::{HandleFault, Handles};
+use cache_base::BODY_MAX;
+use cache_theory::Refusal;
+use disk_model::Disk;
+
+// The first reason why the body of an entry may not get so many bytes more.
+fn may_grow(entry: &Entry, more: usize) -> Result<(), Refusal>
+    ensures { result ≡ grow_fault entry.now more }
+{
+    let Entry::Draft(draft) = entry else {
+        return Err(Refusal::Finished);
+    };
+    let len = draft.body.len() as usize;
+    if len > BODY_MAX || more > BODY_MAX - len {
+        return Err(Refusal::TooLarge);
+    }
+    Ok(())
+}
+
+impl Handles {
+    ghost use Rattle.file_handles.specs.Carries.{CarriesOut};
+    ghost use Rattle.file_handles.specs.Changes.{ChangesThere, IsFiledAt, appended};
+    ghost use Rattle.file_handles.specs.Kept.{kept, object_at as object_kept_at};
+    ghost use Rattle.file_handles.specs.Refuses.{HasAt, Passes, Refuses};
+    ghost use Rattle.file_handles.specs.Stands.{StandsSomehow};
+
+    // The place of the draft to which a slot may add so many bytes.
+    fn may_append(&self, slot: u8, more: usize) -> Result<usize, Refusal>
+        requires { slot < SLOTS }
+        ensures refused { IfErr result (λ r. (bytes : List ℕ) → length bytes ≡ more → Refuses (kept self.now) (Append slot bytes) r) }
+        ensures passes { OnOk result ((bytes : List ℕ) → length bytes ≡ more → Passes (kept self.now) (Append slot bytes)) }
+        ensures object { IfOk result (λ place. IsSomeAnd (object_kept_at (kept self.now) place) (λ x. HasAt (kept self.now) slot place x × (grow_fault x.entry more ≡ Ok tt))) }
+    {
+        let used = self.writing(slot)?;
+        let object = self.object_at(used.place)?;
+        may_grow(&object.entry, more)?;
+        Ok(used.place)
+    }
+
+    // Adds bytes to the body of the draft at a place.
+    fn append_at<D: Disk>(
+        &mut self,
+        disk: &mut D,
+        place: usize,
+        b: &[u8],
+    ) -> Result<(), HandleFault>
+        requires place { place < SLOTS }
+        requires limit { IfSome (object_kept_at (kept self.old) place) (λ x. grow_fault x.entry (length b.now) ≡ Ok tt) }
+        requires told { IsTrue D.tells → IsFiledAt (D.state disk.old) (kept self.old) place }
+        ensures changes { IsTrue D.tells → ChangesThere place (appended b.now) result (D.state disk.old) (D.state disk.new) (kept self.old) (kept self.new) }
+        ensures refused { OnRefused result (λ _. object_kept_at (kept self.old) place ≡ None) }
+        ensures went_on { OnOk result (IsTrue D.tells → (D.counts disk.new).failed_change ≡ (D.counts disk.old).failed_change) }
+        ensures stops { IsTrue D.tells → StopsAtFault (D.counts disk.old) (D.counts disk.new) }
+        ensures cause { HasCause (IsErrOf result HandleFault.Disk) (D.faults disk.old) (D.faults disk.new) }
+    {
+        let object = self.take(place)?;
+        let file = object.file_place();
+        let Object {
+            name,
+            doomed,
+            entry,
+        } = object;
+        let Entry::Draft(draft) = entry else {
+            return Err(HandleFault::Memory);
+        };
+        let Draft {
+            body,
+            header,
+            key,
+            elements,
+        } = draft;
+        let mut body = body;
+        body.append(disk, &file, b)?;
+        let draft = Draft {
+            body,
+            header,
+            key,
+            elements,
+        };
+        let entry = Entry::Draft(draft);
+        self.put(
+            place,
+            Object {
+                name,
+                doomed,
+                entry,
+            },
+        );
+        Ok(())
+    }
+
+    /// Adds bytes to the body of a slot's entry. Each chunk goes out as soon as it is full; within a chunk no call of the
+    /// disk is made.
+    pub fn append<D: Disk>(&mut self, disk: &mut D, slot: u8, b: &[u8]) -> Result<(), HandleFault>
+        requires slot { slot < SLOTS }
+        requires told { IsTrue D.tells → StandsSomehow (D.state disk.old) (kept self.old) }
+        ensures carried { IsTrue D.tells → CarriesOut (Append slot b.now) (done_or result) (D.state disk.old) (D.state disk.new) (kept self.old) (kept self.new) }
+        ensures went_on { OnOk result (IsTrue D.tells → (D.counts disk.new).failed_change ≡ (D.counts disk.old).failed_change) }
+        ensures stops { IsTrue D.tells → StopsAtFault (D.counts disk.old) (D.counts disk.new) }
+        ensures cause { HasCause (IsErrOf result HandleFault.Disk) (D.faults disk.old) (D.faults disk.new) }
+    {
+        let place = self.may_append(slot, b.len())?;
+        self.append_at(disk, place, b)
+    }
+}

@@ -1,0 +1,138 @@
+//! The table of entries in use, and of the slots that use them.
+
+ghost use Rattle.std.specs.Prelude.{◌≡◌, ◌<◌, EachIndex, IfErr, IfOk, None, Some, slice_index_or};
+ghost use Rattle.std.specs.List.{position};
+ghost use Rattle.cache_base.specs.declared.limits.TheConstants.{SLOTS};
+ghost use Rattle.file_handles.specs.Finding.{is_free, is_user};
+
+use crate::object::{Object, Use};
+use cache_base::{Buffer, Name, NoMemory, SLOTS};
+use cache_theory::{Refusal, opens_proper};
+use std::alloc::Global;
+
+/// The entries in use. After an answer `Disk` or `Memory` of a call that changes them they may only be dropped.
+#[derive(Drop)]
+pub struct Handles {
+    pub(crate) objects: [Option<Object>; SLOTS],
+    pub(crate) slots: [Option<Use>; SLOTS],
+    // The chunk that was read last.
+    pub(crate) chunk: Buffer,
+}
+
+impl Handles {
+    ghost use Rattle.file_handles.specs.Carries.{Begins};
+    ghost use Rattle.file_handles.specs.Kept.{kept, object_at as object_kept_at, use_at, used as used_or, with_object, writing as writing_or};
+
+    /// No entry is in use. The memory for a chunk is taken here.
+    pub fn new(alloc: Global) -> Result<Handles, NoMemory>
+        ensures { IfOk result (λ handles. Begins (kept handles)) }
+    {
+        opens_proper();
+        Ok(Handles {
+            objects: no_objects(),
+            slots: no_uses(),
+            chunk: Buffer::new(alloc)?,
+        })
+    }
+
+    /// What a slot has.
+    pub(crate) fn use_of(&self, slot: u8) -> Result<Use, Refusal>
+        requires { slot < SLOTS }
+        ensures { result ≡ used_or (use_at (kept self.now) slot) }
+    {
+        match self.slots[usize::from(slot)] {
+            Some(used) => Ok(used),
+            None => Err(Refusal::NoSlot),
+        }
+    }
+
+    /// What a slot has that writes.
+    pub(crate) fn writing(&self, slot: u8) -> Result<Use, Refusal>
+        requires { slot < SLOTS }
+        ensures { result ≡ writing_or (use_at (kept self.now) slot) }
+    {
+        let used = self.use_of(slot)?;
+        if used.writes {
+            Ok(used)
+        } else {
+            Err(Refusal::NotWriter)
+        }
+    }
+
+    /// The object at a place. That there is none is answered as for a slot that is not in use.
+    pub(crate) fn object_at(&self, place: usize) -> Result<&Object, Refusal>
+        requires { place < SLOTS }
+        ensures found { IfOk result (λ object. object_kept_at (kept self.now) place ≡ Some object.now) }
+        ensures none { IfErr result (λ _. object_kept_at (kept self.now) place ≡ None) }
+    {
+        match &self.objects[place] {
+            Some(object) => Ok(object),
+            None => Err(Refusal::NoSlot),
+        }
+    }
+
+    /// Takes the object at a place out of the table.
+    pub(crate) fn take(&mut self, place: usize) -> Result<Object, Refusal>
+        requires { place < SLOTS }
+        ensures found { IfOk result (λ object. object_kept_at (kept self.old) place ≡ Some object) }
+        ensures none { IfErr result (λ _. object_kept_at (kept self.old) place ≡ None) }
+        ensures kept { kept self.new ≡ with_object (kept self.old) place None }
+    {
+        match self.objects[place].take() {
+            Some(object) => Ok(object),
+            None => Err(Refusal::NoSlot),
+        }
+    }
+
+    /// Puts an object at a place.
+    pub(crate) fn put(&mut self, place: usize, object: Object)
+        requires { place < SLOTS }
+        ensures { kept self.new ≡ with_object (kept self.old) place (Some object) }
+    {
+        self.objects[place] = Some(object);
+    }
+
+    /// The first place that no object has.
+    pub(crate) fn free_place(&self) -> Option<usize>
+        ensures { result ≡ position is_free (kept self.now).objects }
+    {
+        self.objects.iter().position(|object| object.is_none())
+    }
+
+    /// The place of the undoomed object in use of a name.
+    pub(crate) fn user(&self, name: &Name) -> Option<usize>
+        ensures { result ≡ position (is_user name.now) (kept self.now).objects }
+    {
+        self.objects
+            .iter()
+            .position(|object| is_user_of(object, name))
+    }
+}
+
+// A table with no object.
+fn no_objects() -> [Option<Object>; SLOTS]
+    ensures { EachIndex result (λ i. slice_index_or result i None ≡ None) }
+{
+    std::array::from_fn(
+        |_| -> Option<Object>
+            ensures { result ≡ None }
+        { None },
+    )
+}
+
+// A table in which no slot has a use.
+fn no_uses() -> [Option<Use>; SLOTS]
+    ensures { EachIndex result (λ i. slice_index_or result i None ≡ None) }
+{
+    [None; SLOTS]
+}
+
+// Whether it is an undoomed object of the name.
+fn is_user_of(object: &Option<Object>, name: &Name) -> bool
+    ensures { result ≡ is_user name.now object.now }
+{
+    match object {
+        Some(object) => object.doomed.is_none() && object.name == *name,
+        None => false,
+    }
+}

@@ -1,0 +1,84 @@
+//! An entry that is in use, and a slot's use of it.
+
+ghost use Rattle.std.specs.Prelude.{◌≡◌, ◌<◌, ◌≤◌, length, true};
+ghost use Rattle.cache_base.specs.declared.limits.TheConstants.{ELEMENTS_MAX, KEY_MAX, SLOTS};
+ghost use Rattle.entry_key.specs.Walk.{read_key, reads};
+ghost use Rattle.entry_parts.specs.Elements.{elements_bytes};
+
+use cache_base::{Bytes, Name};
+use disk_model::Place;
+use entry_file::NewEntry;
+use entry_metadata::Meta;
+use entry_parts::{Elements, Header};
+
+/// An entry that is being written.
+#[derive(Drop)]
+pub(crate) struct Draft {
+    pub(crate) body: NewEntry,
+    pub(crate) header: Header,
+    pub(crate) key: Bytes,
+    pub(crate) elements: Elements,
+    pub(crate) ghost version: { header.version ≡ 3 },
+    pub(crate) ghost key_size: { header.key_size ≡ length key },
+    pub(crate) ghost grammar: { reads (read_key key) ≡ true },
+    pub(crate) ghost short_key: { length key ≤ KEY_MAX },
+    pub(crate) ghost short_elements: { length (elements_bytes elements) ≤ ELEMENTS_MAX },
+}
+
+/// What is held of an entry: all but the chunks of its body that are on the disk.
+#[derive(Drop)]
+pub(crate) enum Entry {
+    Draft(Draft),
+    Finished(Meta),
+}
+
+/// An entry that is in use.
+#[derive(Drop)]
+pub(crate) struct Object {
+    pub(crate) name: Name,
+    /// The number of its file, where it is doomed.
+    pub(crate) doomed: Option<u32>,
+    pub(crate) entry: Entry,
+}
+
+/// What a slot has: the place of its object, and whether it is the object's writer.
+#[derive(Clone, Copy)]
+pub(crate) struct Use {
+    pub(crate) place: usize,
+    pub(crate) writes: bool,
+    pub(crate) ghost ranged: { place < SLOTS },
+}
+
+impl Object {
+    ghost use Rattle.file_handles.specs.Held.{elements_in, key_in, object_place};
+
+    /// Where its file stands.
+    pub(crate) fn file_place(&self) -> Place
+        ensures { result ≡ object_place self.now }
+    {
+        match self.doomed {
+            Some(number) => Place::Doomed(number),
+            None => Place::Entry(self.name),
+        }
+    }
+
+    /// Its key.
+    pub(crate) fn key(&self) -> &[u8]
+        ensures { result.now ≡ key_in self.now.entry }
+    {
+        match &self.entry {
+            Entry::Draft(draft) => draft.key.as_slice(),
+            Entry::Finished(meta) => meta.key.as_slice(),
+        }
+    }
+
+    /// Its elements.
+    pub(crate) fn elements(&self) -> &Elements
+        ensures { result.now ≡ elements_in self.now.entry }
+    {
+        match &self.entry {
+            Entry::Draft(draft) => &draft.elements,
+            Entry::Finished(meta) => &meta.elements,
+        }
+    }
+}

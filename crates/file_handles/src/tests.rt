@@ -1,0 +1,65 @@
+//! The handles over a folder of the machine.
+
+mod doomed;
+mod elements;
+mod refusals;
+mod sessions;
+
+use crate::{Effect, HandleFault, Handles, Refusal};
+use cache_base::NoMemory;
+use entry_name::name_of;
+use real_disk::RealDisk;
+use std::alloc::AllocError;
+use std::fs;
+
+type HostDisk<'a> = RealDisk<'a, HostRuntime>;
+
+const X: &[u8] = b":https://x/";
+
+const X_PATH: &str = "cache/entries/FFA483082FB38F7A9B0622078DC25FC6BF89E7A3";
+
+fn disk_in<'a>(rt: &'a HostRuntime) -> Result<HostDisk<'a>, AllocError> {
+    Ok(RealDisk::new(rt, String::from_str(rt.alloc(), "cache")?))
+}
+
+fn handles_of(rt: &HostRuntime) -> Result<Handles, NoMemory> {
+    Handles::new(rt.alloc())
+}
+
+fn gone() -> Result<Effect, HandleFault> {
+    Ok(Effect::Gone(name_of(X)))
+}
+
+fn wrote() -> Result<Effect, HandleFault> {
+    Ok(Effect::Wrote(name_of(X)))
+}
+
+fn refused<T>(refusal: Refusal) -> Result<T, HandleFault> {
+    Err(HandleFault::Refused(refusal))
+}
+
+fn is_missing(rt: &HostRuntime, path: &str) -> bool {
+    fs::exists(rt, path).is_ok_and(|exists| !exists)
+}
+
+fn has_len(rt: &HostRuntime, path: &str, len: u64) -> bool {
+    fs::metadata(rt, path).is_ok_and(|found| found.len() == len)
+}
+
+// Whether a part of the body of a slot's entry has these bytes.
+fn reads(
+    handles: &mut Handles,
+    disk: &mut HostDisk<'_>,
+    slot: u8,
+    from: u64,
+    len: u64,
+    wanted: &[u8],
+) -> bool {
+    if slot >= 64 {
+        return false;
+    }
+    match handles.read_part(disk, slot, from, len) {
+        Ok(part) => part == wanted,
+        Err(_) => false,
+    }
+}
