@@ -18,7 +18,9 @@ const X: &[u8] = b":https://x/";
 
 const X_PATH: &str = "cache/entries/FFA483082FB38F7A9B0622078DC25FC6BF89E7A3";
 
+// The disk over an empty folder: tests run in one folder, and what another one left goes first.
 fn disk_in<'a>(rt: &'a HostRuntime) -> Result<HostDisk<'a>, AllocError> {
+    let _ = fs::remove_dir_all(rt, "cache");
     Ok(RealDisk::new(rt, String::from_str(rt.alloc(), "cache")?))
 }
 
