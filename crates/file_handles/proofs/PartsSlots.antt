@@ -1,6 +1,6 @@
 -- Whose body a slot reads.
 use Rattle.std.proofs.Common.{◌≡◌, ◌∙◌, ℕ, ◌<◌, List, length, cond, Option, Some, None, Result, Ok, Err, IfErr, IsErrAnd, refl, sym, ap, subst, arith}
-use Rattle.std.specs.Prelude.{IfOk, IfSome, IsErrOf}
+use Rattle.std.specs.Prelude.{IfOk, IfSome, IsErrOf, is_some, option_map}
 use Rattle.cache_base.specs.Causes.{HasCause}
 use Rattle.cache_base.specs.declared.limits.TheConstants.{SLOTS}
 use Rattle.cache_theory.specs.Checks.{checks}
@@ -13,9 +13,9 @@ use Rattle.file_handles.specs.Answers.{OnRefused}
 use Rattle.file_handles.specs.Changes.{IsFiledAs}
 use Rattle.file_handles.specs.Held.{body_len_in}
 use Rattle.file_handles.specs.Kept.{Kept, object_at, use_at, used}
-use Rattle.file_handles.specs.Refuses.{Refuses}
+use Rattle.file_handles.specs.Refuses.{Passes, Refuses}
 use Rattle.file_handles.specs.Reading.{part_in, part_of_body}
-use Rattle.file_handles.specs.Stands.{HandlesStand, Stands}
+use Rattle.file_handles.specs.Stands.{HandlesStand, Stands, slot_of}
 use Rattle.file_handles.specs.declared.fault.HandleFault.{HandleFault}
 use Rattle.file_handles.specs.declared.fault.HandleFault.TheVariants as fault
 use Rattle.file_handles.specs.declared.object.Object.{Object}
@@ -37,7 +37,13 @@ module _ (k : Kept) (s : ℕ) (small : s < SLOTS) where
       let parts = no_use_found (use_at k s) r is in
       ap (λ b. cond b None (Some NoSlot)) (no_slot k m number stand s small parts.0) ∙ ap Some (sym parts.1)
 
-  -- one that is has an object
+  -- one that is may be read
+  pub part_passes : (u : Use) → use_at k s ≡ Some u → (from len : ℕ) → Passes k (ReadPart s from len)
+  unfolding checks
+  part_passes u found from len m number proper stand =
+      ap (λ b. cond b None (Some NoSlot)) (ap is_some (stand.slots s small ∙ ap (option_map (slot_of number)) found))
+
+  -- and it has an object
   pub part_no_object : (r : Refusal) (u : Use) → used (use_at k s) ≡ Ok u → object_at k u.place ≡ None → (from len : ℕ) → Refuses k (ReadPart s from len) r
   part_no_object r u is none from len m number proper stand = absurd (has_object k m number stand s small u (use_found (use_at k s) u is) none)
 

@@ -112,6 +112,7 @@ impl Handles {
         ensures carried { IsTrue D.tells → CarriesOut (Finish slot) (done_or result) (D.state disk.old) (D.state disk.new) (kept self.old) (kept self.new) }
         ensures effect { IfOk result (λ effect. effect ≡ wrote_where (λ x. true) (object_in (kept self.old) slot)) }
         ensures went_on { OnOk result (IsTrue D.tells → (D.counts disk.new).failed_change ≡ (D.counts disk.old).failed_change) }
+        ensures refused_on { OnRefused result (λ _. IsTrue D.tells → (D.counts disk.new).failed_change ≡ (D.counts disk.old).failed_change) }
         ensures stops { IsTrue D.tells → StopsAtFault (D.counts disk.old) (D.counts disk.new) }
         ensures cause { HasCause (IsErrOf result HandleFault.Disk) (D.faults disk.old) (D.faults disk.new) }
     {

@@ -98,7 +98,7 @@ fn lend<'a>(object: &'a Object, chunk: &'a Buffer, from: u64, len: u64) -> &'a [
 impl Handles {
     ghost use Rattle.file_handles.specs.Kept.{kept, object_at as object_kept_at};
     ghost use Rattle.file_handles.specs.declared.object.Object.{Object};
-    ghost use Rattle.file_handles.specs.Refuses.{Refuses};
+    ghost use Rattle.file_handles.specs.Refuses.{Passes, Refuses};
     ghost use Rattle.file_handles.specs.Resting.{RestsAsKept};
     ghost use Rattle.file_handles.specs.Stands.{HandlesStand, Stands, StandsSomehow};
 
@@ -107,6 +107,7 @@ impl Handles {
         requires { slot < SLOTS }
         ensures len { IfOk result (λ len. (m : Machine) (number : ℕ → ℕ) → IsProper m → HandlesStand (kept self.now) m number → len ≡ length (object_of m slot).version.body) }
         ensures refused { IfErr result (λ r. (from len : ℕ) → Refuses (kept self.now) (ReadPart slot from len) r) }
+        ensures passes { OnOk result ((from len : ℕ) → Passes (kept self.now) (ReadPart slot from len)) }
     {
         let used = self.use_of(slot)?;
         Ok(self.object_at(used.place)?.body_len())

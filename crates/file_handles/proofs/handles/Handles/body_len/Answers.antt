@@ -1,9 +1,10 @@
 use Rattle.std.proofs.Common.{◌∙◌, ℕ, sym}
 use Rattle.cache_theory.specs.Command.Command.{ReadPart}
 use Rattle.cache_theory.specs.declared.refusal.Refusal.{Refusal}
-use Rattle.file_handles.specs.Kept.{kept}
+use Rattle.file_handles.specs.Kept.{kept, use_at}
 use Rattle.file_handles.specs.Refuses.{Refuses}
-use Rattle.file_handles.proofs.PartsSlots.{part_len, part_no_object, part_no_slot, refused_on}
+use Rattle.file_handles.proofs.PartsSlots.{part_len, part_no_object, part_no_slot, part_passes, refused_on}
+use Rattle.file_handles.proofs.ElementSlots.{use_found}
 use Rattle.file_handles.proofs.handles.Handles.body_len.Goals as goal
 
 pub returns-in_err-used-clause-refused : goal.returns-in_err-used-clause-refused
@@ -23,3 +24,8 @@ pub returns-clause-len : goal.returns-clause-len
 returns-clause-len c = λ m number proper stand.
     c.body_len.ensures
     ∙ part_len (kept c.args.self.now) c.args.slot c.requires m number stand c.in_ok-used.used c.in_ok-object_at.field-0.now (sym c.use_of.ensures ∙ c.in_ok-used.was) c.in_ok-object_at.ensures.found
+
+pub returns-clause-passes : goal.returns-clause-passes
+returns-clause-passes c =
+    let k = kept c.args.self.now in
+    part_passes k c.args.slot c.requires c.in_ok-used.used (use_found (use_at k c.args.slot) c.in_ok-used.used (sym c.use_of.ensures ∙ c.in_ok-used.was))

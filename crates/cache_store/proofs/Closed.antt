@@ -1,0 +1,39 @@
+-- What the disk keeps as the cache is closed.
+use Rattle.std.proofs.Common.{◌≡◌, ◌∙◌, ℕ, List, Result, Ok, Err, IsErrAnd, refl, sym, ap, subst}
+use Rattle.std.specs.Prelude.{OnOk}
+use Rattle.cache_theory.specs.Crash.{IsSafe}
+use Rattle.cache_theory.specs.Ever.{entry_place}
+use Rattle.cache_theory.specs.Machine.{Machine}
+use Rattle.cache_theory.specs.Marks.{Marks}
+use Rattle.cache_theory.proofs.DiskChanges.{sync_keeps}
+use Rattle.disk_model.specs.Calls.{if_ok}
+use Rattle.disk_model.specs.Sound.{IsQuiet}
+use Rattle.disk_model.specs.State.{State, settled, standing}
+use Rattle.disk_model.specs.declared.disk.DiskFault.{DiskFault}
+use Rattle.disk_model.specs.declared.place.Place.TheVariants.{Doomed}
+use Rattle.disk_model.proofs.Standing.{settled_same}
+use Rattle.file_handles.specs.Closing.{IsClosed}
+use Rattle.cache_store.specs.Open.{IsShut}
+
+-- a result that is an error says nothing of an answer
+pub on_ok_err : {T E : Type 0} (r : Result T E) (P : E → Type 0) (Q : Type 0) → IsErrAnd r P → OnOk r Q
+on_ok_err (Ok x) P Q is = absurd is
+on_ok_err (Err e) P Q is = tt
+
+pub settled_quiet : (s : State) → IsQuiet (settled s)
+settled_quiet s = record { steps = refl; writes = λ file. refl }
+
+-- a sync, whatever it answers
+pub sync_safe : {T : Type 0} (r : Result T DiskFault) (s t : State) (w : Marks) → t ≡ if_ok r (settled s) s → IsSafe s w → IsSafe t w
+sync_safe (Ok x) s t w is safe = subst (λ u. IsSafe u w) (sym is) (sync_keeps s w safe)
+sync_safe (Err f) s t w is safe = subst (λ u. IsSafe u w) (sym is) safe
+
+-- after it nothing is pending, and the same stands
+pub settled_shut : (s t : State) (m : Machine) → t ≡ settled s → IsClosed (standing s) m → IsShut t m
+settled_shut s t m is closed = subst (λ u. IsShut u m) (sym is) (record {
+  quiet = settled_quiet s;
+  closed = record {
+    entries_are = λ name. settled_same s (entry_place name) ∙ closed.entries_are name;
+    no_doomed = λ k. settled_same s (Doomed k) ∙ closed.no_doomed k;
+  };
+})

@@ -1,0 +1,15 @@
+pub mod Closed
+pub mod ElemReply
+pub mod ElemSaid
+pub mod GotAnswers
+pub mod GotChunks
+pub mod Opened
+pub mod PartRead
+pub mod PartWhole
+pub mod PerformAnswers
+pub mod PerformDoes
+pub mod PerformStands
+pub mod PerformSteps
+pub mod PerformWhole
+pub mod SaidAdds
+pub mod SaidMore

@@ -1,0 +1,72 @@
+-- The parts of a body that are read one after the other.
+use Rattle.std.proofs.Common.{◌≡◌, ◌∙◌, ℕ, ◌+◌, ◌-◌, ◌%◌, ◌<◌, ◌≤◌, List, ◌++◌, length, length-drop, min, take, drop, refl, sym, ap, subst, arith, append_assoc}
+use Rattle.std.proofs.lemmas.List.{drop-drop, length-take, take_all, take_min}
+use Rattle.std.proofs.Math.Seq.{take-add}
+use Rattle.std.specs.declared.option.Option.{Option}
+use Rattle.cache_theory.specs.Machine.{Machine}
+use Rattle.disk_model.specs.State.{State, standing}
+use Rattle.file_handles.specs.Kept.{Kept}
+use Rattle.file_handles.specs.Reading.{part_of_body}
+use Rattle.file_handles.specs.Stands.{Stands}
+use Rattle.cache_store.specs.Saying.{SaysMore, StopsIn}
+use Rattle.cache_store.proofs.ElemSaid.{says_then, stops_front, stops_then}
+
+-- a part is no longer than was asked for
+pub part_short : (body : List ℕ) (from len : ℕ) → length (part_of_body body from len) ≤ len
+part_short body from len = let long = length-take (min len (262144 - from % 262144)) (drop from body) in omega (arith, long)
+
+module _ (body : List ℕ) (from len done : ℕ) where
+  -- the bytes so far, and the next part
+  abbrev pub so_far : List ℕ
+  so_far = take done (drop from body)
+
+  abbrev pub part : List ℕ
+  part = part_of_body body (from + done) (len - done)
+
+  rest_is : drop done (drop from body) ≡ drop (from + done) body
+  rest_is = drop-drop done from body
+
+  part_is : (n : ℕ) → n ≡ length part → take n (drop done (drop from body)) ≡ part
+  part_is n is =
+      let k : ℕ = min (len - done) (262144 - (from + done) % 262144) in
+      let rest : List ℕ = drop (from + done) body in
+      ap (take n) rest_is ∙ ap (λ j. take j rest) (is ∙ length-take k rest) ∙ take_min k rest
+
+  -- with the next part
+  pub more_is : (n : ℕ) → n ≡ length part → so_far ++ part ≡ take (done + n) (drop from body)
+  more_is n is = sym (take-add done n (drop from body) ∙ ap (λ l. so_far ++ l) (part_is n is))
+
+  -- there is none but at the end
+  pub all_is : done < len → 0 ≡ length part → so_far ≡ take len (drop from body)
+  all_is lt none =
+      let k : ℕ = min (len - done) (262144 - (from + done) % 262144) in
+      let long = length-take k (drop (from + done) body) in
+      let rest = length-drop (from + done) body in
+      let whole = length-drop from body in
+      let short : length (drop from body) ≤ done = omega (arith, long, rest, whole, lt, none) in
+      take_all done (drop from body) short ∙ sym (take_all len (drop from body) (omega (arith, short, lt)))
+
+  -- and all the bytes begin so
+  pub begins_so : done ≤ len → so_far ++ (part ++ take (len - (done + length part)) (drop (done + length part) (drop from body))) ≡ take len (drop from body)
+  begins_so le =
+      let n : ℕ = length part in
+      let short = part_short body (from + done) (len - done) in
+      let X : List ℕ = drop from body in
+      sym (append_assoc so_far part (take (len - (done + n)) (drop (done + n) X)))
+      ∙ ap (λ l. l ++ take (len - (done + n)) (drop (done + n) X)) (more_is n refl)
+      ∙ sym (take-add (done + n) (len - (done + n)) X)
+      ∙ ap (λ j. take j X) (let e : done + n + (len - (done + n)) ≡ len = omega (arith, short, le) in e)
+
+  pub stops_in_part : done ≤ len → (a b c : Option (List ℕ)) (x y : List ℕ) → SaysMore a b x y so_far → StopsIn b c y part → StopsIn a c x (take len (drop from body))
+  stops_in_part le a b c x y says stops =
+      let n : ℕ = length part in
+      let more = take (len - (done + n)) (drop (done + n) (drop from body)) in
+      subst (λ (t : List ℕ). StopsIn a c x t) (begins_so le) (stops_then a b c x y y so_far (part ++ more) says (stops_front b c y part more stops))
+
+  pub says_with_part : (n : ℕ) → n ≡ length part → (a b c : Option (List ℕ)) (x y z : List ℕ) → SaysMore a b x y so_far → SaysMore b c y z part → SaysMore a c x z (take (done + n) (drop from body))
+  says_with_part n is a b c x y z says more = subst (λ (t : List ℕ). SaysMore a c x z t) (more_is n is) (says_then a b c x y z so_far part says more)
+
+-- what the handles and the disk stand for, they stand for when both are the same
+pub stands_same : (s t : State) (k l : Kept) (m : Machine) (number : ℕ → ℕ) → t ≡ s → l ≡ k → Stands (standing s) k m number → Stands (standing t) l m number
+stands_same s t k l m number of_disk of_kept stands =
+    subst (λ (x : State). Stands (standing x) l m number) (sym of_disk) (subst (λ (x : Kept). Stands (standing s) x m number) (sym of_kept) stands)

@@ -1,0 +1,60 @@
+-- What was said, and more behind it.
+use Rattle.std.proofs.Common.{◌≡◌, ◌+◌, ◌++◌, ◌∙◌, ℕ, List, [], length, take, Result, Ok, Err, OnOk, OnErr, subst, sym, ap, arith, length-append, refl}
+use Rattle.std.specs.declared.option.Option.{Option}
+use Rattle.std.specs.Io.KnownBytes.{Appends}
+use Rattle.std.proofs.KnownBytes.{Appends-trans}
+use Rattle.std.proofs.lemmas.List.{append-nil, take-append-le}
+use Rattle.std.proofs.Math.Seq.{take-append-add}
+use Rattle.cache_store.specs.Said.{IsCut, Said}
+
+-- all that was held went out
+pub said_sent : (before old now : Option (List ℕ)) (held text : List ℕ) → Said before old held text → Appends old now held → Appends before now text
+said_sent before old now held text said all =
+    subst (Appends before now) (sym said.is) (Appends-trans before old now said.front held said.out all)
+
+-- a part of it did
+pub said_cut : (before old now : Option (List ℕ)) (held text : List ℕ) → Said before old held text → IsCut old now held → IsCut before now text
+said_cut before old now held text said cut =
+    let n = cut.0 in
+    let is : take (length said.front + n) text ≡ said.front ++ take n held = ap (take (length said.front + n)) said.is ∙ take-append-add said.front held n in (
+      length said.front + n,
+      (omega (arith, cut.1.0, ap length said.is, length-append said.front held), subst (Appends before now) (sym is) (Appends-trans before old now said.front (take n held) said.out cut.1.1)),
+    )
+
+-- of a longer text a part went out, too
+pub cut_more : (before now : Option (List ℕ)) (text more : List ℕ) → IsCut before now text → IsCut before now (text ++ more)
+cut_more before now text more cut = (
+  cut.0,
+  (omega (arith, cut.1.0, length-append text more), subst (Appends before now) (sym (take-append-le cut.0 text more (omega (arith, cut.1.0)))) cut.1.1),
+)
+
+-- all went out, and more behind it
+pub said_behind : (before mid now : Option (List ℕ)) (text more : List ℕ) → Appends before mid text → Appends mid now more → Said before now [] (text ++ more)
+said_behind before mid now text more all out = record {
+  front = text ++ more;
+  out = Appends-trans before mid now text more all out;
+  is = sym (append-nil (text ++ more));
+}
+
+-- and a part of more
+pub cut_behind : (before mid now : Option (List ℕ)) (text more : List ℕ) → Appends before mid text → IsCut mid now more → IsCut before now (text ++ more)
+cut_behind before mid now text more all cut =
+    said_cut before mid now more (text ++ more) (record { front = text; out = all; is = refl }) cut
+
+-- what holds in any case holds with an answer, and after a failure
+pub when_ok : {A E : Type 0} (r : Result A E) (P : Type 0) → P → OnOk r P
+when_ok (Ok a) P h = h
+when_ok (Err e) P h = tt
+
+pub when_err : {A E : Type 0} (r : Result A E) (P : Type 0) → P → OnErr r P
+when_err (Ok a) P h = tt
+when_err (Err e) P h = h
+
+-- what follows from it
+pub of_ok : {A E : Type 0} (r : Result A E) (P Q : Type 0) → (P → Q) → OnOk r P → OnOk r Q
+of_ok (Ok a) P Q f h = f h
+of_ok (Err e) P Q f h = tt
+
+pub of_err : {A E : Type 0} (r : Result A E) (P Q : Type 0) → (P → Q) → OnErr r P → OnErr r Q
+of_err (Ok a) P Q f h = tt
+of_err (Err e) P Q f h = f h

@@ -1,0 +1,45 @@
+-- How a reply is said.
+use Rattle.std.specs.Prelude.{IfOk, List, OnErr, Option, Result, [], codes, ℕ, ◌++◌, ◌∷◌, ◌≡◌}
+use Rattle.cache_store.specs.Said.{IsCut, Said}
+use Rattle.cache_store.specs.declared.answered.Answered.{Answered}
+use Rattle.cache_store.specs.declared.answered.Answered.TheVariants as answered
+use Rattle.cache_store.specs.declared.fault.Outcome.{Outcome}
+use Rattle.cache_store.specs.declared.fault.Outcome.TheVariants as outcome
+use Rattle.cache_store.specs.declared.fault.StoreFault.{StoreFault}
+use Rattle.cache_theory.specs.Command.{Reply}
+use Rattle.cache_theory.specs.Command.Reply.{Done, Refused, NoneThere, Value, Part, Found}
+use Rattle.cache_theory.specs.Text.{refusal_words, reply_text, spaced, line}
+
+-- what is still to be said
+abbrev pub rest_of : Answered → List ℕ
+rest_of answered.Done = line (codes "ok" ∷ [])
+rest_of answered.All = []
+rest_of answered.NoneThere = line (codes "none" ∷ [])
+rest_of (answered.Refused r) = line (refusal_words r)
+
+-- whether a reply is a refusal
+abbrev pub outcome_of : Reply → Outcome
+outcome_of Done = outcome.Ok
+outcome_of (Refused r) = outcome.Refused
+outcome_of NoneThere = outcome.Ok
+outcome_of (Value value) = outcome.Ok
+outcome_of (Part bytes) = outcome.Ok
+outcome_of (Found v) = outcome.Ok
+
+abbrev pub outcome_in : Answered → Outcome
+outcome_in answered.Done = outcome.Ok
+outcome_in answered.All = outcome.Ok
+outcome_in answered.NoneThere = outcome.Ok
+outcome_in (answered.Refused r) = outcome.Refused
+
+-- a part of the text was said, and the rest of the answer completes it
+pub record SaysOf (text rest : List ℕ) (before now : Option (List ℕ)) (held : List ℕ) : Type 0 where
+  pub front : List ℕ
+  pub said : Said before now held front
+  pub whole : front ++ rest ≡ text
+
+-- this is the reply, as far as it was said, or it was cut
+pub record AnswersTo (r : Reply) (answer : Result Answered StoreFault) (before now : Option (List ℕ)) (held : List ℕ) : Type 0 where
+  pub says : IfOk answer (λ a. SaysOf (reply_text r) (rest_of a) before now held)
+  pub outcome : IfOk answer (λ a. outcome_in a ≡ outcome_of r)
+  pub cut : OnErr answer (IsCut before now (reply_text r))

@@ -1,0 +1,9 @@
+pub mod Answering
+pub mod EntryText
+pub mod Faults
+pub mod Open
+pub mod Performing
+pub mod Replied
+pub mod Said
+pub mod Saying
+pub mod Texts

@@ -1,0 +1,49 @@
+-- A store that is open.
+use Rattle.std.specs.Prelude.{List, OnOk, Result, ℕ, ◌≡◌}
+use Rattle.cache_theory.specs.Crash.{IsSafe}
+use Rattle.cache_theory.specs.Machine.{Machine, opened}
+use Rattle.cache_theory.specs.Marks.{Marks, marks_of}
+use Rattle.cache_theory.specs.Table.{Table}
+use Rattle.cache_store.specs.declared.fault.StoreFault.{StoreFault}
+use Rattle.cache_store.specs.declared.store.Store.{Store}
+use Rattle.disk_model.specs.Sound.{IsQuiet}
+use Rattle.disk_model.specs.State.{State, standing}
+use Rattle.file_handles.specs.Carries.{IsShelf}
+use Rattle.file_handles.specs.Closing.{IsClosed}
+use Rattle.file_handles.specs.Kept.{Kept, kept}
+use Rattle.file_handles.specs.Stands.{IsIn}
+
+-- what it keeps: the handles and the moment
+pub record Open : Type 0 where
+  pub handles : Kept
+  pub moment : ℕ
+
+abbrev pub open_of : Store → Open
+open_of store = record { handles = kept store.handles; moment = store.moment }
+
+-- the store and the disk stand for this machine, and the disk keeps what the marks ask for
+pub record StandsFor (s : State) (o : Open) (m : Machine) (w : Marks) : Type 0 where
+  pub stands : IsIn s o.handles m w
+  pub same_moment : m.moment ≡ o.moment
+
+-- there are such a machine and such marks
+abbrev pub IsOpen : State → Open → Type 0
+IsOpen s o = (m : Machine) × ((w : Marks) × StandsFor s o m w)
+
+-- with nothing pending at the call, at every exit a crash loses nothing of what stood
+abbrev pub OpensSafely : ℕ → State → State → Type 0
+OpensSafely now s t = (shelf : Table (List ℕ)) (rest : List (List ℕ)) → IsQuiet s → IsShelf s shelf → IsSafe t (marks_of (opened now shelf rest))
+
+-- and after an Ok the store stands for the machine at an opening
+abbrev pub Opens : ℕ → State → State → Open → Type 0
+Opens now s t o = (shelf : Table (List ℕ)) (rest : List (List ℕ)) → IsQuiet s → IsShelf s shelf
+    → StandsFor t o (opened now shelf rest) (marks_of (opened now shelf rest))
+
+-- nothing is pending, the entries are those of the shelf, and no doomed file stands
+pub record IsShut (t : State) (m : Machine) : Type 0 where
+  pub quiet : IsQuiet t
+  pub closed : IsClosed (standing t) m
+
+-- the store is closed, whatever the state of the machine and the marks
+abbrev pub Closes : Result (Unit {0}) StoreFault → State → State → Open → Type 0
+Closes answer s t o = (m : Machine) (w : Marks) → StandsFor s o m w → IsSafe t w × OnOk answer (IsShut t m)

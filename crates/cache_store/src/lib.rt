@@ -1,0 +1,18 @@
+//! A session of the cache: the store is opened at a moment, performs commands one after the other, each with its reply, and
+//! is closed.
+#![tactic(auto)]
+
+mod answered;
+mod fault;
+mod getting;
+mod pending;
+mod performing;
+mod reading;
+mod replies;
+mod store;
+
+pub use fault::{Outcome, StoreFault};
+pub use store::Store;
+
+#[cfg(test)]
+mod tests;

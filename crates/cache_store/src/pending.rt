@@ -1,0 +1,85 @@
+//! What of a reply is not out yet.
+
+ghost use Rattle.std.specs.Prelude.{ℕ, List, Option, ◌≡◌, ◌≤◌, ◌+◌, ◌++◌, [], OnErr, OnOk, IfOk, IsErrOf, length, take};
+ghost use Rattle.cache_base.specs.declared.limits.TheConstants.{BUFFER_MAX};
+ghost use Rattle.std.specs.Io.KnownBytes.{Appends};
+ghost use Rattle.cache_base.specs.Causes.{HasCause};
+ghost use Rattle.cache_store.specs.Said.{IsCut, Said};
+
+use cache_base::{BUFFER_MAX, Buffer, NoMemory};
+use cache_io::{Sink, SinkFault, write_whole};
+use std::alloc::Global;
+
+/// The bytes of a reply that are not out yet, so that a short reply goes out by one write.
+#[derive(Drop)]
+pub(crate) struct Pending {
+    pub(crate) held: Buffer,
+}
+
+// Copies the bytes to the end of the slice, from a place on.
+fn put_end(slice: &mut [u8], at: usize, b: &[u8])
+    requires { at + length b.now ≡ length slice.old }
+    ensures { slice.new ≡ take at slice.old ++ b.now }
+{
+    slice[at..].copy_from_slice(b);
+}
+
+impl Pending {
+    /// Nothing. All memory is taken here.
+    pub(crate) fn new(alloc: Global) -> Result<Pending, NoMemory>
+        ensures { IfOk result (λ pending. pending.held ≡ []) }
+    {
+        Ok(Pending {
+            held: Buffer::new(alloc)?,
+        })
+    }
+
+    // SaysMore bytes that have room.
+    fn hold(&mut self, b: &[u8])
+        requires { length self.old.held + length b.now ≤ BUFFER_MAX }
+        ensures { self.new.held ≡ self.old.held ++ b.now }
+    {
+        let at = self.held.as_slice().len();
+        self.held.set_len(at + b.len());
+        put_end(self.held.as_mut_slice(), at, b);
+    }
+
+    /// SaysMore bytes. What has no room goes out first.
+    pub(crate) fn put<K: Sink>(&mut self, sink: &mut K, b: &[u8]) -> Result<(), SinkFault>
+        ensures said { OnOk result ((before : Option (List ℕ)) (text : List ℕ) → Said before (K.taken sink.old) self.old.held text
+            → Said before (K.taken sink.new) self.new.held (text ++ b.now)) }
+        ensures cut { OnErr result ((before : Option (List ℕ)) (text : List ℕ) → Said before (K.taken sink.old) self.old.held text
+            → IsCut before (K.taken sink.new) (text ++ b.now)) }
+        ensures cause { HasCause (IsErrOf result SinkFault.Failed) (K.faults sink.old) (K.faults sink.new) }
+    {
+        if b.len() > BUFFER_MAX - self.held.as_slice().len() {
+            self.send(sink)?;
+            if b.len() > BUFFER_MAX {
+                return write_whole(sink, b);
+            }
+        }
+        self.hold(b);
+        Ok(())
+    }
+
+    /// All that is held goes out.
+    pub(crate) fn send<K: Sink>(&mut self, sink: &mut K) -> Result<(), SinkFault>
+        ensures held { OnOk result (self.new.held ≡ []) }
+        ensures said { OnOk result ((before : Option (List ℕ)) (text : List ℕ) → Said before (K.taken sink.old) self.old.held text
+            → Appends before (K.taken sink.new) text) }
+        ensures cut { OnErr result ((before : Option (List ℕ)) (text : List ℕ) → Said before (K.taken sink.old) self.old.held text
+            → IsCut before (K.taken sink.new) text) }
+        ensures cause { HasCause (IsErrOf result SinkFault.Failed) (K.faults sink.old) (K.faults sink.new) }
+    {
+        write_whole(sink, self.held.as_slice())?;
+        self.held.set_len(0);
+        Ok(())
+    }
+
+    /// All that is held is dropped, as after a reply that was cut.
+    pub(crate) fn clear(&mut self)
+        ensures { self.new.held ≡ [] }
+    {
+        self.held.set_len(0);
+    }
+}

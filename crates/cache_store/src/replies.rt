@@ -1,0 +1,61 @@
+//! The text of replies.
+
+ghost use Rattle.std.specs.Prelude.{◌≡◌, ◌++◌, ◌∷◌, IfOk, OnOk, decimal};
+ghost use Rattle.cache_store.specs.Texts.{counted_line, fields, found_line};
+ghost use Rattle.entry_metadata.specs.Meta.{meta_of};
+
+use cache_base::{Bytes, NoMemory};
+use entry_metadata::Meta;
+use std::alloc::Global;
+
+// SaysMore a number in decimal, behind a space.
+fn extend_field(alloc: Global, to: &mut Bytes, n: u64) -> Result<(), NoMemory>
+    ensures { OnOk result (to.new ≡ to.old ++ 32 ∷ decimal n) }
+{
+    let digits = n.to_string(alloc)?;
+    to.push(b' ')?;
+    to.extend(digits.as_bytes())
+}
+
+fn extend_fields(alloc: Global, to: &mut Bytes, numbers: &[u64]) -> Result<(), NoMemory>
+    ensures { OnOk result (to.new ≡ to.old ++ fields numbers.now) }
+{
+    for n in numbers {
+        extend_field(alloc, to, *n)?;
+    }
+    Ok(())
+}
+
+/// A word, a number of bytes that follow, and a newline.
+pub(crate) fn counted(alloc: Global, word: &[u8], count: u64) -> Result<Bytes, NoMemory>
+    ensures { IfOk result (λ line. line ≡ counted_line word.now count) }
+{
+    let mut line = Bytes::new(alloc);
+    line.extend(word)?;
+    extend_field(alloc, &mut line, count)?;
+    line.push(b'\n')?;
+    Ok(line)
+}
+
+/// The line of numbers of an entry.
+#[tactic(auto, unfolding(crate::specs::Texts::found_line))]
+pub(crate) fn head(alloc: Global, meta: &Meta) -> Result<Bytes, NoMemory>
+    ensures { IfOk result (λ line. line ≡ found_line (meta_of meta.now)) }
+{
+    let header = meta.header;
+    let numbers = [
+        u64::from(header.fetch_count),
+        u64::from(header.last_fetched),
+        u64::from(header.last_modified),
+        u64::from(header.frecency),
+        u64::from(header.expiration),
+        u64::from(header.flags),
+        meta.elements.print().len() as u64,
+        u64::from(meta.offset),
+    ];
+    let mut line = Bytes::new(alloc);
+    line.extend(b"found")?;
+    extend_fields(alloc, &mut line, &numbers)?;
+    line.push(b'\n')?;
+    Ok(line)
+}
