@@ -10,7 +10,7 @@ use Rattle.cache_base.specs.declared.limits.TheConstants.{LINE_MAX, PIECE_MAX}
 use Rattle.cache_theory.specs.Command.{Command}
 use Rattle.cache_theory.specs.Command.Command.{At, Create, OpenKey, Append, Finish, SetElement, UnsetElement, ElementOf, ReadPart, Close, Doom, Get, Flush}
 use Rattle.cache_theory.specs.Text.{FieldsFit, IsCommand, command_words, command_data, command_bytes, spaced}
-use Rattle.cache_script.specs.Front.{Begins, IsBad, IsPart, IsSearched, HasLine, cut_by}
+use Rattle.cache_script.specs.Front.{Begins, HasNoCommand, IsBad, IsPart, IsSearched, HasLine, cut_by}
 use Rattle.cache_script.specs.Lines.{Form, FormFits, Tells, form_of, form_words, cut, data_len, form_in}
 use Rattle.cache_script.proofs.CutLaws.{Lacks, IsCut, cut_at, cut_is, cut_none, cut_first}
 use Rattle.cache_script.proofs.FormLaws.{IsLine, form_spelled}
@@ -68,6 +68,9 @@ pub bad_line_is_bad : (bytes text rest : List ℕ) → cut 10 bytes ≡ Some (te
 bad_line_is_bad bytes text rest cutting none = λ more c after is e.
     none_or_some none (line_of c (bytes ++ more) text (rest ++ more) after is.fields e (cut_on 10 bytes text rest more cutting)).tells
 
+pub no_command_line : (bytes : List ℕ) → cut 10 bytes ≡ None → HasNoCommand bytes
+no_command_line bytes none = λ c after is e. none_or_some none (ap (cut 10) e ∙ first_line c after is.fields)
+
 -- ---- what stands behind the line
 
 length_data : (c : Command) → length (command_data c) ≡ data_len (form_of c)
@@ -118,7 +121,7 @@ no_newline_is_bad bytes text rest form cutting tells some enough other = λ more
 -- ---- the first line of bytes that begin with a command
 
 pub begun_line : (bytes : List ℕ) (n : ℕ) → Begins bytes n → cut 10 bytes ≡ None → ⊥
-begun_line bytes n b none = none_or_some none (ap (cut 10) b.spelled ∙ first_line b.command (drop n bytes) b.is.fields)
+begun_line bytes n b none = no_command_line bytes none b.command (drop n bytes) b.is b.spelled
 
 pub begun_form : (bytes text rest : List ℕ) (n : ℕ) → Begins bytes n → cut 10 bytes ≡ Some (text, rest) → form_in text ≡ None → ⊥
 begun_form bytes text rest n b cutting none = none_or_some none (line_of b.command bytes text rest (drop n bytes) b.is.fields b.spelled cutting).tells

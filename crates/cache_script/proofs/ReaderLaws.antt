@@ -4,8 +4,10 @@ use Rattle.std.proofs.lemmas.List.{append_assoc, length-append}
 use Rattle.std.specs.Io.KnownBytes.{Consumes, IsAtEnd, prepend_known}
 use Rattle.cache_base.specs.declared.limits.TheConstants.{SCRIPT_MAX}
 use Rattle.cache_theory.specs.Command.{Command}
-use Rattle.cache_theory.specs.Text.{IsCommand, NoMore, command_bytes, command_words, command_data, spaced}
-use Rattle.cache_script.specs.Front.{Begins, IsPart}
+use Rattle.cache_theory.specs.Command.Command.{At, Create, OpenKey, Append, Finish, SetElement, UnsetElement, ElementOf, ReadPart, Close, Doom, Get, Flush}
+use Rattle.cache_theory.specs.Given.{IsGiven}
+use Rattle.cache_theory.specs.Text.{FieldsFit, IsCommand, NoMore, command_bytes, command_words, command_data, spaced}
+use Rattle.cache_script.specs.Front.{Begins, HasNoCommand, IsPart}
 use Rattle.cache_script.specs.Reader.{IsBadScript}
 use Rattle.cache_script.specs.Reading.{IsStuck}
 use Rattle.cache_script.specs.Window.{Grew}
@@ -48,6 +50,26 @@ long_is_bad used n held new left now g b long =
           let one : b.command ≡ c = none_begins_another b.command c (drop n new ++ rest) more b.is is (sym spelled ∙ e) in
           omega (arith, long, b.len, ap (λ x. length (command_bytes x)) one),
     )))
+
+-- what was held and what was read, where it is a part
+pub breaks_off : (held new : List ℕ) (left now : Option (List ℕ)) → Grew held new left now → IsPart new → (read : List ℕ) × (Consumes left now read × HasNoCommand (held ++ read))
+breaks_off held new left now g part = (g.piece, (g.read, subst HasNoCommand g.grown part.none))
+
+-- a command of a script can be given by a program
+pub is_given : (c : Command) → FieldsFit c → IsGiven c
+is_given (At now) fits = fits
+is_given (Create s key) fits = (fits.0, fits.1.0)
+is_given (OpenKey s key) fits = (fits.0, fits.1.0)
+is_given (Append s bytes) fits = (fits.0, fits.1.0)
+is_given (Finish s) fits = fits
+is_given (SetElement s name value) fits = (fits.0, (fits.1.0.0, fits.1.1.0))
+is_given (UnsetElement s name) fits = (fits.0, fits.1.0)
+is_given (ElementOf s name) fits = (fits.0, fits.1.0)
+is_given (ReadPart s from len) fits = fits.0
+is_given (Close s) fits = fits
+is_given (Doom key) fits = fits.0
+is_given (Get key) fits = fits.0
+is_given Flush fits = fits
 
 -- a part at whose front is a command, or a line that is bad, is none
 pub command_is_no_part : (bytes : List ℕ) (c : Command) (after : List ℕ) → IsCommand c → bytes ≡ command_bytes c ++ after → ¬ (IsPart bytes)

@@ -13,7 +13,8 @@ mod refusals;
 mod window;
 
 pub use command::Command;
-pub use laws::{commands_are_one, none_begins_another};
+pub use laws::{bytes_have_commands, commands_are_one, none_begins_another};
+pub use numbers::number;
 pub use reader::{Reader, ScriptFault};
 pub use refusals::refusal_text;
 

@@ -8,8 +8,10 @@ pub mod PartRead
 pub mod PartWhole
 pub mod PerformAnswers
 pub mod PerformDoes
+pub mod PerformSafe
 pub mod PerformStands
 pub mod PerformSteps
 pub mod PerformWhole
 pub mod SaidAdds
 pub mod SaidMore
+pub mod Shelves

@@ -1,31 +1,30 @@
 -- What the disk keeps as the cache is opened.
-use Rattle.std.proofs.Common.{◌≡◌, ◌∙◌, ℕ, ◌<◌, ◌^◌, List, [], ◌∷◌, None, sym, ap, subst}
+use Rattle.std.proofs.Common.{◌≡◌, ◌∙◌, ℕ, ◌<◌, ◌^◌, List, [], ◌∷◌, refl, sym, ap, subst}
 use Rattle.cache_theory.specs.Crash.{IsSafe}
-use Rattle.cache_theory.specs.Ever.{IsFiledOnce, entries, entry_place}
+use Rattle.cache_theory.specs.Ever.{entry_place}
 use Rattle.cache_theory.specs.Machine.{opened}
 use Rattle.cache_theory.specs.Marks.{Marks, marks_of}
-use Rattle.cache_theory.specs.Table.{Table, get}
-use Rattle.cache_theory.proofs.Crashes.{quiet_is_safe}
+use Rattle.cache_theory.specs.Table.{Table}
+use Rattle.cache_theory.proofs.Crashes.{quiet_is_safe, safe_is_crash_safe}
 use Rattle.cache_theory.proofs.DiskChanges.{remove_keeps}
-use Rattle.cache_theory.proofs.FiledOnce.{quiet_files_once, remove_files_once}
+use Rattle.cache_theory.proofs.FiledOnce.{quiet_files_once}
+use Rattle.disk_model.specs.Listing.{IsFinite}
 use Rattle.disk_model.specs.Sound.{IsQuiet, IsSound}
-use Rattle.disk_model.specs.State.{State, removed, standing}
+use Rattle.disk_model.specs.State.{State, removed, settled, standing}
 use Rattle.disk_model.specs.declared.place.Place.TheVariants.{Doomed}
+use Rattle.disk_model.proofs.Standing.{settled_same}
 use Rattle.doom_area.specs.DoomArea.{IsCleared, RemovesDoomed, removed_each}
-use Rattle.entry_file.specs.EntryFile.{found, read_for, whole_in}
+use Rattle.entry_file.specs.EntryFile.{read_for, whole_in}
 use Rattle.entry_name.specs.EntryName.{file_name}
 use Rattle.file_handles.specs.Carries.{Begins, IsShelf}
-use Rattle.file_handles.specs.Kept.{Kept}
-use Rattle.cache_store.specs.Open.{Open, StandsFor}
+use Rattle.cache_store.specs.Open.{IsOpen, KeepsFound, Open, Opens, OpensSafely}
+use Rattle.cache_store.proofs.Closed.{settled_quiet}
+use Rattle.cache_store.proofs.Shelves.{shelf_exists}
 
 -- doomed files are removed one after the other
 each_safe : (numbers : List ℕ) (s : State) (w : Marks) → IsSafe s w → IsSafe (removed_each numbers s) w
 each_safe [] s w safe = safe
 each_safe (n ∷ ns) s w safe = each_safe ns (removed (Doomed n) s) w (remove_keeps s w (Doomed n) (λ name same. absurd (cc)) safe)
-
-each_once : (numbers : List ℕ) (s : State) → IsFiledOnce s → IsFiledOnce (removed_each numbers s)
-each_once [] s once = once
-each_once (n ∷ ns) s once = each_once ns (removed (Doomed n) s) (remove_files_once s (Doomed n) once)
 
 module _ (s : State) (now : ℕ) (shelf : Table (List ℕ)) (rest : List (List ℕ)) (quiet : IsQuiet s) (is : IsShelf s shelf) where
   -- a disk at rest is safe at the opening
@@ -36,20 +35,34 @@ module _ (s : State) (now : ℕ) (shelf : Table (List ℕ)) (rest : List (List �
   pub cleared_safe : (t : State) → RemovesDoomed s t → IsSafe t (marks_of (opened now shelf rest))
   cleared_safe t (numbers, t_is) = subst (λ u. IsSafe u (marks_of (opened now shelf rest))) (sym t_is) (each_safe numbers s (marks_of (opened now shelf rest)) opened_safe)
 
-  cleared_once : (t : State) → IsSound s → RemovesDoomed s t → IsFiledOnce t
-  cleared_once t sound (numbers, t_is) = subst IsFiledOnce (sym t_is) (each_once numbers s (quiet_files_once s quiet sound))
+-- after the sync the same entries stand
+synced_shelf : (s t : State) (shelf : Table (List ℕ)) → IsCleared s t → IsShelf s shelf → IsShelf (settled t) shelf
+synced_shelf s t shelf cleared is = record {
+  table = is.table;
+  bytes = is.bytes;
+  entries_are = λ name. settled_same t (entry_place name) ∙ (cleared.others (entry_place name) (λ n same. cc) ∙ is.entries_are name);
+}
 
-  cleared_shelf : (t : State) → IsCleared s t → IsShelf t shelf
-  cleared_shelf t cleared = record {
-    table = is.table;
-    bytes = is.bytes;
-    entries_are = λ name. cleared.others (entry_place name) (λ n same. cc) ∙ is.entries_are name;
-  }
+-- and the store stands for the machine at the opening
+pub opened_stands : (s t u : State) (now : ℕ) (o : Open) → IsSound u → u ≡ settled t → IsCleared s t → o.moment ≡ now → now < 2 ^ 32 → Begins o.handles → Opens now s u o
+opened_stands s t u now o sound synced cleared moment small begins shelf rest is =
+    let quiet : IsQuiet u = subst IsQuiet (sym synced) (settled_quiet t) in
+    let same : IsShelf u shelf = subst (λ v. IsShelf v shelf) (sym synced) (synced_shelf s t shelf cleared is) in
+    record {
+      stands = begins u now shelf rest small same (λ k. ap (λ v. standing v (Doomed k)) synced ∙ (settled_same t (Doomed k) ∙ cleared.none k)) (quiet_files_once u quiet sound)
+          (opened_safe u now shelf rest quiet same);
+      same_moment = sym moment;
+    }
 
-  -- and then the store stands for the machine at the opening
-  pub opened_stands : (t : State) (o : Open) → IsSound s → o.moment ≡ now → now < 2 ^ 32 → Begins o.handles → RemovesDoomed s t → IsCleared s t
-      → StandsFor t o (opened now shelf rest) (marks_of (opened now shelf rest))
-  opened_stands t o sound moment small begins removes cleared = record {
-    stands = begins t now shelf rest small (cleared_shelf t cleared) cleared.none (cleared_once t sound removes) (cleared_safe t removes);
-    same_moment = sym moment;
-  }
+-- so it is open
+pub opens_open : (s t : State) (now : ℕ) (o : Open) → IsFinite s → Opens now s t o → IsOpen t o
+opens_open s t now o finite opens =
+    let shelf = shelf_exists s finite in
+    (opened now shelf.0 [], (marks_of (opened now shelf.0 []), opens shelf.0 [] shelf.1))
+
+-- and after a crash at any exit each key is found as it was
+pub keeps_found : (s t : State) (now : ℕ) → IsFinite s → OpensSafely now s t → KeepsFound s t
+keeps_found s t now finite safe quiet image is key =
+    let shelf = shelf_exists s finite in
+    (safe_is_crash_safe t (marks_of (opened now shelf.0 [])) (safe shelf.0 [] quiet shelf.1) image is).untouched key refl
+    ∙ ap (λ c. whole_in (read_for key c)) (sym (shelf.1.entries_are (file_name key)))

@@ -1,13 +1,16 @@
 -- A store that is open.
 use Rattle.std.specs.Prelude.{List, OnOk, Result, ℕ, ◌≡◌}
-use Rattle.cache_theory.specs.Crash.{IsSafe}
+use Rattle.cache_theory.specs.Crash.{IsCrashSafe, IsSafe}
+use Rattle.cache_theory.specs.Ever.{entries}
 use Rattle.cache_theory.specs.Machine.{Machine, opened}
 use Rattle.cache_theory.specs.Marks.{Marks, marks_of}
 use Rattle.cache_theory.specs.Table.{Table}
 use Rattle.cache_store.specs.declared.fault.StoreFault.{StoreFault}
 use Rattle.cache_store.specs.declared.store.Store.{Store}
+use Rattle.disk_model.specs.Image.{Files, IsImage}
 use Rattle.disk_model.specs.Sound.{IsQuiet}
 use Rattle.disk_model.specs.State.{State, standing}
+use Rattle.entry_file.specs.EntryFile.{found}
 use Rattle.file_handles.specs.Carries.{IsShelf}
 use Rattle.file_handles.specs.Closing.{IsClosed}
 use Rattle.file_handles.specs.Kept.{Kept, kept}
@@ -30,19 +33,31 @@ pub record StandsFor (s : State) (o : Open) (m : Machine) (w : Marks) : Type 0 w
 abbrev pub IsOpen : State → Open → Type 0
 IsOpen s o = (m : Machine) × ((w : Marks) × StandsFor s o m w)
 
+-- the entry files that stand are those of some shelf
+abbrev pub HasShelf : State → Type 0
+HasShelf s = (shelf : Table (List ℕ)) × IsShelf s shelf
+
 -- with nothing pending at the call, at every exit a crash loses nothing of what stood
 abbrev pub OpensSafely : ℕ → State → State → Type 0
 OpensSafely now s t = (shelf : Table (List ℕ)) (rest : List (List ℕ)) → IsQuiet s → IsShelf s shelf → IsSafe t (marks_of (opened now shelf rest))
 
--- and after an Ok the store stands for the machine at an opening
+-- and in each image every key is found as it was
+abbrev pub KeepsFound : State → State → Type 0
+KeepsFound s t = IsQuiet s → (image : Files) → IsImage t image → (key : List ℕ) → found (entries image) key ≡ found (entries (standing s)) key
+
+-- after an Ok the store stands for the machine at an opening
 abbrev pub Opens : ℕ → State → State → Open → Type 0
-Opens now s t o = (shelf : Table (List ℕ)) (rest : List (List ℕ)) → IsQuiet s → IsShelf s shelf
+Opens now s t o = (shelf : Table (List ℕ)) (rest : List (List ℕ)) → IsShelf s shelf
     → StandsFor t o (opened now shelf rest) (marks_of (opened now shelf rest))
 
 -- nothing is pending, the entries are those of the shelf, and no doomed file stands
 pub record IsShut (t : State) (m : Machine) : Type 0 where
   pub quiet : IsQuiet t
   pub closed : IsClosed (standing t) m
+
+-- whatever the state of the machine and the marks, a crash loses no more than they allow
+abbrev pub ClosesSafely : State → State → Open → Type 0
+ClosesSafely s t o = (m : Machine) (w : Marks) → StandsFor s o m w → IsCrashSafe t w
 
 -- the store is closed, whatever the state of the machine and the marks
 abbrev pub Closes : Result (Unit {0}) StoreFault → State → State → Open → Type 0

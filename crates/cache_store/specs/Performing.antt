@@ -1,5 +1,5 @@
 -- What one command does.
-use Rattle.std.specs.Prelude.{IfErr, IfOk, List, OnErr, OnOk, Option, Result, ℕ, ◌≡◌}
+use Rattle.std.specs.Prelude.{Err, IfErr, IfOk, List, Ok, OnErr, OnOk, Option, Result, ℕ, ◌≡◌}
 use Rattle.std.specs.Io.KnownBytes.{Appends}
 use Rattle.cache_store.specs.Answering.{AnswersTo, outcome_of}
 use Rattle.cache_store.specs.Open.{Open, StandsFor}
@@ -9,7 +9,7 @@ use Rattle.cache_store.specs.declared.fault.Outcome.{Outcome}
 use Rattle.cache_store.specs.declared.fault.StoreFault.{StoreFault}
 use Rattle.cache_store.specs.declared.fault.StoreFault.TheVariants as fault
 use Rattle.cache_theory.specs.Command.{Command}
-use Rattle.cache_theory.specs.Crash.{IsSafe}
+use Rattle.cache_theory.specs.Crash.{IsCrashSafe, IsSafe}
 use Rattle.cache_theory.specs.Machine.{Machine}
 use Rattle.cache_theory.specs.Marks.{Marks, acked, begun}
 use Rattle.cache_theory.specs.Step.{step}
@@ -40,3 +40,12 @@ pub record Performs (c : Command) (m : Machine) (w : Marks) (answer : Result Out
 
 abbrev pub PerformsFor : Command → Result Outcome StoreFault → State → State → Open → Open → Option (List ℕ) → Option (List ℕ) → Type 0
 PerformsFor c answer s t old new before now = (m : Machine) (w : Marks) → StandsFor s old m w → Performs c m w answer t new before now
+
+-- the marks after a command with this answer: it is acknowledged where there is an outcome
+abbrev pub marks_after : {T : Type 0} → Result T StoreFault → Machine → Command → Marks → Marks
+marks_after (Ok outcome) m c w = acked m c w
+marks_after (Err f) m c w = begun m c w
+
+-- whatever the state of the machine and the marks, a crash loses no more than the marks allow then
+abbrev pub PerformsSafely : {T : Type 0} → Command → Result T StoreFault → State → State → Open → Type 0
+PerformsSafely c answer s t old = (m : Machine) (w : Marks) → StandsFor s old m w → IsCrashSafe t (marks_after answer m c w)

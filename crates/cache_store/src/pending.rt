@@ -34,7 +34,7 @@ impl Pending {
         })
     }
 
-    // SaysMore bytes that have room.
+    // Holds bytes that have room.
     fn hold(&mut self, b: &[u8])
         requires { length self.old.held + length b.now ≤ BUFFER_MAX }
         ensures { self.new.held ≡ self.old.held ++ b.now }
@@ -44,7 +44,7 @@ impl Pending {
         put_end(self.held.as_mut_slice(), at, b);
     }
 
-    /// SaysMore bytes. What has no room goes out first.
+    /// Says bytes. They are held, and where they have no room what is held goes out first.
     pub(crate) fn put<K: Sink>(&mut self, sink: &mut K, b: &[u8]) -> Result<(), SinkFault>
         ensures said { OnOk result ((before : Option (List ℕ)) (text : List ℕ) → Said before (K.taken sink.old) self.old.held text
             → Said before (K.taken sink.new) self.new.held (text ++ b.now)) }

@@ -100,7 +100,7 @@ fn say_rest<K: Sink>(
 impl Store {
     ghost use Rattle.file_handles.specs.Stands.{IsIn, StandsSomehow};
     ghost use Rattle.cache_store.specs.Open.{IsOpen, open_of};
-    ghost use Rattle.cache_store.specs.Performing.{DoesFor, PerformsFor};
+    ghost use Rattle.cache_store.specs.Performing.{DoesFor, PerformsFor, PerformsSafely};
     ghost use Rattle.cache_store.specs.Said.{IsCut};
 
     // The value of an element.
@@ -171,6 +171,7 @@ impl Store {
         ensures does { IsTrue D.tells → DoesFor (command_of c.now) result (D.state disk.old) (D.state disk.new) (open_of self.old) (open_of self.new)
             (K.taken sink.old) (K.taken sink.new) self.new.reply.held }
         ensures went_on { OnOk result (IsTrue D.tells → (D.counts disk.new).failed_change ≡ (D.counts disk.old).failed_change) }
+        ensures sink_went_on { result ≡ Err StoreFault.Sink → IsTrue D.tells → (D.counts disk.new).failed_change ≡ (D.counts disk.old).failed_change }
         ensures stops { IsTrue D.tells → StopsAtFault (D.counts disk.old) (D.counts disk.new) }
         ensures sink { HasCause (IsErrOf result StoreFault.Sink) (K.faults sink.old) (K.faults sink.new) }
         ensures cause { HasCause (IsErrOf result StoreFault.Disk) (D.faults disk.old) (D.faults disk.new) }
@@ -238,7 +239,11 @@ impl Store {
         requires told { IsTrue D.tells → IsOpen (D.state disk.old) (open_of self.old) }
         ensures performs { IsTrue D.tells → PerformsFor (command_of c.now) result (D.state disk.old) (D.state disk.new) (open_of self.old) (open_of self.new)
             (K.taken sink.old) (K.taken sink.new) }
+        ensures crash { IsTrue D.tells → PerformsSafely (command_of c.now) result (D.state disk.old) (D.state disk.new) (open_of self.old) }
+        ensures open { OnOk result (IsTrue D.tells → IsOpen (D.state disk.new) (open_of self.new)) }
+        ensures sink_open { result ≡ Err StoreFault.Sink → IsTrue D.tells → IsOpen (D.state disk.new) (open_of self.new) }
         ensures went_on { OnOk result (IsTrue D.tells → (D.counts disk.new).failed_change ≡ (D.counts disk.old).failed_change) }
+        ensures sink_went_on { result ≡ Err StoreFault.Sink → IsTrue D.tells → (D.counts disk.new).failed_change ≡ (D.counts disk.old).failed_change }
         ensures stops { IsTrue D.tells → StopsAtFault (D.counts disk.old) (D.counts disk.new) }
         ensures sink { HasCause (IsErrOf result StoreFault.Sink) (K.faults sink.old) (K.faults sink.new) }
         ensures cause { HasCause (IsErrOf result StoreFault.Disk) (D.faults disk.old) (D.faults disk.new) }

@@ -3,6 +3,7 @@
 ghost use Rattle.std.specs.Prelude.{◌≡◌, ◌≢◌, IfOk, IsErrOf, IsTrue, OnOk, Err};
 ghost use Rattle.cache_base.specs.Causes.{HasCause};
 ghost use Rattle.disk_model.specs.Calls.{StopsAtFault};
+ghost use Rattle.disk_model.specs.Sound.{IsQuiet};
 
 use crate::StoreFault;
 use crate::pending::Pending;
@@ -24,12 +25,16 @@ pub struct Store {
 }
 
 impl Store {
-    ghost use Rattle.cache_store.specs.Open.{Closes, IsOpen, Opens, OpensSafely, open_of};
+    ghost use Rattle.cache_store.specs.Open.{Closes, ClosesSafely, HasShelf, IsOpen, KeepsFound, Opens, OpensSafely, open_of};
 
-    /// Opens the cache at this moment: the files of doomed entries that an earlier run left are removed.
+    /// Opens the cache at this moment: the files of doomed entries that an earlier run left are removed, and what stands
+    /// is made to last. That counts as a flush.
     pub fn open<D: Disk>(alloc: Global, disk: &mut D, now: Moment) -> Result<Store, StoreFault>
         ensures safe { IsTrue D.tells → OpensSafely now (D.state disk.old) (D.state disk.new) }
+        ensures shelf { IsTrue D.tells → HasShelf (D.state disk.old) }
+        ensures reopens { IsTrue D.tells → KeepsFound (D.state disk.old) (D.state disk.new) }
         ensures opens { IfOk result (λ store. IsTrue D.tells → Opens now (D.state disk.old) (D.state disk.new) (open_of store)) }
+        ensures open { IfOk result (λ store. IsTrue D.tells → IsOpen (D.state disk.new) (open_of store)) }
         ensures no_sink { result ≢ Err StoreFault.Sink }
         ensures went_on { OnOk result (IsTrue D.tells → (D.counts disk.new).failed_change ≡ (D.counts disk.old).failed_change) }
         ensures stops { IsTrue D.tells → StopsAtFault (D.counts disk.old) (D.counts disk.new) }
@@ -39,6 +44,7 @@ impl Store {
         let chunk = Buffer::new(alloc)?;
         let reply = Pending::new(alloc)?;
         clear(alloc, disk)?;
+        disk.sync()?;
         Ok(Store {
             handles,
             moment: now,
@@ -52,6 +58,8 @@ impl Store {
     pub fn close<D: Disk>(self, disk: &mut D) -> Result<(), StoreFault>
         requires told { IsTrue D.tells → IsOpen (D.state disk.old) (open_of self) }
         ensures closes { IsTrue D.tells → Closes result (D.state disk.old) (D.state disk.new) (open_of self) }
+        ensures crash { IsTrue D.tells → ClosesSafely (D.state disk.old) (D.state disk.new) (open_of self) }
+        ensures quiet { OnOk result (IsTrue D.tells → IsQuiet (D.state disk.new)) }
         ensures no_sink { result ≢ Err StoreFault.Sink }
         ensures went_on { OnOk result (IsTrue D.tells → (D.counts disk.new).failed_change ≡ (D.counts disk.old).failed_change) }
         ensures stops { IsTrue D.tells → StopsAtFault (D.counts disk.old) (D.counts disk.new) }

@@ -25,3 +25,10 @@ pub mod Changes
 pub mod EntryFiles
 pub mod HeldDoomed
 pub mod Proper
+pub mod Acked
+pub mod WordedFronts
+pub mod WordedFlush
+pub mod WordedSteps
+pub mod WordedNames
+pub mod WordedVersions
+pub mod Worded

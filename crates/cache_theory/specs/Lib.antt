@@ -9,6 +9,8 @@ pub mod Given
 pub mod Proper
 pub mod Marks
 pub mod Ever
+pub mod Session
 pub mod Stands
 pub mod Crash
 pub mod Keeps
+pub mod Wording

@@ -3,6 +3,8 @@
 ghost use Rattle.cache_theory.specs.Keeps.{BeginKeeps, CreateFilesOnce, CreateKeeps, QuietFilesOnce, QuietIsSafe, RemoveFilesOnce, RemoveKeeps, RenameFilesOnce, RenameKeeps, SafeIsCrashSafe, SyncFilesOnce, SyncKeeps, WholeIsFine, WriteFilesOnce, WriteKeeps};
 ghost use Rattle.cache_theory.specs.Laws.{ShelfStaysTable};
 ghost use Rattle.cache_theory.specs.Proper.{OpensProper, StaysProper};
+ghost use Rattle.cache_theory.specs.Session.{AckedIsOne, CutIsAcked, WholeIsAcked};
+ghost use Rattle.cache_theory.specs.Wording.{MarksAreWorded};
 
 /// The shelf stays a table, whatever commands come: names rise, and none stands twice.
 pub fn shelf_stays_table()
@@ -44,4 +46,17 @@ pub fn changes_file_once()
     ensures rename { RenameFilesOnce }
     ensures remove { RemoveFilesOnce }
     ensures sync { SyncFilesOnce }
+{}
+
+/// How many commands of a session are acknowledged is told by what went out.
+pub fn replies_tell_acked()
+    ensures whole { WholeIsAcked }
+    ensures cut { CutIsAcked }
+    ensures one { AckedIsOne }
+{}
+
+/// The marks, which are a fold over the commands, say what was touched and what was written since the last flush that
+/// is acknowledged.
+pub fn marks_are_worded()
+    ensures { MarksAreWorded }
 {}

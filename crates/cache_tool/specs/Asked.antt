@@ -1,9 +1,19 @@
--- A command as the definitions see it.
-use Rattle.cache_tool.specs.Words.{Command}
-use Rattle.cache_tool.specs.Words.Command.{Put, Get}
-use Rattle.cache_tool.specs.declared.words.Command.{Command as Read}
-use Rattle.cache_tool.specs.declared.words.Command.TheVariants as read
+-- What the words ask for, as the definitions see it.
+use Rattle.std.specs.Prelude.{◌<◌, ◌^◌}
+use Rattle.cache_base.specs.Bytes.{AreBytes}
+use Rattle.cache_script.specs.Command.{command_of}
+use Rattle.cache_theory.specs.Given.{IsGiven}
+use Rattle.cache_tool.specs.Words.{Asked}
+use Rattle.cache_tool.specs.declared.words.Asked.{Asked as Read}
+use Rattle.cache_tool.specs.declared.words.Asked.TheVariants as read
 
-abbrev pub asked : Read → Command
-asked (read.Put now key) = Put now key.now
-asked (read.Get key) = Get key.now
+abbrev pub asked : Read → Asked
+asked (read.Run now) = Asked.Run now
+asked (read.Put now key) = Asked.Put now key.now
+asked (read.One now c) = Asked.One now (command_of c)
+
+-- numbers fit their types, and texts are bytes
+abbrev pub AskedIsGiven : Asked → Type 0
+AskedIsGiven (Asked.Run now) = now < 2 ^ 32
+AskedIsGiven (Asked.Put now key) = (now < 2 ^ 32) × AreBytes key
+AskedIsGiven (Asked.One now c) = (now < 2 ^ 32) × IsGiven c

@@ -1,10 +1,10 @@
 pub mod Asked
-pub mod Body
-pub mod Due
-pub mod Get
-pub mod NewEntry
-pub mod Place
-pub mod Printing
+pub mod Ending
+pub mod Pieces
 pub mod Put
-pub mod StopOf
+pub mod PutReply
+pub mod PutWent
+pub mod Script
+pub mod ScriptWent
+pub mod Sessions
 pub mod Words

@@ -1,44 +1,41 @@
--- What a `put` answers, prints and leaves.
-use Rattle.std.specs.Prelude.{ℕ, nat_le, List, [], length, Option, Some, None, option_map, codes, IfSome, if◌then◌else◌}
-use Rattle.cache_base.specs.declared.limits.TheConstants.{BODY_MAX}
+-- The commands of a `put`.
+use Rattle.std.specs.Io.KnownBytes.{Consumes}
+use Rattle.std.specs.Prelude.{Bool, List, Option, Some, [], false, if◌then◌else◌, length, map, true, ℕ, ◌++◌, ◌∷◌, ◌≡◌}
+use Rattle.cache_base.specs.declared.limits.TheConstants.{PIECE_MAX}
 use Rattle.cache_base.specs.declared.status.Status.{Status}
-use Rattle.cache_base.specs.declared.status.Status.TheVariants.{Done, No, Source}
-use Rattle.disk_model.specs.State.{State}
-use Rattle.disk_model.specs.Standing.{Puts, SameStanding}
-use Rattle.entry_key.specs.Writing.{may_write}
-use Rattle.entry_file.specs.Version.{file_of}
-use Rattle.cache_tool.specs.NewEntry.{new_version}
-use Rattle.cache_tool.specs.Place.{entry_place}
-use Rattle.cache_tool.specs.Printing.{line}
-use Rattle.cache_tool.specs.declared.put.Answer.{Answer}
-use Rattle.cache_tool.specs.declared.put.Answer.TheVariants.{Stored, BadKey, TooLarge, SourceFailed}
+use Rattle.cache_theory.specs.Command.{Command, Reply}
+use Rattle.cache_theory.specs.Command.Command.{Append, Close, Create}
+use Rattle.cache_theory.specs.Command.Reply.{Done, Refused, NoneThere, Value, Part, Found}
+use Rattle.cache_theory.specs.Machine.{Machine}
+use Rattle.cache_theory.specs.Step.{step}
+use Rattle.cache_tool.specs.Pieces.{pieces_of}
+use Rattle.cache_tool.specs.Sessions.{IsAnswer}
 
--- a body may have so many bytes
-abbrev pub answer_to : List ℕ → Answer
-answer_to body = if nat_le (length body) BODY_MAX then Stored else TooLarge
+-- the body is appended in pieces, of which each but the last is as long as a piece may be
+abbrev pub appends : List ℕ → List Command
+appends body = map (λ piece. Append 0 piece) (pieces_of PIECE_MAX (length body) body)
 
--- the answer that the key and the bytes of the source call for; none is told where the source does not tell them
-abbrev pub due_answer : List ℕ → Option (List ℕ) → Option Answer
-due_answer key left = if may_write key then option_map answer_to left else Some BadKey
+abbrev pub is_done : Reply → Bool
+is_done Done = true
+is_done (Refused r) = false
+is_done NoneThere = false
+is_done (Value value) = false
+is_done (Part bytes) = false
+is_done (Found v) = false
 
--- what is printed
-abbrev pub text_of : Answer → List ℕ
-text_of Stored = line (codes "ok")
-text_of BadKey = line (codes "bad key")
-text_of TooLarge = line (codes "too large")
-text_of SourceFailed = []
+-- the commands up to the first whose reply is not `ok`, itself included
+abbrev pub until_refused : Machine → List Command → List Command
+until_refused m [] = []
+until_refused m (c ∷ cs) = c ∷ (if is_done (step m c).reply then until_refused (step m c).next cs else [])
 
--- how the program then ends
-abbrev pub status_of : Answer → Status
-status_of Stored = Done
-status_of BadKey = No
-status_of TooLarge = No
-status_of SourceFailed = Source
+-- an entry is made, gets the body and is closed, or is left where its source failed
+abbrev pub put_commands : Machine → List ℕ → List ℕ → List Command
+put_commands m key body = until_refused m (Create 0 key ∷ (appends body ++ Close 0 ∷ []))
 
--- What stands after the answer to a `put` at a moment under a key: the file of the new entry with the source's bytes as
--- its body, or no file at the entry's place. All other places are as before, and after `bad key` that place is too.
-abbrev pub Leaves : ℕ → List ℕ → Option (List ℕ) → Answer → State → State → Type 0
-Leaves now key left Stored before after = IfSome left (λ body. Puts (entry_place key) (Some (file_of (new_version now key body))) before after)
-Leaves now key left BadKey before after = SameStanding before after
-Leaves now key left TooLarge before after = Puts (entry_place key) None before after
-Leaves now key left SourceFailed before after = Puts (entry_place key) None before after
+abbrev pub broken_commands : Machine → List ℕ → List ℕ → List Command
+broken_commands m key body = until_refused m (Create 0 key ∷ appends body)
+
+-- the commands, by what the source has at the call, or by what it gave before it failed
+pub data ArePut (m : Machine) (key : List ℕ) (left now : Option (List ℕ)) (failed : Type 0) (ended : Status) (cs : List Command) : Type 0 where
+  Whole : (body : List ℕ) → left ≡ Some body → cs ≡ put_commands m key body → ArePut m key left now failed ended cs
+  Broken : (body : List ℕ) → failed → ¬ (IsAnswer ended) → Consumes left now body → cs ≡ broken_commands m key body → ArePut m key left now failed ended cs

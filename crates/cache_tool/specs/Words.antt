@@ -1,55 +1,57 @@
 -- The words of the command line, each as its bytes.
-use Rattle.std.specs.Prelude.{ℕ, map, string_bytes, Bool, false, List, [], ◌∷◌, ◌&&◌, ◌^◌, length, nat_lt, nat_eq, Some, None, codes, if◌then◌else◌, slice_index}
+use Rattle.std.specs.Cmp.Lexicographic.{pointwise}
+use Rattle.std.specs.Prelude.{List, None, Some, [], codes, if◌then◌else◌, map, nat_eq, string_bytes, ℕ, ◌∷◌}
+use Rattle.std.specs.Option.{option_and_then}
 use Rattle.std.specs.declared.alloc.Global.{Global}
 use Rattle.std.specs.declared.option.Option.{Option}
 use Rattle.std.specs.declared.string.String.{String}
-use Rattle.std.specs.List.{list_all}
-use Rattle.std.specs.Char.{is_ascii_digit}
-use Rattle.std.specs.Str.Parse.{digits_value}
-use Rattle.std.specs.Cmp.Lexicographic.{pointwise}
+use Rattle.cache_script.specs.Numbers.{number_in}
+use Rattle.cache_theory.specs.Command.{Command}
+use Rattle.cache_theory.specs.Command.Command.{Doom, Flush, Get}
 
--- decimal digits, with no leading zero but in `0` itself
-abbrev pub is_canonical : List ℕ → Bool
-is_canonical word =
-    if nat_lt (length word) 1 then false
-    else if nat_lt 1 (length word) && nat_eq (slice_index word 0) 48 then false
-    else list_all is_ascii_digit word
+-- what the words ask for, at a moment
+pub data Asked : Type 0 where
+  -- the commands of the script that the source has
+  Run : (now : ℕ) → Asked
+  -- an entry of the key, with the bytes of the source as its body
+  Put : (now : ℕ) (key : List ℕ) → Asked
+  -- one command
+  One : (now : ℕ) (command : Command) → Asked
 
--- a number is such digits, and below 2 ^ 32
-abbrev pub number_of : List ℕ → Option ℕ
-number_of word = if is_canonical word && nat_lt (digits_value 10 word) (2 ^ 32) then Some (digits_value 10 word) else None
-
--- what the words ask for
-pub data Command : Type 0 where
-  -- an entry is made of the key at the moment
-  Put : (now : ℕ) (key : List ℕ) → Command
-  -- the entry of the key is printed
-  Get : (key : List ℕ) → Command
-
-abbrev pub command_at : ℕ → List ℕ → List ℕ → Option Command
-command_at now verb key =
-    if pointwise nat_eq verb (codes "put") then Some (Put now key)
-    else if pointwise nat_eq verb (codes "get") then Some (Get key)
+-- a verb that stands alone
+abbrev pub alone : ℕ → List ℕ → Option Asked
+alone now verb =
+    if pointwise nat_eq verb (codes "run") then Some (Asked.Run now)
+    else if pointwise nat_eq verb (codes "flush") then Some (Asked.One now Flush)
     else None
 
-abbrev pub command_from : Option ℕ → List ℕ → List ℕ → Option Command
-command_from None verb key = None
-command_from (Some now) verb key = command_at now verb key
+-- a verb with a key
+abbrev pub of_key : ℕ → List ℕ → List ℕ → Option Asked
+of_key now verb key =
+    if pointwise nat_eq verb (codes "put") then Some (Asked.Put now key)
+    else if pointwise nat_eq verb (codes "get") then Some (Asked.One now (Get key))
+    else if pointwise nat_eq verb (codes "doom") then Some (Asked.One now (Doom key))
+    else None
 
--- the words NOW `put` KEY and NOW `get` KEY
-abbrev pub command_of : List (List ℕ) → Option Command
-command_of (now ∷ (verb ∷ (key ∷ []))) = command_from (number_of now) verb key
-command_of _ = None
+-- the words NOW `run`, NOW `put` KEY, NOW `get` KEY, NOW `doom` KEY and NOW `flush`
+abbrev pub asked_by : List (List ℕ) → Option Asked
+asked_by (now ∷ (verb ∷ [])) = option_and_then (λ n. alone n verb) (number_in now)
+asked_by (now ∷ (verb ∷ (key ∷ []))) = option_and_then (λ n. of_key n verb key) (number_in now)
+asked_by _ = None
 
 -- the same of the words as texts
-abbrev pub asked_in : List (String Global) → Option Command
-asked_in words = command_of (map (λ w. string_bytes w) words)
+abbrev pub asked_in : List (String Global) → Option Asked
+asked_in words = asked_by (map (λ w. string_bytes w) words)
 
--- P of the moment and the key of a `put`, and of the key of a `get`
-abbrev pub WhenPut : Option Command → (ℕ → List ℕ → Type 0) → Type 0
-WhenPut (Some (Put now key)) P = P now key
+-- P of the moment of a `run`, of the moment and the key of a `put`, and of the moment and the command of other words
+abbrev pub WhenRun : Option Asked → (ℕ → Type 0) → Type 0
+WhenRun (Some (Asked.Run now)) P = P now
+WhenRun _ P = Unit {0}
+
+abbrev pub WhenPut : Option Asked → (ℕ → List ℕ → Type 0) → Type 0
+WhenPut (Some (Asked.Put now key)) P = P now key
 WhenPut _ P = Unit {0}
 
-abbrev pub WhenGet : Option Command → (List ℕ → Type 0) → Type 0
-WhenGet (Some (Get key)) P = P key
-WhenGet _ P = Unit {0}
+abbrev pub WhenOne : Option Asked → (ℕ → Command → Type 0) → Type 0
+WhenOne (Some (Asked.One now c)) P = P now c
+WhenOne _ P = Unit {0}

@@ -2,15 +2,13 @@
 //! output.
 #![tactic(auto)]
 
-mod body;
-mod entry;
-mod found;
-mod get;
-mod printing;
+mod last_reply;
+mod one;
+mod piece;
 mod put;
-mod refusal;
 mod run;
-mod stop;
+mod script;
+mod session;
 #[cfg(test)]
 mod tests;
 mod words;

@@ -1,164 +1,190 @@
 //! The verb `put`: an entry is made of its key and of the bytes of the source.
 
-ghost use Rattle.std.specs.Prelude.{◌≡◌, ◌≢◌, ◌⊎◌, ◌==◌, ◌&&◌, not, true, false, [], Some, None, IfOk, IfSome, IsTrue, IsErrOf, MatchResult};
-ghost use Rattle.std.specs.List.{list_all};
-ghost use Rattle.std.specs.Io.KnownBytes.{Appends, Keeps, IsAtEnd};
-ghost use Rattle.cache_base.specs.Causes.{Rose, HasCause};
-ghost use Rattle.disk_model.specs.State.{standing, settled};
-ghost use Rattle.disk_model.specs.Standing.{Puts};
-ghost use Rattle.disk_model.specs.Sound.{IsQuiet};
+ghost use Rattle.std.specs.Prelude.{◌≡◌, ◌≢◌, ◌≤◌, ◌⊎◌, [], length, false, Err, Ok, IfOk, IsErrOf, IsTrue, OnOk, vec_len};
+ghost use Rattle.std.specs.Io.KnownBytes.{Appends, IsAtEnd};
+ghost use Rattle.cache_base.specs.Causes.{HasCause, Rose};
+ghost use Rattle.cache_base.specs.declared.limits.TheConstants.{PIECE_MAX as PIECE_LEN};
+ghost use Rattle.cache_script.specs.Command.{command_of};
+ghost use Rattle.cache_store.specs.Open.{IsOpen, open_of};
+ghost use Rattle.cache_store.specs.Said.{IsCut};
+ghost use Rattle.cache_store.specs.Saying.{IsPart};
+ghost use Rattle.cache_theory.specs.Given.{IsGiven};
+ghost use Rattle.cache_tool.specs.Ending.{PutsFor, status_in};
+ghost use Rattle.cache_tool.specs.PutReply.{said_in};
+ghost use Rattle.cache_tool.specs.PutWent.{AppendWentFor, PieceWentFor, PutWentFor, SendsFor};
+ghost use Rattle.cache_tool.specs.Sessions.{IsAnswer, IsClosing};
 ghost use Rattle.disk_model.specs.Calls.{StopsAtFault};
-ghost use Rattle.entry_key.specs.Writing.{may_write as may_write_of};
-ghost use Rattle.entry_file.specs.Held.{held};
-ghost use Rattle.entry_file.specs.NewEntry.{HasBody};
-ghost use Rattle.entry_file.specs.Version.{file_of};
-ghost use Rattle.cache_tool.specs.NewEntry.{new_version};
-ghost use Rattle.cache_tool.specs.Place.{entry_place};
-ghost use Rattle.cache_tool.specs.Printing.{IsPart, IsProperPart};
-ghost use Rattle.cache_tool.specs.Due.{put_due, IsAnswer};
-ghost use Rattle.cache_tool.specs.Put.{answer_to, due_answer, text_of, status_of, Leaves};
+ghost use Rattle.disk_model.specs.Sound.{IsQuiet};
+ghost use Rattle.entry_key.specs.Writing.{may_write};
 
-use crate::body::{BodyFault, Ended, append_all};
-use crate::entry::complete;
-use crate::stop::Stop;
-use cache_base::{Moment, Status};
+use crate::last_reply::LastReply;
+use crate::piece::{Ended, fill};
+use crate::session::{end, status_of, status_of_fault};
+use cache_base::{BODY_MAX, Moment, NoMemory, PIECE_MAX, Status};
 use cache_io::{Sink, SinkFault, Source, write_whole};
-use disk_model::{Disk, DiskFault, Place};
-use entry_file::{NewEntry, begin};
-use entry_key::may_write;
-use entry_name::name_of;
+use cache_script::Command;
+use cache_store::{Outcome, Store, StoreFault};
+use disk_model::Disk;
 use std::alloc::Global;
 
-/// What a `put` answers.
-#[derive(Clone, Copy, Debug, PartialEq, Eq)]
-pub(crate) enum Answer {
-    Stored,
-    BadKey,
-    TooLarge,
-    /// The source failed, so no body came and nothing is printed.
-    SourceFailed,
-}
+// The slot by which the entry is written.
+const SLOT: u8 = 0;
 
-// Makes the new entry at its place that of the source's bytes, or removes it.
-fn fill<D: Disk, S: Source>(
+// Performs a command. Its reply is held.
+fn send<D: Disk>(
     alloc: Global,
-    now: Moment,
-    key: &[u8],
-    entry: NewEntry,
-    place: &Place,
-    source: &mut S,
+    store: &mut Store,
+    c: &Command<'_>,
+    said: &mut LastReply,
     disk: &mut D,
-) -> Result<Answer, Stop>
-    requires good { may_write_of key.now ≡ true }
-    requires new { HasBody (held entry) [] }
-    requires told { IsTrue D.tells → standing (D.state disk.old) place.now ≡ Some [] }
-    ensures due { IfOk result (λ answer. (answer ≡ Answer.SourceFailed) ⊎ IfSome (S.left source.old) (λ body. answer ≡ answer_to body)) }
-    ensures answers { IfOk result (λ answer. answer ≢ Answer.BadKey) }
-    ensures read { result ≡ Ok Answer.Stored → IsAtEnd (S.left source.new) }
-    ensures stored { result ≡ Ok Answer.Stored → IsTrue D.tells → IfSome (S.left source.old) (λ body.
-        Puts place.now (Some (file_of (new_version now key.now body))) (D.state disk.old) (D.state disk.new)) }
-    ensures removed { IfOk result (λ answer. answer ≢ Answer.Stored → IsTrue D.tells → Puts place.now None (D.state disk.old) (D.state disk.new)) }
-    ensures failed { result ≡ Ok Answer.SourceFailed → Rose (S.faults source.old) (S.faults source.new) }
-    ensures heard { IfOk result (λ answer. answer ≢ Answer.SourceFailed → S.faults source.new ≡ S.faults source.old) }
-    ensures disk { HasCause (IsErrOf result Stop.Disk) (D.faults disk.old) (D.faults disk.new) }
-    ensures went_on { IfOk result (λ _. IsTrue D.tells → (D.counts disk.new).failed_change ≡ (D.counts disk.old).failed_change) }
+) -> Result<Outcome, StoreFault>
+    requires given { IsGiven (command_of c.now) }
+    requires told { IsTrue D.tells → IsOpen (D.state disk.old) (open_of store.old) }
+    ensures sends { IsTrue D.tells → SendsFor (command_of c.now) result (D.state disk.old) (D.state disk.new) (open_of store.old) (open_of store.new) (said_in said.new) }
+    ensures open { OnOk result (IsTrue D.tells → IsOpen (D.state disk.new) (open_of store.new)) }
+    ensures no_sink { result ≢ Err StoreFault.Sink }
+    ensures went_on { OnOk result (IsTrue D.tells → (D.counts disk.new).failed_change ≡ (D.counts disk.old).failed_change) }
     ensures stops { IsTrue D.tells → StopsAtFault (D.counts disk.old) (D.counts disk.new) }
+    ensures cause { HasCause (IsErrOf result StoreFault.Disk) (D.faults disk.old) (D.faults disk.new) }
 {
-    let mut entry = entry;
-    match append_all(&mut entry, source, disk, place) {
-        Ok(Ended::Whole) => {
-            complete(alloc, now, key, entry, place, disk)?;
-            Ok(Answer::Stored)
-        }
-        Ok(Ended::TooLong) => {
-            disk.remove(place)?;
-            Ok(Answer::TooLarge)
-        }
-        Err(BodyFault::Source) => {
-            disk.remove(place)?;
-            Ok(Answer::SourceFailed)
-        }
-        Err(BodyFault::Disk) => Err(Stop::Disk),
-        Err(BodyFault::Memory) => Err(Stop::Memory),
-    }
+    said.clear();
+    store.command(alloc, disk, c, said)
 }
 
-// Makes the entry of the key and the source's bytes.
-fn store<D: Disk, S: Source>(
+// Appends a piece to the body, unless it is empty. The body has room for so many bytes more, and the machine refuses a
+// piece that is longer: so it counts as refused, whatever the disk is.
+fn append_piece<D: Disk>(
     alloc: Global,
-    now: Moment,
+    store: &mut Store,
+    piece: &[u8],
+    room: usize,
+    said: &mut LastReply,
+    disk: &mut D,
+) -> Result<Outcome, StoreFault>
+    requires told { IsTrue D.tells → IsOpen (D.state disk.old) (open_of store.old) }
+    ensures went { IsTrue D.tells → PieceWentFor piece.now room result (D.state disk.old) (D.state disk.new) (open_of store.old) (open_of store.new) (said_in said.new) }
+    ensures fits { result ≡ Ok Outcome.Ok → length piece.now ≤ room }
+    ensures open { OnOk result (IsTrue D.tells → IsOpen (D.state disk.new) (open_of store.new)) }
+    ensures no_sink { result ≢ Err StoreFault.Sink }
+    ensures went_on { OnOk result (IsTrue D.tells → (D.counts disk.new).failed_change ≡ (D.counts disk.old).failed_change) }
+    ensures stops { IsTrue D.tells → StopsAtFault (D.counts disk.old) (D.counts disk.new) }
+    ensures cause { HasCause (IsErrOf result StoreFault.Disk) (D.faults disk.old) (D.faults disk.new) }
+{
+    if piece.is_empty() {
+        return Ok(Outcome::Ok);
+    }
+    let append = Command::Append {
+        slot: SLOT,
+        bytes: piece,
+    };
+    let outcome = send(alloc, store, &append, said, disk)?;
+    if piece.len() > room {
+        return Ok(Outcome::Refused);
+    }
+    Ok(outcome)
+}
+
+// Room for a piece. Fails only for want of memory.
+fn new_piece(alloc: Global) -> Result<Vec<u8>, NoMemory>
+    ensures { IfOk result (λ piece. vec_len piece ≡ PIECE_LEN) }
+{
+    Ok(vec![in alloc; 0; PIECE_MAX]?)
+}
+
+// Appends the bytes of the source in pieces, up to its end or to a piece that is refused.
+fn append_all<D: Disk, S: Source>(
+    alloc: Global,
+    store: &mut Store,
+    source: &mut S,
+    piece: &mut [u8],
+    said: &mut LastReply,
+    disk: &mut D,
+) -> Result<Status, StoreFault>
+    requires long { length piece.old ≡ PIECE_LEN }
+    requires told { IsTrue D.tells → IsOpen (D.state disk.old) (open_of store.old) }
+    ensures went { IsTrue D.tells → AppendWentFor (S.left source.old) (S.left source.new) (Rose (S.faults source.old) (S.faults source.new)) result
+        (D.state disk.old) (D.state disk.new) (open_of store.old) (open_of store.new) (said_in said.new) }
+    ensures only { IfOk result (λ s. IsAnswer s ⊎ (s ≡ Status.Source)) }
+    ensures read { result ≡ Ok Status.Done → IsAtEnd (S.left source.new) }
+    ensures source { result ≡ Ok Status.Source → Rose (S.faults source.old) (S.faults source.new) }
+    ensures calm { IfOk result (λ s. IsAnswer s → S.faults source.new ≡ S.faults source.old) }
+    ensures open { OnOk result (IsTrue D.tells → IsOpen (D.state disk.new) (open_of store.new)) }
+    ensures no_sink { result ≢ Err StoreFault.Sink }
+    ensures went_on { OnOk result (IsTrue D.tells → (D.counts disk.new).failed_change ≡ (D.counts disk.old).failed_change) }
+    ensures stops { IsTrue D.tells → StopsAtFault (D.counts disk.old) (D.counts disk.new) }
+    ensures cause { HasCause (IsErrOf result StoreFault.Disk) (D.faults disk.old) (D.faults disk.new) }
+{
+    let mut room = BODY_MAX;
+    'pieces: loop {
+        let filled = fill(source, piece);
+        let outcome = append_piece(alloc, store, &piece[..filled.count], room, said, disk)?;
+        match filled.ended {
+            Ended::Failed => return Ok(Status::Source),
+            Ended::End => return Ok(status_of(outcome)),
+            Ended::Full => match outcome {
+                Outcome::Refused => return Ok(Status::No),
+                Outcome::Ok => room -= filled.count,
+            },
+        }
+    }
+}
+
+// Makes an entry of the key and of the source's bytes. The last reply is held. An entry whose source failed is left
+// unfinished.
+fn perform_put<D: Disk, S: Source>(
+    alloc: Global,
+    store: &mut Store,
     key: &[u8],
     source: &mut S,
+    said: &mut LastReply,
     disk: &mut D,
-) -> Result<Answer, Stop>
-    ensures due { IfOk result (λ answer. (answer ≡ Answer.SourceFailed) ⊎ IfSome (due_answer key.now (S.left source.old)) (λ due. answer ≡ due)) }
-    ensures good { result ≡ Ok Answer.SourceFailed → may_write_of key.now ≡ true }
-    ensures bad { may_write_of key.now ≡ false → (result ≡ Ok Answer.BadKey) × (source.new ≡ source.old) }
-    ensures read { result ≡ Ok Answer.Stored → IsAtEnd (S.left source.new) }
-    ensures leaves { IfOk result (λ answer. IsTrue D.tells → Leaves now key.now (S.left source.old) answer (D.state disk.old) (D.state disk.new)) }
-    ensures failed { result ≡ Ok Answer.SourceFailed → Rose (S.faults source.old) (S.faults source.new) }
-    ensures heard { IfOk result (λ answer. answer ≢ Answer.SourceFailed → S.faults source.new ≡ S.faults source.old) }
-    ensures disk { HasCause (IsErrOf result Stop.Disk) (D.faults disk.old) (D.faults disk.new) }
-    ensures went_on { IfOk result (λ _. IsTrue D.tells → (D.counts disk.new).failed_change ≡ (D.counts disk.old).failed_change) }
+) -> Result<Status, StoreFault>
+    requires told { IsTrue D.tells → IsOpen (D.state disk.old) (open_of store.old) }
+    ensures went { IsTrue D.tells → PutWentFor key.now (S.left source.old) (S.left source.new) (Rose (S.faults source.old) (S.faults source.new)) (status_in result)
+        (D.state disk.old) (D.state disk.new) (open_of store.old) (open_of store.new) (said_in said.new) }
+    ensures only { IfOk result (λ s. IsAnswer s ⊎ (s ≡ Status.Source)) }
+    ensures read { result ≡ Ok Status.Done → IsAtEnd (S.left source.new) }
+    ensures unread { IsTrue D.tells → may_write key.now ≡ false → source.new ≡ source.old }
+    ensures source { result ≡ Ok Status.Source → Rose (S.faults source.old) (S.faults source.new) }
+    ensures calm { IfOk result (λ s. IsAnswer s → S.faults source.new ≡ S.faults source.old) }
+    ensures open { OnOk result (IsTrue D.tells → IsOpen (D.state disk.new) (open_of store.new)) }
+    ensures no_sink { result ≢ Err StoreFault.Sink }
+    ensures went_on { OnOk result (IsTrue D.tells → (D.counts disk.new).failed_change ≡ (D.counts disk.old).failed_change) }
     ensures stops { IsTrue D.tells → StopsAtFault (D.counts disk.old) (D.counts disk.new) }
+    ensures cause { HasCause (IsErrOf result StoreFault.Disk) (D.faults disk.old) (D.faults disk.new) }
 {
-    if !may_write(key) {
-        return Ok(Answer::BadKey);
+    let mut piece = new_piece(alloc)?;
+    let create = Command::Create { slot: SLOT, key };
+    if let Outcome::Refused = send(alloc, store, &create, said, disk)? {
+        return Ok(Status::No);
     }
-    let place = Place::Entry(name_of(key));
-    let entry = begin(alloc, disk, &place)?;
-    fill(alloc, now, key, entry, &place, source, disk)
+    let appended = append_all(alloc, store, source, piece.as_mut_slice(), said, disk)?;
+    if let Status::Done = appended {
+        let close = Command::Close { slot: SLOT };
+        let outcome = send(alloc, store, &close, said, disk)?;
+        return Ok(status_of(outcome));
+    }
+    Ok(appended)
 }
 
-// What is printed, a line or nothing.
-fn text(answer: Answer) -> &'static [u8]
-    ensures { result.now ≡ text_of answer }
-{
-    match answer {
-        Answer::Stored => b"ok\n",
-        Answer::BadKey => b"bad key\n",
-        Answer::TooLarge => b"too large\n",
-        Answer::SourceFailed => b"",
-    }
-}
-
-fn status(answer: Answer) -> Status
-    ensures { result ≡ status_of answer }
-{
-    match answer {
-        Answer::Stored => Status::Done,
-        Answer::BadKey | Answer::TooLarge => Status::No,
-        Answer::SourceFailed => Status::Source,
-    }
-}
-
-// Prints the answer, and then makes last what the disk holds. A sink that failed does not keep the disk from that.
-fn reply<D: Disk, K: Sink>(answer: Answer, sink: &mut K, disk: &mut D) -> Status
-    ensures answers { (result ≡ status_of answer) ⊎ ((result ≡ Status.Sink) ⊎ ((result ≡ Status.Disk) ⊎ (result ≡ Status.Memory))) }
-    ensures all { result ≡ status_of answer → Appends (K.taken sink.old) (K.taken sink.new) (text_of answer) }
-    ensures part { IsPart (text_of answer) (K.taken sink.old) (K.taken sink.new) }
-    ensures cut { result ≡ Status.Sink → IsProperPart (text_of answer) (K.taken sink.old) (K.taken sink.new) }
+// Prints the reply that is held, which came with this status.
+fn print_reply<K: Sink>(status: Status, said: &LastReply, sink: &mut K) -> Status
+    requires answer { IsAnswer status }
+    ensures same { (result ≡ status) ⊎ ((result ≡ Status.Sink) ⊎ (result ≡ Status.Memory)) }
+    ensures all { IsAnswer result → Appends (K.taken sink.old) (K.taken sink.new) (said_in said.now) }
+    ensures part { IsPart (K.taken sink.old) (K.taken sink.new) (said_in said.now) }
+    ensures cut { result ≡ Status.Sink → IsCut (K.taken sink.old) (K.taken sink.new) (said_in said.now) }
     ensures sink { result ≡ Status.Sink → Rose (K.faults sink.old) (K.faults sink.new) }
-    ensures taken { result ≡ status_of answer → K.faults sink.new ≡ K.faults sink.old }
-    ensures disk { HasCause (result ≡ Status.Disk) (D.faults disk.old) (D.faults disk.new) }
-    ensures settles { (result ≡ status_of answer) ⊎ (result ≡ Status.Sink) → IsTrue D.tells → D.state disk.new ≡ settled (D.state disk.old) }
-    ensures stops { IsTrue D.tells → StopsAtFault (D.counts disk.old) (D.counts disk.new) }
+    ensures calm { IsAnswer result → K.faults sink.new ≡ K.faults sink.old }
 {
-    let printed = write_whole(sink, text(answer));
-    if let Err(SinkFault::Memory) = printed {
-        return Status::Memory;
-    }
-    match disk.sync() {
-        Err(DiskFault::Failed) => Status::Disk,
-        Err(DiskFault::Memory) => Status::Memory,
-        Ok(()) => match printed {
-            Ok(()) => status(answer),
-            Err(_) => Status::Sink,
-        },
+    match write_whole(sink, said.as_slice()) {
+        Ok(()) => status,
+        Err(SinkFault::Failed) => Status::Sink,
+        Err(SinkFault::Memory) => Status::Memory,
     }
 }
 
-/// Makes an entry of the key and of the source's bytes, and answers.
+/// Makes an entry of the key and of the source's bytes, closes the store, and prints the last reply.
 pub(crate) fn put<D: Disk, S: Source, K: Sink>(
     alloc: Global,
     now: Moment,
@@ -167,34 +193,27 @@ pub(crate) fn put<D: Disk, S: Source, K: Sink>(
     sink: &mut K,
     disk: &mut D,
 ) -> Status
-    ensures answers { IsAnswer result → IfSome (put_due key.now (S.left source.old)) (λ due. result ≡ due.status) }
+    ensures puts { IsTrue D.tells → PutsFor now key.now result (S.left source.old) (S.left source.new) (Rose (S.faults source.old) (S.faults source.new))
+        (K.taken sink.old) (K.taken sink.new) (D.state disk.old) (D.state disk.new) }
     ensures read { result ≡ Status.Done → IsAtEnd (S.left source.new) }
-    ensures unread { may_write_of key.now ≡ false → source.new ≡ source.old }
-
-    ensures printed { IsAnswer result → IfSome (put_due key.now (S.left source.old)) (λ due. Appends (K.taken sink.old) (K.taken sink.new) due.text) }
-    ensures cut { result ≡ Status.Sink → IfSome (put_due key.now (S.left source.old)) (λ due. IsProperPart due.text (K.taken sink.old) (K.taken sink.new)) }
-    ensures part { IfSome (put_due key.now (S.left source.old)) (λ due. IsPart due.text (K.taken sink.old) (K.taken sink.new)) }
-    ensures silent { result ≡ Status.Source → Keeps (K.taken sink.old) (K.taken sink.new) }
-
-    ensures leaves { IsAnswer result ⊎ (result ≡ Status.Sink) → IsTrue D.tells → IfSome (due_answer key.now (S.left source.old)) (λ due.
-        Leaves now key.now (S.left source.old) due (D.state disk.old) (D.state disk.new)) }
-    ensures removed { result ≡ Status.Source → IsTrue D.tells → Puts (entry_place key.now) None (D.state disk.old) (D.state disk.new) }
-    ensures quiet { IsAnswer result ⊎ ((result ≡ Status.Source) ⊎ (result ≡ Status.Sink)) → IsTrue D.tells → IsQuiet (D.state disk.new) }
-    ensures stops { IsTrue D.tells → StopsAtFault (D.counts disk.old) (D.counts disk.new) }
-
-    ensures source { result ≡ Status.Source → Rose (S.faults source.old) (S.faults source.new) }
-    ensures heard { result ≡ Status.Source → may_write_of key.now ≡ true }
-    ensures sink { result ≡ Status.Sink → Rose (K.faults sink.old) (K.faults sink.new) }
-    ensures disk { HasCause (result ≡ Status.Disk) (D.faults disk.old) (D.faults disk.new) }
-    ensures calm { IsAnswer result → (S.faults source.new ≡ S.faults source.old) × (K.faults sink.new ≡ K.faults sink.old) }
+    ensures unread { IsTrue D.tells → may_write key.now ≡ false → source.new ≡ source.old }
     ensures others { (result ≢ Status.Words) × (result ≢ Status.Script) }
-    ensures complete { ¬ (Rose (S.faults source.old) (S.faults source.new)) → ¬ (Rose (K.faults sink.old) (K.faults sink.new)) → ¬ (Rose (D.faults disk.old) (D.faults disk.new)) →
-        IsAnswer result ⊎ (result ≡ Status.Memory) }
+    ensures quiet { IsClosing result → IsTrue D.tells → IsQuiet (D.state disk.new) }
+    ensures stops { IsTrue D.tells → StopsAtFault (D.counts disk.old) (D.counts disk.new) }
+    ensures source { result ≡ Status.Source → Rose (S.faults source.old) (S.faults source.new) }
+    ensures sink { result ≡ Status.Sink → Rose (K.faults sink.old) (K.faults sink.new) }
+    ensures calm { IsAnswer result → (S.faults source.new ≡ S.faults source.old) × (K.faults sink.new ≡ K.faults sink.old) }
+    ensures disk { HasCause (result ≡ Status.Disk) (D.faults disk.old) (D.faults disk.new) }
 {
-    let answer = match store(alloc, now, key, source, disk) {
-        Ok(answer) => answer,
-        Err(Stop::Memory) => return Status::Memory,
-        Err(Stop::Disk) => return Status::Disk,
+    let mut store = match Store::open(alloc, disk, now) {
+        Ok(store) => store,
+        Err(fault) => return status_of_fault(fault),
     };
-    reply(answer, sink, disk)
+    let mut said = LastReply::new(alloc);
+    let came = perform_put(alloc, &mut store, key, source, &mut said, disk);
+    match end(store, came, disk) {
+        Status::Done => print_reply(Status::Done, &said, sink),
+        Status::No => print_reply(Status::No, &said, sink),
+        other => other,
+    }
 }

@@ -1,30 +1,31 @@
 //! What the program does, over any disk, source and sink.
 
-ghost use Rattle.std.specs.Prelude.{◌≡◌, ◌≢◌, ◌↔◌, ◌⊎◌, true, false, None, IsTrue, IsSome, IsNone, IfSome};
-ghost use Rattle.std.specs.Io.KnownBytes.{Appends, Keeps, IsAtEnd};
+ghost use Rattle.std.specs.Prelude.{◌≡◌, ◌≢◌, ◌↔◌, ◌⊎◌, false, None, IsTrue, IsSome, IsNone};
+ghost use Rattle.std.specs.Io.KnownBytes.{IsAtEnd};
 ghost use Rattle.cache_base.specs.Causes.{Rose};
-ghost use Rattle.disk_model.specs.Sound.{IsQuiet};
-ghost use Rattle.disk_model.specs.Standing.{Puts};
+ghost use Rattle.cache_tool.specs.Ending.{ComesFor, PutsFor, RunsFor};
+ghost use Rattle.cache_tool.specs.Script.{HasBadCommand, HasScript, IsScript};
+ghost use Rattle.cache_tool.specs.Sessions.{IsAnswer, IsClosing};
+ghost use Rattle.cache_tool.specs.Words.{WhenOne, WhenPut, WhenRun, asked_in};
 ghost use Rattle.disk_model.specs.Calls.{StopsAtFault};
+ghost use Rattle.disk_model.specs.Sound.{IsQuiet};
 ghost use Rattle.entry_key.specs.Writing.{may_write};
-ghost use Rattle.cache_tool.specs.Words.{asked_in, WhenPut, WhenGet};
-ghost use Rattle.cache_tool.specs.Place.{entry_place};
-ghost use Rattle.cache_tool.specs.Printing.{IsPart, IsProperPart};
-ghost use Rattle.cache_tool.specs.Put.{due_answer, Leaves};
-ghost use Rattle.cache_tool.specs.Due.{due, IsAnswer};
 
-use crate::get::get;
+use crate::one::perform_one;
 use crate::put::put;
-use crate::words::{Command, read_words};
+use crate::script::run_script;
+use crate::words::{Asked, read_words};
 use cache_base::Status;
 use cache_io::{Sink, Source};
 use disk_model::Disk;
 use std::alloc::Global;
 
-/// Does what the words say. These are the words behind the directory: `NOW put KEY` makes an entry of the key, at
-/// the moment NOW, and takes its body from the source; `NOW get KEY` prints the entry of the key.
+/// Does what the words say. These are the words behind the directory: `NOW run` performs the script that the source
+/// has, `NOW put KEY` makes an entry of the key whose body the source has, `NOW get KEY` prints an entry, `NOW doom KEY`
+/// removes one, and `NOW flush` makes all last. Each opens the store at the moment NOW and closes it.
 ///
-/// The clauses on contents hold where the disk, the source and the sink tell theirs.
+/// The clauses on contents hold where the disk and the source tell theirs. Those on a crash hold where nothing was
+/// pending at the call, and speak of every exit, whatever the status.
 pub fn run<D: Disk, S: Source, K: Sink>(
     alloc: Global,
     words: &[String],
@@ -36,50 +37,47 @@ pub fn run<D: Disk, S: Source, K: Sink>(
     ensures words { (result ≡ Status.Words) ↔ IsNone (asked_in words.now) }
     ensures idle { result ≡ Status.Words → (disk.new ≡ disk.old) × (source.new ≡ source.old) × (sink.new ≡ sink.old) }
 
-    // `Done` and `No` are the answer that the command calls for, by the bytes of the source and what stands on the
-    // disk. It is printed whole, or a proper part of it where the sink failed. In any case no other byte is.
-    ensures answers { IsAnswer result → IfSome (due (asked_in words.now) (S.left source.old) D.tells (D.state disk.old)) (λ due. result ≡ due.status) }
-    ensures printed { IsAnswer result → IfSome (due (asked_in words.now) (S.left source.old) D.tells (D.state disk.old)) (λ due. Appends (K.taken sink.old) (K.taken sink.new) due.text) }
-    ensures cut { result ≡ Status.Sink → IfSome (due (asked_in words.now) (S.left source.old) D.tells (D.state disk.old)) (λ due. IsProperPart due.text (K.taken sink.old) (K.taken sink.new)) }
-    ensures part { IfSome (due (asked_in words.now) (S.left source.old) D.tells (D.state disk.old)) (λ due. IsPart due.text (K.taken sink.old) (K.taken sink.new)) }
+    // What is printed, what stands afterwards and what a crash may leave, by the machine.
+    ensures runs { WhenRun (asked_in words.now) (λ now. IsTrue D.tells → RunsFor now result (S.left source.old) (S.left source.new)
+        (K.taken sink.old) (K.taken sink.new) (D.state disk.old) (D.state disk.new)) }
+    ensures puts { WhenPut (asked_in words.now) (λ now key. IsTrue D.tells → PutsFor now key result (S.left source.old) (S.left source.new) (Rose (S.faults source.old) (S.faults source.new))
+        (K.taken sink.old) (K.taken sink.new) (D.state disk.old) (D.state disk.new)) }
+    ensures comes { WhenOne (asked_in words.now) (λ now c. IsTrue D.tells → ComesFor now c result (K.taken sink.old) (K.taken sink.new) (D.state disk.old) (D.state disk.new)) }
 
-    // A `put` reads the source to its end for `Done`, and nothing of it for a bad key. What it leaves stands with
-    // nothing pending. A sink that failed changes nothing of that, and a source that failed leaves no file and prints
-    // nothing.
-    ensures read { result ≡ Status.Done → WhenPut (asked_in words.now) (λ now key. IsAtEnd (S.left source.new)) }
-    ensures unread { WhenPut (asked_in words.now) (λ now key. may_write key ≡ false → source.new ≡ source.old) }
-    ensures leaves { IsAnswer result ⊎ (result ≡ Status.Sink) → IsTrue D.tells → WhenPut (asked_in words.now) (λ now key.
-        IfSome (due_answer key (S.left source.old)) (λ answer. Leaves now key (S.left source.old) answer (D.state disk.old) (D.state disk.new))) }
-    ensures quiet { IsAnswer result ⊎ ((result ≡ Status.Source) ⊎ (result ≡ Status.Sink)) → IsTrue D.tells → WhenPut (asked_in words.now) (λ now key. IsQuiet (D.state disk.new)) }
-    ensures removed { result ≡ Status.Source → IsTrue D.tells → WhenPut (asked_in words.now) (λ now key. Puts (entry_place key) None (D.state disk.old) (D.state disk.new)) }
-    ensures silent { result ≡ Status.Source → Keeps (K.taken sink.old) (K.taken sink.new) }
-    ensures heard { result ≡ Status.Source → WhenPut (asked_in words.now) (λ now key. may_write key ≡ true) }
+    // With `Done` a `run` and a `put` have read the source to its end, and for a `run` its bytes spell a script; with
+    // `Script` they spell none. A `put` under a key that cannot be written reads nothing, and other verbs never do.
+    ensures read { result ≡ Status.Done → WhenRun (asked_in words.now) (λ now. IsAtEnd (S.left source.new)) × WhenPut (asked_in words.now) (λ now key. IsAtEnd (S.left source.new)) }
+    ensures spelled { result ≡ Status.Done → WhenRun (asked_in words.now) (λ now. HasScript (S.left source.old)) }
+    ensures bad { result ≡ Status.Script → HasBadCommand (S.left source.old) }
+    ensures unread { WhenPut (asked_in words.now) (λ now key. IsTrue D.tells → may_write key ≡ false → source.new ≡ source.old) }
+    ensures ignored { WhenOne (asked_in words.now) (λ now c. source.new ≡ source.old) }
 
-    // A `get` changes nothing, and reads nothing of the source.
-    ensures kept { WhenGet (asked_in words.now) (λ key. IsTrue D.tells → D.state disk.new ≡ D.state disk.old) }
-    ensures ignored { WhenGet (asked_in words.now) (λ key. (source.new ≡ source.old) × (result ≢ Status.Source)) }
+    // Where the store was closed nothing is pending.
+    ensures quiet { IsClosing result → IsTrue D.tells → IsQuiet (D.state disk.new) }
 
-    // With nothing pending before, nothing is pending afterwards, but where the disk failed or memory ran out.
-    ensures settled { IsAnswer result ⊎ ((result ≡ Status.Source) ⊎ ((result ≡ Status.Sink) ⊎ (result ≡ Status.Words))) → IsTrue D.tells → IsQuiet (D.state disk.old) → IsQuiet (D.state disk.new) }
+    // A script alone is bad, and never refused; a source fails for a script and a `put` alone.
+    ensures script_alone { result ≡ Status.Script → WhenPut (asked_in words.now) (λ now key. ⊥) × WhenOne (asked_in words.now) (λ now c. ⊥) }
+    ensures never_no { WhenRun (asked_in words.now) (λ now. result ≢ Status.No) }
+    ensures never_source { WhenOne (asked_in words.now) (λ now c. result ≢ Status.Source) }
 
     // A fault is answered only where its count rose, that of the disk before the others, and where the disk's rose
     // there is no other answer but want of memory. After a change that failed no call follows.
     ensures source { result ≡ Status.Source → Rose (S.faults source.old) (S.faults source.new) }
     ensures sink { result ≡ Status.Sink → Rose (K.faults sink.old) (K.faults sink.new) }
     ensures disk { result ≡ Status.Disk → Rose (D.faults disk.old) (D.faults disk.new) }
-    ensures disk_first { result ≢ Status.Disk → result ≢ Status.Memory → D.faults disk.new ≡ D.faults disk.old }
-    ensures calm { IsAnswer result → (S.faults source.new ≡ S.faults source.old) × (K.faults sink.new ≡ K.faults sink.old) }
+    ensures disk_first { result ≢ Status.Disk → D.faults disk.new ≡ D.faults disk.old }
+    ensures calm { IsAnswer result ⊎ (result ≡ Status.Script) → (S.faults source.new ≡ S.faults source.old) × (K.faults sink.new ≡ K.faults sink.old) }
     ensures stops { IsTrue D.tells → StopsAtFault (D.counts disk.old) (D.counts disk.new) }
-    ensures script { result ≢ Status.Script }
 
-    // Where nothing fails there is no other answer but want of memory.
-    ensures complete { IsSome (asked_in words.now) →
+    // Where nothing fails, and a script is one, there is no other answer but want of memory.
+    ensures complete { IsSome (asked_in words.now) → WhenRun (asked_in words.now) (λ now. IsScript (S.left source.old)) →
         ¬ (Rose (S.faults source.old) (S.faults source.new)) → ¬ (Rose (K.faults sink.old) (K.faults sink.new)) → ¬ (Rose (D.faults disk.old) (D.faults disk.new)) →
         IsAnswer result ⊎ (result ≡ Status.Memory) }
 {
     match read_words(words) {
-        Some(Command::Put { now, key }) => put(alloc, now, key, source, sink, disk),
-        Some(Command::Get { key }) => get(alloc, key, sink, disk),
+        Some(Asked::Run { now }) => run_script(alloc, now, source, sink, disk),
+        Some(Asked::Put { now, key }) => put(alloc, now, key, source, sink, disk),
+        Some(Asked::One { now, command }) => perform_one(alloc, now, &command, sink, disk),
         None => Status::Words,
     }
 }

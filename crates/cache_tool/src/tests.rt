@@ -1,7 +1,10 @@
 //! The program on a disk in memory.
 
+mod crash;
 mod get;
+mod one;
 mod put;
+mod script;
 
 use crate::run::run;
 use cache_base::{Bytes, NoMemory, Numbers, Status};
@@ -27,6 +30,15 @@ fn one_number(alloc: Global, number: u32) -> Result<Numbers, NoMemory> {
     let mut list = Numbers::new(alloc);
     list.push(number)?;
     Ok(list)
+}
+
+// The words of a line, which single spaces separate.
+fn words_of(alloc: Global, line: &str) -> Result<Vec<String>, AllocError> {
+    let mut words = Vec::new(alloc);
+    for word in line.split(' ') {
+        words.push(String::from_str(alloc, word)?)?;
+    }
+    Ok(words)
 }
 
 // The words `1000 VERB KEY`.

@@ -1,68 +1,65 @@
 //! The words of the command line.
 
-ghost use Rattle.std.specs.Prelude.{◌≡◌};
+ghost use Rattle.std.specs.Prelude.{◌≡◌, IfSome};
 ghost use Rattle.std.specs.Option.{option_map};
-ghost use Rattle.std.specs.List.{list_all};
-ghost use Rattle.std.specs.Char.{is_ascii_digit};
-ghost use Rattle.cache_tool.specs.Words.{is_canonical, number_of, asked_in};
-ghost use Rattle.cache_tool.specs.Asked.{asked};
+ghost use Rattle.cache_tool.specs.Words.{alone as alone_of, asked_in, of_key as of_key_of};
+ghost use Rattle.cache_tool.specs.Asked.{asked, AskedIsGiven};
 
 use cache_base::Moment;
+use cache_script::{Command, number};
 
-/// What the words ask for.
+/// What the words ask for, at a moment.
 #[derive(Clone, Copy)]
-pub(crate) enum Command<'a> {
+pub(crate) enum Asked<'a> {
+    /// `NOW run`
+    Run { now: Moment },
     /// `NOW put KEY`
     Put { now: Moment, key: &'a [u8] },
-    /// `NOW get KEY`
-    Get { key: &'a [u8] },
+    /// `NOW get KEY`, `NOW doom KEY`, `NOW flush`
+    One { now: Moment, command: Command<'a> },
 }
 
-fn all_digits(word: &[u8]) -> bool
-    ensures { result ≡ list_all is_ascii_digit word.now }
+// A verb that stands alone.
+fn alone(now: Moment, verb: &str) -> Option<Asked<'_>>
+    ensures asked { option_map asked result ≡ alone_of now verb.now }
+    ensures given { IfSome result (λ a. AskedIsGiven (asked a)) }
 {
-    word.iter().all(|digit| digit.is_ascii_digit())
-}
-
-#[tactic(auto, using(std::proofs::lemmas::Bool::Decides::nat_tests))]
-fn is_canonical_number(word: &[u8]) -> bool
-    ensures { result ≡ is_canonical word.now }
-{
-    if word.len() < 1 {
-        return false;
-    }
-    if 1 < word.len() {
-        if word[0] == b'0' {
-            return false;
-        }
-    }
-    all_digits(word)
-}
-
-// `parse` takes a sign and leading zeros too, so the digits are tested first.
-fn number(word: &str) -> Option<u32>
-    ensures { result ≡ number_of word.now }
-{
-    if is_canonical_number(word.as_bytes()) {
-        word.parse::<u32>().ok()
-    } else {
-        None
+    match verb {
+        "run" => Some(Asked::Run { now }),
+        "flush" => Some(Asked::One {
+            now,
+            command: Command::Flush,
+        }),
+        _ => None,
     }
 }
 
-pub(crate) fn read_words(words: &[String]) -> Option<Command<'_>>
-    ensures { option_map asked result ≡ asked_in words.now }
+// A verb with a key.
+fn of_key<'a>(now: Moment, verb: &str, key: &'a [u8]) -> Option<Asked<'a>>
+    ensures asked { option_map asked result ≡ of_key_of now verb.now key.now }
+    ensures given { IfSome result (λ a. AskedIsGiven (asked a)) }
 {
-    let [now, verb, key] = words else {
-        return None;
-    };
-    let now = number(now.as_str())?;
-    let key = key.as_str().as_bytes();
-    if verb.as_str() == "put" {
-        return Some(Command::Put { now, key });
+    match verb {
+        "put" => Some(Asked::Put { now, key }),
+        "get" => Some(Asked::One {
+            now,
+            command: Command::Get { key },
+        }),
+        "doom" => Some(Asked::One {
+            now,
+            command: Command::Doom { key },
+        }),
+        _ => None,
     }
-    if verb.as_str() == "get" {
-        return Some(Command::Get { key });
+}
+
+pub(crate) fn read_words(words: &[String]) -> Option<Asked<'_>>
+    ensures asked { option_map asked result ≡ asked_in words.now }
+    ensures given { IfSome result (λ a. AskedIsGiven (asked a)) }
+{
+    match words {
+        [now, verb] => alone(number(now.as_bytes())?, verb),
+        [now, verb, key] => of_key(number(now.as_bytes())?, verb.as_str(), key.as_bytes()),
+        _ => None,
     }
-    None
 }

@@ -16,3 +16,4 @@ pub mod MemTable
 pub mod MemImage
 pub mod MemFill
 pub mod MemDisk
+pub mod MemFinite

@@ -1,7 +1,9 @@
 -- Lists of the files that stand in the folders `entries` and `doomed`.
-use Rattle.std.specs.Prelude.{ℕ, ◌↔◌, List, Contains, IsSome}
+use Rattle.std.specs.Prelude.{ℕ, ◌↔◌, ◌≡◌, List, Contains, IsSome, Some}
 use Rattle.std.specs.List.Sorted.{IsStrictlySortedBy}
 use Rattle.std.specs.Ordering.{nat_cmp}
+use Rattle.cache_base.specs.Bytes.{AreBytes}
+use Rattle.cache_base.specs.Names.{AreRising}
 use Rattle.cache_base.specs.declared.name.Name.{Name}
 use Rattle.disk_model.specs.declared.place.Place.TheVariants.{Entry, Doomed}
 use Rattle.disk_model.specs.State.{State, standing}
@@ -17,3 +19,10 @@ AreDoomed s numbers = (number : ℕ) → Contains numbers number ↔ IsSome (sta
 -- the numbers rise
 abbrev pub AreRisingNumbers : List ℕ → Type 0
 AreRisingNumbers numbers = IsStrictlySortedBy nat_cmp numbers
+
+-- entry files stand under finitely many names, and hold bytes
+pub record IsFinite (s : State) : Type 0 where
+  pub names : List Name
+  pub rising : AreRising names
+  pub entries : AreEntries s names
+  pub bytes : (name : Name) (c : List ℕ) → standing s (Entry name) ≡ Some c → AreBytes c

@@ -7,7 +7,7 @@ ghost use Rattle.cache_base.specs.Names.{AreRising};
 ghost use Rattle.disk_model.specs.State.{State, standing, part_of, created, renamed, removed, wrote, settled};
 ghost use Rattle.disk_model.specs.State.Write.{End, Patch};
 ghost use Rattle.disk_model.specs.Sound.{IsSound};
-ghost use Rattle.disk_model.specs.Listing.{AreEntries, AreDoomed, AreRisingNumbers};
+ghost use Rattle.disk_model.specs.Listing.{AreEntries, AreDoomed, AreRisingNumbers, IsFinite};
 ghost use Rattle.disk_model.specs.Calls.{Counts, counted, counted_change, counted_read, if_ok, if_done, MayWriteAt, Holds};
 ghost use Rattle.disk_model.specs.declared.disk.DiskFault.TheVariants.{Memory};
 
@@ -139,4 +139,7 @@ pub trait Disk {
 
     /// No file stands at two places, and each write lay within its file.
     ghost sound: { (disk : Self) → IsTrue tells → IsSound (state disk) };
+
+    /// Entry files stand under finitely many names, and hold bytes.
+    ghost finite: { (disk : Self) → IsTrue tells → IsFinite (state disk) };
 }

@@ -1,6 +1,8 @@
 // A file in memory.
 
 ghost use Rattle.std.specs.Prelude.{◌≡◌, ◌≤◌, ◌<◌, ◌+◌, ◌^◌, ◌↔◌, ◌++◌, IsTrue, IsSome, OnErr, IfOk, OnOk, [], length as len_of, take, drop, slice_index, vec_len, vec_capacity};
+ghost use Rattle.std.proofs.Props.{props};
+ghost use Rattle.cache_base.specs.Bytes.{AreBytes};
 ghost use Rattle.disk_model.specs.State.{content};
 ghost use Rattle.disk_model.specs.Image.{shortest as shortest_of, longest as longest_of};
 ghost use Rattle.disk_model.specs.MemWrite.{history, newest_first, write_of, synced_in, least_end, Patches, IsPatched};
@@ -27,6 +29,7 @@ pub(crate) struct MemFile {
     pub longest: usize,
     // The least offset of a write at the end, or the greatest number where there is none.
     pub least_from: u64,
+    ghost are_bytes: { AreBytes current.items } by { Prim.hlevel props },
     ghost is_current: { current.items ≡ content (history (synced_in current.items synced) writes.items) },
     ghost is_shortest: { shortest ≡ shortest_of (synced_in current.items synced) (history (synced_in current.items synced) writes.items).writes },
     ghost is_longest: { longest ≡ longest_of (synced_in current.items synced) (history (synced_in current.items synced) writes.items).writes },
@@ -45,6 +48,11 @@ impl MemWrite {
         }
     }
 }
+
+// What stands in a slice of this type fits a byte.
+fn bytes_fit(b: &[u8])
+    ensures { AreBytes b.now }
+{}
 
 // Puts the bytes in the place of those at the offset.
 fn overwrite(buf: &mut [u8], from: usize, bytes: &[u8])
@@ -114,6 +122,7 @@ impl MemFile {
         self.prepare(alloc, bytes.len())?;
         self.current.truncate(from);
         self.current.extend_from_slice(bytes).unwrap();
+        bytes_fit(&self.current);
         self.writes
             .push_reserved(MemWrite::AtEnd(from as u64, kept));
         self.shortest = self.shortest.min(self.current.len());
@@ -131,6 +140,7 @@ impl MemFile {
         let kept = bytes.to_vec(alloc)?;
         self.prepare(alloc, 0)?;
         overwrite(&mut self.current, from, bytes);
+        bytes_fit(&self.current);
         self.writes
             .push_reserved(MemWrite::Inside(from as u64, kept));
         self.shortest = self.shortest.min(self.current.len());

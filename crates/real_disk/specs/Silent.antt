@@ -4,6 +4,7 @@ use Rattle.std.proofs.lemmas.Bool.{false≢true}
 use Rattle.disk_model.specs.State.{State, empty_file}
 use Rattle.disk_model.specs.Calls.{Counts}
 use Rattle.disk_model.specs.Sound.{IsSound}
+use Rattle.disk_model.specs.Listing.{IsFinite}
 
 abbrev pub nothing : State
 nothing = record { names = λ _. None; steps = []; files = λ _. empty_file; made = 0 }
@@ -13,3 +14,6 @@ no_counts = record { calls = 0; failed_change = 0; entry_reads = 0 }
 
 pub never : IsTrue false → IsSound nothing
 never told = absurd (false≢true told)
+
+pub never_finite : IsTrue false → IsFinite nothing
+never_finite told = absurd (false≢true told)

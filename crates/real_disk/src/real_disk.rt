@@ -2,7 +2,7 @@
 
 ghost use Rattle.std.specs.Prelude.{◌≡◌, IfOk, IsErrOf, false};
 ghost use Rattle.cache_base.specs.Causes.{HasCause};
-ghost use Rattle.real_disk.specs.Silent.{nothing, no_counts, never};
+ghost use Rattle.real_disk.specs.Silent.{nothing, no_counts, never, never_finite};
 
 use crate::folder::Folder;
 use crate::listing::rising;
@@ -61,6 +61,8 @@ impl<R: Files + AllocGlobal + Clone + Drop> Disk for RealDisk<'_, R> {
     ghost faults = { λ d. d.faults };
 
     ghost sound = { λ _ told. never told };
+
+    ghost finite = { λ _ told. never_finite told };
 
     fn sync(&mut self) -> Result<(), DiskFault> {
         let outcome = self.folder.sync();

@@ -147,14 +147,13 @@ fn an_empty_disk_has_no_entry(rt: HostRuntime) -> Result<(), Fail> {
     Ok(())
 }
 
-// The calls look for the size, the last four bytes and the block; the body is read to be checked, and then to be
-// printed.
+// The opening lists the doomed files and syncs. Then the calls look for the size, the last four bytes and the block; the body
+// is read to be checked, and then to be printed. A short reply goes out as one.
 #[test]
 fn each_failing_look_ends_the_run(rt: HostRuntime) -> Result<(), Fail> {
     let alloc = rt.alloc();
     let words = words_for(alloc, "get", KEY)?;
-    let head = b"found 1 1000 1000 1000 4294967295 0 0 5\n\n".as_slice();
-    for (call, printed) in [(1, b"".as_slice()), (2, b""), (3, b""), (4, b""), (5, head)] {
+    for call in [1, 2, 3, 4, 5, 6, 7] {
         let mut source = MemSource::new(alloc, bytes(alloc, b"")?);
         let mut sink = MemSink::new(alloc);
         let mut disk = MemDisk::new(alloc);
@@ -162,7 +161,7 @@ fn each_failing_look_ends_the_run(rt: HostRuntime) -> Result<(), Fail> {
         disk.fail_at(one_number(alloc, call)?);
         let status = run(alloc, &words, &mut source, &mut sink, &mut disk);
         assert_eq!(rt; status, Status::Disk, "at call {call}");
-        assert_eq!(rt; sink.bytes(), printed, "at call {call}");
+        assert!(rt; sink.bytes().is_empty(), "at call {call}");
         assert_eq!(rt; disk.calls(), u64::from(call));
     }
     Ok(())
@@ -172,13 +171,16 @@ fn each_failing_look_ends_the_run(rt: HostRuntime) -> Result<(), Fail> {
 fn a_failing_sink_cuts_the_reply(rt: HostRuntime) -> Result<(), Fail> {
     let alloc = rt.alloc();
     let words = words_for(alloc, "get", KEY)?;
-    let mut source = MemSource::new(alloc, bytes(alloc, b"")?);
-    let mut sink = MemSink::with_plan(alloc, one_number(alloc, 2)?);
-    let mut disk = MemDisk::new(alloc);
-    disk.put_file(place_of(KEY), bytes(alloc, FILE)?)?;
-    let status = run(alloc, &words, &mut source, &mut sink, &mut disk);
-    assert_eq!(rt; status, Status::Sink);
-    let head = b"found 1 1000 1000 1000 4294967295 0 0 5\n\n";
-    assert_eq!(rt; sink.bytes(), head.as_slice());
+    let file = file_of_two_chunks(alloc, b'b')?;
+    let head = b"found 1 1000 1000 1000 4294967295 0 0 262145\n\n".as_slice();
+    for (call, printed) in [(1, b"".as_slice()), (2, head)] {
+        let mut source = MemSource::new(alloc, bytes(alloc, b"")?);
+        let mut sink = MemSink::with_plan(alloc, one_number(alloc, call)?);
+        let mut disk = MemDisk::new(alloc);
+        disk.put_file(place_of(KEY), bytes(alloc, file.as_slice())?)?;
+        let status = run(alloc, &words, &mut source, &mut sink, &mut disk);
+        assert_eq!(rt; status, Status::Sink, "at call {call}");
+        assert_eq!(rt; sink.bytes(), printed, "at call {call}");
+    }
     Ok(())
 }

@@ -1,15 +1,6 @@
 use super::*;
 use std::test::Fail;
 
-// The words of a line, which single spaces separate.
-fn words_of(alloc: Global, line: &str) -> Result<Vec<String>, AllocError> {
-    let mut words = Vec::new(alloc);
-    for word in line.split(' ') {
-        words.push(String::from_str(alloc, word)?)?;
-    }
-    Ok(words)
-}
-
 #[test]
 fn a_put_writes_the_entry_file(rt: HostRuntime) -> Result<(), Fail> {
     let alloc = rt.alloc();
@@ -31,6 +22,11 @@ fn words_without_a_form_call_nothing(rt: HostRuntime) -> Result<(), Fail> {
         "",
         "1000",
         "1000 put",
+        "1000 doom",
+        "1000 run x",
+        "1000 flush x",
+        "x flush",
+        "007 run",
         "x put :x",
         "007 put :x",
         "+7 put :x",
@@ -147,23 +143,20 @@ fn a_failing_sink_leaves_the_entry(rt: HostRuntime) -> Result<(), Fail> {
     Ok(())
 }
 
-// The calls are `create`, `write_end` and `sync`. The reply goes out before the last.
+// The opening lists the doomed files and syncs, the entry is created and written, and the closing syncs. The reply goes out
+// after that.
 #[test]
 fn each_failing_disk_call_ends_the_run(rt: HostRuntime) -> Result<(), Fail> {
     let alloc = rt.alloc();
     let words = words_for(alloc, "put", KEY)?;
-    for (call, reply) in [
-        (1, b"".as_slice()),
-        (2, b"".as_slice()),
-        (3, b"ok\n".as_slice()),
-    ] {
+    for call in [1, 2, 3, 4, 5] {
         let mut source = MemSource::new(alloc, bytes(alloc, b"hello")?);
         let mut sink = MemSink::new(alloc);
         let mut disk = MemDisk::new(alloc);
         disk.fail_at(one_number(alloc, call)?);
         let status = run(alloc, &words, &mut source, &mut sink, &mut disk);
         assert_eq!(rt; status, Status::Disk, "at call {call}");
-        assert_eq!(rt; sink.bytes(), reply, "at call {call}");
+        assert!(rt; sink.bytes().is_empty(), "at call {call}");
         assert_eq!(rt; disk.calls(), u64::from(call));
     }
     Ok(())
@@ -175,7 +168,7 @@ fn a_stop_leaves_an_unfinished_file(rt: HostRuntime) -> Result<(), Fail> {
     let alloc = rt.alloc();
     let words = words_for(alloc, "put", KEY)?;
     let body = vec![in alloc; 7u8; 524_289]?;
-    for (calls, size) in [(1, 0), (2, 262_148), (3, 524_292)] {
+    for (calls, size) in [(3, 0), (4, 262_148), (5, 524_292)] {
         let mut source = MemSource::new(alloc, bytes(alloc, &body)?);
         let mut sink = MemSink::new(alloc);
         let mut disk = MemDisk::new(alloc);

@@ -15,6 +15,7 @@ impl Disk for MemDisk {
     ghost use Rattle.disk_model.specs.State.Write.{End, Patch};
     ghost use Rattle.disk_model.specs.Listing.{AreEntries, AreDoomed, AreRisingNumbers};
     ghost use Rattle.disk_model.specs.MemDisk.{state_in, counts_in, faults_in, FailsNext};
+    ghost use Rattle.disk_model.specs.MemFinite.{finite_in};
 
     ghost tells = { true };
 
@@ -25,6 +26,8 @@ impl Disk for MemDisk {
     ghost faults = { faults_in };
 
     ghost sound = { λ d _. d.table.sound };
+
+    ghost finite = { λ d _. finite_in d };
 
     fn sync(&mut self) -> Result<(), DiskFault>
         ensures state { state_in self.new ≡ if_ok result (settled (state_in self.old)) (state_in self.old) }

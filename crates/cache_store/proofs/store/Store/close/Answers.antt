@@ -1,3 +1,4 @@
+use Rattle.cache_theory.proofs.Crashes.{safe_is_crash_safe}
 use Rattle.cache_store.proofs.Closed.{on_ok_err, settled_shut, sync_safe}
 use Rattle.cache_store.proofs.store.Store.close.Goals as goal
 
@@ -16,3 +17,12 @@ returns-clause-closes g c = λ told m w is. (
   sync_safe c.sync.result (g.D.Disk.state c.close_all.new.disk) (g.D.Disk.state c.sync.new.self) w (c.sync.ensures.state told) (c.close_all.ensures.closes told m w is.stands).0,
   settled_shut (g.D.Disk.state c.close_all.new.disk) (g.D.Disk.state c.sync.new.self) m (c.in_ok-sync.ensures.state told) (c.in_ok-close_all.ensures.closes told m w is.stands).1,
 )
+
+pub returns-in_err-close_all-clause-crash : goal.returns-in_err-close_all-clause-crash
+returns-in_err-close_all-clause-crash g c = λ told m w is. safe_is_crash_safe _ w (returns-in_err-close_all-clause-closes g c told m w is).0
+
+pub returns-in_err-sync-clause-crash : goal.returns-in_err-sync-clause-crash
+returns-in_err-sync-clause-crash g c = λ told m w is. safe_is_crash_safe _ w (returns-in_err-sync-clause-closes g c told m w is).0
+
+pub returns-clause-crash : goal.returns-clause-crash
+returns-clause-crash g c = λ told m w is. safe_is_crash_safe _ w (returns-clause-closes g c told m w is).0

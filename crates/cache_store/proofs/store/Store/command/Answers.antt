@@ -1,4 +1,5 @@
 use Rattle.cache_script.specs.Command.{command_of}
+use Rattle.cache_store.proofs.PerformSafe.{performs_open, performs_safely, performs_sink_open}
 use Rattle.cache_store.proofs.PerformWhole.{does_performs, fails_performs}
 use Rattle.cache_store.proofs.store.Store.command.Goals as goal
 
@@ -10,3 +11,18 @@ pub returns-clause-performs : goal.returns-clause-performs
 returns-clause-performs g c = λ told.
     does_performs (command_of c.args.c.now) c.in_ok-answered.answered c.finish_reply.result _ _ _ _ _ _ _ _ _ c.finish_reply.ensures.printed c.finish_reply.ensures.cut c.finish_reply.ensures.outcome
     c.finish_reply.ensures.open (c.in_ok-answered.ensures.does told)
+
+pub returns-in_err-answered-clause-crash : goal.returns-in_err-answered-clause-crash
+returns-in_err-answered-clause-crash g c = λ told. performs_safely (command_of c.args.c.now) _ _ _ _ _ _ c.from_residual.result (returns-in_err-answered-clause-performs g c told)
+
+pub returns-clause-crash : goal.returns-clause-crash
+returns-clause-crash g c = λ told. performs_safely (command_of c.args.c.now) _ _ _ _ _ _ c.finish_reply.result (returns-clause-performs g c told)
+
+pub returns-clause-open : goal.returns-clause-open
+returns-clause-open g c = performs_open (command_of c.args.c.now) _ _ _ _ _ _ c.finish_reply.result c.requires.told (returns-clause-performs g c)
+
+pub returns-in_err-answered-clause-sink_open : goal.returns-in_err-answered-clause-sink_open
+returns-in_err-answered-clause-sink_open g c = λ same told. performs_sink_open (command_of c.args.c.now) _ _ _ _ _ _ c.from_residual.result (c.requires.told told) (returns-in_err-answered-clause-performs g c told) same
+
+pub returns-clause-sink_open : goal.returns-clause-sink_open
+returns-clause-sink_open g c = λ same told. performs_sink_open (command_of c.args.c.now) _ _ _ _ _ _ c.finish_reply.result (c.requires.told told) (returns-clause-performs g c told) same

@@ -1,0 +1,208 @@
+-- What the machine does with the commands of a put.
+use Rattle.std.proofs.Common.{◌≡◌, ◌≢◌, ℕ, ◌+◌, ◌<◌, ◌≤◌, List, [], ◌∷◌, ◌++◌, length, true, false, Some, None, refl, sym, ap, subst, ◌∙◌, arith}
+use Rattle.std.specs.Prelude.{IfOk, Ok, OnOk, Option, Result, option_map, unwrap_or}
+use Rattle.std.proofs.lemmas.Bool.{leb-true}
+use Rattle.std.proofs.lemmas.List.{append-nil}
+use Rattle.cache_base.specs.Checks.{first_failing}
+use Rattle.cache_base.specs.declared.limits.TheConstants.{BODY_MAX}
+use Rattle.cache_base.proofs.CheckLaws.{all_hold}
+use Rattle.cache_theory.specs.Checks.{checks}
+use Rattle.cache_theory.specs.Command.{Command, Reply}
+use Rattle.cache_theory.specs.Command.Command.{Append, Close, Create}
+use Rattle.cache_theory.specs.Command.Reply.{Done, Refused, NoneThere, Value, Part, Found}
+use Rattle.cache_theory.specs.Machine.{Machine, Object, Slot, number_of, object, object_of}
+use Rattle.cache_theory.specs.Marks.{Marks, acked, begun}
+use Rattle.cache_theory.specs.Step.{changed, doomed_under, effect, entered, fresh, step, stepped}
+use Rattle.cache_theory.specs.Text.{reply_text}
+use Rattle.cache_theory.specs.declared.refusal.Refusal.{Refusal}
+use Rattle.cache_theory.proofs.Objects.{length_more, nth-append_new, nth-set_same}
+use Rattle.cache_theory.proofs.Slots.{with_slot_same}
+use Rattle.std.proofs.Common.{length-set}
+use Rattle.entry_file.specs.Version.{Version}
+use Rattle.entry_key.specs.Writing.{may_write}
+use Rattle.entry_name.specs.EntryName.{file_name}
+use Rattle.cache_store.specs.Answering.{outcome_of}
+use Rattle.cache_store.specs.Open.{Open, StandsFor}
+use Rattle.cache_store.specs.declared.fault.Outcome.{Outcome}
+use Rattle.cache_store.specs.declared.fault.Outcome.TheVariants as outcome
+use Rattle.cache_store.specs.declared.fault.StoreFault.{StoreFault}
+use Rattle.cache_tool.specs.Put.{is_done}
+use Rattle.cache_tool.specs.PutWent.{IsRefused, PieceWent, Ran, Sends, Writes}
+use Rattle.cache_tool.proofs.PutRuns.{ran_none, ran_one_of}
+use Rattle.disk_model.specs.State.{State}
+
+-- a command whose reply is `ok` where no check fails, and which is acknowledged as it begins
+pub record IsPlain (c : Command) : Type 0 where
+  pub done : (m : Machine) → (effect m c).reply ≡ Done
+  pub marks : (m : Machine) (w : Marks) → acked m c w ≡ begun m c w
+
+pub create_is_plain : (s : ℕ) (key : List ℕ) → IsPlain (Create s key)
+unfolding effect
+create_is_plain s key = record { done = λ m. refl; marks = λ m w. refl }
+
+pub append_is_plain : (s : ℕ) (bytes : List ℕ) → IsPlain (Append s bytes)
+unfolding effect
+append_is_plain s bytes = record { done = λ m. refl; marks = λ m w. refl }
+
+pub close_is_plain : (s : ℕ) → IsPlain (Close s)
+unfolding effect
+close_is_plain s = record { done = λ m. refl; marks = λ m w. refl }
+
+-- where the reply is `ok`, no check fails
+passes : (m : Machine) (c : Command) → is_done (step m c).reply ≡ true → first_failing (checks m c) ≡ None
+passes m c = go (first_failing (checks m c))
+  where
+    go : (r : Option Refusal) → is_done (stepped m c r).reply ≡ true → r ≡ None
+    go None done = refl
+    go (Some r) done = absurd (cc)
+
+-- and the machine does what the command says
+does : (m : Machine) (c : Command) → is_done (step m c).reply ≡ true → (step m c).next ≡ (effect m c).next
+does m c done = ap (λ r. (stepped m c r).next) (passes m c done)
+
+-- a check that fails is told
+not_done : (m : Machine) (c : Command) → first_failing (checks m c) ≢ None → outcome_of (step m c).reply ≡ outcome.Refused
+not_done m c = go (first_failing (checks m c))
+  where
+    go : (r : Option Refusal) → r ≢ None → outcome_of (stepped m c r).reply ≡ outcome.Refused
+    go None fails = absurd (fails refl)
+    go (Some r) fails = refl
+
+-- the reply to such a command is `ok`, or it is refused
+done_by : (m : Machine) (c : Command) → IsPlain c → outcome_of (step m c).reply ≡ outcome.Ok → is_done (step m c).reply ≡ true
+done_by m c plain = go (first_failing (checks m c))
+  where
+    go : (r : Option Refusal) → outcome_of (stepped m c r).reply ≡ outcome.Ok → is_done (stepped m c r).reply ≡ true
+    go None is = ap is_done (plain.done m)
+    go (Some r) is = absurd (cc)
+
+not_done_by : (m : Machine) (c : Command) → outcome_of (step m c).reply ≡ outcome.Refused → is_done (step m c).reply ≡ false
+not_done_by m c = go (step m c).reply
+  where
+    go : (r : Reply) → outcome_of r ≡ outcome.Refused → is_done r ≡ false
+    go Done is = absurd (cc)
+    go (Refused f) is = refl
+    go NoneThere is = refl
+    go (Value value) is = refl
+    go (Part bytes) is = refl
+    go (Found v) is = refl
+
+module _ (c : Command) (m : Machine) (w : Marks) (answer : Result Outcome StoreFault) (t : State) (o : Open) (said : List ℕ) (plain : IsPlain c) (sends : Sends c m w answer t o said) where
+  -- the outcome is that of the machine's reply
+  pub sent_outcome : (r : Outcome) → answer ≡ Ok r → r ≡ outcome_of (step m c).reply
+  sent_outcome r e = subst (λ a. IfOk a (λ x. x ≡ outcome_of (step m c).reply)) e sends.outcome
+
+  pub sent_done : answer ≡ Ok outcome.Ok → is_done (step m c).reply ≡ true
+  sent_done e = done_by m c plain (sym (sent_outcome outcome.Ok e))
+
+  pub sent_refused : answer ≡ Ok outcome.Refused → IsRefused m c said
+  sent_refused e =
+      let is : outcome_of (step m c).reply ≡ outcome.Refused = sym (sent_outcome outcome.Refused e) in
+      record { not_done = not_done_by m c is; refused = is; replied = subst (λ a. OnOk a (said ≡ reply_text (step m c).reply)) e sends.replied }
+
+  -- and so the command was performed
+  pub ran_one : Ran m w (c ∷ []) answer t o said
+  ran_one = ran_one_of m w c answer t o said sends.safe (subst (λ x. OnOk answer (StandsFor t o (step m c).next x)) (plain.marks m w) sends.next) sent_done sent_refused
+
+-- An entry is made.
+
+made_by : (m : Machine) (key : List ℕ) → Writes (effect m (Create 0 key)).next []
+unfolding effect
+made_by m key =
+    let before = doomed_under m (file_name key) in
+    let o : Object = fresh m.moment key in
+    let same : object (entered before 0 true o) (length before.objects) ≡ o = nth-append_new before.objects o (length before.objects) refl in
+    record {
+      slot = record { object = length before.objects; writes = true };
+      at = with_slot_same before.slots 0 0 (Some (record { object = length before.objects; writes = true })) refl;
+      writes = refl;
+      there = (let l = length_more before.objects o in omega (arith, l));
+      unfinished = ap (λ (x : Object). x.finished) same;
+      body_is = ap (λ (x : Object). x.version.body) same;
+    }
+
+fails : (m : Machine) (key : List ℕ) → may_write key ≡ false → first_failing (checks m (Create 0 key)) ≢ None
+unfolding checks
+fails m key bad none = let h = all_hold (checks m (Create 0 key)) none in let good = h.1.0 in absurd (cc)
+
+pub create_writes : (m : Machine) (key : List ℕ) → is_done (step m (Create 0 key)).reply ≡ true → Writes (step m (Create 0 key)).next []
+create_writes m key done = subst (λ n. Writes n []) (sym (does m (Create 0 key) done)) (made_by m key)
+
+-- a key that may not be written is refused
+pub bad_key_refused : (m : Machine) (key : List ℕ) → may_write key ≡ false → outcome_of (step m (Create 0 key)).reply ≡ outcome.Refused
+bad_key_refused m key bad = not_done m (Create 0 key) (fails m key bad)
+
+-- A piece is appended.
+
+append_fits : (m : Machine) (bytes : List ℕ) → first_failing (checks m (Append 0 bytes)) ≡ None → length (object_of m 0).version.body + length bytes ≤ BODY_MAX
+unfolding checks
+append_fits m bytes none = let h = all_hold (checks m (Append 0 bytes)) none in leb-true _ _ h.1.1.1.0
+
+module _ (m : Machine) (body bytes : List ℕ) (writes : Writes m body) where
+  number_here : number_of m 0 ≡ writes.slot.object
+  number_here = ap (λ x. unwrap_or (option_map (λ (slot : Slot). slot.object) x) (length m.objects)) writes.at
+
+  object_here : object_of m 0 ≡ object m writes.slot.object
+  object_here = ap (object m) number_here
+
+  body_here : (object_of m 0).version.body ≡ body
+  body_here = ap (λ (o : Object). o.version.body) object_here ∙ writes.body_is
+
+  -- it is not too long
+  pub append_within : is_done (step m (Append 0 bytes)).reply ≡ true → length body + length bytes ≤ BODY_MAX
+  append_within done = let fits = append_fits m bytes (passes m (Append 0 bytes) done) in let same = ap length body_here in omega (arith, fits, same)
+
+  longer : Version → Version
+  longer v = record v { body = v.body ++ bytes }
+
+  new_object : Object
+  new_object = record (object_of m 0) { version = longer (object_of m 0).version }
+
+  object_after : object (changed m 0 longer) writes.slot.object ≡ new_object
+  unfolding new_object
+  object_after = nth-set_same m.objects (number_of m 0) writes.slot.object new_object (let there = writes.there in omega (arith, there, number_here)) (sym number_here)
+
+  changed_writes : Writes (changed m 0 longer) (body ++ bytes)
+  unfolding new_object longer
+  changed_writes = record {
+    slot = writes.slot;
+    at = writes.at;
+    writes = writes.writes;
+    there = (let there = writes.there in let l = length-set m.objects (number_of m 0) new_object in omega (arith, there, l));
+    unfinished = ap (λ (x : Object). x.finished) object_after ∙ ap (λ (x : Object). x.finished) object_here ∙ writes.unfinished;
+    body_is = ap (λ (x : Object). x.version.body) object_after ∙ ap (λ l. l ++ bytes) body_here;
+  }
+
+  effect_writes : Writes (effect m (Append 0 bytes)).next (body ++ bytes)
+  unfolding effect longer
+  effect_writes = changed_writes
+
+  pub append_writes : is_done (step m (Append 0 bytes)).reply ≡ true → Writes (step m (Append 0 bytes)).next (body ++ bytes)
+  append_writes done = subst (λ n. Writes n (body ++ bytes)) (sym (does m (Append 0 bytes) done)) effect_writes
+
+-- No piece, a piece, and a piece that is too long.
+
+pub piece_none : (m : Machine) (w : Marks) (body : List ℕ) (t : State) (o : Open) (said : List ℕ) → StandsFor t o m w → Writes m body
+    → PieceWent m w body [] (Ok outcome.Ok) t o said
+piece_none m w body t o said stands writes = record {
+  ran = ran_none m w t o said stands;
+  writes = λ e. subst (Writes m) (sym (append-nil body)) writes;
+}
+
+pub piece_sent : (m : Machine) (w : Marks) (body : List ℕ) (x : ℕ) (xs : List ℕ) (answer : Result Outcome StoreFault) (t : State) (o : Open) (said : List ℕ)
+    → Writes m body → Sends (Append 0 (x ∷ xs)) m w answer t o said → PieceWent m w body (x ∷ xs) answer t o said
+piece_sent m w body x xs answer t o said writes sends =
+    let plain = append_is_plain 0 (x ∷ xs) in
+    record {
+      ran = ran_one (Append 0 (x ∷ xs)) m w answer t o said plain sends;
+      writes = λ e. append_writes m body (x ∷ xs) writes (sent_done (Append 0 (x ∷ xs)) m w answer t o said plain sends e);
+    }
+
+-- a piece with which the body is too long is refused
+pub piece_over : (m : Machine) (w : Marks) (body bytes : List ℕ) (r : Outcome) (t : State) (o : Open) (said : List ℕ)
+    → Writes m body → BODY_MAX < length body + length bytes → Sends (Append 0 bytes) m w (Ok r) t o said → r ≡ outcome.Refused
+piece_over m w body bytes outcome.Refused t o said writes long sends = refl
+piece_over m w body bytes outcome.Ok t o said writes long sends =
+    let done = sent_done (Append 0 bytes) m w (Ok outcome.Ok) t o said (append_is_plain 0 bytes) sends refl in
+    let within = append_within m body bytes writes done in
+    absurd (omega (arith, within, long))

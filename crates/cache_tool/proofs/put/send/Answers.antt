@@ -1,0 +1,7 @@
+use Rattle.cache_tool.specs.PutReply.{said_in}
+use Rattle.cache_tool.proofs.PutSent.{sends_of}
+use Rattle.cache_tool.proofs.put.send.Goals as goal
+
+pub returns-clause-sends : goal.returns-clause-sends
+returns-clause-sends g c =
+    λ told m w stands. sends_of _ m w _ _ _ (said_in c.clear.new.self) (said_in c.command.new.sink) c.clear.ensures (c.command.ensures.performs told m w stands)

@@ -1,0 +1,43 @@
+//! One command, which the words give.
+
+ghost use Rattle.std.specs.Prelude.{◌≡◌, ◌≢◌, ◌⊎◌, IsTrue};
+ghost use Rattle.cache_base.specs.Causes.{HasCause, Rose};
+ghost use Rattle.cache_script.specs.Command.{command_of};
+ghost use Rattle.cache_theory.specs.Given.{IsGiven};
+ghost use Rattle.cache_tool.specs.Ending.{ComesFor};
+ghost use Rattle.cache_tool.specs.Sessions.{IsAnswer, IsClosing};
+ghost use Rattle.disk_model.specs.Calls.{StopsAtFault};
+ghost use Rattle.disk_model.specs.Sound.{IsQuiet};
+
+use crate::session::{end, status_of, status_of_fault};
+use cache_base::{Moment, Status};
+use cache_io::Sink;
+use cache_script::Command;
+use cache_store::Store;
+use disk_model::Disk;
+use std::alloc::Global;
+
+/// Performs the command and prints its reply.
+pub(crate) fn perform_one<D: Disk, K: Sink>(
+    alloc: Global,
+    now: Moment,
+    command: &Command<'_>,
+    sink: &mut K,
+    disk: &mut D,
+) -> Status
+    requires given { IsGiven (command_of command.now) }
+    ensures comes { IsTrue D.tells → ComesFor now (command_of command.now) result (K.taken sink.old) (K.taken sink.new) (D.state disk.old) (D.state disk.new) }
+    ensures others { IsAnswer result ⊎ ((result ≡ Status.Sink) ⊎ ((result ≡ Status.Disk) ⊎ (result ≡ Status.Memory))) }
+    ensures quiet { IsClosing result → IsTrue D.tells → IsQuiet (D.state disk.new) }
+    ensures stops { IsTrue D.tells → StopsAtFault (D.counts disk.old) (D.counts disk.new) }
+    ensures sink { result ≡ Status.Sink → Rose (K.faults sink.old) (K.faults sink.new) }
+    ensures calm { IsAnswer result → K.faults sink.new ≡ K.faults sink.old }
+    ensures disk { HasCause (result ≡ Status.Disk) (D.faults disk.old) (D.faults disk.new) }
+{
+    let mut store = match Store::open(alloc, disk, now) {
+        Ok(store) => store,
+        Err(fault) => return status_of_fault(fault),
+    };
+    let came = store.command(alloc, disk, command, sink).map(status_of);
+    end(store, came, disk)
+}

@@ -1,0 +1,177 @@
+//! The verb `run`: the commands of a script are performed.
+
+ghost use Rattle.std.specs.Prelude.{◌≡◌, ◌≢◌, ◌⊎◌, ◌<◌, Err, IfOk, IsErrOf, IsTrue, None, Ok, OnErr, OnOk, Some, []};
+ghost use Rattle.std.specs.Io.KnownBytes.{Appends, IsAtEnd};
+ghost use Rattle.cache_base.specs.Causes.{HasCause, Rose};
+ghost use Rattle.cache_script.specs.Reader.{given_in, held_in, used_in};
+ghost use Rattle.cache_store.specs.Open.{IsOpen, open_of};
+ghost use Rattle.cache_store.specs.Said.{IsCut};
+ghost use Rattle.cache_tool.specs.Ending.{RunsFor, status_in};
+ghost use Rattle.cache_tool.specs.Script.{HasBadCommand, HasScript, bad_line};
+ghost use Rattle.cache_tool.specs.ScriptWent.{CameTo, RanFor, Turns};
+ghost use Rattle.cache_tool.specs.Sessions.{IsClosing};
+ghost use Rattle.disk_model.specs.Calls.{StopsAtFault};
+ghost use Rattle.disk_model.specs.Sound.{IsQuiet};
+
+use crate::session::{end, status_of_fault};
+use cache_base::{Bytes, Moment, NoMemory, Status};
+use cache_io::{Sink, Source, write_whole};
+use cache_script::{Reader, ScriptFault};
+use cache_store::{Store, StoreFault};
+use disk_model::Disk;
+use std::alloc::Global;
+
+/// How the commands of a script came to their end.
+#[derive(Clone, Copy)]
+pub(crate) enum Ended {
+    /// The source ended behind the last command.
+    Whole,
+    /// The source failed.
+    Failed,
+    /// The command with this number, counted from 1, is bad.
+    Bad(u64),
+}
+
+/// Performs the commands of the script that the source has, each with its reply before the next one is read.
+pub(crate) fn run_script<D: Disk, S: Source, K: Sink>(
+    alloc: Global,
+    now: Moment,
+    source: &mut S,
+    sink: &mut K,
+    disk: &mut D,
+) -> Status
+    ensures runs { IsTrue D.tells → RunsFor now result (S.left source.old) (S.left source.new) (K.taken sink.old) (K.taken sink.new) (D.state disk.old) (D.state disk.new) }
+    ensures done { result ≡ Status.Done → HasScript (S.left source.old) }
+    ensures read { result ≡ Status.Done → IsAtEnd (S.left source.new) }
+    ensures bad { result ≡ Status.Script → HasBadCommand (S.left source.old) }
+    ensures others { (result ≢ Status.Words) × (result ≢ Status.No) }
+    ensures quiet { IsClosing result → IsTrue D.tells → IsQuiet (D.state disk.new) }
+    ensures stops { IsTrue D.tells → StopsAtFault (D.counts disk.old) (D.counts disk.new) }
+    ensures source { result ≡ Status.Source → Rose (S.faults source.old) (S.faults source.new) }
+    ensures sink { result ≡ Status.Sink → Rose (K.faults sink.old) (K.faults sink.new) }
+    ensures calm { (result ≡ Status.Done) ⊎ (result ≡ Status.Script) → (S.faults source.new ≡ S.faults source.old) × (K.faults sink.new ≡ K.faults sink.old) }
+    ensures disk { HasCause (result ≡ Status.Disk) (D.faults disk.old) (D.faults disk.new) }
+{
+    let mut store = match Store::open(alloc, disk, now) {
+        Ok(store) => store,
+        Err(fault) => return status_of_fault(fault),
+    };
+    let came = perform_script(alloc, &mut store, source, sink, disk);
+    end(store, came, disk)
+}
+
+// Opens a reader, performs the commands, and names one that is bad.
+fn perform_script<D: Disk, S: Source, K: Sink>(
+    alloc: Global,
+    store: &mut Store,
+    source: &mut S,
+    sink: &mut K,
+    disk: &mut D,
+) -> Result<Status, StoreFault>
+    requires told { IsTrue D.tells → IsOpen (D.state disk.old) (open_of store.old) }
+    ensures ran { IsTrue D.tells → RanFor result (S.left source.old) (S.left source.new) (D.state disk.old) (D.state disk.new) (open_of store.old) (open_of store.new) (K.taken sink.old) (K.taken sink.new) }
+    ensures status { IfOk result (λ s. (s ≡ Status.Done) ⊎ ((s ≡ Status.Script) ⊎ (s ≡ Status.Source))) }
+    ensures done { result ≡ Ok Status.Done → HasScript (S.left source.old) }
+    ensures read { result ≡ Ok Status.Done → IsAtEnd (S.left source.new) }
+    ensures bad { result ≡ Ok Status.Script → HasBadCommand (S.left source.old) }
+    ensures open { IsClosing (status_in result) → IsTrue D.tells → IsOpen (D.state disk.new) (open_of store.new) }
+    ensures went_on { IsClosing (status_in result) → IsTrue D.tells → (D.counts disk.new).failed_change ≡ (D.counts disk.old).failed_change }
+    ensures stops { IsTrue D.tells → StopsAtFault (D.counts disk.old) (D.counts disk.new) }
+    ensures source { HasCause (result ≡ Ok Status.Source) (S.faults source.old) (S.faults source.new) }
+    ensures sink { HasCause (IsErrOf result StoreFault.Sink) (K.faults sink.old) (K.faults sink.new) }
+    ensures disk { HasCause (IsErrOf result StoreFault.Disk) (D.faults disk.old) (D.faults disk.new) }
+{
+    let mut reader = Reader::new(alloc)?;
+    match perform_commands(alloc, &mut reader, store, source, sink, disk)? {
+        Ended::Whole => Ok(Status::Done),
+        Ended::Failed => Ok(Status::Source),
+        Ended::Bad(number) => {
+            say_bad(alloc, number, sink)?;
+            Ok(Status::Script)
+        }
+    }
+}
+
+// Performs the commands until none is left.
+fn perform_commands<D: Disk, S: Source, K: Sink>(
+    alloc: Global,
+    reader: &mut Reader,
+    store: &mut Store,
+    source: &mut S,
+    sink: &mut K,
+    disk: &mut D,
+) -> Result<Ended, StoreFault>
+    requires fresh { (held_in reader.old ≡ []) × (given_in reader.old ≡ 0) × (used_in reader.old ≡ 0) }
+    requires told { IsTrue D.tells → IsOpen (D.state disk.old) (open_of store.old) }
+    ensures comes { CameTo D.tells result (S.left source.old) (S.left source.new) (D.state disk.old) (D.state disk.new) (open_of store.old) (open_of store.new) (K.taken sink.old) (K.taken sink.new) }
+    ensures open { OnOk result (IsTrue D.tells → IsOpen (D.state disk.new) (open_of store.new)) }
+    ensures sink_open { result ≡ Err StoreFault.Sink → IsTrue D.tells → IsOpen (D.state disk.new) (open_of store.new) }
+    ensures went_on { OnOk result (IsTrue D.tells → (D.counts disk.new).failed_change ≡ (D.counts disk.old).failed_change) }
+    ensures sink_went_on { result ≡ Err StoreFault.Sink → IsTrue D.tells → (D.counts disk.new).failed_change ≡ (D.counts disk.old).failed_change }
+    ensures stops { IsTrue D.tells → StopsAtFault (D.counts disk.old) (D.counts disk.new) }
+    ensures source { HasCause (result ≡ Ok Ended.Failed) (S.faults source.old) (S.faults source.new) }
+    ensures sink { HasCause (IsErrOf result StoreFault.Sink) (K.faults sink.old) (K.faults sink.new) }
+    ensures disk { HasCause (IsErrOf result StoreFault.Disk) (D.faults disk.old) (D.faults disk.new) }
+{
+    'turns: loop {
+        if let Some(ended) = perform_next(alloc, reader, store, source, sink, disk)? {
+            return Ok(ended);
+        }
+    }
+}
+
+// Reads the next command and performs it, or tells why there is none.
+fn perform_next<D: Disk, S: Source, K: Sink>(
+    alloc: Global,
+    reader: &mut Reader,
+    store: &mut Store,
+    source: &mut S,
+    sink: &mut K,
+    disk: &mut D,
+) -> Result<Option<Ended>, StoreFault>
+    requires told { IsTrue D.tells → IsOpen (D.state disk.old) (open_of store.old) }
+    ensures turns { Turns D.tells result reader.old reader.new (S.left source.old) (S.left source.new) (D.state disk.old) (D.state disk.new) (open_of store.old) (open_of store.new) (K.taken sink.old) (K.taken sink.new) }
+    ensures further { result ≡ Ok None → given_in reader.old < given_in reader.new }
+    ensures open { OnOk result (IsTrue D.tells → IsOpen (D.state disk.new) (open_of store.new)) }
+    ensures sink_open { result ≡ Err StoreFault.Sink → IsTrue D.tells → IsOpen (D.state disk.new) (open_of store.new) }
+    ensures went_on { OnOk result (IsTrue D.tells → (D.counts disk.new).failed_change ≡ (D.counts disk.old).failed_change) }
+    ensures sink_went_on { result ≡ Err StoreFault.Sink → IsTrue D.tells → (D.counts disk.new).failed_change ≡ (D.counts disk.old).failed_change }
+    ensures stops { IsTrue D.tells → StopsAtFault (D.counts disk.old) (D.counts disk.new) }
+    ensures source { HasCause (result ≡ Ok (Some Ended.Failed)) (S.faults source.old) (S.faults source.new) }
+    ensures sink { HasCause (IsErrOf result StoreFault.Sink) (K.faults sink.old) (K.faults sink.new) }
+    ensures disk { HasCause (IsErrOf result StoreFault.Disk) (D.faults disk.old) (D.faults disk.new) }
+{
+    match reader.next_command(source) {
+        Ok(Some(command)) => {
+            store.command(alloc, disk, &command, sink)?;
+            Ok(None)
+        }
+        Ok(None) => Ok(Some(Ended::Whole)),
+        Err(ScriptFault::Source) => Ok(Some(Ended::Failed)),
+        Err(ScriptFault::Script(number)) => Ok(Some(Ended::Bad(number))),
+    }
+}
+
+// The line that names a bad command.
+fn bad_text(alloc: Global, number: u64) -> Result<Bytes, NoMemory>
+    ensures { IfOk result (λ text. text ≡ bad_line number) }
+{
+    let digits = number.to_string(alloc)?;
+    let mut text = Bytes::new(alloc);
+    text.extend(b"script ")?;
+    text.extend(digits.as_bytes())?;
+    text.push(b'\n')?;
+    Ok(text)
+}
+
+// Prints that line.
+fn say_bad<K: Sink>(alloc: Global, number: u64, sink: &mut K) -> Result<(), StoreFault>
+    ensures said { OnOk result (Appends (K.taken sink.old) (K.taken sink.new) (bad_line number)) }
+    ensures cut { OnErr result (IsCut (K.taken sink.old) (K.taken sink.new) (bad_line number)) }
+    ensures no_disk { result ≢ Err StoreFault.Disk }
+    ensures sink { HasCause (IsErrOf result StoreFault.Sink) (K.faults sink.old) (K.faults sink.new) }
+{
+    let text = bad_text(alloc, number)?;
+    write_whole(sink, text.as_slice())?;
+    Ok(())
+}

@@ -1,0 +1,173 @@
+use super::*;
+use std::test::Fail;
+
+// Runs a script on a disk: the status, and whether just this text is printed.
+fn runs(
+    alloc: Global,
+    disk: &mut MemDisk,
+    script: &[u8],
+    text: &[u8],
+) -> Result<(Status, bool), Fail> {
+    let words = words_of(alloc, "1000 run")?;
+    let mut source = MemSource::new(alloc, bytes(alloc, script)?);
+    let mut sink = MemSink::new(alloc);
+    let status = run(alloc, &words, &mut source, &mut sink, disk);
+    Ok((status, sink.bytes() == text))
+}
+
+// A reader reads on in an entry that was doomed and made anew.
+const A_READER_OUTLIVES_ITS_ENTRY: (&[u8], &[u8]) = (
+    b"create 0 :https://x/\nappend 0 3\nold\nclose 0\nopen 1 :https://x/\ndoom :https://x/\ncreate 2 :https://x/\n\
+    append 2 3\nnew\nget :https://x/\nread 1 0 10\nclose 2\nget :https://x/\n",
+    b"ok\nok\nok\nok\nok\nok\nok\nunfinished\ndata 3\nold\nok\nfound 1 1000 1000 1000 4294967295 0 0 3\n\nnew\n",
+);
+
+const ELEMENTS: (&[u8], &[u8]) = (
+    b"create 0 :x\nset 0 1 ctid\n5\nset 0 0 \n\nelement 0 ctid\nunset 0 none\nfinish 0\nappend 0 1\nz\n",
+    b"ok\nok\nbad element\nvalue 1\n5\nnone\nok\nfinished\n",
+);
+
+// What is written at a later moment has it, and two keys are two entries.
+const MOMENTS: (&[u8], &[u8]) = (
+    b"at 5\ncreate 0 :x\ncreate 1 :y\nclose 0\nat 6\nclose 1\nget :x\nflush\n",
+    b"ok\nok\nok\nok\nok\nok\nfound 1 5 5 5 4294967295 0 0 0\n\n\nok\n",
+);
+
+// The refusals, each with what makes it.
+const REFUSALS: (&[u8], &[u8]) = (
+    b"create 0 a:x\nopen 0 :x\nget :x\ndoom :x\nclose 0\nappend 0 0\n\nfinish 0\nset 0 1 a\nb\nunset 0 a\nelement 0 a\n\
+    read 0 0 1\ncreate 0 :x\ncreate 0 :y\nopen 0 :x\nget :x\nopen 1 :x\nappend 1 0\n\nfinish 1\nset 1 1 a\nb\nunset 1 a\n\
+    set 0 1 a\n\0\nfinish 0\nfinish 0\nappend 0 0\n\n",
+    b"bad key\nabsent\nabsent\nabsent\nno slot\nno slot\nno slot\nno slot\nno slot\nno slot\n\
+    no slot\nok\nslot taken\nslot taken\nunfinished\nok\nnot writer\nnot writer\nnot writer\nnot writer\n\
+    bad element\nok\nfinished\nfinished\n",
+);
+
+#[test]
+fn scripts_are_answered(rt: HostRuntime) -> Result<(), Fail> {
+    let alloc = rt.alloc();
+    for (script, text) in [
+        (b"".as_slice(), b"".as_slice()),
+        A_READER_OUTLIVES_ITS_ENTRY,
+        ELEMENTS,
+        MOMENTS,
+        REFUSALS,
+    ] {
+        let mut disk = MemDisk::new(alloc);
+        let came = runs(alloc, &mut disk, script, text)?;
+        assert_eq!(rt; came, (Status::Done, true), "to {script:?}");
+        assert!(rt; disk.file(&Place::Doomed(0)).is_none());
+        assert_eq!(rt; disk.name_steps(), 0);
+    }
+    Ok(())
+}
+
+// The commands before a bad one are performed, and what they leave stands.
+#[test]
+fn a_bad_command_ends_the_script(rt: HostRuntime) -> Result<(), Fail> {
+    let alloc = rt.alloc();
+    for (script, text) in [
+        (b"at 5\nfly\n".as_slice(), b"ok\nscript 2\n".as_slice()),
+        (
+            b"create 63 :x\ncreate 63 :y\nclose 3\ncreate 64 :x\nclose 63\n",
+            b"ok\nslot taken\nno slot\nscript 4\n",
+        ),
+    ] {
+        let mut disk = MemDisk::new(alloc);
+        let came = runs(alloc, &mut disk, script, text)?;
+        assert_eq!(rt; came, (Status::Script, true), "to {script:?}");
+    }
+    let mut disk = MemDisk::new(alloc);
+    let script =
+        b"create 0 :https://example.com/\nappend 0 5\nhello\nclose 0\ncreate 1 :x\nappend 1 1\nab\n";
+    let came = runs(alloc, &mut disk, script, b"ok\nok\nok\nok\nscript 5\n")?;
+    assert_eq!(rt; came, (Status::Script, true));
+    assert_eq!(rt; disk.file(&place_of(KEY)).ok_or("no file")?, FILE);
+    assert!(rt; disk.file(&place_of(":x")).is_none());
+    Ok(())
+}
+
+#[test]
+fn malformed_lines_are_named(rt: HostRuntime) -> Result<(), Fail> {
+    let alloc = rt.alloc();
+    for script in [
+        b"\n".as_slice(),
+        b"fly\n",
+        b"flush",
+        b"flush \n",
+        b"flush\r\n",
+        b" flush\n",
+        b"FLUSH\n",
+        b"at\n",
+        b"at 05\n",
+        b"at -1\n",
+        b"at 5 \n",
+        b"at 4294967296\n",
+        b"create 64 :x\n",
+        b"create 00 :x\n",
+        b"create 0\n",
+        b"append 0 1048577\n",
+        b"append 0 3\nab",
+        b"append 0 3\nabcd\n",
+        b"set 0 65537 a\n",
+        b"set 0 1\nb\n",
+        b"read 0 1\n",
+        b"close 0 \n",
+        b"doom\n",
+        b"get\n",
+    ] {
+        let mut disk = MemDisk::new(alloc);
+        let came = runs(alloc, &mut disk, script, b"script 1\n")?;
+        assert_eq!(rt; came, (Status::Script, true), "to {script:?}");
+    }
+    Ok(())
+}
+
+// A line may have 20,000 bytes.
+#[test]
+fn long_lines_are_bad(rt: HostRuntime) -> Result<(), Fail> {
+    let alloc = rt.alloc();
+    for (len, status, text) in [
+        (19_996, Status::Done, b"bad key\n".as_slice()),
+        (19_997, Status::Script, b"script 1\n"),
+    ] {
+        let mut script = bytes(alloc, b"get ")?;
+        script.extend(&vec![in alloc; b'x'; len]?)?;
+        script.push(b'\n')?;
+        let mut disk = MemDisk::new(alloc);
+        let came = runs(alloc, &mut disk, script.as_slice(), text)?;
+        assert_eq!(rt; came, (status, true), "with {len} bytes");
+    }
+    Ok(())
+}
+
+// The commands that the source gave whole are performed.
+#[test]
+fn a_failing_source_ends_the_script(rt: HostRuntime) -> Result<(), Fail> {
+    let alloc = rt.alloc();
+    let words = words_of(alloc, "1000 run")?;
+    let script = bytes(alloc, b"at 5\nat 6\nat 7\n")?;
+    let mut source = MemSource::with_plan(script, one_number(alloc, 3)?, 6);
+    let mut sink = MemSink::new(alloc);
+    let mut disk = MemDisk::new(alloc);
+    let status = run(alloc, &words, &mut source, &mut sink, &mut disk);
+    assert_eq!(rt; status, Status::Source);
+    assert_eq!(rt; sink.bytes(), b"ok\nok\n".as_slice());
+    Ok(())
+}
+
+// The command whose reply was cut has had its effect, and none follows.
+#[test]
+fn a_failing_sink_ends_the_script(rt: HostRuntime) -> Result<(), Fail> {
+    let alloc = rt.alloc();
+    let words = words_of(alloc, "1000 run")?;
+    let script = bytes(alloc, b"create 0 :x\nclose 0\ndoom :x\n")?;
+    let mut source = MemSource::new(alloc, script);
+    let mut sink = MemSink::with_plan(alloc, one_number(alloc, 2)?);
+    let mut disk = MemDisk::new(alloc);
+    let status = run(alloc, &words, &mut source, &mut sink, &mut disk);
+    assert_eq!(rt; status, Status::Sink);
+    assert_eq!(rt; sink.bytes(), b"ok\n".as_slice());
+    assert!(rt; disk.file(&place_of(":x")).is_some());
+    Ok(())
+}
