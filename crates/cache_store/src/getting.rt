@@ -57,7 +57,7 @@ fn say_chunks<D: Disk, K: Sink>(
     ensures cut { OnErr result (IsTrue D.tells → (content : List ℕ) → standing (D.state disk.old) place.now ≡ Some content → len ≤ length content
         → CutsIn (K.taken sink.old) (K.taken sink.new) reply.old.held (take len content)) }
     ensures state { IsTrue D.tells → D.state disk.new ≡ D.state disk.old }
-    ensures no_change { IsTrue D.tells → (D.counts disk.new).failed_change ≡ (D.counts disk.old).failed_change }
+    ensures no_change { IsTrue D.tells → (D.counts disk.new).failed ≡ (D.counts disk.old).failed }
     ensures sink { HasCause (IsErrOf result StoreFault.Sink) (K.faults sink.old) (K.faults sink.new) }
     ensures cause { HasCause (IsErrOf result StoreFault.Disk) (D.faults disk.old) (D.faults disk.new) }
 {
@@ -88,7 +88,7 @@ impl Store {
             → CutsIn (K.taken sink.old) (K.taken sink.new) self.old.reply.held (entry_text (meta_of meta.now) (take meta.now.offset content))) }
         ensures open { open_of self.new ≡ open_of self.old }
         ensures state { IsTrue D.tells → D.state disk.new ≡ D.state disk.old }
-        ensures no_change { IsTrue D.tells → (D.counts disk.new).failed_change ≡ (D.counts disk.old).failed_change }
+        ensures no_change { IsTrue D.tells → (D.counts disk.new).failed ≡ (D.counts disk.old).failed }
         ensures sink { HasCause (IsErrOf result StoreFault.Sink) (K.faults sink.old) (K.faults sink.new) }
         ensures cause { HasCause (IsErrOf result StoreFault.Disk) (D.faults disk.old) (D.faults disk.new) }
     {
@@ -119,7 +119,7 @@ impl Store {
             → AnswersTo (step m (Get key.now)).reply result (K.taken sink.old) (K.taken sink.new) self.new.reply.held }
         ensures open { open_of self.new ≡ open_of self.old }
         ensures state { IsTrue D.tells → D.state disk.new ≡ D.state disk.old }
-        ensures no_change { IsTrue D.tells → (D.counts disk.new).failed_change ≡ (D.counts disk.old).failed_change }
+        ensures no_change { IsTrue D.tells → (D.counts disk.new).failed ≡ (D.counts disk.old).failed }
         ensures sink { HasCause (IsErrOf result StoreFault.Sink) (K.faults sink.old) (K.faults sink.new) }
         ensures cause { HasCause (IsErrOf result StoreFault.Disk) (D.faults disk.old) (D.faults disk.new) }
     {

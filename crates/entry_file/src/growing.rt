@@ -51,7 +51,7 @@ fn put_full<D: Disk>(
     ensures room { length hashes.new ≤ length hashes.old + 1 }
     ensures state { IsTrue D.tells → D.state disk.new ≡ if_done result (wrote place.now (chunk_write (length hashes.old) chunk.old) (D.state disk.old)) (D.state disk.old) }
     ensures calls { IsTrue D.tells → (D.counts disk.new).calls ≤ (D.counts disk.old).calls + 1 }
-    ensures went_on { OnOk result (IsTrue D.tells → (D.counts disk.new).failed_change ≡ (D.counts disk.old).failed_change) }
+    ensures went_on { OnOk result (IsTrue D.tells → (D.counts disk.new).failed ≡ (D.counts disk.old).failed) }
     ensures stops { IsTrue D.tells → StopsAtFault (D.counts disk.old) (D.counts disk.new) }
     ensures cause { HasCause (IsErrOf result DiskFault.Failed) (D.faults disk.old) (D.faults disk.new) }
 {
@@ -73,7 +73,7 @@ impl NewEntry {
             → standing (D.state disk.new) place.now ≡ Some (unfinished_file (body ++ b.now))) }
         ensures writes { IsTrue D.tells → WritesAt place.now IsUnfinished (D.state disk.old) (D.state disk.new) }
         ensures calls { IsTrue D.tells → (D.counts disk.new).calls ≤ (D.counts disk.old).calls + 1 }
-        ensures went_on { OnOk result (IsTrue D.tells → (D.counts disk.new).failed_change ≡ (D.counts disk.old).failed_change) }
+        ensures went_on { OnOk result (IsTrue D.tells → (D.counts disk.new).failed ≡ (D.counts disk.old).failed) }
         ensures stops { IsTrue D.tells → StopsAtFault (D.counts disk.old) (D.counts disk.new) }
         ensures cause { HasCause (IsErrOf result DiskFault.Failed) (D.faults disk.old) (D.faults disk.new) }
     {
@@ -103,7 +103,7 @@ impl NewEntry {
         // In any case this file alone was written to, and none of its new moments fits.
         ensures writes { IsTrue D.tells → WritesAt place.now IsUnfinished (D.state disk.old) (D.state disk.new) }
         ensures calls { IsTrue D.tells → (D.counts disk.new).calls ≤ (D.counts disk.old).calls + (length (held self.old).rest + length b.now) / chunk_size }
-        ensures went_on { OnOk result (IsTrue D.tells → (D.counts disk.new).failed_change ≡ (D.counts disk.old).failed_change) }
+        ensures went_on { OnOk result (IsTrue D.tells → (D.counts disk.new).failed ≡ (D.counts disk.old).failed) }
         ensures stops { IsTrue D.tells → StopsAtFault (D.counts disk.old) (D.counts disk.new) }
         ensures cause { HasCause (IsErrOf result DiskFault.Failed) (D.faults disk.old) (D.faults disk.new) }
     {

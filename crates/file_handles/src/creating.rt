@@ -46,7 +46,7 @@ fn drafted<D: Disk>(
     ensures draft { IfOk result (λ object. (object.name ≡ name) × IsHeldAs object (fresh now key.now)) }
     ensures state { IsTrue D.tells → MayHaveMade (EntryAt name) result (D.state disk.old) (D.state disk.new) }
     ensures refused { OnRefused result (λ _. ⊥) }
-    ensures went_on { OnOk result (IsTrue D.tells → (D.counts disk.new).failed_change ≡ (D.counts disk.old).failed_change) }
+    ensures went_on { OnOk result (IsTrue D.tells → (D.counts disk.new).failed ≡ (D.counts disk.old).failed) }
     ensures stops { IsTrue D.tells → StopsAtFault (D.counts disk.old) (D.counts disk.new) }
     ensures cause { HasCause (IsErrOf result HandleFault.Disk) (D.faults disk.old) (D.faults disk.new) }
 {
@@ -89,8 +89,8 @@ impl Handles {
         requires told { IsTrue D.tells → StandsSomehow (D.state disk.old) (kept self.old) }
         ensures carried { IsTrue D.tells → CarriesOutAt now (Create slot key.now) (done_or result) (D.state disk.old) (D.state disk.new) (kept self.old) (kept self.new) }
         ensures effect { IfOk result (λ effect. IsGone effect (file_name key.now)) }
-        ensures went_on { OnOk result (IsTrue D.tells → (D.counts disk.new).failed_change ≡ (D.counts disk.old).failed_change) }
-        ensures refused_on { OnRefused result (λ _. IsTrue D.tells → (D.counts disk.new).failed_change ≡ (D.counts disk.old).failed_change) }
+        ensures went_on { OnOk result (IsTrue D.tells → (D.counts disk.new).failed ≡ (D.counts disk.old).failed) }
+        ensures refused_on { OnRefused result (λ _. IsTrue D.tells → (D.counts disk.new).failed ≡ (D.counts disk.old).failed) }
         ensures stops { IsTrue D.tells → StopsAtFault (D.counts disk.old) (D.counts disk.new) }
         ensures cause { HasCause (IsErrOf result HandleFault.Disk) (D.faults disk.old) (D.faults disk.new) }
     {

@@ -216,7 +216,7 @@ impl Handles {
         ensures quiet { IsTrue D.tells → IfSome (object_kept_at (kept self.old) place) (λ x. is_draft x.entry ≡ true → D.state disk.new ≡ D.state disk.old) }
         ensures effect { IfOk result (λ effect. effect ≡ wrote_where (λ x. not (is_draft x.entry)) (object_kept_at (kept self.old) place)) }
         ensures refused { OnRefused result (λ _. object_kept_at (kept self.old) place ≡ None) }
-        ensures went_on { OnOk result (IsTrue D.tells → (D.counts disk.new).failed_change ≡ (D.counts disk.old).failed_change) }
+        ensures went_on { OnOk result (IsTrue D.tells → (D.counts disk.new).failed ≡ (D.counts disk.old).failed) }
         ensures stops { IsTrue D.tells → StopsAtFault (D.counts disk.old) (D.counts disk.new) }
         ensures cause { HasCause (IsErrOf result HandleFault.Disk) (D.faults disk.old) (D.faults disk.new) }
     {
@@ -261,8 +261,8 @@ impl Handles {
         requires told { IsTrue D.tells → StandsSomehow (D.state disk.old) (kept self.old) }
         ensures carried { IsTrue D.tells → CarriesOut (SetElement slot name.now value.now) (done_or result) (D.state disk.old) (D.state disk.new) (kept self.old) (kept self.new) }
         ensures effect { IfOk result (λ effect. effect ≡ wrote_where (λ x. not (is_draft x.entry)) (object_in (kept self.old) slot)) }
-        ensures went_on { OnOk result (IsTrue D.tells → (D.counts disk.new).failed_change ≡ (D.counts disk.old).failed_change) }
-        ensures refused_on { OnRefused result (λ _. IsTrue D.tells → (D.counts disk.new).failed_change ≡ (D.counts disk.old).failed_change) }
+        ensures went_on { OnOk result (IsTrue D.tells → (D.counts disk.new).failed ≡ (D.counts disk.old).failed) }
+        ensures refused_on { OnRefused result (λ _. IsTrue D.tells → (D.counts disk.new).failed ≡ (D.counts disk.old).failed) }
         ensures stops { IsTrue D.tells → StopsAtFault (D.counts disk.old) (D.counts disk.new) }
         ensures cause { HasCause (IsErrOf result HandleFault.Disk) (D.faults disk.old) (D.faults disk.new) }
     {
@@ -283,8 +283,8 @@ impl Handles {
         requires told { IsTrue D.tells → StandsSomehow (D.state disk.old) (kept self.old) }
         ensures carried { IsTrue D.tells → CarriesOut (UnsetElement slot name.now) (done_or_none result) (D.state disk.old) (D.state disk.new) (kept self.old) (kept self.new) }
         ensures effect { IfOk result (λ some. IfSome some (λ effect. effect ≡ wrote_where (λ x. not (is_draft x.entry)) (object_in (kept self.old) slot))) }
-        ensures went_on { OnOk result (IsTrue D.tells → (D.counts disk.new).failed_change ≡ (D.counts disk.old).failed_change) }
-        ensures refused_on { OnRefused result (λ _. IsTrue D.tells → (D.counts disk.new).failed_change ≡ (D.counts disk.old).failed_change) }
+        ensures went_on { OnOk result (IsTrue D.tells → (D.counts disk.new).failed ≡ (D.counts disk.old).failed) }
+        ensures refused_on { OnRefused result (λ _. IsTrue D.tells → (D.counts disk.new).failed ≡ (D.counts disk.old).failed) }
         ensures stops { IsTrue D.tells → StopsAtFault (D.counts disk.old) (D.counts disk.new) }
         ensures cause { HasCause (IsErrOf result HandleFault.Disk) (D.faults disk.old) (D.faults disk.new) }
     {

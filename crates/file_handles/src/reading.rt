@@ -68,7 +68,7 @@ fn fetch<D: Disk>(
     ensures chunk { OnOk result (IsTrue D.tells → 0 < len → from < stored → IfSome (standing (D.state disk.old) place.now) (λ file. stored ≤ length file → chunk.new ≡ chunk_of (take stored file) (from / chunk_size))) }
     ensures refused { OnRefused result (λ _. ⊥) }
     ensures state { IsTrue D.tells → D.state disk.new ≡ D.state disk.old }
-    ensures no_change { IsTrue D.tells → (D.counts disk.new).failed_change ≡ (D.counts disk.old).failed_change }
+    ensures no_change { IsTrue D.tells → (D.counts disk.new).failed ≡ (D.counts disk.old).failed }
     ensures cause { HasCause (IsErrOf result HandleFault.Disk) (D.faults disk.old) (D.faults disk.new) }
 {
     if len > 0 && from < u64::from(stored) {
@@ -129,7 +129,7 @@ impl Handles {
         ensures refused { OnRefused result (λ r. Refuses (kept self.old) (ReadPart slot from len) r) }
         ensures* kept { sem 𝓛 (RestsAsKept self.entry) }
         ensures state { IsTrue D.tells → D.state disk.new ≡ D.state disk.old }
-        ensures no_change { IsTrue D.tells → (D.counts disk.new).failed_change ≡ (D.counts disk.old).failed_change }
+        ensures no_change { IsTrue D.tells → (D.counts disk.new).failed ≡ (D.counts disk.old).failed }
         ensures cause { HasCause (IsErrOf result HandleFault.Disk) (D.faults disk.old) (D.faults disk.new) }
     {
         let used = self.use_of(slot)?;
@@ -151,7 +151,7 @@ impl Handles {
         ensures refused { OnRefused result (λ _. object_kept_at (kept self.old) place ≡ None) }
         ensures kept { kept self.new ≡ kept self.old }
         ensures state { IsTrue D.tells → D.state disk.new ≡ D.state disk.old }
-        ensures no_change { IsTrue D.tells → (D.counts disk.new).failed_change ≡ (D.counts disk.old).failed_change }
+        ensures no_change { IsTrue D.tells → (D.counts disk.new).failed ≡ (D.counts disk.old).failed }
         ensures cause { HasCause (IsErrOf result HandleFault.Disk) (D.faults disk.old) (D.faults disk.new) }
     {
         let object = self.object_at(place)?;

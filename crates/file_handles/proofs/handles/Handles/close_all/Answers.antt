@@ -32,14 +32,14 @@ loop-object-preserved g c =
         long = before.long;
         to = λ told. one_dropped k i w.in-Some.object s t (g.D.Disk.state c.match-object.disk) (item_at k i c.object-item.result _ within w.in-Some.is)
             (ap g.D.Disk.state w.disk-is ∙ w.in_ok-drop_file.ensures.state told) (before.to told);
-        fault = λ told. ap (λ d. (g.D.Disk.counts d).failed_change) w.disk-is ∙ w.in_ok-drop_file.ensures.went_on told ∙ before.fault told;
+        fault = λ told. ap (λ d. (g.D.Disk.counts d).failed) w.disk-is ∙ w.in_ok-drop_file.ensures.went_on told ∙ before.fault told;
         faults = ap g.D.Disk.faults w.disk-is ∙ w.in_ok-drop_file.ensures.cause.kept (no_fault w.in_ok-drop_file.field-0) ∙ before.faults;
       }
       | in_default w ↦ record {
         long = before.long;
         to = λ told. none_dropped k i s (g.D.Disk.state c.match-object.disk) (item_at k i c.object-item.result _ within w.in_default.is)
             (subst (λ d. IsDroppedTo k i s (g.D.Disk.state d)) (sym w.disk-is) (before.to told));
-        fault = λ told. ap (λ d. (g.D.Disk.counts d).failed_change) w.disk-is ∙ before.fault told;
+        fault = λ told. ap (λ d. (g.D.Disk.counts d).failed) w.disk-is ∙ before.fault told;
         faults = ap g.D.Disk.faults w.disk-is ∙ before.faults;
       }
     ]
