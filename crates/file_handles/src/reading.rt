@@ -127,6 +127,7 @@ impl Handles {
         ensures part { IfOk result (λ part. IsTrue D.tells → (m : Machine) (number : ℕ → ℕ) → Stands (standing (D.state disk.old)) (kept self.old) m number
             → part.now ≡ part_of_body (object_of m slot).version.body from len) }
         ensures refused { OnRefused result (λ r. Refuses (kept self.old) (ReadPart slot from len) r) }
+        ensures passes { OnOk result (Passes (kept self.old) (ReadPart slot from len)) }
         ensures* kept { sem 𝓛 (RestsAsKept self.entry) }
         ensures state { IsTrue D.tells → D.state disk.new ≡ D.state disk.old }
         ensures no_change { IsTrue D.tells → (D.counts disk.new).failed ≡ (D.counts disk.old).failed }
