@@ -1,6 +1,7 @@
 use Rattle.std.proofs.Common.{arith}
 use Rattle.cache_base.specs.Bytes.{AreBytes}
 use Rattle.cache_base.proofs.ByteLaws.{all_below}
+use Rattle.cache_theory.specs.Command.Command.{SetElement}
 use Rattle.file_handles.specs.Kept.{kept, object_at}
 use Rattle.entry_parts.specs.Setting.{with_element}
 use Rattle.file_handles.specs.Held.{elements_in}
@@ -9,6 +10,7 @@ use Rattle.file_handles.specs.Setting.{HasRoom}
 use Rattle.file_handles.proofs.ElementChecks.{the_object}
 use Rattle.file_handles.proofs.ElementCommands.{set_leaves}
 use Rattle.file_handles.proofs.Places.{filed_somehow}
+use Rattle.file_handles.proofs.Refused.{refused_answer}
 use Rattle.file_handles.proofs.handles.Handles.set_element.Goals as goal
 
 pub change_at-requires-clause-told : goal.change_at-requires-clause-told
@@ -27,3 +29,7 @@ returns-clause-carried g c told =
     set_leaves s t (g.met.D.Disk.sound c.args.disk.now told) k (kept c.change_at.new.self) c.args.slot c.requires.slot c.in_ok-place.place there.0 there.1.1.0 name c.change_at.result
     (c.change_at.ensures.quiet told) c.change_at.ensures.refused
     value name_bytes value_bytes c.in_ok-place.ensures.passes (c.change_at.ensures.changes told)
+
+pub returns-in_err-place-clause-carried : goal.returns-in_err-place-clause-carried
+returns-in_err-place-clause-carried g c = λ told.
+    refused_answer c.from_residual.result (g.D.Disk.state c.args.disk.now) (kept c.args.self.now) (SetElement c.args.slot c.args.name.now c.args.value.now) c.in_err-place.field-0.0 c.from_residual.ensures.1 c.in_err-place.ensures.refused

@@ -10,6 +10,7 @@ use Rattle.file_handles.proofs.ElementCommands.{fault_reply, unset_leaves}
 use Rattle.file_handles.proofs.ElementEntries.{room_without}
 use Rattle.file_handles.proofs.ElementReads.{mapped_none, mapped_some, unset_none_leaves}
 use Rattle.file_handles.proofs.Places.{filed_somehow}
+use Rattle.file_handles.proofs.Refused.{refused_answer_or_none}
 use Rattle.file_handles.proofs.handles.Handles.unset_element.Goals as goal
 
 pub returns-then-is_none-clause-carried : goal.returns-then-is_none-clause-carried
@@ -51,3 +52,7 @@ returns-clause-carried g c told =
     let some = mapped_some _ c.get.result _ (c.get.ensures ∙ ap (element name) c.elements.ensures) c.if-is_none.ensures in
     unset_leaves _ _ (g.met.D.Disk.sound c.args.disk.now told) k _ c.args.slot c.requires.slot c.in_ok-place.place x has name (Ok c.in_ok-effect.effect) (c.change_at.ensures.quiet told) c.in_ok-effect.ensures.refused
     some.0 some.1 (c.in_ok-place.ensures.passes name) (c.in_ok-effect.ensures.changes told)
+
+pub returns-in_err-place-clause-carried : goal.returns-in_err-place-clause-carried
+returns-in_err-place-clause-carried g c = λ told.
+    refused_answer_or_none c.from_residual.result (g.D.Disk.state c.args.disk.now) (kept c.args.self.now) (UnsetElement c.args.slot c.args.name.now) c.in_err-place.field-0.0 c.from_residual.ensures.1 (c.in_err-place.ensures.refused c.args.name.now)
