@@ -1,5 +1,6 @@
 pub mod KeptLaws
 pub mod Places
+pub mod Where
 pub mod Begun
 pub mod Refused
 pub mod Changed

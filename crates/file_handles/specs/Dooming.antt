@@ -1,5 +1,5 @@
 -- An object that loses its name.
-use Rattle.std.specs.Prelude.{IsSome, List, None, OnOk, Option, Result, filter_map, option_and_then, true, ℕ, ◌<◌, ◌≡◌}
+use Rattle.std.specs.Prelude.{Bool, IsSome, IsTrue, List, None, OnOk, Option, Result, filter_map, option_and_then, true, ℕ, ◌<◌, ◌≡◌}
 use Rattle.cache_base.specs.Checks.{first_failing}
 use Rattle.cache_base.specs.declared.limits.TheConstants.{SLOTS}
 use Rattle.cache_theory.specs.Checks.{checks}
@@ -12,7 +12,7 @@ use Rattle.cache_theory.specs.declared.refusal.Refusal.{Refusal}
 use Rattle.disk_model.specs.State.{State, standing}
 use Rattle.disk_model.specs.declared.place.Place.TheVariants.{Doomed}
 use Rattle.file_handles.specs.Kept.{Kept}
-use Rattle.file_handles.specs.Stands.{IsIn, Stands}
+use Rattle.file_handles.specs.Stands.{IsInWhere, Stands}
 use Rattle.file_handles.specs.declared.fault.HandleFault.{HandleFault}
 use Rattle.file_handles.specs.declared.object.Object.{Object}
 
@@ -27,8 +27,8 @@ numbers_in objects = filter_map number_in objects
 -- the object in use under a name is doomed, whatever the state of the machine, and the marks in which the name is touched
 abbrev pub DoomsUnder : {T : Type 0} → List ℕ → Result T HandleFault → State → State → Kept → Kept → Type 0
 DoomsUnder name answer s t before after =
-    (m : Machine) (w : Marks) → is_touched w name ≡ true → IsIn s before m w
-    → IsSafe t w × OnOk answer (IsIn t after (doomed_under m name) w)
+    (crash : Bool) (m : Machine) (w : Marks) → is_touched w name ≡ true → IsInWhere crash s before m w
+    → (IsTrue crash → IsSafe t w) × OnOk answer (IsInWhere crash t after (doomed_under m name) w)
 
 -- the checks of a command end so, whatever machine the files and the handles stand for
 abbrev pub EndsOn : State → Kept → Command → Option Refusal → Type 0

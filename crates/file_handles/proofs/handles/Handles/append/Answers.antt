@@ -11,6 +11,7 @@ use Rattle.file_handles.proofs.ElementChecks.{if_object, the_object}
 use Rattle.file_handles.proofs.InChunk.{appends_done, fits_held}
 use Rattle.file_handles.proofs.Places.{filed_somehow}
 use Rattle.file_handles.proofs.WriterCommands.{append_makes}
+use Rattle.file_handles.proofs.Refused.{refused_answer}
 use Rattle.file_handles.proofs.handles.Handles.append.Goals as goal
 
 pub append_at-requires-clause-told : goal.append_at-requires-clause-told
@@ -44,3 +45,7 @@ returns-clause-within_reply g c = λ m number proper stand fits.
     let P : Object → Type 0 = λ x. length (rest_in x.entry) + length c.args.b.now < 262144 → (c.append_at.result ≡ Ok tt) × (c.append_at.new.disk ≡ c.args.disk.now) in
     ap done_or (if_object _ there.0 P there.1.0 c.append_at.ensures.within small).0
     ∙ ap (λ r. Some r) (sym (appends_done m c.args.slot b (c.in_ok-place.ensures.passes b refl m number proper stand)))
+
+pub returns-in_err-place-clause-carried : goal.returns-in_err-place-clause-carried
+returns-in_err-place-clause-carried g c = λ told.
+    refused_answer c.from_residual.result (g.D.Disk.state c.args.disk.now) (kept c.args.self.now) (Append c.args.slot c.args.b.now) c.in_err-place.field-0.0 c.from_residual.ensures.1 (c.in_err-place.ensures.refused c.args.b.now refl)

@@ -12,12 +12,13 @@ drop_file-requires g c told =
     (item_at (kept c.args.self) c.loop-object.object-index c.object-item.result _ within c.in-Some.is) (c.loop-object.invariant.to told)
 
 pub returns-in_err-drop_file-clause-closes : goal.returns-in_err-drop_file-clause-closes
-returns-in_err-drop_file-clause-closes g c told m w is =
-    let within : c.loop-object.object-index < length c.args.self.objects = let lt = c.loop-object-test.true in let l = c.loop-object.invariant.long in omega (arith, lt, l) in (
-      all_failed (kept c.args.self) c.loop-object.object-index c.in-Some.object c.drop_file.result (g.D.Disk.state c.args.disk.now) (g.D.Disk.state c.loop-object.disk) (g.D.Disk.state c.drop_file.new.disk)
-          (item_at (kept c.args.self) c.loop-object.object-index c.object-item.result _ within c.in-Some.is) (c.drop_file.ensures.state told) (c.loop-object.invariant.to told) m w is,
-      IfOk-from_err c.from_residual.result _ c.from_residual.ensures.0,
-    )
+returns-in_err-drop_file-clause-closes g c told =
+    let within : c.loop-object.object-index < length c.args.self.objects = let lt = c.loop-object-test.true in let l = c.loop-object.invariant.long in omega (arith, lt, l) in
+    record {
+      crash = all_failed (kept c.args.self) c.loop-object.object-index c.in-Some.object c.drop_file.result (g.D.Disk.state c.args.disk.now) (g.D.Disk.state c.loop-object.disk) (g.D.Disk.state c.drop_file.new.disk)
+          (item_at (kept c.args.self) c.loop-object.object-index c.object-item.result _ within c.in-Some.is) (c.drop_file.ensures.state told) (c.loop-object.invariant.to told);
+      closed = λ m stand. IfOk-from_err c.from_residual.result _ c.from_residual.ensures.0;
+    }
 
 pub loop-object-preserved : goal.loop-object-preserved
 loop-object-preserved g c =

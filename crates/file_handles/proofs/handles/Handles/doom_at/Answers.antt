@@ -5,7 +5,7 @@ use Rattle.disk_model.specs.declared.disk.DiskFault.{DiskFault}
 use Rattle.doom_area.specs.DoomArea.{IsLeastFree}
 use Rattle.file_handles.specs.Kept.{kept, object_at}
 use Rattle.cache_theory.specs.Step.{doomed_under}
-use Rattle.file_handles.specs.Stands.{IsIn}
+use Rattle.file_handles.specs.Stands.{IsInWhere}
 use Rattle.file_handles.specs.Dooming.{numbers_in}
 use Rattle.file_handles.proofs.DoomedUser.{dooms_not, dooms_there, least_free, user_stands}
 use Rattle.file_handles.proofs.FirstFree.{few_numbers, takes_first}
@@ -22,13 +22,13 @@ pub doom-requires-clause-told : goal.doom-requires-clause-told
 doom-requires-clause-told g c = λ tells. user_stands (g.D.Disk.state c.args.disk.now) (kept c.args.self.now) c.args.name.now c.args.place c.requires.user (c.requires.told tells)
 
 pub returns-in_err-number-clause-dooms : goal.returns-in_err-number-clause-dooms
-returns-in_err-number-clause-dooms g c = λ tells m w touched stand.
+returns-in_err-number-clause-dooms g c = λ tells b m w touched stand.
     let s = g.D.Disk.state c.args.disk.now in
     let f = c.from_residual-in_err-number.ensures in
-    (dooms_not s (g.D.Disk.state c.doom.new.disk) w c.args.name.now _ c.in_err-number.field-0.0 (c.in_err-number.ensures.state tells) touched stand.crash_kept.safe, IfOk-from_err c.from_residual-in_err-number.result (λ done. IsIn (g.D.Disk.state c.doom.new.disk) (kept c.take.new.self) (doomed_under m c.args.name.now.0) w) f.0)
+    (λ on. dooms_not s (g.D.Disk.state c.doom.new.disk) w c.args.name.now _ c.in_err-number.field-0.0 (c.in_err-number.ensures.state tells) touched (stand.crash_kept on).safe, IfOk-from_err c.from_residual-in_err-number.result (λ done. IsInWhere b (g.D.Disk.state c.doom.new.disk) (kept c.take.new.self) (doomed_under m c.args.name.now.0) w) f.0)
 
 pub returns-clause-dooms : goal.returns-clause-dooms
-returns-clause-dooms g c = λ tells m w touched stand.
+returns-clause-dooms g c = λ tells b m w touched stand.
     let s = g.D.Disk.state c.args.disk.now in
     let k = kept c.args.self.now in
     let free = subst (λ xs. IsLeastFree xs c.in_ok-number.number) c.doomed_numbers-doomed.ensures.numbers c.in_ok-number.ensures.number in

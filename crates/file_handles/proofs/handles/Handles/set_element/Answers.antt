@@ -2,6 +2,7 @@ use Rattle.std.proofs.Common.{arith, not, refl, ap, ◌∙◌}
 use Rattle.cache_theory.specs.Command.Command.{SetElement}
 use Rattle.cache_base.specs.Bytes.{AreBytes}
 use Rattle.cache_base.proofs.ByteLaws.{all_below}
+use Rattle.cache_theory.specs.Command.Command.{SetElement}
 use Rattle.file_handles.specs.Kept.{kept, object_at}
 use Rattle.entry_parts.specs.Setting.{with_element}
 use Rattle.file_handles.specs.Effects.{wrote_where}
@@ -12,6 +13,7 @@ use Rattle.file_handles.proofs.EffectLaws.{by_value, effect_is, sets_rewrite}
 use Rattle.file_handles.proofs.ElementChecks.{the_object}
 use Rattle.file_handles.proofs.ElementCommands.{set_leaves}
 use Rattle.file_handles.proofs.Places.{filed_somehow}
+use Rattle.file_handles.proofs.Refused.{refused_answer}
 use Rattle.file_handles.proofs.handles.Handles.set_element.Goals as goal
 
 pub change_at-requires-clause-told : goal.change_at-requires-clause-told
@@ -41,3 +43,7 @@ returns-clause-effect g c =
     effect_is k m number stand c.args.slot c.requires.slot c.in_ok-place.place there.0 there.1.1.0 (SetElement c.args.slot name value) (λ x. not (is_draft x.entry)) e refl
     (sets_rewrite k m number stand c.args.slot c.requires.slot c.in_ok-place.place there.0 there.1.1.0)
     (same ∙ ap (wrote_where (λ x. not (is_draft x.entry))) there.1.0))
+
+pub returns-in_err-place-clause-carried : goal.returns-in_err-place-clause-carried
+returns-in_err-place-clause-carried g c = λ told.
+    refused_answer c.from_residual.result (g.D.Disk.state c.args.disk.now) (kept c.args.self.now) (SetElement c.args.slot c.args.name.now c.args.value.now) c.in_err-place.field-0.0 c.from_residual.ensures.1 c.in_err-place.ensures.refused

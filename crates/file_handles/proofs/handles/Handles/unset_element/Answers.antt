@@ -13,6 +13,7 @@ use Rattle.file_handles.proofs.ElementCommands.{fault_reply, unset_leaves}
 use Rattle.file_handles.proofs.ElementEntries.{room_without}
 use Rattle.file_handles.proofs.ElementReads.{mapped_none, mapped_some, unset_none_leaves}
 use Rattle.file_handles.proofs.Places.{filed_somehow}
+use Rattle.file_handles.proofs.Refused.{refused_answer_or_none}
 use Rattle.file_handles.proofs.handles.Handles.unset_element.Goals as goal
 
 pub returns-then-is_none-clause-carried : goal.returns-then-is_none-clause-carried
@@ -65,3 +66,7 @@ returns-clause-effect g c = λ m number stand.
     effect_is k m number stand c.args.slot c.requires.slot c.in_ok-place.place x has (UnsetElement c.args.slot name) (λ x. not (is_draft x.entry)) c.in_ok-effect.effect refl
     (unsets_rewrite k m number stand c.args.slot c.requires.slot c.in_ok-place.place x has name some.0 some.1)
     (c.in_ok-effect.ensures.effect ∙ ap (wrote_where (λ x. not (is_draft x.entry))) c.in_ok-object_at.ensures.found)
+
+pub returns-in_err-place-clause-carried : goal.returns-in_err-place-clause-carried
+returns-in_err-place-clause-carried g c = λ told.
+    refused_answer_or_none c.from_residual.result (g.D.Disk.state c.args.disk.now) (kept c.args.self.now) (UnsetElement c.args.slot c.args.name.now) c.in_err-place.field-0.0 c.from_residual.ensures.1 (c.in_err-place.ensures.refused c.args.name.now)
