@@ -109,8 +109,8 @@ impl Handles {
         ensures refused { IfErr result (λ r. (from len : ℕ) → Refuses (kept self.now) (ReadPart slot from len) r) }
         ensures passes { OnOk result ((from len : ℕ) → Passes (kept self.now) (ReadPart slot from len)) }
     {
-        let used = self.use_of(slot)?;
-        Ok(self.object_at(used.place)?.body_len())
+        let user = self.use_of(slot)?;
+        Ok(self.object_at(user.place)?.body_len())
     }
 
     /// The bytes of the body of a slot's entry from a place on, at most `len`, and no more than to the end of their chunk
