@@ -1,6 +1,6 @@
 //! A new entry.
 
-ghost use Rattle.std.specs.Prelude.{◌≡◌, ◌<◌, true, IfOk, IsErrOf, IsTrue, OnOk, length};
+ghost use Rattle.std.specs.Prelude.{◌≡◌, ◌<◌, false, true, IfOk, IsErrOf, IsTrue, OnOk, length};
 ghost use Rattle.cache_base.specs.Causes.{HasCause};
 ghost use Rattle.cache_base.specs.declared.limits.TheConstants.{SLOTS};
 ghost use Rattle.cache_theory.specs.Command.Command.{Create};
@@ -90,6 +90,7 @@ impl Handles {
         requires told { IsTrue D.tells → StandsSomehow (D.state disk.old) (kept self.old) }
         ensures carried { IsTrue D.tells → CarriesOutAt now (Create slot key.now) (done_or result) (D.state disk.old) (D.state disk.new) (kept self.old) (kept self.new) }
         ensures effect { IfOk result (HasEffect (kept self.old) (Create slot key.now)) }
+        ensures bad_key { may_write_of key.now ≡ false → OnOk result ⊥ }
         ensures numbered { IsTrue D.tells → TakesFirstFree (D.state disk.old) (D.state disk.new) }
         ensures went_on { OnOk result (IsTrue D.tells → (D.counts disk.new).failed ≡ (D.counts disk.old).failed) }
         ensures unchanged { OnRefused result (λ _. disk.new ≡ disk.old) }
