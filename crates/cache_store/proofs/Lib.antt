@@ -1,4 +1,5 @@
 pub mod Closed
+pub mod StandsAs
 pub mod ElemReply
 pub mod ElemSaid
 pub mod GotAnswers

@@ -100,7 +100,7 @@ fn say_rest<K: Sink>(
 }
 
 impl Store {
-    ghost use Rattle.file_handles.specs.Stands.{IsIn, StandsSomehow};
+    ghost use Rattle.file_handles.specs.Stands.{StandFor, StandsSomehow};
     ghost use Rattle.cache_store.specs.Open.{IsOpen, open_of};
     ghost use Rattle.cache_store.specs.Performing.{DoesFor, PerformsFor, PerformsSafely};
     ghost use Rattle.cache_store.specs.Said.{IsCut};
@@ -115,7 +115,7 @@ impl Store {
     ) -> Result<Answered, StoreFault>
         requires slot { slot < SLOTS }
         requires empty { self.old.reply.held ≡ [] }
-        ensures answers { (s : State) (m : Machine) (w : Marks) → IsIn s (open_of self.old).handles m w
+        ensures answers { (s : State) (m : Machine) → StandFor s (open_of self.old).handles m
             → AnswersTo (step m (ElementOf slot name.now)).reply result (K.taken sink.old) (K.taken sink.new) self.new.reply.held }
         ensures unsaid { IfOk result (λ a. a ≢ Answered.All → sink.new ≡ sink.old) }
         ensures still_empty { IfOk result (λ a. a ≢ Answered.All → self.new.reply.held ≡ []) }
