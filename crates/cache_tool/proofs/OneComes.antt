@@ -8,7 +8,7 @@ use Rattle.cache_base.specs.declared.status.Status.{Status}
 use Rattle.cache_base.specs.declared.status.Status.TheVariants as status
 use Rattle.cache_store.specs.Answering.{outcome_of}
 use Rattle.cache_store.specs.Open.{IsShut, Open}
-use Rattle.cache_store.specs.Performing.{Performs}
+use Rattle.cache_store.specs.Performing.{Keeps, Performs}
 use Rattle.cache_store.specs.Said.{IsCut}
 use Rattle.cache_store.specs.Saying.{IsPart}
 use Rattle.cache_store.specs.declared.fault.Outcome.{Outcome}
@@ -146,28 +146,28 @@ came_ok o (Err f) is = absurd is
 
 module _ (m : Machine) (c : Command) (before now : Option (List ℕ)) (s v t : State) (p : Open) (ended : Status) (ends : Ends ended v t p) where
   -- it was performed, and the session was ended by what it came to
-  pub performed_comes : (answer : Result Outcome StoreFault) (came : Result Status StoreFault) → Performs c m (marks_of m) answer v p before now
+  pub performed_comes : (answer : Result Outcome StoreFault) (came : Result Status StoreFault) → Performs c m answer v p before now → Keeps c m (marks_of m) answer v p
       → CameBy answer came → (ended ≡ status_in came) ⊎ IsStop ended → ((IsClosing (status_in came) → ⊥) → (ended ≡ status_in came) × (t ≡ v))
       → Comes m (c ∷ []) ended before now s t
-  performed_comes (Ok o) came does by (inl is) dropped =
+  performed_comes (Ok o) came says keeps by (inl is) dropped =
       let as_outcome = is ∙ came_ok o came by in
-      let closed = ends (step m c).next (acked m c (marks_of m)) does.next in
-      answered m c before now s t (λ quiet. begun_at_mark t m c closed.0) o ended as_outcome does.outcome does.printed (closed.1 (outcome_closes o ended as_outcome))
-  performed_comes (Ok o) came does by (inr stop) dropped =
-      let closed = ends (step m c).next (acked m c (marks_of m)) does.next in
-      stopped m c before now s t (λ quiet. begun_at_mark t m c closed.0) ended stop (all_part before now (reply_text (step m c).reply) does.printed)
-  performed_comes (Err fault.Sink) came does by (inl is) dropped =
+      let closed = ends (step m c).next (acked m c (marks_of m)) keeps.next in
+      answered m c before now s t (λ quiet. begun_at_mark t m c closed.0) o ended as_outcome says.outcome says.printed (closed.1 (outcome_closes o ended as_outcome))
+  performed_comes (Ok o) came says keeps by (inr stop) dropped =
+      let closed = ends (step m c).next (acked m c (marks_of m)) keeps.next in
+      stopped m c before now s t (λ quiet. begun_at_mark t m c closed.0) ended stop (all_part before now (reply_text (step m c).reply) says.printed)
+  performed_comes (Err fault.Sink) came says keeps by (inl is) dropped =
       let sink = is ∙ ap status_in by in
-      let closed = ends (step m c).next (begun m c (marks_of m)) (does.effect refl) in
-      sunk m c before now s t (λ quiet. closed.0) ended sink does.cut (closed.1 (subst IsClosing (sym sink) tt))
-  performed_comes (Err fault.Sink) came does by (inr stop) dropped =
-      let closed = ends (step m c).next (begun m c (marks_of m)) (does.effect refl) in
-      stopped m c before now s t (λ quiet. closed.0) ended stop (cut_part before now (reply_text (step m c).reply) does.cut)
-  performed_comes (Err fault.Disk) came does by same dropped =
+      let closed = ends (step m c).next (begun m c (marks_of m)) (keeps.unanswered refl) in
+      sunk m c before now s t (λ quiet. closed.0) ended sink says.cut (closed.1 (subst IsClosing (sym sink) tt))
+  performed_comes (Err fault.Sink) came says keeps by (inr stop) dropped =
+      let closed = ends (step m c).next (begun m c (marks_of m)) (keeps.unanswered refl) in
+      stopped m c before now s t (λ quiet. closed.0) ended stop (cut_part before now (reply_text (step m c).reply) says.cut)
+  performed_comes (Err fault.Disk) came says keeps by same dropped =
       let kept = dropped (λ closing. subst (λ x. IsClosing (status_in x)) by closing) in
-      stopped m c before now s t (λ quiet. subst (λ x. IsSafe x (begun m c (marks_of m))) (sym kept.1) does.safe) ended (inl (kept.0 ∙ ap status_in by))
-      (cut_part before now (reply_text (step m c).reply) does.cut)
-  performed_comes (Err fault.Memory) came does by same dropped =
+      stopped m c before now s t (λ quiet. subst (λ x. IsSafe x (begun m c (marks_of m))) (sym kept.1) keeps.safe) ended (inl (kept.0 ∙ ap status_in by))
+      (cut_part before now (reply_text (step m c).reply) says.cut)
+  performed_comes (Err fault.Memory) came says keeps by same dropped =
       let kept = dropped (λ closing. subst (λ x. IsClosing (status_in x)) by closing) in
-      stopped m c before now s t (λ quiet. subst (λ x. IsSafe x (begun m c (marks_of m))) (sym kept.1) does.safe) ended (inr (kept.0 ∙ ap status_in by))
-      (cut_part before now (reply_text (step m c).reply) does.cut)
+      stopped m c before now s t (λ quiet. subst (λ x. IsSafe x (begun m c (marks_of m))) (sym kept.1) keeps.safe) ended (inr (kept.0 ∙ ap status_in by))
+      (cut_part before now (reply_text (step m c).reply) says.cut)

@@ -6,7 +6,7 @@ use Rattle.std.proofs.lemmas.List.{nil_from_length}
 use Rattle.std.proofs.lemmas.Result.{err_from_is_err_and}
 use Rattle.cache_base.specs.declared.limits.TheConstants.{BODY_MAX}
 use Rattle.cache_store.specs.Open.{Open, StandsFor}
-use Rattle.cache_store.specs.Performing.{Performs}
+use Rattle.cache_store.specs.Performing.{Keeps, Performs}
 use Rattle.cache_store.specs.declared.fault.Outcome.{Outcome}
 use Rattle.cache_store.specs.declared.fault.Outcome.TheVariants as outcome
 use Rattle.cache_store.specs.declared.fault.StoreFault.{StoreFault}
@@ -22,8 +22,8 @@ use Rattle.disk_model.specs.State.{State}
 
 -- what went out to a sink that held nothing is what it holds
 pub sends_of : (c : Command) (m : Machine) (w : Marks) (answer : Result Outcome StoreFault) (t : State) (o : Open) (before said : List ℕ) → before ≡ []
-    → Performs c m w answer t o (Some before) (Some said) → Sends c m w answer t o said
-sends_of c m w answer t o before said none p = record { safe = p.safe; next = p.next; outcome = p.outcome; replied = held answer p.printed }
+    → Performs c m answer t o (Some before) (Some said) → Keeps c m w answer t o → Sends c m w answer t o said
+sends_of c m w answer t o before said none p kept = record { safe = kept.safe; next = kept.next; outcome = p.outcome; replied = held answer p.printed }
   where
     held : (a : Result Outcome StoreFault) → OnOk a (said ≡ before ++ reply_text (step m c).reply) → OnOk a (said ≡ reply_text (step m c).reply)
     held (Ok r) is = is ∙ ap (λ l. l ++ reply_text (step m c).reply) none

@@ -18,7 +18,7 @@ use Rattle.cache_theory.specs.Text.{reply_text}
 use Rattle.cache_tool.specs.Ending.{status_in}
 use Rattle.cache_tool.specs.Put.{appends, broken_commands, is_done, put_commands}
 use Rattle.cache_tool.specs.Put.ArePut.{Broken, Whole}
-use Rattle.cache_tool.specs.PutWent.{AppendWent, AreDone, IsBroken, PutWent, Ran, Sends, SendsFor, Writes}
+use Rattle.cache_tool.specs.PutWent.{AnswersFor, AppendWent, AreDone, IsBroken, PutWent, Ran, Sends, SendsFor, Writes}
 use Rattle.cache_tool.specs.Sessions.{IsAnswer, IsClosing, last_reply, status_of}
 use Rattle.cache_tool.proofs.PutMachine.{bad_key_refused, close_is_plain, create_is_plain, create_writes, ran_one, sent_done}
 use Rattle.cache_tool.proofs.PutRuns.{all_begin_keep, last_of, last_stopped, ran_more, ran_then, until_all}
@@ -218,9 +218,8 @@ other_outcome outcome.Ok other = refl
 other_outcome outcome.Refused other = absurd (other refl)
 
 -- an entry is not made under a bad key
-pub not_made : (key : List ℕ) (s t : State) (old new : Open) (said : List ℕ) → IsOpen s old → SendsFor (Create 0 key) (Ok outcome.Ok) s t old new said → may_write key ≡ false → ⊥
-not_made key s t old new said is_open sends bad =
+pub not_made : (key : List ℕ) (s : State) (old : Open) → IsOpen s old → AnswersFor (Create 0 key) (Ok outcome.Ok) s old → may_write key ≡ false → ⊥
+not_made key s old is_open answers bad =
     let m = is_open.0 in
-    let sent = sends m is_open.1.0 is_open.1.1 in
-    let e : outcome.Ok ≡ outcome.Refused = sent.outcome ∙ bad_key_refused m key bad in
+    let e : outcome.Ok ≡ outcome.Refused = answers m is_open.1 ∙ bad_key_refused m key bad in
     absurd (cc)

@@ -22,6 +22,7 @@ use Rattle.cache_tool.specs.declared.script.Ended.{Ended}
 use Rattle.cache_tool.specs.declared.script.Ended.TheVariants as ended
 use Rattle.cache_tool.proofs.ScriptReads.{more_length, nothing_read, read_bad, read_front, read_on, read_taken, read_whole}
 use Rattle.disk_model.specs.State.{State}
+use Rattle.cache_store.proofs.StandsAs.{stands_as}
 
 -- the machine after some commands and one more
 pub after_more : (m : Machine) (cs : List Command) (c : Command) → after m (cs ++ c ∷ []) ≡ (step (after m cs) c).next
@@ -52,10 +53,11 @@ module _ (s : State) (old : Open) (before : Option (List ℕ)) where
       → WentFor (cs ++ c ∷ []) s u old new before now
   went_on t u mid new at now cs c o went performs m w is =
       let so_far = went m w is in
-      let step_ = performs (after m cs) (all_acked m cs w) so_far.stands in
+      let said = performs.answers (after m cs) (stands_as so_far.stands) in
+      let kept = performs.crash (after m cs) (all_acked m cs w) so_far.stands in
       record {
-        stands = subst (λ x. StandsFor u new (after m (cs ++ c ∷ [])) x) (sym (acked_more m cs c w)) (subst (λ x. StandsFor u new x (acked (after m cs) c (all_acked m cs w))) (sym (after_more m cs c)) step_.next);
-        out = subst (Appends before now) (sym (replies_text_more m cs c)) (Appends-trans before at now (replies_text m cs) (reply_text (step (after m cs) c).reply) so_far.out step_.printed);
+        stands = subst (λ x. StandsFor u new (after m (cs ++ c ∷ [])) x) (sym (acked_more m cs c w)) (subst (λ x. StandsFor u new x (acked (after m cs) c (all_acked m cs w))) (sym (after_more m cs c)) kept.next);
+        out = subst (Appends before now) (sym (replies_text_more m cs c)) (Appends-trans before at now (replies_text m cs) (reply_text (step (after m cs) c).reply) so_far.out said.printed);
       }
 
   -- it failed
@@ -63,13 +65,14 @@ module _ (s : State) (old : Open) (before : Option (List ℕ)) where
       → BrokeFor cs c f s u old new before now
   broke_off t u mid new at now cs c f went performs m w is =
       let so_far = went m w is in
-      let step_ = performs (after m cs) (all_acked m cs w) so_far.stands in
+      let said = performs.answers (after m cs) (stands_as so_far.stands) in
+      let kept = performs.crash (after m cs) (all_acked m cs w) so_far.stands in
       record {
-        safe = step_.safe;
-        cut = step_.cut.0;
-        short = step_.cut.1.0;
-        out = Appends-trans before at now (replies_text m cs) (take step_.cut.0 (reply_text (step (after m cs) c).reply)) so_far.out step_.cut.1.1;
-        effect = step_.effect;
+        safe = kept.safe;
+        cut = said.cut.0;
+        short = said.cut.1.0;
+        out = Appends-trans before at now (replies_text m cs) (take said.cut.0 (reply_text (step (after m cs) c).reply)) so_far.out said.cut.1.1;
+        effect = kept.unanswered;
       }
 
 -- ---- one turn

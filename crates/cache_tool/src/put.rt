@@ -11,7 +11,7 @@ ghost use Rattle.cache_store.specs.Saying.{IsPart};
 ghost use Rattle.cache_theory.specs.Given.{IsGiven};
 ghost use Rattle.cache_tool.specs.Ending.{PutsFor, status_in};
 ghost use Rattle.cache_tool.specs.PutReply.{said_in};
-ghost use Rattle.cache_tool.specs.PutWent.{AppendWentFor, PieceWentFor, PutWentFor, SendsFor};
+ghost use Rattle.cache_tool.specs.PutWent.{AnswersFor, AppendWentFor, PieceWentFor, PutWentFor, SendsFor};
 ghost use Rattle.cache_tool.specs.Sessions.{IsAnswer, IsClosing};
 ghost use Rattle.disk_model.specs.Calls.{StopsAtFault};
 ghost use Rattle.disk_model.specs.Sound.{IsQuiet};
@@ -41,6 +41,7 @@ fn send<D: Disk>(
     requires given { IsGiven (command_of c.now) }
     requires told { IsTrue D.tells → IsOpen (D.state disk.old) (open_of store.old) }
     ensures sends { IsTrue D.tells → SendsFor (command_of c.now) result (D.state disk.old) (D.state disk.new) (open_of store.old) (open_of store.new) (said_in said.new) }
+    ensures answers { IsTrue D.tells → AnswersFor (command_of c.now) result (D.state disk.old) (open_of store.old) }
     ensures open { OnOk result (IsTrue D.tells → IsOpen (D.state disk.new) (open_of store.new)) }
     ensures no_sink { result ≢ Err StoreFault.Sink }
     ensures went_on { OnOk result (IsTrue D.tells → (D.counts disk.new).failed ≡ (D.counts disk.old).failed) }

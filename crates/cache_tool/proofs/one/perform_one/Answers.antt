@@ -4,6 +4,7 @@ use Rattle.cache_theory.specs.Machine.{opened}
 use Rattle.cache_theory.specs.Marks.{marks_of}
 use Rattle.cache_tool.proofs.OneComes.{performed_comes, unopened_comes}
 use Rattle.cache_tool.proofs.one.perform_one.Goals as goal
+use Rattle.cache_store.proofs.StandsAs.{stands_as}
 
 pub returns-in-Err-clause-comes : goal.returns-in-Err-clause-comes
 returns-in-Err-clause-comes g c = λ tells shelf rest is.
@@ -14,5 +15,6 @@ pub returns-clause-comes : goal.returns-clause-comes
 returns-clause-comes g c = λ tells shelf rest is.
     let m = opened c.args.now shelf rest in
     let stands = c.in-Ok.ensures.opens tells shelf rest is in
-    performed_comes m _ _ _ _ _ _ _ _ (c.end.ensures.ends tells) c.command.result c.map-came.result (c.command.ensures.performs tells m (marks_of m) stands) c.map-came.ensures.cases
+    let performs = c.command.ensures.performs tells in
+    performed_comes m _ _ _ _ _ _ _ _ (c.end.ensures.ends tells) c.command.result c.map-came.result (performs.answers m (stands_as stands)) (performs.crash m (marks_of m) stands) c.map-came.ensures.cases
     c.end.ensures.same (λ not. let kept = c.end.ensures.dropped not in (kept.0, ap (λ d. g.D.Disk.state d) kept.1))

@@ -40,8 +40,8 @@ returns-in_err-appended-clause-went g c = λ told some m w stands.
     (c.in_err-appended.ensures.went told some (step m (Create 0 c.args.key.now)).next (begun m (Create 0 c.args.key.now) w) made.stands made.writes))
 
 pub returns-in_err-appended-clause-unread : goal.returns-in_err-appended-clause-unread
-returns-in_err-appended-clause-unread g c = λ told bad. absurd (not_made c.args.key.now (g.D.Disk.state c.args.disk.now) (g.D.Disk.state c.send.new.disk) (open_of c.args.store.now) (open_of c.send.new.store)
-    (said_in c.send.new.said) (c.requires.told told) ((rw (other_outcome c.in_ok-send.field-0 c.in_default.not-Refused) at c.in_ok-send.ensures.sends) told) bad)
+returns-in_err-appended-clause-unread g c = λ told bad. absurd (not_made c.args.key.now (g.D.Disk.state c.args.disk.now) (open_of c.args.store.now)
+    (c.requires.told told) ((rw (other_outcome c.in_ok-send.field-0 c.in_default.not-Refused) at c.in_ok-send.ensures.answers) told) bad)
 
 pub returns-in_err-outcome-clause-went : goal.returns-in_err-outcome-clause-went
 returns-in_err-outcome-clause-went g c = λ told some m w stands.
@@ -57,8 +57,8 @@ returns-in_err-outcome-clause-went g c = λ told some m w stands.
     c.in_err-outcome.field-0.0 (λ e. c.in_err-outcome.ensures.no_sink (ap (λ f. Err f) e)) (c.in_err-outcome.ensures.sends told))
 
 pub returns-in_err-outcome-clause-unread : goal.returns-in_err-outcome-clause-unread
-returns-in_err-outcome-clause-unread g c = λ told bad. absurd (not_made c.args.key.now (g.D.Disk.state c.args.disk.now) (g.D.Disk.state c.send.new.disk) (open_of c.args.store.now) (open_of c.send.new.store)
-    (said_in c.send.new.said) (c.requires.told told) ((rw (other_outcome c.in_ok-send.field-0 c.in_default.not-Refused) at c.in_ok-send.ensures.sends) told) bad)
+returns-in_err-outcome-clause-unread g c = λ told bad. absurd (not_made c.args.key.now (g.D.Disk.state c.args.disk.now) (open_of c.args.store.now)
+    (c.requires.told told) ((rw (other_outcome c.in_ok-send.field-0 c.in_default.not-Refused) at c.in_ok-send.ensures.answers) told) bad)
 
 pub returns-in-Done-clause-went : goal.returns-in-Done-clause-went
 returns-in-Done-clause-went g c = λ told some m w stands.
@@ -73,8 +73,8 @@ returns-in-Done-clause-went g c = λ told some m w stands.
     c.in_ok-outcome.outcome (c.in_ok-outcome.ensures.sends told))
 
 pub returns-in-Done-clause-unread : goal.returns-in-Done-clause-unread
-returns-in-Done-clause-unread g c = λ told bad. absurd (not_made c.args.key.now (g.D.Disk.state c.args.disk.now) (g.D.Disk.state c.send.new.disk) (open_of c.args.store.now) (open_of c.send.new.store)
-    (said_in c.send.new.said) (c.requires.told told) ((rw (other_outcome c.in_ok-send.field-0 c.in_default.not-Refused) at c.in_ok-send.ensures.sends) told) bad)
+returns-in-Done-clause-unread g c = λ told bad. absurd (not_made c.args.key.now (g.D.Disk.state c.args.disk.now) (open_of c.args.store.now)
+    (c.requires.told told) ((rw (other_outcome c.in_ok-send.field-0 c.in_default.not-Refused) at c.in_ok-send.ensures.answers) told) bad)
 
 pub returns : goal.returns
 returns g c = record {
@@ -87,8 +87,8 @@ returns g c = record {
       (c.in_ok-appended.ensures.went told some (step m (Create 0 c.args.key.now)).next (begun m (Create 0 c.args.key.now) w) made.stands made.writes);
   only = search rules;
   read = search rules;
-  unread = λ told bad. absurd (not_made c.args.key.now (g.D.Disk.state c.args.disk.now) (g.D.Disk.state c.send.new.disk) (open_of c.args.store.now) (open_of c.send.new.store)
-      (said_in c.send.new.said) (c.requires.told told) ((rw (other_outcome c.in_ok-send.field-0 c.in_default.not-Refused) at c.in_ok-send.ensures.sends) told) bad);
+  unread = λ told bad. absurd (not_made c.args.key.now (g.D.Disk.state c.args.disk.now) (open_of c.args.store.now)
+      (c.requires.told told) ((rw (other_outcome c.in_ok-send.field-0 c.in_default.not-Refused) at c.in_ok-send.ensures.answers) told) bad);
   source = search rules;
   calm = search rules;
   «open» = search rules;

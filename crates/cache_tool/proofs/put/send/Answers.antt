@@ -1,7 +1,13 @@
+use Rattle.cache_store.proofs.StandsAs.{stands_as}
 use Rattle.cache_tool.specs.PutReply.{said_in}
 use Rattle.cache_tool.proofs.PutSent.{sends_of}
 use Rattle.cache_tool.proofs.put.send.Goals as goal
 
 pub returns-clause-sends : goal.returns-clause-sends
 returns-clause-sends g c =
-    λ told m w stands. sends_of _ m w _ _ _ (said_in c.clear.new.self) (said_in c.command.new.sink) c.clear.ensures (c.command.ensures.performs told m w stands)
+    λ told m w stands.
+    let performs = c.command.ensures.performs told in
+    sends_of _ m w _ _ _ (said_in c.clear.new.self) (said_in c.command.new.sink) c.clear.ensures (performs.answers m (stands_as stands)) (performs.crash m w stands)
+
+pub returns-clause-answers : goal.returns-clause-answers
+returns-clause-answers g c = λ told m stands. ((c.command.ensures.performs told).answers m stands).outcome
