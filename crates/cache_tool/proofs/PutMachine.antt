@@ -121,16 +121,8 @@ made_by m key =
       body_is = ap (λ (x : Object). x.version.body) same;
     }
 
-fails : (m : Machine) (key : List ℕ) → may_write key ≡ false → first_failing (checks m (Create 0 key)) ≢ None
-unfolding checks
-fails m key bad none = let h = all_hold (checks m (Create 0 key)) none in let good = h.1.0 in absurd (cc)
-
 pub create_writes : (m : Machine) (key : List ℕ) → is_done (step m (Create 0 key)).reply ≡ true → Writes (step m (Create 0 key)).next []
 create_writes m key done = subst (λ n. Writes n []) (sym (does m (Create 0 key) done)) (made_by m key)
-
--- a key that may not be written is refused
-pub bad_key_refused : (m : Machine) (key : List ℕ) → may_write key ≡ false → outcome_of (step m (Create 0 key)).reply ≡ outcome.Refused
-bad_key_refused m key bad = not_done m (Create 0 key) (fails m key bad)
 
 -- A piece is appended.
 

@@ -22,6 +22,7 @@ use Rattle.cache_tool.specs.declared.piece.Ended.TheVariants as ended
 use Rattle.cache_tool.specs.Put.{Faults, appends, faults}
 use Rattle.cache_tool.specs.PutWent.{AppendWent, AreDone, BodyOf, CameBy, IsBroken, IsWhole, PieceWentFor, Ran, SoFar, Stood, Writes, piece_commands}
 use Rattle.cache_tool.specs.Sessions.{status_of}
+use Rattle.cache_tool.specs.Told.{HoldsRefusal, IsRefusalLine, TakesAtMost, TakesTooMuch}
 use Rattle.cache_tool.proofs.PutPieces.{leads_more, leads_step}
 use Rattle.cache_tool.proofs.PutRuns.{begun-append, done-append, ran_more, ran_same, ran_then, until_all}
 use Rattle.disk_model.specs.State.{State}
@@ -180,3 +181,29 @@ pub filled_ahead : {left mid : Option (List ℕ)} {tells : Type 0} {room : ℕ} 
 filled_ahead {left} {mid} so now before between later how count bytes within size some given full end same cause =
     ahead left mid now (faults before later) how so.body (take count bytes) some so.read given (λ is. filled_full count bytes within size (full is)) end
     (λ is. subst (λ n. Rose n later) same (cause.rose is)) (λ other. cause.kept other ∙ same)
+
+-- How much of the source was taken with one piece more.
+
+module _ {left mid : Option (List ℕ)} {tells : Type 0} {room : ℕ} {s t : State} {old new : Open} (so : SoFar left mid tells room s t old new)
+    (now : Option (List ℕ)) (piece : List ℕ) (given : Consumes mid now piece) where
+  pub takes_at_most : length piece ≤ PIECE_MAX → TakesAtMost (BODY_MAX + PIECE_MAX) left now
+  takes_at_most fits =
+      let is = so.room_is in
+      let joined = length-append so.body piece in
+      (so.body ++ piece, (Consumes-trans left mid now so.body piece so.read given, omega (arith, is, joined, fits)))
+
+  pub takes_too_much : room < length piece → TakesTooMuch left now
+  takes_too_much over =
+      let is = so.room_is in
+      let joined = length-append so.body piece in
+      (so.body ++ piece, (Consumes-trans left mid now so.body piece so.read given, omega (arith, is, joined, over)))
+
+  -- a piece that was refused was refused by the disk's command, or was too long
+  pub holds_refusal : (said : List ℕ) → IsRefusalLine said ⊎ (room < length piece) → HoldsRefusal said left now
+  holds_refusal said (inl line) = inl line
+  holds_refusal said (inr over) = inr (takes_too_much over)
+
+-- a status by an outcome is `No` for a refusal alone
+pub no_is_refused : (o : Outcome) (came : Status) → came ≡ status_of o → ◌≡◌ {A = Result Status StoreFault} (Ok came) (Ok status.No) → o ≡ outcome.Refused
+no_is_refused outcome.Ok came is said = absurd (let one : came ≡ status.No = cc in let never : status.Done ≡ status.No = sym is ∙ one in cc)
+no_is_refused outcome.Refused came is said = refl

@@ -4,7 +4,7 @@ use Rattle.std.specs.Prelude.{Err, IsSome, Ok, Option, Result}
 use Rattle.cache_base.specs.declared.status.Status.{Status}
 use Rattle.cache_base.specs.declared.status.Status.TheVariants as status
 use Rattle.cache_store.specs.Answering.{outcome_of}
-use Rattle.cache_store.specs.Open.{IsOpen, Open, StandsFor}
+use Rattle.cache_store.specs.Open.{Open, StandsFor}
 use Rattle.cache_store.specs.declared.fault.Outcome.{Outcome}
 use Rattle.cache_store.specs.declared.fault.Outcome.TheVariants as outcome
 use Rattle.cache_store.specs.declared.fault.StoreFault.{StoreFault}
@@ -18,12 +18,11 @@ use Rattle.cache_theory.specs.Text.{reply_text}
 use Rattle.cache_tool.specs.Ending.{status_in}
 use Rattle.cache_tool.specs.Put.{Faults, appends, broken_commands, is_done, put_commands}
 use Rattle.cache_tool.specs.Put.ArePut.{Broken, Whole}
-use Rattle.cache_tool.specs.PutWent.{AnswersFor, AppendWent, AreDone, IsBroken, IsWhole, PutWent, Ran, Sends, SendsFor, Writes}
+use Rattle.cache_tool.specs.PutWent.{AppendWent, AreDone, IsBroken, IsWhole, PutWent, Ran, Sends, SendsFor, Writes}
 use Rattle.cache_tool.specs.Sessions.{IsAnswer, IsClosing, last_reply, status_of}
-use Rattle.cache_tool.proofs.PutMachine.{bad_key_refused, close_is_plain, create_is_plain, create_writes, ran_one, sent_done}
+use Rattle.cache_tool.proofs.PutMachine.{close_is_plain, create_is_plain, create_writes, ran_one, sent_done}
 use Rattle.cache_tool.proofs.PutRuns.{all_begin_keep, last_of, last_stopped, ran_more, ran_then, until_all}
 use Rattle.disk_model.specs.State.{State}
-use Rattle.entry_key.specs.Writing.{may_write}
 
 -- a fault is no answer, and but for that of a sink the store is not closed
 pub fault_is_none : (f : StoreFault) → ¬ (IsAnswer (status_in (Err f)))
@@ -216,10 +215,3 @@ module _ (m : Machine) (w : Marks) (key : List ℕ) (left now : Option (List ℕ
 pub other_outcome : (r : Outcome) → r ≢ outcome.Refused → r ≡ outcome.Ok
 other_outcome outcome.Ok other = refl
 other_outcome outcome.Refused other = absurd (other refl)
-
--- an entry is not made under a bad key
-pub not_made : (key : List ℕ) (s : State) (old : Open) → IsOpen s old → AnswersFor (Create 0 key) (Ok outcome.Ok) s old → may_write key ≡ false → ⊥
-not_made key s old is_open answers bad =
-    let m = is_open.0 in
-    let e : outcome.Ok ≡ outcome.Refused = answers m is_open.1 ∙ bad_key_refused m key bad in
-    absurd (cc)

@@ -7,4 +7,5 @@ pub mod PutWent
 pub mod Script
 pub mod ScriptWent
 pub mod Sessions
+pub mod Told
 pub mod Words

@@ -6,7 +6,7 @@ use Rattle.cache_base.specs.declared.limits.TheConstants.{BODY_MAX}
 use Rattle.cache_base.specs.declared.status.Status.{Status}
 use Rattle.cache_base.specs.declared.status.Status.TheVariants as status
 use Rattle.cache_store.specs.Answering.{outcome_of}
-use Rattle.cache_store.specs.Open.{Open, StandsAs, StandsFor}
+use Rattle.cache_store.specs.Open.{Open, StandsFor}
 use Rattle.cache_store.specs.declared.fault.Outcome.{Outcome}
 use Rattle.cache_store.specs.declared.fault.Outcome.TheVariants as outcome
 use Rattle.cache_store.specs.declared.fault.StoreFault.{StoreFault}
@@ -32,10 +32,6 @@ pub record Sends (c : Command) (m : Machine) (w : Marks) (answer : Result Outcom
 
 abbrev pub SendsFor : Command → Result Outcome StoreFault → State → State → Open → Open → List ℕ → Type 0
 SendsFor c answer s t old new said = (m : Machine) (w : Marks) → StandsFor s old m w → Sends c m w answer t new said
-
--- and for a state of the machine alone
-abbrev pub AnswersFor : Command → Result Outcome StoreFault → State → Open → Type 0
-AnswersFor c answer s old = (m : Machine) → StandsAs s old m → IfOk answer (λ r. r ≡ outcome_of (step m c).reply)
 
 -- Commands one after the other.
 

@@ -1,8 +1,9 @@
 //! One command, which the words give.
 
-ghost use Rattle.std.specs.Prelude.{◌≡◌, ◌≢◌, ◌⊎◌, IsTrue};
+ghost use Rattle.std.specs.Prelude.{◌≡◌, ◌≢◌, ◌⊎◌, true, IsTrue};
 ghost use Rattle.cache_base.specs.Causes.{HasCause, Rose};
 ghost use Rattle.cache_script.specs.Command.{command_of};
+ghost use Rattle.cache_store.specs.Printed.{PrintsOk, PrintsRefusal, is_plain};
 ghost use Rattle.cache_theory.specs.Given.{IsGiven};
 ghost use Rattle.cache_tool.specs.Ending.{ComesFor};
 ghost use Rattle.cache_tool.specs.Sessions.{IsAnswer, IsClosing};
@@ -28,6 +29,8 @@ pub(crate) fn perform_one<D: Disk, K: Sink>(
     requires given { IsGiven (command_of command.now) }
     ensures comes { IsTrue D.tells → ComesFor now (command_of command.now) result (K.taken sink.old) (K.taken sink.new) (D.state disk.old) (D.state disk.new) }
     ensures others { IsAnswer result ⊎ ((result ≡ Status.Sink) ⊎ ((result ≡ Status.Disk) ⊎ (result ≡ Status.Memory))) }
+    ensures done { result ≡ Status.Done → is_plain (command_of command.now) ≡ true → PrintsOk (K.taken sink.old) (K.taken sink.new) }
+    ensures refused { result ≡ Status.No → PrintsRefusal (K.taken sink.old) (K.taken sink.new) }
     ensures quiet { IsClosing result → IsTrue D.tells → IsQuiet (D.state disk.new) }
     ensures stops { IsTrue D.tells → StopsAtFault (D.counts disk.old) (D.counts disk.new) }
     ensures sink { result ≡ Status.Sink → Rose (K.faults sink.old) (K.faults sink.new) }

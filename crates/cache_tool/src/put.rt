@@ -1,19 +1,21 @@
 //! The verb `put`: an entry is made of its key and of the bytes of the source.
 
-ghost use Rattle.std.specs.Prelude.{◌≡◌, ◌≢◌, ◌≤◌, ◌⊎◌, [], length, false, Err, Ok, IfOk, IsErrOf, IsTrue, OnOk, vec_len};
+ghost use Rattle.std.specs.Prelude.{◌≡◌, ◌≢◌, ◌≤◌, ◌<◌, ◌+◌, ◌⊎◌, [], length, false, Err, Ok, Some, IfOk, IsErrOf, IsTrue, OnOk, vec_len};
 ghost use Rattle.std.specs.Io.KnownBytes.{Appends, IsAtEnd};
 ghost use Rattle.cache_base.specs.Causes.{HasCause, Rose};
-ghost use Rattle.cache_base.specs.declared.limits.TheConstants.{PIECE_MAX as PIECE_LEN};
+ghost use Rattle.cache_base.specs.declared.limits.TheConstants.{BODY_MAX as BODY_LEN, PIECE_MAX as PIECE_LEN};
 ghost use Rattle.cache_script.specs.Command.{command_of};
 ghost use Rattle.cache_store.specs.Open.{IsOpen, open_of};
+ghost use Rattle.cache_store.specs.Printed.{HasBadKey, Prints, PrintsOk};
 ghost use Rattle.cache_store.specs.Said.{IsCut};
 ghost use Rattle.cache_store.specs.Saying.{IsPart};
 ghost use Rattle.cache_theory.specs.Given.{IsGiven};
 ghost use Rattle.cache_tool.specs.Ending.{PutsFor, status_in};
 ghost use Rattle.cache_tool.specs.Put.{faults};
 ghost use Rattle.cache_tool.specs.PutReply.{said_in};
-ghost use Rattle.cache_tool.specs.PutWent.{AnswersFor, AppendWentFor, PieceWentFor, PutWentFor, SendsFor};
+ghost use Rattle.cache_tool.specs.PutWent.{AppendWentFor, PieceWentFor, PutWentFor, SendsFor};
 ghost use Rattle.cache_tool.specs.Sessions.{IsAnswer, IsClosing};
+ghost use Rattle.cache_tool.specs.Told.{HoldsRefusal, IsRefusalLine, PutRefuses, TakesAtMost, ok_line};
 ghost use Rattle.disk_model.specs.Calls.{StopsAtFault};
 ghost use Rattle.disk_model.specs.Sound.{IsQuiet};
 ghost use Rattle.entry_key.specs.Writing.{may_write};
@@ -42,7 +44,8 @@ fn send<D: Disk>(
     requires given { IsGiven (command_of c.now) }
     requires told { IsTrue D.tells → IsOpen (D.state disk.old) (open_of store.old) }
     ensures sends { IsTrue D.tells → SendsFor (command_of c.now) result (D.state disk.old) (D.state disk.new) (open_of store.old) (open_of store.new) (said_in said.new) }
-    ensures answers { IsTrue D.tells → AnswersFor (command_of c.now) result (D.state disk.old) (open_of store.old) }
+    ensures prints { IfOk result (λ o. Prints (command_of c.now) o (Some []) (Some (said_in said.new))) }
+    ensures bad_key { HasBadKey (command_of c.now) → result ≢ Ok Outcome.Ok }
     ensures open { OnOk result (IsTrue D.tells → IsOpen (D.state disk.new) (open_of store.new)) }
     ensures no_sink { result ≢ Err StoreFault.Sink }
     ensures went_on { OnOk result (IsTrue D.tells → (D.counts disk.new).failed ≡ (D.counts disk.old).failed) }
@@ -66,6 +69,7 @@ fn append_piece<D: Disk>(
     requires told { IsTrue D.tells → IsOpen (D.state disk.old) (open_of store.old) }
     ensures went { IsTrue D.tells → PieceWentFor piece.now room result (D.state disk.old) (D.state disk.new) (open_of store.old) (open_of store.new) (said_in said.new) }
     ensures fits { result ≡ Ok Outcome.Ok → length piece.now ≤ room }
+    ensures refused { result ≡ Ok Outcome.Refused → IsRefusalLine (said_in said.new) ⊎ (room < length piece.now) }
     ensures open { OnOk result (IsTrue D.tells → IsOpen (D.state disk.new) (open_of store.new)) }
     ensures no_sink { result ≢ Err StoreFault.Sink }
     ensures went_on { OnOk result (IsTrue D.tells → (D.counts disk.new).failed ≡ (D.counts disk.old).failed) }
@@ -110,6 +114,8 @@ fn append_all<D: Disk, S: Source>(
     ensures read { result ≡ Ok Status.Done → IsAtEnd (S.left source.new) }
     ensures source { result ≡ Ok Status.Source → Rose (S.faults source.old) (S.faults source.new) }
     ensures calm { IfOk result (λ s. IsAnswer s → S.faults source.new ≡ S.faults source.old) }
+    ensures taken { TakesAtMost (BODY_LEN + PIECE_LEN) (S.left source.old) (S.left source.new) }
+    ensures refused { result ≡ Ok Status.No → HoldsRefusal (said_in said.new) (S.left source.old) (S.left source.new) }
     ensures open { OnOk result (IsTrue D.tells → IsOpen (D.state disk.new) (open_of store.new)) }
     ensures no_sink { result ≢ Err StoreFault.Sink }
     ensures went_on { OnOk result (IsTrue D.tells → (D.counts disk.new).failed ≡ (D.counts disk.old).failed) }
@@ -146,9 +152,12 @@ fn perform_put<D: Disk, S: Source>(
         (D.state disk.old) (D.state disk.new) (open_of store.old) (open_of store.new) (said_in said.new) }
     ensures only { IfOk result (λ s. IsAnswer s ⊎ (s ≡ Status.Source)) }
     ensures read { result ≡ Ok Status.Done → IsAtEnd (S.left source.new) }
-    ensures unread { IsTrue D.tells → may_write key.now ≡ false → source.new ≡ source.old }
+    ensures unread { may_write key.now ≡ false → source.new ≡ source.old }
     ensures source { result ≡ Ok Status.Source → Rose (S.faults source.old) (S.faults source.new) }
     ensures calm { IfOk result (λ s. IsAnswer s → S.faults source.new ≡ S.faults source.old) }
+    ensures taken { TakesAtMost (BODY_LEN + PIECE_LEN) (S.left source.old) (S.left source.new) }
+    ensures done { result ≡ Ok Status.Done → said_in said.new ≡ ok_line }
+    ensures refused { result ≡ Ok Status.No → HoldsRefusal (said_in said.new) (S.left source.old) (S.left source.new) }
     ensures open { OnOk result (IsTrue D.tells → IsOpen (D.state disk.new) (open_of store.new)) }
     ensures no_sink { result ≢ Err StoreFault.Sink }
     ensures went_on { OnOk result (IsTrue D.tells → (D.counts disk.new).failed ≡ (D.counts disk.old).failed) }
@@ -198,7 +207,10 @@ pub(crate) fn put<D: Disk, S: Source, K: Sink>(
     ensures puts { IsTrue D.tells → PutsFor now key.now result (S.left source.old) (S.left source.new) (faults (S.faults source.old) (S.faults source.new))
         (K.taken sink.old) (K.taken sink.new) (D.state disk.old) (D.state disk.new) }
     ensures read { result ≡ Status.Done → IsAtEnd (S.left source.new) }
-    ensures unread { IsTrue D.tells → may_write key.now ≡ false → source.new ≡ source.old }
+    ensures unread { may_write key.now ≡ false → source.new ≡ source.old }
+    ensures taken { TakesAtMost (BODY_LEN + PIECE_LEN) (S.left source.old) (S.left source.new) }
+    ensures done { result ≡ Status.Done → PrintsOk (K.taken sink.old) (K.taken sink.new) }
+    ensures refused { result ≡ Status.No → PutRefuses (K.taken sink.old) (K.taken sink.new) (S.left source.old) (S.left source.new) }
     ensures others { (result ≢ Status.Words) × (result ≢ Status.Script) }
     ensures quiet { IsClosing result → IsTrue D.tells → IsQuiet (D.state disk.new) }
     ensures stops { IsTrue D.tells → StopsAtFault (D.counts disk.old) (D.counts disk.new) }

@@ -1,12 +1,15 @@
 //! What the program does, over any disk, source and sink.
 
-ghost use Rattle.std.specs.Prelude.{◌≡◌, ◌≢◌, ◌↔◌, ◌⊎◌, false, None, IsTrue, IsSome, IsNone};
+ghost use Rattle.std.specs.Prelude.{◌≡◌, ◌≢◌, ◌↔◌, ◌⊎◌, ◌+◌, false, true, None, IsTrue, IsSome, IsNone};
 ghost use Rattle.std.specs.Io.KnownBytes.{IsAtEnd};
 ghost use Rattle.cache_base.specs.Causes.{Rose};
+ghost use Rattle.cache_base.specs.declared.limits.TheConstants.{BODY_MAX, PIECE_MAX};
+ghost use Rattle.cache_store.specs.Printed.{PrintsOk, PrintsRefusal, is_plain};
 ghost use Rattle.cache_tool.specs.Ending.{ComesFor, PutsFor, RunsFor};
 ghost use Rattle.cache_tool.specs.Put.{faults};
 ghost use Rattle.cache_tool.specs.Script.{HasBadCommand, HasScript, IsScript};
 ghost use Rattle.cache_tool.specs.Sessions.{IsAnswer, IsClosing};
+ghost use Rattle.cache_tool.specs.Told.{PutRefuses, TakesAtMost};
 ghost use Rattle.cache_tool.specs.Words.{WhenOne, WhenPut, WhenRun, asked_in};
 ghost use Rattle.disk_model.specs.Calls.{StopsAtFault};
 ghost use Rattle.disk_model.specs.Sound.{IsQuiet};
@@ -50,8 +53,16 @@ pub fn run<D: Disk, S: Source, K: Sink>(
     ensures read { result ≡ Status.Done → WhenRun (asked_in words.now) (λ now. IsAtEnd (S.left source.new)) × WhenPut (asked_in words.now) (λ now key. IsAtEnd (S.left source.new)) }
     ensures spelled { result ≡ Status.Done → WhenRun (asked_in words.now) (λ now. HasScript (S.left source.old)) }
     ensures bad { result ≡ Status.Script → HasBadCommand (S.left source.old) }
-    ensures unread { WhenPut (asked_in words.now) (λ now key. IsTrue D.tells → may_write key ≡ false → source.new ≡ source.old) }
+    ensures unread { WhenPut (asked_in words.now) (λ now key. may_write key ≡ false → source.new ≡ source.old) }
+    ensures taken { WhenPut (asked_in words.now) (λ now key. TakesAtMost (BODY_MAX + PIECE_MAX) (S.left source.old) (S.left source.new)) }
     ensures ignored { WhenOne (asked_in words.now) (λ now c. source.new ≡ source.old) }
+
+    // On any disk, also on one that tells nothing, the status is that of the printed reply: `ok` with `Done`, for a `put`
+    // and for a command whose reply is `ok` or a refusal; and a refusal with `No`, but for a `put` of too long a body.
+    ensures put_done { result ≡ Status.Done → WhenPut (asked_in words.now) (λ now key. PrintsOk (K.taken sink.old) (K.taken sink.new)) }
+    ensures put_no { result ≡ Status.No → WhenPut (asked_in words.now) (λ now key. PutRefuses (K.taken sink.old) (K.taken sink.new) (S.left source.old) (S.left source.new)) }
+    ensures one_done { result ≡ Status.Done → WhenOne (asked_in words.now) (λ now c. is_plain c ≡ true → PrintsOk (K.taken sink.old) (K.taken sink.new)) }
+    ensures one_no { result ≡ Status.No → WhenOne (asked_in words.now) (λ now c. PrintsRefusal (K.taken sink.old) (K.taken sink.new)) }
 
     // Where the store was closed nothing is pending.
     ensures quiet { IsClosing result → IsTrue D.tells → IsQuiet (D.state disk.new) }

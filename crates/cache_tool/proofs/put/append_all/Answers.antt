@@ -5,7 +5,7 @@ use Rattle.cache_base.specs.declared.limits.TheConstants.{PIECE_MAX}
 use Rattle.cache_store.specs.Open.{open_of}
 use Rattle.cache_tool.specs.PutReply.{said_in}
 use Rattle.cache_tool.proofs.PutSent.{handed_on}
-use Rattle.cache_tool.proofs.PutSteps.{filled_ahead, filled_fits, filled_full, filled_length, last_broken, last_ended, last_failed, last_refused, so_far_more, so_far_none}
+use Rattle.cache_tool.proofs.PutSteps.{filled_ahead, filled_fits, filled_full, filled_length, last_broken, last_ended, last_failed, last_refused, holds_refusal, no_is_refused, so_far_more, so_far_none, takes_at_most}
 use Rattle.cache_tool.proofs.put.append_all.Goals as goal
 
 pub pieces-init : goal.pieces-init
@@ -85,3 +85,41 @@ pieces-preserved g c =
       sound = search rules;
       went_on = search rules;
     }
+
+pub returns-in_err-outcome-clause-taken : goal.returns-in_err-outcome-clause-taken
+returns-in_err-outcome-clause-taken g c =
+    let size : length c.fill-filled.new.piece ≡ PIECE_MAX = omega (arith, c.fill-filled.auto.piece, c.pieces.invariant.long) in
+    let filled = c.fill-filled.ensures in
+    takes_at_most c.pieces.invariant.so_far (g.S.Source.left c.fill-filled.new.source) (take c.fill-filled.result.count c.fill-filled.new.piece) filled.bytes
+    (filled_fits c.fill-filled.result.count c.fill-filled.new.piece filled.within size)
+
+pub returns-in-Failed-clause-taken : goal.returns-in-Failed-clause-taken
+returns-in-Failed-clause-taken g c =
+    let size : length c.fill-filled.new.piece ≡ PIECE_MAX = omega (arith, c.fill-filled.auto.piece, c.pieces.invariant.long) in
+    let filled = c.fill-filled.ensures in
+    takes_at_most c.pieces.invariant.so_far (g.S.Source.left c.fill-filled.new.source) (take c.fill-filled.result.count c.fill-filled.new.piece) filled.bytes
+    (filled_fits c.fill-filled.result.count c.fill-filled.new.piece filled.within size)
+
+pub returns-in-End-clause-taken : goal.returns-in-End-clause-taken
+returns-in-End-clause-taken g c =
+    let size : length c.fill-filled.new.piece ≡ PIECE_MAX = omega (arith, c.fill-filled.auto.piece, c.pieces.invariant.long) in
+    let filled = c.fill-filled.ensures in
+    takes_at_most c.pieces.invariant.so_far (g.S.Source.left c.fill-filled.new.source) (take c.fill-filled.result.count c.fill-filled.new.piece) filled.bytes
+    (filled_fits c.fill-filled.result.count c.fill-filled.new.piece filled.within size)
+
+pub returns-in-Refused-clause-taken : goal.returns-in-Refused-clause-taken
+returns-in-Refused-clause-taken g c =
+    let size : length c.fill-filled.new.piece ≡ PIECE_MAX = omega (arith, c.fill-filled.auto.piece, c.pieces.invariant.long) in
+    let filled = c.fill-filled.ensures in
+    takes_at_most c.pieces.invariant.so_far (g.S.Source.left c.fill-filled.new.source) (take c.fill-filled.result.count c.fill-filled.new.piece) filled.bytes
+    (filled_fits c.fill-filled.result.count c.fill-filled.new.piece filled.within size)
+
+pub returns-in-End-clause-refused : goal.returns-in-End-clause-refused
+returns-in-End-clause-refused g c = λ no.
+    holds_refusal c.pieces.invariant.so_far (g.S.Source.left c.fill-filled.new.source) (take c.fill-filled.result.count c.fill-filled.new.piece) c.fill-filled.ensures.bytes
+    (said_in c.append_piece.new.said) (c.in_ok-outcome.ensures.refused (ap (λ o. Ok o) (no_is_refused c.in_ok-outcome.outcome c.status_of.result c.status_of.ensures no)))
+
+pub returns-in-Refused-clause-refused : goal.returns-in-Refused-clause-refused
+returns-in-Refused-clause-refused g c = λ no.
+    holds_refusal c.pieces.invariant.so_far (g.S.Source.left c.fill-filled.new.source) (take c.fill-filled.result.count c.fill-filled.new.piece) c.fill-filled.ensures.bytes
+    (said_in c.append_piece.new.said) (c.in_ok-outcome.ensures.refused (ap (λ o. Ok o) c.in-Refused.is))

@@ -1,7 +1,10 @@
-use Rattle.std.proofs.Common.{refl, ap, rules, arith}
-use Rattle.std.specs.Prelude.{Err}
+use Rattle.std.proofs.Common.{◌≡◌, Result, refl, ap, rules, arith}
+use Rattle.std.specs.Prelude.{Err, Ok}
+use Rattle.cache_base.specs.declared.status.Status.{Status}
+use Rattle.cache_base.specs.declared.status.Status.TheVariants as status
 use Rattle.cache_base.proofs.ByteLaws.{all_below}
 use Rattle.cache_store.specs.Open.{open_of}
+use Rattle.cache_store.specs.declared.fault.StoreFault.{StoreFault}
 use Rattle.cache_store.specs.declared.fault.StoreFault.TheVariants as fault
 use Rattle.cache_theory.specs.Command.Command.{Create}
 use Rattle.cache_theory.specs.Marks.{begun}
@@ -9,7 +12,7 @@ use Rattle.cache_theory.specs.Step.{step}
 use Rattle.cache_tool.specs.Put.{faults}
 use Rattle.cache_tool.specs.PutReply.{said_in}
 use Rattle.cache_tool.proofs.PutSent.{handed_on}
-use Rattle.cache_tool.proofs.PutWhole.{appended_failed, appended_other, close_failed, close_went, create_failed, create_refused, created, not_made, nothing_went, other_outcome}
+use Rattle.cache_tool.proofs.PutWhole.{appended_failed, appended_other, close_failed, close_went, create_failed, create_refused, created, nothing_went, other_outcome}
 use Rattle.cache_tool.proofs.put.perform_put.Goals as goal
 
 pub returns-in_err-piece-clause-went : goal.returns-in_err-piece-clause-went
@@ -40,8 +43,7 @@ returns-in_err-appended-clause-went g c = λ told some m w stands.
     (c.in_err-appended.ensures.went told some (step m (Create 0 c.args.key.now)).next (begun m (Create 0 c.args.key.now) w) made.stands made.writes))
 
 pub returns-in_err-appended-clause-unread : goal.returns-in_err-appended-clause-unread
-returns-in_err-appended-clause-unread g c = λ told bad. absurd (not_made c.args.key.now (g.D.Disk.state c.args.disk.now) (open_of c.args.store.now)
-    (c.requires.told told) ((rw (other_outcome c.in_ok-send.field-0 c.in_default.not-Refused) at c.in_ok-send.ensures.answers) told) bad)
+returns-in_err-appended-clause-unread g c = λ bad. absurd (c.in_ok-send.ensures.bad_key bad (ap (λ o. Ok o) (other_outcome c.in_ok-send.field-0 c.in_default.not-Refused)))
 
 pub returns-in_err-outcome-clause-went : goal.returns-in_err-outcome-clause-went
 returns-in_err-outcome-clause-went g c = λ told some m w stands.
@@ -57,8 +59,7 @@ returns-in_err-outcome-clause-went g c = λ told some m w stands.
     c.in_err-outcome.field-0.0 (λ e. c.in_err-outcome.ensures.no_sink (ap (λ f. Err f) e)) (c.in_err-outcome.ensures.sends told))
 
 pub returns-in_err-outcome-clause-unread : goal.returns-in_err-outcome-clause-unread
-returns-in_err-outcome-clause-unread g c = λ told bad. absurd (not_made c.args.key.now (g.D.Disk.state c.args.disk.now) (open_of c.args.store.now)
-    (c.requires.told told) ((rw (other_outcome c.in_ok-send.field-0 c.in_default.not-Refused) at c.in_ok-send.ensures.answers) told) bad)
+returns-in_err-outcome-clause-unread g c = λ bad. absurd (c.in_ok-send.ensures.bad_key bad (ap (λ o. Ok o) (other_outcome c.in_ok-send.field-0 c.in_default.not-Refused)))
 
 pub returns-in-Done-clause-went : goal.returns-in-Done-clause-went
 returns-in-Done-clause-went g c = λ told some m w stands.
@@ -73,8 +74,7 @@ returns-in-Done-clause-went g c = λ told some m w stands.
     c.in_ok-outcome.outcome (c.in_ok-outcome.ensures.sends told))
 
 pub returns-in-Done-clause-unread : goal.returns-in-Done-clause-unread
-returns-in-Done-clause-unread g c = λ told bad. absurd (not_made c.args.key.now (g.D.Disk.state c.args.disk.now) (open_of c.args.store.now)
-    (c.requires.told told) ((rw (other_outcome c.in_ok-send.field-0 c.in_default.not-Refused) at c.in_ok-send.ensures.answers) told) bad)
+returns-in-Done-clause-unread g c = λ bad. absurd (c.in_ok-send.ensures.bad_key bad (ap (λ o. Ok o) (other_outcome c.in_ok-send.field-0 c.in_default.not-Refused)))
 
 pub returns : goal.returns
 returns g c = record {
@@ -87,8 +87,10 @@ returns g c = record {
       (c.in_ok-appended.ensures.went told some (step m (Create 0 c.args.key.now)).next (begun m (Create 0 c.args.key.now) w) made.stands made.writes);
   only = search rules;
   read = search rules;
-  unread = λ told bad. absurd (not_made c.args.key.now (g.D.Disk.state c.args.disk.now) (open_of c.args.store.now)
-      (c.requires.told told) ((rw (other_outcome c.in_ok-send.field-0 c.in_default.not-Refused) at c.in_ok-send.ensures.answers) told) bad);
+  taken = c.append_all.ensures.taken;
+  unread = λ bad. absurd (c.in_ok-send.ensures.bad_key bad (ap (λ o. Ok o) (other_outcome c.in_ok-send.field-0 c.in_default.not-Refused)));
+  done = λ is. absurd (c.in_default-appended.not-Done (let one : ◌≡◌ {A = Result Status StoreFault} (Ok c.in_ok-appended.appended) (Ok status.Done) = is in cc));
+  refused = λ is. c.in_ok-appended.ensures.refused is;
   source = search rules;
   calm = search rules;
   «open» = search rules;

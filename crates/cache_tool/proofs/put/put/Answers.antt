@@ -49,6 +49,9 @@ returns g c = record {
       (λ dropped. ap g.D.Disk.state (c.end.ensures.dropped dropped).1);
   read = λ done. absurd (c.in_default.not-Done done);
   unread = c.perform_put-came.ensures.unread;
+  taken = c.perform_put-came.ensures.taken;
+  done = λ is. absurd (c.in_default.not-Done is);
+  refused = λ is. absurd (c.in_default.not-No is);
   others = never_others c.perform_put-came.result c.end.result c.perform_put-came.ensures.only c.perform_put-came.ensures.no_sink c.end.ensures.same;
   quiet = c.end.ensures.quiet;
   stops = search rules;

@@ -8,6 +8,3 @@ returns-clause-sends g c =
     λ told m w stands.
     let performs = c.command.ensures.performs told in
     sends_of _ m w _ _ _ (said_in c.clear.new.self) (said_in c.command.new.sink) c.clear.ensures (performs.answers m (stands_as stands)) (performs.crash m w stands)
-
-pub returns-clause-answers : goal.returns-clause-answers
-returns-clause-answers g c = λ told m stands. ((c.command.ensures.performs told).answers m stands).outcome
