@@ -37,7 +37,7 @@ one_line_slot v s w small h k = one_line_pair v (decimal s ++ 32 ∷ w) h (one_l
 one_line_number : (n : ℕ) → n < 2 ^ 32 → Lacks 10 (decimal n)
 one_line_number n small = lacks_decimal 10 n (omega arith) (omega arith)
 
-one_line : (c : Command) → FieldsFit c → IsOneLine (spaced (command_words c))
+pub one_line : (c : Command) → FieldsFit c → IsOneLine (spaced (command_words c))
 unfolding lacks_test
 one_line (At now) fits = one_line_pair (codes "at") (decimal now) (lacks_by 10 (codes "at") refl) (one_line_number now fits)
 one_line (Create s key) fits = one_line_slot (codes "create") s key fits.0 (lacks_by 10 (codes "create") refl) fits.1.1

@@ -1,42 +1,46 @@
--- What stands at the front of bytes, by their first line.
+-- Which command stands at the front of bytes, by their first line.
 use Rattle.std.proofs.Common.{◌≡◌, ◌≢◌, ℕ, zero, suc, ◌+◌, ◌-◌, ◌<◌, ◌≤◌, List, [], ◌∷◌, ◌++◌, length, take, drop, replicate, get_or, codes, decimal, Option, None, Some, IfSome, MatchOption, refl, sym, ap, ◌∙◌, subst, arith}
 use Rattle.memchr.specs.Find.{IsFirstByte, is_byte}
 use Rattle.std.proofs.Math.Seq.{take-add}
 use Rattle.std.specs.Option.{option_map}
-use Rattle.std.proofs.lemmas.List.{append_assoc, take_all, take_rest, take_more, drop_at, drop-drop, take-append-drop, length-append, length-take-le, length-replicate, get_or_append_left, get_or_at}
+use Rattle.std.proofs.lemmas.List.{append_assoc, take_rest, take_more, drop_at, drop-drop, take-append-drop, length-append, length-take-le, length-replicate, get_or_append_left, get_or_at}
 use Rattle.cache_base.proofs.ByteLaws.{bytes_take}
 use Rattle.cache_base.specs.Bytes.{AreBytes}
 use Rattle.cache_base.specs.declared.limits.TheConstants.{LINE_MAX, PIECE_MAX}
 use Rattle.cache_theory.specs.Command.{Command}
 use Rattle.cache_theory.specs.Command.Command.{At, Create, OpenKey, Append, Finish, SetElement, UnsetElement, ElementOf, ReadPart, Close, Doom, Get, Flush}
 use Rattle.cache_theory.specs.Text.{FieldsFit, IsCommand, command_words, command_data, command_bytes, spaced}
-use Rattle.cache_script.specs.Front.{Begins, HasNoCommand, IsBad, IsPart, IsSearched, HasLine, cut_by}
+use Rattle.cache_script.specs.Front.{Begins, HasNoCommand, cut_by}
 use Rattle.cache_script.specs.Lines.{Form, FormFits, Tells, form_of, form_words, cut, data_len, form_in}
 use Rattle.cache_script.proofs.CutLaws.{Lacks, IsCut, cut_at, cut_is, cut_none, cut_first}
 use Rattle.cache_script.proofs.FormLaws.{IsLine, form_spelled}
 use Rattle.cache_script.proofs.FrameLaws.{LineOf, line_of, first_line, completed, command_is, some_same}
 use Rattle.cache_script.proofs.LineLaws.{all_behind, all_joined}
 
-lacks_at : (b : ℕ) (xs : List ℕ) (k : ℕ) → Lacks b xs → k < length xs → get_or xs k 0 ≢ b
+-- no command begins the bytes, whatever bytes follow
+abbrev pub IsBad : List ℕ → Type 0
+IsBad bytes = (more : List ℕ) → HasNoCommand (bytes ++ more)
+
+pub lacks_at : (b : ℕ) (xs : List ℕ) (k : ℕ) → Lacks b xs → k < length xs → get_or xs k 0 ≢ b
 lacks_at b [] k h low = absurd (omega arith)
 lacks_at b (x ∷ xs) zero h low = h.0
 lacks_at b (x ∷ xs) (suc k) h low = lacks_at b xs k h.1 (omega arith)
 
 -- the byte stands where a list is cut
-cut_place : (b : ℕ) (xs text rest : List ℕ) → xs ≡ text ++ b ∷ rest → (length text < length xs) × (get_or xs (length text) 0 ≡ b)
+pub cut_place : (b : ℕ) (xs text rest : List ℕ) → xs ≡ text ++ b ∷ rest → (length text < length xs) × (get_or xs (length text) 0 ≡ b)
 cut_place b xs text rest e = (omega (arith, length-append text (b ∷ rest), ap length e), ap (λ l. get_or l (length text) 0) e ∙ get_or_at text b rest 0 (length text) refl)
 
-cut_parts : (b : ℕ) (xs text rest : List ℕ) → cut b xs ≡ Some (text, rest) → IsCut b xs (text, rest)
+pub cut_parts : (b : ℕ) (xs text rest : List ℕ) → cut b xs ≡ Some (text, rest) → IsCut b xs (text, rest)
 cut_parts b xs text rest e = subst (λ (o : Option (List ℕ × List ℕ)). MatchOption o (Lacks b xs) (IsCut b xs)) e (cut_is b xs)
 
 -- more bytes leave the first line
-cut_on : (b : ℕ) (xs text rest more : List ℕ) → cut b xs ≡ Some (text, rest) → cut b (xs ++ more) ≡ Some (text, rest ++ more)
+pub cut_on : (b : ℕ) (xs text rest more : List ℕ) → cut b xs ≡ Some (text, rest) → cut b (xs ++ more) ≡ Some (text, rest ++ more)
 cut_on b xs text rest more e =
     let parts = cut_parts b xs text rest e in
     ap (λ l. cut b (l ++ more)) parts.0 ∙ ap (cut b) (append_assoc text (b ∷ rest) more) ∙ cut_at b text (rest ++ more) parts.1
 
 -- a newline stands within the longest line
-newline_of : (c : Command) (xs after : List ℕ) → IsCommand c → xs ≡ command_bytes c ++ after
+pub newline_of : (c : Command) (xs after : List ℕ) → IsCommand c → xs ≡ command_bytes c ++ after
     → (k : ℕ) × (k ≤ LINE_MAX) × (k < length xs) × (get_or xs k 0 ≡ 10)
 newline_of c xs after is e =
     let text = spaced (command_words c) in
@@ -44,24 +48,12 @@ newline_of c xs after is e =
     let place = cut_place 10 xs text (command_data c ++ after) parts.0 in
     (length text, is.line, place.0, place.1)
 
-pub long_is_bad : (bytes : List ℕ) → Lacks 10 bytes → LINE_MAX < length bytes → IsBad bytes
-long_is_bad bytes lacks long = λ more c after is e.
-    let n = newline_of c (bytes ++ more) after is e in
-    lacks_at 10 bytes n.0 lacks (omega (arith, n.1)) (sym (get_or_append_left bytes more 0 n.0 (omega (arith, n.1))) ∙ n.3)
-
-pub line_begun : (bytes : List ℕ) → Lacks 10 bytes → length bytes ≤ LINE_MAX → IsPart bytes
-line_begun bytes lacks short = record {
-  none = λ c after is e. let n = newline_of c bytes after is e in lacks_at 10 bytes n.0 lacks n.2 n.3;
-  good = λ bad. let place = cut_place 10 bytes bad.0 bad.1 bad.2 in lacks_at 10 bytes (length bad.0) lacks place.0 place.1;
-  short = omega arith;
-}
-
 pub long_line_is_bad : (bytes text rest : List ℕ) → cut 10 bytes ≡ Some (text, rest) → LINE_MAX < length text → IsBad bytes
 long_line_is_bad bytes text rest cutting long = λ more c after is e.
     let of = line_of c (bytes ++ more) text (rest ++ more) after is.fields e (cut_on 10 bytes text rest more cutting) in
     omega (arith, is.line, ap length of.line)
 
-none_or_some : {X : Type 0} {x : X} {o : Option X} → o ≡ None → o ≡ Some x → ⊥
+pub none_or_some : {X : Type 0} {x : X} {o : Option X} → o ≡ None → o ≡ Some x → ⊥
 none_or_some e f = cc
 
 pub bad_line_is_bad : (bytes text rest : List ℕ) → cut 10 bytes ≡ Some (text, rest) → form_in text ≡ None → IsBad bytes
@@ -73,7 +65,7 @@ no_command_line bytes none = λ c after is e. none_or_some none (ap (cut 10) e �
 
 -- ---- what stands behind the line
 
-length_data : (c : Command) → length (command_data c) ≡ data_len (form_of c)
+pub length_data : (c : Command) → length (command_data c) ≡ data_len (form_of c)
 length_data (Append s bytes) = length-append bytes (10 ∷ [])
 length_data (SetElement s name value) = length-append value (10 ∷ [])
 length_data (At now) = refl
@@ -161,11 +153,11 @@ completed_fits (Form.WholeLine c) rest fits bytes enough = fits.0
 completed_fits (Form.AppendLine s len) rest fits bytes enough = (fits.0, (bytes_take len rest bytes, omega (arith, fits.1, length-take-le len rest (omega arith))))
 completed_fits (Form.SetLine s len name) rest fits bytes enough = (fits.0, (fits.1.0, (bytes_take len rest bytes, omega (arith, fits.1.1, length-take-le len rest (omega arith)))))
 
-bytes_front : (xs ys : List ℕ) → AreBytes (xs ++ ys) → AreBytes xs
+pub bytes_front : (xs ys : List ℕ) → AreBytes (xs ++ ys) → AreBytes xs
 bytes_front [] ys h = tt
 bytes_front (x ∷ xs) ys h = (h.0, bytes_front xs ys h.1)
 
-told : (text : List ℕ) (form : Form) → IsLine text → form_in text ≡ Some form → Tells text form
+pub told : (text : List ℕ) (form : Form) → IsLine text → form_in text ≡ Some form → Tells text form
 told text form line e = subst (λ (o : Option Form). IfSome o (Tells text)) e (form_spelled text line)
 
 -- the command with this line and these bytes
@@ -227,29 +219,20 @@ line_makes text form line short tells =
     (λ some. get_or_at (replicate (n - 1) 0) 10 [] 0 (n - 1) (length-replicate (n - 1) 0)) in
     (completed form rest, made.is, made.line)
 
-data_most : (form : Form) → FormFits form → data_len form ≤ PIECE_MAX + 1
+pub data_most : (form : Form) → FormFits form → data_len form ≤ PIECE_MAX + 1
 data_most (Form.WholeLine c) fits = omega arith
 data_most (Form.AppendLine s len) fits = omega (arith, fits.1)
 data_most (Form.SetLine s len name) fits = omega (arith, fits.1.1)
 
 -- fewer bytes stand behind the line than the command has there
-pub data_begun : (bytes text rest : List ℕ) (form : Form) → AreBytes bytes → cut 10 bytes ≡ Some (text, rest) → length text ≤ LINE_MAX → form_in text ≡ Some form → length rest < data_len form → IsPart bytes
-data_begun bytes text rest form are cutting short tells few =
-    let parts = cut_parts 10 bytes text rest cutting in
-    let both : AreBytes (text ++ 10 ∷ rest) = subst AreBytes parts.0 are in
-    let line : IsLine text = (bytes_front text (10 ∷ rest) both, parts.1) in
-    let some = line_makes text form line short tells in
-    let most = data_most form (told text form line tells).1 in
-    record {
-      none = λ c after is e. let of = line_of c bytes text rest after is.fields e cutting in
-          omega (arith, length_data c, ap data_len (form_same c form text rest after of tells), ap length of.behind, length-append (command_data c) after);
-      good = λ bad. bad.4 some.0 some.1 (ap (λ p. p.0) (some_same _ _ (sym (cut_at 10 bad.0 bad.1 bad.3) ∙ ap (cut 10) (sym bad.2) ∙ cutting)) ∙ some.2);
-      short = omega (arith, most, ap length parts.0, length-append text (10 ∷ rest));
-    }
+pub data_begun : (bytes text rest : List ℕ) (form : Form) → cut 10 bytes ≡ Some (text, rest) → form_in text ≡ Some form → length rest < data_len form → HasNoCommand bytes
+data_begun bytes text rest form cutting tells few = λ c after is e.
+    let of = line_of c bytes text rest after is.fields e cutting in
+    omega (arith, length_data c, ap data_len (form_same c form text rest after of tells), ap length of.behind, length-append (command_data c) after)
 
 -- ---- the first line by its end
 
-lacks_of : (b : ℕ) (xs : List ℕ) → cut b xs ≡ None → Lacks b xs
+pub lacks_of : (b : ℕ) (xs : List ℕ) → cut b xs ≡ None → Lacks b xs
 lacks_of b xs e = subst (λ (o : Option (List ℕ × List ℕ)). MatchOption o (Lacks b xs) (IsCut b xs)) e (cut_is b xs)
 
 -- a search that begins behind bytes without it
@@ -269,36 +252,3 @@ cut_from b xs from (Some k) within lacks first =
     sym (take-append-drop from xs) ∙ ap (λ l. take from xs ++ l) parts.0 ∙ sym (append_assoc (take from xs) (take k rest) (b ∷ drop (k + 1) rest)) in
     ap (cut b) whole ∙ cut_at b (take from xs ++ take k rest) (drop (k + 1) rest) (all_joined (λ x. x ≢ b) (take from xs) (take k rest) lacks parts.1)
     ∙ ap (λ (l : List ℕ). Some (l, drop (k + 1) rest)) front ∙ ap (λ (l : List ℕ). Some (take (from + k) xs, l)) back
-
-pub none_bad : (bytes : List ℕ) → cut 10 bytes ≡ None → LINE_MAX < length bytes → IsBad bytes
-none_bad bytes none long = long_is_bad bytes (lacks_of 10 bytes none) long
-
-pub none_part : (bytes : List ℕ) → cut 10 bytes ≡ None → length bytes ≤ LINE_MAX → IsPart bytes × IsSearched bytes (length bytes)
-none_part bytes none short =
-    let lacks = lacks_of 10 bytes none in
-    (line_begun bytes lacks short, record { within = omega arith; none = subst (Lacks 10) (sym (take_all (length bytes) bytes (omega arith))) lacks })
-
-pub end_bad : (bytes : List ℕ) (end : ℕ) → end < length bytes → cut 10 bytes ≡ Some (take end bytes, drop (end + 1) bytes) → LINE_MAX < end → IsBad bytes
-end_bad bytes end within cutting long = long_line_is_bad bytes (take end bytes) (drop (end + 1) bytes) cutting (omega (arith, length-take-le end bytes (omega arith)))
-
-module _ (bytes : List ℕ) (end : ℕ) (form : Form) (are : AreBytes bytes) (has : HasLine bytes end form) (rest : List ℕ) (behind : rest ≡ drop (end + 1) bytes) (n : ℕ) (counted : n ≡ data_len form) where
-  len_text : length (take end bytes) ≡ end
-  len_text = length-take-le end bytes (omega (arith, has.within))
-
-  cutting : cut 10 bytes ≡ Some (take end bytes, rest)
-  cutting = has.cutting ∙ ap (λ (l : List ℕ). Some (take end bytes, l)) (sym behind)
-
-  pub line_part : length rest < n → IsPart bytes × IsSearched bytes end
-  line_part few = (
-    data_begun bytes (take end bytes) rest form are cutting (omega (arith, len_text, has.short)) has.tells (omega arith),
-    record { within = omega (arith, has.within); none = (cut_parts 10 bytes (take end bytes) rest cutting).1 },
-  )
-
-  pub line_bad : 0 < n → n ≤ length rest → get_or rest (n - 1) 0 ≢ 10 → IsBad bytes
-  line_bad some enough other =
-      no_newline_is_bad bytes (take end bytes) rest form cutting has.tells (omega arith) (omega arith) (λ same. other (ap (λ k. get_or rest (k - 1) 0) counted ∙ same))
-
-  pub line_whole : n ≤ length rest → (0 < n → get_or rest (n - 1) 0 ≡ 10) → Begins bytes (end + 1 + n)
-  line_whole enough newline =
-      begins bytes (take end bytes) rest form (end + 1 + n) are cutting (omega (arith, len_text, has.short)) has.tells (omega arith)
-      (λ some. ap (λ k. get_or rest (k - 1) 0) (sym counted) ∙ newline (omega arith)) (omega (arith, len_text))

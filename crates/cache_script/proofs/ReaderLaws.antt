@@ -1,17 +1,18 @@
 -- What a step of a reader leaves and why it stops.
-use Rattle.std.proofs.Common.{◌≡◌, ◌≢◌, ℕ, ◌+◌, ◌<◌, ◌≤◌, List, [], ◌∷◌, ◌++◌, length, drop, Option, None, Some, IfSome, sym, ap, ◌∙◌, subst, arith}
+use Rattle.std.proofs.Common.{◌≡◌, ℕ, ◌+◌, ◌<◌, ◌≤◌, List, [], ◌++◌, length, drop, Option, None, Some, IfSome, Result, Ok, Err, sym, ap, ◌∙◌, subst, arith}
 use Rattle.std.proofs.lemmas.List.{append_assoc, length-append}
 use Rattle.std.specs.Io.KnownBytes.{Consumes, IsAtEnd, prepend_known}
 use Rattle.cache_base.specs.declared.limits.TheConstants.{SCRIPT_MAX}
 use Rattle.cache_theory.specs.Command.{Command}
 use Rattle.cache_theory.specs.Command.Command.{At, Create, OpenKey, Append, Finish, SetElement, UnsetElement, ElementOf, ReadPart, Close, Doom, Get, Flush}
 use Rattle.cache_theory.specs.Given.{IsGiven}
-use Rattle.cache_theory.specs.Text.{FieldsFit, IsCommand, NoMore, command_bytes, command_words, command_data, spaced}
-use Rattle.cache_script.specs.Front.{Begins, HasNoCommand, IsPart}
+use Rattle.cache_theory.specs.Text.{FieldsFit, command_bytes}
+use Rattle.cache_script.specs.Front.{Begins, HasNoCommand, IsBadFront, IsPart}
 use Rattle.cache_script.specs.Reader.{IsBadScript}
 use Rattle.cache_script.specs.Reading.{IsStuck}
 use Rattle.cache_script.specs.Window.{Grew}
-use Rattle.cache_script.proofs.FrameLaws.{none_begins_another}
+use Rattle.cache_script.proofs.BadFrontLaws.{bad_has_none, bad_is_some, some_bytes}
+use Rattle.cache_script.proofs.ReadingLaws.{part_before}
 
 -- what holds of the bytes that are held after reads and of what is then left holds of the rest of the script before them
 pub of_rest : (P : List ℕ → Type 0) (held new : List ℕ) (left now : Option (List ℕ)) → Grew held new left now → IfSome now (λ rest. P (new ++ rest)) → IfSome (prepend_known held left) P
@@ -22,38 +23,13 @@ of_rest P held new left now g h = go left now g.read h
     go (Some xs) None read h = absurd read
     go (Some xs) (Some ys) read h = subst P (ap (λ l. l ++ ys) g.grown ∙ append_assoc held g.piece ys ∙ ap (λ l. held ++ l) (sym read)) h
 
-if_some : {X : Type 0} (o : Option X) (P Q : X → Type 0) → ((x : X) → P x → Q x) → IfSome o P → IfSome o Q
-if_some None P Q step h = tt
-if_some (Some x) P Q step h = step x h
-
-pub stuck_is_bad : (used : ℕ) (held new : List ℕ) (left now : Option (List ℕ)) → Grew held new left now → IfSome now (λ rest. IsStuck (new ++ rest)) → IsBadScript used (prepend_known held left)
-stuck_is_bad used held new left now g h =
-    if_some (prepend_known held left) IsStuck (λ bytes. (bytes ≢ []) × NoMore used bytes) (λ bytes stuck. (stuck.0, λ c more is e. absurd (stuck.1 c more is e)))
-    (of_rest IsStuck held new left now g h)
-
-pub some_bytes : (c : Command) → 0 < length (command_bytes c)
-unfolding command_bytes
-some_bytes c =
-    let text = spaced (command_words c) in
-    omega (arith, length-append (text ++ 10 ∷ []) (command_data c), length-append text (10 ∷ []))
-
-always : {X : Type 0} (o : Option X) (P : X → Type 0) → ((x : X) → P x) → IfSome o P
-always None P h = tt
-always (Some x) P h = h x
-
-pub long_is_bad : (used n : ℕ) (held new : List ℕ) (left now : Option (List ℕ)) → Grew held new left now → Begins new n → SCRIPT_MAX < used + n → IsBadScript used (prepend_known held left)
-long_is_bad used n held new left now g b long =
-    of_rest (λ bytes. (bytes ≢ []) × NoMore used bytes) held new left now g (always now (λ rest. (new ++ rest ≢ []) × NoMore used (new ++ rest)) (λ rest.
-    let spelled : new ++ rest ≡ command_bytes b.command ++ (drop n new ++ rest) = ap (λ l. l ++ rest) b.spelled ∙ append_assoc (command_bytes b.command) (drop n new) rest in (
-      λ none. omega (arith, some_bytes b.command, ap length (sym spelled ∙ none), length-append (command_bytes b.command) (drop n new ++ rest)),
-      λ c more is e.
-          let one : b.command ≡ c = none_begins_another b.command c (drop n new ++ rest) more b.is is (sym spelled ∙ e) in
-          omega (arith, long, b.len, ap (λ x. length (command_bytes x)) one),
-    )))
+pub stuck_is_bad : (used : ℕ) (held new : List ℕ) (left now : Option (List ℕ)) → Grew held new left now → IfSome now (λ rest. IsStuck used (new ++ rest)) → IsBadScript used (prepend_known held left)
+stuck_is_bad used held new left now g h = of_rest (IsStuck used) held new left now g h
 
 -- what was held and what was read, where it is a part
-pub breaks_off : (held new : List ℕ) (left now : Option (List ℕ)) → Grew held new left now → IsPart new → (read : List ℕ) × (Consumes left now read × HasNoCommand (held ++ read))
-breaks_off held new left now g part = (g.piece, (g.read, subst HasNoCommand g.grown part.none))
+pub breaks_off : (used : ℕ) (held new : List ℕ) (left now : Option (List ℕ)) → Grew held new left now → IsPart used new
+    → (read : List ℕ) × (Consumes left now read × HasNoCommand (held ++ read) × ¬ (IsBadFront used (held ++ read)))
+breaks_off used held new left now g part = (g.piece, (g.read, subst HasNoCommand g.grown part.none, λ bad. part.good (subst (IsBadFront used) (sym g.grown) bad)))
 
 -- a command of a script can be given by a program
 pub is_given : (c : Command) → FieldsFit c → IsGiven c
@@ -71,9 +47,18 @@ is_given (Doom key) fits = fits.0
 is_given (Get key) fits = fits.0
 is_given Flush fits = fits
 
--- a part at whose front is a command, or a line that is bad, is none
-pub command_is_no_part : (bytes : List ℕ) (c : Command) (after : List ℕ) → IsCommand c → bytes ≡ command_bytes c ++ after → ¬ (IsPart bytes)
-command_is_no_part bytes c after is e = λ part. part.none c after is e
+pub bad_is_no_part : (used : ℕ) (held there : List ℕ) → there ≡ held → IsBadFront used held → ¬ (IsPart used there)
+bad_is_no_part used held there same bad = λ part. part.good (subst (IsBadFront used) (sym same) bad)
+
+-- where a bad front was held, no part is there after reads, no command that fits, and some bytes
+pub no_part : (used : ℕ) (held new : List ℕ) (left now : Option (List ℕ)) → Grew held new left now → IsBadFront used held → IsPart used new → ⊥
+no_part used held new left now g bad part = (part_before used held new left now g part).good bad
+
+pub no_command : (used n : ℕ) (held new : List ℕ) (left now : Option (List ℕ)) → Grew held new left now → IsBadFront used held → Begins new n → used + n ≤ SCRIPT_MAX → ⊥
+no_command used n held new left now g bad begins fits = bad_has_none used n held g.piece bad (subst (λ (l : List ℕ). Begins l n) g.grown begins) fits
+
+pub no_end : (used : ℕ) (held new : List ℕ) (left now : Option (List ℕ)) → Grew held new left now → IsBadFront used held → new ≡ [] → ⊥
+no_end used held new left now g bad none = bad_is_some used held g.piece bad (sym g.grown ∙ none)
 
 -- the end is reached behind what was held
 pub ended : (held new : List ℕ) (left now : Option (List ℕ)) → Grew held new left now → new ≡ [] → IsAtEnd now → IsAtEnd (prepend_known held left)
@@ -101,3 +86,13 @@ pub rest_begins : (rest after : Option (List ℕ)) (c : Command) → Consumes re
 rest_begins None after c h = tt
 rest_begins (Some xs) None c h = absurd h
 rest_begins (Some xs) (Some ys) c h = (ys, h)
+
+pub ok_is_err : {X Y : Type 0} {x : X} {y : Y} → Ok x ≡ Err y → ⊥
+ok_is_err e = cc
+
+abbrev error : (X : Type 0) {E : Type 0} → E → Result X E
+error X e = Err e
+
+-- an error that is handed on beside a value of another type
+pub same_err : {X Y E : Type 0} {e f : E} → error X e ≡ error X f → error Y e ≡ error Y f
+same_err {X} {Y} {E} {e} {f} h = let same : e ≡ f = cc in ap (error Y) same

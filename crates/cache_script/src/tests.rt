@@ -1,7 +1,8 @@
 ghost use Rattle.std.specs.Prelude.{◌<◌};
 
+use crate::front::{Front, front_of};
 use crate::{Command, Reader, ScriptFault, number, refusal_text};
-use cache_base::{Bytes, NoMemory, Numbers};
+use cache_base::{Bytes, NoMemory, Numbers, SCRIPT_MAX};
 use cache_io::{MemSource, Source};
 use cache_theory::Refusal;
 use chunk_store::Damage;
@@ -161,13 +162,18 @@ fn commands_are_numbered(rt: HostRuntime) -> Result<(), Fail> {
     Ok(())
 }
 
-// A line of `get` with so many bytes.
-fn long_line(alloc: Global, len: usize) -> Result<Bytes, NoMemory> {
+// A line of `get` with so many bytes, and no newline.
+fn begun_line(alloc: Global, len: usize) -> Result<Bytes, NoMemory> {
     let mut line = Bytes::new(alloc);
     line.extend(b"get ")?;
     for _ in 4..len {
         line.push(b'x')?;
     }
+    Ok(line)
+}
+
+fn long_line(alloc: Global, len: usize) -> Result<Bytes, NoMemory> {
+    let mut line = begun_line(alloc, len)?;
     line.push(b'\n')?;
     Ok(line)
 }
@@ -228,6 +234,67 @@ fn a_source_that_fails_ends_the_script(rt: HostRuntime) -> Result<(), Fail> {
         Ok(Some(Command::At { now: 5 }))
     );
     assert_eq!(rt; reader.next_command(&mut source), Err(ScriptFault::Source));
+    Ok(())
+}
+
+// How many commands are given where one read gives the whole script, and the next one fails.
+fn count_in_one_read(alloc: Global, script: &[u8]) -> Result<Result<u64, ScriptFault>, NoMemory> {
+    let mut bytes = Bytes::new(alloc);
+    bytes.extend(script)?;
+    let mut source = MemSource::with_plan(bytes, plan(alloc, 2)?, AT_ONCE);
+    let mut reader = Reader::new(alloc)?;
+    Ok(count(&mut reader, &mut source))
+}
+
+fn all_end(
+    rt: &impl Abort,
+    alloc: Global,
+    scripts: &[&[u8]],
+    fault: ScriptFault,
+) -> Result<(), NoMemory> {
+    for script in scripts {
+        assert_eq!(rt; count_in_one_read(alloc, script)?, Err(fault), "{script:?}");
+    }
+    Ok(())
+}
+
+#[test]
+fn no_more_is_read_at_a_bad_command(rt: HostRuntime) -> Result<(), Fail> {
+    let scripts: [&[u8]; 6] = [
+        b"\n",
+        b"fly\n",
+        b"append 0 1048577\n",
+        b"append 0 0\nx",
+        b"append 0 1\nab",
+        b"set 0 1 n\n55",
+    ];
+    all_end(&rt, rt.alloc(), &scripts, ScriptFault::Script(1))?;
+    let line = begun_line(rt.alloc(), 20_001)?;
+    all_end(&rt, rt.alloc(), &[line.as_slice()], ScriptFault::Script(1))?;
+    let second = [b"at 5\nappend 0 1\nab".as_slice()];
+    all_end(&rt, rt.alloc(), &second, ScriptFault::Script(2))?;
+    Ok(())
+}
+
+#[test]
+fn more_is_read_at_a_command_that_is_begun(rt: HostRuntime) -> Result<(), Fail> {
+    let scripts: [&[u8]; 4] = [b"fly", b"append 0 1\n", b"append 0 1\na", b"at 5\n"];
+    all_end(&rt, rt.alloc(), &scripts, ScriptFault::Source)?;
+    let line = begun_line(rt.alloc(), 20_000)?;
+    all_end(&rt, rt.alloc(), &[line.as_slice()], ScriptFault::Source)?;
+    Ok(())
+}
+
+#[test]
+fn a_command_ends_within_the_limit(rt: HostRuntime) -> Result<(), Fail> {
+    let most = SCRIPT_MAX as u64;
+    assert_eq!(rt; front_of(b"flush\n", 0, most - 6), Front::Whole(6));
+    assert_eq!(rt; front_of(b"flush\n", 0, most - 5), Front::Bad);
+    assert_eq!(rt; front_of(b"append 0 3\n", 0, most - 15), Front::Part(10));
+    assert_eq!(rt; front_of(b"append 0 3\n", 0, most - 14), Front::Bad);
+    assert_eq!(rt; front_of(b"flus", 0, most - 5), Front::Part(4));
+    assert_eq!(rt; front_of(b"flus", 0, most - 4), Front::Bad);
+    assert_eq!(rt; front_of(b"", 0, most), Front::Part(0));
     Ok(())
 }
 

@@ -13,6 +13,7 @@ pub mod PerformSafe
 pub mod PerformStands
 pub mod PerformSteps
 pub mod PerformWhole
+pub mod PrintedLaws
 pub mod SaidAdds
 pub mod SaidMore
 pub mod Shelves

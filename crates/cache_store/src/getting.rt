@@ -1,6 +1,6 @@
 //! The reply of a `get`.
 
-ghost use Rattle.std.specs.Prelude.{◌≡◌, ◌≢◌, ◌≤◌, List, [], ℕ, Err, IsErrOf, IsTrue, OnErr, OnOk, Some, length, take};
+ghost use Rattle.std.specs.Prelude.{◌≡◌, ◌≢◌, ◌≤◌, List, [], ℕ, Err, IfOk, IsErrOf, IsTrue, OnErr, OnOk, Some, length, take};
 ghost use Rattle.cache_base.specs.Causes.{HasCause};
 ghost use Rattle.cache_store.specs.EntryText.{entry_text, head_text};
 ghost use Rattle.cache_store.specs.Saying.{CutsIn, SaysMore};
@@ -117,6 +117,8 @@ impl Store {
         requires told { IsTrue D.tells → StandsSomehow (D.state disk.old) (open_of self.old).handles }
         ensures answers { IsTrue D.tells → (m : Machine) (number : ℕ → ℕ) → Stands (standing (D.state disk.old)) (open_of self.old).handles m number
             → AnswersTo (step m (Get key.now)).reply result (K.taken sink.old) (K.taken sink.new) self.new.reply.held }
+        ensures unsaid { IfOk result (λ a. a ≢ Answered.All → sink.new ≡ sink.old) }
+        ensures still_empty { IfOk result (λ a. a ≢ Answered.All → self.new.reply.held ≡ []) }
         ensures open { open_of self.new ≡ open_of self.old }
         ensures state { IsTrue D.tells → D.state disk.new ≡ D.state disk.old }
         ensures no_change { IsTrue D.tells → (D.counts disk.new).failed ≡ (D.counts disk.old).failed }

@@ -1,6 +1,6 @@
 //! The reply of a `read`.
 
-ghost use Rattle.std.specs.Prelude.{◌≡◌, ◌<◌, ◌≤◌, ◌+◌, ◌^◌, [], ℕ, IfOk, IsErrOf, IsTrue, OnErr, OnOk, codes, drop, length, take};
+ghost use Rattle.std.specs.Prelude.{◌≡◌, ◌≢◌, ◌<◌, ◌≤◌, ◌+◌, ◌^◌, [], ℕ, IfOk, IsErrOf, IsTrue, OnErr, OnOk, codes, drop, length, take};
 ghost use Rattle.cache_base.specs.Causes.{HasCause};
 ghost use Rattle.cache_base.specs.declared.limits.TheConstants.{SLOTS};
 ghost use Rattle.cache_store.specs.Saying.{CutsIn, SaysMore, SaysPart, StopsIn};
@@ -144,6 +144,8 @@ impl Store {
         requires told { IsTrue D.tells → StandsSomehow (D.state disk.old) (open_of self.old).handles }
         ensures answers { IsTrue D.tells → (m : Machine) (number : ℕ → ℕ) → Stands (standing (D.state disk.old)) (open_of self.old).handles m number
             → AnswersTo (step m (ReadPart slot from len)).reply result (K.taken sink.old) (K.taken sink.new) self.new.reply.held }
+        ensures unsaid { IfOk result (λ a. a ≢ Answered.All → sink.new ≡ sink.old) }
+        ensures still_empty { IfOk result (λ a. a ≢ Answered.All → self.new.reply.held ≡ []) }
         ensures open { open_of self.new ≡ open_of self.old }
         ensures state { IsTrue D.tells → D.state disk.new ≡ D.state disk.old }
         ensures no_change { IsTrue D.tells → (D.counts disk.new).failed ≡ (D.counts disk.old).failed }

@@ -20,7 +20,7 @@ use Rattle.cache_theory.specs.Session.{marks_between}
 use Rattle.cache_theory.specs.Step.{after}
 use Rattle.cache_theory.proofs.Crashes.{safe_is_crash_safe}
 use Rattle.cache_tool.specs.Ending.{Ends, status_in}
-use Rattle.cache_tool.specs.Put.{ArePut, put_commands}
+use Rattle.cache_tool.specs.Put.{ArePut, Faults, put_commands}
 use Rattle.cache_tool.specs.Put.ArePut.{Broken, Whole}
 use Rattle.cache_tool.specs.PutWent.{PutWent}
 use Rattle.cache_tool.specs.Sessions.{Comes, IsAnswer, IsClosing}
@@ -80,9 +80,9 @@ never_source ended final answer (inr (inl sink)) source = let e : status.Sink �
 never_source ended final answer (inr (inr memory)) source = let e : status.Memory ≡ status.Source = sym memory ∙ source in cc
 
 -- the commands of a put, by another end
-are_put_at : (m : Machine) (key : List ℕ) (left now : Option (List ℕ)) (failed : Type 0) (came final : Status) (cs : List Command) → (IsAnswer final → IsAnswer came)
+are_put_at : (m : Machine) (key : List ℕ) (left now : Option (List ℕ)) (failed : Faults) (came final : Status) (cs : List Command) → (IsAnswer final → IsAnswer came)
     → ArePut m key left now failed came cs → ArePut m key left now failed final cs
-are_put_at m key left now failed came final cs answers (Whole body whole is) = Whole body whole is
+are_put_at m key left now failed came final cs answers (Whole body calm whole is) = Whole body calm whole is
 are_put_at m key left now failed came final cs answers (Broken body fails other taken is) = Broken body fails (λ answer. other (answers answer)) taken is
 
 -- all commands may have begun, and none is acknowledged
@@ -93,14 +93,14 @@ crash_safe : (t : State) (m : Machine) (cs : List Command) → IsSafe t (all_beg
 crash_safe t m cs safe = subst (IsCrashSafe t) (marks_begun m cs) (safe_is_crash_safe t (all_begun m cs (marks_of m)) safe)
 
 -- the store did not open
-pub not_opened : (m : Machine) (key : List ℕ) (left : Option (List ℕ)) (failed : Type 0) (f : StoreFault) (known : Option (List ℕ)) (s t : State) → f ≢ fault.Sink → IsSome left
+pub not_opened : (m : Machine) (key : List ℕ) (left : Option (List ℕ)) (failed : Faults) (f : StoreFault) (known : Option (List ℕ)) (s t : State) → f ≢ fault.Sink → failed.after_call ≡ failed.before → IsSome left
     → (IsQuiet s → IsSafe t (marks_of m))
     → (cs : List Command) × (ArePut m key left left failed (status_in (Err f)) cs × Comes m cs (status_in (Err f)) known known s t)
-not_opened m key None failed f known s t other some safe = absurd (cc)
-not_opened m key (Some body) failed f known s t other some safe = (
+not_opened m key None failed f known s t other calm some safe = absurd (cc)
+not_opened m key (Some body) failed f known s t other calm some safe = (
   put_commands m key body,
   (
-    Whole body refl refl,
+    Whole body calm refl refl,
     record {
       answer = λ answer. absurd (fault_is_none f answer);
       printed = λ answer. absurd (fault_is_none f answer);
@@ -118,7 +118,7 @@ not_opened m key (Some body) failed f known s t other some safe = (
     sink_is fault.Disk o e = absurd (cc)
     sink_is fault.Sink o e = o refl
 
-module _ (m : Machine) (key : List ℕ) (left now : Option (List ℕ)) (failed : Type 0) (came ended : Status) (r s t : State) (o : Open) (said : List ℕ)
+module _ (m : Machine) (key : List ℕ) (left now : Option (List ℕ)) (failed : Faults) (came ended : Status) (r s t : State) (o : Open) (said : List ℕ)
     (went : PutWent m (marks_of m) key left now failed came s o said) (ends : Ends ended s t o) (same : (ended ≡ came) ⊎ ((ended ≡ status.Disk) ⊎ (ended ≡ status.Memory))) where
   -- the commands that were performed, where the store was closed
   closed : IsClosing came → IsSafe t (all_begun m went.commands (marks_of m)) × (IsClosing ended → IsShut t (after m went.commands))

@@ -19,7 +19,7 @@ use Rattle.cache_store.specs.declared.fault.Outcome.TheVariants as outcome
 use Rattle.cache_store.specs.declared.fault.StoreFault.{StoreFault}
 use Rattle.cache_tool.specs.declared.piece.Ended.{Ended}
 use Rattle.cache_tool.specs.declared.piece.Ended.TheVariants as ended
-use Rattle.cache_tool.specs.Put.{appends}
+use Rattle.cache_tool.specs.Put.{Faults, appends, faults}
 use Rattle.cache_tool.specs.PutWent.{AppendWent, AreDone, BodyOf, CameBy, IsBroken, IsWhole, PieceWentFor, Ran, SoFar, Stood, Writes, piece_commands}
 use Rattle.cache_tool.specs.Sessions.{status_of}
 use Rattle.cache_tool.proofs.PutPieces.{leads_more, leads_step}
@@ -72,12 +72,12 @@ module _ (left mid now : Option (List ℕ)) (tells : Type 0) (room : ℕ) (s t u
 -- What the source has behind a piece.
 
 -- the whole body, or what was given before the source failed
-abbrev pub BodyBy : Ended → Type 0 → Option (List ℕ) → Option (List ℕ) → List ℕ → Type 0
-BodyBy ended.Full failed left now body = IsWhole left body
-BodyBy ended.End failed left now body = IsWhole left body
+abbrev pub BodyBy : Ended → Faults → Option (List ℕ) → Option (List ℕ) → List ℕ → Type 0
+BodyBy ended.Full failed left now body = IsWhole failed left body
+BodyBy ended.End failed left now body = IsWhole failed left body
 BodyBy ended.Failed failed left now body = IsBroken failed left now body
 
-pub record Ahead (left now : Option (List ℕ)) (failed : Type 0) (how : Ended) (body piece : List ℕ) : Type 0 where
+pub record Ahead (left now : Option (List ℕ)) (failed : Faults) (how : Ended) (body piece : List ℕ) : Type 0 where
   pub rest : List ℕ
   pub short : length piece < PIECE_MAX → rest ≡ []
   pub last : how ≢ ended.Full → rest ≡ []
@@ -90,17 +90,18 @@ whole_of (Some xs) None now body piece some first second = absurd first
 whole_of (Some xs) (Some ys) None body piece some first second = absurd second
 whole_of (Some xs) (Some ys) (Some zs) body piece some first second = (zs, (refl, ap (λ l. Some l) (first ∙ ap (λ l. body ++ l) second)))
 
-pub ahead : (left mid now : Option (List ℕ)) (failed : Type 0) (how : Ended) (body piece : List ℕ) → IsSome left → Consumes left mid body → Consumes mid now piece
-    → (how ≡ ended.Full → length piece ≡ PIECE_MAX) → (how ≡ ended.End → IsAtEnd now) → (how ≡ ended.Failed → failed) → Ahead left now failed how body piece
-ahead left mid now failed ended.Full body piece some first second full end fail =
+pub ahead : (left mid now : Option (List ℕ)) (failed : Faults) (how : Ended) (body piece : List ℕ) → IsSome left → Consumes left mid body → Consumes mid now piece
+    → (how ≡ ended.Full → length piece ≡ PIECE_MAX) → (how ≡ ended.End → IsAtEnd now) → (how ≡ ended.Failed → Rose failed.before failed.after_call)
+    → (how ≢ ended.Failed → failed.after_call ≡ failed.before) → Ahead left now failed how body piece
+ahead left mid now failed ended.Full body piece some first second full end fail calm =
     let whole = whole_of left mid now body piece some first second in
     let same = full refl in
-    record { rest = whole.0; short = λ less. absurd (omega (arith, less, same)); last = λ other. absurd (other refl); body_by = whole.1.1 }
-ahead left mid now failed ended.End body piece some first second full end fail =
+    record { rest = whole.0; short = λ less. absurd (omega (arith, less, same)); last = λ other. absurd (other refl); body_by = (calm (λ e. cc), whole.1.1) }
+ahead left mid now failed ended.End body piece some first second full end fail calm =
     let whole = whole_of left mid now body piece some first second in
     let none : whole.0 ≡ [] = subst IsAtEnd whole.1.0 (end refl) in
-    record { rest = []; short = λ less. refl; last = λ other. refl; body_by = whole.1.1 ∙ ap (λ l. Some (body ++ (piece ++ l))) none }
-ahead left mid now failed ended.Failed body piece some first second full end fail =
+    record { rest = []; short = λ less. refl; last = λ other. refl; body_by = (calm (λ e. cc), whole.1.1 ∙ ap (λ l. Some (body ++ (piece ++ l))) none) }
+ahead left mid now failed ended.Failed body piece some first second full end fail calm =
     record {
       rest = [];
       short = λ less. refl;
@@ -108,7 +109,7 @@ ahead left mid now failed ended.Failed body piece some first second full end fai
       body_by = (fail refl, subst (λ l. Consumes left now (body ++ l)) (sym (append-nil piece)) (Consumes-trans left mid now body piece first second));
     }
 
-pub either_by : (how : Ended) (failed : Type 0) (left now : Option (List ℕ)) (body : List ℕ) → BodyBy how failed left now body → IsWhole left body ⊎ IsBroken failed left now body
+pub either_by : (how : Ended) (failed : Faults) (left now : Option (List ℕ)) (body : List ℕ) → BodyBy how failed left now body → IsWhole failed left body ⊎ IsBroken failed left now body
 either_by ended.Full failed left now body by = inl by
 either_by ended.End failed left now body by = inl by
 either_by ended.Failed failed left now body by = inr by
@@ -120,7 +121,7 @@ ran_ahead m w cs ds (Ok outcome.Ok) t o said none ran = ran_same m w cs (cs ++ d
 ran_ahead m w cs ds (Ok outcome.Refused) t o said none ran = ran_more m w cs ds (Ok outcome.Refused) t o said (λ e. absurd (cc)) ran
 ran_ahead m w cs ds (Err f) t o said none ran = ran_more m w cs ds (Err f) t o said (λ e. absurd (cc)) ran
 
-module _ (left mid now : Option (List ℕ)) (failed : Type 0) (tells : Type 0) (room : ℕ) (s t u : State) (old new newer : Open) (piece : List ℕ) (said : List ℕ) (how : Ended)
+module _ (left mid now : Option (List ℕ)) (failed : Faults) (tells : Type 0) (room : ℕ) (s t u : State) (old new newer : Open) (piece : List ℕ) (said : List ℕ) (how : Ended)
     (answer : Result Outcome StoreFault) (so : SoFar left mid tells room s t old new) (behind : Ahead left now failed how so.body piece) (fits : length piece ≤ PIECE_MAX)
     (told : tells) (went : PieceWentFor piece room answer t u new newer said) (m : Machine) (w : Marks) (stands : StandsFor s old m w) (writes : Writes m []) where
   -- the last piece
@@ -175,7 +176,7 @@ module _ (count : ℕ) (bytes : List ℕ) (within : count ≤ length bytes) (siz
 pub filled_ahead : {left mid : Option (List ℕ)} {tells : Type 0} {room : ℕ} {s t : State} {old new : Open} (so : SoFar left mid tells room s t old new)
     (now : Option (List ℕ)) (before between later : ℕ) (how : Ended) (count : ℕ) (bytes : List ℕ) → count ≤ length bytes → length bytes ≡ PIECE_MAX
     → IsSome left → Consumes mid now (take count bytes) → (how ≡ ended.Full → count ≡ length bytes) → (how ≡ ended.End → IsAtEnd now)
-    → between ≡ before → HasCause (how ≡ ended.Failed) between later → Ahead left now (Rose before later) how so.body (take count bytes)
+    → between ≡ before → HasCause (how ≡ ended.Failed) between later → Ahead left now (faults before later) how so.body (take count bytes)
 filled_ahead {left} {mid} so now before between later how count bytes within size some given full end same cause =
-    ahead left mid now (Rose before later) how so.body (take count bytes) some so.read given (λ is. filled_full count bytes within size (full is)) end
-    (λ is. subst (λ n. Rose n later) same (cause.rose is))
+    ahead left mid now (faults before later) how so.body (take count bytes) some so.read given (λ is. filled_full count bytes within size (full is)) end
+    (λ is. subst (λ n. Rose n later) same (cause.rose is)) (λ other. cause.kept other ∙ same)

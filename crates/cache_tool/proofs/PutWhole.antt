@@ -16,9 +16,9 @@ use Rattle.cache_theory.specs.Marks.{Marks, all_begun, begun}
 use Rattle.cache_theory.specs.Step.{after, step}
 use Rattle.cache_theory.specs.Text.{reply_text}
 use Rattle.cache_tool.specs.Ending.{status_in}
-use Rattle.cache_tool.specs.Put.{appends, broken_commands, is_done, put_commands}
+use Rattle.cache_tool.specs.Put.{Faults, appends, broken_commands, is_done, put_commands}
 use Rattle.cache_tool.specs.Put.ArePut.{Broken, Whole}
-use Rattle.cache_tool.specs.PutWent.{AnswersFor, AppendWent, AreDone, IsBroken, PutWent, Ran, Sends, SendsFor, Writes}
+use Rattle.cache_tool.specs.PutWent.{AnswersFor, AppendWent, AreDone, IsBroken, IsWhole, PutWent, Ran, Sends, SendsFor, Writes}
 use Rattle.cache_tool.specs.Sessions.{IsAnswer, IsClosing, last_reply, status_of}
 use Rattle.cache_tool.proofs.PutMachine.{bad_key_refused, close_is_plain, create_is_plain, create_writes, ran_one, sent_done}
 use Rattle.cache_tool.proofs.PutRuns.{all_begin_keep, last_of, last_stopped, ran_more, ran_then, until_all}
@@ -43,31 +43,31 @@ source_is_none : ¬ (IsAnswer status.Source)
 source_is_none (inl e) = absurd (cc)
 source_is_none (inr e) = absurd (cc)
 
-module _ (m : Machine) (w : Marks) (key : List ℕ) (left now : Option (List ℕ)) (failed : Type 0) (t : State) (o : Open) (said : List ℕ) (body : List ℕ) where
+module _ (m : Machine) (w : Marks) (key : List ℕ) (left now : Option (List ℕ)) (failed : Faults) (t : State) (o : Open) (said : List ℕ) (body : List ℕ) where
   -- the commands of a whole body, with a fault, with a refusal, and all done
-  whole_failed : (f : StoreFault) → f ≢ fault.Sink → left ≡ Some body → Ran m w (Create 0 key ∷ (appends body ++ Close 0 ∷ [])) (Err f) t o said
+  whole_failed : (f : StoreFault) → f ≢ fault.Sink → IsWhole failed left body → Ran m w (Create 0 key ∷ (appends body ++ Close 0 ∷ [])) (Err f) t o said
       → PutWent m w key left now failed (status_in (Err f)) t o said
   whole_failed f other whole ran = record {
     commands = put_commands m key body;
-    are_put = Whole body whole refl;
+    are_put = Whole body whole.0 whole.1 refl;
     safe = ran.safe;
     stands = λ closing. absurd (not_closing f other closing);
     last = λ answer. absurd (fault_is_none f answer);
   }
 
-  whole_refused : left ≡ Some body → Ran m w (Create 0 key ∷ (appends body ++ Close 0 ∷ [])) (Ok outcome.Refused) t o said
+  whole_refused : IsWhole failed left body → Ran m w (Create 0 key ∷ (appends body ++ Close 0 ∷ [])) (Ok outcome.Refused) t o said
       → PutWent m w key left now failed status.No t o said
   whole_refused whole ran =
       let last = last_stopped m (Create 0 key ∷ (appends body ++ Close 0 ∷ [])) said (ran.refused refl) in
       record {
         commands = put_commands m key body;
-        are_put = Whole body whole refl;
+        are_put = Whole body whole.0 whole.1 refl;
         safe = ran.safe;
         stands = λ closing. ran.stands;
         last = λ answer. record { status = ap status_of (sym last.0); replied = last.1 };
       }
 
-  whole_done : left ≡ Some body → Ran m w (Create 0 key ∷ (appends body ++ Close 0 ∷ [])) (Ok outcome.Ok) t o said
+  whole_done : IsWhole failed left body → Ran m w (Create 0 key ∷ (appends body ++ Close 0 ∷ [])) (Ok outcome.Ok) t o said
       → outcome_of (step (after m (Create 0 key ∷ appends body)) (Close 0)).reply ≡ outcome.Ok → said ≡ reply_text (step (after m (Create 0 key ∷ appends body)) (Close 0)).reply
       → PutWent m w key left now failed status.Done t o said
   whole_done whole ran is replied =
@@ -76,7 +76,7 @@ module _ (m : Machine) (w : Marks) (key : List ℕ) (left now : Option (List ℕ
       ap (last_reply m) all ∙ last_of m (Create 0 key ∷ appends body) (Close 0) in
       record {
         commands = put_commands m key body;
-        are_put = Whole body whole refl;
+        are_put = Whole body whole.0 whole.1 refl;
         safe = ran.safe;
         stands = λ closing. ran.stands;
         last = λ answer. record { status = ap status_of (sym is) ∙ ap (λ r. status_of (outcome_of r)) (sym last); replied = replied ∙ ap reply_text (sym last) };
@@ -103,30 +103,30 @@ module _ (m : Machine) (w : Marks) (key : List ℕ) (left now : Option (List ℕ
   }
 
 -- nothing was done
-pub nothing_went : (m : Machine) (w : Marks) (key : List ℕ) (left now : Option (List ℕ)) (failed : Type 0) (t : State) (o : Open) (said : List ℕ) → IsSome left → StandsFor t o m w
+pub nothing_went : (m : Machine) (w : Marks) (key : List ℕ) (left now : Option (List ℕ)) (failed : Faults) (t : State) (o : Open) (said : List ℕ) → failed.after_call ≡ failed.before → IsSome left → StandsFor t o m w
     → PutWent m w key left now failed status.Memory t o said
-nothing_went m w key None now failed t o said some stands = absurd (cc)
-nothing_went m w key (Some body) now failed t o said some stands = record {
+nothing_went m w key None now failed t o said calm some stands = absurd (cc)
+nothing_went m w key (Some body) now failed t o said calm some stands = record {
   commands = put_commands m key body;
-  are_put = Whole body refl refl;
+  are_put = Whole body calm refl refl;
   safe = all_begin_keep t m (put_commands m key body) w stands.stands.crash_kept.safe;
   stands = λ closing. absurd closing;
   last = λ answer. absurd (fault_is_none fault.Memory answer);
 }
 
 -- no entry was made
-module _ (m : Machine) (w : Marks) (key : List ℕ) (now : Option (List ℕ)) (failed : Type 0) (t : State) (o : Open) (said : List ℕ) where
+module _ (m : Machine) (w : Marks) (key : List ℕ) (now : Option (List ℕ)) (failed : Faults) (calm : failed.after_call ≡ failed.before) (t : State) (o : Open) (said : List ℕ) where
   pub create_failed : (left : Option (List ℕ)) (f : StoreFault) → f ≢ fault.Sink → IsSome left → Sends (Create 0 key) m w (Err f) t o said
       → PutWent m w key left now failed (status_in (Err f)) t o said
   create_failed None f other some sends = absurd (cc)
   create_failed (Some body) f other some sends =
-      whole_failed m w key (Some body) now failed t o said body f other refl
+      whole_failed m w key (Some body) now failed t o said body f other (calm, refl)
       (ran_more m w (Create 0 key ∷ []) (appends body ++ Close 0 ∷ []) (Err f) t o said (λ e. absurd (cc)) (ran_one (Create 0 key) m w (Err f) t o said (create_is_plain 0 key) sends))
 
   pub create_refused : (left : Option (List ℕ)) → IsSome left → Sends (Create 0 key) m w (Ok outcome.Refused) t o said → PutWent m w key left now failed status.No t o said
   create_refused None some sends = absurd (cc)
   create_refused (Some body) some sends =
-      whole_refused m w key (Some body) now failed t o said body refl
+      whole_refused m w key (Some body) now failed t o said body (calm, refl)
       (ran_more m w (Create 0 key ∷ []) (appends body ++ Close 0 ∷ []) (Ok outcome.Refused) t o said (λ e. absurd (cc))
       (ran_one (Create 0 key) m w (Ok outcome.Refused) t o said (create_is_plain 0 key) sends))
 
@@ -141,7 +141,7 @@ created m w key t o said sends =
     let done = sent_done (Create 0 key) m w (Ok outcome.Ok) t o said (create_is_plain 0 key) sends refl in
     record { done = done; stands = sends.next; writes = create_writes m key done }
 
-module _ (m : Machine) (w : Marks) (key : List ℕ) (left now : Option (List ℕ)) (failed : Type 0) (s : State) (old : Open) (made : Created m w key s old) where
+module _ (m : Machine) (w : Marks) (key : List ℕ) (left now : Option (List ℕ)) (failed : Faults) (s : State) (old : Open) (made : Created m w key s old) where
   -- what is behind the making
   behind_made : (cs : List Command) (answer : Result Outcome StoreFault) (t : State) (o : Open) (said : List ℕ)
       → Ran (step m (Create 0 key)).next (begun m (Create 0 key) w) cs answer t o said → Ran m w (Create 0 key ∷ cs) answer t o said

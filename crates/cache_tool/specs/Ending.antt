@@ -11,7 +11,7 @@ use Rattle.cache_theory.specs.Machine.{Machine, opened}
 use Rattle.cache_theory.specs.Marks.{Marks}
 use Rattle.cache_theory.specs.Table.{Table}
 use Rattle.cache_theory.specs.Text.{CommandsIn}
-use Rattle.cache_tool.specs.Put.{ArePut}
+use Rattle.cache_tool.specs.Put.{ArePut, Faults}
 use Rattle.cache_tool.specs.Script.{Runs}
 use Rattle.cache_tool.specs.Sessions.{Comes, IsClosing}
 use Rattle.disk_model.specs.State.{State}
@@ -40,8 +40,8 @@ RunsFor now ended left left_now before after_it s t = IfSome left (λ bytes.
     (shelf : Table (List ℕ)) (rest : List (List ℕ)) (cs : List Command) → IsShelf s shelf → CommandsIn bytes cs
     → Runs (opened now shelf rest) bytes cs ended left left_now before after_it s t)
 
--- so it is here, and `failed` says that the source's count rose
-abbrev pub PutsFor : ℕ → List ℕ → Status → Option (List ℕ) → Option (List ℕ) → Type 0 → Option (List ℕ) → Option (List ℕ) → State → State → Type 0
-PutsFor now key ended left left_now failed before after_it s t = IsSome left
+-- so it is here, and `source` is how often it has failed
+abbrev pub PutsFor : ℕ → List ℕ → Status → Option (List ℕ) → Option (List ℕ) → Faults → Option (List ℕ) → Option (List ℕ) → State → State → Type 0
+PutsFor now key ended left left_now source before after_it s t = IsSome left
     → (shelf : Table (List ℕ)) (rest : List (List ℕ)) → IsShelf s shelf
-    → (cs : List Command) × (ArePut (opened now shelf rest) key left left_now failed ended cs × Comes (opened now shelf rest) cs ended before after_it s t)
+    → (cs : List Command) × (ArePut (opened now shelf rest) key left left_now source ended cs × Comes (opened now shelf rest) cs ended before after_it s t)

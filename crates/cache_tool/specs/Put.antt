@@ -1,6 +1,7 @@
 -- The commands of a `put`.
 use Rattle.std.specs.Io.KnownBytes.{Consumes}
 use Rattle.std.specs.Prelude.{Bool, List, Option, Some, [], false, if◌then◌else◌, length, map, true, ℕ, ◌++◌, ◌∷◌, ◌≡◌}
+use Rattle.cache_base.specs.Causes.{Rose}
 use Rattle.cache_base.specs.declared.limits.TheConstants.{PIECE_MAX}
 use Rattle.cache_base.specs.declared.status.Status.{Status}
 use Rattle.cache_theory.specs.Command.{Command, Reply}
@@ -35,7 +36,17 @@ put_commands m key body = until_refused m (Create 0 key ∷ (appends body ++ Clo
 abbrev pub broken_commands : Machine → List ℕ → List ℕ → List Command
 broken_commands m key body = until_refused m (Create 0 key ∷ appends body)
 
--- the commands, by what the source has at the call, or by what it gave before it failed
-pub data ArePut (m : Machine) (key : List ℕ) (left now : Option (List ℕ)) (failed : Type 0) (ended : Status) (cs : List Command) : Type 0 where
-  Whole : (body : List ℕ) → left ≡ Some body → cs ≡ put_commands m key body → ArePut m key left now failed ended cs
-  Broken : (body : List ℕ) → failed → ¬ (IsAnswer ended) → Consumes left now body → cs ≡ broken_commands m key body → ArePut m key left now failed ended cs
+-- how often a source had failed before a call, and after it
+pub record Faults : Type 0 where
+  pub before : ℕ
+  pub after_call : ℕ
+
+abbrev pub faults : ℕ → ℕ → Faults
+faults n k = record { before = n; after_call = k }
+
+-- the commands, by what the source has at the call where it did not fail, or by what it gave before it failed: so there
+-- is no `close` among them where the source failed
+pub data ArePut (m : Machine) (key : List ℕ) (left now : Option (List ℕ)) (source : Faults) (ended : Status) (cs : List Command) : Type 0 where
+  Whole : (body : List ℕ) → source.after_call ≡ source.before → left ≡ Some body → cs ≡ put_commands m key body → ArePut m key left now source ended cs
+  Broken : (body : List ℕ) → Rose source.before source.after_call → ¬ (IsAnswer ended) → Consumes left now body → cs ≡ broken_commands m key body
+      → ArePut m key left now source ended cs

@@ -1,6 +1,7 @@
 -- How far a `put` came.
 use Rattle.std.specs.Io.KnownBytes.{Consumes}
 use Rattle.std.specs.Prelude.{Err, IfOk, IsSome, List, Ok, OnOk, Option, Result, Some, [], false, length, true, ℕ, ⊤, ◌+◌, ◌++◌, ◌<◌, ◌≡◌, ◌∷◌, ◌⊎◌}
+use Rattle.cache_base.specs.Causes.{Rose}
 use Rattle.cache_base.specs.declared.limits.TheConstants.{BODY_MAX}
 use Rattle.cache_base.specs.declared.status.Status.{Status}
 use Rattle.cache_base.specs.declared.status.Status.TheVariants as status
@@ -16,7 +17,7 @@ use Rattle.cache_theory.specs.Machine.{Machine, Slot, object}
 use Rattle.cache_theory.specs.Marks.{Marks, acked, all_begun, begun}
 use Rattle.cache_theory.specs.Step.{after, step}
 use Rattle.cache_theory.specs.Text.{reply_text}
-use Rattle.cache_tool.specs.Put.{ArePut, appends, is_done, until_refused}
+use Rattle.cache_tool.specs.Put.{ArePut, Faults, appends, is_done, until_refused}
 use Rattle.cache_tool.specs.Sessions.{IsAnswer, IsClosing, last_reply, status_of}
 use Rattle.disk_model.specs.State.{State}
 
@@ -105,23 +106,23 @@ pub record SoFar (left now : Option (List ℕ)) (tells : Type 0) (room : ℕ) (s
 -- The whole body.
 
 -- the source's bytes, or what it gave before it failed
-abbrev pub IsWhole : Option (List ℕ) → List ℕ → Type 0
-IsWhole left body = left ≡ Some body
+abbrev pub IsWhole : Faults → Option (List ℕ) → List ℕ → Type 0
+IsWhole failed left body = (failed.after_call ≡ failed.before) × (left ≡ Some body)
 
-abbrev pub IsBroken : Type 0 → Option (List ℕ) → Option (List ℕ) → List ℕ → Type 0
-IsBroken failed left now body = failed × Consumes left now body
+abbrev pub IsBroken : Faults → Option (List ℕ) → Option (List ℕ) → List ℕ → Type 0
+IsBroken failed left now body = Rose failed.before failed.after_call × Consumes left now body
 
 -- which it is, by what the appending came to
-abbrev pub BodyOf : Result Status StoreFault → Type 0 → Option (List ℕ) → Option (List ℕ) → List ℕ → Type 0
-BodyOf (Ok status.Done) failed left now body = IsWhole left body
-BodyOf (Ok status.No) failed left now body = IsWhole left body
+abbrev pub BodyOf : Result Status StoreFault → Faults → Option (List ℕ) → Option (List ℕ) → List ℕ → Type 0
+BodyOf (Ok status.Done) failed left now body = IsWhole failed left body
+BodyOf (Ok status.No) failed left now body = IsWhole failed left body
 BodyOf (Ok status.Source) failed left now body = IsBroken failed left now body
 BodyOf (Ok status.Memory) failed left now body = ⊥
 BodyOf (Ok status.Words) failed left now body = ⊥
 BodyOf (Ok status.Script) failed left now body = ⊥
 BodyOf (Ok status.Sink) failed left now body = ⊥
 BodyOf (Ok status.Disk) failed left now body = ⊥
-BodyOf (Err f) failed left now body = IsWhole left body ⊎ IsBroken failed left now body
+BodyOf (Err f) failed left now body = IsWhole failed left body ⊎ IsBroken failed left now body
 
 -- and what the last command answered
 abbrev pub CameBy : Result Status StoreFault → Result Outcome StoreFault → Type 0
@@ -136,14 +137,14 @@ CameBy (Ok status.Disk) answer = ⊥
 CameBy (Err f) answer = answer ≡ Err f
 
 -- the body was appended to an entry without one
-pub record AppendWent (m : Machine) (w : Marks) (left now : Option (List ℕ)) (failed : Type 0) (came : Result Status StoreFault) (t : State) (o : Open) (said : List ℕ) : Type 0 where
+pub record AppendWent (m : Machine) (w : Marks) (left now : Option (List ℕ)) (failed : Faults) (came : Result Status StoreFault) (t : State) (o : Open) (said : List ℕ) : Type 0 where
   pub body : List ℕ
   pub body_of : BodyOf came failed left now body
   pub answer : Result Outcome StoreFault
   pub ran : Ran m w (appends body) answer t o said
   pub same : CameBy came answer
 
-abbrev pub AppendWentFor : Option (List ℕ) → Option (List ℕ) → Type 0 → Result Status StoreFault → State → State → Open → Open → List ℕ → Type 0
+abbrev pub AppendWentFor : Option (List ℕ) → Option (List ℕ) → Faults → Result Status StoreFault → State → State → Open → Open → List ℕ → Type 0
 AppendWentFor left now failed came s t old new said =
     IsSome left → (m : Machine) (w : Marks) → StandsFor s old m w → Writes m [] → AppendWent m w left now failed came t new said
 
@@ -154,13 +155,13 @@ pub record IsLast (m : Machine) (cs : List Command) (ended : Status) (said : Lis
   pub status : ended ≡ status_of (outcome_of (last_reply m cs))
   pub replied : said ≡ reply_text (last_reply m cs)
 
-pub record PutWent (m : Machine) (w : Marks) (key : List ℕ) (left now : Option (List ℕ)) (failed : Type 0) (ended : Status) (t : State) (o : Open) (said : List ℕ) : Type 0 where
+pub record PutWent (m : Machine) (w : Marks) (key : List ℕ) (left now : Option (List ℕ)) (failed : Faults) (ended : Status) (t : State) (o : Open) (said : List ℕ) : Type 0 where
   pub commands : List Command
   pub are_put : ArePut m key left now failed ended commands
   pub safe : IsSafe t (all_begun m commands w)
   pub stands : IsClosing ended → StandsFor t o (after m commands) (all_begun m commands w)
   pub last : IsAnswer ended → IsLast m commands ended said
 
-abbrev pub PutWentFor : List ℕ → Option (List ℕ) → Option (List ℕ) → Type 0 → Status → State → State → Open → Open → List ℕ → Type 0
+abbrev pub PutWentFor : List ℕ → Option (List ℕ) → Option (List ℕ) → Faults → Status → State → State → Open → Open → List ℕ → Type 0
 PutWentFor key left now failed ended s t old new said =
     IsSome left → (m : Machine) (w : Marks) → StandsFor s old m w → PutWent m w key left now failed ended t new said

@@ -10,6 +10,7 @@ ghost use Rattle.cache_store.specs.Said.{IsCut};
 ghost use Rattle.cache_store.specs.Saying.{IsPart};
 ghost use Rattle.cache_theory.specs.Given.{IsGiven};
 ghost use Rattle.cache_tool.specs.Ending.{PutsFor, status_in};
+ghost use Rattle.cache_tool.specs.Put.{faults};
 ghost use Rattle.cache_tool.specs.PutReply.{said_in};
 ghost use Rattle.cache_tool.specs.PutWent.{AnswersFor, AppendWentFor, PieceWentFor, PutWentFor, SendsFor};
 ghost use Rattle.cache_tool.specs.Sessions.{IsAnswer, IsClosing};
@@ -103,7 +104,7 @@ fn append_all<D: Disk, S: Source>(
 ) -> Result<Status, StoreFault>
     requires long { length piece.old ≡ PIECE_LEN }
     requires told { IsTrue D.tells → IsOpen (D.state disk.old) (open_of store.old) }
-    ensures went { IsTrue D.tells → AppendWentFor (S.left source.old) (S.left source.new) (Rose (S.faults source.old) (S.faults source.new)) result
+    ensures went { IsTrue D.tells → AppendWentFor (S.left source.old) (S.left source.new) (faults (S.faults source.old) (S.faults source.new)) result
         (D.state disk.old) (D.state disk.new) (open_of store.old) (open_of store.new) (said_in said.new) }
     ensures only { IfOk result (λ s. IsAnswer s ⊎ (s ≡ Status.Source)) }
     ensures read { result ≡ Ok Status.Done → IsAtEnd (S.left source.new) }
@@ -141,7 +142,7 @@ fn perform_put<D: Disk, S: Source>(
     disk: &mut D,
 ) -> Result<Status, StoreFault>
     requires told { IsTrue D.tells → IsOpen (D.state disk.old) (open_of store.old) }
-    ensures went { IsTrue D.tells → PutWentFor key.now (S.left source.old) (S.left source.new) (Rose (S.faults source.old) (S.faults source.new)) (status_in result)
+    ensures went { IsTrue D.tells → PutWentFor key.now (S.left source.old) (S.left source.new) (faults (S.faults source.old) (S.faults source.new)) (status_in result)
         (D.state disk.old) (D.state disk.new) (open_of store.old) (open_of store.new) (said_in said.new) }
     ensures only { IfOk result (λ s. IsAnswer s ⊎ (s ≡ Status.Source)) }
     ensures read { result ≡ Ok Status.Done → IsAtEnd (S.left source.new) }
@@ -194,7 +195,7 @@ pub(crate) fn put<D: Disk, S: Source, K: Sink>(
     sink: &mut K,
     disk: &mut D,
 ) -> Status
-    ensures puts { IsTrue D.tells → PutsFor now key.now result (S.left source.old) (S.left source.new) (Rose (S.faults source.old) (S.faults source.new))
+    ensures puts { IsTrue D.tells → PutsFor now key.now result (S.left source.old) (S.left source.new) (faults (S.faults source.old) (S.faults source.new))
         (K.taken sink.old) (K.taken sink.new) (D.state disk.old) (D.state disk.new) }
     ensures read { result ≡ Status.Done → IsAtEnd (S.left source.new) }
     ensures unread { IsTrue D.tells → may_write key.now ≡ false → source.new ≡ source.old }

@@ -4,6 +4,7 @@ ghost use Rattle.std.specs.Prelude.{◌≡◌, ◌≢◌, ◌↔◌, ◌⊎◌, 
 ghost use Rattle.std.specs.Io.KnownBytes.{IsAtEnd};
 ghost use Rattle.cache_base.specs.Causes.{Rose};
 ghost use Rattle.cache_tool.specs.Ending.{ComesFor, PutsFor, RunsFor};
+ghost use Rattle.cache_tool.specs.Put.{faults};
 ghost use Rattle.cache_tool.specs.Script.{HasBadCommand, HasScript, IsScript};
 ghost use Rattle.cache_tool.specs.Sessions.{IsAnswer, IsClosing};
 ghost use Rattle.cache_tool.specs.Words.{WhenOne, WhenPut, WhenRun, asked_in};
@@ -40,7 +41,7 @@ pub fn run<D: Disk, S: Source, K: Sink>(
     // What is printed, what stands afterwards and what a crash may leave, by the machine.
     ensures runs { WhenRun (asked_in words.now) (λ now. IsTrue D.tells → RunsFor now result (S.left source.old) (S.left source.new)
         (K.taken sink.old) (K.taken sink.new) (D.state disk.old) (D.state disk.new)) }
-    ensures puts { WhenPut (asked_in words.now) (λ now key. IsTrue D.tells → PutsFor now key result (S.left source.old) (S.left source.new) (Rose (S.faults source.old) (S.faults source.new))
+    ensures puts { WhenPut (asked_in words.now) (λ now key. IsTrue D.tells → PutsFor now key result (S.left source.old) (S.left source.new) (faults (S.faults source.old) (S.faults source.new))
         (K.taken sink.old) (K.taken sink.new) (D.state disk.old) (D.state disk.new)) }
     ensures comes { WhenOne (asked_in words.now) (λ now c. IsTrue D.tells → ComesFor now c result (K.taken sink.old) (K.taken sink.new) (D.state disk.old) (D.state disk.new)) }
 

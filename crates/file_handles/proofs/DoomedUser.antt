@@ -52,7 +52,7 @@ least_from xs (suc left) n e lesser = elim (contains_or_not xs n) [
   | inr lacks ↦ (n, record { free = lacks; lesser = lesser })
 ]
 
-least_free : (xs : List ℕ) → (l : ℕ) × IsLeastFree xs l
+pub least_free : (xs : List ℕ) → (l : ℕ) × IsLeastFree xs l
 least_free xs = least_from xs (length xs + 1) 0 (omega arith) (λ k lt. absurd (omega (arith, lt)))
 
 -- The answers of the move.

@@ -7,6 +7,7 @@ pub mod Changed
 pub mod ElementLengths
 pub mod ElementEntries
 pub mod ElementSlots
+pub mod InChunk
 pub mod ElementChecks
 pub mod ElementMarks
 pub mod Writers
@@ -17,12 +18,14 @@ pub mod Carried
 pub mod WriterCommands
 pub mod ElementChanged
 pub mod ElementReads
+pub mod EffectLaws
 pub mod ElementCommands
 pub mod User
 pub mod DoomedNumbers
 pub mod DoomedStands
 pub mod DoomedKeeps
 pub mod DoomedUser
+pub mod FirstFree
 pub mod FoundFile
 pub mod FoundLoad
 pub mod FoundUser

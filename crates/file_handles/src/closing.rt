@@ -9,7 +9,7 @@ ghost use Rattle.disk_model.specs.Calls.{StopsAtFault, if_done};
 ghost use Rattle.disk_model.specs.State.{standing};
 ghost use Rattle.file_handles.specs.Answers.{OnRefused, done_or};
 ghost use Rattle.file_handles.specs.Closing.{dropped, is_some_draft, is_use_of, let_go_by};
-ghost use Rattle.file_handles.specs.Effects.{wrote_where};
+ghost use Rattle.file_handles.specs.Effects.{HasEffect, wrote_where};
 ghost use Rattle.file_handles.specs.Held.{is_draft, object_place};
 
 use crate::object::{Entry, Object, Use};
@@ -138,8 +138,9 @@ impl Handles {
         requires slot { slot < SLOTS }
         requires told { IsTrue D.tells → StandsSomehow (D.state disk.old) (kept self.old) }
         ensures carried { IsTrue D.tells → CarriesOut (Close slot) (done_or result) (D.state disk.old) (D.state disk.new) (kept self.old) (kept self.new) }
-        ensures effect { IfOk result (λ effect. IfSome (use_at (kept self.old) slot) (λ u. effect ≡ wrote_where (λ x. u.writes && is_draft x.entry) (object_in (kept self.old) slot))) }
+        ensures effect { IfOk result (HasEffect (kept self.old) (Close slot)) }
         ensures went_on { OnOk result (IsTrue D.tells → (D.counts disk.new).failed ≡ (D.counts disk.old).failed) }
+        ensures unchanged { OnRefused result (λ _. IsTrue D.tells → disk.new ≡ disk.old) }
         ensures refused_on { OnRefused result (λ _. IsTrue D.tells → (D.counts disk.new).failed ≡ (D.counts disk.old).failed) }
         ensures stops { IsTrue D.tells → StopsAtFault (D.counts disk.old) (D.counts disk.new) }
         ensures cause { HasCause (IsErrOf result HandleFault.Disk) (D.faults disk.old) (D.faults disk.new) }

@@ -109,8 +109,8 @@ impl Handles {
         ensures refused { IfErr result (λ r. (from len : ℕ) → Refuses (kept self.now) (ReadPart slot from len) r) }
         ensures passes { OnOk result ((from len : ℕ) → Passes (kept self.now) (ReadPart slot from len)) }
     {
-        let used = self.use_of(slot)?;
-        Ok(self.object_at(used.place)?.body_len())
+        let user = self.use_of(slot)?;
+        Ok(self.object_at(user.place)?.body_len())
     }
 
     /// The bytes of the body of a slot's entry from a place on, at most `len`, and no more than to the end of their chunk
@@ -127,6 +127,7 @@ impl Handles {
         ensures part { IfOk result (λ part. IsTrue D.tells → (m : Machine) (number : ℕ → ℕ) → Stands (standing (D.state disk.old)) (kept self.old) m number
             → part.now ≡ part_of_body (object_of m slot).version.body from len) }
         ensures refused { OnRefused result (λ r. Refuses (kept self.old) (ReadPart slot from len) r) }
+        ensures passes { OnOk result (Passes (kept self.old) (ReadPart slot from len)) }
         ensures* kept { sem 𝓛 (RestsAsKept self.entry) }
         ensures state { IsTrue D.tells → D.state disk.new ≡ D.state disk.old }
         ensures no_change { IsTrue D.tells → (D.counts disk.new).failed ≡ (D.counts disk.old).failed }

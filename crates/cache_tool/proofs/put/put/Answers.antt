@@ -1,10 +1,10 @@
-use Rattle.std.proofs.Common.{inl, inr, ap, rules}
+use Rattle.std.proofs.Common.{inl, inr, refl, ap, rules}
 use Rattle.std.specs.Prelude.{Err}
-use Rattle.cache_base.specs.Causes.{Rose}
 use Rattle.cache_store.specs.Open.{open_of}
 use Rattle.cache_theory.specs.Machine.{opened}
 use Rattle.cache_theory.specs.Marks.{marks_of}
 use Rattle.cache_tool.specs.Ending.{status_in}
+use Rattle.cache_tool.specs.Put.{faults}
 use Rattle.cache_tool.specs.PutReply.{said_in}
 use Rattle.cache_tool.proofs.PutEnds.{answered, disk_cause, ended_no_sink, never_others, never_sink, no_answer, not_opened, source_came, unanswered}
 use Rattle.cache_tool.proofs.put.put.Goals as goal
@@ -12,14 +12,14 @@ use Rattle.cache_tool.proofs.put.put.Goals as goal
 pub returns-in-Err-clause-puts : goal.returns-in-Err-clause-puts
 returns-in-Err-clause-puts g c = λ told some shelf rest is.
     rw c.status_of_fault.ensures
-    (not_opened (opened c.args.now shelf rest) c.args.key.now (g.S.Source.left c.args.source.now) (Rose (g.S.Source.faults c.args.source.now) (g.S.Source.faults c.args.source.now)) c.in-Err.fault
-    (g.K.Sink.taken c.args.sink.now) (g.D.Disk.state c.args.disk.now) (g.D.Disk.state c.open.new.disk) (λ e. c.in-Err.ensures.no_sink (ap (λ f. Err f) e)) some
+    (not_opened (opened c.args.now shelf rest) c.args.key.now (g.S.Source.left c.args.source.now) (faults (g.S.Source.faults c.args.source.now) (g.S.Source.faults c.args.source.now)) c.in-Err.fault
+    (g.K.Sink.taken c.args.sink.now) (g.D.Disk.state c.args.disk.now) (g.D.Disk.state c.open.new.disk) (λ e. c.in-Err.ensures.no_sink (ap (λ f. Err f) e)) refl some
     (λ quiet. c.in-Err.ensures.safe told shelf rest quiet is))
 
 pub returns-in-Done-clause-puts : goal.returns-in-Done-clause-puts
 returns-in-Done-clause-puts g c = λ told some shelf rest is.
     answered (opened c.args.now shelf rest) c.args.key.now (g.S.Source.left c.args.source.now) (g.S.Source.left c.perform_put-came.new.source)
-    (Rose (g.S.Source.faults c.args.source.now) (g.S.Source.faults c.perform_put-came.new.source)) (status_in c.perform_put-came.result) c.end.result (g.D.Disk.state c.args.disk.now)
+    (faults (g.S.Source.faults c.args.source.now) (g.S.Source.faults c.perform_put-came.new.source)) (status_in c.perform_put-came.result) c.end.result (g.D.Disk.state c.args.disk.now)
     (g.D.Disk.state c.perform_put-came.new.disk) (g.D.Disk.state c.end.new.disk) (open_of c.perform_put-came.new.store) (said_in c.perform_put-came.new.said)
     (c.perform_put-came.ensures.went told some (opened c.args.now shelf rest) (marks_of (opened c.args.now shelf rest)) (c.in-Ok.ensures.opens told shelf rest is))
     (c.end.ensures.ends told) c.end.ensures.same
@@ -29,7 +29,7 @@ returns-in-Done-clause-puts g c = λ told some shelf rest is.
 pub returns-in-No-clause-puts : goal.returns-in-No-clause-puts
 returns-in-No-clause-puts g c = λ told some shelf rest is.
     answered (opened c.args.now shelf rest) c.args.key.now (g.S.Source.left c.args.source.now) (g.S.Source.left c.perform_put-came.new.source)
-    (Rose (g.S.Source.faults c.args.source.now) (g.S.Source.faults c.perform_put-came.new.source)) (status_in c.perform_put-came.result) c.end.result (g.D.Disk.state c.args.disk.now)
+    (faults (g.S.Source.faults c.args.source.now) (g.S.Source.faults c.perform_put-came.new.source)) (status_in c.perform_put-came.result) c.end.result (g.D.Disk.state c.args.disk.now)
     (g.D.Disk.state c.perform_put-came.new.disk) (g.D.Disk.state c.end.new.disk) (open_of c.perform_put-came.new.store) (said_in c.perform_put-came.new.said)
     (c.perform_put-came.ensures.went told some (opened c.args.now shelf rest) (marks_of (opened c.args.now shelf rest)) (c.in-Ok.ensures.opens told shelf rest is))
     (c.end.ensures.ends told) c.end.ensures.same
@@ -40,7 +40,7 @@ pub returns : goal.returns
 returns g c = record {
   puts = λ told some shelf rest is.
       unanswered (opened c.args.now shelf rest) c.args.key.now (g.S.Source.left c.args.source.now) (g.S.Source.left c.perform_put-came.new.source)
-      (Rose (g.S.Source.faults c.args.source.now) (g.S.Source.faults c.perform_put-came.new.source)) (status_in c.perform_put-came.result) c.end.result (g.D.Disk.state c.args.disk.now)
+      (faults (g.S.Source.faults c.args.source.now) (g.S.Source.faults c.perform_put-came.new.source)) (status_in c.perform_put-came.result) c.end.result (g.D.Disk.state c.args.disk.now)
       (g.D.Disk.state c.perform_put-came.new.disk) (g.D.Disk.state c.end.new.disk) (open_of c.perform_put-came.new.store) (said_in c.perform_put-came.new.said)
       (c.perform_put-came.ensures.went told some (opened c.args.now shelf rest) (marks_of (opened c.args.now shelf rest)) (c.in-Ok.ensures.opens told shelf rest is))
       (c.end.ensures.ends told) c.end.ensures.same

@@ -1,6 +1,7 @@
 use Rattle.std.proofs.Common.{sym, ◌∙◌}
 use Rattle.file_handles.specs.Kept.{kept}
 use Rattle.file_handles.proofs.ClosedSlot.{closed_leaves, closed_safe, faulted_leaves, unused_leaves}
+use Rattle.file_handles.proofs.EffectLaws.{closed_effect}
 use Rattle.file_handles.proofs.ElementSlots.{use_found}
 use Rattle.file_handles.proofs.Where.{carries_out}
 use Rattle.file_handles.proofs.handles.Handles.close.Goals as goal
@@ -29,3 +30,8 @@ returns-clause-carried g c told = carries_out (λ b m w is.
     let stands = (c.in_ok-effect.ensures.finishes told b m w is).1 in
     closed_leaves (g.D.Disk.state c.args.disk.now) (kept c.args.self.now) c.args.slot c.requires.slot c.in_ok-used.used used (g.D.Disk.state c.finish_first.new.disk)
     (kept c.finish_first.new.self) (kept c.give_up.new.self) m w is stands (g.D.Disk.state c.give_up.new.disk) (c.in_ok-give_up.ensures.gives_up told))
+
+pub returns-clause-effect : goal.returns-clause-effect
+returns-clause-effect g c = λ m number stand.
+    let used = use_found _ _ (sym c.use_of.ensures ∙ c.in_ok-used.was) in
+    closed_effect (kept c.args.self.now) m number stand c.args.slot c.requires.slot c.in_ok-used.used used c.in_ok-effect.effect c.in_ok-effect.ensures.effect

@@ -1,10 +1,14 @@
-use Rattle.std.proofs.Common.{◌≡◌, Some, None, sym, subst, ◌∙◌}
+use Rattle.std.proofs.Common.{◌≡◌, ◌<◌, ℕ, Result, Some, None, Ok, Err, sym, subst, ◌∙◌, arith}
+use Rattle.cache_base.specs.declared.limits.TheConstants.{SLOTS}
 use Rattle.std.proofs.lemmas.Result.{IfOk-from_err}
+use Rattle.disk_model.specs.declared.disk.DiskFault.{DiskFault}
 use Rattle.doom_area.specs.DoomArea.{IsLeastFree}
 use Rattle.file_handles.specs.Kept.{kept, object_at}
 use Rattle.cache_theory.specs.Step.{doomed_under}
 use Rattle.file_handles.specs.Stands.{IsInWhere}
-use Rattle.file_handles.proofs.DoomedUser.{dooms_not, dooms_there, user_stands}
+use Rattle.file_handles.specs.Dooming.{numbers_in}
+use Rattle.file_handles.proofs.DoomedUser.{dooms_not, dooms_there, least_free, user_stands}
+use Rattle.file_handles.proofs.FirstFree.{few_numbers, takes_first}
 use Rattle.file_handles.proofs.User.{user_found}
 use Rattle.file_handles.proofs.handles.Handles.doom_at.Goals as goal
 
@@ -31,3 +35,24 @@ returns-clause-dooms g c = λ tells b m w touched stand.
     dooms_there s (g.D.Disk.state c.doom.new.disk) k (kept c.take.new.self) (kept c.put.new.self) c.args.name.now c.args.place c.in_ok-object.object c.in_ok-number.number
     (g.met.D.Disk.sound c.args.disk.now tells) c.requires.user c.in_ok-object.ensures.found free
     (c.in_ok-number.ensures.state tells c.in_ok-number.number c.in_ok-number.ensures.number) c.take.ensures.kept c.put.ensures m w touched stand
+
+pub returns-in_err-number-clause-numbered : goal.returns-in_err-number-clause-numbered
+returns-in_err-number-clause-numbered g c = λ tells.
+    let k = kept c.args.self.now in
+    let few : c.doomed_numbers-doomed.result.count < SLOTS = omega (arith, c.if-doomed-ge-SLOTS.false) in
+    let l = least_free (numbers_in k.objects) in
+    let failed : Result ℕ DiskFault = Err c.in_err-number.field-0.0 in
+    takes_first (g.D.Disk.state c.args.disk.now) k (c.requires.told tells) c.args.name.now l.0 l.1
+    (few_numbers _ _ _ c.doomed_numbers-doomed.ensures.numbers few)
+    (g.D.Disk.state c.doom.new.disk) failed
+    (c.in_err-number.ensures.state tells l.0 (subst (λ xs. IsLeastFree xs l.0) (sym c.doomed_numbers-doomed.ensures.numbers) l.1))
+
+pub returns-clause-numbered : goal.returns-clause-numbered
+returns-clause-numbered g c = λ tells.
+    let k = kept c.args.self.now in
+    let few : c.doomed_numbers-doomed.result.count < SLOTS = omega (arith, c.if-doomed-ge-SLOTS.false) in
+    let n = c.in_ok-number.number in
+    takes_first (g.D.Disk.state c.args.disk.now) k (c.requires.told tells) c.args.name.now n
+    (subst (λ xs. IsLeastFree xs n) c.doomed_numbers-doomed.ensures.numbers c.in_ok-number.ensures.number)
+    (few_numbers _ _ _ c.doomed_numbers-doomed.ensures.numbers few)
+    (g.D.Disk.state c.doom.new.disk) (Ok n) (c.in_ok-number.ensures.state tells n c.in_ok-number.ensures.number)
