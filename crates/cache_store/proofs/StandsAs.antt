@@ -1,5 +1,5 @@
 -- A store that stands for a machine, alone and under marks.
-use Rattle.std.proofs.Common.{Bool, true, false, refl}
+use Rattle.std.proofs.Common.{Bool, true, false}
 use Rattle.cache_theory.specs.Machine.{Machine}
 use Rattle.cache_theory.specs.Marks.{Marks}
 use Rattle.disk_model.specs.State.{State}

@@ -10,7 +10,6 @@ ghost use Rattle.cache_store.specs.Replied.{replied};
 ghost use Rattle.cache_store.specs.Saying.{CutsIn, SaysMore};
 ghost use Rattle.cache_theory.specs.Command.Command.{ElementOf, UnsetElement};
 ghost use Rattle.cache_theory.specs.Machine.{Machine};
-ghost use Rattle.cache_theory.specs.Marks.{Marks};
 ghost use Rattle.cache_theory.specs.Step.{step};
 ghost use Rattle.cache_theory.specs.Text.{with_bytes};
 ghost use Rattle.disk_model.specs.State.{State};
