@@ -18,6 +18,6 @@ pub taken_back : (before mid now : FileNotes) (to : Place) → contains place_or
     → KeepsOthers to before mid → KeepsOthers to mid now → KeepsAll before now
 taken_back before mid now to absent made back = λ place noted.
     elim (cases_Bool (is_at (place_ord.ghosts.cmp to) place)) [
-      inl same ↦ absurd (false≢true (sym absent ∙ list_any_congr (eq_by_cmp_equiv places_total) to place before.keys same ∙ noted))
-    | inr apart ↦ back place apart ∙ made place apart ∙ noted
+      | inl same ↦ absurd (false≢true (sym absent ∙ list_any_congr (eq_by_cmp_equiv places_total) to place before.keys same ∙ noted))
+      | inr apart ↦ back place apart ∙ made place apart ∙ noted
     ]

@@ -63,7 +63,10 @@ impl<R: Files + AllocGlobal> Folder<'_, R> {
     {
         let (mut file, writable) = match self.kept.take(place) {
             Some(opened) => (opened.file, opened.writable),
-            None => match self.tree.open(&read_only(), self.tree.path(place)?.as_str()) {
+            None => match self
+                .tree
+                .open(&read_only(), self.tree.path(place)?.as_str())
+            {
                 Ok(file) => (file, false),
                 Err(error) if error.kind() == ErrorKind::NotFound => return Ok(0),
                 Err(error) => return Err(error),
@@ -147,7 +150,9 @@ impl<R: Files + AllocGlobal> Folder<'_, R> {
     {
         let file = match self.kept.take_to_write(place) {
             Some(file) => file,
-            None => self.tree.open(&read_and_write(), self.tree.path(place)?.as_str())?,
+            None => self
+                .tree
+                .open(&read_and_write(), self.tree.path(place)?.as_str())?,
         };
         self.files.insert(*place)?;
         Ok(file)

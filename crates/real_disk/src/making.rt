@@ -61,9 +61,13 @@ impl<R: Files + AllocGlobal> Tree<'_, R> {
         self.make_above(folder)
     }
 
+    // The folder that this one lies in may be nobody's to read, and is noted only where a folder is to be made in it.
     fn make_above(&mut self, folder: &str) -> io::Result<()>
         ensures kept { NoneLost self.old.folders self.new.folders }
     {
+        if is_folder(self.rt, folder) {
+            return Ok(());
+        }
         self.folders.note_above(self.rt.alloc(), parent_of(folder))?;
         make_folder(self.rt, folder)
     }
