@@ -53,6 +53,13 @@ impl<T: Drop> Items<T> {
         })
     }
 
+    /// The list of a vector's items, in the vector's memory.
+    pub fn from_vec(items: Vec<T>) -> Self
+        ensures { result ≡ items.items }
+    {
+        Items { items }
+    }
+
     /// Lends the items.
     pub fn as_slice(&self) -> &[T]
         ensures { result.now ≡ self.now }

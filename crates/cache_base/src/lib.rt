@@ -4,12 +4,14 @@
 
 mod buffer;
 mod items;
+mod laws;
 mod limits;
 mod name;
 mod status;
 
 pub use buffer::Buffer;
 pub use items::{Bytes, Hashes, Items, Names, NoMemory, Numbers};
+pub use laws::limits_are;
 pub use limits::{
     BLOCK_MAX, BODY_MAX, BUFFER_MAX, CACHED, CHANGED_MAX, CHUNK, ELEMENTS_MAX, KEY_MAX, LINE_MAX,
     PIECE_MAX, SCRIPT_MAX, SLOTS, chunks,

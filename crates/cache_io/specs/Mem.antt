@@ -30,6 +30,13 @@ reads_of s = s.calls
 abbrev pub writes_of : MemSink → ℕ
 writes_of s = s.calls
 
+-- how many of these failed
+abbrev pub read_faults_of : MemSource → ℕ
+read_faults_of s = s.faults
+
+abbrev pub write_faults_of : MemSink → ℕ
+write_faults_of s = s.faults
+
 -- the next call is to fail
 abbrev pub FailsNextRead : MemSource → Type 0
 FailsNextRead s = Any (λ number. number ≡ one_more s.calls) s.planned

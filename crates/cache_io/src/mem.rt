@@ -34,7 +34,7 @@ pub struct MemSource {
 }
 
 impl MemSource {
-    ghost use Rattle.cache_io.specs.Mem.{left_in, failing_reads, piece_of, reads_of};
+    ghost use Rattle.cache_io.specs.Mem.{left_in, failing_reads, piece_of, read_faults_of, reads_of};
 
     /// A source that never fails.
     pub fn new(alloc: Global, bytes: Bytes) -> MemSource
@@ -42,6 +42,7 @@ impl MemSource {
         ensures plan { failing_reads result ≡ [] }
         ensures piece { piece_of result ≡ 2 ^ 64 - 1 }
         ensures calls { reads_of result ≡ 0 }
+        ensures faults { read_faults_of result ≡ 0 }
     {
         MemSource::with_plan(bytes, Numbers::new(alloc), usize::MAX)
     }
@@ -53,6 +54,7 @@ impl MemSource {
         ensures plan { failing_reads result ≡ fail }
         ensures piece { piece_of result ≡ piece }
         ensures calls { reads_of result ≡ 0 }
+        ensures faults { read_faults_of result ≡ 0 }
     {
         MemSource {
             bytes,
@@ -104,13 +106,14 @@ pub struct MemSink {
 }
 
 impl MemSink {
-    ghost use Rattle.cache_io.specs.Mem.{taken_in, failing_writes, writes_of};
+    ghost use Rattle.cache_io.specs.Mem.{taken_in, failing_writes, write_faults_of, writes_of};
 
     /// A sink that never fails.
     pub fn new(alloc: Global) -> MemSink
         ensures taken { taken_in result ≡ [] }
         ensures plan { failing_writes result ≡ [] }
         ensures calls { writes_of result ≡ 0 }
+        ensures faults { write_faults_of result ≡ 0 }
     {
         MemSink::with_plan(alloc, Numbers::new(alloc))
     }
@@ -120,6 +123,7 @@ impl MemSink {
         ensures taken { taken_in result ≡ [] }
         ensures plan { failing_writes result ≡ fail }
         ensures calls { writes_of result ≡ 0 }
+        ensures faults { write_faults_of result ≡ 0 }
     {
         MemSink {
             bytes: Bytes::new(alloc),

@@ -14,13 +14,12 @@ use Rattle.cache_theory.specs.Command.{Reply}
 use Rattle.cache_theory.specs.Command.{Command}
 use Rattle.cache_theory.specs.Command.Reply.{Done, Refused, NoneThere, Part, Value}
 use Rattle.cache_theory.specs.Machine.{Machine}
-use Rattle.cache_theory.specs.Marks.{Marks}
 use Rattle.cache_theory.specs.Step.{step}
 use Rattle.cache_theory.specs.Text.{reply_text, with_bytes}
 use Rattle.disk_model.specs.State.{State}
 use Rattle.file_handles.specs.Carries.{CarriesOut}
 use Rattle.file_handles.specs.Kept.{Kept}
-use Rattle.file_handles.specs.Stands.{IsIn}
+use Rattle.file_handles.specs.Stands.{StandFor}
 use Rattle.cache_store.proofs.ElemSaid.{said_nothing}
 
 module _ (a b : Option (List ℕ)) (was : List ℕ) where
@@ -64,9 +63,9 @@ module _ (a b : Option (List ℕ)) (was : List ℕ) (none : was ≡ []) where
   bytes_cut v held answer f is cuts = cut_answer a b was (Part v) answer f held none is cuts
 
 -- the machine's reply, where a call carries the command out
-pub as_carried : (s t : State) (k after : Kept) (c : Command) (r : Reply) → CarriesOut c (Some r) s t k after → (m : Machine) (w : Marks) → IsIn s k m w
+pub as_carried : (s t : State) (k after : Kept) (c : Command) (r : Reply) → CarriesOut c (Some r) s t k after → (m : Machine) → StandFor s k m
     → (answer : Result Answered StoreFault) (a b : Option (List ℕ)) (held : List ℕ) → AnswersTo r answer a b held → AnswersTo (step m c).reply answer a b held
-as_carried s t k after c r carried m w is answer a b held said = subst (λ (q : Reply). AnswersTo q answer a b held) (carried m w is).replies said
+as_carried s t k after c r carried m is answer a b held said = subst (λ (q : Reply). AnswersTo q answer a b held) (carried.answers m is).reply said
 
 some_is : (p q : Reply) → ◌≡◌ {A = Option Reply} (Some p) (Some q) → p ≡ q
 some_is p q e = cc

@@ -1,4 +1,5 @@
 pub mod Closed
+pub mod StandsAs
 pub mod ElemReply
 pub mod ElemSaid
 pub mod GotAnswers
@@ -12,6 +13,7 @@ pub mod PerformSafe
 pub mod PerformStands
 pub mod PerformSteps
 pub mod PerformWhole
+pub mod PrintedLaws
 pub mod SaidAdds
 pub mod SaidMore
 pub mod Shelves

@@ -20,6 +20,7 @@ use Rattle.file_handles.specs.Carries.{Begins, IsShelf}
 use Rattle.cache_store.specs.Open.{IsOpen, KeepsFound, Open, Opens, OpensSafely}
 use Rattle.cache_store.proofs.Closed.{settled_quiet}
 use Rattle.cache_store.proofs.Shelves.{shelf_exists}
+use Rattle.cache_store.proofs.StandsAs.{stands_as}
 
 -- doomed files are removed one after the other
 each_safe : (numbers : List ℕ) (s : State) (w : Marks) → IsSafe s w → IsSafe (removed_each numbers s) w
@@ -49,7 +50,7 @@ opened_stands s t u now o sound synced cleared moment small begins shelf rest is
     let quiet : IsQuiet u = subst IsQuiet (sym synced) (settled_quiet t) in
     let same : IsShelf u shelf = subst (λ v. IsShelf v shelf) (sym synced) (synced_shelf s t shelf cleared is) in
     record {
-      stands = begins u now shelf rest small same (λ k. ap (λ v. standing v (Doomed k)) synced ∙ (settled_same t (Doomed k) ∙ cleared.none k)) (quiet_files_once u quiet sound)
+      stands = (begins u now shelf rest small same (λ k. ap (λ v. standing v (Doomed k)) synced ∙ (settled_same t (Doomed k) ∙ cleared.none k))).crash (quiet_files_once u quiet sound)
           (opened_safe u now shelf rest quiet same);
       same_moment = sym moment;
     }
@@ -58,7 +59,7 @@ opened_stands s t u now o sound synced cleared moment small begins shelf rest is
 pub opens_open : (s t : State) (now : ℕ) (o : Open) → IsFinite s → Opens now s t o → IsOpen t o
 opens_open s t now o finite opens =
     let shelf = shelf_exists s finite in
-    (opened now shelf.0 [], (marks_of (opened now shelf.0 []), opens shelf.0 [] shelf.1))
+    (opened now shelf.0 [], stands_as (opens shelf.0 [] shelf.1))
 
 -- and after a crash at any exit each key is found as it was
 pub keeps_found : (s t : State) (now : ℕ) → IsFinite s → OpensSafely now s t → KeepsFound s t

@@ -13,16 +13,20 @@ use Rattle.cache_store.specs.declared.fault.StoreFault.{StoreFault}
 use Rattle.cache_store.specs.declared.fault.StoreFault.TheVariants as fault
 
 module _ (c : Command) (s t : State) (old new : Open) (before now : Option (List ℕ)) where
-  -- no more than the marks after it allow
+  -- no more than the marks allow
   pub performs_safely : (answer : Result Outcome StoreFault) → PerformsFor c answer s t old new before now → PerformsSafely c answer s t old
-  performs_safely (Ok o) performs m w is = safe_is_crash_safe t (acked m c w) (performs m w is).next.stands.crash_kept.safe
-  performs_safely (Err f) performs m w is = safe_is_crash_safe t (begun m c w) (performs m w is).safe
+  performs_safely (Ok o) performs m w is =
+      let kept = performs.crash m w is in
+      (safe_is_crash_safe t (begun m c w) kept.safe, λ had. safe_is_crash_safe t (acked m c w) kept.next.stands.crash_kept.safe)
+  performs_safely (Err f) performs m w is =
+      let kept = performs.crash m w is in
+      (safe_is_crash_safe t (begun m c w) kept.safe, λ sink. safe_is_crash_safe t (acked m c w) (kept.effect sink).stands.crash_kept.safe)
 
   -- with an answer it is open
   pub performs_open : (answer : Result Outcome StoreFault) {P : Type 0} → (P → IsOpen s old) → (P → PerformsFor c answer s t old new before now) → OnOk answer (P → IsOpen t new)
   performs_open (Ok o) opened performs = λ told.
       let was = opened told in
-      ((step was.0 c).next, (acked was.0 c was.1.0, (performs told was.0 was.1.0 was.1.1).next))
+      ((step was.0 c).next, ((performs told).answers was.0 was.1).next)
   performs_open (Err f) opened performs = tt
 
   -- and so it is where the sink failed
@@ -30,4 +34,4 @@ module _ (c : Command) (s t : State) (old new : Open) (before now : Option (List
   performs_sink_open (Ok o) was performs same = absurd (cc same)
   performs_sink_open (Err f) was performs same =
       let sink : f ≡ fault.Sink = cc same in
-      ((step was.0 c).next, (begun was.0 c was.1.0, (performs was.0 was.1.0 was.1.1).effect sink))
+      ((step was.0 c).next, (performs.answers was.0 was.1).effect sink)

@@ -20,7 +20,7 @@ use Rattle.disk_model.proofs.Standing.{settled_same}
 use Rattle.entry_file.specs.EntryFile.{found, read_for, whole_in}
 use Rattle.entry_name.specs.EntryName.{file_name}
 use Rattle.file_handles.specs.Kept.{Kept}
-use Rattle.file_handles.specs.Stands.{HandlesStand, IsAt, IsIn, Stands}
+use Rattle.file_handles.specs.Stands.{HandlesStand, IsAt, IsInWhere, Stands}
 use Rattle.cache_store.proofs.Closed.{settled_quiet}
 
 -- ---- another moment
@@ -62,7 +62,7 @@ module _ (now : ℕ) (m : Machine) where
     young = kept.young;
   }
 
-  pub moment_in : (s : State) (k : Kept) (w : Marks) → IsProper (at_moment now m) → IsIn s k m w → IsIn s k (at_moment now m) w
+  pub moment_in : {b : Bool} (s : State) (k : Kept) (w : Marks) → IsProper (at_moment now m) → IsInWhere b s k m w → IsInWhere b s k (at_moment now m) w
   moment_in s k w proper is = record {
     number = is.number;
     stands = record {
@@ -71,7 +71,7 @@ module _ (now : ℕ) (m : Machine) where
       entries = λ name. is.stands.entries name ∙ sym (entry_along m (at_moment now m) name refl refl (λ i at. refl));
       doomed = moment_doomed (standing s) (IsAt k is.number) is.stands.doomed;
     };
-    crash_kept = moment_kept s w (IsAt k is.number) is.crash_kept;
+    crash_kept = λ on. moment_kept s w (IsAt k is.number) (is.crash_kept on);
   }
 
 -- ---- a sync
@@ -104,13 +104,13 @@ module _ (s : State) (sound : IsSound s) (k : Kept) (m : Machine) where
       let same = sound.one_place 0 (Doomed d) (entry_place name) file at (ever_settled s (entry_place name) file ever) in
       absurd (cc)
 
-  pub settled_in : (w : Marks) → IsIn s k m w → IsIn (settled s) k m (marks_of m)
+  pub settled_in : {b : Bool} (w : Marks) → IsInWhere b s k m w → IsInWhere b (settled s) k m (marks_of m)
   settled_in w is = record {
     number = is.number;
     stands = settled_stands is.number is.stands;
-    crash_kept = record {
+    crash_kept = λ on. record {
       safe = quiet_is_safe (settled s) m (settled_quiet s) (settled_found is.number is.stands);
-      once = sync_files_once s is.crash_kept.once;
+      once = sync_files_once s (is.crash_kept on).once;
       doomed = λ d i file name at h names ever. apart_doomed d file name _ names ever;
       unburied = never_buried m;
       young = omega arith;

@@ -3,6 +3,7 @@ pub mod EntryText
 pub mod Faults
 pub mod Open
 pub mod Performing
+pub mod Printed
 pub mod Replied
 pub mod Said
 pub mod Saying

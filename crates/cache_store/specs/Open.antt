@@ -1,5 +1,5 @@
 -- A store that is open.
-use Rattle.std.specs.Prelude.{List, OnOk, Result, ℕ, ◌≡◌}
+use Rattle.std.specs.Prelude.{Bool, List, OnOk, Result, ℕ, ◌≡◌}
 use Rattle.cache_theory.specs.Crash.{IsCrashSafe, IsSafe}
 use Rattle.cache_theory.specs.Ever.{entries}
 use Rattle.cache_theory.specs.Machine.{Machine, opened}
@@ -14,7 +14,7 @@ use Rattle.entry_file.specs.EntryFile.{found}
 use Rattle.file_handles.specs.Carries.{IsShelf}
 use Rattle.file_handles.specs.Closing.{IsClosed}
 use Rattle.file_handles.specs.Kept.{Kept, kept}
-use Rattle.file_handles.specs.Stands.{IsIn}
+use Rattle.file_handles.specs.Stands.{IsIn, IsInWhere, StandFor}
 
 -- what it keeps: the handles and the moment
 pub record Open : Type 0 where
@@ -24,14 +24,24 @@ pub record Open : Type 0 where
 abbrev pub open_of : Store → Open
 open_of store = record { handles = kept store.handles; moment = store.moment }
 
--- the store and the disk stand for this machine, and the disk keeps what the marks ask for
+-- the store and the disk stand for this machine
+pub record StandsAs (s : State) (o : Open) (m : Machine) : Type 0 where
+  pub stands : StandFor s o.handles m
+  pub same_moment : m.moment ≡ o.moment
+
+-- there is such a machine
+abbrev pub IsOpen : State → Open → Type 0
+IsOpen s o = (m : Machine) × StandsAs s o m
+
+-- so they do, and the disk keeps what the marks ask for
 pub record StandsFor (s : State) (o : Open) (m : Machine) (w : Marks) : Type 0 where
   pub stands : IsIn s o.handles m w
   pub same_moment : m.moment ≡ o.moment
 
--- there are such a machine and such marks
-abbrev pub IsOpen : State → Open → Type 0
-IsOpen s o = (m : Machine) × ((w : Marks) × StandsFor s o m w)
+-- so they do, and where a crash is spoken of the disk keeps what the marks ask for
+pub record StandsWhere (crash : Bool) (s : State) (o : Open) (m : Machine) (w : Marks) : Type 0 where
+  pub stands : IsInWhere crash s o.handles m w
+  pub same_moment : m.moment ≡ o.moment
 
 -- the entry files that stand are those of some shelf
 abbrev pub HasShelf : State → Type 0
@@ -59,6 +69,7 @@ pub record IsShut (t : State) (m : Machine) : Type 0 where
 abbrev pub ClosesSafely : State → State → Open → Type 0
 ClosesSafely s t o = (m : Machine) (w : Marks) → StandsFor s o m w → IsCrashSafe t w
 
--- the store is closed, whatever the state of the machine and the marks
-abbrev pub Closes : Result (Unit {0}) StoreFault → State → State → Open → Type 0
-Closes answer s t o = (m : Machine) (w : Marks) → StandsFor s o m w → IsSafe t w × OnOk answer (IsShut t m)
+-- the store is closed, whatever machine it stands for, and whatever marks the disk keeps to
+pub record Closes (answer : Result (Unit {0}) StoreFault) (s t : State) (o : Open) : Type 0 where
+  pub shut : (m : Machine) → StandsAs s o m → OnOk answer (IsShut t m)
+  pub crash : (m : Machine) (w : Marks) → StandsFor s o m w → IsSafe t w

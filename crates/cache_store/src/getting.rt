@@ -1,6 +1,6 @@
 //! The reply of a `get`.
 
-ghost use Rattle.std.specs.Prelude.{◌≡◌, ◌≢◌, ◌≤◌, List, [], ℕ, Err, IsErrOf, IsTrue, OnErr, OnOk, Some, length, take};
+ghost use Rattle.std.specs.Prelude.{◌≡◌, ◌≢◌, ◌≤◌, List, [], ℕ, Err, IfOk, IsErrOf, IsTrue, OnErr, OnOk, Some, length, take};
 ghost use Rattle.cache_base.specs.Causes.{HasCause};
 ghost use Rattle.cache_store.specs.EntryText.{entry_text, head_text};
 ghost use Rattle.cache_store.specs.Saying.{CutsIn, SaysMore};
@@ -57,7 +57,7 @@ fn say_chunks<D: Disk, K: Sink>(
     ensures cut { OnErr result (IsTrue D.tells → (content : List ℕ) → standing (D.state disk.old) place.now ≡ Some content → len ≤ length content
         → CutsIn (K.taken sink.old) (K.taken sink.new) reply.old.held (take len content)) }
     ensures state { IsTrue D.tells → D.state disk.new ≡ D.state disk.old }
-    ensures no_change { IsTrue D.tells → (D.counts disk.new).failed_change ≡ (D.counts disk.old).failed_change }
+    ensures no_change { IsTrue D.tells → (D.counts disk.new).failed ≡ (D.counts disk.old).failed }
     ensures sink { HasCause (IsErrOf result StoreFault.Sink) (K.faults sink.old) (K.faults sink.new) }
     ensures cause { HasCause (IsErrOf result StoreFault.Disk) (D.faults disk.old) (D.faults disk.new) }
 {
@@ -88,7 +88,7 @@ impl Store {
             → CutsIn (K.taken sink.old) (K.taken sink.new) self.old.reply.held (entry_text (meta_of meta.now) (take meta.now.offset content))) }
         ensures open { open_of self.new ≡ open_of self.old }
         ensures state { IsTrue D.tells → D.state disk.new ≡ D.state disk.old }
-        ensures no_change { IsTrue D.tells → (D.counts disk.new).failed_change ≡ (D.counts disk.old).failed_change }
+        ensures no_change { IsTrue D.tells → (D.counts disk.new).failed ≡ (D.counts disk.old).failed }
         ensures sink { HasCause (IsErrOf result StoreFault.Sink) (K.faults sink.old) (K.faults sink.new) }
         ensures cause { HasCause (IsErrOf result StoreFault.Disk) (D.faults disk.old) (D.faults disk.new) }
     {
@@ -117,9 +117,11 @@ impl Store {
         requires told { IsTrue D.tells → StandsSomehow (D.state disk.old) (open_of self.old).handles }
         ensures answers { IsTrue D.tells → (m : Machine) (number : ℕ → ℕ) → Stands (standing (D.state disk.old)) (open_of self.old).handles m number
             → AnswersTo (step m (Get key.now)).reply result (K.taken sink.old) (K.taken sink.new) self.new.reply.held }
+        ensures unsaid { IfOk result (λ a. a ≢ Answered.All → sink.new ≡ sink.old) }
+        ensures still_empty { IfOk result (λ a. a ≢ Answered.All → self.new.reply.held ≡ []) }
         ensures open { open_of self.new ≡ open_of self.old }
         ensures state { IsTrue D.tells → D.state disk.new ≡ D.state disk.old }
-        ensures no_change { IsTrue D.tells → (D.counts disk.new).failed_change ≡ (D.counts disk.old).failed_change }
+        ensures no_change { IsTrue D.tells → (D.counts disk.new).failed ≡ (D.counts disk.old).failed }
         ensures sink { HasCause (IsErrOf result StoreFault.Sink) (K.faults sink.old) (K.faults sink.new) }
         ensures cause { HasCause (IsErrOf result StoreFault.Disk) (D.faults disk.old) (D.faults disk.new) }
     {

@@ -1,10 +1,11 @@
 //! One command, and its reply.
 
-ghost use Rattle.std.specs.Prelude.{◌≡◌, ◌≢◌, ◌<◌, ◌⊎◌, [], List, ℕ, Option, Err, Ok, IfOk, IsErrOf, IsTrue, OnErr, OnOk, codes};
+ghost use Rattle.std.specs.Prelude.{◌≡◌, ◌≢◌, ◌<◌, ◌⊎◌, [], List, ℕ, Option, Err, Ok, true, IfOk, IsErrOf, IsTrue, OnErr, OnOk, codes};
 ghost use Rattle.std.specs.Io.KnownBytes.{Appends};
 ghost use Rattle.cache_base.specs.Causes.{HasCause};
 ghost use Rattle.cache_base.specs.declared.limits.TheConstants.{SLOTS};
 ghost use Rattle.cache_store.specs.Answering.{AnswersTo, SaysOf, outcome_in, rest_of};
+ghost use Rattle.cache_store.specs.Printed.{HasBadKey, IsPlain, Prints, is_plain};
 ghost use Rattle.cache_store.specs.Replied.{replied};
 ghost use Rattle.cache_store.specs.Saying.{CutsIn, SaysMore};
 ghost use Rattle.cache_theory.specs.Command.Command.{ElementOf, UnsetElement};
@@ -34,6 +35,7 @@ use std::alloc::Global;
 fn answer_of<T: Drop>(answer: Result<T, HandleFault>) -> Result<Answered, StoreFault>
     ensures replies { replied result ≡ done_or answer }
     ensures not_said { result ≢ Ok Answered.All }
+    ensures plain { IfOk result IsPlain }
     ensures no_sink { result ≢ Err StoreFault.Sink }
     ensures disk { result ≡ Err StoreFault.Disk → answer ≡ Err HandleFault.Disk }
     ensures of_disk { answer ≡ Err HandleFault.Disk → result ≡ Err StoreFault.Disk }
@@ -98,7 +100,7 @@ fn say_rest<K: Sink>(
 }
 
 impl Store {
-    ghost use Rattle.file_handles.specs.Stands.{IsIn, StandsSomehow};
+    ghost use Rattle.file_handles.specs.Stands.{StandFor, StandsSomehow};
     ghost use Rattle.cache_store.specs.Open.{IsOpen, open_of};
     ghost use Rattle.cache_store.specs.Performing.{DoesFor, PerformsFor, PerformsSafely};
     ghost use Rattle.cache_store.specs.Said.{IsCut};
@@ -113,8 +115,10 @@ impl Store {
     ) -> Result<Answered, StoreFault>
         requires slot { slot < SLOTS }
         requires empty { self.old.reply.held ≡ [] }
-        ensures answers { (s : State) (m : Machine) (w : Marks) → IsIn s (open_of self.old).handles m w
+        ensures answers { (s : State) (m : Machine) → StandFor s (open_of self.old).handles m
             → AnswersTo (step m (ElementOf slot name.now)).reply result (K.taken sink.old) (K.taken sink.new) self.new.reply.held }
+        ensures unsaid { IfOk result (λ a. a ≢ Answered.All → sink.new ≡ sink.old) }
+        ensures still_empty { IfOk result (λ a. a ≢ Answered.All → self.new.reply.held ≡ []) }
         ensures open { open_of self.new ≡ open_of self.old }
         ensures no_disk { result ≢ Err StoreFault.Disk }
         ensures sink { HasCause (IsErrOf result StoreFault.Sink) (K.faults sink.old) (K.faults sink.new) }
@@ -144,7 +148,7 @@ impl Store {
         ensures no_sink { result ≢ Err StoreFault.Sink }
         ensures moment { self.new.moment ≡ self.old.moment }
         ensures held { self.new.reply.held ≡ self.old.reply.held }
-        ensures went_on { OnOk result (IsTrue D.tells → (D.counts disk.new).failed_change ≡ (D.counts disk.old).failed_change) }
+        ensures went_on { OnOk result (IsTrue D.tells → (D.counts disk.new).failed ≡ (D.counts disk.old).failed) }
         ensures stops { IsTrue D.tells → StopsAtFault (D.counts disk.old) (D.counts disk.new) }
         ensures cause { HasCause (IsErrOf result StoreFault.Disk) (D.faults disk.old) (D.faults disk.new) }
     {
@@ -170,8 +174,12 @@ impl Store {
         requires told { IsTrue D.tells → IsOpen (D.state disk.old) (open_of self.old) }
         ensures does { IsTrue D.tells → DoesFor (command_of c.now) result (D.state disk.old) (D.state disk.new) (open_of self.old) (open_of self.new)
             (K.taken sink.old) (K.taken sink.new) self.new.reply.held }
-        ensures went_on { OnOk result (IsTrue D.tells → (D.counts disk.new).failed_change ≡ (D.counts disk.old).failed_change) }
-        ensures sink_went_on { result ≡ Err StoreFault.Sink → IsTrue D.tells → (D.counts disk.new).failed_change ≡ (D.counts disk.old).failed_change }
+        ensures plain { IfOk result (λ a. is_plain (command_of c.now) ≡ true → IsPlain a) }
+        ensures bad_key { HasBadKey (command_of c.now) → result ≢ Ok Answered.Done }
+        ensures unsaid { IfOk result (λ a. a ≢ Answered.All → sink.new ≡ sink.old) }
+        ensures still_empty { IfOk result (λ a. a ≢ Answered.All → self.new.reply.held ≡ []) }
+        ensures went_on { OnOk result (IsTrue D.tells → (D.counts disk.new).failed ≡ (D.counts disk.old).failed) }
+        ensures sink_went_on { result ≡ Err StoreFault.Sink → IsTrue D.tells → (D.counts disk.new).failed ≡ (D.counts disk.old).failed }
         ensures stops { IsTrue D.tells → StopsAtFault (D.counts disk.old) (D.counts disk.new) }
         ensures sink { HasCause (IsErrOf result StoreFault.Sink) (K.faults sink.old) (K.faults sink.new) }
         ensures cause { HasCause (IsErrOf result StoreFault.Disk) (D.faults disk.old) (D.faults disk.new) }
@@ -239,11 +247,13 @@ impl Store {
         requires told { IsTrue D.tells → IsOpen (D.state disk.old) (open_of self.old) }
         ensures performs { IsTrue D.tells → PerformsFor (command_of c.now) result (D.state disk.old) (D.state disk.new) (open_of self.old) (open_of self.new)
             (K.taken sink.old) (K.taken sink.new) }
+        ensures prints { IfOk result (λ o. Prints (command_of c.now) o (K.taken sink.old) (K.taken sink.new)) }
+        ensures bad_key { HasBadKey (command_of c.now) → result ≢ Ok Outcome.Ok }
         ensures crash { IsTrue D.tells → PerformsSafely (command_of c.now) result (D.state disk.old) (D.state disk.new) (open_of self.old) }
         ensures open { OnOk result (IsTrue D.tells → IsOpen (D.state disk.new) (open_of self.new)) }
         ensures sink_open { result ≡ Err StoreFault.Sink → IsTrue D.tells → IsOpen (D.state disk.new) (open_of self.new) }
-        ensures went_on { OnOk result (IsTrue D.tells → (D.counts disk.new).failed_change ≡ (D.counts disk.old).failed_change) }
-        ensures sink_went_on { result ≡ Err StoreFault.Sink → IsTrue D.tells → (D.counts disk.new).failed_change ≡ (D.counts disk.old).failed_change }
+        ensures went_on { OnOk result (IsTrue D.tells → (D.counts disk.new).failed ≡ (D.counts disk.old).failed) }
+        ensures sink_went_on { result ≡ Err StoreFault.Sink → IsTrue D.tells → (D.counts disk.new).failed ≡ (D.counts disk.old).failed }
         ensures stops { IsTrue D.tells → StopsAtFault (D.counts disk.old) (D.counts disk.new) }
         ensures sink { HasCause (IsErrOf result StoreFault.Sink) (K.faults sink.old) (K.faults sink.new) }
         ensures cause { HasCause (IsErrOf result StoreFault.Disk) (D.faults disk.old) (D.faults disk.new) }

@@ -1,6 +1,6 @@
 //! The reply of a `read`.
 
-ghost use Rattle.std.specs.Prelude.{◌≡◌, ◌<◌, ◌≤◌, ◌+◌, ◌^◌, [], ℕ, IfOk, IsErrOf, IsTrue, OnErr, OnOk, codes, drop, length, take};
+ghost use Rattle.std.specs.Prelude.{◌≡◌, ◌≢◌, ◌<◌, ◌≤◌, ◌+◌, ◌^◌, [], ℕ, IfOk, IsErrOf, IsTrue, OnErr, OnOk, codes, drop, length, take};
 ghost use Rattle.cache_base.specs.Causes.{HasCause};
 ghost use Rattle.cache_base.specs.declared.limits.TheConstants.{SLOTS};
 ghost use Rattle.cache_store.specs.Saying.{CutsIn, SaysMore, SaysPart, StopsIn};
@@ -42,7 +42,7 @@ fn say_part<D: Disk, K: Sink>(
     ensures bound { IfOk result (λ n. n ≤ len) }
     ensures kept { kept handles.new ≡ kept handles.old }
     ensures state { IsTrue D.tells → D.state disk.new ≡ D.state disk.old }
-    ensures no_change { IsTrue D.tells → (D.counts disk.new).failed_change ≡ (D.counts disk.old).failed_change }
+    ensures no_change { IsTrue D.tells → (D.counts disk.new).failed ≡ (D.counts disk.old).failed }
     ensures sink { HasCause (IsErrOf result StoreFault.Sink) (K.faults sink.old) (K.faults sink.new) }
     ensures cause { HasCause (IsErrOf result StoreFault.Disk) (D.faults disk.old) (D.faults disk.new) }
 {
@@ -77,7 +77,7 @@ fn say_parts<D: Disk, K: Sink>(
         → StopsIn (K.taken sink.old) (K.taken sink.new) reply.old.held (take len (drop from (object_of m slot).version.body))) }
     ensures kept { kept handles.new ≡ kept handles.old }
     ensures state { IsTrue D.tells → D.state disk.new ≡ D.state disk.old }
-    ensures no_change { IsTrue D.tells → (D.counts disk.new).failed_change ≡ (D.counts disk.old).failed_change }
+    ensures no_change { IsTrue D.tells → (D.counts disk.new).failed ≡ (D.counts disk.old).failed }
     ensures sink { HasCause (IsErrOf result StoreFault.Sink) (K.faults sink.old) (K.faults sink.new) }
     ensures cause { HasCause (IsErrOf result StoreFault.Disk) (D.faults disk.old) (D.faults disk.new) }
 {
@@ -114,7 +114,7 @@ fn say_bytes<D: Disk, K: Sink>(
         → CutsIn (K.taken sink.old) (K.taken sink.new) reply.old.held (with_bytes (codes "data") (take len (drop from (object_of m slot).version.body)))) }
     ensures kept { kept handles.new ≡ kept handles.old }
     ensures state { IsTrue D.tells → D.state disk.new ≡ D.state disk.old }
-    ensures no_change { IsTrue D.tells → (D.counts disk.new).failed_change ≡ (D.counts disk.old).failed_change }
+    ensures no_change { IsTrue D.tells → (D.counts disk.new).failed ≡ (D.counts disk.old).failed }
     ensures sink { HasCause (IsErrOf result StoreFault.Sink) (K.faults sink.old) (K.faults sink.new) }
     ensures cause { HasCause (IsErrOf result StoreFault.Disk) (D.faults disk.old) (D.faults disk.new) }
 {
@@ -144,9 +144,11 @@ impl Store {
         requires told { IsTrue D.tells → StandsSomehow (D.state disk.old) (open_of self.old).handles }
         ensures answers { IsTrue D.tells → (m : Machine) (number : ℕ → ℕ) → Stands (standing (D.state disk.old)) (open_of self.old).handles m number
             → AnswersTo (step m (ReadPart slot from len)).reply result (K.taken sink.old) (K.taken sink.new) self.new.reply.held }
+        ensures unsaid { IfOk result (λ a. a ≢ Answered.All → sink.new ≡ sink.old) }
+        ensures still_empty { IfOk result (λ a. a ≢ Answered.All → self.new.reply.held ≡ []) }
         ensures open { open_of self.new ≡ open_of self.old }
         ensures state { IsTrue D.tells → D.state disk.new ≡ D.state disk.old }
-        ensures no_change { IsTrue D.tells → (D.counts disk.new).failed_change ≡ (D.counts disk.old).failed_change }
+        ensures no_change { IsTrue D.tells → (D.counts disk.new).failed ≡ (D.counts disk.old).failed }
         ensures sink { HasCause (IsErrOf result StoreFault.Sink) (K.faults sink.old) (K.faults sink.new) }
         ensures cause { HasCause (IsErrOf result StoreFault.Disk) (D.faults disk.old) (D.faults disk.new) }
     {

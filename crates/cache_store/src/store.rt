@@ -36,7 +36,7 @@ impl Store {
         ensures opens { IfOk result (λ store. IsTrue D.tells → Opens now (D.state disk.old) (D.state disk.new) (open_of store)) }
         ensures open { IfOk result (λ store. IsTrue D.tells → IsOpen (D.state disk.new) (open_of store)) }
         ensures no_sink { result ≢ Err StoreFault.Sink }
-        ensures went_on { OnOk result (IsTrue D.tells → (D.counts disk.new).failed_change ≡ (D.counts disk.old).failed_change) }
+        ensures went_on { OnOk result (IsTrue D.tells → (D.counts disk.new).failed ≡ (D.counts disk.old).failed) }
         ensures stops { IsTrue D.tells → StopsAtFault (D.counts disk.old) (D.counts disk.new) }
         ensures cause { HasCause (IsErrOf result StoreFault.Disk) (D.faults disk.old) (D.faults disk.new) }
     {
@@ -61,7 +61,7 @@ impl Store {
         ensures crash { IsTrue D.tells → ClosesSafely (D.state disk.old) (D.state disk.new) (open_of self) }
         ensures quiet { OnOk result (IsTrue D.tells → IsQuiet (D.state disk.new)) }
         ensures no_sink { result ≢ Err StoreFault.Sink }
-        ensures went_on { OnOk result (IsTrue D.tells → (D.counts disk.new).failed_change ≡ (D.counts disk.old).failed_change) }
+        ensures went_on { OnOk result (IsTrue D.tells → (D.counts disk.new).failed ≡ (D.counts disk.old).failed) }
         ensures stops { IsTrue D.tells → StopsAtFault (D.counts disk.old) (D.counts disk.new) }
         ensures cause { HasCause (IsErrOf result StoreFault.Disk) (D.faults disk.old) (D.faults disk.new) }
     {

@@ -75,7 +75,7 @@ fn perform_script<D: Disk, S: Source, K: Sink>(
     ensures read { result ≡ Ok Status.Done → IsAtEnd (S.left source.new) }
     ensures bad { result ≡ Ok Status.Script → HasBadCommand (S.left source.old) }
     ensures open { IsClosing (status_in result) → IsTrue D.tells → IsOpen (D.state disk.new) (open_of store.new) }
-    ensures went_on { IsClosing (status_in result) → IsTrue D.tells → (D.counts disk.new).failed_change ≡ (D.counts disk.old).failed_change }
+    ensures went_on { IsClosing (status_in result) → IsTrue D.tells → (D.counts disk.new).failed ≡ (D.counts disk.old).failed }
     ensures stops { IsTrue D.tells → StopsAtFault (D.counts disk.old) (D.counts disk.new) }
     ensures source { HasCause (result ≡ Ok Status.Source) (S.faults source.old) (S.faults source.new) }
     ensures sink { HasCause (IsErrOf result StoreFault.Sink) (K.faults sink.old) (K.faults sink.new) }
@@ -106,8 +106,8 @@ fn perform_commands<D: Disk, S: Source, K: Sink>(
     ensures comes { CameTo D.tells result (S.left source.old) (S.left source.new) (D.state disk.old) (D.state disk.new) (open_of store.old) (open_of store.new) (K.taken sink.old) (K.taken sink.new) }
     ensures open { OnOk result (IsTrue D.tells → IsOpen (D.state disk.new) (open_of store.new)) }
     ensures sink_open { result ≡ Err StoreFault.Sink → IsTrue D.tells → IsOpen (D.state disk.new) (open_of store.new) }
-    ensures went_on { OnOk result (IsTrue D.tells → (D.counts disk.new).failed_change ≡ (D.counts disk.old).failed_change) }
-    ensures sink_went_on { result ≡ Err StoreFault.Sink → IsTrue D.tells → (D.counts disk.new).failed_change ≡ (D.counts disk.old).failed_change }
+    ensures went_on { OnOk result (IsTrue D.tells → (D.counts disk.new).failed ≡ (D.counts disk.old).failed) }
+    ensures sink_went_on { result ≡ Err StoreFault.Sink → IsTrue D.tells → (D.counts disk.new).failed ≡ (D.counts disk.old).failed }
     ensures stops { IsTrue D.tells → StopsAtFault (D.counts disk.old) (D.counts disk.new) }
     ensures source { HasCause (result ≡ Ok Ended.Failed) (S.faults source.old) (S.faults source.new) }
     ensures sink { HasCause (IsErrOf result StoreFault.Sink) (K.faults sink.old) (K.faults sink.new) }
@@ -134,8 +134,8 @@ fn perform_next<D: Disk, S: Source, K: Sink>(
     ensures further { result ≡ Ok None → given_in reader.old < given_in reader.new }
     ensures open { OnOk result (IsTrue D.tells → IsOpen (D.state disk.new) (open_of store.new)) }
     ensures sink_open { result ≡ Err StoreFault.Sink → IsTrue D.tells → IsOpen (D.state disk.new) (open_of store.new) }
-    ensures went_on { OnOk result (IsTrue D.tells → (D.counts disk.new).failed_change ≡ (D.counts disk.old).failed_change) }
-    ensures sink_went_on { result ≡ Err StoreFault.Sink → IsTrue D.tells → (D.counts disk.new).failed_change ≡ (D.counts disk.old).failed_change }
+    ensures went_on { OnOk result (IsTrue D.tells → (D.counts disk.new).failed ≡ (D.counts disk.old).failed) }
+    ensures sink_went_on { result ≡ Err StoreFault.Sink → IsTrue D.tells → (D.counts disk.new).failed ≡ (D.counts disk.old).failed }
     ensures stops { IsTrue D.tells → StopsAtFault (D.counts disk.old) (D.counts disk.new) }
     ensures source { HasCause (result ≡ Ok (Some Ended.Failed)) (S.faults source.old) (S.faults source.new) }
     ensures sink { HasCause (IsErrOf result StoreFault.Sink) (K.faults sink.old) (K.faults sink.new) }

@@ -56,7 +56,7 @@ pub fn read_chunk<D: Disk>(
     ensures chunk { OnOk result (IsTrue D.tells → IfSome (standing (D.state disk.old) place.now) (λ content. offset ≤ length content → buf.new ≡ chunk (take offset content) index)) }
     ensures state { IsTrue D.tells → D.state disk.new ≡ D.state disk.old }
     ensures counts { IsTrue D.tells → D.counts disk.new ≡ counted_read place.now (D.counts disk.old) }
-    ensures no_change { IsTrue D.tells → (D.counts disk.new).failed_change ≡ (D.counts disk.old).failed_change }
+    ensures no_change { IsTrue D.tells → (D.counts disk.new).failed ≡ (D.counts disk.old).failed }
     ensures cause { HasCause (IsErrOf result DiskFault.Failed) (D.faults disk.old) (D.faults disk.new) }
 {
     let from = index as usize * CHUNK;

@@ -17,11 +17,16 @@ if_done (Ok value) new old = new
 if_done (Err Failed) new old = new
 if_done (Err Memory) new old = old
 
+-- the numbers of the last change and of the last sync that failed, or 0 where none did
+pub record LastFailed : Type 0 where
+  pub change : ℕ
+  pub sync : ℕ
+
 pub record Counts : Type 0 where
   -- the calls so far
   pub calls : ℕ
-  -- the number of the last change or sync that failed, or 0
-  pub failed_change : ℕ
+  -- which of them that were to change or sync something failed last
+  pub failed : LastFailed
   -- the calls so far that look at an entry's place without changing it
   pub entry_reads : ℕ
 
@@ -29,19 +34,32 @@ pub record Counts : Type 0 where
 abbrev pub counted : Counts → Counts
 counted c = record c { calls = one_more c.calls }
 
--- after a change or a sync with this answer
+-- no call was made, and none failed
+abbrev pub no_counts : Counts
+no_counts = record { calls = 0; failed = record { change = 0; sync = 0 }; entry_reads = 0 }
+
+-- after a change with this answer
 abbrev pub counted_change : {T : Type 0} → Result T DiskFault → Counts → Counts
-counted_change (Err Failed) c = record c { calls = one_more c.calls; failed_change = one_more c.calls }
+counted_change (Err Failed) c = record c { calls = one_more c.calls; failed = record (c.failed) { change = one_more c.calls } }
 counted_change _ c = counted c
+
+-- after a sync with this answer
+abbrev pub counted_sync : {T : Type 0} → Result T DiskFault → Counts → Counts
+counted_sync (Err Failed) c = record c { calls = one_more c.calls; failed = record (c.failed) { sync = one_more c.calls } }
+counted_sync _ c = counted c
 
 -- after a look at a place
 abbrev pub counted_read : Place → Counts → Counts
 counted_read (Entry name) c = record c { calls = one_more c.calls; entry_reads = one_more c.entry_reads }
 counted_read _ c = counted c
 
--- no change failed since, or the last call did
+-- the last call was a change or a sync that failed
+abbrev pub LastFails : Counts → Type 0
+LastFails c = (c.failed.change ≡ c.calls) ⊎ (c.failed.sync ≡ c.calls)
+
+-- no change and no sync failed since, or the last call did
 abbrev pub StopsAtFault : Counts → Counts → Type 0
-StopsAtFault before now = (now.failed_change ≡ before.failed_change) ⊎ (now.failed_change ≡ now.calls)
+StopsAtFault before now = (now.failed ≡ before.failed) ⊎ LastFails now
 
 -- a file stands there, and a write may begin at `from`
 abbrev pub MayWriteAt : Option (List ℕ) → ℕ → Type 0

@@ -10,7 +10,7 @@ abbrev pub state_in : MemDisk → State
 state_in d = state_of d.table
 
 abbrev pub counts_in : MemDisk → Counts
-counts_in d = record { calls = d.calls; failed_change = d.failed_change; entry_reads = d.entry_reads }
+counts_in d = record { calls = d.calls; failed = record { change = d.failed_change; sync = d.failed_sync }; entry_reads = d.entry_reads }
 
 -- how many calls failed
 abbrev pub faults_in : MemDisk → ℕ

@@ -8,7 +8,7 @@ ghost use Rattle.disk_model.specs.State.{State, standing, part_of, created, rena
 ghost use Rattle.disk_model.specs.State.Write.{End, Patch};
 ghost use Rattle.disk_model.specs.Sound.{IsSound};
 ghost use Rattle.disk_model.specs.Listing.{AreEntries, AreDoomed, AreRisingNumbers, IsFinite};
-ghost use Rattle.disk_model.specs.Calls.{Counts, counted, counted_change, counted_read, if_ok, if_done, MayWriteAt, Holds};
+ghost use Rattle.disk_model.specs.Calls.{Counts, counted, counted_change, counted_read, counted_sync, if_ok, if_done, MayWriteAt, Holds};
 ghost use Rattle.disk_model.specs.declared.disk.DiskFault.TheVariants.{Memory};
 
 use crate::Place;
@@ -53,7 +53,7 @@ pub trait Disk {
     /// What was synced, and the steps since.
     ghost state: { Self → State };
 
-    /// How many calls were made, and which change failed last.
+    /// How many calls were made, and which change and which sync failed last.
     ghost counts: { Self → Counts };
 
     /// How many calls have failed.
@@ -62,7 +62,7 @@ pub trait Disk {
     /// Makes all changes last. After it nothing is pending.
     fn sync(&mut self) -> Result<(), DiskFault>
         ensures state { IsTrue tells → state self.new ≡ if_ok result (settled (state self.old)) (state self.old) }
-        ensures counts { IsTrue tells → counts self.new ≡ counted_change result (counts self.old) }
+        ensures counts { IsTrue tells → counts self.new ≡ counted_sync result (counts self.old) }
         ensures cause { HasCause (IsErrOf result DiskFault.Failed) (faults self.old) (faults self.new) };
 
     /// The length, in bytes, of the file at the place, or none where no file stands there.

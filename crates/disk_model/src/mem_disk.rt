@@ -2,7 +2,7 @@
 
 ghost use Rattle.std.specs.Prelude.{◌≡◌, ◌≤◌, ◌-◌, ◌^◌, ◌↔◌, if◌then◌else◌, length, IfOk, OnOk, OnErr, IsTrue, IsErrOf, MatchBool};
 ghost use Rattle.cache_base.specs.Causes.{one_more, HasCause, Rose};
-ghost use Rattle.disk_model.specs.Calls.{counted, counted_read};
+ghost use Rattle.disk_model.specs.Calls.{counted, counted_read, no_counts};
 ghost use Rattle.disk_model.specs.declared.disk.DiskFault.TheVariants.{Failed};
 
 use crate::mem_image::{ImageFault, image};
@@ -24,6 +24,7 @@ pub struct MemDisk {
     // So do the calls of these numbers.
     planned: Numbers,
     failed_change: u64,
+    failed_sync: u64,
     entry_reads: u64,
     faults: u64,
 }
@@ -41,7 +42,7 @@ impl MemDisk {
     pub fn new(alloc: Global) -> MemDisk
         ensures quiet { IsQuiet (state_in result) }
         ensures empty { (place : Where) → standing (state_in result) place ≡ None }
-        ensures counts { counts_in result ≡ record { calls = 0; failed_change = 0; entry_reads = 0 } }
+        ensures counts { counts_in result ≡ no_counts }
         ensures faults { faults_in result ≡ 0 }
         ensures stop { stop_in result ≡ 2 ^ 64 - 1 }
         ensures planned { planned_in result ≡ [] }
@@ -127,7 +128,7 @@ impl MemDisk {
         ensures refused { result ≡ Err ImageFault.NotAnImage → ¬ (MayLeave (state_in self.now) names contents.items) }
         ensures stands { IfOk result (λ disk. (place : Where) → standing (state_in disk) place ≡ image_of contents.items place) }
         ensures quiet { IfOk result (λ disk. IsQuiet (state_in disk)) }
-        ensures counts { IfOk result (λ disk. counts_in disk ≡ record { calls = 0; failed_change = 0; entry_reads = 0 }) }
+        ensures counts { IfOk result (λ disk. counts_in disk ≡ no_counts) }
         ensures faults { IfOk result (λ disk. faults_in disk ≡ 0) }
         ensures stop { IfOk result (λ disk. stop_in disk ≡ 2 ^ 64 - 1) }
         ensures planned { IfOk result (λ disk. planned_in disk ≡ []) }
@@ -139,7 +140,7 @@ impl MemDisk {
     // A disk with this table, no call counted and no fault planned.
     fn with(table: Table) -> MemDisk
         ensures table { result.table ≡ table }
-        ensures counts { counts_in result ≡ record { calls = 0; failed_change = 0; entry_reads = 0 } }
+        ensures counts { counts_in result ≡ no_counts }
         ensures faults { faults_in result ≡ 0 }
         ensures stop { stop_in result ≡ 2 ^ 64 - 1 }
         ensures planned { planned_in result ≡ [] }
@@ -151,6 +152,7 @@ impl MemDisk {
             stop: u64::MAX,
             planned,
             failed_change: 0,
+            failed_sync: 0,
             entry_reads: 0,
             faults: 0,
         }
@@ -204,6 +206,7 @@ impl MemDisk {
         ensures table { self.new.table ≡ self.old.table }
         ensures calls { self.new.calls ≡ self.old.calls }
         ensures failed_change { self.new.failed_change ≡ (if fails then self.old.calls else self.old.failed_change) }
+        ensures failed_sync { self.new.failed_sync ≡ self.old.failed_sync }
         ensures entry_reads { self.new.entry_reads ≡ self.old.entry_reads }
         ensures cause { HasCause (IsErrOf result DiskFault.Failed) self.old.faults self.new.faults }
     {
@@ -213,5 +216,19 @@ impl MemDisk {
             return Err(DiskFault::Failed);
         }
         Ok(())
+    }
+
+    // Counts a sync that fails.
+    fn fail_sync(&mut self)
+        ensures table { self.new.table ≡ self.old.table }
+        ensures calls { self.new.calls ≡ self.old.calls }
+        ensures failed_change { self.new.failed_change ≡ self.old.failed_change }
+        ensures failed_sync { self.new.failed_sync ≡ self.old.calls }
+        ensures entry_reads { self.new.entry_reads ≡ self.old.entry_reads }
+        ensures later { self.old.faults ≤ self.new.faults }
+        ensures rose { Rose self.old.faults self.new.faults }
+    {
+        self.failed_sync = self.calls;
+        self.faults = self.faults.saturating_add(1);
     }
 }

@@ -17,7 +17,7 @@ fn remove_each<D: Disk>(disk: &mut D, numbers: &[u32]) -> Result<(), DiskFault>
     requires told { IsTrue D.tells → AreDoomed (D.state disk.old) numbers.now }
     ensures removes { IsTrue D.tells → RemovesDoomed (D.state disk.old) (D.state disk.new) }
     ensures cleared { OnOk result (IsTrue D.tells → IsCleared (D.state disk.old) (D.state disk.new)) }
-    ensures went_on { OnOk result (IsTrue D.tells → (D.counts disk.new).failed_change ≡ (D.counts disk.old).failed_change) }
+    ensures went_on { OnOk result (IsTrue D.tells → (D.counts disk.new).failed ≡ (D.counts disk.old).failed) }
     ensures stops { IsTrue D.tells → StopsAtFault (D.counts disk.old) (D.counts disk.new) }
     ensures looks { IsTrue D.tells → (D.counts disk.new).entry_reads ≡ (D.counts disk.old).entry_reads }
     ensures cause { HasCause (IsErrOf result DiskFault.Failed) (D.faults disk.old) (D.faults disk.new) }
@@ -34,7 +34,7 @@ pub fn clear<D: Disk>(alloc: Global, disk: &mut D) -> Result<(), DiskFault>
     // Nothing but doomed files was removed, and after an Ok none stands.
     ensures removes { IsTrue D.tells → RemovesDoomed (D.state disk.old) (D.state disk.new) }
     ensures cleared { OnOk result (IsTrue D.tells → IsCleared (D.state disk.old) (D.state disk.new)) }
-    ensures went_on { OnOk result (IsTrue D.tells → (D.counts disk.new).failed_change ≡ (D.counts disk.old).failed_change) }
+    ensures went_on { OnOk result (IsTrue D.tells → (D.counts disk.new).failed ≡ (D.counts disk.old).failed) }
     ensures stops { IsTrue D.tells → StopsAtFault (D.counts disk.old) (D.counts disk.new) }
     ensures looks { IsTrue D.tells → (D.counts disk.new).entry_reads ≡ (D.counts disk.old).entry_reads }
     ensures cause { HasCause (IsErrOf result DiskFault.Failed) (D.faults disk.old) (D.faults disk.new) }

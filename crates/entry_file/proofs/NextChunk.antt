@@ -13,7 +13,7 @@ use Rattle.jenkins_hash.specs.Hash.{hash16_of}
 
 -- a whole chunk, made of what is held and of these bytes
 module _ (e : Growing) (b chunk : List ℕ) (is : chunk ≡ e.rest ++ b) (full : length e.rest + length b ≡ 262144) where
-  pub has_taken : (r : Result (Unit {0}) DiskFault) (hashes rest : List ℕ) → rest ≡ [] → OnOk r (hashes ≡ e.hashes ++ hash16_of chunk ∷ [])
+  pub has_taken : (r : Result (Unit {0}) DiskFault) (hashes rest : List ℕ) → rest ≡ [] → hashes ≡ e.hashes ++ hash16_of chunk ∷ []
       → OnOk r ((body : List ℕ) → HasBody e body → HasBody (record { hashes = hashes; rest = rest }) (body ++ b))
   has_taken (Ok value) hashes rest none h = λ body has.
       subst (λ (new : Growing). HasBody new (body ++ b)) (λ i. record { hashes = sym (h ∙ ap (λ xs. e.hashes ++ hash16_of xs ∷ []) is) i; rest = sym none i }) (has_chunk e body has b full)

@@ -6,4 +6,4 @@ use Rattle.disk_model.specs.Calls.{Counts}
 pub record Looks (n : ℕ) (before now : Counts) : Type 0 where
   pub calls : now.calls ≤ before.calls + n
   pub entry_reads : now.entry_reads ≤ before.entry_reads + n
-  pub no_change : now.failed_change ≡ before.failed_change
+  pub no_change : now.failed ≡ before.failed

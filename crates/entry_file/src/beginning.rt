@@ -8,12 +8,10 @@ ghost use Rattle.entry_file.specs.NewEntry.{HasBody};
 ghost use Rattle.entry_file.specs.Held.{held};
 
 use crate::NewEntry;
-use cache_base::{BODY_MAX, Buffer, CHUNK, Hashes};
+use crate::chunk_hashes::ChunkHashes;
+use cache_base::Buffer;
 use disk_model::{Disk, DiskFault, Place};
 use std::alloc::Global;
-
-// The chunks of the longest body.
-const CHUNKS_MAX: usize = BODY_MAX / CHUNK;
 
 /// A new entry with an empty body: a new empty file takes the place. The memory that its body takes while it grows is
 /// taken first.
@@ -25,7 +23,7 @@ pub fn begin<D: Disk>(alloc: Global, disk: &mut D, place: &Place) -> Result<NewE
     ensures cause { HasCause (IsErrOf result DiskFault.Failed) (D.faults disk.old) (D.faults disk.new) }
 {
     let rest = Buffer::new(alloc)?;
-    let hashes = Hashes::with_room(alloc, CHUNKS_MAX)?;
+    let hashes = ChunkHashes::new(alloc)?;
     disk.create(place)?;
     Ok(NewEntry { rest, hashes })
 }

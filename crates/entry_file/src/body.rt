@@ -27,7 +27,7 @@ fn check_one<D: Disk>(
     ensures damage { IfOk result (λ damage. IsTrue D.tells → IfSome (standing (D.state disk.old) place.now) (λ content. damage ≡ damage_at meta.now.hashes (take meta.now.offset content) index)) }
     ensures state { IsTrue D.tells → D.state disk.new ≡ D.state disk.old }
     ensures calls { IsTrue D.tells → (D.counts disk.new).calls ≤ (D.counts disk.old).calls + 1 }
-    ensures no_change { IsTrue D.tells → (D.counts disk.new).failed_change ≡ (D.counts disk.old).failed_change }
+    ensures no_change { IsTrue D.tells → (D.counts disk.new).failed ≡ (D.counts disk.old).failed }
     ensures cause { HasCause (IsErrOf result DiskFault.Failed) (D.faults disk.old) (D.faults disk.new) }
 {
     read_chunk(disk, place, meta.offset, index, buf)?;
@@ -54,7 +54,7 @@ pub fn check_body<D: Disk>(
     ensures stores { IfOk result (λ damage. IsTrue D.tells → damage ≡ None → StoresBody (standing (D.state disk.old) place.now) (meta_of meta.now)) }
     ensures state { IsTrue D.tells → D.state disk.new ≡ D.state disk.old }
     ensures calls { IsTrue D.tells → (D.counts disk.new).calls ≤ (D.counts disk.old).calls + chunks_of meta.now.offset }
-    ensures no_change { IsTrue D.tells → (D.counts disk.new).failed_change ≡ (D.counts disk.old).failed_change }
+    ensures no_change { IsTrue D.tells → (D.counts disk.new).failed ≡ (D.counts disk.old).failed }
     ensures cause { HasCause (IsErrOf result DiskFault.Failed) (D.faults disk.old) (D.faults disk.new) }
 {
     for index in 0..chunks(u64::from(meta.offset)) as u32 {

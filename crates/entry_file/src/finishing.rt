@@ -1,10 +1,10 @@
 //! A body that is finished to a version.
 
-ghost use Rattle.std.specs.Prelude.{◌≡◌, ◌≤◌, ◌==◌, ◌++◌, ◌∷◌, [], if◌then◌else◌, true, ℕ, List, length, IfOk, OnOk, IsTrue, IsErrOf, Some};
+ghost use Rattle.std.specs.Prelude.{◌≡◌, ◌≤◌, ◌==◌, ◌++◌, ◌*◌, ◌+◌, ◌∷◌, [], if◌then◌else◌, true, ℕ, List, length, IfOk, OnOk, IsTrue, IsErrOf, Some};
 ghost use Rattle.cache_base.specs.Bytes.{AreBytes, be32};
 ghost use Rattle.cache_base.specs.Causes.{HasCause};
 ghost use Rattle.cache_base.specs.Limits.{chunks};
-ghost use Rattle.cache_base.specs.declared.limits.TheConstants.{BLOCK_MAX};
+ghost use Rattle.cache_base.specs.declared.limits.TheConstants.{BLOCK_MAX, BODY_MAX, CHUNK};
 ghost use Rattle.chunk_store.specs.Stored.{unfinished_file};
 ghost use Rattle.disk_model.specs.State.{standing, wrote};
 ghost use Rattle.disk_model.specs.Writes.{WritesAt};
@@ -21,6 +21,7 @@ ghost use Rattle.entry_file.specs.Version.{IsVersion, file_of, version_meta};
 
 use crate::NewEntry;
 use crate::bytes::bytes_fit;
+use crate::chunk_hashes::ChunkHashes;
 use cache_base::{Bytes, CHUNK, Hashes, NoMemory};
 use disk_model::{Disk, DiskFault, Place};
 use entry_metadata::Meta;
@@ -40,14 +41,15 @@ fn parts_fit(header: Header, key: &[u8], elements: &Elements)
 }
 
 // The hashes of the whole chunks, and behind them that of the rest, where there is one.
-fn all_hashes(hashes: Hashes, rest: &[u8]) -> Result<Hashes, NoMemory>
-    ensures { IfOk result (λ all. all ≡ (if length rest.now == 0 then hashes else (hashes ++ hash16_of rest.now ∷ []))) }
+fn all_hashes(hashes: ChunkHashes, rest: &[u8]) -> Hashes
+    requires { length hashes * CHUNK + length rest.now ≤ BODY_MAX }
+    ensures { result ≡ (if length rest.now == 0 then hashes else (hashes ++ hash16_of rest.now ∷ [])) }
 {
     let mut hashes = hashes;
     if !rest.is_empty() {
-        hashes.push(hash16(rest))?;
+        hashes.push(hash16(rest));
     }
-    Ok(hashes)
+    hashes.into_hashes()
 }
 
 // The bytes, and behind them the block and its offset, in one piece.
@@ -108,7 +110,7 @@ impl NewEntry {
         let offset = self.len();
         let NewEntry { rest, hashes } = self;
         let rest = rest.as_slice();
-        let hashes = all_hashes(hashes, rest)?;
+        let hashes = all_hashes(hashes, rest);
         let meta = Meta {
             header,
             key,

@@ -14,7 +14,8 @@ ghost use Rattle.entry_file.specs.Unfinished.{IsUnfinished};
 ghost use Rattle.jenkins_hash.specs.Hash.{hash16_of};
 
 use crate::NewEntry;
-use cache_base::{Buffer, CHUNK, Hashes};
+use crate::chunk_hashes::ChunkHashes;
+use cache_base::{Buffer, CHUNK};
 use chunk_store::append_chunk;
 use disk_model::{Disk, DiskFault, Place};
 use jenkins_hash::hash16;
@@ -42,21 +43,20 @@ fn put_full<D: Disk>(
     disk: &mut D,
     place: &Place,
     chunk: &mut Buffer,
-    hashes: &mut Hashes,
+    hashes: &mut ChunkHashes,
 ) -> Result<(), DiskFault>
     requires full { length chunk.old ≡ CHUNK }
-    requires limit { length hashes.old * CHUNK ≤ BODY_MAX }
+    requires limit { length hashes.old * CHUNK + CHUNK ≤ BODY_MAX }
     requires told { IsTrue D.tells → MayWriteAt (standing (D.state disk.old) place.now) (length hashes.old * chunk_size) }
-    ensures hashes { OnOk result (hashes.new ≡ hashes.old ++ hash16_of chunk.old ∷ []) }
-    ensures room { length hashes.new ≤ length hashes.old + 1 }
+    ensures hashes { hashes.new ≡ hashes.old ++ hash16_of chunk.old ∷ [] }
     ensures state { IsTrue D.tells → D.state disk.new ≡ if_done result (wrote place.now (chunk_write (length hashes.old) chunk.old) (D.state disk.old)) (D.state disk.old) }
     ensures calls { IsTrue D.tells → (D.counts disk.new).calls ≤ (D.counts disk.old).calls + 1 }
-    ensures went_on { OnOk result (IsTrue D.tells → (D.counts disk.new).failed_change ≡ (D.counts disk.old).failed_change) }
+    ensures went_on { OnOk result (IsTrue D.tells → (D.counts disk.new).failed ≡ (D.counts disk.old).failed) }
     ensures stops { IsTrue D.tells → StopsAtFault (D.counts disk.old) (D.counts disk.new) }
     ensures cause { HasCause (IsErrOf result DiskFault.Failed) (D.faults disk.old) (D.faults disk.new) }
 {
     let index = hashes.as_slice().len() as u32;
-    hashes.push(hash16(chunk.as_slice()))?;
+    hashes.push(hash16(chunk.as_slice()));
     append_chunk(disk, place, index, chunk)
 }
 
@@ -73,7 +73,7 @@ impl NewEntry {
             → standing (D.state disk.new) place.now ≡ Some (unfinished_file (body ++ b.now))) }
         ensures writes { IsTrue D.tells → WritesAt place.now IsUnfinished (D.state disk.old) (D.state disk.new) }
         ensures calls { IsTrue D.tells → (D.counts disk.new).calls ≤ (D.counts disk.old).calls + 1 }
-        ensures went_on { OnOk result (IsTrue D.tells → (D.counts disk.new).failed_change ≡ (D.counts disk.old).failed_change) }
+        ensures went_on { OnOk result (IsTrue D.tells → (D.counts disk.new).failed ≡ (D.counts disk.old).failed) }
         ensures stops { IsTrue D.tells → StopsAtFault (D.counts disk.old) (D.counts disk.new) }
         ensures cause { HasCause (IsErrOf result DiskFault.Failed) (D.faults disk.old) (D.faults disk.new) }
     {
@@ -103,7 +103,7 @@ impl NewEntry {
         // In any case this file alone was written to, and none of its new moments fits.
         ensures writes { IsTrue D.tells → WritesAt place.now IsUnfinished (D.state disk.old) (D.state disk.new) }
         ensures calls { IsTrue D.tells → (D.counts disk.new).calls ≤ (D.counts disk.old).calls + (length (held self.old).rest + length b.now) / chunk_size }
-        ensures went_on { OnOk result (IsTrue D.tells → (D.counts disk.new).failed_change ≡ (D.counts disk.old).failed_change) }
+        ensures went_on { OnOk result (IsTrue D.tells → (D.counts disk.new).failed ≡ (D.counts disk.old).failed) }
         ensures stops { IsTrue D.tells → StopsAtFault (D.counts disk.old) (D.counts disk.new) }
         ensures cause { HasCause (IsErrOf result DiskFault.Failed) (D.faults disk.old) (D.faults disk.new) }
     {

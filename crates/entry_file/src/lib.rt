@@ -7,6 +7,7 @@
 mod beginning;
 mod body;
 mod bytes;
+mod chunk_hashes;
 mod entry_read;
 mod finishing;
 mod growing;
@@ -17,6 +18,7 @@ mod rewriting;
 
 pub use beginning::begin;
 pub use body::check_body;
+pub use chunk_store::Damage;
 pub use entry_read::{EntryRead, Unfit};
 pub use laws::{
     file_reads_whole, fits_exactly, reads_by_damage, reads_whole_exactly, rewrites_to_version,

@@ -3,7 +3,8 @@
 ghost use Rattle.std.specs.Prelude.{◌≡◌, ◌≤◌, ◌<◌, ◌+◌, ◌*◌, length};
 ghost use Rattle.cache_base.specs.declared.limits.TheConstants.{BODY_MAX, CHUNK};
 
-use cache_base::{Buffer, CHUNK, Hashes};
+use crate::chunk_hashes::ChunkHashes;
+use cache_base::{Buffer, CHUNK};
 
 /// An entry whose body comes in pieces. Its whole chunks are on the disk, each written as soon as it was full, with the
 /// stop tail behind the last; the bytes after them are held here. It may be dropped at any time, and is to be dropped
@@ -12,8 +13,8 @@ use cache_base::{Buffer, CHUNK, Hashes};
 pub struct NewEntry {
     // The bytes behind the last whole chunk.
     pub(crate) rest: Buffer,
-    // The hash of each whole chunk.
-    pub(crate) hashes: Hashes,
+    // The hash of each whole chunk, with room for those to come.
+    pub(crate) hashes: ChunkHashes,
     ghost short: { length rest < CHUNK },
     ghost bounded: { length hashes * CHUNK + length rest ≤ BODY_MAX },
 }

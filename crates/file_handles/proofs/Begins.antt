@@ -11,9 +11,13 @@ use Rattle.cache_theory.specs.Table.{Table}
 use Rattle.cache_theory.proofs.Slots.{slot_of as slot_with}
 use Rattle.file_handles.specs.Carries.{Begins}
 use Rattle.file_handles.specs.Kept.{Kept, object_at, use_at}
-use Rattle.file_handles.specs.Stands.{HandlesStand}
+use Rattle.file_handles.specs.Stands.{HandlesStand, IsAt, Stands}
 use Rattle.file_handles.specs.declared.object.Object.{Object}
 use Rattle.file_handles.specs.declared.object.Use.{Use}
+use Rattle.cache_theory.specs.Crash.{IsCrashKept, IsSafe}
+use Rattle.cache_theory.specs.Ever.{IsFiledOnce}
+use Rattle.cache_theory.specs.Marks.{marks_of}
+use Rattle.disk_model.specs.State.{standing}
 
 -- every element of a list of one value
 pub same_in : {X : Type 0} (n i : ℕ) (x : X) → get_or (replicate n x) i x ≡ x
@@ -51,24 +55,26 @@ module _ (k : Kept) (objects : (p : ℕ) → object_at k p ≡ None) (uses : (t 
   }
 
   pub begins : Begins k
-  begins s now shelf rest small is no_doomed once safe = record {
-    number = λ p. 0;
-    stands = record {
-      proper = proper_opens now shelf rest small is.table is.bytes;
-      handles = none_there now shelf rest;
-      entries = is.entries_are;
-      doomed = record {
-        held = λ i h. absurd (none_held now shelf rest i h);
-        only = λ d some. absurd (some (no_doomed d));
-        one_object = λ d i j a b. absurd (no_object a.place a.object a.at_place);
-        one_number = λ d e i a b. absurd (no_object a.place a.object a.at_place);
-      };
-    };
-    crash_kept = record {
-      safe = safe;
-      once = once;
-      doomed = λ d i file name a h now ever. absurd (no_object a.place a.object a.at_place);
-      unburied = λ i o at un. never_some _ o at;
-      young = omega arith;
-    };
-  }
+  begins s now shelf rest small is no_doomed = record { stands = (λ p. 0, stands); crash = λ once safe. record { number = λ p. 0; stands = stands; crash_kept = crash_kept once safe } }
+    where
+      stands : Stands (standing s) k (opened now shelf rest) (λ p. 0)
+      stands = record {
+        proper = proper_opens now shelf rest small is.table is.bytes;
+        handles = none_there now shelf rest;
+        entries = is.entries_are;
+        doomed = record {
+          held = λ i h. absurd (none_held now shelf rest i h);
+          only = λ d some. absurd (some (no_doomed d));
+          one_object = λ d i j a b. absurd (no_object a.place a.object a.at_place);
+          one_number = λ d e i a b. absurd (no_object a.place a.object a.at_place);
+        };
+      }
+
+      crash_kept : IsFiledOnce s → IsSafe s (marks_of (opened now shelf rest)) → IsCrashKept s (opened now shelf rest) (marks_of (opened now shelf rest)) (IsAt k (λ p. 0))
+      crash_kept once safe = record {
+        safe = safe;
+        once = once;
+        doomed = λ d i file name a h now ever. absurd (no_object a.place a.object a.at_place);
+        unburied = λ i o at un. never_some _ o at;
+        young = omega arith;
+      }

@@ -1,5 +1,5 @@
 -- What the handles and the disk stand for, as a command begins.
-use Rattle.std.proofs.Common.{◌≡◌, ℕ, ◌≤◌, List, [], length, sym, ap, subst, ◌∙◌}
+use Rattle.std.proofs.Common.{◌≡◌, ℕ, ◌≤◌, List, [], length, sym, ap, subst, ◌∙◌, Bool}
 use Rattle.cache_theory.specs.Command.{Command}
 use Rattle.cache_theory.specs.Crash.{WasUnder}
 use Rattle.cache_theory.specs.Machine.{Machine, Object as MachineObject}
@@ -7,7 +7,7 @@ use Rattle.cache_theory.specs.Marks.{Marks, begun, is_buried}
 use Rattle.cache_theory.proofs.Begins.{begin_keeps, begun_marked, begun_touched}
 use Rattle.disk_model.specs.State.{State}
 use Rattle.file_handles.specs.Kept.{Kept}
-use Rattle.file_handles.specs.Stands.{IsIn}
+use Rattle.file_handles.specs.Stands.{IsInWhere}
 
 -- the same objects were doomed at the mark
 pub begun_buried : (m : Machine) (c : Command) (w : Marks) (i : ℕ) → is_buried (begun m c w) i ≡ is_buried w i
@@ -18,17 +18,18 @@ begun_under m c w i o name was =
     record { unburied = begun_buried m c w i ∙ was.unburied; named = was.named; touched = begun_touched m c w name was.touched }
 
 -- all stands as before, under the marks of the command
-pub begun_in : (s : State) (k : Kept) (m : Machine) (c : Command) (w : Marks) → IsIn s k m w → IsIn s k m (begun m c w)
+pub begun_in : {b : Bool} (s : State) (k : Kept) (m : Machine) (c : Command) (w : Marks) → IsInWhere b s k m w → IsInWhere b s k m (begun m c w)
 begun_in s k m c w is =
-    let kept = is.crash_kept in
     record {
       number = is.number;
       stands = is.stands;
-      crash_kept = record {
-        safe = begin_keeps s m c w kept.safe;
-        once = kept.once;
-        doomed = λ d i file name at held now ever. begun_under m c w i _ name (kept.doomed d i file name at held now ever);
-        unburied = λ i o at un. begun_buried m c w i ∙ kept.unburied i o at un;
-        young = subst (λ (marked : Machine). length marked.objects ≤ length m.objects) (sym (begun_marked m c w)) kept.young;
-      };
+      crash_kept = λ on.
+          let kept = is.crash_kept on in
+          record {
+            safe = begin_keeps s m c w kept.safe;
+            once = kept.once;
+            doomed = λ d i file name at held now ever. begun_under m c w i _ name (kept.doomed d i file name at held now ever);
+            unburied = λ i o at un. begun_buried m c w i ∙ kept.unburied i o at un;
+            young = subst (λ (marked : Machine). length marked.objects ≤ length m.objects) (sym (begun_marked m c w)) kept.young;
+          };
     }

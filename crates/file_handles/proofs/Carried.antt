@@ -1,5 +1,5 @@
 -- A command that changes the object of a slot and writes to its file alone.
-use Rattle.std.proofs.Common.{◌≡◌, ◌⊎◌, inl, inr, ℕ, ◌<◌, false, Some, None, Result, Ok, Err, refl, sym, ap, subst, ◌∙◌}
+use Rattle.std.proofs.Common.{◌≡◌, ◌⊎◌, inl, inr, ℕ, ◌<◌, false, Some, None, Result, Ok, Err, refl, sym, ap, subst, ◌∙◌, Bool, IsTrue}
 use Rattle.std.specs.Prelude.{IsOkAnd}
 use Rattle.cache_base.specs.Checks.{first_failing}
 use Rattle.cache_base.specs.declared.limits.TheConstants.{SLOTS}
@@ -15,18 +15,19 @@ use Rattle.cache_theory.proofs.Storing.{MayStand, stored_here}
 use Rattle.disk_model.specs.Sound.{IsSound}
 use Rattle.disk_model.specs.State.{State}
 use Rattle.file_handles.specs.Answers.{OnRefused, done_or}
-use Rattle.file_handles.specs.Carries.{CarriesOut, Leaves}
+use Rattle.file_handles.specs.Carries.{CarriesOut}
 use Rattle.file_handles.specs.Changes.{ChangesAt}
 use Rattle.file_handles.specs.Held.{IsHeldAs}
 use Rattle.file_handles.specs.Kept.{Kept, object_at, with_object}
 use Rattle.file_handles.specs.Refuses.{HasAt, Passes}
-use Rattle.file_handles.specs.Stands.{HandlesStand, IsIn}
+use Rattle.file_handles.specs.Stands.{HandlesStand, IsInWhere}
 use Rattle.file_handles.specs.declared.fault.HandleFault.{HandleFault}
 use Rattle.file_handles.specs.declared.fault.HandleFault.TheVariants as fault
 use Rattle.file_handles.specs.declared.object.Object.{Object}
 use Rattle.file_handles.proofs.Begun.{begun_in}
 use Rattle.file_handles.proofs.Changed.{MayGoOut, changed_in_safe, changed_safe}
 use Rattle.file_handles.proofs.ElementSlots.{there_number}
+use Rattle.file_handles.proofs.Where.{CarriesOutWhere, LeavesWhere, carries_out}
 
 -- a command that passes its checks and makes this change of the slot's object, and writes to its file only where `Writes`
 -- holds of the object
@@ -45,7 +46,7 @@ pub record MakesChange (k : Kept) (c : Command) (slot : ℕ) (change : MachineOb
 
 module _ (s t : State) (k after : Kept) (c : Command) (slot : ℕ) (small : slot < SLOTS) (p : ℕ) (x : Object) (has : HasAt k slot p x) (change : MachineObject → MachineObject) (Writes : MachineObject → Type 0)
     (makes : MakesChange k c slot change Writes) {T : Type 0} (r : Result T HandleFault) (there : ChangesAt p change r s t k after x) (writes : (o : MachineObject) → IsHeldAs x o → Writes o ⊎ (t ≡ s)) where
-  module _ (m : Machine) (w : Marks) (is : IsIn s k m (begun m c w)) where
+  module _ {b : Bool} (m : Machine) (w : Marks) (is : IsInWhere b s k m (begun m c w)) where
     slot_number : number_of m slot ≡ is.number p
     slot_number = there_number k m is.number is.stands.handles slot small p x has
 
@@ -77,42 +78,48 @@ module _ (s t : State) (k after : Kept) (c : Command) (slot : ℕ) (small : slot
         (makes.out m w is.number is.stands.handles passes (subst (λ j. Writes (object m j)) (sym slot_number) some) becomes)
 
     -- at every exit that is safe
-    safe : IsSafe t (begun m c w)
-    safe = elim (writes (object m (is.number p)) (is.stands.handles.objects p x has.found).as_held) [
-      | inl some ↦ changed_safe s t k m (begun m c w) is p x change there.changed has.found there.changes may (out some)
-      | inr same ↦ subst (λ (u : State). IsSafe u (begun m c w)) (sym same) is.crash_kept.safe
+    safe : IsTrue b → IsSafe t (begun m c w)
+    safe on = elim (writes (object m (is.number p)) (is.stands.handles.objects p x has.found).as_held) [
+      | inl some ↦ changed_safe s t k m (begun m c w) is p x change there.changed has.found there.changes may (out some) on
+      | inr same ↦ subst (λ (u : State). IsSafe u (begun m c w)) (sym same) (is.crash_kept on).safe
     ]
 
-    failed : Leaves c m w None t after
+    failed : LeavesWhere b c m w None t after
     failed = record { safe = safe; replies = tt; next = tt }
 
     -- and after an Ok all stands for the next machine
-    made : IsSound s → IsOkAnd there.changed (λ y. after ≡ with_object k p (Some y)) → Leaves c m w (Some Done) t after
+    made : IsSound s → IsOkAnd there.changed (λ y. after ≡ with_object k p (Some y)) → LeavesWhere b c m w (Some Done) t after
     made sound put = go there.changed refl put
       where
-        go : (changed : Result Object HandleFault) → there.changed ≡ changed → IsOkAnd changed (λ y. after ≡ with_object k p (Some y)) → Leaves c m w (Some Done) t after
+        go : (changed : Result Object HandleFault) → there.changed ≡ changed → IsOkAnd changed (λ y. after ≡ with_object k p (Some y)) → LeavesWhere b c m w (Some Done) t after
         go (Err f) e put = absurd put
         go (Ok y) e put =
-            let stands : IsIn t (with_object k p (Some y)) (stored m (is.number p) (change (object m (is.number p)))) (begun m c w) =
+            let stands : IsInWhere b t (with_object k p (Some y)) (stored m (is.number p) (change (object m (is.number p)))) (begun m c w) =
             changed_in_safe s t k m (begun m c w) is p x y change there.changed sound has.found there.changes e may safe in
             record {
               safe = safe;
               replies = ap (λ (a : Answer). a.reply) (sym step_is);
               next =
-                  subst (λ (v : Marks). IsIn t after (step m c).next v) (sym (makes.acks m w))
-                  (subst (λ (n : Machine). IsIn t after n (begun m c w)) (ap (λ (a : Answer). a.next) (sym step_is))
-                  (subst (λ (l : Kept). IsIn t l (stored m (is.number p) (change (object m (is.number p)))) (begun m c w)) (sym put) stands));
+                  subst (λ (v : Marks). IsInWhere b t after (step m c).next v) (sym (makes.acks m w))
+                  (subst (λ (n : Machine). IsInWhere b t after n (begun m c w)) (ap (λ (a : Answer). a.next) (sym step_is))
+                  (subst (λ (l : Kept). IsInWhere b t l (stored m (is.number p) (change (object m (is.number p)))) (begun m c w)) (sym put) stands));
             }
 
 -- such a command is carried out: a fault is no refusal, since the object is there
+change_where : (s t : State) → IsSound s → (k after : Kept) (c : Command) (slot : ℕ) → slot < SLOTS → (p : ℕ) (x : Object) → HasAt k slot p x → (change : MachineObject → MachineObject)
+    (Writes : MachineObject → Type 0) → MakesChange k c slot change Writes → {T : Type 0} (r : Result T HandleFault) → ChangesAt p change r s t k after x
+    → ((o : MachineObject) → IsHeldAs x o → Writes o ⊎ (t ≡ s)) → OnRefused r (λ _. object_at k p ≡ None) → CarriesOutWhere c (done_or r) s t k after
+change_where s t sound k after c slot small p x has change Writes makes (Ok value) there writes none b m w is =
+    made s t k after c slot small p x has change Writes makes (Ok value) there writes m w (begun_in s k m c w is) sound there.put_back
+change_where s t sound k after c slot small p x has change Writes makes (Err fault.Disk) there writes none b m w is =
+    failed s t k after c slot small p x has change Writes makes (Err fault.Disk) there writes m w (begun_in s k m c w is)
+change_where s t sound k after c slot small p x has change Writes makes (Err fault.Memory) there writes none b m w is =
+    failed s t k after c slot small p x has change Writes makes (Err fault.Memory) there writes m w (begun_in s k m c w is)
+change_where s t sound k after c slot small p x has change Writes makes (Err (fault.Refused refusal)) there writes none b m w is =
+    absurd (let never : None ≡ Some x = sym (none refusal refl) ∙ has.found in cc)
+
 pub change_carried : (s t : State) → IsSound s → (k after : Kept) (c : Command) (slot : ℕ) → slot < SLOTS → (p : ℕ) (x : Object) → HasAt k slot p x → (change : MachineObject → MachineObject)
     (Writes : MachineObject → Type 0) → MakesChange k c slot change Writes → {T : Type 0} (r : Result T HandleFault) → ChangesAt p change r s t k after x
     → ((o : MachineObject) → IsHeldAs x o → Writes o ⊎ (t ≡ s)) → OnRefused r (λ _. object_at k p ≡ None) → CarriesOut c (done_or r) s t k after
-change_carried s t sound k after c slot small p x has change Writes makes (Ok value) there writes none m w is =
-    made s t k after c slot small p x has change Writes makes (Ok value) there writes m w (begun_in s k m c w is) sound there.put_back
-change_carried s t sound k after c slot small p x has change Writes makes (Err fault.Disk) there writes none m w is =
-    failed s t k after c slot small p x has change Writes makes (Err fault.Disk) there writes m w (begun_in s k m c w is)
-change_carried s t sound k after c slot small p x has change Writes makes (Err fault.Memory) there writes none m w is =
-    failed s t k after c slot small p x has change Writes makes (Err fault.Memory) there writes m w (begun_in s k m c w is)
-change_carried s t sound k after c slot small p x has change Writes makes (Err (fault.Refused refusal)) there writes none m w is =
-    absurd (let never : None ≡ Some x = sym (none refusal refl) ∙ has.found in cc)
+change_carried s t sound k after c slot small p x has change Writes makes r there writes none =
+    carries_out (change_where s t sound k after c slot small p x has change Writes makes r there writes none)

@@ -1,5 +1,5 @@
 -- A call that changes one object and writes to its file alone.
-use Rattle.std.proofs.Common.{◌≡◌, ◌≢◌, inl, inr, ℕ, List, Option, Some, None, Result, Ok, true, false, refl, sym, ap, subst, ◌∙◌, arith, length-set}
+use Rattle.std.proofs.Common.{◌≡◌, ◌≢◌, inl, inr, ℕ, List, Option, Some, None, Result, Ok, true, false, refl, sym, ap, subst, ◌∙◌, arith, length-set, Bool, IsTrue}
 use Rattle.std.specs.Prelude.{IfOk, IsSome, is_none, slice_get, slice_set}
 use Rattle.std.proofs.lemmas.Option.{slice_get_within}
 use Rattle.std.proofs.lemmas.Bool.{cases_Bool, cases_eq}
@@ -34,7 +34,7 @@ use Rattle.entry_name.specs.EntryName.{file_name}
 use Rattle.file_handles.specs.Changes.{Becomes, Changes, IsFiledAs, IsMomentOf}
 use Rattle.file_handles.specs.Held.{IsHeldAs, object_place, place_of}
 use Rattle.file_handles.specs.Kept.{Kept, object_at, with_object}
-use Rattle.file_handles.specs.Stands.{HandlesStand, IsAt, IsIn, IsObjectOf}
+use Rattle.file_handles.specs.Stands.{HandlesStand, IsAt, IsInWhere, IsObjectOf}
 use Rattle.file_handles.specs.declared.fault.HandleFault.{HandleFault}
 use Rattle.file_handles.specs.declared.object.Object.{Object}
 use Rattle.file_handles.proofs.KeptLaws.{object_set_here, object_set_other, place_within}
@@ -59,8 +59,8 @@ writes_weaker s t file P Q all writes = record {
   moments = λ left lt. all _ (writes.moments left lt);
 }
 
-module _ (s : State) (k : Kept) (m : Machine) (w : Marks) (is : IsIn s k m w) (p : ℕ) (x : Object) (at : object_at k p ≡ Some x) (o : MachineObject) (may : MayStand m (is.number p) o) where
-  module _ (out : MayGoOut w (is.number p) o) where
+module _ {b : Bool} (s : State) (k : Kept) (m : Machine) (w : Marks) (is : IsInWhere b s k m w) (p : ℕ) (x : Object) (at : object_at k p ≡ Some x) (o : MachineObject) (may : MayStand m (is.number p) o) where
+  module _ (on : IsTrue b) (out : MayGoOut w (is.number p) o) where
     -- where the object's file ever stood as an entry
     stood : (file : ℕ) → names_now s (object_place x) ≡ Some file → (name : List ℕ) → EverAt s (entry_place name) file → WasUnder w (is.number p) (object m (is.number p)) name
     stood file now name ever = go x.doomed refl
@@ -69,15 +69,15 @@ module _ (s : State) (k : Kept) (m : Machine) (w : Marks) (is : IsIn s k m w) (p
         go None none =
             let own : List ℕ = file_name (object m (is.number p)).version.key in
             let here : EverAt s (entry_place own) file = (0, ap (names_now s) (sym (undoomed_place s k m is.number is.stands p x at none)) ∙ now) in
-            let same : own ≡ name = is.crash_kept.once own name file here ever in
+            let same : own ≡ name = (is.crash_kept on).once own name file here ever in
             let un = undoomed_is s k m is.number is.stands p x at none in
             record {
-              unburied = is.crash_kept.unburied (is.number p) (object m (is.number p)) (nth_there m.objects (is.number p) may.in_use.number) un;
+              unburied = (is.crash_kept on).unburied (is.number p) (object m (is.number p)) (nth_there m.objects (is.number p) may.in_use.number) un;
               named = same;
               touched = ap (is_touched w) (sym same ∙ ap file_name (sym may.key)) ∙ out.touched (may.doomed ∙ un);
             }
         go (Some d) e =
-            is.crash_kept.doomed d (is.number p) file name (doomed_at s k m is.number is.stands p x at d e) (doomed_is s k m is.number is.stands p x at d e)
+            (is.crash_kept on).doomed d (is.number p) file name (doomed_at s k m is.number is.stands p x at d e) (doomed_is s k m is.number is.stands p x at d e)
             (ap (λ n. names_now s (place_of x.name n)) (sym e) ∙ now) ever
 
     -- what it gets is fine there
@@ -96,7 +96,7 @@ module _ (s : State) (k : Kept) (m : Machine) (w : Marks) (is : IsIn s k m w) (p
       | inl done ↦
           let whole : content (s.files file) ≡ file_of (object m (is.number p)).version = holds ∙ finished_file_is (object m (is.number p)) done in
           let version = (machine_object_at m.objects is.stands.proper.objects (is.number p) may.in_use.number).version done in
-          subst (IsFine w name) (sym whole) (whole_is_fine s w name file (object m (is.number p)).version is.crash_kept.safe was.touched ever version was.named whole)
+          subst (IsFine w name) (sym whole) (whole_is_fine s w name file (object m (is.number p)).version (is.crash_kept on).safe was.touched ever version was.named whole)
       | inr un ↦
           let part : content (s.files file) ≡ unfinished_file (object m (is.number p)).version.body = holds ∙ unfinished_file_is (object m (is.number p)) un in
           inl (ap (fits name) part ∙ ap is_none (unfinished_is_short name (object m (is.number p)).version.body))
@@ -117,14 +117,14 @@ module _ (s : State) (k : Kept) (m : Machine) (w : Marks) (is : IsIn s k m w) (p
       go (Some file) now = (file, now)
 
   module _ (t : State) (writes : WritesAt (object_place x) (IsMomentOf o) s t) where
-    wrote_safe : MayGoOut w (is.number p) o → IsSafe t w
-    wrote_safe out =
+    wrote_safe : MayGoOut w (is.number p) o → IsTrue b → IsSafe t w
+    wrote_safe out on =
         let file = file_of_it in
-        write_keeps s t w file.0 (writes_weaker s t file.0 (IsMomentOf o) (IsFineAll s w file.0) (λ c moment name ever. moment_fine out name c (stood out file.0 file.1 name ever) moment) (writes file.0 file.1))
-        (λ name ever. (stood out file.0 file.1 name ever).touched) (held_fine out file.0 file.1) is.crash_kept.safe
+        write_keeps s t w file.0 (writes_weaker s t file.0 (IsMomentOf o) (IsFineAll s w file.0) (λ c moment name ever. moment_fine on out name c (stood on out file.0 file.1 name ever) moment) (writes file.0 file.1))
+        (λ name ever. (stood on out file.0 file.1 name ever).touched) (held_fine on out file.0 file.1) (is.crash_kept on).safe
 
-    wrote_once : IsFiledOnce t
-    wrote_once = let file = file_of_it in write_files_once s t file.0 (writes_weaker s t file.0 (IsMomentOf o) (λ c. Unit {0}) (λ c moment. tt) (writes file.0 file.1)) is.crash_kept.once
+    wrote_once : IsTrue b → IsFiledOnce t
+    wrote_once on = let file = file_of_it in write_files_once s t file.0 (writes_weaker s t file.0 (IsMomentOf o) (λ c. Unit {0}) (λ c moment. tt) (writes file.0 file.1)) (is.crash_kept on).once
 
     -- the call changed the object to y
     module _ (y : Object) (sound : IsSound s) (becomes : Becomes x y o t) where
@@ -258,11 +258,11 @@ module _ (s : State) (k : Kept) (m : Machine) (w : Marks) (is : IsIn s k m w) (p
       }
 
       -- each file stood where it stood, under the same name
-      was_under : (d j file : ℕ) (name : List ℕ) → IsAt (with_object k p (Some y)) is.number d j → IsHeldDoomed (stored m (is.number p) o) j → names_now t (Doomed d) ≡ Some file
+      was_under : IsTrue b → (d j file : ℕ) (name : List ℕ) → IsAt (with_object k p (Some y)) is.number d j → IsHeldDoomed (stored m (is.number p) o) j → names_now t (Doomed d) ≡ Some file
           → EverAt t (entry_place name) file → WasUnder w j (object (stored m (is.number p) o) j) name
-      was_under d j file name a held now ever =
+      was_under on d j file name a held now ever =
           let wrote = writes file_of_it.0 file_of_it.1 in
-          let was = is.crash_kept.doomed d j file name (was_numbered d j a) (held_before_stored m (is.number p) o is.stands.proper may j held)
+          let was = (is.crash_kept on).doomed d j file name (was_numbered d j a) (held_before_stored m (is.number p) o is.stands.proper may j held)
           (sym (wrote_names s t file_of_it.0 0 (IsMomentOf o) wrote (Doomed d)) ∙ now) (ever_wrote s t file_of_it.0 (IsMomentOf o) wrote (entry_place name) file ever) in
           record {
             unburied = was.unburied;
@@ -270,25 +270,25 @@ module _ (s : State) (k : Kept) (m : Machine) (w : Marks) (is : IsIn s k m w) (p
             touched = was.touched;
           }
 
-      unburied_then : (j : ℕ) (z : MachineObject) → slice_get (slice_set m.objects (is.number p) o) j ≡ Some z → z.doomed ≡ false → is_buried w j ≡ false
-      unburied_then j z at_j un =
+      unburied_then : IsTrue b → (j : ℕ) (z : MachineObject) → slice_get (slice_set m.objects (is.number p) o) j ≡ Some z → z.doomed ≡ false → is_buried w j ≡ false
+      unburied_then on j z at_j un =
           let lt = slice_get_within (slice_set m.objects (is.number p) o) j z at_j in
           let l = length-set m.objects (is.number p) o in
           let was : (object m j).doomed ≡ false =
           sym (stored_like m (is.number p) o is.stands.proper may (λ (z : MachineObject). z.doomed) may.doomed j)
           ∙ ap (λ (z : MachineObject). z.doomed) (nth_is (slice_set m.objects (is.number p) o) j z at_j) ∙ un in
-          is.crash_kept.unburied j (object m j) (nth_there m.objects j (omega (arith, lt, l))) was
+          (is.crash_kept on).unburied j (object m j) (nth_there m.objects j (omega (arith, lt, l))) was
 
-      wrote_kept : IsSafe t w → IsCrashKept t (stored m (is.number p) o) w (IsAt (with_object k p (Some y)) is.number)
-      wrote_kept safe = record {
+      wrote_kept : IsTrue b → IsSafe t w → IsCrashKept t (stored m (is.number p) o) w (IsAt (with_object k p (Some y)) is.number)
+      wrote_kept on safe = record {
         safe = safe;
-        once = wrote_once;
-        doomed = was_under;
-        unburied = unburied_then;
-        young = let l = length-set m.objects (is.number p) o in let young = is.crash_kept.young in omega (arith, l, young);
+        once = wrote_once on;
+        doomed = was_under on;
+        unburied = unburied_then on;
+        young = let l = length-set m.objects (is.number p) o in let young = (is.crash_kept on).young in omega (arith, l, young);
       }
 
-      wrote_in : IsSafe t w → IsIn t (with_object k p (Some y)) (stored m (is.number p) o) w
+      wrote_in : (IsTrue b → IsSafe t w) → IsInWhere b t (with_object k p (Some y)) (stored m (is.number p) o) w
       wrote_in safe = record {
         number = is.number;
         stands = record {
@@ -297,27 +297,27 @@ module _ (s : State) (k : Kept) (m : Machine) (w : Marks) (is : IsIn s k m w) (p
           entries = entries_stand;
           doomed = doomed_stand;
         };
-        crash_kept = wrote_kept safe;
+        crash_kept = λ on. wrote_kept on (safe on);
       }
 
 -- at every exit a crash may lose no more than the marks allow
-pub changed_safe : (s t : State) (k : Kept) (m : Machine) (w : Marks) (is : IsIn s k m w) (p : ℕ) (x : Object) (change : MachineObject → MachineObject) (changed : Result Object HandleFault)
-    → object_at k p ≡ Some x → Changes x change changed s t → MayStand m (is.number p) (change (object m (is.number p))) → MayGoOut w (is.number p) (change (object m (is.number p))) → IsSafe t w
+pub changed_safe : {b : Bool} (s t : State) (k : Kept) (m : Machine) (w : Marks) (is : IsInWhere b s k m w) (p : ℕ) (x : Object) (change : MachineObject → MachineObject) (changed : Result Object HandleFault)
+    → object_at k p ≡ Some x → Changes x change changed s t → MayStand m (is.number p) (change (object m (is.number p))) → MayGoOut w (is.number p) (change (object m (is.number p))) → IsTrue b → IsSafe t w
 changed_safe s t k m w is p x change changed at changes may out =
     wrote_safe s k m w is p x at (change (object m (is.number p))) may t (changes.writes (object m (is.number p)) (is_filed s k m is.number is.stands p x at)) out
 
 -- and after an Ok all stands for the machine with the object changed, where that is safe
-pub changed_in_safe : (s t : State) (k : Kept) (m : Machine) (w : Marks) (is : IsIn s k m w) (p : ℕ) (x y : Object) (change : MachineObject → MachineObject) (changed : Result Object HandleFault)
+pub changed_in_safe : {b : Bool} (s t : State) (k : Kept) (m : Machine) (w : Marks) (is : IsInWhere b s k m w) (p : ℕ) (x y : Object) (change : MachineObject → MachineObject) (changed : Result Object HandleFault)
     → IsSound s → object_at k p ≡ Some x → Changes x change changed s t → changed ≡ Ok y → MayStand m (is.number p) (change (object m (is.number p)))
-    → IsSafe t w → IsIn t (with_object k p (Some y)) (stored m (is.number p) (change (object m (is.number p)))) w
+    → (IsTrue b → IsSafe t w) → IsInWhere b t (with_object k p (Some y)) (stored m (is.number p) (change (object m (is.number p)))) w
 changed_in_safe s t k m w is p x y change changed sound at changes ok may safe =
     let o : MachineObject = object m (is.number p) in
     let filed = is_filed s k m is.number is.stands p x at in
     let at_ok : IfOk {E = HandleFault} (Ok y) (λ y. (o : MachineObject) → IsFiledAs x o s → Becomes x y (change o) t) = subst (λ (r : Result Object HandleFault). IfOk r (λ y. (o : MachineObject) → IsFiledAs x o s → Becomes x y (change o) t)) ok changes.becomes in
     wrote_in s k m w is p x at (change o) may t (changes.writes o filed) y sound (at_ok o filed) safe
 
-pub changed_in : (s t : State) (k : Kept) (m : Machine) (w : Marks) (is : IsIn s k m w) (p : ℕ) (x y : Object) (change : MachineObject → MachineObject) (changed : Result Object HandleFault)
+pub changed_in : {b : Bool} (s t : State) (k : Kept) (m : Machine) (w : Marks) (is : IsInWhere b s k m w) (p : ℕ) (x y : Object) (change : MachineObject → MachineObject) (changed : Result Object HandleFault)
     → IsSound s → object_at k p ≡ Some x → Changes x change changed s t → changed ≡ Ok y → MayStand m (is.number p) (change (object m (is.number p)))
-    → MayGoOut w (is.number p) (change (object m (is.number p))) → IsIn t (with_object k p (Some y)) (stored m (is.number p) (change (object m (is.number p)))) w
+    → MayGoOut w (is.number p) (change (object m (is.number p))) → IsInWhere b t (with_object k p (Some y)) (stored m (is.number p) (change (object m (is.number p)))) w
 changed_in s t k m w is p x y change changed sound at changes ok may out =
     changed_in_safe s t k m w is p x y change changed sound at changes ok may (changed_safe s t k m w is p x change changed at changes may out)

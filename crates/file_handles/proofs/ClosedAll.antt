@@ -289,7 +289,10 @@ may_drop s k m w is p x at no_stay name place = elim (cases_Bool (is_touched w n
 -- All that is closed.
 
 pub all_closed : (s t : State) (k : Kept) (n : ℕ) → length k.objects ≤ n → IsDroppedTo k n s t → ClosesAll (Ok tt) s t k
-all_closed s t k n all to m w is = (to.safe w (may_drop s k m w is) is.crash_kept.safe, closed s k m is.number is.stands t n all to)
+all_closed s t k n all to = record {
+  closed = λ m stand. closed s k m stand.0 stand.1 t n all to;
+  crash = λ m w is. to.safe w (may_drop s k m w is) is.crash_kept.safe;
+}
 
 pub all_failed : {T : Type 0} (k : Kept) (i : ℕ) (x : Object) (r : Result T DiskFault) (s t u : State) → object_at k i ≡ Some x → u ≡ if_done r (dropped x t) t → IsDroppedTo k i s t
     → (m : Machine) (w : Marks) → IsIn s k m w → IsSafe u w

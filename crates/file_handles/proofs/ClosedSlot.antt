@@ -1,5 +1,5 @@
 -- A slot is closed: its writer finishes its object first.
-use Rattle.std.proofs.Common.{◌≡◌, ℕ, ◌<◌, Bool, true, false, not, ◌&&◌, Some, None, IsSome, Result, Ok, Err, refl, sym, ap, subst, ◌∙◌}
+use Rattle.std.proofs.Common.{◌≡◌, ℕ, ◌<◌, Bool, true, false, not, ◌&&◌, Some, None, IsSome, Result, Ok, Err, refl, sym, ap, subst, ◌∙◌, IsTrue}
 use Rattle.std.specs.Prelude.{IfOk, IsErrAnd, IsOkAnd, IsSomeAnd, OnOk, if◌then◌else◌, option_map}
 use Rattle.std.proofs.lemmas.Bool.{and_parts, cond-false, cond-true, not-true}
 use Rattle.cache_base.specs.Checks.{first_failing}
@@ -19,13 +19,12 @@ use Rattle.cache_theory.proofs.Storing.{MayStand, stored_here}
 use Rattle.disk_model.specs.Sound.{IsSound}
 use Rattle.disk_model.specs.State.{State, standing}
 use Rattle.file_handles.specs.Answers.{done_or, reply_in}
-use Rattle.file_handles.specs.Carries.{Leaves}
 use Rattle.file_handles.specs.Changes.{Becomes, ChangesAt, ChangesThere, IsFiledAs, completed}
 use Rattle.file_handles.specs.Closing.{GivesUp, MayGiveUp, is_some_draft}
 use Rattle.file_handles.specs.Held.{IsEntryOf, is_draft, object_place}
 use Rattle.file_handles.specs.Kept.{Kept, object_at, use_at, used, with_object}
 use Rattle.file_handles.specs.Refuses.{Refuses}
-use Rattle.file_handles.specs.Stands.{IsIn, Stands, StandsSomehow}
+use Rattle.file_handles.specs.Stands.{IsInWhere, Stands, StandsSomehow}
 use Rattle.file_handles.specs.declared.fault.HandleFault.{HandleFault}
 use Rattle.file_handles.specs.declared.fault.HandleFault.TheVariants as fault
 use Rattle.file_handles.specs.declared.object.Entry.{Entry}
@@ -38,8 +37,9 @@ use Rattle.file_handles.proofs.ElementMarks.{goes_out}
 use Rattle.file_handles.proofs.ElementSlots.{no_slot, no_use_found, slot_is, slot_number, slot_writes}
 use Rattle.file_handles.proofs.KeptLaws.{object_set_here, place_within}
 use Rattle.file_handles.proofs.Places.{file_stands, is_filed}
-use Rattle.file_handles.proofs.Refused.{refused_leaves}
+use Rattle.file_handles.proofs.Refused.{refused_where}
 use Rattle.file_handles.proofs.Released.{released_objects, some_object}
+use Rattle.file_handles.proofs.Where.{LeavesWhere}
 
 -- A slot that is not in use.
 
@@ -54,10 +54,10 @@ reply_is : {T : Type 0} (r : Result T HandleFault) (f : HandleFault) → IsErrAn
 reply_is (Ok value) f is = absurd is
 reply_is (Err e) f is = ap reply_in is
 
-pub unused_leaves : {T : Type 0} (s : State) (k : Kept) (slot : ℕ) → slot < SLOTS → (refusal : Refusal) → used (use_at k slot) ≡ Err refusal → (r : Result T HandleFault) → IsErrAnd r (λ e. e ≡ fault.Refused refusal)
-    → (m : Machine) (w : Marks) → IsIn s k m w → Leaves (Close slot) m w (done_or r) s k
-unused_leaves s k slot small refusal is r same m w stands =
-    subst (λ o. Leaves (Close slot) m w o s k) (sym (reply_is r (fault.Refused refusal) same)) (refused_leaves s k (Close slot) refusal (close_no_slot k slot small refusal is) m w stands)
+pub unused_leaves : {T : Type 0} {b : Bool} (s : State) (k : Kept) (slot : ℕ) → slot < SLOTS → (refusal : Refusal) → used (use_at k slot) ≡ Err refusal → (r : Result T HandleFault) → IsErrAnd r (λ e. e ≡ fault.Refused refusal)
+    → (m : Machine) (w : Marks) → IsInWhere b s k m w → LeavesWhere b (Close slot) m w (done_or r) s k
+unused_leaves {b = b} s k slot small refusal is r same m w stands =
+    subst (λ o. LeavesWhere b (Close slot) m w o s k) (sym (reply_is r (fault.Refused refusal) same)) (refused_where s k (Close slot) refusal (close_no_slot k slot small refusal is) b m w stands)
 
 -- A fault that is no refusal has no reply.
 
@@ -69,9 +69,9 @@ no_reply r f is none = reply_is r f is ∙ go f none
     go fault.Memory none = refl
     go (fault.Refused refusal) none = absurd (none refusal refl)
 
-pub faulted_leaves : {T : Type 0} (slot : ℕ) (r : Result T HandleFault) (f : HandleFault) (t : State) (after : Kept) (m : Machine) (w : Marks) → IsErrAnd r (λ e. e ≡ f) → ((refusal : Refusal) → f ≡ fault.Refused refusal → ⊥)
-    → IsSafe t (begun m (Close slot) w) → Leaves (Close slot) m w (done_or r) t after
-faulted_leaves slot r f t after m w is none safe = subst (λ o. Leaves (Close slot) m w o t after) (sym (no_reply r f is none)) (record { safe = safe; replies = tt; next = tt })
+pub faulted_leaves : {T : Type 0} {b : Bool} (slot : ℕ) (r : Result T HandleFault) (f : HandleFault) (t : State) (after : Kept) (m : Machine) (w : Marks) → IsErrAnd r (λ e. e ≡ f) → ((refusal : Refusal) → f ≡ fault.Refused refusal → ⊥)
+    → (IsTrue b → IsSafe t (begun m (Close slot) w)) → LeavesWhere b (Close slot) m w (done_or r) t after
+faulted_leaves {b = b} slot r f t after m w is none safe = subst (λ o. LeavesWhere b (Close slot) m w o t after) (sym (no_reply r f is none)) (record { safe = safe; replies = tt; next = tt })
 
 -- an entry is a draft where the object is not finished
 draft_is : (x : Entry) (o : MachineObject) → IsEntryOf x o → not o.finished ≡ is_draft x
@@ -114,15 +114,15 @@ module _ (s : State) (k : Kept) (slot : ℕ) (small : slot < SLOTS) (u : Use) (a
         }
 
   -- Nothing is to be finished.
-  module _ (not_finishes : (u.writes && is_some_draft (object_at k u.place)) ≡ false) (m : Machine) (w : Marks) (is : IsIn s k m w) where
-    pub unchanged_in : IsIn s k (finished_by m slot) (begun m (Close slot) w)
+  module _ (not_finishes : (u.writes && is_some_draft (object_at k u.place)) ≡ false) {b : Bool} (m : Machine) (w : Marks) (is : IsInWhere b s k m w) where
+    pub unchanged_in : IsInWhere b s k (finished_by m slot) (begun m (Close slot) w)
     unchanged_in =
         let same : finished_by m slot ≡ m = ap (λ (b : Bool). if b then stored m (number_of m slot) (completed (object_of m slot)) else m) (finishes m is.number is.stands ∙ not_finishes) in
-        subst (λ (n : Machine). IsIn s k n (begun m (Close slot) w)) (sym same) (begun_in s k m (Close slot) w is)
+        subst (λ (n : Machine). IsInWhere b s k n (begun m (Close slot) w)) (sym same) (begun_in s k m (Close slot) w is)
 
   -- The object is finished.
   module _ (to_finish : (u.writes && is_some_draft (object_at k u.place)) ≡ true) {T : Type 0} (r : Result T HandleFault) (t : State) (after : Kept) (changes : ChangesThere u.place completed r s t k after) where
-    module _ (m : Machine) (w : Marks) (is : IsIn s k m (begun m (Close slot) w)) where
+    module _ {b : Bool} (m : Machine) (w : Marks) (is : IsInWhere b s k m (begun m (Close slot) w)) where
       writes : (is_writer m slot && not (object_of m slot).finished) ≡ true
       writes = finishes m is.number is.stands ∙ to_finish
 
@@ -154,28 +154,28 @@ module _ (s : State) (k : Kept) (slot : ℕ) (small : slot < SLOTS) (u : Use) (a
       there : ChangesAt u.place completed r s t k after (object_there m is.number is.stands).0
       there = let x = object_there m is.number is.stands in changes x.0 x.1
 
-      pub finished_safe : IsSafe t (begun m (Close slot) w)
+      pub finished_safe : IsTrue b → IsSafe t (begun m (Close slot) w)
       finished_safe =
           let x = object_there m is.number is.stands in
           changed_safe s t k m (begun m (Close slot) w) is u.place x.0 completed there.changed x.1 there.changes may out
 
-      finished_when : IsSound s → IsOkAnd there.changed (λ y. after ≡ with_object k u.place (Some y)) → IsIn t after (finished_by m slot) (begun m (Close slot) w)
+      finished_when : IsSound s → IsOkAnd there.changed (λ y. after ≡ with_object k u.place (Some y)) → IsInWhere b t after (finished_by m slot) (begun m (Close slot) w)
       finished_when sound put = go there.changed refl put
         where
-          go : (changed : Result Object HandleFault) → there.changed ≡ changed → IsOkAnd changed (λ y. after ≡ with_object k u.place (Some y)) → IsIn t after (finished_by m slot) (begun m (Close slot) w)
+          go : (changed : Result Object HandleFault) → there.changed ≡ changed → IsOkAnd changed (λ y. after ≡ with_object k u.place (Some y)) → IsInWhere b t after (finished_by m slot) (begun m (Close slot) w)
           go (Err f) e put = absurd put
           go (Ok y) e put =
               let x = object_there m is.number is.stands in
-              let stands : IsIn t (with_object k u.place (Some y)) (stored m (is.number u.place) (completed (object m (is.number u.place)))) (begun m (Close slot) w) =
+              let stands : IsInWhere b t (with_object k u.place (Some y)) (stored m (is.number u.place) (completed (object m (is.number u.place)))) (begun m (Close slot) w) =
               changed_in_safe s t k m (begun m (Close slot) w) is u.place x.0 y completed there.changed sound x.1 there.changes e may finished_safe in
               let same : stored m (is.number u.place) (completed (object m (is.number u.place))) ≡ finished_by m slot = ap (λ j. stored m j (completed (object m j))) (sym (numbered m is.number is.stands)) ∙ sym finished_is in
-              subst (λ (l : Kept). IsIn t l (finished_by m slot) (begun m (Close slot) w)) (sym put)
-              (subst (λ (n : Machine). IsIn t (with_object k u.place (Some y)) n (begun m (Close slot) w)) same stands)
+              subst (λ (l : Kept). IsInWhere b t l (finished_by m slot) (begun m (Close slot) w)) (sym put)
+              (subst (λ (n : Machine). IsInWhere b t (with_object k u.place (Some y)) n (begun m (Close slot) w)) same stands)
 
-      pub finished_in : IsSound s → OnOk r (IsIn t after (finished_by m slot) (begun m (Close slot) w))
+      pub finished_in : IsSound s → OnOk r (IsInWhere b t after (finished_by m slot) (begun m (Close slot) w))
       finished_in sound = go r there.put_back
         where
-          go : (r : Result T HandleFault) → OnOk r (IsOkAnd there.changed (λ y. after ≡ with_object k u.place (Some y))) → OnOk r (IsIn t after (finished_by m slot) (begun m (Close slot) w))
+          go : (r : Result T HandleFault) → OnOk r (IsOkAnd there.changed (λ y. after ≡ with_object k u.place (Some y))) → OnOk r (IsInWhere b t after (finished_by m slot) (begun m (Close slot) w))
           go (Ok value) put = finished_when sound put
           go (Err f) put = tt
 
@@ -202,20 +202,20 @@ module _ (s : State) (k : Kept) (slot : ℕ) (small : slot < SLOTS) (u : Use) (a
         go (Err f) put = tt
 
   -- The slot is given up then.
-  module _ (t : State) (mid after : Kept) (m : Machine) (w : Marks) (is : IsIn s k m w) (stands : IsIn t mid (finished_by m slot) (begun m (Close slot) w)) (v : State) where
+  module _ (t : State) (mid after : Kept) {b : Bool} (m : Machine) (w : Marks) (is : IsInWhere b s k m w) (stands : IsInWhere b t mid (finished_by m slot) (begun m (Close slot) w)) (v : State) where
     reads : (object_of (finished_by m slot) slot).finished ≡ false → is_writer (finished_by m slot) slot ≡ false
     reads = finished_reads m slot is.stands.proper (has_slot m is.number is.stands)
 
-    pub closed_safe : (r : Result (Unit {0}) HandleFault) → GivesUp slot r t v mid after → IsSafe v (begun m (Close slot) w)
-    closed_safe r gives = (gives (finished_by m slot) (begun m (Close slot) w) reads stands).0
+    pub closed_safe : (r : Result (Unit {0}) HandleFault) → GivesUp slot r t v mid after → IsTrue b → IsSafe v (begun m (Close slot) w)
+    closed_safe r gives = (gives b (finished_by m slot) (begun m (Close slot) w) reads stands).0
 
-    pub closed_leaves : GivesUp slot (Ok tt) t v mid after → Leaves (Close slot) m w (Some Done) v after
+    pub closed_leaves : GivesUp slot (Ok tt) t v mid after → LeavesWhere b (Close slot) m w (Some Done) v after
     closed_leaves gives =
-        let given = gives (finished_by m slot) (begun m (Close slot) w) reads stands in
+        let given = gives b (finished_by m slot) (begun m (Close slot) w) reads stands in
         record {
           safe = given.0;
           replies = ap (λ (a : Answer). a.reply) (sym (close_step m is.number is.stands));
-          next = subst (λ (n : Machine). IsIn v after n (begun m (Close slot) w)) (ap (λ (a : Answer). a.next) (sym (close_step m is.number is.stands))) given.1;
+          next = subst (λ (n : Machine). IsInWhere b v after n (begun m (Close slot) w)) (ap (λ (a : Answer). a.next) (sym (close_step m is.number is.stands))) given.1;
         }
 
 -- what holds of an Ok where the disk tells

@@ -1,5 +1,5 @@
 -- What a `create` leaves at each exit.
-use Rattle.std.proofs.Common.{◌≡◌, ◌≢◌, ◌⊎◌, ℕ, ◌<◌, List, [], ◌∷◌, length, Bool, true, false, not, Option, Some, None, Result, Ok, Err, is_ok, refl, sym, ap, subst, ◌∙◌}
+use Rattle.std.proofs.Common.{◌≡◌, ◌≢◌, ◌⊎◌, ℕ, ◌<◌, List, [], ◌∷◌, length, Bool, true, false, not, Option, Some, None, Result, Ok, Err, is_ok, refl, sym, ap, subst, ◌∙◌, IsTrue}
 use Rattle.std.specs.List.{position}
 use Rattle.cache_base.specs.Bytes.{AreBytes}
 use Rattle.cache_base.specs.Checks.{first_failing}
@@ -20,13 +20,13 @@ use Rattle.disk_model.specs.Sound.{IsSound}
 use Rattle.disk_model.specs.State.{State, created}
 use Rattle.entry_key.specs.Writing.{may_write}
 use Rattle.entry_name.specs.EntryName.{file_name}
-use Rattle.file_handles.specs.Carries.{CarriesOutAt, Leaves}
+use Rattle.file_handles.specs.Carries.{CarriesOutAt}
 use Rattle.file_handles.specs.Dooming.{DoomsUnder}
 use Rattle.file_handles.specs.Finding.{is_user}
 use Rattle.file_handles.specs.Held.{IsHeldAs}
 use Rattle.file_handles.specs.Joining.{Adds}
 use Rattle.file_handles.specs.Kept.{Kept, use_at, used}
-use Rattle.file_handles.specs.Stands.{IsIn}
+use Rattle.file_handles.specs.Stands.{IsInWhere}
 use Rattle.file_handles.specs.declared.fault.HandleFault.{HandleFault}
 use Rattle.file_handles.specs.declared.object.Object.{Object}
 use Rattle.file_handles.specs.declared.object.Use.{Use}
@@ -37,7 +37,8 @@ use Rattle.file_handles.proofs.DoomedCarried.{done_in, touches_name}
 use Rattle.file_handles.proofs.ElementSlots.{no_slot, slot_is}
 use Rattle.file_handles.proofs.JoinedObject.{MayAdd}
 use Rattle.file_handles.proofs.JoinedOpen.{used_none}
-use Rattle.file_handles.proofs.Refused.{refused_leaves}
+use Rattle.file_handles.proofs.Refused.{refused_where}
+use Rattle.file_handles.proofs.Where.{LeavesWhere, carries_out_at}
 
 -- The checks, with what they test.
 
@@ -55,15 +56,15 @@ used_some (Some u) ok = (u, refl)
 module _ (s : State) (k : Kept) (slot : ℕ) (key : List ℕ) (small : slot < SLOTS) where
   pub taken_leaves : (r : Result Use Refusal) → r ≡ used (use_at k slot) → is_ok r ≡ true → (now : ℕ) → CarriesOutAt now (Create slot key) (Some (Refused refused.SlotTaken)) s s k k
   unfolding checked
-  taken_leaves r is ok now m w moment =
+  taken_leaves r is ok now =
       let at = used_some (use_at k slot) (ap (λ o. is_ok o) (sym is) ∙ ok) in
-      refused_leaves s k (Create slot key) refused.SlotTaken
-      (λ n number proper stand. create_checks n slot key ∙ ap (λ b. checked (not b) (may_write key)) (slot_is k n number stand slot small at.0 at.1)) m w
+      carries_out_at (λ b m w moment. refused_where s k (Create slot key) refused.SlotTaken
+      (λ n number proper stand. create_checks n slot key ∙ ap (λ b. checked (not b) (may_write key)) (slot_is k n number stand slot small at.0 at.1)) b m w)
 
   pub bad_key_leaves : use_at k slot ≡ None → may_write key ≡ false → (now : ℕ) → CarriesOutAt now (Create slot key) (Some (Refused refused.BadKey)) s s k k
   unfolding checked
-  bad_key_leaves unused bad now m w moment =
-      refused_leaves s k (Create slot key) refused.BadKey (λ n number proper stand. create_checks n slot key ∙ (λ i. checked (not (no_slot k n number stand slot small unused i)) (bad i))) m w
+  bad_key_leaves unused bad now =
+      carries_out_at (λ b m w moment. refused_where s k (Create slot key) refused.BadKey (λ n number proper stand. create_checks n slot key ∙ (λ i. checked (not (no_slot k n number stand slot small unused i)) (bad i))) b m w)
 
 -- The checks hold.
 
@@ -78,7 +79,7 @@ pub may_create_by : (k : Kept) (slot : ℕ) (key : List ℕ) (name : Name) → s
 may_create_by k slot key name small r is free good ok unused writes fine named =
     record { small = small; unused = used_none (use_at k slot) r is (sym ok ∙ unused); good = sym writes ∙ fine; named = named }
 
-module _ (s : State) (k : Kept) (slot : ℕ) (key : List ℕ) (name : Name) (may : MayCreate k slot key name) (m : Machine) (w : Marks) (stand : IsIn s k m w) where
+module _ (s : State) (k : Kept) (slot : ℕ) (key : List ℕ) (name : Name) (may : MayCreate k slot key name) {b : Bool} (m : Machine) (w : Marks) (stand : IsInWhere b s k m w) where
   slot_free : is_slot m slot ≡ false
   slot_free = no_slot k m stand.number stand.stands.handles slot may.small may.unused
 
@@ -89,29 +90,29 @@ module _ (s : State) (k : Kept) (slot : ℕ) (key : List ℕ) (name : Name) (may
   touched : is_touched (begun m (Create slot key) w) name.0 ≡ true
   touched = touches_name m (Create slot key) w name.0 passes (ap (λ n. n ∷ []) (sym may.named))
 
-  here : IsIn s k m (begun m (Create slot key) w)
+  here : IsInWhere b s k m (begun m (Create slot key) w)
   here = begun_in s k m (Create slot key) w stand
 
   -- who was in use could not be doomed
   pub doom_fails : (u : State) (after : Kept) (f : HandleFault) → (position (is_user name) k.objects ≢ None → DoomsUnder {T = Bool} name.0 (Err f) s u k after) → (position (is_user name) k.objects ≢ None)
-      → IsSafe u (begun m (Create slot key) w)
-  doom_fails u after f dooms some = (dooms some m (begun m (Create slot key) w) touched here).0
+      → IsTrue b → IsSafe u (begun m (Create slot key) w)
+  doom_fails u after f dooms some = (dooms some b m (begun m (Create slot key) w) touched here).0
 
   -- or is doomed, if there was one
-  pub doom_done : {D X : Type 0} (state : D → State) (d e : D) (after : Kept) (b : Bool) → state d ≡ s → (position (is_user name) k.objects ≢ None → DoomsUnder {T = Bool} name.0 (Ok b) s (state e) k after)
-      → (position (is_user name) k.objects ≡ None → X × ((e ≡ d) × (after ≡ k))) → IsInBut name.0 (state e) after (doomed_under m name.0) (begun m (Create slot key) w)
-  doom_done state d e after b is dooms still =
-      after_doom s (state e) k after name m (begun m (Create slot key) w) here (λ some. (dooms some m (begun m (Create slot key) w) touched here).1)
+  pub doom_done : {D X : Type 0} (state : D → State) (d e : D) (after : Kept) (some_ : Bool) → state d ≡ s → (position (is_user name) k.objects ≢ None → DoomsUnder {T = Bool} name.0 (Ok some_) s (state e) k after)
+      → (position (is_user name) k.objects ≡ None → X × ((e ≡ d) × (after ≡ k))) → IsInBut b name.0 (state e) after (doomed_under m name.0) (begun m (Create slot key) w)
+  doom_done state d e after some_ is dooms still =
+      after_doom s (state e) k after name m (begun m (Create slot key) w) here (λ some. (dooms some b m (begun m (Create slot key) w) touched here).1)
       (λ bare. let same = (still bare).1 in (ap state same.0 ∙ is, same.1))
 
-  module _ (u t : State) (before : Kept) (sound : IsSound u) (but : IsInBut name.0 u before (doomed_under m name.0) (begun m (Create slot key) w)) where
+  module _ (u t : State) (before : Kept) (sound : IsSound u) (but : IsInBut b name.0 u before (doomed_under m name.0) (begun m (Create slot key) w)) where
     -- its file may be made
-    pub draft_safe : (t ≡ created (Entry name) u) ⊎ (t ≡ u) → IsSafe t (begun m (Create slot key) w)
-    draft_safe either = made_safe u name sound (begun m (Create slot key) w) touched t either but.crash_kept.safe
+    pub draft_safe : (t ≡ created (Entry name) u) ⊎ (t ≡ u) → IsTrue b → IsSafe t (begun m (Create slot key) w)
+    draft_safe either on = made_safe u name sound (begun m (Create slot key) w) touched t either (but.crash_kept on).safe
 
     -- and its object is added
     pub added_leaves : (after : Kept) (x : Object) → AreBytes key → t ≡ created (Entry name) u → IsHeldAs x (fresh m.moment key) → Adds slot x true before after → slot < length before.slots
-        → ((p : ℕ) → p < SLOTS → p < length before.objects) → Leaves (Create slot key) m w (Some Done) t after
+        → ((p : ℕ) → p < SLOTS → p < length before.objects) → LeavesWhere b (Create slot key) m w (Some Done) t after
     unfolding effect
     added_leaves after x bytes is held adds within places =
         let v : Marks = begun m (Create slot key) w in
@@ -128,7 +129,7 @@ module _ (s : State) (k : Kept) (slot : ℕ) (key : List ℕ) (name : Name) (may
           writing = adds.joins.writing;
         }
         in
-        let but_key : IsInBut name.0 u before next v = subst (λ n. IsInBut name.0 u before (doomed_under m n) v) may.named but in
+        let but_key : IsInBut b name.0 u before next v = subst (λ n. IsInBut b name.0 u before (doomed_under m n) v) may.named but in
         let done = created_in u name sound v touched before next slot m.moment key x adds.place use_ may.named add but_key in
-        let kept_so : IsIn (created (Entry name) u) after last v = subst (λ (a : Kept). IsIn (created (Entry name) u) a last v) (sym adds.joins.same) done in
-        done_in t after (Create slot key) m w passes refl refl (subst (λ z. IsIn z after last v) (sym is) kept_so)
+        let kept_so : IsInWhere b (created (Entry name) u) after last v = subst (λ (a : Kept). IsInWhere b (created (Entry name) u) a last v) (sym adds.joins.same) done in
+        done_in t after (Create slot key) m w passes refl refl (subst (λ z. IsInWhere b z after last v) (sym is) kept_so)

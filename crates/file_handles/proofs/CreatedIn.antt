@@ -1,5 +1,5 @@
 -- A new entry: all stands once its file is made and its object is added.
-use Rattle.std.proofs.Common.{◌≡◌, ◌≢◌, ◌⊎◌, inl, inr, ℕ, List, [], Option, Some, None, true, refl, sym, ap, subst, ◌∙◌, arith}
+use Rattle.std.proofs.Common.{◌≡◌, ◌≢◌, ◌⊎◌, inl, inr, ℕ, List, [], Option, Some, None, true, refl, sym, ap, subst, ◌∙◌, arith, Bool}
 use Rattle.std.specs.List.{position}
 use Rattle.cache_base.specs.declared.name.Name.{Name}
 use Rattle.cache_theory.specs.Crash.{IsCrashKept, IsSafe}
@@ -22,7 +22,7 @@ use Rattle.disk_model.proofs.Standing.{added_puts}
 use Rattle.entry_name.specs.EntryName.{file_name}
 use Rattle.file_handles.specs.Finding.{is_user}
 use Rattle.file_handles.specs.Kept.{Kept, with_object, with_use}
-use Rattle.file_handles.specs.Stands.{IsAt, IsIn}
+use Rattle.file_handles.specs.Stands.{IsAt, IsInWhere}
 use Rattle.file_handles.specs.declared.object.Object.{Object}
 use Rattle.file_handles.specs.declared.object.Use.{Use}
 use Rattle.file_handles.proofs.DoomedBut.{IsInBut, in_but, undoomed_but}
@@ -30,17 +30,17 @@ use Rattle.file_handles.proofs.JoinedObject.{MayAdd, crash_added, doomed_added, 
 use Rattle.file_handles.proofs.User.{no_user_there}
 
 -- once who was in use is doomed, all stands but for the file
-pub after_doom : (s t : State) (k after : Kept) (name : Name) (m : Machine) (w : Marks) → IsIn s k m w
-    → (position (is_user name) k.objects ≢ None → IsIn t after (doomed_under m name.0) w) → (position (is_user name) k.objects ≡ None → (t ≡ s) × (after ≡ k))
-    → IsInBut name.0 t after (doomed_under m name.0) w
-after_doom s t k after name m w stand doomed still = go (position (is_user name) k.objects) refl
+pub after_doom : {b : Bool} (s t : State) (k after : Kept) (name : Name) (m : Machine) (w : Marks) → IsInWhere b s k m w
+    → (position (is_user name) k.objects ≢ None → IsInWhere b t after (doomed_under m name.0) w) → (position (is_user name) k.objects ≡ None → (t ≡ s) × (after ≡ k))
+    → IsInBut b name.0 t after (doomed_under m name.0) w
+after_doom {b} s t k after name m w stand doomed still = go (position (is_user name) k.objects) refl
   where
-    go : (o : Option ℕ) → position (is_user name) k.objects ≡ o → IsInBut name.0 t after (doomed_under m name.0) w
+    go : (o : Option ℕ) → position (is_user name) k.objects ≡ o → IsInBut b name.0 t after (doomed_under m name.0) w
     go None bare =
         let same = still bare in
         let unused = no_user_there k m stand.number stand.stands.proper stand.stands.handles name bare in
-        subst (λ u. IsInBut name.0 u after (doomed_under m name.0) w) (sym same.0)
-        (subst (λ a. IsInBut name.0 s a (doomed_under m name.0) w) (sym same.1) (undoomed_but name.0 s k m w unused stand))
+        subst (λ u. IsInBut b name.0 u after (doomed_under m name.0) w) (sym same.0)
+        (subst (λ a. IsInBut b name.0 s a (doomed_under m name.0) w) (sym same.1) (undoomed_but name.0 s k m w unused stand))
     go (Some p) at = in_but name.0 t after (doomed_under m name.0) w (doomed (λ bare. let never : Some p ≡ None = sym at ∙ bare in cc))
 
 module _ (s : State) (name : Name) (sound : IsSound s) where
@@ -73,7 +73,7 @@ module _ (s : State) (name : Name) (sound : IsSound s) where
       young = kept.young;
     }
 
-    module _ (k : Kept) (m : Machine) (slot now : ℕ) (key : List ℕ) (x : Object) (p : ℕ) (u : Use) (named : name.0 ≡ file_name key) (may : MayAdd k m slot true (fresh now key) x p u) (but : IsInBut name.0 s k m w) where
+    module _ (k : Kept) (m : Machine) (slot now : ℕ) (key : List ℕ) (x : Object) (p : ℕ) (u : Use) (named : name.0 ≡ file_name key) (may : MayAdd k m slot true (fresh now key) x p u) {b : Bool} (but : IsInBut b name.0 s k m w) where
       entries_made : (q : List ℕ) → entries (standing (created (Entry name) s)) q ≡ entry_file (entered m slot true (fresh now key)) q
       entries_made q = elim (one_name name.0 q) [
         | inl e ↦
@@ -84,7 +84,7 @@ module _ (s : State) (name : Name) (sound : IsSound s) where
             ∙ sym (entry_entered_other m slot true (fresh now key) but.stands.proper may.enters q (λ e. apart (named ∙ sym e)))
       ]
 
-      pub created_in : IsIn (created (Entry name) s) (with_use (with_object k p (Some x)) slot (Some u)) (entered m slot true (fresh now key)) w
+      pub created_in : IsInWhere b (created (Entry name) s) (with_use (with_object k p (Some x)) slot (Some u)) (entered m slot true (fresh now key)) w
       created_in =
           let proper = but.stands.proper in
           let stand = but.stands.handles in
@@ -96,5 +96,5 @@ module _ (s : State) (name : Name) (sound : IsSound s) where
               entries = entries_made;
               doomed = doomed_added k m but.number proper stand slot true (fresh now key) x p u may (standing (created (Entry name) s)) (doomed_made k m but.number but.stands.doomed);
             };
-            crash_kept = crash_added k m but.number proper stand slot true (fresh now key) x p u may w (created (Entry name) s) (crash_made m (IsAt k but.number) but.crash_kept);
+            crash_kept = λ on. crash_added k m but.number proper stand slot true (fresh now key) x p u may w (created (Entry name) s) (crash_made m (IsAt k but.number) (but.crash_kept on));
           }

@@ -1,5 +1,5 @@
 -- The handles and the disk stand for a machine, but for the file under one name.
-use Rattle.std.proofs.Common.{◌≡◌, ◌≢◌, inl, inr, ℕ, List, Some, None, true, sym, ap, subst, ◌∙◌, arith}
+use Rattle.std.proofs.Common.{◌≡◌, ◌≢◌, inl, inr, ℕ, List, Some, None, true, sym, ap, subst, ◌∙◌, arith, Bool, IsTrue}
 use Rattle.std.specs.Prelude.{slice_get}
 use Rattle.cache_base.specs.declared.name.Name.{Name}
 use Rattle.cache_theory.specs.Crash.{IsCrashKept, WasUnder}
@@ -25,7 +25,7 @@ use Rattle.disk_model.specs.State.{State, removed, standing}
 use Rattle.disk_model.proofs.Standing.{removed_puts}
 use Rattle.file_handles.specs.Held.{IsHeldAs}
 use Rattle.file_handles.specs.Kept.{Kept}
-use Rattle.file_handles.specs.Stands.{HandlesStand, IsAt, IsIn, Stands}
+use Rattle.file_handles.specs.Stands.{HandlesStand, IsAt, IsInWhere, Stands}
 
 -- the files and the handles are the machine's, but for the file under the name
 pub record StandsBut (name : List ℕ) (files : Files) (k : Kept) (m : Machine) (number : ℕ → ℕ) : Type 0 where
@@ -34,13 +34,13 @@ pub record StandsBut (name : List ℕ) (files : Files) (k : Kept) (m : Machine) 
   pub entries_but : (q : List ℕ) → name ≢ q → entries files q ≡ entry_file m q
   pub doomed : DoomedStand files m (IsAt k number)
 
-pub record IsInBut (name : List ℕ) (s : State) (k : Kept) (m : Machine) (w : Marks) : Type 0 where
+pub record IsInBut (b : Bool) (name : List ℕ) (s : State) (k : Kept) (m : Machine) (w : Marks) : Type 0 where
   pub number : ℕ → ℕ
   pub stands : StandsBut name (standing s) k m number
-  pub crash_kept : IsCrashKept s m w (IsAt k number)
+  pub crash_kept : IsTrue b → IsCrashKept s m w (IsAt k number)
 
 -- all stands
-pub in_but : (name : List ℕ) (s : State) (k : Kept) (m : Machine) (w : Marks) → IsIn s k m w → IsInBut name s k m w
+pub in_but : {b : Bool} (name : List ℕ) (s : State) (k : Kept) (m : Machine) (w : Marks) → IsInWhere b s k m w → IsInBut b name s k m w
 in_but name s k m w is = record {
   number = is.number;
   stands = record { proper = is.stands.proper; handles = is.stands.handles; entries_but = λ q apart. is.stands.entries q; doomed = is.stands.doomed };
@@ -94,8 +94,8 @@ module _ (name : List ℕ) (s : State) (k : Kept) (m : Machine) (w : Marks) (unu
     young = (let l = doomed_length m name in let y = kept.young in omega (arith, l, y));
   }
 
-  pub undoomed_but : IsIn s k m w → IsInBut name s k (doomed_under m name) w
-  undoomed_but is = record { number = is.number; stands = stands_but is.number is.stands; crash_kept = crash_but is.number is.crash_kept }
+  pub undoomed_but : {b : Bool} → IsInWhere b s k m w → IsInBut b name s k (doomed_under m name) w
+  undoomed_but is = record { number = is.number; stands = stands_but is.number is.stands; crash_kept = λ on. crash_but is.number (is.crash_kept on) }
 
 -- Once its file is removed all stands.
 
@@ -128,5 +128,5 @@ module _ (name : Name) (s : State) (k : Kept) (m : Machine) (w : Marks) (none : 
     young = kept.young;
   }
 
-  pub removed_in : IsInBut name.0 s k m w → IsIn (removed (Entry name) s) k m w
-  removed_in but = record { number = but.number; stands = stands_gone but.number but.stands; crash_kept = crash_gone but.number but.crash_kept }
+  pub removed_in : {b : Bool} → IsInBut b name.0 s k m w → IsInWhere b (removed (Entry name) s) k m w
+  removed_in but = record { number = but.number; stands = stands_gone but.number but.stands; crash_kept = λ on. crash_gone but.number (but.crash_kept on) }

@@ -1,5 +1,5 @@
 -- What a command leaves that is refused, that fails, or that is done.
-use Rattle.std.proofs.Common.{◌≡◌, ℕ, List, [], ◌∷◌, ◌++◌, true, Some, None, refl, sym, ap, subst, ◌∙◌}
+use Rattle.std.proofs.Common.{◌≡◌, ℕ, List, [], ◌∷◌, ◌++◌, true, Some, None, refl, sym, ap, subst, ◌∙◌, Bool, IsTrue}
 use Rattle.std.specs.Prelude.{◌||◌}
 use Rattle.std.specs.List.{list_any}
 use Rattle.std.specs.Str.{bytes_eq}
@@ -15,10 +15,10 @@ use Rattle.cache_theory.specs.Marks.{Marks, acked, begun, begun_by, is_touched, 
 use Rattle.cache_theory.specs.Step.{effect, step, stepped}
 use Rattle.cache_theory.specs.declared.refusal.Refusal.{Refusal}
 use Rattle.disk_model.specs.State.{State}
-use Rattle.file_handles.specs.Carries.{Leaves}
 use Rattle.file_handles.specs.Kept.{Kept}
-use Rattle.file_handles.specs.Stands.{IsIn}
+use Rattle.file_handles.specs.Stands.{IsInWhere}
 use Rattle.file_handles.proofs.Begun.{begun_in}
+use Rattle.file_handles.proofs.Where.{LeavesWhere}
 
 acked_refused : (m : Machine) (c : Command) (w : Marks) (r : Refusal) → first_failing (checks m c) ≡ Some r → acked m c w ≡ w
 unfolding checks
@@ -37,24 +37,24 @@ acked_refused m (Doom key) w r e = ap (λ o. begun_by o m (Doom key) w) e
 acked_refused m (Get key) w r e = ap (λ o. begun_by o m (Get key) w) e
 
 -- a refusal in this state of the machine
-pub refused_in : (s : State) (k : Kept) (c : Command) (r : Refusal) (m : Machine) (w : Marks) → IsIn s k m w → first_failing (checks m c) ≡ Some r → Leaves c m w (Some (Refused r)) s k
-refused_in s k c r m w is fails = record {
-  safe = (begun_in s k m c w is).crash_kept.safe;
+pub refused_in : {b : Bool} (s : State) (k : Kept) (c : Command) (r : Refusal) (m : Machine) (w : Marks) → IsInWhere b s k m w → first_failing (checks m c) ≡ Some r → LeavesWhere b c m w (Some (Refused r)) s k
+refused_in {b} s k c r m w is fails = record {
+  safe = λ on. ((begun_in s k m c w is).crash_kept on).safe;
   replies = ap (λ o. (stepped m c o).reply) (sym fails);
-  next = subst (λ (v : Marks). IsIn s k (step m c).next v) (sym (acked_refused m c w r fails)) (subst (λ (n : Machine). IsIn s k n w) (ap (λ o. (stepped m c o).next) (sym fails)) is);
+  next = subst (λ (v : Marks). IsInWhere b s k (step m c).next v) (sym (acked_refused m c w r fails)) (subst (λ (n : Machine). IsInWhere b s k n w) (ap (λ o. (stepped m c o).next) (sym fails)) is);
 }
 
 -- no reply
-pub failed_in : (t : State) (after : Kept) (c : Command) (m : Machine) (w : Marks) → IsSafe t (begun m c w) → Leaves c m w None t after
+pub failed_in : {b : Bool} (t : State) (after : Kept) (c : Command) (m : Machine) (w : Marks) → (IsTrue b → IsSafe t (begun m c w)) → LeavesWhere b c m w None t after
 failed_in t after c m w safe = record { safe = safe; replies = tt; next = tt }
 
 -- it is done
-pub done_in : (t : State) (after : Kept) (c : Command) (m : Machine) (w : Marks) → first_failing (checks m c) ≡ None → acked m c w ≡ begun m c w → (effect m c).reply ≡ Done
-    → IsIn t after (effect m c).next (begun m c w) → Leaves c m w (Some Done) t after
-done_in t after c m w passes acks replies is = record {
-  safe = is.crash_kept.safe;
+pub done_in : {b : Bool} (t : State) (after : Kept) (c : Command) (m : Machine) (w : Marks) → first_failing (checks m c) ≡ None → acked m c w ≡ begun m c w → (effect m c).reply ≡ Done
+    → IsInWhere b t after (effect m c).next (begun m c w) → LeavesWhere b c m w (Some Done) t after
+done_in {b} t after c m w passes acks replies is = record {
+  safe = λ on. (is.crash_kept on).safe;
   replies = sym (ap (λ o. (stepped m c o).reply) passes ∙ replies);
-  next = subst (λ (v : Marks). IsIn t after (step m c).next v) (sym acks) (subst (λ (n : Machine). IsIn t after n (begun m c w)) (ap (λ o. (stepped m c o).next) (sym passes)) is);
+  next = subst (λ (v : Marks). IsInWhere b t after (step m c).next v) (sym acks) (subst (λ (n : Machine). IsInWhere b t after n (begun m c w)) (ap (λ o. (stepped m c o).next) (sym passes)) is);
 }
 
 touched_first : (name : List ℕ) (names : List (List ℕ)) → list_any (bytes_eq name) (name ∷ names) ≡ true

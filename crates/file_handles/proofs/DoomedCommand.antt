@@ -1,5 +1,5 @@
 -- What a `doom` leaves at each exit.
-use Rattle.std.proofs.Common.{◌≡◌, ◌≢◌, inl, ℕ, List, [], ◌∷◌, Bool, true, false, Option, Some, None, IsSome, is_some, Result, Ok, Err, IsErrAnd, refl, sym, ap, subst, ◌∙◌}
+use Rattle.std.proofs.Common.{◌≡◌, ◌≢◌, inl, ℕ, List, [], ◌∷◌, Bool, true, false, Option, Some, None, IsSome, is_some, Result, Ok, Err, IsErrAnd, refl, sym, ap, subst, ◌∙◌, IsTrue}
 use Rattle.std.specs.List.{position}
 use Rattle.std.specs.Prelude.{if◌then◌else◌, option_and_then, ◌||◌}
 use Rattle.std.specs.Str.{bytes_eq}
@@ -28,11 +28,10 @@ use Rattle.entry_file.specs.EntryFile.{read_for}
 use Rattle.entry_key.specs.Writing.{may_write}
 use Rattle.entry_name.specs.EntryName.{file_name}
 use Rattle.file_handles.specs.Answers.{done_or, fault_of}
-use Rattle.file_handles.specs.Carries.{Leaves}
 use Rattle.file_handles.specs.Dooming.{EndsOn}
 use Rattle.file_handles.specs.Finding.{is_user}
 use Rattle.file_handles.specs.Kept.{Kept}
-use Rattle.file_handles.specs.Stands.{IsIn, StandsSomehow}
+use Rattle.file_handles.specs.Stands.{IsInWhere, StandsSomehow}
 use Rattle.file_handles.specs.declared.fault.HandleFault.{HandleFault}
 use Rattle.file_handles.specs.declared.fault.HandleFault.TheVariants as fault
 use Rattle.file_handles.proofs.Begun.{begun_in}
@@ -41,21 +40,22 @@ use Rattle.file_handles.proofs.DoomedCarried.{done_in, failed_in, refused_in, to
 use Rattle.file_handles.proofs.DoomedChecks.{doom_checks, ended}
 use Rattle.file_handles.proofs.FoundShelf.{shelf_read}
 use Rattle.file_handles.proofs.User.{no_one, no_user_there}
+use Rattle.file_handles.proofs.Where.{LeavesWhere}
 
 -- Answers that were handed on.
 
 -- a refusal, or a fault, before anything changed
-pub refused_on_leaves : {T : Type 0} (r : Result T HandleFault) (f : HandleFault) (s t : State) (k : Kept) (c : Command) → IsErrAnd r (λ e. e ≡ f)
-    → ((refusal : Refusal) → f ≡ fault.Refused refusal → EndsOn s k c (Some refusal)) → t ≡ s → (m : Machine) (w : Marks) → IsIn s k m w → Leaves c m w (done_or r) t k
+pub refused_on_leaves : {T : Type 0} {b : Bool} (r : Result T HandleFault) (f : HandleFault) (s t : State) (k : Kept) (c : Command) → IsErrAnd r (λ e. e ≡ f)
+    → ((refusal : Refusal) → f ≡ fault.Refused refusal → EndsOn s k c (Some refusal)) → t ≡ s → (m : Machine) (w : Marks) → IsInWhere b s k m w → LeavesWhere b c m w (done_or r) t k
 refused_on_leaves (Ok value) f s t k c is ends same m w stand = absurd is
-refused_on_leaves (Err (fault.Refused q)) f s t k c is ends same m w stand =
-    subst (λ u. Leaves c m w (Some (Refused q)) u k) (sym same) (refused_in s k c q m w stand (ends q (sym is) m stand.number stand.stands))
-refused_on_leaves (Err fault.Disk) f s t k c is ends same m w stand = failed_in t k c m w (subst (λ u. IsSafe u (begun m c w)) (sym same) (begun_in s k m c w stand).crash_kept.safe)
-refused_on_leaves (Err fault.Memory) f s t k c is ends same m w stand = failed_in t k c m w (subst (λ u. IsSafe u (begun m c w)) (sym same) (begun_in s k m c w stand).crash_kept.safe)
+refused_on_leaves {b = b} (Err (fault.Refused q)) f s t k c is ends same m w stand =
+    subst (λ u. LeavesWhere b c m w (Some (Refused q)) u k) (sym same) (refused_in s k c q m w stand (ends q (sym is) m stand.number stand.stands))
+refused_on_leaves (Err fault.Disk) f s t k c is ends same m w stand = failed_in t k c m w (λ on. subst (λ u. IsSafe u (begun m c w)) (sym same) ((begun_in s k m c w stand).crash_kept on).safe)
+refused_on_leaves (Err fault.Memory) f s t k c is ends same m w stand = failed_in t k c m w (λ on. subst (λ u. IsSafe u (begun m c w)) (sym same) ((begun_in s k m c w stand).crash_kept on).safe)
 
 -- a fault that is no refusal
-pub failed_on_leaves : {T : Type 0} (r : Result T HandleFault) (f : HandleFault) (t : State) (after : Kept) (c : Command) → IsErrAnd r (λ e. e ≡ f)
-    → ((refusal : Refusal) → f ≡ fault.Refused refusal → ⊥) → (m : Machine) (w : Marks) → IsSafe t (begun m c w) → Leaves c m w (done_or r) t after
+pub failed_on_leaves : {T : Type 0} {b : Bool} (r : Result T HandleFault) (f : HandleFault) (t : State) (after : Kept) (c : Command) → IsErrAnd r (λ e. e ≡ f)
+    → ((refusal : Refusal) → f ≡ fault.Refused refusal → ⊥) → (m : Machine) (w : Marks) → (IsTrue b → IsSafe t (begun m c w)) → LeavesWhere b c m w (done_or r) t after
 failed_on_leaves (Ok value) f t after c is never m w safe = absurd is
 failed_on_leaves (Err (fault.Refused q)) f t after c is never m w safe = absurd (never q (sym is))
 failed_on_leaves (Err fault.Disk) f t after c is never m w safe = failed_in t after c m w safe
@@ -70,10 +70,10 @@ no_refusal Memory refusal e = cc
 pub doom_touches : (key : List ℕ) (name : List ℕ) (m : Machine) (w : Marks) → name ≡ file_name key → first_failing (checks m (Doom key)) ≡ None → is_touched (begun m (Doom key) w) name ≡ true
 doom_touches key name m w named passes = touches_name m (Doom key) w name passes (ap (λ n. n ∷ []) (sym named))
 
-pub doomed_leaves : (t : State) (after : Kept) (key : List ℕ) (name : List ℕ) (m : Machine) (w : Marks) → name ≡ file_name key → first_failing (checks m (Doom key)) ≡ None
-    → IsIn t after (doomed_under m name) (begun m (Doom key) w) → Leaves (Doom key) m w (Some Done) t after
+pub doomed_leaves : {b : Bool} (t : State) (after : Kept) (key : List ℕ) (name : List ℕ) (m : Machine) (w : Marks) → name ≡ file_name key → first_failing (checks m (Doom key)) ≡ None
+    → IsInWhere b t after (doomed_under m name) (begun m (Doom key) w) → LeavesWhere b (Doom key) m w (Some Done) t after
 unfolding effect
-doomed_leaves t after key name m w named passes is = done_in t after (Doom key) m w passes refl refl (subst (λ n. IsIn t after (doomed_under m n) (begun m (Doom key) w)) named is)
+doomed_leaves {b} t after key name m w named passes is = done_in t after (Doom key) m w passes refl refl (subst (λ n. IsInWhere b t after (doomed_under m n) (begun m (Doom key) w)) named is)
 
 -- No object is in use.
 
@@ -113,12 +113,12 @@ pub some_if : {X : Type 0} (o : Option X) (b : Bool) → b ≡ is_some o → b �
 some_if o b is one none = let never : true ≡ false = sym one ∙ is ∙ ap is_some none in cc
 
 module _ (s u : State) (k : Kept) (key : List ℕ) (name : Name) (named : name.0 ≡ file_name key) (bare : position (is_user name) k.objects ≡ None) (passes : EndsOn s k (Doom key) None) (same : u ≡ s) where
-  pub remove_fails : (t : State) (f : DiskFault) → t ≡ if_done {T = Unit {0}} (Err f) (removed (Entry name) u) u → (m : Machine) (w : Marks) → IsIn s k m w → IsSafe t (begun m (Doom key) w)
-  remove_fails t f is m w stand =
+  pub remove_fails : (t : State) (f : DiskFault) → t ≡ if_done {T = Unit {0}} (Err f) (removed (Entry name) u) u → {b : Bool} (m : Machine) (w : Marks) → IsInWhere b s k m w → IsTrue b → IsSafe t (begun m (Doom key) w)
+  remove_fails t f is m w stand on =
       removed_or_not s t (begun m (Doom key) w) name f (subst (λ v. t ≡ if_done {T = Unit {0}} (Err f) (removed (Entry name) v) v) same is)
-      (doom_touches key name.0 m w named (passes m stand.number stand.stands)) (begun_in s k m (Doom key) w stand).crash_kept.safe
+      (doom_touches key name.0 m w named (passes m stand.number stand.stands)) ((begun_in s k m (Doom key) w stand).crash_kept on).safe
 
-  removed_leaves_here : (m : Machine) (w : Marks) → IsIn s k m w → Leaves (Doom key) m w (Some Done) (removed (Entry name) s) k
+  removed_leaves_here : {b : Bool} (m : Machine) (w : Marks) → IsInWhere b s k m w → LeavesWhere b (Doom key) m w (Some Done) (removed (Entry name) s) k
   removed_leaves_here m w stand =
       let fine = passes m stand.number stand.stands in
       let v : Marks = begun m (Doom key) w in
@@ -127,7 +127,7 @@ module _ (s u : State) (k : Kept) (key : List ℕ) (name : Name) (named : name.0
       doomed_leaves (removed (Entry name) s) k key name.0 m w named fine
       (removed_in name s k (doomed_under m name.0) v (entry_doomed m name.0) (doom_touches key name.0 m w named fine) but)
 
-  pub removed_leaves : (t : State) (after : Kept) → t ≡ removed (Entry name) u → after ≡ k → (m : Machine) (w : Marks) → IsIn s k m w → Leaves (Doom key) m w (Some Done) t after
-  removed_leaves t after is still m w stand =
-      subst (λ v. Leaves (Doom key) m w (Some Done) v after) (sym (is ∙ ap (removed (Entry name)) same))
-      (subst (λ a. Leaves (Doom key) m w (Some Done) (removed (Entry name) s) a) (sym still) (removed_leaves_here m w stand))
+  pub removed_leaves : (t : State) (after : Kept) → t ≡ removed (Entry name) u → after ≡ k → {b : Bool} (m : Machine) (w : Marks) → IsInWhere b s k m w → LeavesWhere b (Doom key) m w (Some Done) t after
+  removed_leaves t after is still {b} m w stand =
+      subst (λ v. LeavesWhere b (Doom key) m w (Some Done) v after) (sym (is ∙ ap (removed (Entry name)) same))
+      (subst (λ a. LeavesWhere b (Doom key) m w (Some Done) (removed (Entry name) s) a) (sym still) (removed_leaves_here m w stand))

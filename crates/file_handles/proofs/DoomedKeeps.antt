@@ -26,7 +26,7 @@ use Rattle.entry_name.specs.EntryName.{file_name}
 use Rattle.file_handles.specs.Dooming.{numbers_in}
 use Rattle.file_handles.specs.Finding.{is_user}
 use Rattle.file_handles.specs.Kept.{Kept, object_at, with_object}
-use Rattle.file_handles.specs.Stands.{IsAt, IsIn}
+use Rattle.file_handles.specs.Stands.{IsAt, IsInWhere}
 use Rattle.file_handles.specs.declared.object.Object.{Object}
 use Rattle.file_handles.proofs.DoomedStands.{MayDoom, doomed_as, one_doomed, other_next, other_number, other_object, stands_next, user_next, was_doomed}
 use Rattle.file_handles.proofs.User.{user_found, user_is_used}
@@ -99,8 +99,8 @@ module _ (s : State) (k : Kept) (m : Machine) (number : ℕ → ℕ) (name : Nam
     }
 
 -- after the move all stands for the machine in which it is doomed
-pub dooms_user : (s : State) (k : Kept) (name : Name) (p : ℕ) (x : Object) (n : ℕ) → IsSound s → position (is_user name) k.objects ≡ Some p → object_at k p ≡ Some x → IsLeastFree (numbers_in k.objects) n
-    → (m : Machine) (w : Marks) → is_touched w name.0 ≡ true → IsIn s k m w → IsIn (renamed (Entry name) (Doomed n) s) (with_object k p (Some (doomed_as x n))) (doomed_under m name.0) w
+pub dooms_user : {b : Bool} (s : State) (k : Kept) (name : Name) (p : ℕ) (x : Object) (n : ℕ) → IsSound s → position (is_user name) k.objects ≡ Some p → object_at k p ≡ Some x → IsLeastFree (numbers_in k.objects) n
+    → (m : Machine) (w : Marks) → is_touched w name.0 ≡ true → IsInWhere b s k m w → IsInWhere b (renamed (Entry name) (Doomed n) s) (with_object k p (Some (doomed_as x n))) (doomed_under m name.0) w
 dooms_user s k name p x n sound is at free m w touched stand =
     let there = user_found k name p is in
     let one : Some there.object ≡ Some x = sym there.at_place ∙ at in
@@ -115,4 +115,4 @@ dooms_user s k name p x n sound is at free m w touched stand =
       free = free.free;
     }
     in
-    record { number = stand.number; stands = stands_next s k m stand.number name p x n may; crash_kept = crash_kept_next s k m stand.number name p x n may w touched stand.crash_kept }
+    record { number = stand.number; stands = stands_next s k m stand.number name p x n may; crash_kept = λ on. crash_kept_next s k m stand.number name p x n may w touched (stand.crash_kept on) }

@@ -1,5 +1,5 @@
 -- The object in use of a name is doomed, or the disk failed on the way.
-use Rattle.std.proofs.Common.{◌≡◌, ◌⊎◌, inl, inr, ℕ, zero, suc, ◌+◌, ◌<◌, List, length, Option, Some, None, IsSome, Contains, Err, true, eqb, refl, sym, ap, subst, ◌∙◌, arith}
+use Rattle.std.proofs.Common.{◌≡◌, ◌⊎◌, inl, inr, ℕ, zero, suc, ◌+◌, ◌<◌, List, length, Option, Some, None, IsSome, Contains, Err, true, eqb, refl, sym, ap, subst, ◌∙◌, arith, Bool, IsTrue}
 use Rattle.std.specs.List.{list_any, position}
 use Rattle.std.proofs.lemmas.Bool.{cases_Bool, eqb-true}
 use Rattle.std.proofs.lemmas.Cmp.{nat_eq_equiv}
@@ -24,7 +24,7 @@ use Rattle.doom_area.proofs.LeastFree.{lesser_more, long_enough}
 use Rattle.file_handles.specs.Dooming.{numbers_in}
 use Rattle.file_handles.specs.Finding.{is_user}
 use Rattle.file_handles.specs.Kept.{Kept, object_at, with_object}
-use Rattle.file_handles.specs.Stands.{IsIn, StandsSomehow}
+use Rattle.file_handles.specs.Stands.{IsInWhere, StandsSomehow}
 use Rattle.file_handles.specs.declared.object.Object.{Object}
 use Rattle.file_handles.proofs.DoomedKeeps.{dooms_user}
 use Rattle.file_handles.proofs.DoomedStands.{doomed_as}
@@ -52,7 +52,7 @@ least_from xs (suc left) n e lesser = elim (contains_or_not xs n) [
   | inr lacks ↦ (n, record { free = lacks; lesser = lesser })
 ]
 
-least_free : (xs : List ℕ) → (l : ℕ) × IsLeastFree xs l
+pub least_free : (xs : List ℕ) → (l : ℕ) × IsLeastFree xs l
 least_free xs = least_from xs (length xs + 1) 0 (omega arith) (λ k lt. absurd (omega (arith, lt)))
 
 -- The answers of the move.
@@ -71,11 +71,11 @@ dooms_not s t w name xs f is touched safe = let l = least_free xs in moved_or_no
 object_again : (k : Kept) (p : ℕ) (x y : Option Object) → with_object (with_object k p x) p y ≡ with_object k p y
 object_again k p x y = ap (λ objects. record k { objects = objects }) (set-set k.objects p x y)
 
-pub dooms_there : (s t : State) (k a b : Kept) (name : Name) (p : ℕ) (x : Object) (n : ℕ) → IsSound s → position (is_user name) k.objects ≡ Some p → object_at k p ≡ Some x → IsLeastFree (numbers_in k.objects) n
+pub dooms_there : {d : Bool} (s t : State) (k a b : Kept) (name : Name) (p : ℕ) (x : Object) (n : ℕ) → IsSound s → position (is_user name) k.objects ≡ Some p → object_at k p ≡ Some x → IsLeastFree (numbers_in k.objects) n
     → t ≡ renamed (Entry name) (Doomed n) s → a ≡ with_object k p None → b ≡ with_object a p (Some (doomed_as x n))
-    → (m : Machine) (w : Marks) → is_touched w name.0 ≡ true → IsIn s k m w → IsSafe t w × IsIn t b (doomed_under m name.0) w
-dooms_there s t k a b name p x n sound is at free moved taken put m w touched stand =
+    → (m : Machine) (w : Marks) → is_touched w name.0 ≡ true → IsInWhere d s k m w → (IsTrue d → IsSafe t w) × IsInWhere d t b (doomed_under m name.0) w
+dooms_there {d} s t k a b name p x n sound is at free moved taken put m w touched stand =
     let same : b ≡ with_object k p (Some (doomed_as x n)) = put ∙ ap (λ c. with_object c p (Some (doomed_as x n))) taken ∙ object_again k p None (Some (doomed_as x n)) in
     let done = dooms_user s k name p x n sound is at free m w touched stand in
-    let all : IsIn t b (doomed_under m name.0) w = subst (λ u. IsIn u b (doomed_under m name.0) w) (sym moved) (subst (λ c. IsIn (renamed (Entry name) (Doomed n) s) c (doomed_under m name.0) w) (sym same) done) in
-    (all.crash_kept.safe, all)
+    let all : IsInWhere d t b (doomed_under m name.0) w = subst (λ u. IsInWhere d u b (doomed_under m name.0) w) (sym moved) (subst (λ c. IsInWhere d (renamed (Entry name) (Doomed n) s) c (doomed_under m name.0) w) (sym same) done) in
+    (λ on. (all.crash_kept on).safe, all)

@@ -17,24 +17,29 @@ use Rattle.file_handles.specs.Carries.{CarriesOut}
 use Rattle.file_handles.specs.Held.{elements_in}
 use Rattle.file_handles.specs.Kept.{Kept}
 use Rattle.file_handles.specs.Refuses.{HasAt, Passes}
-use Rattle.file_handles.specs.Stands.{HandlesStand, IsIn}
+use Rattle.file_handles.specs.Stands.{HandlesStand, IsInWhere}
 use Rattle.file_handles.specs.declared.object.Object.{Object}
 use Rattle.file_handles.proofs.Begun.{begun_in}
 use Rattle.file_handles.proofs.ElementChecks.{holds}
 use Rattle.file_handles.proofs.ElementEntries.{elements_are}
 use Rattle.file_handles.proofs.ElementSlots.{there_held, there_is_slot, there_object}
+use Rattle.file_handles.proofs.Where.{CarriesOutWhere, carries_out}
 
 -- a command that passes and answers from the machine as it is
-pub quiet_leaves : (s : State) (k : Kept) (c : Command) (reply : Reply) → Passes k c → ((m : Machine) (w : Marks) → acked m c w ≡ begun m c w)
-    → ((m : Machine) (number : ℕ → ℕ) → HandlesStand k m number → effect m c ≡ answer m reply) → CarriesOut c (Some reply) s s k k
-quiet_leaves s k c reply passes acked_is effect_is m w is =
+quiet_where : (s : State) (k : Kept) (c : Command) (reply : Reply) → Passes k c → ((m : Machine) (w : Marks) → acked m c w ≡ begun m c w)
+    → ((m : Machine) (number : ℕ → ℕ) → HandlesStand k m number → effect m c ≡ answer m reply) → CarriesOutWhere c (Some reply) s s k k
+quiet_where s k c reply passes acked_is effect_is b m w is =
     let begun_is = begun_in s k m c w is in
     let step_is : step m c ≡ answer m reply = ap (stepped m c) (passes m is.number is.stands.proper is.stands.handles) ∙ effect_is m is.number is.stands.handles in
     record {
-      safe = begun_is.crash_kept.safe;
+      safe = λ on. (begun_is.crash_kept on).safe;
       replies = ap (λ (a : Answer). a.reply) (sym step_is);
-      next = subst (λ (v : Marks). IsIn s k (step m c).next v) (sym (acked_is m w)) (subst (λ (n : Machine). IsIn s k n (begun m c w)) (ap (λ (a : Answer). a.next) (sym step_is)) begun_is);
+      next = subst (λ (v : Marks). IsInWhere b s k (step m c).next v) (sym (acked_is m w)) (subst (λ (n : Machine). IsInWhere b s k n (begun m c w)) (ap (λ (a : Answer). a.next) (sym step_is)) begun_is);
     }
+
+pub quiet_leaves : (s : State) (k : Kept) (c : Command) (reply : Reply) → Passes k c → ((m : Machine) (w : Marks) → acked m c w ≡ begun m c w)
+    → ((m : Machine) (number : ℕ → ℕ) → HandlesStand k m number → effect m c ≡ answer m reply) → CarriesOut c (Some reply) s s k k
+quiet_leaves s k c reply passes acked_is effect_is = carries_out (quiet_where s k c reply passes acked_is effect_is)
 
 -- the elements of a slot's object
 pub there_elements : (k : Kept) (slot : ℕ) → slot < SLOTS → (p : ℕ) (x : Object) → HasAt k slot p x → (m : Machine) (number : ℕ → ℕ) → HandlesStand k m number → (object_of m slot).version.elements ≡ elements_in x.entry

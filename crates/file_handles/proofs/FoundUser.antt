@@ -1,5 +1,5 @@
 -- The place of the object in use of a key, and the machine's object of the key.
-use Rattle.std.proofs.Common.{◌≡◌, ◌∙◌, ℕ, ◌<◌, List, Bool, true, false, not, Option, Some, None, length, refl, sym, ap, subst}
+use Rattle.std.proofs.Common.{◌≡◌, ◌∙◌, ℕ, ◌<◌, List, Bool, true, false, not, Option, Some, None, IsSome, length, refl, sym, ap, subst}
 use Rattle.std.specs.List.{position}
 use Rattle.std.specs.Prelude.{if◌then◌else◌, option_and_then, option_map, unwrap_or}
 use Rattle.std.specs.Str.{bytes_eq}
@@ -96,3 +96,11 @@ module _ (k : Kept) (name : Name) (key : List ℕ) where
             let there = (used_at p is).user in
             finished_is there.object.entry (object m (number p)) (stand.objects p there.object there.at_place).as_held.held_entry
             ∙ ap (λ o. not (unwrap_or (option_map (λ (x : Object). is_draft x.entry) o) false)) (sym there.at_place)
+
+    -- so where no place is found the machine has none in use
+    pub unused_same : used_place k name key ≡ None → IsSome (used_by m key) → ⊥
+    unused_same none some = go (used_by m key) (used_same ∙ ap (option_map number) none) some
+      where
+        go : (o : Option ℕ) → o ≡ None → IsSome o → ⊥
+        go None e some = cc
+        go (Some i) e some = cc

@@ -29,12 +29,12 @@ use Rattle.entry_metadata.specs.Meta.{meta_of}
 use Rattle.entry_metadata.specs.declared.meta.Meta.{Meta}
 use Rattle.entry_name.specs.EntryName.{file_name}
 use Rattle.file_handles.specs.Answers.{done_or, reply_in}
-use Rattle.file_handles.specs.Carries.{CarriesOut, Leaves}
+use Rattle.file_handles.specs.Carries.{CarriesOut}
 use Rattle.file_handles.specs.Held.{IsHeldAs}
 use Rattle.file_handles.specs.Joining.{Adds, AddsTo, JoinsAt}
 use Rattle.file_handles.specs.Kept.{Kept, use_at, used, with_object, with_use}
 use Rattle.file_handles.specs.Loading.{LoadsAs, used_place}
-use Rattle.file_handles.specs.Stands.{HandlesStand, IsIn, Stands}
+use Rattle.file_handles.specs.Stands.{HandlesStand, IsInWhere, Stands}
 use Rattle.file_handles.specs.declared.fault.HandleFault.{HandleFault}
 use Rattle.file_handles.specs.declared.fault.HandleFault.TheVariants as fault
 use Rattle.file_handles.specs.declared.object.Entry.TheVariants as entry
@@ -47,6 +47,7 @@ use Rattle.file_handles.proofs.FoundUser.{used_at, used_same}
 use Rattle.file_handles.proofs.JoinedObject.{MayAdd, crash_added, doomed_added, handles_added, numbers}
 use Rattle.file_handles.proofs.JoinedReader.{MayRead, reader_in}
 use Rattle.file_handles.proofs.Refused.{refused_leaves}
+use Rattle.file_handles.proofs.Where.{CarriesOutWhere, LeavesWhere, carries_out}
 
 -- the checks of an opening, with what they test
 checked : Bool → Bool → Bool → Option ℕ → Reading → Option Refusal
@@ -59,26 +60,26 @@ open_checks m s key = refl
 
 -- a call that answers no reply, and changes nothing
 pub fails_leaves : (s : State) (k : Kept) (slot : ℕ) (key : List ℕ) → CarriesOut (OpenKey slot key) None s s k k
-fails_leaves s k slot key m w is = record { safe = (begun_in s k m (OpenKey slot key) w is).crash_kept.safe; replies = tt; next = tt }
+fails_leaves s k slot key = carries_out (λ b m w is. record { safe = λ on. ((begun_in s k m (OpenKey slot key) w is).crash_kept on).safe; replies = tt; next = tt })
 
 -- and one that is refused
-refused_here : (s : State) (k : Kept) (slot : ℕ) (key : List ℕ) (r : Refusal) (m : Machine) (w : Marks) → IsIn s k m w → first_failing (checks m (OpenKey slot key)) ≡ Some r → Leaves (OpenKey slot key) m w (Some (Refused r)) s k
-refused_here s k slot key r m w is fails = record {
-  safe = (begun_in s k m (OpenKey slot key) w is).crash_kept.safe;
+refused_here : {b : Bool} (s : State) (k : Kept) (slot : ℕ) (key : List ℕ) (r : Refusal) (m : Machine) (w : Marks) → IsInWhere b s k m w → first_failing (checks m (OpenKey slot key)) ≡ Some r → LeavesWhere b (OpenKey slot key) m w (Some (Refused r)) s k
+refused_here {b} s k slot key r m w is fails = record {
+  safe = λ on. ((begun_in s k m (OpenKey slot key) w is).crash_kept on).safe;
   replies = ap (λ o. (stepped m (OpenKey slot key) o).reply) (sym fails);
   next =
-      subst (λ (v : Marks). IsIn s k (step m (OpenKey slot key)).next v) (sym (ap (λ o. begun_by o m (OpenKey slot key) w) fails))
-      (subst (λ (n : Machine). IsIn s k n w) (ap (λ o. (stepped m (OpenKey slot key) o).next) (sym fails)) is);
+      subst (λ (v : Marks). IsInWhere b s k (step m (OpenKey slot key)).next v) (sym (ap (λ o. begun_by o m (OpenKey slot key) w) fails))
+      (subst (λ (n : Machine). IsInWhere b s k n w) (ap (λ o. (stepped m (OpenKey slot key) o).next) (sym fails)) is);
 }
 
 -- and one that is done, where the machine's checks hold
-done_here : (s : State) (k after : Kept) (slot : ℕ) (key : List ℕ) (m : Machine) (w : Marks) → IsIn s k m w → first_failing (checks m (OpenKey slot key)) ≡ None
-    → IsIn s after (joined m slot (used_by m key) (on_shelf m key)) (begun m (OpenKey slot key) w) → Leaves (OpenKey slot key) m w (Some Done) s after
+done_here : {b : Bool} (s : State) (k after : Kept) (slot : ℕ) (key : List ℕ) (m : Machine) (w : Marks) → IsInWhere b s k m w → first_failing (checks m (OpenKey slot key)) ≡ None
+    → IsInWhere b s after (joined m slot (used_by m key) (on_shelf m key)) (begun m (OpenKey slot key) w) → LeavesWhere b (OpenKey slot key) m w (Some Done) s after
 unfolding effect
-done_here s k after slot key m w is passes next = record {
-  safe = (begun_in s k m (OpenKey slot key) w is).crash_kept.safe;
+done_here {b} s k after slot key m w is passes next = record {
+  safe = λ on. ((begun_in s k m (OpenKey slot key) w is).crash_kept on).safe;
   replies = ap (λ o. (stepped m (OpenKey slot key) o).reply) (sym passes);
-  next = subst (λ (n : Machine). IsIn s after n (begun m (OpenKey slot key) w)) (ap (λ o. (stepped m (OpenKey slot key) o).next) (sym passes)) next;
+  next = subst (λ (n : Machine). IsInWhere b s after n (begun m (OpenKey slot key) w)) (ap (λ o. (stepped m (OpenKey slot key) o).next) (sym passes)) next;
 }
 
 -- the slot is in use
@@ -123,7 +124,7 @@ module _ (s : State) (k : Kept) (slot : ℕ) (key : List ℕ) (small : slot < SL
       -- an entry that is in use
       pub joins_leaves : (after : Kept) (p : ℕ) → used_place k name key ≡ Some p → JoinsAt slot p false k after → CarriesOut (OpenKey slot key) (Some Done) s s k after
       unfolding checked
-      joins_leaves after p at joins m w is =
+      joins_leaves after p at joins = carries_out (λ b m w is.
           let here = begun_in s k m (OpenKey slot key) w is in
           let stand = here.stands.handles in
           let there = used_at k name key p at in
@@ -139,11 +140,11 @@ module _ (s : State) (k : Kept) (slot : ℕ) (key : List ℕ) (small : slot < SL
             placed = joins.placed;
             reads = joins.writing;
           } in
-          let reads : IsIn s (with_use k slot (Some joins.use_)) (joined m slot (Some (here.number p)) (on_shelf m key)) (begun m (OpenKey slot key) w) =
+          let reads : IsInWhere b s (with_use k slot (Some joins.use_)) (joined m slot (Some (here.number p)) (on_shelf m key)) (begun m (OpenKey slot key) w) =
           reader_in s k m (begun m (OpenKey slot key) w) here slot p joins.use_ may in
           done_here s k after slot key m w is (checks_at m here.number stand (Some (here.number p)) (on_shelf m key) uses refl)
-          (subst (λ o. IsIn s after (joined m slot o (on_shelf m key)) (begun m (OpenKey slot key) w)) (sym uses)
-          (subst (λ (l : Kept). IsIn s l (joined m slot (Some (here.number p)) (on_shelf m key)) (begun m (OpenKey slot key) w)) (sym joins.same) reads))
+          (subst (λ o. IsInWhere b s after (joined m slot o (on_shelf m key)) (begun m (OpenKey slot key) w)) (sym uses)
+          (subst (λ (l : Kept). IsInWhere b s l (joined m slot (Some (here.number p)) (on_shelf m key)) (begun m (OpenKey slot key) w)) (sym joins.same) reads)))
 
       module _ (unused : used_place k name key ≡ None) where
         no_use : (m : Machine) (number : ℕ → ℕ) → IsProper m → HandlesStand k m number → used_by m key ≡ None
@@ -157,14 +158,14 @@ module _ (s : State) (k : Kept) (slot : ℕ) (key : List ℕ) (small : slot < SL
             subst P same loads
 
         -- what is not read
-        refused_leaves_so : (r : Refusal) → LoadsAs (read_for key (standing s (Entry name))) (Err (fault.Refused r)) → CarriesOut (OpenKey slot key) (Some (Refused r)) s s k k
+        refused_so : (r : Refusal) → LoadsAs (read_for key (standing s (Entry name))) (Err (fault.Refused r)) → CarriesOutWhere (OpenKey slot key) (Some (Refused r)) s s k k
         unfolding checked
-        refused_leaves_so r loads m w is = go (on_shelf m key) refl (shelf_is m is.number is.stands (Err (fault.Refused r)) loads)
+        refused_so r loads b m w is = go (on_shelf m key) refl (shelf_is m is.number is.stands (Err (fault.Refused r)) loads)
           where
             none : used_by m key ≡ None
             none = no_use m is.number is.stands.proper is.stands.handles
 
-            go : (x : Reading) → on_shelf m key ≡ x → LoadsAs x (Err (fault.Refused r)) → Leaves (OpenKey slot key) m w (Some (Refused r)) s k
+            go : (x : Reading) → on_shelf m key ≡ x → LoadsAs x (Err (fault.Refused r)) → LeavesWhere b (OpenKey slot key) m w (Some (Refused r)) s k
             go (Whole v) at loaded = absurd loaded
             go (Damaged d) at loaded = refused_here s k slot key r m w is (checks_at m is.number is.stands.handles None (Damaged d) none at ∙ ap Some (sym loaded))
             go Nothing at loaded = refused_here s k slot key r m w is (checks_at m is.number is.stands.handles None Nothing none at ∙ ap Some (sym loaded))
@@ -172,7 +173,7 @@ module _ (s : State) (k : Kept) (slot : ℕ) (key : List ℕ) (small : slot < SL
         pub unread_leaves : (e : HandleFault) → LoadsAs (read_for key (standing s (Entry name))) (Err e) → CarriesOut (OpenKey slot key) (reply_in e) s s k k
         unread_leaves fault.Disk loads = fails_leaves s k slot key
         unread_leaves fault.Memory loads = fails_leaves s k slot key
-        unread_leaves (fault.Refused r) loads = refused_leaves_so r loads
+        unread_leaves (fault.Refused r) loads = carries_out (refused_so r loads)
 
         -- handed on as the answer
         pub unread_answer : (answer : Result (Unit {0}) HandleFault) (e : HandleFault) → IsErrAnd answer (λ f. f ≡ e) → LoadsAs (read_for key (standing s (Entry name))) (Err e) → CarriesOut (OpenKey slot key) (done_or answer) s s k k
@@ -181,9 +182,9 @@ module _ (s : State) (k : Kept) (slot : ℕ) (key : List ℕ) (small : slot < SL
 
         -- an entry that is read
         module _ (meta : Meta) (x : Object) (is_object : x ≡ record { name = name; doomed = None; entry = entry.Finished meta }) (loads : LoadsAs (read_for key (standing s (Entry name))) (Ok meta)) where
-          enters_in : (after : Kept) (m : Machine) (w : Marks) (is : IsIn s k m w) → Adds slot x false k after → (p_within : (p : ℕ) → p < SLOTS → p < length k.objects)
-              → (v : Version) → on_shelf m key ≡ Whole v → meta_of meta ≡ version_meta v → IsIn s after (joined m slot None (Whole v)) w
-          enters_in after m w is adds p_within v at same =
+          enters_in : {b : Bool} (after : Kept) (m : Machine) (w : Marks) (is : IsInWhere b s k m w) → Adds slot x false k after → (p_within : (p : ℕ) → p < SLOTS → p < length k.objects)
+              → (v : Version) → on_shelf m key ≡ Whole v → meta_of meta ≡ version_meta v → IsInWhere b s after (joined m slot None (Whole v)) w
+          enters_in {b} after m w is adds p_within v at same =
               let stand = is.stands.handles in
               let proper = is.stands.proper in
               let none = no_use m is.number proper stand in
@@ -200,7 +201,7 @@ module _ (s : State) (k : Kept) (slot : ℕ) (key : List ℕ) (small : slot < SL
               } in
               let next : Machine = joined m slot None (Whole v) in
               let l : Kept = with_use (with_object k adds.place (Some x)) slot (Some adds.joins.use_) in
-              let result : IsIn s l next w = record {
+              let result : IsInWhere b s l next w = record {
                 number = numbers k m is.number proper stand slot false (read_object v) x adds.place adds.joins.use_ may;
                 stands = record {
                   proper = proper_entered m slot false (read_object v) proper enters;
@@ -208,36 +209,36 @@ module _ (s : State) (k : Kept) (slot : ℕ) (key : List ℕ) (small : slot < SL
                   entries = λ q. is.stands.entries q ∙ sym (entry_entered_finished m slot false (read_object v) proper enters refl q);
                   doomed = doomed_added k m is.number proper stand slot false (read_object v) x adds.place adds.joins.use_ may (standing s) is.stands.doomed;
                 };
-                crash_kept = crash_added k m is.number proper stand slot false (read_object v) x adds.place adds.joins.use_ may w s is.crash_kept;
+                crash_kept = λ on. crash_added k m is.number proper stand slot false (read_object v) x adds.place adds.joins.use_ may w s (is.crash_kept on);
               } in
-              subst (λ (a : Kept). IsIn s a next w) (sym adds.joins.same) result
+              subst (λ (a : Kept). IsInWhere b s a next w) (sym adds.joins.same) result
 
-          enters_leaves : (after : Kept) → Adds slot x false k after → ((p : ℕ) → p < SLOTS → p < length k.objects) → CarriesOut (OpenKey slot key) (Some Done) s s k after
+          enters_leaves : (after : Kept) → Adds slot x false k after → ((p : ℕ) → p < SLOTS → p < length k.objects) → CarriesOutWhere (OpenKey slot key) (Some Done) s s k after
           unfolding checked
-          enters_leaves after adds p_within m w is = go (on_shelf m key) refl (shelf_is m here.number here.stands (Ok meta) loads)
+          enters_leaves after adds p_within b m w is = go (on_shelf m key) refl (shelf_is m here.number here.stands (Ok meta) loads)
             where
-              here : IsIn s k m (begun m (OpenKey slot key) w)
+              here : IsInWhere b s k m (begun m (OpenKey slot key) w)
               here = begun_in s k m (OpenKey slot key) w is
 
               none : used_by m key ≡ None
               none = no_use m here.number here.stands.proper here.stands.handles
 
-              go : (r : Reading) → on_shelf m key ≡ r → LoadsAs r (Ok meta) → Leaves (OpenKey slot key) m w (Some Done) s after
+              go : (r : Reading) → on_shelf m key ≡ r → LoadsAs r (Ok meta) → LeavesWhere b (OpenKey slot key) m w (Some Done) s after
               go (Whole v) at loaded =
                   done_here s k after slot key m w is (checks_at m here.number here.stands.handles None (Whole v) none at)
-                  (subst (λ (r : Reading). IsIn s after (joined m slot (used_by m key) r) (begun m (OpenKey slot key) w)) (sym at)
-                  (subst (λ (o : Option ℕ). IsIn s after (joined m slot o (Whole v)) (begun m (OpenKey slot key) w)) (sym none)
+                  (subst (λ (r : Reading). IsInWhere b s after (joined m slot (used_by m key) r) (begun m (OpenKey slot key) w)) (sym at)
+                  (subst (λ (o : Option ℕ). IsInWhere b s after (joined m slot o (Whole v)) (begun m (OpenKey slot key) w)) (sym none)
                   (enters_in after m (begun m (OpenKey slot key) w) here adds p_within v at loaded)))
               go (Damaged d) at loaded = absurd loaded
               go Nothing at loaded = absurd loaded
 
           -- or not, for want of a place
           no_place : (after : Kept) → CarriesOut (OpenKey slot key) None s s k after
-          no_place after m w is = record { safe = (begun_in s k m (OpenKey slot key) w is).crash_kept.safe; replies = tt; next = tt }
+          no_place after = carries_out (λ b m w is. record { safe = λ on. ((begun_in s k m (OpenKey slot key) w is).crash_kept on).safe; replies = tt; next = tt })
 
           pub added_leaves : (answer : Result (Unit {0}) HandleFault) (after : Kept) → AddsTo slot x false answer k after → ((p : ℕ) → p < SLOTS → p < length k.objects)
               → CarriesOut (OpenKey slot key) (done_or answer) s s k after
-          added_leaves (Ok done) after adds p_within = enters_leaves after adds.added p_within
+          added_leaves (Ok done) after adds p_within = carries_out (enters_leaves after adds.added p_within)
           added_leaves (Err (fault.Refused r)) after adds p_within = absurd (adds.refused r refl)
           added_leaves (Err fault.Disk) after adds p_within = absurd (let never : fault.Disk ≡ fault.Memory = adds.memory in cc)
           added_leaves (Err fault.Memory) after adds p_within = no_place after

@@ -1,5 +1,5 @@
 -- A reader more of an undoomed object in use.
-use Rattle.std.proofs.Common.{◌≡◌, inl, inr, ℕ, ◌<◌, length, Option, Some, None, false, IsSome, refl, sym, ap, subst, ◌∙◌, arith}
+use Rattle.std.proofs.Common.{◌≡◌, inl, inr, ℕ, ◌<◌, length, Option, Some, None, false, IsSome, refl, sym, ap, subst, ◌∙◌, arith, Bool}
 use Rattle.std.specs.Prelude.{option_map}
 use Rattle.std.proofs.lemmas.Bool.{cases_eq}
 use Rattle.cache_base.specs.declared.limits.TheConstants.{SLOTS}
@@ -13,7 +13,7 @@ use Rattle.cache_theory.proofs.Slots.{free_is_none, slot_kept, use_of, with_slot
 use Rattle.cache_theory.proofs.Users.{in_use_along}
 use Rattle.disk_model.specs.State.{State, standing}
 use Rattle.file_handles.specs.Kept.{Kept, object_at, with_use}
-use Rattle.file_handles.specs.Stands.{HandlesStand, IsAt, IsIn, slot_of}
+use Rattle.file_handles.specs.Stands.{HandlesStand, IsAt, IsInWhere, slot_of}
 use Rattle.file_handles.specs.declared.object.Object.{Object}
 use Rattle.file_handles.specs.declared.object.Use.{Use}
 use Rattle.file_handles.proofs.JoinedSlots.{same_place, use_set_here, use_set_other}
@@ -29,7 +29,7 @@ pub record MayRead (k : Kept) (m : Machine) (number : ℕ → ℕ) (slot p : ℕ
   pub placed : u.place ≡ p
   pub reads : u.writes ≡ false
 
-module _ (s : State) (k : Kept) (m : Machine) (w : Marks) (is : IsIn s k m w) (slot p : ℕ) (u : Use) (may : MayRead k m is.number slot p u) where
+module _ {b : Bool} (s : State) (k : Kept) (m : Machine) (w : Marks) (is : IsInWhere b s k m w) (slot p : ℕ) (u : Use) (may : MayRead k m is.number slot p u) where
   abbrev pub after : Kept
   after = with_use k slot (Some u)
 
@@ -78,7 +78,7 @@ module _ (s : State) (k : Kept) (m : Machine) (w : Marks) (is : IsIn s k m w) (s
     one_number = λ d e i a b. is.stands.doomed.one_number d e i (at_off d i a) (at_off e i b);
   }
 
-  pub reader_in : IsIn s after next w
+  pub reader_in : IsInWhere b s after next w
   reader_in = record {
     number = is.number;
     stands = record {
@@ -87,11 +87,13 @@ module _ (s : State) (k : Kept) (m : Machine) (w : Marks) (is : IsIn s k m w) (s
       entries = λ q. is.stands.entries q ∙ sym (entry_along m next q refl refl (λ j at. refl));
       doomed = doomed_next;
     };
-    crash_kept = record {
-      safe = is.crash_kept.safe;
-      once = is.crash_kept.once;
-      doomed = λ d i file name a h now ever. is.crash_kept.doomed d i file name (at_off d i a) (held_before_reader m slot (is.number p) may.undoomed i h) now ever;
-      unburied = is.crash_kept.unburied;
-      young = is.crash_kept.young;
-    };
+    crash_kept = λ on.
+        let was = is.crash_kept on in
+        record {
+          safe = was.safe;
+          once = was.once;
+          doomed = λ d i file name a h now ever. was.doomed d i file name (at_off d i a) (held_before_reader m slot (is.number p) may.undoomed i h) now ever;
+          unburied = was.unburied;
+          young = was.young;
+        };
   }

@@ -1,5 +1,5 @@
 -- Whose body a slot reads.
-use Rattle.std.proofs.Common.{◌≡◌, ◌∙◌, ℕ, ◌<◌, List, length, cond, Option, Some, None, Result, Ok, Err, IfErr, IsErrAnd, refl, sym, ap, subst, arith}
+use Rattle.std.proofs.Common.{◌≡◌, ◌∙◌, ℕ, ◌<◌, List, length, cond, Option, Some, None, Result, Ok, Err, IfErr, IsErrAnd, refl, sym, ap, subst, arith, OnOk}
 use Rattle.std.specs.Prelude.{IfOk, IfSome, IsErrOf, is_some, option_map}
 use Rattle.cache_base.specs.Causes.{HasCause}
 use Rattle.cache_base.specs.declared.limits.TheConstants.{SLOTS}
@@ -107,3 +107,8 @@ pub error_says : {T : Type 0} (r : Result T HandleFault) (e : HandleFault) (Q : 
 error_says {T = T} (Ok x) e Q P is refuses = absurd (cc)
 error_says {T = T} (Err d) e Q P is refuses =
     (tt, λ f same. refuses f (let both : ◌≡◌ {A = Result T HandleFault} (Err d) (Err e) = is in let one : d ≡ e = cc in sym one ∙ same))
+
+-- nothing that is said of an answer is said of an error
+pub on_err : {T E : Type 0} (P : Type 0) (r : Result T E) (e : E) → r ≡ Err e → OnOk r P
+on_err {T = T} {E = E} P (Ok x) e is = absurd (let never : ◌≡◌ {A = Result T E} (Ok x) (Err e) = is in cc)
+on_err P (Err f) e is = tt

@@ -1,5 +1,5 @@
 -- What the handles and the disk stand for, where a slot is given up.
-use Rattle.std.proofs.Common.{◌≡◌, ◌≢◌, ℕ, ◌<◌, List, length, true, false, Option, Some, None, IsSome, refl, sym, ap, subst, ◌∙◌, arith}
+use Rattle.std.proofs.Common.{◌≡◌, ◌≢◌, ℕ, ◌<◌, List, length, true, false, Option, Some, None, IsSome, refl, sym, ap, subst, ◌∙◌, arith, Bool, IsTrue}
 use Rattle.std.specs.Prelude.{slice_get, slice_set}
 use Rattle.cache_base.specs.declared.limits.TheConstants.{SLOTS}
 use Rattle.cache_theory.specs.Crash.{IsCrashKept, IsSafe, WasUnder}
@@ -19,7 +19,7 @@ use Rattle.disk_model.specs.State.{State, names_now, standing}
 use Rattle.disk_model.specs.declared.place.Place.TheVariants.{Doomed}
 use Rattle.file_handles.specs.Held.{IsHeldAs}
 use Rattle.file_handles.specs.Kept.{Kept, object_at, use_at}
-use Rattle.file_handles.specs.Stands.{HandlesStand, IsAt, IsIn}
+use Rattle.file_handles.specs.Stands.{HandlesStand, IsAt, IsInWhere}
 use Rattle.file_handles.specs.declared.object.Object.{Object}
 use Rattle.file_handles.specs.declared.object.Use.{Use}
 use Rattle.file_handles.proofs.ElementSlots.{slot_is}
@@ -46,11 +46,12 @@ pub record LeavesFor (m : Machine) (number : ℕ → ℕ) (k : Kept) (slots : �
   pub ever : (name : List ℕ) (file : ℕ) → EverAt now (entry_place name) file → EverAt before (entry_place name) file
 
 module _
+    {b : Bool}
     (s t : State)
     (k : Kept)
     (m : Machine)
     (w : Marks)
-    (is : IsIn s k m w)
+    (is : IsInWhere b s k m w)
     (slot : ℕ)
     (u : Use)
     (at_slot : use_at k slot ≡ Some u)
@@ -110,18 +111,18 @@ module _
     one_number = λ d e i a b. is.stands.doomed.one_number d e i (was_at d i a) (was_at e i b);
   }
 
-  crash_kept : IsCrashKept t (released m slot) w (IsAt (left_with k slot objects) is.number)
-  crash_kept = record {
-    safe = leaves.safe w is.crash_kept.safe;
-    once = leaves.once is.crash_kept.once;
+  crash_kept : IsTrue b → IsCrashKept t (released m slot) w (IsAt (left_with k slot objects) is.number)
+  crash_kept on = record {
+    safe = leaves.safe w (is.crash_kept on).safe;
+    once = leaves.once (is.crash_kept on).once;
     doomed = λ d i file name a held now ever.
         subst (λ o. WasUnder w i o name) (sym (same_object i))
-        (is.crash_kept.doomed d i file name (was_at d i a) (held_before_released m slot i held).0 (leaves.named d file now) (leaves.ever name file ever));
-    unburied = λ i o at un. is.crash_kept.unburied i o (ap (λ (objects : List MachineObject). slice_get objects i) (sym (released_objects m slot)) ∙ at) un;
-    young = let same = ap (λ (objects : List MachineObject). length objects) (released_objects m slot) in let young = is.crash_kept.young in omega (arith, same, young);
+        ((is.crash_kept on).doomed d i file name (was_at d i a) (held_before_released m slot i held).0 (leaves.named d file now) (leaves.ever name file ever));
+    unburied = λ i o at un. (is.crash_kept on).unburied i o (ap (λ (objects : List MachineObject). slice_get objects i) (sym (released_objects m slot)) ∙ at) un;
+    young = let same = ap (λ (objects : List MachineObject). length objects) (released_objects m slot) in let young = (is.crash_kept on).young in omega (arith, same, young);
   }
 
-  pub left_in : IsIn t (left_with k slot objects) (released m slot) w
+  pub left_in : IsInWhere b t (left_with k slot objects) (released m slot) w
   left_in = record {
     number = is.number;
     stands = record {

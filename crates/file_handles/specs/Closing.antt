@@ -1,5 +1,5 @@
 -- Slots that are given up.
-use Rattle.std.specs.Prelude.{Bool, IsSome, IsSomeAnd, List, None, OnOk, Option, Result, Some, false, if◌then◌else◌, is_none, not, option_map, unwrap_or, ℕ, ◌&&◌, ◌==◌, ◌≡◌}
+use Rattle.std.specs.Prelude.{Bool, IsSome, IsSomeAnd, IsTrue, List, None, OnOk, Option, Result, Some, false, if◌then◌else◌, is_none, not, option_map, unwrap_or, ℕ, ◌&&◌, ◌==◌, ◌≡◌}
 use Rattle.cache_theory.specs.Command.Command.{Close}
 use Rattle.cache_theory.specs.Crash.{IsSafe}
 use Rattle.cache_theory.specs.Ever.{entries}
@@ -13,7 +13,7 @@ use Rattle.disk_model.specs.declared.disk.DiskFault.{DiskFault}
 use Rattle.disk_model.specs.declared.place.Place.TheVariants.{Doomed}
 use Rattle.file_handles.specs.Held.{is_draft, object_place}
 use Rattle.file_handles.specs.Kept.{Kept, object_at, use_at}
-use Rattle.file_handles.specs.Stands.{IsIn}
+use Rattle.file_handles.specs.Stands.{IsIn, IsInWhere, StandFor}
 use Rattle.file_handles.specs.declared.fault.HandleFault.{HandleFault}
 use Rattle.file_handles.specs.declared.object.Object.{Object}
 use Rattle.file_handles.specs.declared.object.Use.{Use}
@@ -42,8 +42,8 @@ dropped x s = if is_none x.doomed && not (is_draft x.entry) then s else removed 
 -- the writer of the slot finishes its object first, whatever the state of the machine and the marks
 abbrev pub FinishesFirst : {T : Type 0} → ℕ → Result T HandleFault → State → State → Kept → Kept → Type 0
 FinishesFirst slot answer s t before after =
-    (m : Machine) (w : Marks) → IsIn s before m w
-    → IsSafe t (begun m (Close slot) w) × OnOk answer (IsIn t after (finished_by m slot) (begun m (Close slot) w))
+    (crash : Bool) (m : Machine) (w : Marks) → IsInWhere crash s before m w
+    → (IsTrue crash → IsSafe t (begun m (Close slot) w)) × OnOk answer (IsInWhere crash t after (finished_by m slot) (begun m (Close slot) w))
 
 -- the slot has this place, where an object is whose file stands
 pub record MayGiveUp (slot place : ℕ) (s : State) (k : Kept) : Type 0 where
@@ -53,15 +53,15 @@ pub record MayGiveUp (slot place : ℕ) (s : State) (k : Kept) : Type 0 where
 -- the slot is given up, whatever the state of the machine and the marks: it is no writer of an unfinished object
 abbrev pub GivesUp : ℕ → Result (Unit {0}) HandleFault → State → State → Kept → Kept → Type 0
 GivesUp slot answer s t before after =
-    (m : Machine) (w : Marks) → ((object_of m slot).finished ≡ false → is_writer m slot ≡ false) → IsIn s before m w
-    → IsSafe t w × OnOk answer (IsIn t after (released m slot) w)
+    (crash : Bool) (m : Machine) (w : Marks) → ((object_of m slot).finished ≡ false → is_writer m slot ≡ false) → IsInWhere crash s before m w
+    → (IsTrue crash → IsSafe t w) × OnOk answer (IsInWhere crash t after (released m slot) w)
 
 -- the entries are those of the shelf, and no doomed file stands
 pub record IsClosed (files : Files) (m : Machine) : Type 0 where
   pub entries_are : (name : List ℕ) → entries files name ≡ get m.shelf name
   pub no_doomed : (k : ℕ) → files (Doomed k) ≡ None
 
--- all slots are given up, whatever the state of the machine and the marks
-abbrev pub ClosesAll : Result (Unit {0}) DiskFault → State → State → Kept → Type 0
-ClosesAll answer s t before =
-    (m : Machine) (w : Marks) → IsIn s before m w → IsSafe t w × OnOk answer (IsClosed (standing t) m)
+-- all slots are given up, whatever machine the handles and the disk stand for, and whatever marks the disk keeps to
+pub record ClosesAll (answer : Result (Unit {0}) DiskFault) (s t : State) (before : Kept) : Type 0 where
+  pub closed : (m : Machine) → StandFor s before m → OnOk answer (IsClosed (standing t) m)
+  pub crash : (m : Machine) (w : Marks) → IsIn s before m w → IsSafe t w

@@ -1,6 +1,7 @@
 -- An object that loses its name.
-use Rattle.std.specs.Prelude.{List, OnOk, Option, Result, filter_map, option_and_then, true, ℕ, ◌≡◌}
+use Rattle.std.specs.Prelude.{Bool, IsSome, IsTrue, List, None, OnOk, Option, Result, filter_map, option_and_then, true, ℕ, ◌<◌, ◌≡◌}
 use Rattle.cache_base.specs.Checks.{first_failing}
+use Rattle.cache_base.specs.declared.limits.TheConstants.{SLOTS}
 use Rattle.cache_theory.specs.Checks.{checks}
 use Rattle.cache_theory.specs.Command.{Command}
 use Rattle.cache_theory.specs.Crash.{IsSafe}
@@ -9,8 +10,9 @@ use Rattle.cache_theory.specs.Marks.{Marks, is_touched}
 use Rattle.cache_theory.specs.Step.{doomed_under}
 use Rattle.cache_theory.specs.declared.refusal.Refusal.{Refusal}
 use Rattle.disk_model.specs.State.{State, standing}
+use Rattle.disk_model.specs.declared.place.Place.TheVariants.{Doomed}
 use Rattle.file_handles.specs.Kept.{Kept}
-use Rattle.file_handles.specs.Stands.{IsIn, Stands}
+use Rattle.file_handles.specs.Stands.{IsInWhere, Stands}
 use Rattle.file_handles.specs.declared.fault.HandleFault.{HandleFault}
 use Rattle.file_handles.specs.declared.object.Object.{Object}
 
@@ -25,9 +27,17 @@ numbers_in objects = filter_map number_in objects
 -- the object in use under a name is doomed, whatever the state of the machine, and the marks in which the name is touched
 abbrev pub DoomsUnder : {T : Type 0} → List ℕ → Result T HandleFault → State → State → Kept → Kept → Type 0
 DoomsUnder name answer s t before after =
-    (m : Machine) (w : Marks) → is_touched w name ≡ true → IsIn s before m w
-    → IsSafe t w × OnOk answer (IsIn t after (doomed_under m name) w)
+    (crash : Bool) (m : Machine) (w : Marks) → is_touched w name ≡ true → IsInWhere crash s before m w
+    → (IsTrue crash → IsSafe t w) × OnOk answer (IsInWhere crash t after (doomed_under m name) w)
 
 -- the checks of a command end so, whatever machine the files and the handles stand for
 abbrev pub EndsOn : State → Kept → Command → Option Refusal → Type 0
 EndsOn s k c end = (m : Machine) (number : ℕ → ℕ) → Stands (standing s) k m number → first_failing (checks m c) ≡ end
+
+-- every lesser number has a file among the doomed
+abbrev pub IsFirstFree : State → ℕ → Type 0
+IsFirstFree s number = (lesser : ℕ) → lesser < number → IsSome (standing s (Doomed lesser))
+
+-- a file that is new among the doomed has the least number that was free, and one below 64
+abbrev pub TakesFirstFree : State → State → Type 0
+TakesFirstFree s t = (number : ℕ) → standing s (Doomed number) ≡ None → IsSome (standing t (Doomed number)) → IsFirstFree s number × (number < SLOTS)

@@ -1,5 +1,5 @@
 -- The handles and the disk as the machine has them.
-use Rattle.std.specs.Prelude.{IsSome, Some, option_map, ℕ, ◌<◌, ◌≡◌}
+use Rattle.std.specs.Prelude.{Bool, IsSome, IsTrue, Some, option_map, ℕ, ◌<◌, ◌≡◌}
 use Rattle.cache_base.specs.declared.limits.TheConstants.{SLOTS}
 use Rattle.cache_theory.specs.Crash.{IsCrashKept}
 use Rattle.cache_theory.specs.Machine.{Machine, Slot, object}
@@ -44,12 +44,22 @@ pub record Stands (files : Files) (k : Kept) (m : Machine) (number : ℕ → ℕ
   pub entries : EntriesStand files m
   pub doomed : DoomedStand files m (IsAt k number)
 
--- so are they for some numbers, and the disk keeps what these marks ask for
+-- so are they for some numbers
+abbrev pub StandFor : State → Kept → Machine → Type 0
+StandFor s k m = (number : ℕ → ℕ) × Stands (standing s) k m number
+
+-- so are they, and the disk keeps what these marks ask for
 pub record IsIn (s : State) (k : Kept) (m : Machine) (w : Marks) : Type 0 where
   pub number : ℕ → ℕ
   pub stands : Stands (standing s) k m number
   pub crash_kept : IsCrashKept s m w (IsAt k number)
 
--- there is such a machine
+-- so are they, and where a crash is spoken of the disk keeps what the marks ask for
+pub record IsInWhere (crash : Bool) (s : State) (k : Kept) (m : Machine) (w : Marks) : Type 0 where
+  pub number : ℕ → ℕ
+  pub stands : Stands (standing s) k m number
+  pub crash_kept : IsTrue crash → IsCrashKept s m w (IsAt k number)
+
+-- there is a machine that they are
 abbrev pub StandsSomehow : State → Kept → Type 0
-StandsSomehow s k = (m : Machine) × ((number : ℕ → ℕ) × Stands (standing s) k m number)
+StandsSomehow s k = (m : Machine) × StandFor s k m

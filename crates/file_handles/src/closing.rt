@@ -9,7 +9,7 @@ ghost use Rattle.disk_model.specs.Calls.{StopsAtFault, if_done};
 ghost use Rattle.disk_model.specs.State.{standing};
 ghost use Rattle.file_handles.specs.Answers.{OnRefused, done_or};
 ghost use Rattle.file_handles.specs.Closing.{dropped, is_some_draft, is_use_of, let_go_by};
-ghost use Rattle.file_handles.specs.Effects.{wrote_where};
+ghost use Rattle.file_handles.specs.Effects.{HasEffect, wrote_where};
 ghost use Rattle.file_handles.specs.Held.{is_draft, object_place};
 
 use crate::object::{Entry, Object, Use};
@@ -41,7 +41,7 @@ fn is_used(slots: &[Option<Use>; SLOTS], place: usize) -> bool
 fn let_go<D: Disk>(disk: &mut D, object: &Object) -> Result<(), DiskFault>
     requires { IsTrue D.tells → IsSome (standing (D.state disk.old) (object_place object.now)) }
     ensures state { IsTrue D.tells → D.state disk.new ≡ if_done result (let_go_by object.now (D.state disk.old)) (D.state disk.old) }
-    ensures went_on { OnOk result (IsTrue D.tells → (D.counts disk.new).failed_change ≡ (D.counts disk.old).failed_change) }
+    ensures went_on { OnOk result (IsTrue D.tells → (D.counts disk.new).failed ≡ (D.counts disk.old).failed) }
     ensures stops { IsTrue D.tells → StopsAtFault (D.counts disk.old) (D.counts disk.new) }
     ensures cause { HasCause (IsErrOf result DiskFault.Failed) (D.faults disk.old) (D.faults disk.new) }
 {
@@ -55,7 +55,7 @@ fn let_go<D: Disk>(disk: &mut D, object: &Object) -> Result<(), DiskFault>
 fn drop_file<D: Disk>(disk: &mut D, object: &Object) -> Result<(), DiskFault>
     requires { IsTrue D.tells → IsSome (standing (D.state disk.old) (object_place object.now)) }
     ensures state { IsTrue D.tells → D.state disk.new ≡ if_done result (dropped object.now (D.state disk.old)) (D.state disk.old) }
-    ensures went_on { OnOk result (IsTrue D.tells → (D.counts disk.new).failed_change ≡ (D.counts disk.old).failed_change) }
+    ensures went_on { OnOk result (IsTrue D.tells → (D.counts disk.new).failed ≡ (D.counts disk.old).failed) }
     ensures stops { IsTrue D.tells → StopsAtFault (D.counts disk.old) (D.counts disk.new) }
     ensures cause { HasCause (IsErrOf result DiskFault.Failed) (D.faults disk.old) (D.faults disk.new) }
 {
@@ -96,7 +96,7 @@ impl Handles {
         ensures there { OnOk result (IsTrue D.tells → MayGiveUp slot used.place (D.state disk.new) (kept self.new)) }
         ensures effect { IfOk result (λ effect. effect ≡ wrote_where (λ x. used.writes && is_draft x.entry) (object_kept_at (kept self.old) used.place)) }
         ensures refused { IsTrue D.tells → OnRefused result (λ _. ⊥) }
-        ensures went_on { OnOk result (IsTrue D.tells → (D.counts disk.new).failed_change ≡ (D.counts disk.old).failed_change) }
+        ensures went_on { OnOk result (IsTrue D.tells → (D.counts disk.new).failed ≡ (D.counts disk.old).failed) }
         ensures stops { IsTrue D.tells → StopsAtFault (D.counts disk.old) (D.counts disk.new) }
         ensures cause { HasCause (IsErrOf result HandleFault.Disk) (D.faults disk.old) (D.faults disk.new) }
     {
@@ -114,7 +114,7 @@ impl Handles {
         requires told { IsTrue D.tells → MayGiveUp slot place (D.state disk.old) (kept self.old) }
         ensures gives_up { IsTrue D.tells → GivesUp slot result (D.state disk.old) (D.state disk.new) (kept self.old) (kept self.new) }
         ensures refused { IsTrue D.tells → OnRefused result (λ _. ⊥) }
-        ensures went_on { OnOk result (IsTrue D.tells → (D.counts disk.new).failed_change ≡ (D.counts disk.old).failed_change) }
+        ensures went_on { OnOk result (IsTrue D.tells → (D.counts disk.new).failed ≡ (D.counts disk.old).failed) }
         ensures stops { IsTrue D.tells → StopsAtFault (D.counts disk.old) (D.counts disk.new) }
         ensures cause { HasCause (IsErrOf result HandleFault.Disk) (D.faults disk.old) (D.faults disk.new) }
     {
@@ -138,9 +138,10 @@ impl Handles {
         requires slot { slot < SLOTS }
         requires told { IsTrue D.tells → StandsSomehow (D.state disk.old) (kept self.old) }
         ensures carried { IsTrue D.tells → CarriesOut (Close slot) (done_or result) (D.state disk.old) (D.state disk.new) (kept self.old) (kept self.new) }
-        ensures effect { IfOk result (λ effect. IfSome (use_at (kept self.old) slot) (λ u. effect ≡ wrote_where (λ x. u.writes && is_draft x.entry) (object_in (kept self.old) slot))) }
-        ensures went_on { OnOk result (IsTrue D.tells → (D.counts disk.new).failed_change ≡ (D.counts disk.old).failed_change) }
-        ensures refused_on { OnRefused result (λ _. IsTrue D.tells → (D.counts disk.new).failed_change ≡ (D.counts disk.old).failed_change) }
+        ensures effect { IfOk result (HasEffect (kept self.old) (Close slot)) }
+        ensures went_on { OnOk result (IsTrue D.tells → (D.counts disk.new).failed ≡ (D.counts disk.old).failed) }
+        ensures unchanged { OnRefused result (λ _. IsTrue D.tells → disk.new ≡ disk.old) }
+        ensures refused_on { OnRefused result (λ _. IsTrue D.tells → (D.counts disk.new).failed ≡ (D.counts disk.old).failed) }
         ensures stops { IsTrue D.tells → StopsAtFault (D.counts disk.old) (D.counts disk.new) }
         ensures cause { HasCause (IsErrOf result HandleFault.Disk) (D.faults disk.old) (D.faults disk.new) }
     {
@@ -154,7 +155,7 @@ impl Handles {
     pub fn close_all<D: Disk>(self, disk: &mut D) -> Result<(), DiskFault>
         requires told { IsTrue D.tells → StandsSomehow (D.state disk.old) (kept self) }
         ensures closes { IsTrue D.tells → ClosesAll result (D.state disk.old) (D.state disk.new) (kept self) }
-        ensures went_on { OnOk result (IsTrue D.tells → (D.counts disk.new).failed_change ≡ (D.counts disk.old).failed_change) }
+        ensures went_on { OnOk result (IsTrue D.tells → (D.counts disk.new).failed ≡ (D.counts disk.old).failed) }
         ensures stops { IsTrue D.tells → StopsAtFault (D.counts disk.old) (D.counts disk.new) }
         ensures cause { HasCause (IsErrOf result DiskFault.Failed) (D.faults disk.old) (D.faults disk.new) }
     {

@@ -1,6 +1,6 @@
 //! A new entry.
 
-ghost use Rattle.std.specs.Prelude.{◌≡◌, ◌<◌, true, IfOk, IsErrOf, IsTrue, OnOk, length};
+ghost use Rattle.std.specs.Prelude.{◌≡◌, ◌<◌, false, true, IfOk, IsErrOf, IsTrue, OnOk, length};
 ghost use Rattle.cache_base.specs.Causes.{HasCause};
 ghost use Rattle.cache_base.specs.declared.limits.TheConstants.{SLOTS};
 ghost use Rattle.cache_theory.specs.Command.Command.{Create};
@@ -11,7 +11,8 @@ ghost use Rattle.entry_key.specs.Writing.{may_write as may_write_of};
 ghost use Rattle.entry_name.specs.EntryName.{file_name};
 ghost use Rattle.file_handles.specs.Answers.{OnRefused, done_or};
 ghost use Rattle.file_handles.specs.Creating.{MayHaveMade};
-ghost use Rattle.file_handles.specs.Effects.{IsGone};
+ghost use Rattle.file_handles.specs.Dooming.{TakesFirstFree};
+ghost use Rattle.file_handles.specs.Effects.{HasEffect};
 ghost use Rattle.file_handles.specs.Held.{IsHeldAs};
 
 use crate::object::{Draft, Entry, Object, Use};
@@ -46,7 +47,7 @@ fn drafted<D: Disk>(
     ensures draft { IfOk result (λ object. (object.name ≡ name) × IsHeldAs object (fresh now key.now)) }
     ensures state { IsTrue D.tells → MayHaveMade (EntryAt name) result (D.state disk.old) (D.state disk.new) }
     ensures refused { OnRefused result (λ _. ⊥) }
-    ensures went_on { OnOk result (IsTrue D.tells → (D.counts disk.new).failed_change ≡ (D.counts disk.old).failed_change) }
+    ensures went_on { OnOk result (IsTrue D.tells → (D.counts disk.new).failed ≡ (D.counts disk.old).failed) }
     ensures stops { IsTrue D.tells → StopsAtFault (D.counts disk.old) (D.counts disk.new) }
     ensures cause { HasCause (IsErrOf result HandleFault.Disk) (D.faults disk.old) (D.faults disk.new) }
 {
@@ -88,9 +89,12 @@ impl Handles {
         requires slot { slot < SLOTS }
         requires told { IsTrue D.tells → StandsSomehow (D.state disk.old) (kept self.old) }
         ensures carried { IsTrue D.tells → CarriesOutAt now (Create slot key.now) (done_or result) (D.state disk.old) (D.state disk.new) (kept self.old) (kept self.new) }
-        ensures effect { IfOk result (λ effect. IsGone effect (file_name key.now)) }
-        ensures went_on { OnOk result (IsTrue D.tells → (D.counts disk.new).failed_change ≡ (D.counts disk.old).failed_change) }
-        ensures refused_on { OnRefused result (λ _. IsTrue D.tells → (D.counts disk.new).failed_change ≡ (D.counts disk.old).failed_change) }
+        ensures effect { IfOk result (HasEffect (kept self.old) (Create slot key.now)) }
+        ensures bad_key { may_write_of key.now ≡ false → OnOk result ⊥ }
+        ensures numbered { IsTrue D.tells → TakesFirstFree (D.state disk.old) (D.state disk.new) }
+        ensures went_on { OnOk result (IsTrue D.tells → (D.counts disk.new).failed ≡ (D.counts disk.old).failed) }
+        ensures unchanged { OnRefused result (λ _. disk.new ≡ disk.old) }
+        ensures refused_on { OnRefused result (λ _. IsTrue D.tells → (D.counts disk.new).failed ≡ (D.counts disk.old).failed) }
         ensures stops { IsTrue D.tells → StopsAtFault (D.counts disk.old) (D.counts disk.new) }
         ensures cause { HasCause (IsErrOf result HandleFault.Disk) (D.faults disk.old) (D.faults disk.new) }
     {

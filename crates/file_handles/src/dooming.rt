@@ -7,8 +7,8 @@ ghost use Rattle.cache_theory.specs.Command.Command.{Doom};
 ghost use Rattle.disk_model.specs.Calls.{StopsAtFault};
 ghost use Rattle.entry_name.specs.EntryName.{file_name};
 ghost use Rattle.file_handles.specs.Answers.{OnRefused, done_or};
-ghost use Rattle.file_handles.specs.Dooming.{numbers_in};
-ghost use Rattle.file_handles.specs.Effects.{IsGone};
+ghost use Rattle.file_handles.specs.Dooming.{TakesFirstFree, numbers_in};
+ghost use Rattle.file_handles.specs.Effects.{HasEffect};
 
 use crate::finding::look;
 use crate::object::Object;
@@ -66,8 +66,9 @@ impl Handles {
         requires user { position (is_user name.now) (kept self.old).objects ≡ Some place }
         requires told { IsTrue D.tells → StandsSomehow (D.state disk.old) (kept self.old) }
         ensures dooms { IsTrue D.tells → DoomsUnder name.now.0 result (D.state disk.old) (D.state disk.new) (kept self.old) (kept self.new) }
+        ensures numbered { IsTrue D.tells → TakesFirstFree (D.state disk.old) (D.state disk.new) }
         ensures refused { OnRefused result (λ _. ⊥) }
-        ensures went_on { OnOk result (IsTrue D.tells → (D.counts disk.new).failed_change ≡ (D.counts disk.old).failed_change) }
+        ensures went_on { OnOk result (IsTrue D.tells → (D.counts disk.new).failed ≡ (D.counts disk.old).failed) }
         ensures stops { IsTrue D.tells → StopsAtFault (D.counts disk.old) (D.counts disk.new) }
         ensures cause { HasCause (IsErrOf result HandleFault.Disk) (D.faults disk.old) (D.faults disk.new) }
     {
@@ -97,10 +98,11 @@ impl Handles {
     ) -> Result<bool, HandleFault>
         requires told { IsTrue D.tells → StandsSomehow (D.state disk.old) (kept self.old) }
         ensures dooms { IsTrue D.tells → position (is_user name.now) (kept self.old).objects ≢ None → DoomsUnder name.now.0 result (D.state disk.old) (D.state disk.new) (kept self.old) (kept self.new) }
+        ensures numbered { IsTrue D.tells → TakesFirstFree (D.state disk.old) (D.state disk.new) }
         ensures none { position (is_user name.now) (kept self.old).objects ≡ None → (result ≡ Ok false) × ((disk.new ≡ disk.old) × (kept self.new ≡ kept self.old)) }
         ensures some { IfOk result (λ doomed. doomed ≡ is_some (position (is_user name.now) (kept self.old).objects)) }
         ensures refused { OnRefused result (λ _. ⊥) }
-        ensures went_on { OnOk result (IsTrue D.tells → (D.counts disk.new).failed_change ≡ (D.counts disk.old).failed_change) }
+        ensures went_on { OnOk result (IsTrue D.tells → (D.counts disk.new).failed ≡ (D.counts disk.old).failed) }
         ensures stops { IsTrue D.tells → StopsAtFault (D.counts disk.old) (D.counts disk.new) }
         ensures cause { HasCause (IsErrOf result HandleFault.Disk) (D.faults disk.old) (D.faults disk.new) }
     {
@@ -123,7 +125,7 @@ impl Handles {
         ensures refuses { OnRefused result (λ r. IsTrue D.tells → EndsOn (D.state disk.old) (kept self.now) (Doom key.now) (Some r)) }
         ensures passes { IfOk result (λ name. (name.0 ≡ file_name key.now) × (IsTrue D.tells → EndsOn (D.state disk.old) (kept self.now) (Doom key.now) None)) }
         ensures state { IsTrue D.tells → D.state disk.new ≡ D.state disk.old }
-        ensures no_change { IsTrue D.tells → (D.counts disk.new).failed_change ≡ (D.counts disk.old).failed_change }
+        ensures no_change { IsTrue D.tells → (D.counts disk.new).failed ≡ (D.counts disk.old).failed }
         ensures cause { HasCause (IsErrOf result HandleFault.Disk) (D.faults disk.old) (D.faults disk.new) }
     {
         if !may_write(key) {
@@ -146,9 +148,11 @@ impl Handles {
     ) -> Result<Effect, HandleFault>
         requires told { IsTrue D.tells → StandsSomehow (D.state disk.old) (kept self.old) }
         ensures carried { IsTrue D.tells → CarriesOut (Doom key.now) (done_or result) (D.state disk.old) (D.state disk.new) (kept self.old) (kept self.new) }
-        ensures effect { IfOk result (λ effect. IsGone effect (file_name key.now)) }
-        ensures went_on { OnOk result (IsTrue D.tells → (D.counts disk.new).failed_change ≡ (D.counts disk.old).failed_change) }
-        ensures refused_on { OnRefused result (λ _. IsTrue D.tells → (D.counts disk.new).failed_change ≡ (D.counts disk.old).failed_change) }
+        ensures effect { IfOk result (HasEffect (kept self.old) (Doom key.now)) }
+        ensures numbered { IsTrue D.tells → TakesFirstFree (D.state disk.old) (D.state disk.new) }
+        ensures went_on { OnOk result (IsTrue D.tells → (D.counts disk.new).failed ≡ (D.counts disk.old).failed) }
+        ensures unchanged { OnRefused result (λ _. IsTrue D.tells → D.state disk.new ≡ D.state disk.old) }
+        ensures refused_on { OnRefused result (λ _. IsTrue D.tells → (D.counts disk.new).failed ≡ (D.counts disk.old).failed) }
         ensures stops { IsTrue D.tells → StopsAtFault (D.counts disk.old) (D.counts disk.new) }
         ensures cause { HasCause (IsErrOf result HandleFault.Disk) (D.faults disk.old) (D.faults disk.new) }
     {

@@ -1,6 +1,6 @@
 //! The elements of an entry in use.
 
-ghost use Rattle.std.specs.Prelude.{ℕ, List, None, Some, true, ◌+◌, ◌≡◌, ◌<◌, ◌≤◌, not, IfErr, IfOk, IfSome, IsErrOf, IsSomeAnd, IsTrue, OnOk, length, option_map};
+ghost use Rattle.std.specs.Prelude.{ℕ, List, None, Some, true, ◌+◌, ◌≡◌, ◌<◌, ◌≤◌, not, IfErr, IfNone, IfOk, IfSome, IsErrOf, IsSomeAnd, IsTrue, OnOk, length, option_map};
 ghost use Rattle.cache_base.specs.Causes.{HasCause};
 ghost use Rattle.cache_base.specs.Limits.{chunks as chunks_of};
 ghost use Rattle.cache_base.specs.declared.limits.TheConstants.{ELEMENTS_MAX, SLOTS};
@@ -13,7 +13,7 @@ ghost use Rattle.entry_metadata.specs.Metadata.{block_length};
 ghost use Rattle.entry_parts.specs.Elements.{elements_bytes};
 ghost use Rattle.entry_parts.specs.Setting.{has_zero as has_zero_in, with_element};
 ghost use Rattle.file_handles.specs.Answers.{OnRefused, done_or, done_or_none};
-ghost use Rattle.file_handles.specs.Effects.{wrote_where};
+ghost use Rattle.file_handles.specs.Effects.{HasEffect, wrote_where};
 ghost use Rattle.file_handles.specs.Held.{body_len_in, elements_in, is_draft, key_in};
 ghost use Rattle.file_handles.specs.Setting.{HasRoom, are_small, changed_by, small_len, with_change};
 
@@ -216,7 +216,7 @@ impl Handles {
         ensures quiet { IsTrue D.tells → IfSome (object_kept_at (kept self.old) place) (λ x. is_draft x.entry ≡ true → D.state disk.new ≡ D.state disk.old) }
         ensures effect { IfOk result (λ effect. effect ≡ wrote_where (λ x. not (is_draft x.entry)) (object_kept_at (kept self.old) place)) }
         ensures refused { OnRefused result (λ _. object_kept_at (kept self.old) place ≡ None) }
-        ensures went_on { OnOk result (IsTrue D.tells → (D.counts disk.new).failed_change ≡ (D.counts disk.old).failed_change) }
+        ensures went_on { OnOk result (IsTrue D.tells → (D.counts disk.new).failed ≡ (D.counts disk.old).failed) }
         ensures stops { IsTrue D.tells → StopsAtFault (D.counts disk.old) (D.counts disk.new) }
         ensures cause { HasCause (IsErrOf result HandleFault.Disk) (D.faults disk.old) (D.faults disk.new) }
     {
@@ -260,9 +260,10 @@ impl Handles {
         requires slot { slot < SLOTS }
         requires told { IsTrue D.tells → StandsSomehow (D.state disk.old) (kept self.old) }
         ensures carried { IsTrue D.tells → CarriesOut (SetElement slot name.now value.now) (done_or result) (D.state disk.old) (D.state disk.new) (kept self.old) (kept self.new) }
-        ensures effect { IfOk result (λ effect. effect ≡ wrote_where (λ x. not (is_draft x.entry)) (object_in (kept self.old) slot)) }
-        ensures went_on { OnOk result (IsTrue D.tells → (D.counts disk.new).failed_change ≡ (D.counts disk.old).failed_change) }
-        ensures refused_on { OnRefused result (λ _. IsTrue D.tells → (D.counts disk.new).failed_change ≡ (D.counts disk.old).failed_change) }
+        ensures effect { IfOk result (HasEffect (kept self.old) (SetElement slot name.now value.now)) }
+        ensures went_on { OnOk result (IsTrue D.tells → (D.counts disk.new).failed ≡ (D.counts disk.old).failed) }
+        ensures unchanged { OnRefused result (λ _. disk.new ≡ disk.old) }
+        ensures refused_on { OnRefused result (λ _. IsTrue D.tells → (D.counts disk.new).failed ≡ (D.counts disk.old).failed) }
         ensures stops { IsTrue D.tells → StopsAtFault (D.counts disk.old) (D.counts disk.new) }
         ensures cause { HasCause (IsErrOf result HandleFault.Disk) (D.faults disk.old) (D.faults disk.new) }
     {
@@ -282,9 +283,11 @@ impl Handles {
         requires slot { slot < SLOTS }
         requires told { IsTrue D.tells → StandsSomehow (D.state disk.old) (kept self.old) }
         ensures carried { IsTrue D.tells → CarriesOut (UnsetElement slot name.now) (done_or_none result) (D.state disk.old) (D.state disk.new) (kept self.old) (kept self.new) }
-        ensures effect { IfOk result (λ some. IfSome some (λ effect. effect ≡ wrote_where (λ x. not (is_draft x.entry)) (object_in (kept self.old) slot))) }
-        ensures went_on { OnOk result (IsTrue D.tells → (D.counts disk.new).failed_change ≡ (D.counts disk.old).failed_change) }
-        ensures refused_on { OnRefused result (λ _. IsTrue D.tells → (D.counts disk.new).failed_change ≡ (D.counts disk.old).failed_change) }
+        ensures effect { IfOk result (λ some. IfSome some (HasEffect (kept self.old) (UnsetElement slot name.now))) }
+        ensures went_on { OnOk result (IsTrue D.tells → (D.counts disk.new).failed ≡ (D.counts disk.old).failed) }
+        ensures unchanged { OnRefused result (λ _. disk.new ≡ disk.old) }
+        ensures none_there { IfOk result (λ effect. IfNone effect (disk.new ≡ disk.old)) }
+        ensures refused_on { OnRefused result (λ _. IsTrue D.tells → (D.counts disk.new).failed ≡ (D.counts disk.old).failed) }
         ensures stops { IsTrue D.tells → StopsAtFault (D.counts disk.old) (D.counts disk.new) }
         ensures cause { HasCause (IsErrOf result HandleFault.Disk) (D.faults disk.old) (D.faults disk.new) }
     {

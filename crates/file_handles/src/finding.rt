@@ -33,7 +33,7 @@ pub(crate) fn look<D: Disk>(
     ensures found { IfOk result (λ meta. IsTrue D.tells → IsMetaFor key.now (standing (D.state disk.old) (EntryAt name.now)) meta) }
     ensures refused { OnRefused result (λ r. (r ≡ refused.Absent) × (IsTrue D.tells → is_entry (read_for key.now (standing (D.state disk.old) (EntryAt name.now))) ≡ false)) }
     ensures state { IsTrue D.tells → D.state disk.new ≡ D.state disk.old }
-    ensures no_change { IsTrue D.tells → (D.counts disk.new).failed_change ≡ (D.counts disk.old).failed_change }
+    ensures no_change { IsTrue D.tells → (D.counts disk.new).failed ≡ (D.counts disk.old).failed }
     ensures cause { HasCause (IsErrOf result HandleFault.Disk) (D.faults disk.old) (D.faults disk.new) }
 {
     match read_meta(alloc, disk, &Place::Entry(*name), name)? {
@@ -53,7 +53,7 @@ pub(crate) fn load<D: Disk>(
     requires { name.now.0 ≡ file_name key.now }
     ensures loads { IsTrue D.tells → LoadsAs (read_for key.now (standing (D.state disk.old) (EntryAt name.now))) result }
     ensures state { IsTrue D.tells → D.state disk.new ≡ D.state disk.old }
-    ensures no_change { IsTrue D.tells → (D.counts disk.new).failed_change ≡ (D.counts disk.old).failed_change }
+    ensures no_change { IsTrue D.tells → (D.counts disk.new).failed ≡ (D.counts disk.old).failed }
     ensures cause { HasCause (IsErrOf result HandleFault.Disk) (D.faults disk.old) (D.faults disk.new) }
 {
     let meta = look(alloc, disk, key, name)?;
@@ -105,7 +105,7 @@ impl Handles {
         ensures finds { IsTrue D.tells → Finds key.now result (D.state disk.old) (kept self.old) }
         ensures kept { kept self.new ≡ kept self.old }
         ensures state { IsTrue D.tells → D.state disk.new ≡ D.state disk.old }
-        ensures no_change { IsTrue D.tells → (D.counts disk.new).failed_change ≡ (D.counts disk.old).failed_change }
+        ensures no_change { IsTrue D.tells → (D.counts disk.new).failed ≡ (D.counts disk.old).failed }
         ensures cause { HasCause (IsErrOf result HandleFault.Disk) (D.faults disk.old) (D.faults disk.new) }
     {
         if !may_write(key) {

@@ -6,7 +6,7 @@ ghost use Rattle.cache_base.specs.declared.limits.TheConstants.{SLOTS};
 ghost use Rattle.cache_theory.specs.Command.Command.{Finish};
 ghost use Rattle.disk_model.specs.Calls.{StopsAtFault};
 ghost use Rattle.file_handles.specs.Answers.{OnRefused, done_or};
-ghost use Rattle.file_handles.specs.Effects.{wrote_effect, wrote_where};
+ghost use Rattle.file_handles.specs.Effects.{HasEffect, wrote_effect, wrote_where};
 ghost use Rattle.file_handles.specs.Held.{is_draft};
 
 use crate::object::{Draft, Entry, Object};
@@ -62,7 +62,7 @@ impl Handles {
         ensures changes { IsTrue D.tells → ChangesThere place completed result (D.state disk.old) (D.state disk.new) (kept self.old) (kept self.new) }
         ensures effect { IfOk result (λ effect. effect ≡ wrote_where (λ x. true) (object_kept_at (kept self.old) place)) }
         ensures refused { OnRefused result (λ _. object_kept_at (kept self.old) place ≡ None) }
-        ensures went_on { OnOk result (IsTrue D.tells → (D.counts disk.new).failed_change ≡ (D.counts disk.old).failed_change) }
+        ensures went_on { OnOk result (IsTrue D.tells → (D.counts disk.new).failed ≡ (D.counts disk.old).failed) }
         ensures stops { IsTrue D.tells → StopsAtFault (D.counts disk.old) (D.counts disk.new) }
         ensures cause { HasCause (IsErrOf result HandleFault.Disk) (D.faults disk.old) (D.faults disk.new) }
     {
@@ -110,9 +110,10 @@ impl Handles {
         requires slot { slot < SLOTS }
         requires told { IsTrue D.tells → StandsSomehow (D.state disk.old) (kept self.old) }
         ensures carried { IsTrue D.tells → CarriesOut (Finish slot) (done_or result) (D.state disk.old) (D.state disk.new) (kept self.old) (kept self.new) }
-        ensures effect { IfOk result (λ effect. effect ≡ wrote_where (λ x. true) (object_in (kept self.old) slot)) }
-        ensures went_on { OnOk result (IsTrue D.tells → (D.counts disk.new).failed_change ≡ (D.counts disk.old).failed_change) }
-        ensures refused_on { OnRefused result (λ _. IsTrue D.tells → (D.counts disk.new).failed_change ≡ (D.counts disk.old).failed_change) }
+        ensures effect { IfOk result (HasEffect (kept self.old) (Finish slot)) }
+        ensures went_on { OnOk result (IsTrue D.tells → (D.counts disk.new).failed ≡ (D.counts disk.old).failed) }
+        ensures unchanged { OnRefused result (λ _. disk.new ≡ disk.old) }
+        ensures refused_on { OnRefused result (λ _. IsTrue D.tells → (D.counts disk.new).failed ≡ (D.counts disk.old).failed) }
         ensures stops { IsTrue D.tells → StopsAtFault (D.counts disk.old) (D.counts disk.new) }
         ensures cause { HasCause (IsErrOf result HandleFault.Disk) (D.faults disk.old) (D.faults disk.new) }
     {

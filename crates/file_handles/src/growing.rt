@@ -1,12 +1,14 @@
 //! Bytes more for a body.
 
-ghost use Rattle.std.specs.Prelude.{ℕ, List, ◌≡◌, ◌<◌, IfErr, IfOk, IfSome, IsErrOf, IsSomeAnd, IsTrue, None, OnOk, length, Ok};
+ghost use Rattle.std.specs.Prelude.{ℕ, List, ◌≡◌, ◌+◌, ◌<◌, IfErr, IfOk, IfSome, IsErrOf, IsSomeAnd, IsTrue, None, OnOk, length, Ok};
 ghost use Rattle.cache_base.specs.Causes.{HasCause};
-ghost use Rattle.cache_base.specs.declared.limits.TheConstants.{SLOTS};
+ghost use Rattle.cache_base.specs.declared.limits.TheConstants.{CHUNK, SLOTS};
 ghost use Rattle.cache_theory.specs.Command.Command.{Append};
+ghost use Rattle.cache_theory.specs.Machine.{Machine};
 ghost use Rattle.disk_model.specs.Calls.{StopsAtFault};
 ghost use Rattle.file_handles.specs.Answers.{OnRefused, done_or};
-ghost use Rattle.file_handles.specs.Growing.{grow_fault};
+ghost use Rattle.file_handles.specs.Growing.{AnswersInChunk, FitsInChunk, grow_fault};
+ghost use Rattle.file_handles.specs.Held.{rest_in};
 
 use crate::object::{Draft, Entry, Object};
 use crate::{HandleFault, Handles};
@@ -33,7 +35,7 @@ impl Handles {
     ghost use Rattle.file_handles.specs.Changes.{ChangesThere, IsFiledAt, appended};
     ghost use Rattle.file_handles.specs.Kept.{kept, object_at as object_kept_at};
     ghost use Rattle.file_handles.specs.Refuses.{HasAt, Passes, Refuses};
-    ghost use Rattle.file_handles.specs.Stands.{StandsSomehow};
+    ghost use Rattle.file_handles.specs.Stands.{HandlesStand, StandsSomehow};
 
     // The place of the draft to which a slot may add so many bytes.
     fn may_append(&self, slot: u8, more: usize) -> Result<usize, Refusal>
@@ -59,8 +61,9 @@ impl Handles {
         requires limit { IfSome (object_kept_at (kept self.old) place) (λ x. grow_fault x.entry (length b.now) ≡ Ok tt) }
         requires told { IsTrue D.tells → IsFiledAt (D.state disk.old) (kept self.old) place }
         ensures changes { IsTrue D.tells → ChangesThere place (appended b.now) result (D.state disk.old) (D.state disk.new) (kept self.old) (kept self.new) }
+        ensures within { IfSome (object_kept_at (kept self.old) place) (λ x. length (rest_in x.entry) + length b.now < CHUNK → (result ≡ Ok tt) × (disk.new ≡ disk.old)) }
         ensures refused { OnRefused result (λ _. object_kept_at (kept self.old) place ≡ None) }
-        ensures went_on { OnOk result (IsTrue D.tells → (D.counts disk.new).failed_change ≡ (D.counts disk.old).failed_change) }
+        ensures went_on { OnOk result (IsTrue D.tells → (D.counts disk.new).failed ≡ (D.counts disk.old).failed) }
         ensures stops { IsTrue D.tells → StopsAtFault (D.counts disk.old) (D.counts disk.new) }
         ensures cause { HasCause (IsErrOf result HandleFault.Disk) (D.faults disk.old) (D.faults disk.new) }
     {
@@ -106,8 +109,11 @@ impl Handles {
         requires slot { slot < SLOTS }
         requires told { IsTrue D.tells → StandsSomehow (D.state disk.old) (kept self.old) }
         ensures carried { IsTrue D.tells → CarriesOut (Append slot b.now) (done_or result) (D.state disk.old) (D.state disk.new) (kept self.old) (kept self.new) }
-        ensures went_on { OnOk result (IsTrue D.tells → (D.counts disk.new).failed_change ≡ (D.counts disk.old).failed_change) }
-        ensures refused_on { OnRefused result (λ _. IsTrue D.tells → (D.counts disk.new).failed_change ≡ (D.counts disk.old).failed_change) }
+        ensures within { (m : Machine) (number : ℕ → ℕ) → HandlesStand (kept self.old) m number → FitsInChunk m slot b.now → disk.new ≡ disk.old }
+        ensures within_reply { AnswersInChunk (kept self.old) slot b.now result }
+        ensures went_on { OnOk result (IsTrue D.tells → (D.counts disk.new).failed ≡ (D.counts disk.old).failed) }
+        ensures unchanged { OnRefused result (λ _. disk.new ≡ disk.old) }
+        ensures refused_on { OnRefused result (λ _. IsTrue D.tells → (D.counts disk.new).failed ≡ (D.counts disk.old).failed) }
         ensures stops { IsTrue D.tells → StopsAtFault (D.counts disk.old) (D.counts disk.new) }
         ensures cause { HasCause (IsErrOf result HandleFault.Disk) (D.faults disk.old) (D.faults disk.new) }
     {

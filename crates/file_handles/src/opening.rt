@@ -1,9 +1,11 @@
 //! An entry that a slot reads.
 
-ghost use Rattle.std.specs.Prelude.{◌≡◌, ◌<◌, IsErrOf, IsTrue, None, Some};
+ghost use Rattle.std.specs.Prelude.{ℕ, ◌≡◌, ◌<◌, IsErrOf, IsSome, IsTrue, None, Some};
 ghost use Rattle.cache_base.specs.Causes.{HasCause};
 ghost use Rattle.cache_base.specs.declared.limits.TheConstants.{SLOTS};
 ghost use Rattle.cache_theory.specs.Command.Command.{OpenKey};
+ghost use Rattle.cache_theory.specs.Machine.{Machine, used_by};
+ghost use Rattle.cache_theory.specs.Proper.{IsProper};
 ghost use Rattle.file_handles.specs.Answers.{done_or};
 
 use crate::finding::load;
@@ -19,7 +21,7 @@ impl Handles {
     ghost use Rattle.file_handles.specs.Carries.{CarriesOut};
     ghost use Rattle.file_handles.specs.Joining.{AddsTo, JoinsAt};
     ghost use Rattle.file_handles.specs.Kept.{kept};
-    ghost use Rattle.file_handles.specs.Stands.{StandsSomehow};
+    ghost use Rattle.file_handles.specs.Stands.{HandlesStand, StandsSomehow};
 
     /// Makes a slot a user of the object at a place.
     pub(crate) fn join(&mut self, slot: u8, place: usize, writes: bool)
@@ -55,8 +57,9 @@ impl Handles {
         requires slot { slot < SLOTS }
         requires told { IsTrue D.tells → StandsSomehow (D.state disk.old) (kept self.old) }
         ensures carried { IsTrue D.tells → CarriesOut (OpenKey slot key.now) (done_or result) (D.state disk.old) (D.state disk.new) (kept self.old) (kept self.new) }
+        ensures in_use { (m : Machine) (number : ℕ → ℕ) → IsProper m → HandlesStand (kept self.old) m number → IsSome (used_by m key.now) → disk.new ≡ disk.old }
         ensures state { IsTrue D.tells → D.state disk.new ≡ D.state disk.old }
-        ensures no_change { IsTrue D.tells → (D.counts disk.new).failed_change ≡ (D.counts disk.old).failed_change }
+        ensures no_change { IsTrue D.tells → (D.counts disk.new).failed ≡ (D.counts disk.old).failed }
         ensures cause { HasCause (IsErrOf result HandleFault.Disk) (D.faults disk.old) (D.faults disk.new) }
     {
         if self.use_of(slot).is_ok() {

@@ -68,7 +68,7 @@ fn fetch<D: Disk>(
     ensures chunk { OnOk result (IsTrue D.tells → 0 < len → from < stored → IfSome (standing (D.state disk.old) place.now) (λ file. stored ≤ length file → chunk.new ≡ chunk_of (take stored file) (from / chunk_size))) }
     ensures refused { OnRefused result (λ _. ⊥) }
     ensures state { IsTrue D.tells → D.state disk.new ≡ D.state disk.old }
-    ensures no_change { IsTrue D.tells → (D.counts disk.new).failed_change ≡ (D.counts disk.old).failed_change }
+    ensures no_change { IsTrue D.tells → (D.counts disk.new).failed ≡ (D.counts disk.old).failed }
     ensures cause { HasCause (IsErrOf result HandleFault.Disk) (D.faults disk.old) (D.faults disk.new) }
 {
     if len > 0 && from < u64::from(stored) {
@@ -109,8 +109,8 @@ impl Handles {
         ensures refused { IfErr result (λ r. (from len : ℕ) → Refuses (kept self.now) (ReadPart slot from len) r) }
         ensures passes { OnOk result ((from len : ℕ) → Passes (kept self.now) (ReadPart slot from len)) }
     {
-        let used = self.use_of(slot)?;
-        Ok(self.object_at(used.place)?.body_len())
+        let user = self.use_of(slot)?;
+        Ok(self.object_at(user.place)?.body_len())
     }
 
     /// The bytes of the body of a slot's entry from a place on, at most `len`, and no more than to the end of their chunk
@@ -127,9 +127,10 @@ impl Handles {
         ensures part { IfOk result (λ part. IsTrue D.tells → (m : Machine) (number : ℕ → ℕ) → Stands (standing (D.state disk.old)) (kept self.old) m number
             → part.now ≡ part_of_body (object_of m slot).version.body from len) }
         ensures refused { OnRefused result (λ r. Refuses (kept self.old) (ReadPart slot from len) r) }
+        ensures passes { OnOk result (Passes (kept self.old) (ReadPart slot from len)) }
         ensures* kept { sem 𝓛 (RestsAsKept self.entry) }
         ensures state { IsTrue D.tells → D.state disk.new ≡ D.state disk.old }
-        ensures no_change { IsTrue D.tells → (D.counts disk.new).failed_change ≡ (D.counts disk.old).failed_change }
+        ensures no_change { IsTrue D.tells → (D.counts disk.new).failed ≡ (D.counts disk.old).failed }
         ensures cause { HasCause (IsErrOf result HandleFault.Disk) (D.faults disk.old) (D.faults disk.new) }
     {
         let used = self.use_of(slot)?;
@@ -151,7 +152,7 @@ impl Handles {
         ensures refused { OnRefused result (λ _. object_kept_at (kept self.old) place ≡ None) }
         ensures kept { kept self.new ≡ kept self.old }
         ensures state { IsTrue D.tells → D.state disk.new ≡ D.state disk.old }
-        ensures no_change { IsTrue D.tells → (D.counts disk.new).failed_change ≡ (D.counts disk.old).failed_change }
+        ensures no_change { IsTrue D.tells → (D.counts disk.new).failed ≡ (D.counts disk.old).failed }
         ensures cause { HasCause (IsErrOf result HandleFault.Disk) (D.faults disk.old) (D.faults disk.new) }
     {
         let object = self.object_at(place)?;

@@ -1,16 +1,12 @@
--- What a disk that tells nothing has in place of a state and of counts.
+-- What a disk that tells nothing has in place of a state.
 use Rattle.std.specs.Prelude.{false, [], None, IsTrue}
 use Rattle.std.proofs.lemmas.Bool.{false≢true}
 use Rattle.disk_model.specs.State.{State, empty_file}
-use Rattle.disk_model.specs.Calls.{Counts}
 use Rattle.disk_model.specs.Sound.{IsSound}
 use Rattle.disk_model.specs.Listing.{IsFinite}
 
 abbrev pub nothing : State
 nothing = record { names = λ _. None; steps = []; files = λ _. empty_file; made = 0 }
-
-abbrev pub no_counts : Counts
-no_counts = record { calls = 0; failed_change = 0; entry_reads = 0 }
 
 pub never : IsTrue false → IsSound nothing
 never told = absurd (false≢true told)

@@ -4,7 +4,7 @@ ghost use Rattle.std.specs.Prelude.{◌≡◌, ◌≢◌, ◌≤◌, ◌^◌, �
 ghost use Rattle.std.specs.Option.{option_map};
 ghost use Rattle.cache_base.specs.Causes.{HasCause};
 ghost use Rattle.cache_base.specs.Names.{AreRising};
-ghost use Rattle.disk_model.specs.Calls.{counted, counted_change, counted_read, if_ok, if_done, MayWriteAt, Holds};
+ghost use Rattle.disk_model.specs.Calls.{counted, counted_change, counted_read, counted_sync, if_ok, if_done, MayWriteAt, Holds};
 
 use super::MemDisk;
 use crate::{Disk, DiskFault, Place};
@@ -31,13 +31,14 @@ impl Disk for MemDisk {
 
     fn sync(&mut self) -> Result<(), DiskFault>
         ensures state { state_in self.new ≡ if_ok result (settled (state_in self.old)) (state_in self.old) }
-        ensures counts { counts_in self.new ≡ counted_change result (counts_in self.old) }
+        ensures counts { counts_in self.new ≡ counted_sync result (counts_in self.old) }
         ensures cause { HasCause (IsErrOf result DiskFault.Failed) (faults_in self.old) (faults_in self.new) }
         ensures fails { IsErrOf result DiskFault.Failed → FailsNext self.old }
         ensures done { OnOk result (¬ (FailsNext self.old)) }
     {
         if self.begin() {
-            return self.end_change(true);
+            self.fail_sync();
+            return Err(DiskFault::Failed);
         }
         self.table.sync();
         Ok(())

@@ -11,6 +11,6 @@ invariant-loop-index g l =
     (IsTrue g.D.Disk.tells → (content : List ℕ) → standing (g.D.Disk.state l.fn.disk) l.place ≡ Some content → l.len ≤ length content
     → SaysMore (g.K.Sink.taken l.fn.sink) (g.K.Sink.taken l.sink) l.fn.reply.held l.reply.held (take (l.index * chunk_size) (take l.len content)))
     × (IsTrue g.D.Disk.tells → g.D.Disk.state l.disk ≡ g.D.Disk.state l.fn.disk)
-    × (IsTrue g.D.Disk.tells → (g.D.Disk.counts l.disk).failed_change ≡ (g.D.Disk.counts l.fn.disk).failed_change)
+    × (IsTrue g.D.Disk.tells → (g.D.Disk.counts l.disk).failed ≡ (g.D.Disk.counts l.fn.disk).failed)
     × (g.K.Sink.faults l.sink ≡ g.K.Sink.faults l.fn.sink)
     × (g.D.Disk.faults l.disk ≡ g.D.Disk.faults l.fn.disk)

@@ -14,7 +14,7 @@ invariant-loop-done g l = record {
       → SaysMore (g.K.Sink.taken l.fn.sink) (g.K.Sink.taken l.sink) l.fn.reply.held l.reply.held (take l.done (drop l.from (object_of m l.slot).version.body));
   same : kept l.handles ≡ kept l.fn.handles;
   state : IsTrue g.D.Disk.tells → g.D.Disk.state l.disk ≡ g.D.Disk.state l.fn.disk;
-  fault : IsTrue g.D.Disk.tells → (g.D.Disk.counts l.disk).failed_change ≡ (g.D.Disk.counts l.fn.disk).failed_change;
+  fault : IsTrue g.D.Disk.tells → (g.D.Disk.counts l.disk).failed ≡ (g.D.Disk.counts l.fn.disk).failed;
   faults : g.D.Disk.faults l.disk ≡ g.D.Disk.faults l.fn.disk;
   sink : g.K.Sink.faults l.sink ≡ g.K.Sink.faults l.fn.sink;
 }

@@ -13,7 +13,7 @@ invariant-pieces g l = record {
   long : length l.piece ≡ PIECE_MAX;
   calm : g.S.Source.faults l.source ≡ g.S.Source.faults l.fn.source;
   sound : g.D.Disk.faults l.disk ≡ g.D.Disk.faults l.fn.disk;
-  went_on : IsTrue g.D.Disk.tells → (g.D.Disk.counts l.disk).failed_change ≡ (g.D.Disk.counts l.fn.disk).failed_change;
+  went_on : IsTrue g.D.Disk.tells → (g.D.Disk.counts l.disk).failed ≡ (g.D.Disk.counts l.fn.disk).failed;
 }
 
 abbrev pub decreases-pieces : goal.decreases-pieces

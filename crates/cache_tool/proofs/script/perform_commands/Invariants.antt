@@ -11,7 +11,7 @@ invariant-turns g l = record {
   goes : GoesOn g.D.Disk.tells l.reader (g.S.Source.left l.fn.source) (g.S.Source.left l.source) (g.D.Disk.state l.fn.disk) (g.D.Disk.state l.disk) (open_of l.fn.store) (open_of l.store)
       (g.K.Sink.taken l.fn.sink) (g.K.Sink.taken l.sink);
   open_still : IsTrue g.D.Disk.tells → IsOpen (g.D.Disk.state l.disk) (open_of l.store);
-  went_on : IsTrue g.D.Disk.tells → (g.D.Disk.counts l.disk).failed_change ≡ (g.D.Disk.counts l.fn.disk).failed_change;
+  went_on : IsTrue g.D.Disk.tells → (g.D.Disk.counts l.disk).failed ≡ (g.D.Disk.counts l.fn.disk).failed;
   source : g.S.Source.faults l.source ≡ g.S.Source.faults l.fn.source;
   sink : g.K.Sink.faults l.sink ≡ g.K.Sink.faults l.fn.sink;
   disk : g.D.Disk.faults l.disk ≡ g.D.Disk.faults l.fn.disk;

@@ -16,5 +16,5 @@ invariant-loop-index g l =
     first_damage (meta_of l.meta) content ≡ first_from (damage_at l.meta.hashes (take l.meta.offset content)) l.index (chunks l.meta.offset)))
     × (IsTrue g.D.Disk.tells → g.D.Disk.state l.disk ≡ g.D.Disk.state l.fn.disk)
     × (IsTrue g.D.Disk.tells → (g.D.Disk.counts l.disk).calls ≤ (g.D.Disk.counts l.fn.disk).calls + l.index)
-    × (IsTrue g.D.Disk.tells → (g.D.Disk.counts l.disk).failed_change ≡ (g.D.Disk.counts l.fn.disk).failed_change)
+    × (IsTrue g.D.Disk.tells → (g.D.Disk.counts l.disk).failed ≡ (g.D.Disk.counts l.fn.disk).failed)
     × (g.D.Disk.faults l.disk ≡ g.D.Disk.faults l.fn.disk)

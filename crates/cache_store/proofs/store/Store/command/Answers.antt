@@ -1,6 +1,8 @@
+use Rattle.std.proofs.Common.{ap}
 use Rattle.cache_script.specs.Command.{command_of}
 use Rattle.cache_store.proofs.PerformSafe.{performs_open, performs_safely, performs_sink_open}
 use Rattle.cache_store.proofs.PerformWhole.{does_performs, fails_performs}
+use Rattle.cache_store.proofs.PrintedLaws.{prints_outcome}
 use Rattle.cache_store.proofs.store.Store.command.Goals as goal
 
 pub returns-in_err-answered-clause-performs : goal.returns-in_err-answered-clause-performs
@@ -26,3 +28,8 @@ returns-in_err-answered-clause-sink_open g c = λ same told. performs_sink_open 
 
 pub returns-clause-sink_open : goal.returns-clause-sink_open
 returns-clause-sink_open g c = λ same told. performs_sink_open (command_of c.args.c.now) _ _ _ _ _ _ c.finish_reply.result (c.requires.told told) (returns-clause-performs g c told) same
+
+pub returns-clause-prints : goal.returns-clause-prints
+returns-clause-prints g c =
+    prints_outcome (command_of c.args.c.now) c.in_ok-answered.answered c.finish_reply.result _ _ _ _ (λ n. ap g.K.Sink.taken (c.in_ok-answered.ensures.unsaid n)) c.in_ok-answered.ensures.still_empty
+    c.in_ok-answered.ensures.plain c.finish_reply.ensures.printed c.finish_reply.ensures.outcome

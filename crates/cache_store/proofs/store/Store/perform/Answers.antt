@@ -49,19 +49,19 @@ pub returns-in-Element-clause-does : goal.returns-in-Element-clause-does
 returns-in-Element-clause-does g c = λ told.
     let s = g.D.Disk.state c.args.disk.now in
     as_command _ (ElementOf c.in-Element.slot c.in-Element.name.now) _ _ _ _ _ _ _ _ (ap command_of c.in-Element.is)
-    (reading_does (ElementOf c.in-Element.slot c.in-Element.name.now) c.say_element.result s s _ _ _ _ _ tt refl c.say_element.ensures.open (λ m w is. c.say_element.ensures.answers s m w is.stands))
+    (reading_does (ElementOf c.in-Element.slot c.in-Element.name.now) c.say_element.result s s _ _ _ _ _ tt refl c.say_element.ensures.open (λ m is. c.say_element.ensures.answers s m is.stands))
 
 pub returns-in-ReadPart-clause-does : goal.returns-in-ReadPart-clause-does
 returns-in-ReadPart-clause-does g c = λ told.
     as_command _ (ReadPart c.in-ReadPart.slot c.in-ReadPart.from c.in-ReadPart.len) _ _ _ _ _ _ _ _ (ap command_of c.in-ReadPart.is)
     (reading_does (ReadPart c.in-ReadPart.slot c.in-ReadPart.from c.in-ReadPart.len) c.say_read.result _ _ _ _ _ _ _ tt (c.say_read.ensures.state told) c.say_read.ensures.open
-    (λ m w is. c.say_read.ensures.answers told m is.stands.number is.stands.stands))
+    (λ m is. c.say_read.ensures.answers told m is.stands.0 is.stands.1))
 
 pub returns-in-Get-clause-does : goal.returns-in-Get-clause-does
 returns-in-Get-clause-does g c = λ told.
     as_command _ (Get c.in-Get.key.now) _ _ _ _ _ _ _ _ (ap command_of c.in-Get.is)
     (reading_does (Get c.in-Get.key.now) c.say_get.result _ _ _ _ _ _ _ tt (c.say_get.ensures.state told) c.say_get.ensures.open
-    (λ m w is. c.say_get.ensures.answers told m is.stands.number is.stands.stands))
+    (λ m is. c.say_get.ensures.answers told m is.stands.0 is.stands.1))
 
 pub returns-in_err-sync-in-Flush-clause-does : goal.returns-in_err-sync-in-Flush-clause-does
 returns-in_err-sync-in-Flush-clause-does g c = λ told.

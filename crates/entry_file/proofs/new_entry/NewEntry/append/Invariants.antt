@@ -19,7 +19,7 @@ invariant-loop-left g l = record {
       → IsMidway (held l.self) l.left (body ++ l.b) (IsTrue g.D.Disk.tells × (standing (g.D.Disk.state l.fn.disk) l.place ≡ Some (unfinished_file body))) (standing (g.D.Disk.state l.disk) l.place);
   writes : IsTrue g.D.Disk.tells → WritesAt l.place IsUnfinished (g.D.Disk.state l.fn.disk) (g.D.Disk.state l.disk);
   calls : IsTrue g.D.Disk.tells → (g.D.Disk.counts l.disk).calls + (length (held l.self).rest + length l.left) / chunk_size ≤ (g.D.Disk.counts l.fn.disk).calls + (length (held l.fn.self).rest + length l.b) / chunk_size;
-  went_on : IsTrue g.D.Disk.tells → (g.D.Disk.counts l.disk).failed_change ≡ (g.D.Disk.counts l.fn.disk).failed_change;
+  went_on : IsTrue g.D.Disk.tells → (g.D.Disk.counts l.disk).failed ≡ (g.D.Disk.counts l.fn.disk).failed;
   faults : g.D.Disk.faults l.disk ≡ g.D.Disk.faults l.fn.disk;
 }
 

@@ -7,6 +7,6 @@ abbrev pub invariant-loop-object : goal.invariant-loop-object
 invariant-loop-object g l = record {
   long : length (kept l.fn.self).objects ≡ 64;
   to : IsTrue g.D.Disk.tells → IsDroppedTo (kept l.fn.self) l.object-index (g.D.Disk.state l.fn.disk) (g.D.Disk.state l.disk);
-  fault : IsTrue g.D.Disk.tells → (g.D.Disk.counts l.disk).failed_change ≡ (g.D.Disk.counts l.fn.disk).failed_change;
+  fault : IsTrue g.D.Disk.tells → (g.D.Disk.counts l.disk).failed ≡ (g.D.Disk.counts l.fn.disk).failed;
   faults : g.D.Disk.faults l.disk ≡ g.D.Disk.faults l.fn.disk;
 }

@@ -7,6 +7,7 @@ use Rattle.file_handles.specs.Kept.{kept, use_at}
 use Rattle.file_handles.proofs.CreatedCommand.{added_leaves, bad_key_leaves, doom_done, doom_fails, draft_safe, may_create_by, taken_leaves}
 use Rattle.file_handles.proofs.DoomedCommand.{failed_on_leaves}
 use Rattle.file_handles.proofs.JoinedOpen.{used_none}
+use Rattle.file_handles.proofs.Where.{carries_out_at}
 use Rattle.file_handles.proofs.handles.Handles.create.Goals as goal
 
 pub returns-then-is_ok-clause-carried : goal.returns-then-is_ok-clause-carried
@@ -20,7 +21,7 @@ returns-then-not-may_write-clause-carried g c = λ tells.
     (sym c.may_write.ensures ∙ c.if-not-may_write.true) c.args.now
 
 pub returns-in_err-doom_user-clause-carried : goal.returns-in_err-doom_user-clause-carried
-returns-in_err-doom_user-clause-carried g c = λ tells m w moment stand.
+returns-in_err-doom_user-clause-carried g c = λ tells. carries_out_at (λ b m w moment stand.
     let k = kept c.args.self.now in
     let s = g.D.Disk.state c.args.disk.now in
     let may =
@@ -32,10 +33,10 @@ returns-in_err-doom_user-clause-carried g c = λ tells m w moment stand.
     (c.in_err-doom_user.ensures.dooms tells) (λ bare. let never = (c.in_err-doom_user.ensures.none bare).0 in cc)
     in
     failed_on_leaves c.from_residual.result c.in_err-doom_user.field-0.0 (g.D.Disk.state c.doom_user.new.disk) (kept c.doom_user.new.self) (Create c.args.slot c.args.key.now)
-    c.from_residual.ensures.1 (λ refusal same. c.in_err-doom_user.ensures.refused refusal same) m w safe
+    c.from_residual.ensures.1 (λ refusal same. c.in_err-doom_user.ensures.refused refusal same) m w safe)
 
 pub returns-in_err-object-clause-carried : goal.returns-in_err-object-clause-carried
-returns-in_err-object-clause-carried g c = λ tells m w moment stand.
+returns-in_err-object-clause-carried g c = λ tells. carries_out_at (λ b m w moment stand.
     let k = kept c.args.self.now in
     let s = g.D.Disk.state c.args.disk.now in
     let may =
@@ -51,10 +52,10 @@ returns-in_err-object-clause-carried g c = λ tells m w moment stand.
     (g.met.D.Disk.sound c.doom_user.new.disk tells) but (c.in_err-object.ensures.state tells).either
     in
     failed_on_leaves c.from_residual-in_err-object.result c.in_err-object.field-0.0 (g.D.Disk.state c.drafted.new.disk) (kept c.doom_user.new.self) (Create c.args.slot c.args.key.now)
-    c.from_residual-in_err-object.ensures.1 (λ refusal same. c.in_err-object.ensures.refused refusal same) m w safe
+    c.from_residual-in_err-object.ensures.1 (λ refusal same. c.in_err-object.ensures.refused refusal same) m w safe)
 
 pub returns-in_err-add-clause-carried : goal.returns-in_err-add-clause-carried
-returns-in_err-add-clause-carried g c = λ tells m w moment stand.
+returns-in_err-add-clause-carried g c = λ tells. carries_out_at (λ b m w moment stand.
     let k = kept c.args.self.now in
     let s = g.D.Disk.state c.args.disk.now in
     let may =
@@ -70,10 +71,10 @@ returns-in_err-add-clause-carried g c = λ tells m w moment stand.
     (g.met.D.Disk.sound c.doom_user.new.disk tells) but (inl (c.in_ok-object.ensures.state tells).made)
     in
     failed_on_leaves c.from_residual-in_err-add.result c.in_err-add.field-0.0 (g.D.Disk.state c.drafted.new.disk) (kept c.add.new.self) (Create c.args.slot c.args.key.now)
-    c.from_residual-in_err-add.ensures.1 (λ refusal same. c.in_err-add.ensures.refused refusal same) m w safe
+    c.from_residual-in_err-add.ensures.1 (λ refusal same. c.in_err-add.ensures.refused refusal same) m w safe)
 
 pub returns-clause-carried : goal.returns-clause-carried
-returns-clause-carried g c = λ tells m w moment stand.
+returns-clause-carried g c = λ tells. carries_out_at (λ b m w moment stand.
     let k = kept c.args.self.now in
     let s = g.D.Disk.state c.args.disk.now in
     let may =
@@ -86,4 +87,4 @@ returns-clause-carried g c = λ tells m w moment stand.
     in
     added_leaves s k c.args.slot c.args.key.now c.name_of-name.result may m w stand (g.D.Disk.state c.doom_user.new.disk) (g.D.Disk.state c.drafted.new.disk) (kept c.doom_user.new.self)
     (g.met.D.Disk.sound c.doom_user.new.disk tells) but (kept c.add.new.self) c.in_ok-object.object (all_below 256 c.args.key.now (λ i. omega (arith, c.type_inv.key i))) (c.in_ok-object.ensures.state tells).made
-    (subst (λ n. IsHeldAs c.in_ok-object.object (fresh n c.args.key.now)) (sym moment) c.in_ok-object.ensures.draft.1) c.in_ok-add.ensures.added (omega arith) (λ p lt. omega arith)
+    (subst (λ n. IsHeldAs c.in_ok-object.object (fresh n c.args.key.now)) (sym moment) c.in_ok-object.ensures.draft.1) c.in_ok-add.ensures.added (omega arith) (λ p lt. omega arith))

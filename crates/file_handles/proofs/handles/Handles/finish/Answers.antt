@@ -1,11 +1,14 @@
-use Rattle.std.proofs.Common.{inl}
+use Rattle.std.proofs.Common.{inl, refl, true, ap, ◌∙◌}
 use Rattle.cache_theory.specs.Command.Command.{Finish}
 use Rattle.file_handles.specs.Changes.{completed}
 use Rattle.file_handles.specs.Kept.{kept}
 use Rattle.file_handles.proofs.Carried.{change_carried}
+use Rattle.file_handles.specs.Effects.{wrote_where}
+use Rattle.file_handles.proofs.EffectLaws.{by_value, effect_is}
 use Rattle.file_handles.proofs.ElementChecks.{the_object}
 use Rattle.file_handles.proofs.Places.{filed_somehow}
 use Rattle.file_handles.proofs.WriterCommands.{finish_makes}
+use Rattle.file_handles.proofs.Refused.{refused_answer}
 use Rattle.file_handles.proofs.handles.Handles.finish.Goals as goal
 
 pub finish_at-requires-clause-told : goal.finish_at-requires-clause-told
@@ -20,3 +23,14 @@ returns-clause-carried g c told =
     change_carried s t (g.met.D.Disk.sound c.args.disk.now told) k (kept c.finish_at.new.self) (Finish c.args.slot) c.args.slot c.requires.slot c.in_ok-place.place there.0 there.1.1.0 completed (λ o. Unit {0})
     (finish_makes k c.args.slot c.in_ok-place.ensures.passes)
     c.finish_at.result (c.finish_at.ensures.changes told there.0 there.1.0) (λ o held. inl tt) c.finish_at.ensures.refused
+
+pub returns-clause-effect : goal.returns-clause-effect
+returns-clause-effect g c =
+    by_value c.finish_at.result c.finish_at.ensures.effect (λ e same m number stand.
+    let there = the_object _ _ c.in_ok-place.ensures.object in
+    effect_is (kept c.args.self.now) m number stand c.args.slot c.requires.slot c.in_ok-place.place there.0 there.1.1.0 (Finish c.args.slot) (λ x. true) e refl refl
+    (same ∙ ap (wrote_where (λ x. true)) there.1.0))
+
+pub returns-in_err-place-clause-carried : goal.returns-in_err-place-clause-carried
+returns-in_err-place-clause-carried g c = λ told.
+    refused_answer c.from_residual.result (g.D.Disk.state c.args.disk.now) (kept c.args.self.now) (Finish c.args.slot) c.in_err-place.field-0.0 c.from_residual.ensures.1 c.in_err-place.ensures.refused

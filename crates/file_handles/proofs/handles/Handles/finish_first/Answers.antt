@@ -10,7 +10,7 @@ pub finish_at-requires-clause-told : goal.finish_at-requires-clause-told
 finish_at-requires-clause-told g c told = filed_somehow _ _ _ (c.requires.told told)
 
 pub returns-then-is_finished_by-clause-finishes : goal.returns-then-is_finished_by-clause-finishes
-returns-then-is_finished_by-clause-finishes g c told m w is =
+returns-then-is_finished_by-clause-finishes g c told b m w is =
     let s = g.D.Disk.state c.args.disk.now in
     let t = g.D.Disk.state c.finish_at.new.disk in
     let k = kept c.args.self.now in
@@ -28,10 +28,10 @@ returns-then-is_finished_by-clause-there g c =
     (g.D.Disk.state c.finish_at.new.disk) (kept c.finish_at.new.self) (c.finish_at.ensures.changes told) (c.requires.told told))
 
 pub returns-else-is_finished_by-clause-finishes : goal.returns-else-is_finished_by-clause-finishes
-returns-else-is_finished_by-clause-finishes g c told m w is =
+returns-else-is_finished_by-clause-finishes g c told b m w is =
     let s = g.D.Disk.state c.args.disk.now in
     let k = kept c.args.self.now in (
-      (begun_in s k m (Close c.args.slot) w is).crash_kept.safe,
+      λ on. ((begun_in s k m (Close c.args.slot) w is).crash_kept on).safe,
       unchanged_in s k c.args.slot c.requires.slot c.args.used c.requires.used (sym c.is_finished_by.ensures ∙ c.if-is_finished_by.false) m w is,
     )
 

@@ -9,6 +9,7 @@ use Rattle.file_handles.specs.Carries.{CarriesOut}
 use Rattle.file_handles.specs.Kept.{kept, use_at}
 use Rattle.file_handles.specs.Loading.{LoadsAs}
 use Rattle.file_handles.specs.declared.fault.HandleFault.{HandleFault}
+use Rattle.file_handles.proofs.FoundUser.{unused_same}
 use Rattle.file_handles.proofs.JoinedOpen.{added_leaves, bad_key_leaves, joins_leaves, taken_leaves, unread_answer, used_none}
 use Rattle.file_handles.proofs.handles.Handles.open.Goals as goal
 
@@ -48,3 +49,11 @@ returns-clause-carried g c = λ told.
     (sym c.may_write.ensures ∙ c.if-not-may_write.false) c.name_of-name.result c.name_of-name.ensures (omega arith) (sym c.used_by.ensures ∙ c.in_default.is)
     c.in_ok-meta.meta _ refl (subst P c.in_ok-meta.was (c.load.ensures.loads told))
     c.add.result (kept c.add.new.self) c.add.ensures (λ p lt. omega arith))
+
+pub returns-in_err-meta-clause-in_use : goal.returns-in_err-meta-clause-in_use
+returns-in_err-meta-clause-in_use g c = λ m number proper stand some.
+    absurd (unused_same (kept c.args.self.now) c.name_of-name.result c.args.key.now m number proper stand c.name_of-name.ensures (sym c.used_by.ensures ∙ c.in_default.is) some)
+
+pub returns-clause-in_use : goal.returns-clause-in_use
+returns-clause-in_use g c = λ m number proper stand some.
+    absurd (unused_same (kept c.args.self.now) c.name_of-name.result c.args.key.now m number proper stand c.name_of-name.ensures (sym c.used_by.ensures ∙ c.in_default.is) some)

@@ -5,12 +5,13 @@ use Rattle.cache_theory.specs.Command.Command.{ReadPart}
 use Rattle.cache_theory.specs.Machine.{Machine, object_of}
 use Rattle.cache_theory.specs.declared.refusal.Refusal.{Refusal}
 use Rattle.disk_model.specs.State.{standing}
-use Rattle.file_handles.specs.Kept.{Kept, kept, object_at}
+use Rattle.file_handles.specs.Kept.{Kept, kept, object_at, use_at}
 use Rattle.file_handles.specs.Reading.{part_in, part_of_body}
 use Rattle.file_handles.specs.Refuses.{Refuses}
 use Rattle.file_handles.specs.Stands.{Stands}
 use Rattle.file_handles.specs.declared.fault.HandleFault.TheVariants as fault
-use Rattle.file_handles.proofs.PartsSlots.{cause_ok, cause_on, err_is, error_says, no_cause, part_no_object, part_no_slot, part_read}
+use Rattle.file_handles.proofs.PartsSlots.{cause_ok, cause_on, err_is, error_says, no_cause, on_err, part_no_object, part_no_slot, part_passes, part_read}
+use Rattle.file_handles.proofs.ElementSlots.{use_found}
 use Rattle.file_handles.proofs.handles.Handles.read_part.Goals as goal
 
 pub returns-in_err-used : goal.returns-in_err-used
@@ -26,7 +27,15 @@ returns-in_err-used g c =
     let one : f ≡ r = cc in
     subst (λ (q : Refusal). Refuses k (ReadPart c.args.slot c.args.from c.args.len) q) one (part_no_slot k c.args.slot c.requires.slot f (sym c.use_of.ensures ∙ c.in_err-used.was) c.args.from c.args.len)) in (
       (refl, λ _. tt, refl),
-      record { part = says.0; refused = says.1; kept = tt; state = λ told. refl; no_change = λ told. refl; cause = no_cause c.from_residual.result f _ is },
+      record {
+        part = says.0;
+        refused = says.1;
+        passes = on_err _ c.from_residual.result (fault.Refused f) is;
+        kept = tt;
+        state = λ told. refl;
+        no_change = λ told. refl;
+        cause = no_cause c.from_residual.result f _ is;
+      },
     )
 
 pub returns-in_err-fetch_part : goal.returns-in_err-fetch_part
@@ -43,6 +52,7 @@ returns-in_err-fetch_part g c =
       record {
         part = says.0;
         refused = says.1;
+        passes = on_err _ c.from_residual-in_err-fetch_part.result e is;
         kept = tt;
         state = c.fetch_part.ensures.state;
         no_change = c.fetch_part.ensures.no_change;
@@ -63,6 +73,7 @@ returns g c =
             part_read s k c.args.slot c.requires.slot u (sym c.use_of.ensures ∙ c.in_ok-used.was) c.lend_part.result.now c.fetch_part.new.self.chunk c.args.from c.args.len
             (c.in_ok-fetch_part.ensures.part told) lent;
         refused = tt;
+        passes = part_passes k c.args.slot c.requires.slot u (use_found (use_at k c.args.slot) u (sym c.use_of.ensures ∙ c.in_ok-used.was)) c.args.from c.args.len;
         kept = tt;
         state = c.fetch_part.ensures.state;
         no_change = c.fetch_part.ensures.no_change;

@@ -1,14 +1,19 @@
-use Rattle.std.proofs.Common.{arith}
+use Rattle.std.proofs.Common.{arith, not, refl, ap, ◌∙◌}
+use Rattle.cache_theory.specs.Command.Command.{SetElement}
 use Rattle.cache_base.specs.Bytes.{AreBytes}
 use Rattle.cache_base.proofs.ByteLaws.{all_below}
+use Rattle.cache_theory.specs.Command.Command.{SetElement}
 use Rattle.file_handles.specs.Kept.{kept, object_at}
 use Rattle.entry_parts.specs.Setting.{with_element}
-use Rattle.file_handles.specs.Held.{elements_in}
+use Rattle.file_handles.specs.Effects.{wrote_where}
+use Rattle.file_handles.specs.Held.{elements_in, is_draft}
 use Rattle.file_handles.specs.Refuses.{HasAt}
 use Rattle.file_handles.specs.Setting.{HasRoom}
+use Rattle.file_handles.proofs.EffectLaws.{by_value, effect_is, sets_rewrite}
 use Rattle.file_handles.proofs.ElementChecks.{the_object}
 use Rattle.file_handles.proofs.ElementCommands.{set_leaves}
 use Rattle.file_handles.proofs.Places.{filed_somehow}
+use Rattle.file_handles.proofs.Refused.{refused_answer}
 use Rattle.file_handles.proofs.handles.Handles.set_element.Goals as goal
 
 pub change_at-requires-clause-told : goal.change_at-requires-clause-told
@@ -27,3 +32,18 @@ returns-clause-carried g c told =
     set_leaves s t (g.met.D.Disk.sound c.args.disk.now told) k (kept c.change_at.new.self) c.args.slot c.requires.slot c.in_ok-place.place there.0 there.1.1.0 name c.change_at.result
     (c.change_at.ensures.quiet told) c.change_at.ensures.refused
     value name_bytes value_bytes c.in_ok-place.ensures.passes (c.change_at.ensures.changes told)
+
+pub returns-clause-effect : goal.returns-clause-effect
+returns-clause-effect g c =
+    let k = kept c.args.self.now in
+    let name = c.args.name.now in
+    let value = c.args.value.now in
+    let there = the_object (object_at k c.in_ok-place.place) (λ x. HasAt k c.args.slot c.in_ok-place.place x × HasRoom x.entry (with_element name value (elements_in x.entry))) c.in_ok-place.ensures.object in
+    by_value c.change_at.result c.change_at.ensures.effect (λ e same m number stand.
+    effect_is k m number stand c.args.slot c.requires.slot c.in_ok-place.place there.0 there.1.1.0 (SetElement c.args.slot name value) (λ x. not (is_draft x.entry)) e refl
+    (sets_rewrite k m number stand c.args.slot c.requires.slot c.in_ok-place.place there.0 there.1.1.0)
+    (same ∙ ap (wrote_where (λ x. not (is_draft x.entry))) there.1.0))
+
+pub returns-in_err-place-clause-carried : goal.returns-in_err-place-clause-carried
+returns-in_err-place-clause-carried g c = λ told.
+    refused_answer c.from_residual.result (g.D.Disk.state c.args.disk.now) (kept c.args.self.now) (SetElement c.args.slot c.args.name.now c.args.value.now) c.in_err-place.field-0.0 c.from_residual.ensures.1 c.in_err-place.ensures.refused

@@ -1,15 +1,19 @@
-use Rattle.std.proofs.Common.{Ok, sym, ap, subst, ◌∙◌}
+use Rattle.std.proofs.Common.{Ok, not, refl, sym, ap, subst, ◌∙◌}
 use Rattle.cache_theory.specs.Command.Command.{UnsetElement}
 use Rattle.entry_parts.specs.Elements.{element}
 use Rattle.file_handles.specs.Answers.{done_or}
 use Rattle.file_handles.specs.Carries.{CarriesOut}
+use Rattle.file_handles.specs.Effects.{wrote_where}
+use Rattle.file_handles.specs.Held.{is_draft}
 use Rattle.file_handles.specs.Kept.{kept, object_at}
 use Rattle.file_handles.specs.Refuses.{HasAt}
+use Rattle.file_handles.proofs.EffectLaws.{effect_is, unsets_rewrite}
 use Rattle.file_handles.proofs.ElementChecks.{at_object}
 use Rattle.file_handles.proofs.ElementCommands.{fault_reply, unset_leaves}
 use Rattle.file_handles.proofs.ElementEntries.{room_without}
 use Rattle.file_handles.proofs.ElementReads.{mapped_none, mapped_some, unset_none_leaves}
 use Rattle.file_handles.proofs.Places.{filed_somehow}
+use Rattle.file_handles.proofs.Refused.{refused_answer_or_none}
 use Rattle.file_handles.proofs.handles.Handles.unset_element.Goals as goal
 
 pub returns-then-is_none-clause-carried : goal.returns-then-is_none-clause-carried
@@ -51,3 +55,18 @@ returns-clause-carried g c told =
     let some = mapped_some _ c.get.result _ (c.get.ensures ∙ ap (element name) c.elements.ensures) c.if-is_none.ensures in
     unset_leaves _ _ (g.met.D.Disk.sound c.args.disk.now told) k _ c.args.slot c.requires.slot c.in_ok-place.place x has name (Ok c.in_ok-effect.effect) (c.change_at.ensures.quiet told) c.in_ok-effect.ensures.refused
     some.0 some.1 (c.in_ok-place.ensures.passes name) (c.in_ok-effect.ensures.changes told)
+
+pub returns-clause-effect : goal.returns-clause-effect
+returns-clause-effect g c = λ m number stand.
+    let k = kept c.args.self.now in
+    let name = c.args.name.now in
+    let x = c.in_ok-object_at.field-0.now in
+    let has = at_object _ x (HasAt k c.args.slot c.in_ok-place.place) c.in_ok-object_at.ensures.found c.in_ok-place.ensures.object in
+    let some = mapped_some _ c.get.result _ (c.get.ensures ∙ ap (element name) c.elements.ensures) c.if-is_none.ensures in
+    effect_is k m number stand c.args.slot c.requires.slot c.in_ok-place.place x has (UnsetElement c.args.slot name) (λ x. not (is_draft x.entry)) c.in_ok-effect.effect refl
+    (unsets_rewrite k m number stand c.args.slot c.requires.slot c.in_ok-place.place x has name some.0 some.1)
+    (c.in_ok-effect.ensures.effect ∙ ap (wrote_where (λ x. not (is_draft x.entry))) c.in_ok-object_at.ensures.found)
+
+pub returns-in_err-place-clause-carried : goal.returns-in_err-place-clause-carried
+returns-in_err-place-clause-carried g c = λ told.
+    refused_answer_or_none c.from_residual.result (g.D.Disk.state c.args.disk.now) (kept c.args.self.now) (UnsetElement c.args.slot c.args.name.now) c.in_err-place.field-0.0 c.from_residual.ensures.1 (c.in_err-place.ensures.refused c.args.name.now)

@@ -1,0 +1,86 @@
+-- The number of a file that is new among the doomed.
+use Rattle.std.proofs.Common.{◌≡◌, ◌⊎◌, inl, inr, ℕ, zero, suc, ◌<◌, ◌==◌, List, [], ◌∷◌, length, take, Bool, true, false, Option, Some, None, IsSome, Result, Ok, Err, refl, sym, ap, subst, ◌∙◌, arith}
+use Rattle.std.specs.List.{Contains, cons_option}
+use Rattle.std.specs.Prelude.{if◌then◌else◌, option_and_then, slice_get, unwrap_or}
+use Rattle.std.proofs.lemmas.Bool.{eqb-true}
+use Rattle.std.proofs.lemmas.List.{length-take}
+use Rattle.std.proofs.lemmas.List.Elements.{Contains-append_cases}
+use Rattle.cache_base.specs.declared.limits.TheConstants.{SLOTS}
+use Rattle.cache_base.specs.declared.name.Name.{Name}
+use Rattle.cache_theory.specs.Machine.{Machine, object}
+use Rattle.cache_theory.specs.Stands.{object_file}
+use Rattle.disk_model.specs.Calls.{if_done}
+use Rattle.disk_model.specs.declared.disk.DiskFault.{DiskFault}
+use Rattle.disk_model.specs.declared.disk.DiskFault.TheVariants.{Failed, Memory}
+use Rattle.disk_model.specs.declared.place.Place.TheVariants.{Doomed, Entry}
+use Rattle.disk_model.specs.State.{State, content_of, names_now, renamed, standing}
+use Rattle.doom_area.specs.DoomArea.{IsLeastFree}
+use Rattle.doom_area.proofs.LeastFree.{long_enough}
+use Rattle.file_handles.specs.Dooming.{IsFirstFree, TakesFirstFree, number_in, numbers_in}
+use Rattle.file_handles.specs.Held.{place_of}
+use Rattle.file_handles.specs.Kept.{Kept, object_at}
+use Rattle.file_handles.specs.Stands.{StandsSomehow}
+use Rattle.file_handles.specs.declared.object.Object.{Object}
+use Rattle.file_handles.proofs.Places.{file_stands}
+
+-- each of the numbers is that of a doomed object
+one_of : (n d : ℕ) → Contains (n ∷ []) d → n ≡ d
+one_of n d (zero, lt, is) = is
+one_of n d (suc i, lt, is) = absurd (omega (arith, lt))
+
+first_or_more : (o : Option ℕ) (rest : List ℕ) (d : ℕ) → Contains (cons_option o rest) d → (o ≡ Some d) ⊎ Contains rest d
+first_or_more None rest d has = inr has
+first_or_more (Some n) rest d has = elim (Contains-append_cases (n ∷ []) rest d has) [
+  | inl here ↦ inl (ap (λ k. Some k) (one_of n d here))
+  | inr there ↦ inr there
+]
+
+doomed_in : (objects : List (Option Object)) (d : ℕ) → Contains (numbers_in objects) d → (p : ℕ) × (number_in (unwrap_or (slice_get objects p) None) ≡ Some d)
+doomed_in [] d (i, lt, is) = absurd (omega (arith, lt))
+doomed_in (x ∷ xs) d has = elim (first_or_more (number_in x) (numbers_in xs) d has) [
+  | inl here ↦ (0, here)
+  | inr there ↦ let rest = doomed_in xs d there in (suc rest.0, rest.1)
+]
+
+-- so its file stands
+doomed_stands : (s : State) (k : Kept) (d : ℕ) → StandsSomehow s k → Contains (numbers_in k.objects) d → IsSome (standing s (Doomed d))
+doomed_stands s k d (m, (number, stands)) has = let at = doomed_in k.objects d has in go at.0 (object_at k at.0) refl at.1
+  where
+    go : (p : ℕ) (o : Option Object) → object_at k p ≡ o → number_in o ≡ Some d → IsSome (standing s (Doomed d))
+    go p None at is = absurd (cc)
+    go p (Some x) at is =
+        let there : standing s (place_of x.name x.doomed) ≡ Some (object_file (object m (number p))) = file_stands s k m number stands p x at in
+        subst (λ (o : Option (List ℕ)). IsSome o) (sym (ap (λ n. standing s (place_of x.name n)) (sym is) ∙ there)) refl
+
+-- the front of an array has no more numbers than it was cut to
+pub few_numbers : (count : ℕ) (xs ys : List ℕ) → take count xs ≡ ys → count < SLOTS → length ys < SLOTS
+few_numbers count xs ys is few = let same = ap length is in let le = length-take count xs in omega (arith, few, same, le)
+
+none_some : {T X : Type 0} (o : Option X) → o ≡ None → IsSome o → T
+none_some None none some = absurd (cc)
+none_some (Some x) none some = absurd (cc)
+
+-- the least number that no object has, of a list that is short
+module _ (s : State) (k : Kept) (somehow : StandsSomehow s k) (name : Name) (n : ℕ) (free : IsLeastFree (numbers_in k.objects) n) (few : length (numbers_in k.objects) < SLOTS) where
+  small : n < SLOTS
+  small = let le = long_enough (numbers_in k.objects) n free.lesser in omega (arith, le, few)
+
+  moved : TakesFirstFree s (renamed (Entry name) (Doomed n) s)
+  moved number none some = go (number == n) refl some
+    where
+      go : (b : Bool) → (number == n) ≡ b → IsSome (content_of s.files (if b then names_now s (Entry name) else names_now s (Doomed number))) → IsFirstFree s number × (number < SLOTS)
+      go true same some =
+          let e = eqb-true number n same in (
+            λ lesser lt. doomed_stands s k lesser somehow (free.lesser lesser (omega (arith, lt, e))),
+            omega (arith, small, e),
+          )
+      go false other some = none_some _ none some
+
+  not_moved : TakesFirstFree s s
+  not_moved number none some = none_some _ none some
+
+  -- whatever the move answers
+  pub takes_first : {T : Type 0} (t : State) (r : Result T DiskFault) → t ≡ if_done r (renamed (Entry name) (Doomed n) s) s → TakesFirstFree s t
+  takes_first t (Ok value) is = subst (TakesFirstFree s) (sym is) moved
+  takes_first t (Err Failed) is = subst (TakesFirstFree s) (sym is) moved
+  takes_first t (Err Memory) is = subst (TakesFirstFree s) (sym is) not_moved
