@@ -17,15 +17,28 @@ use cache_base::Status;
 use cache_io::{StdSink, StdSource};
 use real_disk::RealDisk;
 use run::run;
-use std::env;
 use std::process::ExitCode;
+use std::{env, fs};
 
-// The status where the system does not give the words. `run` never ends so.
-const NO_WORDS: u8 = 8;
+// The status where the system does not give what `main` begins with. `run` never ends so.
+const NOT_BEGUN: u8 = 8;
+
+// A folder that is there everywhere. As a stream it gives no bytes and takes none: each read and write of it fails.
+const ROOT: &str = "/";
 
 fn main(rt: HostRuntime) -> ExitCode {
+    // A file that is opened takes the lowest free number. Where a standard stream is closed, its number is taken here,
+    // so that no file of the cache is read or written as that stream.
+    let held = (
+        fs::open(&rt, ROOT),
+        fs::open(&rt, ROOT),
+        fs::open(&rt, ROOT),
+    );
+    let (Ok(_first), Ok(_second), Ok(_third)) = held else {
+        return ExitCode::from(NOT_BEGUN);
+    };
     let Ok(mut args) = env::args(&rt) else {
-        return ExitCode::from(NO_WORDS);
+        return ExitCode::from(NOT_BEGUN);
     };
     let _program = args.next();
     let Some(dir) = args

@@ -1,1 +1,4 @@
 pub mod DecimalLaws
+pub mod TakenLaws
+pub mod NoteLaws
+pub mod AnswerLaws

@@ -1,2 +1,7 @@
+pub mod Areas
+pub mod Folders
+pub mod Files
+pub mod Taken
 pub mod Decimal
 pub mod Silent
+pub mod Pending

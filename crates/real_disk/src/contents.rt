@@ -13,16 +13,34 @@ pub(crate) fn read_from<F: Read + Seek>(
 ) -> io::Result<usize>
     ensures { IfOk result (λ n. n ≤ length buf.old) }
 {
-    file.seek(SeekFrom::Start(from))?;
+    match file.seek(SeekFrom::Start(from)) {
+        Ok(_) => {}
+        // The system has no such offset, and so no file has a byte there.
+        Err(error) if error.kind() == ErrorKind::InvalidInput => return Ok(0),
+        Err(error) => return Err(error),
+    }
     let mut at = 0;
     'parts: while at < buf.len() {
-        let n = file.read(&mut buf[at..])?;
+        let n = read_some(file, &mut buf[at..])?;
         if n == 0 {
             break;
         }
         at += n;
     }
     Ok(at)
+}
+
+// One read, which is made again where a signal interrupts it.
+fn read_some<F: Read>(file: &mut F, buf: &mut [u8]) -> io::Result<usize>
+    ensures { IfOk result (λ n. n ≤ length buf.old) }
+{
+    'tries: for _ in 0..u64::MAX {
+        match file.read(buf) {
+            Err(error) if error.kind() == ErrorKind::Interrupted => {}
+            outcome => return outcome,
+        }
+    }
+    Err(ErrorKind::Interrupted.into())
 }
 
 /// Writes over what stands from the offset on.

@@ -1,19 +1,23 @@
 //! The folder by its places, and the files in it that have changed since the last sync.
 
-ghost use Rattle.std.specs.Prelude.{◌≡◌, ◌≤◌, IfOk, OnOk, IsTrue, length};
-ghost use Rattle.std.specs.BTreeSet.{btree_set_len, contains};
+ghost use Rattle.std.specs.Prelude.{◌≡◌, ◌≤◌, ◌⊎◌, IfOk, OnOk, OnErr, IsTrue, length};
+ghost use Rattle.std.specs.BTreeSet.{btree_set_len, IsUnchanged};
+ghost use Rattle.real_disk.specs.Areas.{area_in};
+ghost use Rattle.real_disk.specs.Files.{FileNotes, IsNoted, NotesNew, KeepsNote, KeepsOthers, KeepsAllBut, KeepsAll, Owes};
+ghost use Rattle.real_disk.specs.Folders.{NoneLost, NoneLeft, HasNote};
 
 use crate::contents::{after_change, read_from, write_end, write_over};
 use crate::kept::Kept;
 use crate::listing::read_names;
 use crate::numbers::read_number;
-use crate::paths::{DOOMED, ENTRIES, path_in, path_of};
-use crate::syncing::{move_note, sync_each};
-use crate::tree::{Tree, read_and_write};
+use crate::paths::{Area, area_of, path_of, path_of_area};
+use crate::syncing::sync_each;
+use crate::tree::{Tree, file_len, read_and_write, read_only};
 use cache_base::Name;
 use disk_model::Place;
 use entry_name::read_text;
 use std::alloc::{AllocError, Global};
+use std::cmp::Ordering;
 use std::collections::BTreeSet;
 use std::fs::{self, OpenFile};
 use std::io::{self, ErrorKind};
@@ -22,7 +26,6 @@ use std::rt::Files;
 /// The folder, and what is to be synced of it.
 #[derive(Drop)]
 pub(crate) struct Folder<'a, R: Files + AllocGlobal> {
-    dir: String,
     tree: Tree<'a, R>,
     // The places whose files were made or written since the last sync.
     files: BTreeSet<Place, Global>,
@@ -32,8 +35,7 @@ pub(crate) struct Folder<'a, R: Files + AllocGlobal> {
 impl<'a, R: Files + AllocGlobal> Folder<'a, R> {
     pub(crate) fn new(rt: &'a R, dir: String) -> Self {
         Folder {
-            dir,
-            tree: Tree::new(rt),
+            tree: Tree::new(rt, dir),
             files: BTreeSet::new(rt.alloc()),
             kept: Kept::none(),
         }
@@ -45,13 +47,9 @@ impl<R: Files + AllocGlobal> Folder<'_, R> {
         self.tree.rt.alloc()
     }
 
-    fn path(&self, place: &Place) -> Result<String, AllocError> {
-        path_of(self.tree.rt, self.dir.as_str(), place)
-    }
-
     pub(crate) fn size(&self, place: &Place) -> io::Result<Option<u64>> {
-        match fs::metadata(self.tree.rt, self.path(place)?.as_str()) {
-            Ok(found) => Ok(Some(found.len())),
+        match file_len(self.tree.rt, self.tree.path(place)?.as_str()) {
+            Ok(len) => Ok(Some(len)),
             Err(error) if error.kind() == ErrorKind::NotFound => Ok(None),
             Err(error) => Err(error),
         }
@@ -59,11 +57,16 @@ impl<R: Files + AllocGlobal> Folder<'_, R> {
 
     /// Reads on until the buffer is full or the file ends. A missing file has no bytes.
     pub(crate) fn read(&mut self, place: &Place, from: u64, buf: &mut [u8]) -> io::Result<usize>
-        ensures { IfOk result (λ n. n ≤ length buf.old) }
+        ensures len { IfOk result (λ n. n ≤ length buf.old) }
+        ensures files { self.new.files ≡ self.old.files }
+        ensures folders { self.new.tree ≡ self.old.tree }
     {
         let (mut file, writable) = match self.kept.take(place) {
             Some(opened) => (opened.file, opened.writable),
-            None => match fs::open(self.tree.rt, self.path(place)?.as_str()) {
+            None => match self
+                .tree
+                .open(&read_only(), self.tree.path(place)?.as_str())
+            {
                 Ok(file) => (file, false),
                 Err(error) if error.kind() == ErrorKind::NotFound => return Ok(0),
                 Err(error) => return Err(error),
@@ -76,21 +79,17 @@ impl<R: Files + AllocGlobal> Folder<'_, R> {
 
     /// A file that stood there loses its name and is not cut, so that a crash may still show all of it.
     pub(crate) fn create(&mut self, place: &Place) -> io::Result<()>
-        ensures noted { OnOk result (IsTrue (contains ⟦<Place as Ord>⟧.cmp self.new.files place.now)) }
+        ensures noted { OnOk result (IsNoted self.new.files place.now) }
+        ensures folder { OnOk result (HasNote self.new.tree.folders (area_in place.now)) }
+        ensures owed { Owes place.now self.old.files self.new.files self.new.tree.folders }
+        ensures others { KeepsOthers place.now self.old.files self.new.files }
+        ensures folders { NoneLost self.old.tree.folders self.new.tree.folders }
     {
-        let path = self.path(place)?;
+        let path = self.tree.path(place)?;
+        let area = area_of(place);
         self.kept.forget(place);
-        let is_new = self.files.insert(*place)?;
-        let was_there = match self.tree.remove_if_there(path.as_str()) {
-            Ok(was_there) => was_there,
-            Err(error) => {
-                if is_new {
-                    self.files.remove(place);
-                }
-                return Err(error);
-            }
-        };
-        let made = self.tree.make_file(path.as_str());
+        let was_there = self.tree.remove_if_there(area, path.as_str())?;
+        let made = self.make_noted(place, area, path.as_str());
         let made = if was_there { after_change(made) } else { made };
         match made {
             Ok(file) => {
@@ -105,9 +104,23 @@ impl<R: Files + AllocGlobal> Folder<'_, R> {
         }
     }
 
+    // A new file, which is noted before.
+    fn make_noted(&mut self, place: &Place, area: Area, path: &str) -> io::Result<R::File>
+        ensures noted { OnOk result (IsNoted self.new.files place.now) }
+        ensures folder { OnOk result (HasNote self.new.tree.folders area) }
+        ensures others { KeepsOthers place.now self.old.files self.new.files }
+        ensures folders { NoneLost self.old.tree.folders self.new.tree.folders }
+    {
+        self.files.insert(*place)?;
+        self.tree.make_file(area, path)
+    }
+
     /// The file then ends behind the bytes.
     pub(crate) fn write_end(&mut self, place: &Place, from: u64, bytes: &[u8]) -> io::Result<()>
-        ensures noted { OnOk result (IsTrue (contains ⟦<Place as Ord>⟧.cmp self.new.files place.now)) }
+        ensures noted { OnOk result (IsNoted self.new.files place.now) }
+        ensures kept { KeepsNote place.now self.old.files self.new.files }
+        ensures others { KeepsOthers place.now self.old.files self.new.files }
+        ensures folders { self.new.tree ≡ self.old.tree }
     {
         let mut file = self.open_to_write(place)?;
         let outcome = write_end(&mut file, from, bytes);
@@ -117,7 +130,10 @@ impl<R: Files + AllocGlobal> Folder<'_, R> {
 
     /// The file keeps what lies behind the bytes.
     pub(crate) fn patch(&mut self, place: &Place, from: u64, bytes: &[u8]) -> io::Result<()>
-        ensures noted { OnOk result (IsTrue (contains ⟦<Place as Ord>⟧.cmp self.new.files place.now)) }
+        ensures noted { OnOk result (IsNoted self.new.files place.now) }
+        ensures kept { KeepsNote place.now self.old.files self.new.files }
+        ensures others { KeepsOthers place.now self.old.files self.new.files }
+        ensures folders { self.new.tree ≡ self.old.tree }
     {
         let mut file = self.open_to_write(place)?;
         let outcome = write_over(&mut file, from, bytes);
@@ -127,11 +143,16 @@ impl<R: Files + AllocGlobal> Folder<'_, R> {
 
     // The file of the place, which is noted as changed before it is written.
     fn open_to_write(&mut self, place: &Place) -> io::Result<R::File>
-        ensures noted { OnOk result (IsTrue (contains ⟦<Place as Ord>⟧.cmp self.new.files place.now)) }
+        ensures noted { OnOk result (IsNoted self.new.files place.now) }
+        ensures kept { KeepsNote place.now self.old.files self.new.files }
+        ensures others { KeepsOthers place.now self.old.files self.new.files }
+        ensures folders { self.new.tree ≡ self.old.tree }
     {
         let file = match self.kept.take_to_write(place) {
             Some(file) => file,
-            None => read_and_write().open(self.tree.rt, self.path(place)?.as_str())?,
+            None => self
+                .tree
+                .open(&read_and_write(), self.tree.path(place)?.as_str())?,
         };
         self.files.insert(*place)?;
         Ok(file)
@@ -140,17 +161,20 @@ impl<R: Files + AllocGlobal> Folder<'_, R> {
     /// A file that has changed is to be synced under its new name. It is noted there before, so that a note that
     /// finds no memory leaves all as it was. What stood there has nothing to sync any more.
     pub(crate) fn rename(&mut self, from: &Place, to: &Place) -> io::Result<()>
-        ensures noted { OnOk result (IsTrue (contains ⟦<Place as Ord>⟧.cmp self.old.files from.now)
-            → IsTrue (contains ⟦<Place as Ord>⟧.cmp self.new.files to.now)) }
+        ensures moved { OnOk result (IsNoted self.old.files from.now → IsNoted self.new.files to.now) }
+        ensures from_folder { OnOk result (HasNote self.new.tree.folders (area_in from.now)) }
+        ensures to_folder { OnOk result (HasNote self.new.tree.folders (area_in to.now)) }
+        ensures kept { OnErr result (KeepsAll self.old.files self.new.files) }
+        ensures others { KeepsAllBut from.now to.now self.old.files self.new.files }
+        ensures folders { NoneLost self.old.tree.folders self.new.tree.folders }
     {
-        let old = self.path(from)?;
-        let new = self.path(to)?;
+        let old = self.tree.path(from)?;
+        let new = self.tree.path(to)?;
         let has_changed = self.files.contains(from);
-        let is_new = has_changed && self.files.insert(*to)?;
-        if let Err(error) = self.tree.rename(old.as_str(), new.as_str()) {
-            if is_new {
-                self.files.remove(to);
-            }
+        let is_new = note_if(&mut self.files, to, has_changed)?;
+        let areas = (area_of(from), area_of(to));
+        if let Err(error) = self.tree.rename(areas, old.as_str(), new.as_str()) {
+            take_back(&mut self.files, to, is_new);
             return Err(error);
         }
         move_note(&mut self.files, from, to, has_changed);
@@ -159,10 +183,15 @@ impl<R: Files + AllocGlobal> Folder<'_, R> {
     }
 
     /// A removed file has nothing to sync but its folder.
-    pub(crate) fn remove(&mut self, place: &Place) -> io::Result<()> {
-        let path = self.path(place)?;
+    pub(crate) fn remove(&mut self, place: &Place) -> io::Result<()>
+        ensures folder { OnOk result (HasNote self.new.tree.folders (area_in place.now)) }
+        ensures kept { OnErr result (KeepsAll self.old.files self.new.files) }
+        ensures others { KeepsOthers place.now self.old.files self.new.files }
+        ensures folders { NoneLost self.old.tree.folders self.new.tree.folders }
+    {
+        let path = self.tree.path(place)?;
         self.kept.forget(place);
-        self.tree.remove_file(path.as_str())?;
+        self.tree.remove_file(area_of(place), path.as_str())?;
         self.files.remove(place);
         Ok(())
     }
@@ -170,10 +199,11 @@ impl<R: Files + AllocGlobal> Folder<'_, R> {
     /// The files before the names that lead to them.
     pub(crate) fn sync(&mut self) -> io::Result<()>
         ensures files { OnOk result (btree_set_len self.new.files ≡ 0) }
-        ensures names { OnOk result (btree_set_len self.new.tree.folders ≡ 0) }
+        ensures names { OnOk result (NoneLeft self.new.tree.folders) }
+        ensures order { (btree_set_len self.new.files ≡ 0) ⊎ (self.new.tree ≡ self.old.tree) }
     {
         let rt = self.tree.rt;
-        let dir = self.dir.as_str();
+        let dir = self.tree.dir.as_str();
         let kept = &self.kept;
         sync_each(&mut self.files, |place| sync_file(rt, dir, kept, place))?;
         self.tree.sync()
@@ -183,14 +213,55 @@ impl<R: Files + AllocGlobal> Folder<'_, R> {
 impl<R: Files + AllocGlobal + Clone + Drop> Folder<'_, R> {
     pub(crate) fn entries(&self) -> io::Result<BTreeSet<Name, Global>> {
         let rt = self.tree.rt;
-        let path = path_in(rt, self.dir.as_str(), ENTRIES)?;
+        let path = path_of_area(rt, self.tree.dir.as_str(), &Area::Entries)?;
         read_names(rt, path.as_str(), |text| read_text(text))
     }
 
     pub(crate) fn doomed(&self) -> io::Result<BTreeSet<u32, Global>> {
         let rt = self.tree.rt;
-        let path = path_in(rt, self.dir.as_str(), DOOMED)?;
+        let path = path_of_area(rt, self.tree.dir.as_str(), &Area::Doomed)?;
         read_names(rt, path.as_str(), |text| read_number(text))
+    }
+}
+
+// Notes the file of the place, if it is `wanted`, and answers whether the note is new.
+fn note_if(
+    files: &mut BTreeSet<Place, Global>,
+    place: &Place,
+    wanted: bool,
+) -> Result<bool, AllocError>
+    ensures wanted { IsTrue wanted → OnOk result (IsNoted files.new place.now) }
+    ensures noted { IfOk result (λ is_new. NotesNew is_new place.now files.old files.new) }
+    ensures err { OnErr result (IsUnchanged files.old files.new) }
+{
+    if !wanted {
+        return Ok(false);
+    }
+    Ok(files.insert(*place)?)
+}
+
+// Takes back a note, if it is new, where the step for which it was made has failed.
+fn take_back(files: &mut BTreeSet<Place, Global>, place: &Place, is_new: bool)
+    ensures others { KeepsOthers place.now files.old files.new }
+    ensures back { (before : FileNotes) → NotesNew is_new place.now before files.old → KeepsAll before files.new }
+{
+    if is_new {
+        files.remove(place);
+    }
+}
+
+// What went from the first place to the second is noted under the second alone, where it `has_changed`, and else
+// under neither.
+fn move_note(files: &mut BTreeSet<Place, Global>, from: &Place, to: &Place, has_changed: bool)
+    ensures kept { IsTrue has_changed → KeepsNote to.now files.old files.new }
+    ensures others { KeepsAllBut from.now to.now files.old files.new }
+{
+    if from.cmp(to) == Ordering::Equal {
+        return;
+    }
+    files.remove(from);
+    if !has_changed {
+        files.remove(to);
     }
 }
 

@@ -10,6 +10,7 @@ mod folder;
 mod kept;
 mod listing;
 mod making;
+mod notes;
 mod numbers;
 mod paths;
 mod real_disk;

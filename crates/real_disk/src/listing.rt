@@ -10,8 +10,8 @@ use std::fs;
 use std::io::{self, ErrorKind};
 use std::rt::Files;
 
-/// What the names in the folder read as. Those that read as nothing, or are no UTF-8, are foreign and left alone. A
-/// missing folder has no names.
+/// What the names of regular files in the folder read as. Those that read as nothing, or are no UTF-8, are foreign and
+/// left alone, as is what is no file: a folder, a socket, a link. A missing folder has no names.
 pub(crate) fn read_names<
     R: Files + AllocGlobal + Clone + Drop,
     T: Ord + Drop,
@@ -28,7 +28,9 @@ pub(crate) fn read_names<
     for name in names {
         match name {
             Ok(name) => {
-                if let Some(item) = read(name.file_name()) {
+                if let Some(item) = read(name.file_name())
+                    && name.file_type()?.is_file()
+                {
                     found.insert(item)?;
                 }
             }

@@ -1,6 +1,8 @@
 //! The making of folders.
 
-use crate::paths::parent_of;
+ghost use Rattle.real_disk.specs.Folders.{NoneLost};
+
+use crate::paths::{Area, parent_of, path_of_area};
 use crate::tree::Tree;
 use std::fs::{self, DirBuilder};
 use std::io::{self, ErrorKind};
@@ -11,30 +13,71 @@ const FOLDER_MODE: u32 = 0o700;
 
 impl<R: Files + AllocGlobal> Tree<'_, R> {
     /// Makes a folder and those above it, where they are missing.
-    pub(crate) fn make_folders(&mut self, folder: &str) -> io::Result<()> {
-        match self.make_folder(folder) {
+    pub(crate) fn make_area(&mut self, area: Area) -> io::Result<()>
+        ensures kept { NoneLost self.old.folders self.new.folders }
+    {
+        match area {
+            Area::Top => self.make_top(),
+            Area::Entries => self.make_below_top(area),
+            Area::Doomed => self.make_below_top(area),
+        }
+    }
+
+    fn make_below_top(&mut self, area: Area) -> io::Result<()>
+        ensures kept { NoneLost self.old.folders self.new.folders }
+    {
+        let path = path_of_area(self.rt, self.dir.as_str(), &area)?;
+        self.folders.note(Area::Top)?;
+        match make_folder(self.rt, path.as_str()) {
+            Err(error) if error.kind() == ErrorKind::NotFound => {
+                self.make_top()?;
+                make_folder(self.rt, path.as_str())
+            }
+            outcome => outcome,
+        }
+    }
+
+    fn make_top(&mut self) -> io::Result<()>
+        ensures kept { NoneLost self.old.folders self.new.folders }
+    {
+        let top = path_of_area(self.rt, self.dir.as_str(), &Area::Top)?;
+        self.make_with_those_above(top.as_str())
+    }
+
+    fn make_with_those_above(&mut self, folder: &str) -> io::Result<()>
+        ensures kept { NoneLost self.old.folders self.new.folders }
+    {
+        match self.make_above(folder) {
             Err(error) if error.kind() == ErrorKind::NotFound => {}
             outcome => return outcome,
         }
-        for (end, _) in folder.match_indices('/') {
+        'above: for (end, _) in folder.match_indices('/') {
             if end > 0
                 && let Some(above) = folder.get(..end)
             {
-                self.make_folder(above)?;
+                self.make_above(above)?;
             }
         }
-        self.make_folder(folder)
+        self.make_above(folder)
     }
 
-    // A folder that is there already is as good.
-    fn make_folder(&mut self, folder: &str) -> io::Result<()> {
-        let made = self.change_names(parent_of(folder), |rt| {
-            DirBuilder::new().mode(FOLDER_MODE).create(rt, folder)
-        });
-        match made {
-            Err(_) if is_folder(self.rt, folder) => Ok(()),
-            outcome => outcome,
+    // The folder that this one lies in may be nobody's to read, and is noted only where a folder is to be made in it.
+    fn make_above(&mut self, folder: &str) -> io::Result<()>
+        ensures kept { NoneLost self.old.folders self.new.folders }
+    {
+        if is_folder(self.rt, folder) {
+            return Ok(());
         }
+        self.folders.note_above(self.rt.alloc(), parent_of(folder))?;
+        make_folder(self.rt, folder)
+    }
+}
+
+// A folder that is there already is as good.
+fn make_folder<R: Files>(rt: &R, folder: &str) -> io::Result<()> {
+    match DirBuilder::new().mode(FOLDER_MODE).create(rt, folder) {
+        Err(_) if is_folder(rt, folder) => Ok(()),
+        outcome => outcome,
     }
 }
 

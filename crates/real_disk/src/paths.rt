@@ -1,14 +1,52 @@
-//! Paths of places, and of the folders that they lie in.
+//! The folders of the cache, and paths of places.
+
+ghost use Rattle.std.specs.Prelude.{◌≡◌};
+ghost use Rattle.real_disk.specs.Areas.{area_in};
 
 use disk_model::Place;
 use entry_name::text_of;
 use std::alloc::AllocError;
 
-/// The name of the folder of entries.
-pub(crate) const ENTRIES: &str = "entries";
+const ENTRIES: &str = "entries";
 
-/// The name of the folder of doomed entries.
-pub(crate) const DOOMED: &str = "doomed";
+const DOOMED: &str = "doomed";
+
+/// A folder that places lie in.
+#[derive(Clone, Copy, Debug, PartialEq, Eq, PartialOrd, Ord)]
+pub(crate) enum Area {
+    /// The folder of the cache, with the files of the index.
+    Top,
+    /// The folder of entries.
+    Entries,
+    /// The folder of doomed entries.
+    Doomed,
+}
+
+/// The folder that a place lies in.
+pub(crate) fn area_of(place: &Place) -> Area
+    ensures { result ≡ area_in place.now }
+{
+    match place {
+        Place::Entry(_) => Area::Entries,
+        Place::Doomed(_) => Area::Doomed,
+        Place::Index => Area::Top,
+        Place::Log => Area::Top,
+        Place::Tmp => Area::Top,
+    }
+}
+
+/// The path of a folder.
+pub(crate) fn path_of_area<R: AllocGlobal>(
+    rt: &R,
+    dir: &str,
+    area: &Area,
+) -> Result<String, AllocError> {
+    match area {
+        Area::Top => String::from_str(rt.alloc(), top_of(dir)),
+        Area::Entries => path_in(rt, dir, ENTRIES),
+        Area::Doomed => path_in(rt, dir, DOOMED),
+    }
+}
 
 /// The path of a place.
 pub(crate) fn path_of<R: AllocGlobal>(
@@ -33,8 +71,7 @@ pub(crate) fn path_of<R: AllocGlobal>(
     }
 }
 
-/// The path of a name in the folder.
-pub(crate) fn path_in<R: AllocGlobal>(rt: &R, dir: &str, name: &str) -> Result<String, AllocError> {
+fn path_in<R: AllocGlobal>(rt: &R, dir: &str, name: &str) -> Result<String, AllocError> {
     let dir = without_last_slashes(dir);
     format!(in rt.alloc(); "{dir}/{name}")
 }
@@ -46,6 +83,11 @@ fn without_last_slashes(dir: &str) -> &str {
     } else {
         dir.trim_end_matches('/')
     }
+}
+
+fn top_of(dir: &str) -> &str {
+    let top = without_last_slashes(dir);
+    if top.is_empty() { "/" } else { top }
 }
 
 /// The folder that a path lies in.

@@ -1,6 +1,6 @@
 //! A folder of the machine as a disk.
 
-ghost use Rattle.std.specs.Prelude.{◌≡◌, IfOk, IsErrOf, false};
+ghost use Rattle.std.specs.Prelude.{◌≡◌, IfOk, OnOk, IsErrOf, false};
 ghost use Rattle.cache_base.specs.Causes.{HasCause};
 ghost use Rattle.disk_model.specs.Calls.{no_counts};
 ghost use Rattle.real_disk.specs.Silent.{nothing, never, never_finite};
@@ -18,27 +18,30 @@ use std::rt::Files;
 /// 0600. Files with other names are left alone.
 ///
 /// Each call that fails raises the count of faults by one. Where the system has no memory the call answers so, and
-/// no fault is counted. Contracts are told nothing of what the folder holds.
+/// no fault is counted. Contracts are told nothing of what the folder holds, but that after a sync no change waits.
 #[derive(Drop)]
 pub struct RealDisk<'a, R: Files + AllocGlobal> {
     folder: Folder<'a, R>,
     faults: u64,
 }
 
-impl<'a, R: Files + AllocGlobal> RealDisk<'a, R> {
+impl<'a, R: Files + AllocGlobal + Clone + Drop> RealDisk<'a, R> {
     /// Makes no call of the machine.
     pub fn new(rt: &'a R, dir: String) -> Self
-        ensures { result.faults ≡ 0 }
+        ensures faults { ⟦<RealDisk<'a, R> as Disk>⟧.faults result ≡ 0 }
     {
         RealDisk {
             folder: Folder::new(rt, dir),
             faults: 0,
         }
     }
+}
 
+impl<R: Files + AllocGlobal> RealDisk<'_, R> {
     // The answer of a call. Here alone a failure is counted.
     fn answer<T>(&mut self, outcome: io::Result<T>) -> Result<T, DiskFault>
         ensures value { IfOk result (λ value. outcome ≡ Ok value) }
+        ensures folder { self.new.folder ≡ self.old.folder }
         ensures cause { HasCause (IsErrOf result DiskFault.Failed) self.old.faults self.new.faults }
     {
         match outcome {
@@ -53,6 +56,11 @@ impl<'a, R: Files + AllocGlobal> RealDisk<'a, R> {
 }
 
 impl<R: Files + AllocGlobal + Clone + Drop> Disk for RealDisk<'_, R> {
+    ghost use Rattle.std.specs.Prelude.{IsTrue};
+    ghost use Rattle.disk_model.specs.State.{settled};
+    ghost use Rattle.disk_model.specs.Calls.{if_ok, counted_change};
+    ghost use Rattle.real_disk.specs.Pending.{NothingPending};
+
     ghost tells = { false };
 
     ghost state = { λ _. nothing };
@@ -65,7 +73,12 @@ impl<R: Files + AllocGlobal + Clone + Drop> Disk for RealDisk<'_, R> {
 
     ghost finite = { λ _ told. never_finite told };
 
-    fn sync(&mut self) -> Result<(), DiskFault> {
+    fn sync(&mut self) -> Result<(), DiskFault>
+        ensures synced { OnOk result (NothingPending self.new) }
+        ensures state { IsTrue false → nothing ≡ if_ok result (settled nothing) nothing }
+        ensures counts { IsTrue false → no_counts ≡ counted_change result no_counts }
+        ensures cause { HasCause (IsErrOf result DiskFault.Failed) self.old.faults self.new.faults }
+    {
         let outcome = self.folder.sync();
         self.answer(outcome)
     }

@@ -1,11 +1,11 @@
 //! What has changed and is to be synced.
 
-ghost use Rattle.std.specs.Prelude.{◌≡◌, ◌≢◌, OnOk, IsTrue, false};
-ghost use Rattle.std.specs.BTreeSet.{btree_set_len, contains};
-ghost use Rattle.std.specs.declared.cmp.Ordering.TheVariants.{Equal};
+ghost use Rattle.std.specs.Prelude.{◌≡◌, OnOk, Ok};
+ghost use Rattle.std.specs.BTreeSet.{btree_set_len};
+ghost use Rattle.std.specs.Fn.{FnReturnsAt};
+ghost use Rattle.real_disk.specs.Taken.{TakesOff};
 
 use std::alloc::Global;
-use std::cmp::Ordering;
 use std::collections::BTreeSet;
 use std::io;
 
@@ -15,31 +15,12 @@ pub(crate) fn sync_each<K: Ord + Drop, S: Fn(&K) -> io::Result<()>>(
     sync: S,
 ) -> io::Result<()>
     requires { S.IsAlwaysCallable sync }
-    ensures { OnOk result (btree_set_len pending.new ≡ 0) }
+    ensures all { OnOk result (btree_set_len pending.new ≡ 0) }
+    ensures synced { TakesOff (λ key. FnReturnsAt S.Fn sync key (Ok tt)) pending.old pending.new }
 {
     while let Some(first) = pending.first() {
         sync(first)?;
         pending.pop_first();
     }
     Ok(())
-}
-
-/// What went from the first key to the second is noted under the second alone, where it `has_changed`, and else
-/// under neither.
-pub(crate) fn move_note<K: Ord + Drop>(
-    pending: &mut BTreeSet<K, Global>,
-    from: &K,
-    to: &K,
-    has_changed: bool,
-)
-    ensures kept { IsTrue has_changed → IsTrue (contains K.cmp pending.old to.now) → IsTrue (contains K.cmp pending.new to.now) }
-    ensures gone { K.cmp from.now to.now ≢ Equal → contains K.cmp pending.new from.now ≡ false }
-{
-    if from.cmp(to) == Ordering::Equal {
-        return;
-    }
-    pending.remove(from);
-    if !has_changed {
-        pending.remove(to);
-    }
 }

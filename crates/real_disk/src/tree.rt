@@ -1,13 +1,13 @@
 //! The calls of the machine that make, move and remove files by their paths.
 
-ghost use Rattle.std.specs.Prelude.{◌≡◌, IfOk, OnOk, IsTrue};
-ghost use Rattle.std.specs.BTreeSet.{btree_set_len, contains_text};
+ghost use Rattle.std.specs.Prelude.{OnOk};
+ghost use Rattle.real_disk.specs.Folders.{NoneLost, NoneLeft, HasNote};
 
-use crate::paths::parent_of;
-use crate::syncing::sync_each;
-use std::alloc::{AllocError, Global};
-use std::collections::BTreeSet;
-use std::fs::{self, OpenFile, OpenOptions};
+use crate::notes::FolderNotes;
+use crate::paths::{Area, path_of};
+use disk_model::Place;
+use std::alloc::AllocError;
+use std::fs::{self, OpenOptions};
 use std::io::{self, ErrorKind};
 use std::os::unix::fs::OpenOptionsExt;
 use std::rt::Files;
@@ -15,117 +15,129 @@ use std::rt::Files;
 // A cache tells where its user has been, so nobody else may read it.
 const FILE_MODE: u32 = 0o600;
 
-/// The file system of the machine, and what is to be synced of its folders.
+/// The file system of the machine below the folder `dir`, and what is to be synced of its folders.
 #[derive(Drop)]
 pub(crate) struct Tree<'a, R: Files + AllocGlobal> {
     pub(crate) rt: &'a R,
-    // The paths of the folders in which a name was made or removed since the last sync.
-    folders: BTreeSet<String, Global>,
+    pub(crate) dir: String,
+    pub(crate) folders: FolderNotes,
 }
 
 impl<'a, R: Files + AllocGlobal> Tree<'a, R> {
-    pub(crate) fn new(rt: &'a R) -> Self {
+    pub(crate) fn new(rt: &'a R, dir: String) -> Self {
         Tree {
             rt,
-            folders: BTreeSet::new(rt.alloc()),
+            dir,
+            folders: FolderNotes::none(rt.alloc()),
         }
     }
 
+    pub(crate) fn path(&self, place: &Place) -> Result<String, AllocError> {
+        path_of(self.rt, self.dir.as_str(), place)
+    }
+
     /// Makes a file where none stands. Folders are missing only the first time, so they are made only then.
-    pub(crate) fn make_file(&mut self, path: &str) -> io::Result<R::File> {
-        match self.open_new(path) {
+    pub(crate) fn make_file(&mut self, area: Area, path: &str) -> io::Result<R::File>
+        ensures noted { OnOk result (HasNote self.new.folders area) }
+        ensures kept { NoneLost self.old.folders self.new.folders }
+    {
+        match self.open_new(area, path) {
             Err(error) if error.kind() == ErrorKind::NotFound => {
-                self.make_folders(parent_of(path))?;
-                self.open_new(path)
+                self.make_area(area)?;
+                self.open_new(area, path)
             }
             outcome => outcome,
         }
     }
 
-    fn open_new(&mut self, path: &str) -> io::Result<R::File> {
-        self.change_names(parent_of(path), |rt| {
-            read_and_write()
-                .create_new(true)
-                .mode(FILE_MODE)
-                .open(rt, path)
-        })
+    fn open_new(&mut self, area: Area, path: &str) -> io::Result<R::File>
+        ensures noted { OnOk result (HasNote self.new.folders area) }
+        ensures kept { NoneLost self.old.folders self.new.folders }
+    {
+        self.folders.note(area)?;
+        read_and_write()
+            .create_new(true)
+            .mode(FILE_MODE)
+            .open(self.rt, path)
     }
 
     /// Removes a file.
-    pub(crate) fn remove_file(&mut self, path: &str) -> io::Result<()> {
-        self.change_names(parent_of(path), |rt| fs::remove_file(rt, path))
+    pub(crate) fn remove_file(&mut self, area: Area, path: &str) -> io::Result<()>
+        ensures noted { OnOk result (HasNote self.new.folders area) }
+        ensures kept { NoneLost self.old.folders self.new.folders }
+    {
+        self.folders.note(area)?;
+        fs::remove_file(self.rt, path)
     }
 
     /// Removes the file that stands there, and answers whether one did.
-    pub(crate) fn remove_if_there(&mut self, path: &str) -> io::Result<bool> {
-        match self.remove_file(path) {
+    pub(crate) fn remove_if_there(&mut self, area: Area, path: &str) -> io::Result<bool>
+        ensures noted { OnOk result (HasNote self.new.folders area) }
+        ensures kept { NoneLost self.old.folders self.new.folders }
+    {
+        self.folders.note(area)?;
+        match fs::remove_file(self.rt, path) {
             Ok(()) => Ok(true),
             Err(error) if error.kind() == ErrorKind::NotFound => Ok(false),
             Err(error) => Err(error),
         }
     }
 
-    /// The file of the first path takes the second. The folder of the second is made where it is missing.
-    pub(crate) fn rename(&mut self, from: &str, to: &str) -> io::Result<()> {
-        match self.rename_between(from, to) {
+    /// The file of the first path takes the second. They lie in these folders, and the second is made where it is
+    /// missing.
+    pub(crate) fn rename(&mut self, areas: (Area, Area), from: &str, to: &str) -> io::Result<()>
+        ensures from { OnOk result (HasNote self.new.folders areas.0) }
+        ensures to { OnOk result (HasNote self.new.folders areas.1) }
+        ensures kept { NoneLost self.old.folders self.new.folders }
+    {
+        match self.rename_once(areas, from, to) {
             Err(error) if error.kind() == ErrorKind::NotFound && fs::exists(self.rt, from)? => {
-                self.make_folders(parent_of(to))?;
-                self.rename_between(from, to)
+                self.make_area(areas.1)?;
+                self.rename_once(areas, from, to)
             }
             outcome => outcome,
         }
     }
 
-    // Both folders are noted before, as `change_names` does it for one.
-    fn rename_between(&mut self, from: &str, to: &str) -> io::Result<()> {
-        let folder = parent_of(from);
-        let is_new = self.note_folder(folder)?;
-        let outcome = self.change_names(parent_of(to), |rt| fs::rename(rt, from, to));
-        if is_new && outcome.is_err() {
-            self.folders.remove(folder);
-        }
-        outcome
-    }
-
-    /// Does what makes or removes a name in the folder. The folder is noted before, so that a note that finds no
-    /// memory leaves all as it was, and a change that fails takes the note back.
-    pub(crate) fn change_names<T, C: FnOnce(&R) -> io::Result<T>>(
-        &mut self,
-        folder: &str,
-        change: C,
-    ) -> io::Result<T>
-        requires { C.IsAlwaysCallable change }
-        ensures noted { OnOk result (IsTrue (contains_text self.new.folders folder.now)) }
+    fn rename_once(&mut self, areas: (Area, Area), from: &str, to: &str) -> io::Result<()>
+        ensures from { OnOk result (HasNote self.new.folders areas.0) }
+        ensures to { OnOk result (HasNote self.new.folders areas.1) }
+        ensures kept { NoneLost self.old.folders self.new.folders }
     {
-        let is_new = self.note_folder(folder)?;
-        let outcome = change(self.rt);
-        if is_new && outcome.is_err() {
-            self.folders.remove(folder);
-        }
-        outcome
+        self.folders.note(areas.0)?;
+        self.folders.note(areas.1)?;
+        fs::rename(self.rt, from, to)
     }
 
-    // Answers whether the note is new.
-    fn note_folder(&mut self, folder: &str) -> Result<bool, AllocError>
-        ensures noted { OnOk result (IsTrue (contains_text self.new.folders folder.now)) }
-    {
-        if self.folders.contains(folder) {
-            return Ok(false);
-        }
-        let folder = String::from_str(self.rt.alloc(), folder)?;
-        self.folders.insert(folder)?;
-        Ok(true)
+    /// Opens the file that stands there. What is no regular file, such as a folder or a link, is not opened.
+    pub(crate) fn open(&self, how: &OpenOptions, path: &str) -> io::Result<R::File> {
+        file_len(self.rt, path)?;
+        how.open(self.rt, path)
     }
 
-    /// Makes the names last.
+    /// Syncs each folder.
     pub(crate) fn sync(&mut self) -> io::Result<()>
-        ensures { OnOk result (btree_set_len self.new.folders ≡ 0) }
+        ensures { OnOk result (NoneLeft self.new.folders) }
     {
-        let rt = self.rt;
-        sync_each(&mut self.folders, |folder| {
-            fs::open(rt, folder.as_str())?.sync_all()
-        })
+        self.folders.sync(self.rt, self.dir.as_str())
     }
+}
+
+/// The length of the file that stands there. At a link too there is none.
+pub(crate) fn file_len<R: Files>(rt: &R, path: &str) -> io::Result<u64> {
+    let found = fs::symlink_metadata(rt, path)?;
+    if found.is_file() {
+        Ok(found.len())
+    } else {
+        Err(ErrorKind::Other.into())
+    }
+}
+
+/// How a file that is read alone is opened.
+pub(crate) fn read_only() -> OpenOptions {
+    let mut options = OpenOptions::new();
+    options.read(true);
+    options
 }
 
 /// How a file that may be written is opened.

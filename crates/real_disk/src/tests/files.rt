@@ -1,4 +1,5 @@
 use super::*;
+use std::os::unix::fs::symlink;
 use std::test::Fail;
 
 #[test]
@@ -46,6 +47,9 @@ fn a_file_is_read_in_parts(rt: HostRuntime) -> Result<(), Fail> {
         (8, b"89..", 2),
         (10, b"....", 0),
         (1_099_511_627_776, b"....", 0),
+        (4_611_686_018_427_387_904, b"....", 0),
+        (9_223_372_036_854_775_809, b"....", 0),
+        (18_446_744_073_709_551_615, b"....", 0),
     ] {
         let mut buf = *b"....";
         assert_eq!(rt; disk.read(&FIRST, from, &mut buf), Ok(n), "from {from}");
@@ -141,5 +145,38 @@ fn a_missing_file_is_not_made(rt: HostRuntime) -> Result<(), Fail> {
     assert_eq!(rt; disk.remove(&FIRST), Err(DiskFault::Failed));
     assert_eq!(rt; disk.sync(), Ok(()));
     assert!(rt; is_missing(&rt, "missing"));
+    Ok(())
+}
+
+#[test]
+fn a_folder_at_a_place_fails_each_call(rt: HostRuntime) -> Result<(), Fail> {
+    let mut disk = disk_in(&rt, "cache")?;
+    assert_eq!(rt; make(&mut disk, &LAST, b"last"), Ok(()));
+    assert!(rt; fs::create_dir(&rt, FIRST_PATH).is_ok());
+    assert_eq!(rt; disk.size(&FIRST), Err(DiskFault::Failed));
+    assert_eq!(rt; disk.read(&FIRST, 0, &mut [0; 5]), Err(DiskFault::Failed));
+    assert_eq!(rt; disk.create(&FIRST), Err(DiskFault::Failed));
+    assert_eq!(rt; disk.write_end(&FIRST, 0, b"x"), Err(DiskFault::Failed));
+    assert_eq!(rt; disk.patch(&FIRST, 0, b"x"), Err(DiskFault::Failed));
+    assert_eq!(rt; disk.rename(&LAST, &FIRST), Err(DiskFault::Failed));
+    assert_eq!(rt; disk.remove(&FIRST), Err(DiskFault::Failed));
+    assert_eq!(rt; disk.sync(), Ok(()));
+    assert!(rt; holds(&rt, LAST_PATH, b"last"));
+    Ok(())
+}
+
+// The file that a link leads to is neither read nor written, and stays where a new file takes the link's place.
+#[test]
+fn a_link_at_a_place_is_not_followed(rt: HostRuntime) -> Result<(), Fail> {
+    let mut disk = disk_in(&rt, "cache")?;
+    assert_eq!(rt; make(&mut disk, &LAST, b"last"), Ok(()));
+    assert!(rt; fs::write(&rt, "elsewhere", b"foreign").is_ok());
+    assert!(rt; symlink(&rt, "../../elsewhere", FIRST_PATH).is_ok());
+    assert_eq!(rt; disk.size(&FIRST), Err(DiskFault::Failed));
+    assert_eq!(rt; disk.read(&FIRST, 0, &mut [0; 5]), Err(DiskFault::Failed));
+    assert_eq!(rt; disk.write_end(&FIRST, 0, b"x"), Err(DiskFault::Failed));
+    assert_eq!(rt; make(&mut disk, &FIRST, b"first"), Ok(()));
+    assert!(rt; holds(&rt, FIRST_PATH, b"first"));
+    assert!(rt; holds(&rt, "elsewhere", b"foreign"));
     Ok(())
 }

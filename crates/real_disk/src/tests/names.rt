@@ -1,6 +1,9 @@
 use super::*;
 use cache_base::{Names, NoMemory, Numbers};
+use std::os::unix::fs::symlink;
 use std::test::Fail;
+
+const STRANGE_LAST: &str = "strange/entries/FFFFFFFFFFFFFFFFFFFFFFFFFFFFFFFFFFFFFFFF";
 
 fn are_written(rt: &HostRuntime, paths: &[&str]) -> bool {
     paths
@@ -79,10 +82,25 @@ fn doomed_numbers_are_seen_in_order(rt: HostRuntime) -> Result<(), Fail> {
             ]
         )
     );
-    assert!(rt; fs::create_dir(&rt, "numbered/doomed/11").is_ok());
-    let wanted = [0, 9, 10, 11, 4_294_967_295];
+    let wanted = [0, 9, 10, 4_294_967_295];
     let found = doomed_of(&rt, &mut disk);
     assert!(rt; found.is_ok_and(|numbers| numbers.as_slice() == wanted.as_slice()));
     assert!(rt; holds(&rt, "numbered/doomed/007", b"foreign"));
+    Ok(())
+}
+
+// A folder, and a link to a file that is listed.
+#[test]
+fn what_is_no_file_is_not_listed(rt: HostRuntime) -> Result<(), Fail> {
+    let mut disk = disk_in(&rt, "strange")?;
+    assert_eq!(rt; make(&mut disk, &Place::Doomed(3), b"doomed"), Ok(()));
+    assert_eq!(rt; make(&mut disk, &FIRST, b"first"), Ok(()));
+    assert!(rt; fs::create_dir(&rt, "strange/doomed/7").is_ok());
+    assert!(rt; symlink(&rt, "3", "strange/doomed/8").is_ok());
+    assert!(rt; fs::create_dir(&rt, STRANGE_LAST).is_ok());
+    let numbers = doomed_of(&rt, &mut disk);
+    assert!(rt; numbers.is_ok_and(|numbers| numbers.as_slice() == [3].as_slice()));
+    let names = entries_of(&rt, &mut disk);
+    assert!(rt; names.is_ok_and(|names| names.as_slice() == [Name([0; 20])].as_slice()));
     Ok(())
 }

@@ -1,0 +1,28 @@
+-- What a sync takes off, key by key.
+use Rattle.std.proofs.Common.{rules, ◌≡◌, sym, ap, subst, ◌∙◌, ℕ, ◌<◌, List, [], ◌∷◌, ◌++◌, length, Option, Some, None}
+use Rattle.std.specs.Option.{IfSome, IsSome}
+use Rattle.std.specs.List.{All, slice_get}
+use Rattle.std.specs.BTreeSet.{BTreeSet}
+use Rattle.std.proofs.lemmas.List.{append_assoc, append-nil}
+use Rattle.std.proofs.lemmas.List.Elements.{All-append, All-cons, All-nil}
+use Rattle.real_disk.specs.Taken.{TakesOff}
+
+module _ {K : Type 0} (P : K → Type 0) where
+  pub takes_none : (keys : BTreeSet K) → TakesOff P keys keys
+  takes_none keys = record { taken = []; first = search rules; each = All-nil P }
+
+  -- one key more
+  pub takes_one : (before mid now : BTreeSet K) (first popped : K) → TakesOff P before mid → slice_get mid.keys 0 ≡ Some first → P first → mid.keys ≡ popped ∷ now.keys → TakesOff P before now
+  takes_one before mid now first popped t at holds removal =
+      let same : Some popped ≡ Some first = ap (λ keys. slice_get keys 0) (sym removal) ∙ at in
+      let is : popped ≡ first = cc same in
+      record {
+        taken = t.taken ++ (popped ∷ []);
+        first = t.first ∙ ap (λ keys. t.taken ++ keys) removal ∙ sym (append_assoc t.taken (popped ∷ []) now.keys);
+        each = All-append P t.taken (popped ∷ []) t.each (All-cons P popped [] (subst P (sym is) holds) (All-nil P));
+      }
+
+  -- the first key, where the set has one
+  pub takes_first : (before mid now : BTreeSet K) (first : K) (r : Option K) → TakesOff P before mid → slice_get mid.keys 0 ≡ Some first → P first → IsSome r → IfSome r (λ k. mid.keys ≡ k ∷ now.keys) → TakesOff P before now
+  takes_first before mid now first (Some popped) t at holds there removal = takes_one before mid now first popped t at holds removal
+  takes_first before mid now first None t at holds there removal = absurd (search rules)

@@ -1,0 +1,12 @@
+-- The folders that places lie in.
+use Rattle.disk_model.specs.declared.place.Place.{Place}
+use Rattle.disk_model.specs.declared.place.Place.TheVariants.{Entry, Doomed as InDoomed, Index, Log, Tmp}
+use Rattle.real_disk.specs.declared.paths.Area.{Area}
+use Rattle.real_disk.specs.declared.paths.Area.TheVariants.{Top, Entries, Doomed}
+
+abbrev pub area_in : Place → Area
+area_in (Entry name) = Entries
+area_in (InDoomed number) = Doomed
+area_in Index = Top
+area_in Log = Top
+area_in Tmp = Top

@@ -1,0 +1,42 @@
+-- The notes of files that are to be synced, by their places.
+use Rattle.std.specs.Prelude.{◌≡◌, ◌⊎◌, IsTrue, Bool, false}
+use Rattle.std.specs.BTreeMap.{is_at}
+use Rattle.std.specs.BTreeSet.{BTreeSet, contains, IsSubset}
+use Rattle.disk_model.specs.declared.place.Place.{Place}
+use Rattle.disk_model.specs.contracts.place.PlaceOrd.TheImpl as place_ord
+use Rattle.real_disk.specs.declared.notes.FolderNotes.{FolderNotes}
+use Rattle.real_disk.specs.Areas.{area_in}
+use Rattle.real_disk.specs.Folders.{HasNote}
+
+abbrev pub FileNotes : Type 0
+FileNotes = BTreeSet Place
+
+-- the file at the place is noted
+abbrev pub IsNoted : FileNotes → Place → Type 0
+IsNoted notes place = IsTrue (contains place_ord.ghosts.cmp notes place)
+
+-- a note of the file at the place is not lost
+abbrev pub KeepsNote : Place → FileNotes → FileNotes → Type 0
+KeepsNote place before now = IsNoted before place → IsNoted now place
+
+-- no note is lost
+abbrev pub KeepsAll : FileNotes → FileNotes → Type 0
+KeepsAll before now = IsSubset place_ord.ghosts.cmp before now
+
+-- such a note is given up only where the folder of the place is noted, since no file stands there any more
+abbrev pub Owes : Place → FileNotes → FileNotes → FolderNotes → Type 0
+Owes place before now folders = IsNoted before place → IsNoted now place ⊎ HasNote folders (area_in place)
+
+-- at every other place a file is noted exactly where it was
+abbrev pub KeepsOthers : Place → FileNotes → FileNotes → Type 0
+KeepsOthers place before now = (other : Place) → is_at (place_ord.ghosts.cmp place) other ≡ false → contains place_ord.ghosts.cmp now other ≡ contains place_ord.ghosts.cmp before other
+
+-- so it is at every place but these two
+abbrev pub KeepsAllBut : Place → Place → FileNotes → FileNotes → Type 0
+KeepsAllBut a b before now = (other : Place) → is_at (place_ord.ghosts.cmp a) other ≡ false → is_at (place_ord.ghosts.cmp b) other ≡ false → contains place_ord.ghosts.cmp now other ≡ contains place_ord.ghosts.cmp before other
+
+-- at most the note of the place was added, and whether it was
+pub record NotesNew (is_new : Bool) (place : Place) (before now : FileNotes) : Type 0 where
+  pub absent : IsTrue is_new → contains place_ord.ghosts.cmp before place ≡ false
+  pub kept : KeepsAll before now
+  pub others : KeepsOthers place before now

@@ -1,0 +1,64 @@
+//! The folders in which names have changed since the last sync.
+
+ghost use Rattle.std.specs.Prelude.{OnOk};
+ghost use Rattle.real_disk.specs.Folders.{NoneLost, NoneLeft, HasNote};
+
+use crate::paths::{Area, path_of_area};
+use crate::syncing::sync_each;
+use std::alloc::{AllocError, Global};
+use std::collections::BTreeSet;
+use std::fs::{self, OpenFile};
+use std::io::{self, ErrorKind};
+use std::rt::Files;
+
+/// The folders that are to be synced.
+#[derive(Drop)]
+pub(crate) struct FolderNotes {
+    areas: BTreeSet<Area, Global>,
+    // Folders outside the cache, in which one was made that leads to it.
+    above: BTreeSet<String, Global>,
+}
+
+impl FolderNotes {
+    pub(crate) fn none(alloc: Global) -> Self {
+        FolderNotes {
+            areas: BTreeSet::new(alloc),
+            above: BTreeSet::new(alloc),
+        }
+    }
+
+    pub(crate) fn note(&mut self, area: Area) -> Result<(), AllocError>
+        ensures noted { OnOk result (HasNote self.new area) }
+        ensures kept { NoneLost self.old self.new }
+    {
+        self.areas.insert(area)?;
+        Ok(())
+    }
+
+    pub(crate) fn note_above(&mut self, alloc: Global, folder: &str) -> Result<(), AllocError>
+        ensures kept { NoneLost self.old self.new }
+    {
+        let folder = String::from_str(alloc, folder)?;
+        self.above.insert(folder)?;
+        Ok(())
+    }
+
+    /// Syncs each folder.
+    pub(crate) fn sync<R: Files + AllocGlobal>(&mut self, rt: &R, dir: &str) -> io::Result<()>
+        ensures { OnOk result (NoneLeft self.new) }
+    {
+        sync_each(&mut self.areas, |area| {
+            sync_folder(rt, path_of_area(rt, dir, area)?.as_str())
+        })?;
+        sync_each(&mut self.above, |folder| sync_folder(rt, folder.as_str()))
+    }
+}
+
+// A folder is noted before a name in it is made, which may fail. Where it is missing there is no name to sync.
+fn sync_folder<R: Files>(rt: &R, path: &str) -> io::Result<()> {
+    match fs::open(rt, path) {
+        Ok(folder) => folder.sync_all(),
+        Err(error) if error.kind() == ErrorKind::NotFound => Ok(()),
+        Err(error) => Err(error),
+    }
+}
