@@ -1,0 +1,169 @@
+//! Closes the index.
+
+ghost use Rattle.std.specs.Prelude.{◌≡◌, IfOk, IsErrOf, IsTrue, OnOk, false, if◌then◌else◌, true};
+ghost use Rattle.cache_base.specs.Bytes.{be32};
+ghost use Rattle.cache_base.specs.Causes.{HasCause};
+ghost use Rattle.disk_model.specs.Calls.{Holds, StopsAtFault, if_ok};
+ghost use Rattle.disk_model.specs.Sound.{IsQuiet};
+ghost use Rattle.disk_model.specs.State.{settled, standing};
+ghost use Rattle.disk_model.specs.declared.disk.DiskFault.TheVariants.{Failed};
+ghost use Rattle.disk_model.specs.declared.place.Place.TheVariants.{Index};
+ghost use Rattle.index_theory.specs.Apart.{IsApart};
+ghost use Rattle.index_theory.specs.Closing.{closed, flagged, log_synced};
+ghost use Rattle.index_theory.specs.Unclean.{IsUnclean};
+ghost use Rattle.startup_read.specs.Closing as spec;
+ghost use Rattle.startup_read.specs.Kept.{KeepsIndex};
+ghost use Rattle.startup_read.specs.Spares.{SparesEntries};
+
+use crate::FLAG_AT;
+use crate::index_write::write_index;
+use cache_base::{Bytes, CHANGED_MAX, Moment, NoMemory};
+use disk_model::{Disk, DiskFault, Place};
+use index_map::RecordMap;
+use std::alloc::Global;
+
+// The flag of an index that is up to date, together with its journal.
+const UP_TO_DATE: u32 = 0;
+
+// The bytes of a journal with what has changed since the index was written.
+fn print_changes(alloc: Global, map: &RecordMap) -> Result<Bytes, NoMemory>
+    ensures { IfOk result (spec.PrintsChanges map.now) }
+{
+    let changes = map.diff()?;
+    index_journal::print(alloc, &changes)
+}
+
+fn is_due(map: &RecordMap) -> bool
+    ensures { result ≡ spec.is_due map.now }
+{
+    !map.has_base() || map.changed() >= CHANGED_MAX as u64
+}
+
+// Writes the whole index where that is due: where there is no base, or too many records differ from it.
+fn refresh<D: Disk>(
+    alloc: Global,
+    disk: &mut D,
+    map: &mut RecordMap,
+    now: Moment,
+) -> Result<(), DiskFault>
+    ensures map { OnOk result (map.new ≡ spec.after_refresh map.old) }
+    ensures written { OnOk result (IsTrue D.tells → spec.Refreshes map.old now (D.state disk.old) (D.state disk.new)) }
+    ensures amid { IsTrue D.tells → spec.IsAmidRefresh map.old now (D.state disk.old) (D.state disk.new) }
+    ensures keeps { OnOk result (IsTrue D.tells → KeepsIndex (D.state disk.old) map.old → KeepsIndex (D.state disk.new) map.new) }
+    ensures based { OnOk result (map.new.has_base ≡ true) }
+    ensures went_on { OnOk result (IsTrue D.tells → (D.counts disk.new).failed ≡ (D.counts disk.old).failed) }
+    ensures stops { IsTrue D.tells → StopsAtFault (D.counts disk.old) (D.counts disk.new) }
+    ensures looks { IsTrue D.tells → (D.counts disk.new).entry_reads ≡ (D.counts disk.old).entry_reads }
+    ensures cause { HasCause (IsErrOf result DiskFault.Failed) (D.faults disk.old) (D.faults disk.new) }
+{
+    if is_due(map) {
+        write_index(alloc, disk, map, now)
+    } else {
+        Ok(())
+    }
+}
+
+// Writes the journal, and syncs it.
+fn write_log<D: Disk>(disk: &mut D, bytes: &[u8]) -> Result<(), DiskFault>
+    ensures written { OnOk result (IsTrue D.tells → D.state disk.new ≡ log_synced bytes.now (D.state disk.old)) }
+    ensures amid { IsTrue D.tells → spec.IsAmidLogging bytes.now (D.state disk.old) (D.state disk.new) }
+    ensures went_on { OnOk result (IsTrue D.tells → (D.counts disk.new).failed ≡ (D.counts disk.old).failed) }
+    ensures stops { IsTrue D.tells → StopsAtFault (D.counts disk.old) (D.counts disk.new) }
+    ensures looks { IsTrue D.tells → (D.counts disk.new).entry_reads ≡ (D.counts disk.old).entry_reads }
+    ensures cause { HasCause (IsErrOf result DiskFault.Failed) (D.faults disk.old) (D.faults disk.new) }
+{
+    disk.create(&Place::Log)?;
+    disk.write_end(&Place::Log, 0, bytes)?;
+    disk.sync()
+}
+
+// Clears the flag of the index, and syncs that.
+fn clear_flag<D: Disk>(disk: &mut D) -> Result<(), DiskFault>
+    requires { IsTrue D.tells → Holds (standing (D.state disk.old) Index) 8 4 }
+    ensures cleared { OnOk result (IsTrue D.tells → D.state disk.new ≡ settled (flagged (be32 0) (D.state disk.old))) }
+    ensures amid { IsTrue D.tells → spec.IsAmidClearing (D.state disk.old) (D.state disk.new) }
+    ensures went_on { OnOk result (IsTrue D.tells → (D.counts disk.new).failed ≡ (D.counts disk.old).failed) }
+    ensures stops { IsTrue D.tells → StopsAtFault (D.counts disk.old) (D.counts disk.new) }
+    ensures looks { IsTrue D.tells → (D.counts disk.new).entry_reads ≡ (D.counts disk.old).entry_reads }
+    ensures cause { HasCause (IsErrOf result DiskFault.Failed) (D.faults disk.old) (D.faults disk.new) }
+{
+    disk.patch(&Place::Index, FLAG_AT, &UP_TO_DATE.to_be_bytes())?;
+    disk.sync()
+}
+
+// Writes the journal, and then clears the flag of the index.
+fn log_and_clear<D: Disk>(disk: &mut D, bytes: &[u8]) -> Result<(), DiskFault>
+    requires { IsTrue D.tells → Holds (standing (D.state disk.old) Index) 8 4 }
+    ensures closed { OnOk result (IsTrue D.tells → D.state disk.new ≡ closed bytes.now (D.state disk.old)) }
+    ensures amid { IsTrue D.tells → spec.IsAmidLogging bytes.now (D.state disk.old) (D.state disk.new) }
+    ensures went_on { OnOk result (IsTrue D.tells → (D.counts disk.new).failed ≡ (D.counts disk.old).failed) }
+    ensures stops { IsTrue D.tells → StopsAtFault (D.counts disk.old) (D.counts disk.new) }
+    ensures looks { IsTrue D.tells → (D.counts disk.new).entry_reads ≡ (D.counts disk.old).entry_reads }
+    ensures cause { HasCause (IsErrOf result DiskFault.Failed) (D.faults disk.old) (D.faults disk.new) }
+{
+    write_log(disk, bytes)?;
+    clear_flag(disk)
+}
+
+// Closes the index, where the records now are those of all entries.
+fn close_ended<D: Disk>(
+    alloc: Global,
+    disk: &mut D,
+    map: &mut RecordMap,
+    now: Moment,
+) -> Result<(), DiskFault>
+    requires { IsTrue D.tells → KeepsIndex (D.state disk.old) map.old }
+    ensures map { OnOk result (map.new ≡ spec.after_refresh map.old) }
+    ensures closed { OnOk result (IsTrue D.tells → spec.ClosesIndex map.old now (D.state disk.old) (D.state disk.new)) }
+    ensures amid { IsTrue D.tells → spec.IsAmidClosing map.old now (D.state disk.old) (D.state disk.new) }
+    ensures went_on { OnOk result (IsTrue D.tells → (D.counts disk.new).failed ≡ (D.counts disk.old).failed) }
+    ensures stops { IsTrue D.tells → StopsAtFault (D.counts disk.old) (D.counts disk.new) }
+    ensures looks { IsTrue D.tells → (D.counts disk.new).entry_reads ≡ (D.counts disk.old).entry_reads }
+    ensures cause { HasCause (IsErrOf result DiskFault.Failed) (D.faults disk.old) (D.faults disk.new) }
+{
+    refresh(alloc, disk, map, now)?;
+    let bytes = print_changes(alloc, map)?;
+    log_and_clear(disk, bytes.as_slice())
+}
+
+/// Closes the index. Where the update has `ended`, so that the records now are those of all entries, the whole index is
+/// written if there is no base or if at least `CHANGED_MAX` records differ from it; then the journal with what differs,
+/// which is synced; and then the flag of the index is cleared and the disk synced, so that the next opening trusts both.
+/// Where it has not ended the disk is synced, and the index stays dirty.
+pub fn close_index<D: Disk>(
+    alloc: Global,
+    disk: &mut D,
+    map: &mut RecordMap,
+    now: Moment,
+    ended: bool,
+) -> Result<(), DiskFault>
+    requires { IsTrue D.tells → KeepsIndex (D.state disk.old) map.old }
+
+    // The map.
+    ensures map { OnOk result (map.new ≡ (if ended then spec.after_refresh map.old else map.old)) }
+
+    // The changes, in their order, and what they leave.
+    ensures closed { OnOk result (IsTrue D.tells → ended ≡ true → spec.ClosesIndex map.old now (D.state disk.old) (D.state disk.new)) }
+    ensures amid { IsTrue D.tells → ended ≡ true → spec.IsAmidClosing map.old now (D.state disk.old) (D.state disk.new) }
+    ensures synced { IsTrue D.tells → ended ≡ false → D.state disk.new ≡ if_ok result (settled (D.state disk.old)) (D.state disk.old) }
+    ensures quiet { OnOk result (IsTrue D.tells → IsQuiet (D.state disk.new)) }
+    ensures entries { IsTrue D.tells → IsApart (D.state disk.old) → SparesEntries (D.state disk.old) (D.state disk.new) }
+
+    // A crash at any moment leaves an honest directory, where the records say what a scan would; and after an Ok the
+    // next opening trusts the index. Before the end of the update, no crash leaves a trusted index.
+    ensures honest { IsTrue D.tells → spec.ClosesHonest ended map.old.records (D.state disk.old) (D.state disk.new) }
+    ensures trusted { OnOk result (IsTrue D.tells → ended ≡ true → spec.LeavesTrusted map.old.records (D.state disk.old) (D.state disk.new)) }
+    ensures unclean { IsTrue D.tells → ended ≡ false → IsUnclean (D.state disk.old) → IsUnclean (D.state disk.new) }
+
+    // Calls and faults.
+    ensures went_on { OnOk result (IsTrue D.tells → (D.counts disk.new).failed ≡ (D.counts disk.old).failed) }
+    ensures stops { IsTrue D.tells → StopsAtFault (D.counts disk.old) (D.counts disk.new) }
+    ensures looks { IsTrue D.tells → (D.counts disk.new).entry_reads ≡ (D.counts disk.old).entry_reads }
+    ensures cause { HasCause (IsErrOf result DiskFault.Failed) (D.faults disk.old) (D.faults disk.new) }
+{
+    if ended {
+        close_ended(alloc, disk, map, now)
+    } else {
+        disk.sync()
+    }
+}
