@@ -1,3 +1,4 @@
+pub mod Told
 pub mod Ever
 pub mod Scan
 pub mod IndexKind

@@ -14,7 +14,7 @@ use Rattle.record_list.proofs.NameLaws.{same_is, same_itself}
 use Rattle.record_list.proofs.SortedLaws.{by_name_keeps}
 use Rattle.index_theory.specs.Ever.{Entries}
 use Rattle.index_update.specs.Rest.{BytesDrop, BytesEnd, BytesWait, BytesWithout, name_bytes, without}
-use Rattle.index_update.specs.Tells.{BeginTells, EndTells, SeenTells, TellsSeen, ToldIsScan}
+use Rattle.index_update.specs.Tells.{BeginTells, EndTells, SameBut, SeenTells, SetTellsAll, TellsAll, TellsSeen, ToldIsScan}
 use Rattle.index_update.proofs.Telling.{as_bytes, from_bytes}
 
 none_from : (o : Option (List ℕ)) → (IsSome o → ⊥) → o ≡ None
@@ -64,6 +64,18 @@ seen_tells before now k l name r rest sets is others tells q out = tell_one befo
 
 pub end_tells : EndTells
 end_tells es k tells name = tells name (λ has. omega (arith, has.1))
+
+-- the record of one name by the test of names
+set_one : (before now : Entries) (k l : Known) (name : Name) (r : Option IndexRecord) → Sets k l name r → r ≡ scanned now name
+    → SameBut name before now → TellsAll before k → (q : Name) (b : Bool) → same_name name q ≡ b → record_at l.records q ≡ scanned now q
+set_one before now k l name r sets is others told q true e =
+    sets.records q ∙ ap (λ b. cond b r (record_at k.records q)) e ∙ is ∙ ap (scanned now) (same_is name q e)
+set_one before now k l name r sets is others told q false e =
+    let apart : q ≢ name = λ same. (let own : same_name name q ≡ true = ap (same_name name) same ∙ same_itself name in absurd (cc)) in
+    sets.records q ∙ ap (λ b. cond b r (record_at k.records q)) e ∙ told q ∙ ap (option_and_then (record_of q)) (sym (others q apart))
+
+pub set_tells_all : SetTellsAll
+set_tells_all before now k l name r sets is others told q = set_one before now k l name r sets is others told q (same_name name q) refl
 
 pub told_is_scan : ToldIsScan
 told_is_scan es k sorted tells names by = record {

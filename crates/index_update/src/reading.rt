@@ -30,7 +30,8 @@ fn record_of(name: &Name, meta: &Meta, size: u64) -> IndexRecord
 
 // What stands at the place of an entry, as a record.
 fn look<D: Disk>(alloc: Global, disk: &mut D, name: &Name) -> Result<Option<IndexRecord>, DiskFault>
-    ensures record { IfOk result (λ found. IsTrue D.tells → found ≡ scanned (entries_on (D.state disk.old)) name.now) }
+    ensures record { IfOk result (λ found. IsTrue D.tells →
+        found ≡ scanned (entries_on (D.state disk.old)) name.now) }
     ensures named { IfOk result (λ found. IfSome found (λ r. r.name ≡ name.now)) }
     ensures plain { IfOk result (λ found. IfSome found IsPlain) }
     ensures state { IsTrue D.tells → D.state disk.new ≡ D.state disk.old }
@@ -51,7 +52,8 @@ fn read_one<D: Disk>(
     name: &Name,
     map: &mut RecordMap,
 ) -> Result<(), DiskFault>
-    ensures sets { OnOk result (IsTrue D.tells → Sets map.old map.new name.now (scanned (entries_on (D.state disk.old)) name.now)) }
+    ensures sets { OnOk result (IsTrue D.tells →
+        Sets map.old map.new name.now (scanned (entries_on (D.state disk.old)) name.now)) }
     ensures base { SameBase map.old map.new }
     ensures kept { OnErr result (map.new ≡ map.old) }
     ensures state { IsTrue D.tells → D.state disk.new ≡ D.state disk.old }
@@ -73,8 +75,10 @@ pub(crate) fn read_each<D: Disk>(
     names: &[Name],
     map: &mut RecordMap,
 ) -> Result<(), DiskFault>
-    ensures reads { OnOk result (IsTrue D.tells → Reads (entries_on (D.state disk.old)) names.now map.old map.new) }
-    ensures some { OnErr result (IsTrue D.tells → ReadsSome (entries_on (D.state disk.old)) names.now map.old map.new) }
+    ensures reads { OnOk result (IsTrue D.tells →
+        Reads (entries_on (D.state disk.old)) names.now map.old map.new) }
+    ensures some { OnErr result (IsTrue D.tells →
+        ReadsSome (entries_on (D.state disk.old)) names.now map.old map.new) }
     ensures base { SameBase map.old map.new }
     ensures state { IsTrue D.tells → D.state disk.new ≡ D.state disk.old }
     ensures looks { IsTrue D.tells → Looks (4 * length names.now) (D.counts disk.old) (D.counts disk.new) }

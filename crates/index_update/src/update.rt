@@ -12,8 +12,8 @@ ghost use Rattle.index_map.specs.Known.{SameBase};
 ghost use Rattle.record_list.specs.Lists.{same_name};
 ghost use Rattle.index_theory.specs.Ever.{entries_on};
 ghost use Rattle.index_update.specs.Reads.{ReadsIn, ReadsSome};
-ghost use Rattle.index_update.specs.Rest.{name_bytes, without};
-ghost use Rattle.index_update.specs.Tells.{TellsAll, TellsSeen};
+ghost use Rattle.index_update.specs.Rest.{without};
+ghost use Rattle.index_update.specs.Tells.{ComesToTell, GoesOnTelling};
 
 use crate::names::{first_of, set_of, take_off};
 use crate::reading::read_each;
@@ -67,7 +67,8 @@ impl Update {
 
     /// An update whose rest is the names of all entries.
     pub fn begin<D: Disk>(alloc: Global, disk: &mut D) -> Result<Update, DiskFault>
-        ensures rest { IfOk result (λ update. IsTrue D.tells → AreEntries (D.state disk.old) update) }
+        ensures rest { IfOk result (λ update. IsTrue D.tells →
+            AreEntries (D.state disk.old) update) }
         ensures rising { IfOk result (λ update. AreRising update) }
         ensures state { IsTrue D.tells → D.state disk.new ≡ D.state disk.old }
         ensures counts { IsTrue D.tells → D.counts disk.new ≡ counted (D.counts disk.old) }
@@ -90,15 +91,21 @@ impl Update {
     ) -> Result<(), DiskFault>
         ensures rest { OnOk result (self.new ≡ drop n self.old) }
         ensures kept { OnErr result (self.new ≡ self.old) }
-        ensures seen { OnOk result (IsTrue D.tells → ReadsIn (entries_on (D.state disk.old)) (take n self.old) map.old.seen map.new.seen) }
-        ensures records { OnOk result (IsTrue D.tells → self.new ≢ [] → ReadsIn (entries_on (D.state disk.old)) (take n self.old) map.old.records map.new.records) }
+        ensures seen { let es = entries_on (D.state disk.old) in
+            OnOk result (IsTrue D.tells → ReadsIn es (take n self.old) map.old.seen map.new.seen) }
+        ensures records { let es = entries_on (D.state disk.old) in OnOk result (IsTrue D.tells →
+            self.new ≢ [] → ReadsIn es (take n self.old) map.old.records map.new.records) }
         ensures ended { OnOk result (self.new ≡ [] → map.new.records ≡ map.new.seen) }
-        ensures some { OnErr result (IsTrue D.tells → ReadsSome (entries_on (D.state disk.old)) (take n self.old) map.old map.new) }
+        ensures some { let es = entries_on (D.state disk.old) in
+            OnErr result (IsTrue D.tells → ReadsSome es (take n self.old) map.old map.new) }
         ensures base { SameBase map.old map.new }
-        ensures tells { IsTrue D.tells → TellsSeen (entries_on (D.state disk.old)) map.old (name_bytes self.old) → TellsSeen (entries_on (D.state disk.old)) map.new (name_bytes self.new) }
-        ensures tells_all { OnOk result (IsTrue D.tells → TellsSeen (entries_on (D.state disk.old)) map.old (name_bytes self.old) → self.new ≡ [] → TellsAll (entries_on (D.state disk.old)) map.new) }
+        ensures tells { let es = entries_on (D.state disk.old) in IsTrue D.tells →
+            GoesOnTelling es map.old self.old map.new self.new }
+        ensures tells_all { let es = entries_on (D.state disk.old) in OnOk result (IsTrue D.tells →
+            self.new ≡ [] → ComesToTell es map.old self.old map.new) }
         ensures state { IsTrue D.tells → D.state disk.new ≡ D.state disk.old }
-        ensures looks { IsTrue D.tells → Looks (4 * length (take n self.old)) (D.counts disk.old) (D.counts disk.new) }
+        ensures looks { IsTrue D.tells →
+            Looks (4 * length (take n self.old)) (D.counts disk.old) (D.counts disk.new) }
         ensures cause { HasCause (IsErrOf result DiskFault.Failed) (D.faults disk.old) (D.faults disk.new) }
     {
         let first = first_of(self.alloc, &self.names, n)?;
@@ -120,17 +127,23 @@ impl Update {
         // The rest, and the records.
         ensures rest { OnOk result (self.new ≡ drop n self.old) }
         ensures kept { OnErr result (self.new ≡ self.old) }
-        ensures seen { OnOk result (IsTrue D.tells → ReadsIn (entries_on (D.state disk.old)) (take n self.old) map.old.seen map.new.seen) }
-        ensures records { OnOk result (IsTrue D.tells → self.new ≢ [] → ReadsIn (entries_on (D.state disk.old)) (take n self.old) map.old.records map.new.records) }
+        ensures seen { let es = entries_on (D.state disk.old) in
+            OnOk result (IsTrue D.tells → ReadsIn es (take n self.old) map.old.seen map.new.seen) }
+        ensures records { let es = entries_on (D.state disk.old) in OnOk result (IsTrue D.tells →
+            self.new ≢ [] → ReadsIn es (take n self.old) map.old.records map.new.records) }
         ensures ended { OnOk result (self.new ≡ [] → map.new.records ≡ map.new.seen) }
-        ensures some { OnErr result (IsTrue D.tells → ReadsSome (entries_on (D.state disk.old)) (take n self.old) map.old map.new) }
+        ensures some { let es = entries_on (D.state disk.old) in
+            OnErr result (IsTrue D.tells → ReadsSome es (take n self.old) map.old map.new) }
         ensures base { SameBase map.old map.new }
         // The records that were seen go on to tell what stands outside the rest, and with an empty rest all do.
-        ensures tells { IsTrue D.tells → TellsSeen (entries_on (D.state disk.old)) map.old (name_bytes self.old) → TellsSeen (entries_on (D.state disk.old)) map.new (name_bytes self.new) }
-        ensures tells_all { OnOk result (IsTrue D.tells → TellsSeen (entries_on (D.state disk.old)) map.old (name_bytes self.old) → self.new ≡ [] → TellsAll (entries_on (D.state disk.old)) map.new) }
+        ensures tells { let es = entries_on (D.state disk.old) in IsTrue D.tells →
+            GoesOnTelling es map.old self.old map.new self.new }
+        ensures tells_all { let es = entries_on (D.state disk.old) in OnOk result (IsTrue D.tells →
+            self.new ≡ [] → ComesToTell es map.old self.old map.new) }
         // The disk.
         ensures state { IsTrue D.tells → D.state disk.new ≡ D.state disk.old }
-        ensures looks { IsTrue D.tells → Looks (4 * length (take n self.old)) (D.counts disk.old) (D.counts disk.new) }
+        ensures looks { IsTrue D.tells →
+            Looks (4 * length (take n self.old)) (D.counts disk.old) (D.counts disk.new) }
         ensures cause { HasCause (IsErrOf result DiskFault.Failed) (D.faults disk.old) (D.faults disk.new) }
     {
         self.read_first(disk, n as usize, map)
@@ -141,16 +154,21 @@ impl Update {
         // The rest, and the records.
         ensures rest { OnOk result (self.new ≡ []) }
         ensures kept { OnErr result (self.new ≡ self.old) }
-        ensures seen { OnOk result (IsTrue D.tells → ReadsIn (entries_on (D.state disk.old)) self.old map.old.seen map.new.seen) }
+        ensures seen { let es = entries_on (D.state disk.old) in
+            OnOk result (IsTrue D.tells → ReadsIn es self.old map.old.seen map.new.seen) }
         ensures ended { OnOk result (map.new.records ≡ map.new.seen) }
-        ensures some { OnErr result (IsTrue D.tells → ReadsSome (entries_on (D.state disk.old)) self.old map.old map.new) }
+        ensures some { let es = entries_on (D.state disk.old) in
+            OnErr result (IsTrue D.tells → ReadsSome es self.old map.old map.new) }
         ensures base { SameBase map.old map.new }
         // The records that were seen go on to tell what stands outside the rest, and in the end all do.
-        ensures tells { IsTrue D.tells → TellsSeen (entries_on (D.state disk.old)) map.old (name_bytes self.old) → TellsSeen (entries_on (D.state disk.old)) map.new (name_bytes self.new) }
-        ensures tells_all { OnOk result (IsTrue D.tells → TellsSeen (entries_on (D.state disk.old)) map.old (name_bytes self.old) → TellsAll (entries_on (D.state disk.old)) map.new) }
+        ensures tells { let es = entries_on (D.state disk.old) in IsTrue D.tells →
+            GoesOnTelling es map.old self.old map.new self.new }
+        ensures tells_all { let es = entries_on (D.state disk.old) in OnOk result (IsTrue D.tells →
+            ComesToTell es map.old self.old map.new) }
         // The disk.
         ensures state { IsTrue D.tells → D.state disk.new ≡ D.state disk.old }
-        ensures looks { IsTrue D.tells → Looks (4 * length self.old) (D.counts disk.old) (D.counts disk.new) }
+        ensures looks { IsTrue D.tells →
+            Looks (4 * length self.old) (D.counts disk.old) (D.counts disk.new) }
         ensures cause { HasCause (IsErrOf result DiskFault.Failed) (D.faults disk.old) (D.faults disk.new) }
     {
         let n = self.names.len();

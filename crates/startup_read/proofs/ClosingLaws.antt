@@ -29,10 +29,10 @@ use Rattle.index_theory.proofs.UncleanLaws.{sync_keeps_unclean, unclean_leaves_h
 use Rattle.record_list.specs.Change.{IsDiff}
 use Rattle.record_list.specs.Lists.{HasNames, names_of}
 use Rattle.record_list.proofs.NameLaws.{rising_distinct}
-use Rattle.startup_read.specs.Closing.{ClosesIndex, ClosingMoment, IsAmidClearing, IsAmidClosing, IsAmidLogging, IsAmidRefresh, IsTrusted, LeavesTrusted, PrintsChanges, Refreshes, after_refresh, closing_at, is_due, written_map}
+use Rattle.startup_read.specs.Closing.{ClosesIndex, ClosingMoment, IsAmidClearing, IsAmidClosing, IsAmidLogging, IsAmidRefresh, IsTrusted, LeavesTrusted, PrintsChanges, Refreshes, after_refresh, closing_at, is_due}
 use Rattle.startup_read.specs.Closing.ClosingMoment.{Begun, Cleared, Closed, Filled, Synced, Unlogged}
 use Rattle.index_theory.specs.Base.{BaseStands}
-use Rattle.startup_read.specs.Kept.{KeepsIndex}
+use Rattle.startup_read.specs.Kept.{KeepsIndex, written_map}
 use Rattle.startup_read.specs.Spares.{SparesEntries}
 use Rattle.startup_read.proofs.OpeningLaws.{sound_wrote}
 use Rattle.startup_read.proofs.SparesLaws.{spared_stands, spares_both, spares_nothing, spares_sync, spares_then}
@@ -283,7 +283,7 @@ sync_unclean (Err fault) s t is unclean = subst IsUnclean (sym is) unclean
 pub sync_honest : {T : Type 0} (r : Result T DiskFault) (s t : State) → t ≡ if_ok r (settled s) s → IsUnclean s → LeavesHonest t
 sync_honest r s t is unclean = unclean_leaves_honest t (sync_unclean r s t is unclean)
 
-pub ok_trusted : {T : Type 0} (r : Result T DiskFault) (A B : Type 0) (map : Known) (now : ℕ) (s t : State) → (A → IsSound s) → (A → KeepsIndex s map)
-    → OnOk r (A → ClosesIndex map now s t) → OnOk r (A → B → LeavesTrusted map.records s t)
-ok_trusted (Ok value) A B map now s t sound keeps closes_ = λ a b apart tells. closing_trusted map now s t (sound a) (keeps a) apart (closes_ a) tells
-ok_trusted (Err fault) A B map now s t sound keeps closes_ = tt
+pub ok_trusted : {T : Type 0} (r : Result T DiskFault) (A : Type 0) (map : Known) (now : ℕ) (s t : State) → (A → IsSound s) → (A → KeepsIndex s map)
+    → OnOk r (A → ClosesIndex map now s t) → OnOk r (A → LeavesTrusted map.records s t)
+ok_trusted (Ok value) A map now s t sound keeps closes_ = λ a apart tells. closing_trusted map now s t (sound a) (keeps a) apart (closes_ a) tells
+ok_trusted (Err fault) A map now s t sound keeps closes_ = tt

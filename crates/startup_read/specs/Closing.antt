@@ -15,6 +15,7 @@ use Rattle.index_theory.specs.Start.{start_of}
 use Rattle.index_theory.specs.declared.kinds.Start.TheVariants.{Ready}
 use Rattle.index_theory.specs.Unclean.{IsUnclean}
 use Rattle.record_list.specs.Change.{IsDiff}
+use Rattle.startup_read.specs.Kept.{KeepsIndex, written_map}
 use Rattle.startup_read.specs.Writing.{IsAmidWriting, WritesIndex}
 
 -- ---- the index
@@ -22,10 +23,6 @@ use Rattle.startup_read.specs.Writing.{IsAmidWriting, WritesIndex}
 -- there is no base, or so much has changed that the whole index is written
 abbrev pub is_due : Known → Bool
 is_due map = not map.has_base || nat_le CHANGED_MAX (changed map.base map.records)
-
--- the map, after its records now were written
-abbrev pub written_map : Known → Known
-written_map map = record map { base = map.records; has_base = true }
 
 -- the map after a closing, by whether the index was written
 abbrev pub after_refresh : Known → Known
@@ -35,6 +32,10 @@ after_refresh map = if is_due map then written_map map else map
 pub record Refreshes (map : Known) (now : ℕ) (s t : State) : Type 0 where
   pub due : is_due map ≡ true → WritesIndex map.records now s t
   pub not_due : is_due map ≡ false → t ≡ s
+
+-- what is kept of the index with the one map before is kept with the other one after
+abbrev pub KeepsOver : Known → Known → State → State → Type 0
+KeepsOver old new s t = KeepsIndex s old → KeepsIndex t new
 
 -- nothing was done, or where it is due the writing has come to one of its moments
 pub record IsAmidRefresh (map : Known) (now : ℕ) (s t : State) : Type 0 where

@@ -1,3 +1,4 @@
+pub mod Account
 pub mod Looks
 pub mod Kept
 pub mod Reads

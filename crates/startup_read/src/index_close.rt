@@ -10,7 +10,9 @@ ghost use Rattle.disk_model.specs.declared.disk.DiskFault.TheVariants.{Failed};
 ghost use Rattle.disk_model.specs.declared.place.Place.TheVariants.{Index};
 ghost use Rattle.index_theory.specs.Apart.{IsApart};
 ghost use Rattle.index_theory.specs.Closing.{closed, flagged, log_synced};
+ghost use Rattle.index_theory.specs.Told.{Told};
 ghost use Rattle.index_theory.specs.Unclean.{IsUnclean};
+ghost use Rattle.startup_read.specs.Account.{Accounts, ending};
 ghost use Rattle.startup_read.specs.Closing as spec;
 ghost use Rattle.startup_read.specs.Kept.{KeepsIndex};
 ghost use Rattle.startup_read.specs.Spares.{SparesEntries};
@@ -47,14 +49,11 @@ fn refresh<D: Disk>(
     now: Moment,
 ) -> Result<(), DiskFault>
     ensures map { OnOk result (map.new ≡ spec.after_refresh map.old) }
-    ensures written { OnOk result (IsTrue D.tells → spec.Refreshes map.old now (D.state disk.old) (D.state disk.new)) }
-    ensures amid { IsTrue D.tells → spec.IsAmidRefresh map.old now (D.state disk.old) (D.state disk.new) }
-    ensures keeps { OnOk result (IsTrue D.tells → KeepsIndex (D.state disk.old) map.old → KeepsIndex (D.state disk.new) map.new) }
+    ensures written { OnOk result (Told D.Disk (spec.Refreshes map.old now) disk.old disk.new) }
+    ensures amid { Told D.Disk (spec.IsAmidRefresh map.old now) disk.old disk.new }
+    ensures keeps { OnOk result (Told D.Disk (spec.KeepsOver map.old map.new) disk.old disk.new) }
     ensures based { OnOk result (map.new.has_base ≡ true) }
-    ensures went_on { OnOk result (IsTrue D.tells → (D.counts disk.new).failed ≡ (D.counts disk.old).failed) }
-    ensures stops { IsTrue D.tells → StopsAtFault (D.counts disk.old) (D.counts disk.new) }
-    ensures looks { IsTrue D.tells → (D.counts disk.new).entry_reads ≡ (D.counts disk.old).entry_reads }
-    ensures cause { HasCause (IsErrOf result DiskFault.Failed) (D.faults disk.old) (D.faults disk.new) }
+    ensures account { Accounts D.Disk (ending result) disk.old disk.new }
 {
     if is_due(map) {
         write_index(alloc, disk, map, now)
@@ -65,12 +64,9 @@ fn refresh<D: Disk>(
 
 // Writes the journal, and syncs it.
 fn write_log<D: Disk>(disk: &mut D, bytes: &[u8]) -> Result<(), DiskFault>
-    ensures written { OnOk result (IsTrue D.tells → D.state disk.new ≡ log_synced bytes.now (D.state disk.old)) }
-    ensures amid { IsTrue D.tells → spec.IsAmidLogging bytes.now (D.state disk.old) (D.state disk.new) }
-    ensures went_on { OnOk result (IsTrue D.tells → (D.counts disk.new).failed ≡ (D.counts disk.old).failed) }
-    ensures stops { IsTrue D.tells → StopsAtFault (D.counts disk.old) (D.counts disk.new) }
-    ensures looks { IsTrue D.tells → (D.counts disk.new).entry_reads ≡ (D.counts disk.old).entry_reads }
-    ensures cause { HasCause (IsErrOf result DiskFault.Failed) (D.faults disk.old) (D.faults disk.new) }
+    ensures written { OnOk result (Told D.Disk (λ s t. t ≡ log_synced bytes.now s) disk.old disk.new) }
+    ensures amid { Told D.Disk (spec.IsAmidLogging bytes.now) disk.old disk.new }
+    ensures account { Accounts D.Disk (ending result) disk.old disk.new }
 {
     disk.create(&Place::Log)?;
     disk.write_end(&Place::Log, 0, bytes)?;
@@ -80,12 +76,9 @@ fn write_log<D: Disk>(disk: &mut D, bytes: &[u8]) -> Result<(), DiskFault>
 // Clears the flag of the index, and syncs that.
 fn clear_flag<D: Disk>(disk: &mut D) -> Result<(), DiskFault>
     requires { IsTrue D.tells → Holds (standing (D.state disk.old) Index) 8 4 }
-    ensures cleared { OnOk result (IsTrue D.tells → D.state disk.new ≡ settled (flagged (be32 0) (D.state disk.old))) }
-    ensures amid { IsTrue D.tells → spec.IsAmidClearing (D.state disk.old) (D.state disk.new) }
-    ensures went_on { OnOk result (IsTrue D.tells → (D.counts disk.new).failed ≡ (D.counts disk.old).failed) }
-    ensures stops { IsTrue D.tells → StopsAtFault (D.counts disk.old) (D.counts disk.new) }
-    ensures looks { IsTrue D.tells → (D.counts disk.new).entry_reads ≡ (D.counts disk.old).entry_reads }
-    ensures cause { HasCause (IsErrOf result DiskFault.Failed) (D.faults disk.old) (D.faults disk.new) }
+    ensures cleared { OnOk result (Told D.Disk (λ s t. t ≡ settled (flagged (be32 0) s)) disk.old disk.new) }
+    ensures amid { Told D.Disk spec.IsAmidClearing disk.old disk.new }
+    ensures account { Accounts D.Disk (ending result) disk.old disk.new }
 {
     disk.patch(&Place::Index, FLAG_AT, &UP_TO_DATE.to_be_bytes())?;
     disk.sync()
@@ -94,12 +87,9 @@ fn clear_flag<D: Disk>(disk: &mut D) -> Result<(), DiskFault>
 // Writes the journal, and then clears the flag of the index.
 fn log_and_clear<D: Disk>(disk: &mut D, bytes: &[u8]) -> Result<(), DiskFault>
     requires { IsTrue D.tells → Holds (standing (D.state disk.old) Index) 8 4 }
-    ensures closed { OnOk result (IsTrue D.tells → D.state disk.new ≡ closed bytes.now (D.state disk.old)) }
-    ensures amid { IsTrue D.tells → spec.IsAmidLogging bytes.now (D.state disk.old) (D.state disk.new) }
-    ensures went_on { OnOk result (IsTrue D.tells → (D.counts disk.new).failed ≡ (D.counts disk.old).failed) }
-    ensures stops { IsTrue D.tells → StopsAtFault (D.counts disk.old) (D.counts disk.new) }
-    ensures looks { IsTrue D.tells → (D.counts disk.new).entry_reads ≡ (D.counts disk.old).entry_reads }
-    ensures cause { HasCause (IsErrOf result DiskFault.Failed) (D.faults disk.old) (D.faults disk.new) }
+    ensures closed { OnOk result (Told D.Disk (λ s t. t ≡ closed bytes.now s) disk.old disk.new) }
+    ensures amid { Told D.Disk (spec.IsAmidLogging bytes.now) disk.old disk.new }
+    ensures account { Accounts D.Disk (ending result) disk.old disk.new }
 {
     write_log(disk, bytes)?;
     clear_flag(disk)
@@ -114,12 +104,9 @@ fn close_ended<D: Disk>(
 ) -> Result<(), DiskFault>
     requires { IsTrue D.tells → KeepsIndex (D.state disk.old) map.old }
     ensures map { OnOk result (map.new ≡ spec.after_refresh map.old) }
-    ensures closed { OnOk result (IsTrue D.tells → spec.ClosesIndex map.old now (D.state disk.old) (D.state disk.new)) }
-    ensures amid { IsTrue D.tells → spec.IsAmidClosing map.old now (D.state disk.old) (D.state disk.new) }
-    ensures went_on { OnOk result (IsTrue D.tells → (D.counts disk.new).failed ≡ (D.counts disk.old).failed) }
-    ensures stops { IsTrue D.tells → StopsAtFault (D.counts disk.old) (D.counts disk.new) }
-    ensures looks { IsTrue D.tells → (D.counts disk.new).entry_reads ≡ (D.counts disk.old).entry_reads }
-    ensures cause { HasCause (IsErrOf result DiskFault.Failed) (D.faults disk.old) (D.faults disk.new) }
+    ensures closed { OnOk result (Told D.Disk (spec.ClosesIndex map.old now) disk.old disk.new) }
+    ensures amid { Told D.Disk (spec.IsAmidClosing map.old now) disk.old disk.new }
+    ensures account { Accounts D.Disk (ending result) disk.old disk.new }
 {
     refresh(alloc, disk, map, now)?;
     let bytes = print_changes(alloc, map)?;
@@ -143,23 +130,20 @@ pub fn close_index<D: Disk>(
     ensures map { OnOk result (map.new ≡ (if ended then spec.after_refresh map.old else map.old)) }
 
     // The changes, in their order, and what they leave.
-    ensures closed { OnOk result (IsTrue D.tells → ended ≡ true → spec.ClosesIndex map.old now (D.state disk.old) (D.state disk.new)) }
-    ensures amid { IsTrue D.tells → ended ≡ true → spec.IsAmidClosing map.old now (D.state disk.old) (D.state disk.new) }
-    ensures synced { IsTrue D.tells → ended ≡ false → D.state disk.new ≡ if_ok result (settled (D.state disk.old)) (D.state disk.old) }
+    ensures closed { ended ≡ true → OnOk result (Told D.Disk (spec.ClosesIndex map.old now) disk.old disk.new) }
+    ensures amid { ended ≡ true → Told D.Disk (spec.IsAmidClosing map.old now) disk.old disk.new }
+    ensures synced { ended ≡ false → Told D.Disk (λ s t. t ≡ if_ok result (settled s) s) disk.old disk.new }
     ensures quiet { OnOk result (IsTrue D.tells → IsQuiet (D.state disk.new)) }
-    ensures entries { IsTrue D.tells → IsApart (D.state disk.old) → SparesEntries (D.state disk.old) (D.state disk.new) }
+    ensures entries { Told D.Disk (λ s t. IsApart s → SparesEntries s t) disk.old disk.new }
 
     // A crash at any moment leaves an honest directory, where the records say what a scan would; and after an Ok the
     // next opening trusts the index. Before the end of the update, no crash leaves a trusted index.
-    ensures honest { IsTrue D.tells → spec.ClosesHonest ended map.old.records (D.state disk.old) (D.state disk.new) }
-    ensures trusted { OnOk result (IsTrue D.tells → ended ≡ true → spec.LeavesTrusted map.old.records (D.state disk.old) (D.state disk.new)) }
-    ensures unclean { IsTrue D.tells → ended ≡ false → IsUnclean (D.state disk.old) → IsUnclean (D.state disk.new) }
+    ensures honest { Told D.Disk (spec.ClosesHonest ended map.old.records) disk.old disk.new }
+    ensures trusted { ended ≡ true → OnOk result (Told D.Disk (spec.LeavesTrusted map.old.records) disk.old disk.new) }
+    ensures unclean { ended ≡ false → Told D.Disk (λ s t. IsUnclean s → IsUnclean t) disk.old disk.new }
 
     // Calls and faults.
-    ensures went_on { OnOk result (IsTrue D.tells → (D.counts disk.new).failed ≡ (D.counts disk.old).failed) }
-    ensures stops { IsTrue D.tells → StopsAtFault (D.counts disk.old) (D.counts disk.new) }
-    ensures looks { IsTrue D.tells → (D.counts disk.new).entry_reads ≡ (D.counts disk.old).entry_reads }
-    ensures cause { HasCause (IsErrOf result DiskFault.Failed) (D.faults disk.old) (D.faults disk.new) }
+    ensures account { Accounts D.Disk (ending result) disk.old disk.new }
 {
     if ended {
         close_ended(alloc, disk, map, now)

@@ -7,6 +7,7 @@ ghost use Rattle.disk_model.specs.State.{standing};
 ghost use Rattle.disk_model.specs.declared.disk.DiskFault.TheVariants.{Failed};
 ghost use Rattle.disk_model.specs.declared.place.Place.TheVariants.{Index, Log, Tmp};
 ghost use Rattle.index_theory.specs.Apart.{IsApart};
+ghost use Rattle.index_theory.specs.Told.{Told};
 ghost use Rattle.index_theory.specs.Unclean.{IsUnclean};
 ghost use Rattle.index_theory.specs.IndexKind.{index_kind};
 ghost use Rattle.index_theory.specs.LogKind.{log_kind};
@@ -14,6 +15,7 @@ ghost use Rattle.index_theory.specs.Start.{decide as start_by, start_of};
 ghost use Rattle.record_list.specs.Change.{HasNoRemoved};
 ghost use Rattle.record_list.specs.Lists.{HasNames};
 ghost use Rattle.record_list.specs.Stored.{AreClean};
+ghost use Rattle.startup_read.specs.Account.{Accounts, ending};
 ghost use Rattle.startup_read.specs.Kept.{HasBase, KeepsIndex};
 ghost use Rattle.startup_read.specs.Looks.{LooksAtNoEntry};
 ghost use Rattle.startup_read.specs.Opening as spec;
@@ -95,10 +97,14 @@ fn has_log(kind: LogKind) -> bool
 
 // Reads the files of the index.
 fn look<D: Disk>(alloc: Global, disk: &mut D) -> Result<Found, DiskFault>
-    ensures start { IfOk result (λ found. IsTrue D.tells → found.opened.start ≡ start_of (standing (D.state disk.old))) }
-    ensures map { IfOk result (λ found. IsTrue D.tells → StartsFrom (standing (D.state disk.old)) found.opened.map) }
-    ensures base { IfOk result (λ found. IsTrue D.tells → HasBase (standing (D.state disk.old) Index) found.opened.map) }
-    ensures seen { IfOk result (λ found. IsTrue D.tells → IsSeen (D.state disk.old) found.clean found.log found.tmp) }
+    ensures start { IfOk result (λ found. IsTrue D.tells →
+        found.opened.start ≡ start_of (standing (D.state disk.old))) }
+    ensures map { IfOk result (λ found. IsTrue D.tells →
+        StartsFrom (standing (D.state disk.old)) found.opened.map) }
+    ensures base { IfOk result (λ found. IsTrue D.tells →
+        HasBase (standing (D.state disk.old) Index) found.opened.map) }
+    ensures seen { IfOk result (λ found. IsTrue D.tells →
+        IsSeen (D.state disk.old) found.clean found.log found.tmp) }
     ensures state { IsTrue D.tells → D.state disk.new ≡ D.state disk.old }
     ensures looks { IsTrue D.tells → LooksAtNoEntry (D.counts disk.old) (D.counts disk.new) }
     ensures cause { HasCause (IsErrOf result DiskFault.Failed) (D.faults disk.old) (D.faults disk.new) }
@@ -119,11 +125,8 @@ fn look<D: Disk>(alloc: Global, disk: &mut D) -> Result<Found, DiskFault>
 // The journal takes the place `index.tmp`, where there is one.
 fn set_aside<D: Disk>(disk: &mut D, log: bool) -> Result<(), DiskFault>
     requires { IsTrue D.tells → log ≡ is_some (standing (D.state disk.old) Log) }
-    ensures state { IsTrue D.tells → D.state disk.new ≡ if_done result (spec.set_aside (D.state disk.old)) (D.state disk.old) }
-    ensures went_on { OnOk result (IsTrue D.tells → (D.counts disk.new).failed ≡ (D.counts disk.old).failed) }
-    ensures stops { IsTrue D.tells → StopsAtFault (D.counts disk.old) (D.counts disk.new) }
-    ensures looks { IsTrue D.tells → (D.counts disk.new).entry_reads ≡ (D.counts disk.old).entry_reads }
-    ensures cause { HasCause (IsErrOf result DiskFault.Failed) (D.faults disk.old) (D.faults disk.new) }
+    ensures state { Told D.Disk (λ s t. t ≡ if_done result (spec.set_aside s) s) disk.old disk.new }
+    ensures account { Accounts D.Disk (ending result) disk.old disk.new }
 {
     if log {
         disk.rename(&Place::Log, &Place::Tmp)
@@ -134,12 +137,10 @@ fn set_aside<D: Disk>(disk: &mut D, log: bool) -> Result<(), DiskFault>
 
 // The flag of an index that is clean is set.
 fn mark_in_use<D: Disk>(disk: &mut D, clean: bool) -> Result<(), DiskFault>
-    requires { IsTrue D.tells → clean ≡ is_clean_kind (index_kind (standing (D.state disk.old) Index)) }
-    ensures state { IsTrue D.tells → D.state disk.new ≡ if_done result (spec.marked (D.state disk.old)) (D.state disk.old) }
-    ensures went_on { OnOk result (IsTrue D.tells → (D.counts disk.new).failed ≡ (D.counts disk.old).failed) }
-    ensures stops { IsTrue D.tells → StopsAtFault (D.counts disk.old) (D.counts disk.new) }
-    ensures looks { IsTrue D.tells → (D.counts disk.new).entry_reads ≡ (D.counts disk.old).entry_reads }
-    ensures cause { HasCause (IsErrOf result DiskFault.Failed) (D.faults disk.old) (D.faults disk.new) }
+    requires { IsTrue D.tells →
+        clean ≡ is_clean_kind (index_kind (standing (D.state disk.old) Index)) }
+    ensures state { Told D.Disk (λ s t. t ≡ if_done result (spec.marked s) s) disk.old disk.new }
+    ensures account { Accounts D.Disk (ending result) disk.old disk.new }
 {
     if clean {
         disk.patch(&Place::Index, FLAG_AT, &IN_USE.to_be_bytes())
@@ -151,11 +152,8 @@ fn mark_in_use<D: Disk>(disk: &mut D, clean: bool) -> Result<(), DiskFault>
 // The file at `index.tmp` is removed, where there is one.
 fn remove_tmp<D: Disk>(disk: &mut D, tmp: bool) -> Result<(), DiskFault>
     requires { IsTrue D.tells → tmp ≡ is_some (standing (D.state disk.old) Tmp) }
-    ensures state { IsTrue D.tells → D.state disk.new ≡ if_done result (spec.cleared (D.state disk.old)) (D.state disk.old) }
-    ensures went_on { OnOk result (IsTrue D.tells → (D.counts disk.new).failed ≡ (D.counts disk.old).failed) }
-    ensures stops { IsTrue D.tells → StopsAtFault (D.counts disk.old) (D.counts disk.new) }
-    ensures looks { IsTrue D.tells → (D.counts disk.new).entry_reads ≡ (D.counts disk.old).entry_reads }
-    ensures cause { HasCause (IsErrOf result DiskFault.Failed) (D.faults disk.old) (D.faults disk.new) }
+    ensures state { Told D.Disk (λ s t. t ≡ if_done result (spec.cleared s) s) disk.old disk.new }
+    ensures account { Accounts D.Disk (ending result) disk.old disk.new }
 {
     if tmp {
         disk.remove(&Place::Tmp)
@@ -167,12 +165,9 @@ fn remove_tmp<D: Disk>(disk: &mut D, tmp: bool) -> Result<(), DiskFault>
 // Makes the changes of an opening.
 fn change<D: Disk>(disk: &mut D, clean: bool, log: bool, tmp: bool) -> Result<(), DiskFault>
     requires { IsTrue D.tells → IsSeen (D.state disk.old) clean log tmp }
-    ensures opened { OnOk result (IsTrue D.tells → D.state disk.new ≡ spec.opened (D.state disk.old)) }
-    ensures amid { IsTrue D.tells → spec.IsAmidOpening (D.state disk.old) (D.state disk.new) }
-    ensures went_on { OnOk result (IsTrue D.tells → (D.counts disk.new).failed ≡ (D.counts disk.old).failed) }
-    ensures stops { IsTrue D.tells → StopsAtFault (D.counts disk.old) (D.counts disk.new) }
-    ensures looks { IsTrue D.tells → (D.counts disk.new).entry_reads ≡ (D.counts disk.old).entry_reads }
-    ensures cause { HasCause (IsErrOf result DiskFault.Failed) (D.faults disk.old) (D.faults disk.new) }
+    ensures opened { OnOk result (Told D.Disk (λ s t. t ≡ spec.opened s) disk.old disk.new) }
+    ensures amid { Told D.Disk spec.IsAmidOpening disk.old disk.new }
+    ensures account { Accounts D.Disk (ending result) disk.old disk.new }
 {
     set_aside(disk, log)?;
     mark_in_use(disk, clean)?;
@@ -186,25 +181,25 @@ fn change<D: Disk>(disk: &mut D, clean: bool, log: bool, tmp: bool) -> Result<()
 /// `index.tmp` is removed. No entry is looked at.
 pub fn open_index<D: Disk>(alloc: Global, disk: &mut D) -> Result<Opened, DiskFault>
     // How the cache starts, and with which records.
-    ensures start { IfOk result (λ opened. IsTrue D.tells → opened.start ≡ start_of (standing (D.state disk.old))) }
-    ensures map { IfOk result (λ opened. IsTrue D.tells → StartsFrom (standing (D.state disk.old)) opened.map) }
+    ensures start { IfOk result (λ opened. IsTrue D.tells →
+        opened.start ≡ start_of (standing (D.state disk.old))) }
+    ensures map { IfOk result (λ opened. IsTrue D.tells →
+        StartsFrom (standing (D.state disk.old)) opened.map) }
 
     // The changes, in their order, and what they leave.
-    ensures opened { OnOk result (IsTrue D.tells → D.state disk.new ≡ spec.opened (D.state disk.old)) }
-    ensures amid { IsTrue D.tells → spec.IsAmidOpening (D.state disk.old) (D.state disk.new) }
-    ensures keeps { IfOk result (λ opened. IsTrue D.tells → KeepsIndex (D.state disk.new) opened.map) }
-    ensures entries { IsTrue D.tells → IsApart (D.state disk.old) → SparesEntries (D.state disk.old) (D.state disk.new) }
+    ensures opened { OnOk result (Told D.Disk (λ s t. t ≡ spec.opened s) disk.old disk.new) }
+    ensures amid { Told D.Disk spec.IsAmidOpening disk.old disk.new }
+    ensures keeps { IfOk result (λ opened. IsTrue D.tells →
+        KeepsIndex (D.state disk.new) opened.map) }
+    ensures entries { Told D.Disk (λ s t. IsApart s → SparesEntries s t) disk.old disk.new }
 
     // A crash at any moment leaves an honest directory, and after an Ok no trusted index.
-    ensures honest { IsTrue D.tells → spec.OpensHonest (D.state disk.old) (D.state disk.new) }
+    ensures honest { Told D.Disk spec.OpensHonest disk.old disk.new }
     ensures unclean { OnOk result (IsTrue D.tells → IsUnclean (D.state disk.new)) }
     ensures apart { OnOk result (IsTrue D.tells → IsApart (D.state disk.new)) }
 
     // Calls and faults.
-    ensures went_on { OnOk result (IsTrue D.tells → (D.counts disk.new).failed ≡ (D.counts disk.old).failed) }
-    ensures stops { IsTrue D.tells → StopsAtFault (D.counts disk.old) (D.counts disk.new) }
-    ensures looks { IsTrue D.tells → (D.counts disk.new).entry_reads ≡ (D.counts disk.old).entry_reads }
-    ensures cause { HasCause (IsErrOf result DiskFault.Failed) (D.faults disk.old) (D.faults disk.new) }
+    ensures account { Accounts D.Disk (ending result) disk.old disk.new }
 {
     let found = look(alloc, disk)?;
     change(disk, found.clean, found.log, found.tmp)?;

@@ -9,9 +9,11 @@ ghost use Rattle.disk_model.specs.declared.place.Place.TheVariants.{Log};
 ghost use Rattle.index_file.specs.Printed.{IsPrinted};
 ghost use Rattle.index_map.specs.Known.{IsKnown};
 ghost use Rattle.index_theory.specs.Apart.{IsApart};
+ghost use Rattle.index_theory.specs.Told.{Told};
 ghost use Rattle.index_theory.specs.Unclean.{IsUnclean};
 ghost use Rattle.index_theory.specs.Writing.{index_placed};
-ghost use Rattle.startup_read.specs.Kept.{KeepsIndex};
+ghost use Rattle.startup_read.specs.Account.{Accounts, ending};
+ghost use Rattle.startup_read.specs.Kept.{KeepsIndex, written_map};
 ghost use Rattle.startup_read.specs.Spares.{SparesEntries};
 ghost use Rattle.startup_read.specs.Writing as spec;
 
@@ -31,12 +33,9 @@ fn print_records(alloc: Global, map: &RecordMap, now: Moment) -> Result<Bytes, N
 
 // Writes these bytes to a new file at `index.tmp`, which is synced and then takes the place `index`.
 fn place_index<D: Disk>(disk: &mut D, bytes: &[u8]) -> Result<(), DiskFault>
-    ensures placed { OnOk result (IsTrue D.tells → D.state disk.new ≡ index_placed bytes.now (D.state disk.old)) }
-    ensures amid { IsTrue D.tells → spec.IsAmidPlacing bytes.now (D.state disk.old) (D.state disk.new) }
-    ensures went_on { OnOk result (IsTrue D.tells → (D.counts disk.new).failed ≡ (D.counts disk.old).failed) }
-    ensures stops { IsTrue D.tells → StopsAtFault (D.counts disk.old) (D.counts disk.new) }
-    ensures looks { IsTrue D.tells → (D.counts disk.new).entry_reads ≡ (D.counts disk.old).entry_reads }
-    ensures cause { HasCause (IsErrOf result DiskFault.Failed) (D.faults disk.old) (D.faults disk.new) }
+    ensures placed { OnOk result (Told D.Disk (λ s t. t ≡ index_placed bytes.now s) disk.old disk.new) }
+    ensures amid { Told D.Disk (spec.IsAmidPlacing bytes.now) disk.old disk.new }
+    ensures account { Accounts D.Disk (ending result) disk.old disk.new }
 {
     disk.create(&Place::Tmp)?;
     disk.write_end(&Place::Tmp, 0, bytes)?;
@@ -53,24 +52,21 @@ pub fn write_index<D: Disk>(
     now: Moment,
 ) -> Result<(), DiskFault>
     // The map.
-    ensures map { OnOk result (map.new ≡ record map.old { base = map.old.records; has_base = true }) }
+    ensures map { OnOk result (map.new ≡ written_map map.old) }
     ensures map_stays { OnErr result (map.new ≡ map.old) }
 
     // The changes, in their order, and what they leave.
-    ensures written { OnOk result (IsTrue D.tells → spec.WritesIndex map.old.records now (D.state disk.old) (D.state disk.new)) }
-    ensures amid { IsTrue D.tells → spec.IsAmidWriting map.old.records now (D.state disk.old) (D.state disk.new) }
-    ensures keeps { OnOk result (IsTrue D.tells → standing (D.state disk.old) Log ≡ None → KeepsIndex (D.state disk.new) map.new) }
-    ensures entries { IsTrue D.tells → IsApart (D.state disk.old) → SparesEntries (D.state disk.old) (D.state disk.new) }
+    ensures written { OnOk result (Told D.Disk (spec.WritesIndex map.old.records now) disk.old disk.new) }
+    ensures amid { Told D.Disk (spec.IsAmidWriting map.old.records now) disk.old disk.new }
+    ensures keeps { OnOk result (Told D.Disk (λ s t. standing s Log ≡ None → KeepsIndex t map.new) disk.old disk.new) }
+    ensures entries { Told D.Disk (λ s t. IsApart s → SparesEntries s t) disk.old disk.new }
 
     // A crash at any moment leaves no trusted index, where none could be left before.
-    ensures unclean { IsTrue D.tells → IsApart (D.state disk.old) → IsUnclean (D.state disk.old) → IsUnclean (D.state disk.new) }
-    ensures apart { IsTrue D.tells → IsApart (D.state disk.old) → IsApart (D.state disk.new) }
+    ensures unclean { Told D.Disk (λ s t. IsApart s → IsUnclean s → IsUnclean t) disk.old disk.new }
+    ensures apart { Told D.Disk (λ s t. IsApart s → IsApart t) disk.old disk.new }
 
     // Calls and faults.
-    ensures went_on { OnOk result (IsTrue D.tells → (D.counts disk.new).failed ≡ (D.counts disk.old).failed) }
-    ensures stops { IsTrue D.tells → StopsAtFault (D.counts disk.old) (D.counts disk.new) }
-    ensures looks { IsTrue D.tells → (D.counts disk.new).entry_reads ≡ (D.counts disk.old).entry_reads }
-    ensures cause { HasCause (IsErrOf result DiskFault.Failed) (D.faults disk.old) (D.faults disk.new) }
+    ensures account { Accounts D.Disk (ending result) disk.old disk.new }
 {
     let bytes = print_records(alloc, map, now)?;
     place_index(disk, bytes.as_slice())?;

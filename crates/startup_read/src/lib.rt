@@ -14,7 +14,7 @@ mod whole_file;
 pub use index_close::close_index;
 pub use index_open::{Opened, open_index};
 pub use index_write::write_index;
-pub use laws::{opening_ends_trust, spared_entries_stand};
+pub use laws::{changes_keep_index, opening_ends_trust, records_at_start, spared_entries_stand};
 pub use start_table::{IndexKind, LogKind, Start, decide};
 
 // Where the flag stands in an index.
