@@ -43,7 +43,7 @@ Honest files = start_of files ≡ Ready → Agrees files
 abbrev pub LeavesHonest : State → Type 0
 LeavesHonest s = (image : Files) → IsImage s image → Honest image
 
--- with nothing pending it leaves what stands alone
+-- with nothing pending a crash leaves just what stands
 abbrev pub QuietLeavesHonest : Type 0
 QuietLeavesHonest = (s : State) → IsQuiet s → Honest (standing s) → LeavesHonest s
 

@@ -7,7 +7,7 @@ use Rattle.index_theory.specs.Ever.{Entries}
 use Rattle.index_theory.specs.Scan.{scanned}
 use Rattle.record_list.specs.Lists.{record_at}
 
--- the record of each of these names is that of its entry, and those of all other names are as before
+-- the record of each of these names is that of its entry, and those of all other names are unchanged
 pub record ReadsIn (es : Entries) (names : List Name) (old new : List IndexRecord) : Type 0 where
   pub here : (name : Name) → Contains names name → record_at new name ≡ scanned es name
   pub others : (name : Name) → ¬ Contains names name → record_at new name ≡ record_at old name

@@ -15,8 +15,8 @@ ghost use Rattle.index_update.specs.Reads.{ReadsIn, ReadsSome};
 ghost use Rattle.index_update.specs.Rest.{without};
 ghost use Rattle.index_update.specs.Tells.{ComesToTell, GoesOnTelling};
 
+use crate::entry_records::read_each;
 use crate::names::{first_of, set_of, take_off};
-use crate::reading::read_each;
 use cache_base::{Name, Names, NoMemory};
 use disk_model::{Disk, DiskFault};
 use index_map::RecordMap;
@@ -24,8 +24,8 @@ use std::alloc::Global;
 use std::collections::BTreeSet;
 use std::marker::Model;
 
-/// An update of the index: its rest, which is the names of the entries that it has still to read, rising. It has ended
-/// when none is left.
+/// An update of the index: its rest, which is the names of the entries that it has still to read, in name order. It has
+/// ended when none is left.
 #[derive(Drop)]
 pub struct Update {
     names: BTreeSet<Name>,
@@ -117,7 +117,7 @@ impl Update {
 
     /// Reads the files of the first n names of the rest, or of all, in their order, sets their records to what stands
     /// there, or removes them where no file fits, and takes the names off. With an empty rest then, it takes the records
-    /// out that were not seen. After a fault the rest is as before; the records of some first names are set.
+    /// out that were not seen. After a fault the rest is unchanged, and the records of some first names are set.
     pub fn step<D: Disk>(
         &mut self,
         disk: &mut D,
@@ -181,7 +181,7 @@ impl Update {
         ensures rest { self.new ≡ without name.now self.old }
         ensures rising { AreRising self.new }
     {
-        // The names rise.
+        // The names are in order.
         let _len = self.names.len();
         let _was = self.names.remove(name);
     }
@@ -191,7 +191,7 @@ impl Update {
         ensures waits { result ≡ list_any (same_name name.now) self.now }
         ensures rising { AreRising self.now }
     {
-        // The names rise.
+        // The names are in order.
         let _len = self.names.len();
         self.names.contains(name)
     }
@@ -209,7 +209,7 @@ impl Update {
         ensures ended { IsTrue result ↔ (self.now ≡ []) }
         ensures rising { AreRising self.now }
     {
-        // The names rise.
+        // The names are in order.
         let _len = self.names.len();
         self.names.is_empty()
     }

@@ -64,7 +64,8 @@ fn refresh<D: Disk>(
 
 // Writes the journal, and syncs it.
 fn write_log<D: Disk>(disk: &mut D, bytes: &[u8]) -> Result<(), DiskFault>
-    ensures written { OnOk result (Told D.Disk (λ s t. t ≡ log_synced bytes.now s) disk.old disk.new) }
+    ensures written { OnOk result
+        (Told D.Disk (λ s t. t ≡ log_synced bytes.now s) disk.old disk.new) }
     ensures amid { Told D.Disk (spec.IsAmidLogging bytes.now) disk.old disk.new }
     ensures account { Accounts D.Disk (ending result) disk.old disk.new }
 {
@@ -76,7 +77,8 @@ fn write_log<D: Disk>(disk: &mut D, bytes: &[u8]) -> Result<(), DiskFault>
 // Clears the flag of the index, and syncs that.
 fn clear_flag<D: Disk>(disk: &mut D) -> Result<(), DiskFault>
     requires { IsTrue D.tells → Holds (standing (D.state disk.old) Index) 8 4 }
-    ensures cleared { OnOk result (Told D.Disk (λ s t. t ≡ settled (flagged (be32 0) s)) disk.old disk.new) }
+    ensures cleared { OnOk result
+        (Told D.Disk (λ s t. t ≡ settled (flagged (be32 0) s)) disk.old disk.new) }
     ensures amid { Told D.Disk spec.IsAmidClearing disk.old disk.new }
     ensures account { Accounts D.Disk (ending result) disk.old disk.new }
 {
@@ -130,17 +132,21 @@ pub fn close_index<D: Disk>(
     ensures map { OnOk result (map.new ≡ (if ended then spec.after_refresh map.old else map.old)) }
 
     // The changes, in their order, and what they leave.
-    ensures closed { ended ≡ true → OnOk result (Told D.Disk (spec.ClosesIndex map.old now) disk.old disk.new) }
+    ensures closed { ended ≡ true →
+        OnOk result (Told D.Disk (spec.ClosesIndex map.old now) disk.old disk.new) }
     ensures amid { ended ≡ true → Told D.Disk (spec.IsAmidClosing map.old now) disk.old disk.new }
-    ensures synced { ended ≡ false → Told D.Disk (λ s t. t ≡ if_ok result (settled s) s) disk.old disk.new }
+    ensures synced { ended ≡ false →
+        Told D.Disk (λ s t. t ≡ if_ok result (settled s) s) disk.old disk.new }
     ensures quiet { OnOk result (IsTrue D.tells → IsQuiet (D.state disk.new)) }
     ensures entries { Told D.Disk (λ s t. IsApart s → SparesEntries s t) disk.old disk.new }
 
     // A crash at any moment leaves an honest directory, where the records say what a scan would; and after an Ok the
     // next opening trusts the index. Before the end of the update, no crash leaves a trusted index.
     ensures honest { Told D.Disk (spec.ClosesHonest ended map.old.records) disk.old disk.new }
-    ensures trusted { ended ≡ true → OnOk result (Told D.Disk (spec.LeavesTrusted map.old.records) disk.old disk.new) }
-    ensures unclean { ended ≡ false → Told D.Disk (λ s t. IsUnclean s → IsUnclean t) disk.old disk.new }
+    ensures trusted { ended ≡ true →
+        OnOk result (Told D.Disk (spec.LeavesTrusted map.old.records) disk.old disk.new) }
+    ensures unclean { ended ≡ false →
+        Told D.Disk (λ s t. IsUnclean s → IsUnclean t) disk.old disk.new }
 
     // Calls and faults.
     ensures account { Accounts D.Disk (ending result) disk.old disk.new }

@@ -33,7 +33,8 @@ fn print_records(alloc: Global, map: &RecordMap, now: Moment) -> Result<Bytes, N
 
 // Writes these bytes to a new file at `index.tmp`, which is synced and then takes the place `index`.
 fn place_index<D: Disk>(disk: &mut D, bytes: &[u8]) -> Result<(), DiskFault>
-    ensures placed { OnOk result (Told D.Disk (λ s t. t ≡ index_placed bytes.now s) disk.old disk.new) }
+    ensures placed { OnOk result
+        (Told D.Disk (λ s t. t ≡ index_placed bytes.now s) disk.old disk.new) }
     ensures amid { Told D.Disk (spec.IsAmidPlacing bytes.now) disk.old disk.new }
     ensures account { Accounts D.Disk (ending result) disk.old disk.new }
 {
@@ -56,9 +57,11 @@ pub fn write_index<D: Disk>(
     ensures map_stays { OnErr result (map.new ≡ map.old) }
 
     // The changes, in their order, and what they leave.
-    ensures written { OnOk result (Told D.Disk (spec.WritesIndex map.old.records now) disk.old disk.new) }
+    ensures written { OnOk result
+        (Told D.Disk (spec.WritesIndex map.old.records now) disk.old disk.new) }
     ensures amid { Told D.Disk (spec.IsAmidWriting map.old.records now) disk.old disk.new }
-    ensures keeps { OnOk result (Told D.Disk (λ s t. standing s Log ≡ None → KeepsIndex t map.new) disk.old disk.new) }
+    ensures keeps { OnOk result
+        (Told D.Disk (λ s t. standing s Log ≡ None → KeepsIndex t map.new) disk.old disk.new) }
     ensures entries { Told D.Disk (λ s t. IsApart s → SparesEntries s t) disk.old disk.new }
 
     // A crash at any moment leaves no trusted index, where none could be left before.

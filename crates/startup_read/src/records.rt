@@ -100,7 +100,8 @@ fn parse_log(alloc: Global, b: &[u8]) -> Result<LogRead, NoMemory>
 
 /// What stands at `index`.
 pub(crate) fn read_index<D: Disk>(alloc: Global, disk: &mut D) -> Result<IndexRead, DiskFault>
-    ensures reads { IfOk result (λ read. IsTrue D.tells → ReadsIndex (standing (D.state disk.old) Index) read.kind read.records) }
+    ensures reads { IfOk result (λ read. IsTrue D.tells →
+        ReadsIndex (standing (D.state disk.old) Index) read.kind read.records) }
     ensures distinct { IfOk result (λ read. HasNames read.records) }
     ensures clean { IfOk result (λ read. AreClean read.records) }
     ensures present { IfOk result (λ read. HasNoRemoved read.records) }
@@ -119,7 +120,8 @@ pub(crate) fn read_index<D: Disk>(alloc: Global, disk: &mut D) -> Result<IndexRe
 
 /// What stands at `index.log`.
 pub(crate) fn read_log<D: Disk>(alloc: Global, disk: &mut D) -> Result<LogRead, DiskFault>
-    ensures reads { IfOk result (λ read. IsTrue D.tells → ReadsJournal (standing (D.state disk.old) Log) read.kind read.records) }
+    ensures reads { IfOk result (λ read. IsTrue D.tells →
+        ReadsJournal (standing (D.state disk.old) Log) read.kind read.records) }
     ensures distinct { IfOk result (λ read. HasNames read.records) }
     ensures clean { IfOk result (λ read. AreClean read.records) }
     ensures state { IsTrue D.tells → D.state disk.new ≡ D.state disk.old }
