@@ -8,13 +8,13 @@ use Rattle.index_record.specs.declared.record.IndexRecord.{IndexRecord}
 use Rattle.index_theory.specs.Base.{BaseStands}
 use Rattle.index_theory.specs.Ever.{entries}
 use Rattle.index_theory.specs.Honest.{Honest, index_records, journal_records}
-use Rattle.index_theory.specs.Scan.{TellsScan, scanned}
+use Rattle.index_theory.specs.Scan.{TellsScan}
 use Rattle.index_theory.specs.Start.{start_of}
 use Rattle.index_theory.specs.declared.kinds.Start.{Start}
 use Rattle.index_theory.specs.declared.kinds.Start.TheVariants.{Ready, Update, Build}
 use Rattle.record_list.specs.Lists.{record_at}
-use Rattle.startup_read.specs.Kept.{KeepsIndex, LeftKeepsIndex, SameBaseKeepsIndex}
-use Rattle.startup_read.specs.Starts.{ReadyTells, StartsFrom, StartsWith, UnreadySeesNone}
+use Rattle.startup_read.specs.Kept.{LeftKeepsIndex, SameBaseKeepsIndex}
+use Rattle.startup_read.specs.Starts.{ReadyTells, StartsWith, UnreadySeesNone}
 
 pub left_keeps_index : LeftKeepsIndex
 left_keeps_index s t map left keeps = record {

@@ -2,7 +2,7 @@
 
 ghost use Rattle.std.specs.Prelude.{◌≡◌, ℕ, IfOk, IsErrOf, IsTrue, List, OnOk, Option, is_some};
 ghost use Rattle.cache_base.specs.Causes.{HasCause};
-ghost use Rattle.disk_model.specs.Calls.{StopsAtFault, if_done};
+ghost use Rattle.disk_model.specs.Calls.{if_done};
 ghost use Rattle.disk_model.specs.State.{standing};
 ghost use Rattle.disk_model.specs.declared.disk.DiskFault.TheVariants.{Failed};
 ghost use Rattle.disk_model.specs.declared.place.Place.TheVariants.{Index, Log, Tmp};
@@ -11,7 +11,7 @@ ghost use Rattle.index_theory.specs.Told.{Told};
 ghost use Rattle.index_theory.specs.Unclean.{IsUnclean};
 ghost use Rattle.index_theory.specs.IndexKind.{index_kind};
 ghost use Rattle.index_theory.specs.LogKind.{log_kind};
-ghost use Rattle.index_theory.specs.Start.{decide as start_by, start_of};
+ghost use Rattle.index_theory.specs.Start.{start_of};
 ghost use Rattle.record_list.specs.Change.{HasNoRemoved};
 ghost use Rattle.record_list.specs.Lists.{HasNames};
 ghost use Rattle.record_list.specs.Stored.{AreClean};

@@ -1,10 +1,7 @@
 //! Writes the index whole.
 
-ghost use Rattle.std.specs.Prelude.{◌≡◌, IfOk, IsErrOf, IsTrue, None, OnErr, OnOk, true};
-ghost use Rattle.cache_base.specs.Causes.{HasCause};
-ghost use Rattle.disk_model.specs.Calls.{StopsAtFault};
+ghost use Rattle.std.specs.Prelude.{◌≡◌, IfOk, None, OnErr, OnOk, true};
 ghost use Rattle.disk_model.specs.State.{standing};
-ghost use Rattle.disk_model.specs.declared.disk.DiskFault.TheVariants.{Failed};
 ghost use Rattle.disk_model.specs.declared.place.Place.TheVariants.{Log};
 ghost use Rattle.index_file.specs.Printed.{IsPrinted};
 ghost use Rattle.index_map.specs.Known.{IsKnown};
