@@ -1,0 +1,14 @@
+pub mod Told
+pub mod Ever
+pub mod Scan
+pub mod IndexKind
+pub mod LogKind
+pub mod Start
+pub mod Honest
+pub mod Base
+pub mod Unclean
+pub mod Apart
+pub mod Leaves
+pub mod Writing
+pub mod Opening
+pub mod Closing

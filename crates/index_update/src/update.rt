@@ -1,0 +1,226 @@
+//! The names that an update has still to read.
+
+ghost use Rattle.std.specs.List.{list_any};
+ghost use Rattle.std.specs.Prelude.{◌≡◌, ◌≢◌, ◌↔◌, ◌*◌, [], IfOk, IsErrOf, IsTrue, OnErr, OnOk, drop, length, take};
+ghost use Rattle.cache_base.specs.Causes.{HasCause};
+ghost use Rattle.cache_base.specs.Names.{AreRising};
+ghost use Rattle.disk_model.specs.Calls.{counted};
+ghost use Rattle.disk_model.specs.Listing.{AreEntries};
+ghost use Rattle.disk_model.specs.declared.disk.DiskFault.TheVariants.{Failed};
+ghost use Rattle.entry_file.specs.Looks.{Looks};
+ghost use Rattle.index_map.specs.Known.{SameBase};
+ghost use Rattle.record_list.specs.Lists.{same_name};
+ghost use Rattle.index_theory.specs.Ever.{entries_on};
+ghost use Rattle.index_update.specs.Reads.{ReadsIn, ReadsSome};
+ghost use Rattle.index_update.specs.Rest.{without};
+ghost use Rattle.index_update.specs.Tells.{ComesToTell, GoesOnTelling};
+
+use crate::entry_records::read_each;
+use crate::names::{first_of, set_of, take_off};
+use cache_base::{Name, Names, NoMemory};
+use disk_model::{Disk, DiskFault};
+use index_map::RecordMap;
+use std::alloc::Global;
+use std::collections::BTreeSet;
+use std::marker::Model;
+
+/// An update of the index: its rest, which is the names of the entries that it has still to read, in name order. It has
+/// ended when none is left.
+#[derive(Drop)]
+pub struct Update {
+    names: BTreeSet<Name>,
+    alloc: Global,
+}
+
+impl Model for Update {
+    ghost use Rattle.std.specs.Prelude.{List};
+    ghost use Rattle.cache_base.specs.declared.name.Name.{Name as AName};
+
+    ghost Value = { List AName };
+
+    ghost view = { λ u. u.names.keys };
+}
+
+// With an empty rest, takes the records out that were not seen.
+fn end(names: &BTreeSet<Name>, map: &mut RecordMap)
+    ensures ended { names.now.keys ≡ [] → map.new ≡ record map.old { records = map.old.seen } }
+    ensures goes_on { names.now.keys ≢ [] → map.new ≡ map.old }
+    ensures seen { map.new.seen ≡ map.old.seen }
+    ensures base { map.new.base ≡ map.old.base }
+    ensures has_base { map.new.has_base ≡ map.old.has_base }
+{
+    if names.is_empty() {
+        map.drop_unseen();
+    }
+}
+
+impl Update {
+    /// An update that has ended.
+    pub fn none(alloc: Global) -> Update
+        ensures { result ≡ [] }
+    {
+        Update {
+            names: BTreeSet::new(alloc),
+            alloc,
+        }
+    }
+
+    /// An update whose rest is the names of all entries.
+    pub fn begin<D: Disk>(alloc: Global, disk: &mut D) -> Result<Update, DiskFault>
+        ensures rest { IfOk result (λ update. IsTrue D.tells →
+            AreEntries (D.state disk.old) update) }
+        ensures rising { IfOk result (λ update. AreRising update) }
+        ensures state { IsTrue D.tells → D.state disk.new ≡ D.state disk.old }
+        ensures counts { IsTrue D.tells → D.counts disk.new ≡ counted (D.counts disk.old) }
+        ensures cause { HasCause (IsErrOf result DiskFault.Failed) (D.faults disk.old) (D.faults disk.new) }
+    {
+        let mut listed = Names::new(alloc);
+        disk.entries(&mut listed)?;
+        Ok(Update {
+            names: set_of(alloc, listed.as_slice())?,
+            alloc,
+        })
+    }
+
+    // Reads the first n names of the rest, or all.
+    fn read_first<D: Disk>(
+        &mut self,
+        disk: &mut D,
+        n: usize,
+        map: &mut RecordMap,
+    ) -> Result<(), DiskFault>
+        ensures rest { OnOk result (self.new ≡ drop n self.old) }
+        ensures kept { OnErr result (self.new ≡ self.old) }
+        ensures seen { let es = entries_on (D.state disk.old) in
+            OnOk result (IsTrue D.tells → ReadsIn es (take n self.old) map.old.seen map.new.seen) }
+        ensures records { let es = entries_on (D.state disk.old) in OnOk result (IsTrue D.tells →
+            self.new ≢ [] → ReadsIn es (take n self.old) map.old.records map.new.records) }
+        ensures ended { OnOk result (self.new ≡ [] → map.new.records ≡ map.new.seen) }
+        ensures some { let es = entries_on (D.state disk.old) in
+            OnErr result (IsTrue D.tells → ReadsSome es (take n self.old) map.old map.new) }
+        ensures base { SameBase map.old map.new }
+        ensures tells { let es = entries_on (D.state disk.old) in IsTrue D.tells →
+            GoesOnTelling es map.old self.old map.new self.new }
+        ensures tells_all { let es = entries_on (D.state disk.old) in OnOk result (IsTrue D.tells →
+            self.new ≡ [] → ComesToTell es map.old self.old map.new) }
+        ensures state { IsTrue D.tells → D.state disk.new ≡ D.state disk.old }
+        ensures looks { IsTrue D.tells →
+            Looks (4 * length (take n self.old)) (D.counts disk.old) (D.counts disk.new) }
+        ensures cause { HasCause (IsErrOf result DiskFault.Failed) (D.faults disk.old) (D.faults disk.new) }
+    {
+        let first = first_of(self.alloc, &self.names, n)?;
+        read_each(self.alloc, disk, first.as_slice(), map)?;
+        take_off(&mut self.names, first.len());
+        end(&self.names, map);
+        Ok(())
+    }
+
+    /// Reads the files of the first n names of the rest, or of all, in their order, sets their records to what stands
+    /// there, or removes them where no file fits, and takes the names off. With an empty rest then, it takes the records
+    /// out that were not seen. After a fault the rest is unchanged, and the records of some first names are set.
+    pub fn step<D: Disk>(
+        &mut self,
+        disk: &mut D,
+        n: u32,
+        map: &mut RecordMap,
+    ) -> Result<(), DiskFault>
+        // The rest, and the records.
+        ensures rest { OnOk result (self.new ≡ drop n self.old) }
+        ensures kept { OnErr result (self.new ≡ self.old) }
+        ensures seen { let es = entries_on (D.state disk.old) in
+            OnOk result (IsTrue D.tells → ReadsIn es (take n self.old) map.old.seen map.new.seen) }
+        ensures records { let es = entries_on (D.state disk.old) in OnOk result (IsTrue D.tells →
+            self.new ≢ [] → ReadsIn es (take n self.old) map.old.records map.new.records) }
+        ensures ended { OnOk result (self.new ≡ [] → map.new.records ≡ map.new.seen) }
+        ensures some { let es = entries_on (D.state disk.old) in
+            OnErr result (IsTrue D.tells → ReadsSome es (take n self.old) map.old map.new) }
+        ensures base { SameBase map.old map.new }
+        // The records that were seen go on to tell what stands outside the rest, and with an empty rest all do.
+        ensures tells { let es = entries_on (D.state disk.old) in IsTrue D.tells →
+            GoesOnTelling es map.old self.old map.new self.new }
+        ensures tells_all { let es = entries_on (D.state disk.old) in OnOk result (IsTrue D.tells →
+            self.new ≡ [] → ComesToTell es map.old self.old map.new) }
+        // The disk.
+        ensures state { IsTrue D.tells → D.state disk.new ≡ D.state disk.old }
+        ensures looks { IsTrue D.tells →
+            Looks (4 * length (take n self.old)) (D.counts disk.old) (D.counts disk.new) }
+        ensures cause { HasCause (IsErrOf result DiskFault.Failed) (D.faults disk.old) (D.faults disk.new) }
+    {
+        self.read_first(disk, n as usize, map)
+    }
+
+    /// Reads all names that are left, as a step that is large enough, and so ends the update.
+    pub fn finish<D: Disk>(&mut self, disk: &mut D, map: &mut RecordMap) -> Result<(), DiskFault>
+        // The rest, and the records.
+        ensures rest { OnOk result (self.new ≡ []) }
+        ensures kept { OnErr result (self.new ≡ self.old) }
+        ensures seen { let es = entries_on (D.state disk.old) in
+            OnOk result (IsTrue D.tells → ReadsIn es self.old map.old.seen map.new.seen) }
+        ensures ended { OnOk result (map.new.records ≡ map.new.seen) }
+        ensures some { let es = entries_on (D.state disk.old) in
+            OnErr result (IsTrue D.tells → ReadsSome es self.old map.old map.new) }
+        ensures base { SameBase map.old map.new }
+        // The records that were seen go on to tell what stands outside the rest, and in the end all do.
+        ensures tells { let es = entries_on (D.state disk.old) in IsTrue D.tells →
+            GoesOnTelling es map.old self.old map.new self.new }
+        ensures tells_all { let es = entries_on (D.state disk.old) in OnOk result (IsTrue D.tells →
+            ComesToTell es map.old self.old map.new) }
+        // The disk.
+        ensures state { IsTrue D.tells → D.state disk.new ≡ D.state disk.old }
+        ensures looks { IsTrue D.tells →
+            Looks (4 * length self.old) (D.counts disk.old) (D.counts disk.new) }
+        ensures cause { HasCause (IsErrOf result DiskFault.Failed) (D.faults disk.old) (D.faults disk.new) }
+    {
+        let n = self.names.len();
+        self.read_first(disk, n, map)
+    }
+
+    /// Takes a name off the rest, if it is there. Where it was the last, the update has ended, which `ended` tells, and
+    /// the caller drops the records that were not seen.
+    pub fn seen(&mut self, name: &Name)
+        ensures rest { self.new ≡ without name.now self.old }
+        ensures rising { AreRising self.new }
+    {
+        // The names are in order.
+        let _len = self.names.len();
+        let _was = self.names.remove(name);
+    }
+
+    /// Whether the name is in the rest.
+    pub fn waits_for(&self, name: &Name) -> bool
+        ensures waits { result ≡ list_any (same_name name.now) self.now }
+        ensures rising { AreRising self.now }
+    {
+        // The names are in order.
+        let _len = self.names.len();
+        self.names.contains(name)
+    }
+
+    /// The number of names in the rest.
+    pub fn rest(&self) -> usize
+        ensures rest { result ≡ length self.now }
+        ensures rising { AreRising self.now }
+    {
+        self.names.len()
+    }
+
+    /// Whether no name is left.
+    pub fn ended(&self) -> bool
+        ensures ended { IsTrue result ↔ (self.now ≡ []) }
+        ensures rising { AreRising self.now }
+    {
+        // The names are in order.
+        let _len = self.names.len();
+        self.names.is_empty()
+    }
+
+    /// An update with the same rest.
+    pub fn copy(&self) -> Result<Update, NoMemory>
+        ensures { IfOk result (λ update. update ≡ self.now) }
+    {
+        Ok(Update {
+            names: self.names.clone()?,
+            alloc: self.alloc,
+        })
+    }
+}

@@ -1,0 +1,103 @@
+-- A closing of the index, in its steps.
+use Rattle.std.specs.Prelude.{Bool, List, false, if◌then◌else◌, nat_le, not, true, ℕ, ◌||◌, ◌≡◌, ◌⊎◌}
+use Rattle.cache_base.specs.Bytes.{be32}
+use Rattle.cache_base.specs.declared.limits.TheConstants.{CHANGED_MAX}
+use Rattle.disk_model.specs.State.{State, settled, standing}
+use Rattle.index_journal.specs.Journal.{IsPrinted}
+use Rattle.index_map.specs.Known.{IsKnown, Known, changed}
+use Rattle.index_record.specs.declared.record.IndexRecord.{IndexRecord}
+use Rattle.index_theory.specs.Apart.{IsApart}
+use Rattle.index_theory.specs.Closing.{closed, flag_cleared, flagged, log_begun, log_filled, log_synced}
+use Rattle.index_theory.specs.Ever.{entries_on}
+use Rattle.index_theory.specs.Honest.{Honest, LeavesHonest}
+use Rattle.index_theory.specs.Scan.{TellsScan}
+use Rattle.index_theory.specs.Start.{start_of}
+use Rattle.index_theory.specs.declared.kinds.Start.TheVariants.{Ready}
+use Rattle.index_theory.specs.Unclean.{IsUnclean}
+use Rattle.record_list.specs.Change.{IsDiff}
+use Rattle.startup_read.specs.Kept.{KeepsIndex, written_map}
+use Rattle.startup_read.specs.Writing.{IsAmidWriting, WritesIndex}
+
+-- ---- the index
+
+-- there is no base, or so much has changed that the whole index is written
+abbrev pub is_due : Known → Bool
+is_due map = not map.has_base || nat_le CHANGED_MAX (changed map.base map.records)
+
+-- the map after a closing, by whether the index was written
+abbrev pub after_refresh : Known → Known
+after_refresh map = if is_due map then written_map map else map
+
+-- the whole index is written where that is due, and else nothing is done
+pub record Refreshes (map : Known) (now : ℕ) (s t : State) : Type 0 where
+  pub due : is_due map ≡ true → WritesIndex map.records now s t
+  pub not_due : is_due map ≡ false → t ≡ s
+
+-- what is kept of the index with the one map before is kept with the other one after
+abbrev pub KeepsOver : Known → Known → State → State → Type 0
+KeepsOver old new s t = KeepsIndex s old → KeepsIndex t new
+
+-- nothing was done, or where it is due the writing has come to one of its moments
+pub record IsAmidRefresh (map : Known) (now : ℕ) (s t : State) : Type 0 where
+  pub due : is_due map ≡ true → IsAmidWriting map.records now s t
+  pub not_due : is_due map ≡ false → t ≡ s
+
+-- ---- the journal and the flag
+
+-- these bytes are a journal with the difference of the base to the records now
+pub record PrintsChanges (map : Known) (bytes : List ℕ) : Type 0 where
+  pub known : IsKnown map
+  pub changes : List IndexRecord
+  pub diff : IsDiff map.base map.records changes
+  pub printed : IsPrinted changes bytes
+
+-- how far the journal and the flag have come
+pub data ClosingMoment : Type 0 where
+  Unlogged : ClosingMoment
+  Begun : ClosingMoment
+  Filled : ClosingMoment
+  Synced : ClosingMoment
+  Cleared : ClosingMoment
+  Closed : ClosingMoment
+
+abbrev pub closing_at : ClosingMoment → List ℕ → State → State
+closing_at Unlogged bytes s = s
+closing_at Begun bytes s = log_begun s
+closing_at Filled bytes s = log_filled bytes s
+closing_at Synced bytes s = log_synced bytes s
+closing_at Cleared bytes s = flag_cleared bytes s
+closing_at Closed bytes s = closed bytes s
+
+abbrev pub IsAmidLogging : List ℕ → State → State → Type 0
+IsAmidLogging bytes s t = (moment : ClosingMoment) × (t ≡ closing_at moment bytes s)
+
+-- the flag was cleared or not, and that was synced or not
+abbrev pub IsAmidClearing : State → State → Type 0
+IsAmidClearing s t = (t ≡ s) ⊎ ((t ≡ flagged (be32 0) s) ⊎ (t ≡ settled (flagged (be32 0) s)))
+
+-- ---- both
+
+-- a closing to its end: the index is written where that is due, then the journal, and then the flag is cleared
+abbrev pub ClosesIndex : Known → ℕ → State → State → Type 0
+ClosesIndex map now s t = (u : State) × (Refreshes map now s u × ((bytes : List ℕ) × (PrintsChanges (after_refresh map) bytes × (t ≡ closed bytes u))))
+
+-- a closing that has come to one of its moments
+abbrev pub IsAmidClosing : Known → ℕ → State → State → Type 0
+IsAmidClosing map now s t =
+    IsAmidRefresh map now s t
+    ⊎ ((u : State) × (Refreshes map now s u × ((bytes : List ℕ) × (PrintsChanges (after_refresh map) bytes × IsAmidLogging bytes u t))))
+
+-- ---- what it is for
+
+-- a crash leaves an honest directory, where before the closing it could leave no trusted index and, if the update has
+-- ended, the records say what a scan would
+abbrev pub ClosesHonest : Bool → List IndexRecord → State → State → Type 0
+ClosesHonest ended records s t = IsApart s → IsUnclean s → (ended ≡ true → TellsScan (entries_on s) records) → LeavesHonest t
+
+-- what stands is trusted, and says what a scan would
+abbrev pub IsTrusted : State → Type 0
+IsTrusted s = (start_of (standing s) ≡ Ready) × Honest (standing s)
+
+-- so it is in the end, where the records say what a scan would
+abbrev pub LeavesTrusted : List IndexRecord → State → State → Type 0
+LeavesTrusted records s t = IsApart s → TellsScan (entries_on s) records → IsTrusted t

@@ -1,0 +1,9 @@
+pub mod Account
+pub mod Looks
+pub mod Kept
+pub mod Reads
+pub mod Starts
+pub mod Spares
+pub mod Opening
+pub mod Writing
+pub mod Closing

@@ -1,0 +1,138 @@
+//! What the files of the index say: their kinds and their records.
+
+ghost use Rattle.std.specs.Prelude.{◌≡◌, IfOk, IsErrOf, IsTrue, Some, if◌then◌else◌};
+ghost use Rattle.cache_base.specs.Causes.{HasCause};
+ghost use Rattle.disk_model.specs.State.{standing};
+ghost use Rattle.disk_model.specs.declared.disk.DiskFault.TheVariants.{Failed};
+ghost use Rattle.disk_model.specs.declared.place.Place.TheVariants.{Index, Log};
+ghost use Rattle.index_theory.specs.declared.kinds.IndexKind.TheVariants.{Clean, Dirty};
+ghost use Rattle.record_list.specs.Change.{HasNoRemoved};
+ghost use Rattle.record_list.specs.Lists.{HasNames};
+ghost use Rattle.record_list.specs.Stored.{AreClean};
+ghost use Rattle.startup_read.specs.Looks.{LooksAtNoEntry};
+ghost use Rattle.startup_read.specs.Reads.{ReadsIndex, ReadsJournal};
+
+use crate::whole_file::read_whole;
+use crate::{IndexKind, LogKind};
+use cache_base::NoMemory;
+use disk_model::{Disk, DiskFault, Place};
+use index_file::IndexFault;
+use index_journal::JournalFault;
+use index_record::Records;
+use std::alloc::Global;
+
+/// What stands at `index`, with the records of an index, or none.
+#[derive(Drop)]
+pub(crate) struct IndexRead {
+    pub kind: IndexKind,
+    pub records: Records,
+}
+
+/// What stands at `index.log`, with the records of a journal, or none.
+#[derive(Drop)]
+pub(crate) struct LogRead {
+    pub kind: LogKind,
+    pub records: Records,
+}
+
+// No records.
+#[tactic(auto, using(crate::proofs::ReadKinds::no_names))]
+fn no_records(alloc: Global) -> Records
+    ensures distinct { HasNames result }
+    ensures clean { AreClean result }
+    ensures present { HasNoRemoved result }
+{
+    Records::new(alloc)
+}
+
+fn kind_of_flag(dirty: bool) -> IndexKind
+    ensures { result ≡ (if dirty then Dirty else Clean) }
+{
+    if dirty {
+        IndexKind::Dirty
+    } else {
+        IndexKind::Clean
+    }
+}
+
+// What these bytes are as an index.
+fn parse_index(alloc: Global, b: &[u8]) -> Result<IndexRead, NoMemory>
+    ensures reads { IfOk result (λ read. ReadsIndex (Some b.now) read.kind read.records) }
+    ensures distinct { IfOk result (λ read. HasNames read.records) }
+    ensures clean { IfOk result (λ read. AreClean read.records) }
+    ensures present { IfOk result (λ read. HasNoRemoved read.records) }
+{
+    match index_file::parse(alloc, b) {
+        Ok(image) => Ok(IndexRead {
+            kind: kind_of_flag(image.dirty),
+            records: image.records,
+        }),
+        Err(fault) => match fault {
+            IndexFault::Memory => Err(NoMemory),
+            _ => Ok(IndexRead {
+                kind: IndexKind::Invalid,
+                records: no_records(alloc),
+            }),
+        },
+    }
+}
+
+// What these bytes are as a journal.
+fn parse_log(alloc: Global, b: &[u8]) -> Result<LogRead, NoMemory>
+    ensures reads { IfOk result (λ read. ReadsJournal (Some b.now) read.kind read.records) }
+    ensures distinct { IfOk result (λ read. HasNames read.records) }
+    ensures clean { IfOk result (λ read. AreClean read.records) }
+{
+    match index_journal::parse(alloc, b) {
+        Ok(records) => Ok(LogRead {
+            kind: LogKind::Valid,
+            records,
+        }),
+        Err(fault) => match fault {
+            JournalFault::Memory => Err(NoMemory),
+            _ => Ok(LogRead {
+                kind: LogKind::Invalid,
+                records: no_records(alloc),
+            }),
+        },
+    }
+}
+
+/// What stands at `index`.
+pub(crate) fn read_index<D: Disk>(alloc: Global, disk: &mut D) -> Result<IndexRead, DiskFault>
+    ensures reads { IfOk result (λ read. IsTrue D.tells →
+        ReadsIndex (standing (D.state disk.old) Index) read.kind read.records) }
+    ensures distinct { IfOk result (λ read. HasNames read.records) }
+    ensures clean { IfOk result (λ read. AreClean read.records) }
+    ensures present { IfOk result (λ read. HasNoRemoved read.records) }
+    ensures state { IsTrue D.tells → D.state disk.new ≡ D.state disk.old }
+    ensures looks { IsTrue D.tells → LooksAtNoEntry (D.counts disk.old) (D.counts disk.new) }
+    ensures cause { HasCause (IsErrOf result DiskFault.Failed) (D.faults disk.old) (D.faults disk.new) }
+{
+    match read_whole(alloc, disk, &Place::Index)? {
+        None => Ok(IndexRead {
+            kind: IndexKind::Missing,
+            records: no_records(alloc),
+        }),
+        Some(file) => Ok(parse_index(alloc, file.as_slice())?),
+    }
+}
+
+/// What stands at `index.log`.
+pub(crate) fn read_log<D: Disk>(alloc: Global, disk: &mut D) -> Result<LogRead, DiskFault>
+    ensures reads { IfOk result (λ read. IsTrue D.tells →
+        ReadsJournal (standing (D.state disk.old) Log) read.kind read.records) }
+    ensures distinct { IfOk result (λ read. HasNames read.records) }
+    ensures clean { IfOk result (λ read. AreClean read.records) }
+    ensures state { IsTrue D.tells → D.state disk.new ≡ D.state disk.old }
+    ensures looks { IsTrue D.tells → LooksAtNoEntry (D.counts disk.old) (D.counts disk.new) }
+    ensures cause { HasCause (IsErrOf result DiskFault.Failed) (D.faults disk.old) (D.faults disk.new) }
+{
+    match read_whole(alloc, disk, &Place::Log)? {
+        None => Ok(LogRead {
+            kind: LogKind::Missing,
+            records: no_records(alloc),
+        }),
+        Some(file) => Ok(parse_log(alloc, file.as_slice())?),
+    }
+}
