@@ -19,7 +19,6 @@ use Rattle.cache_theory.proofs.Objects.{length_more, nth-append_new, nth-set_sam
 use Rattle.cache_theory.proofs.Slots.{with_slot_same}
 use Rattle.std.proofs.Common.{length-set}
 use Rattle.entry_file.specs.Version.{Version}
-use Rattle.entry_key.specs.Writing.{may_write}
 use Rattle.entry_name.specs.EntryName.{file_name}
 use Rattle.cache_store.specs.Answering.{outcome_of}
 use Rattle.cache_store.specs.Open.{Open, StandsFor}
@@ -59,14 +58,6 @@ passes m c = go (first_failing (checks m c))
 -- and the machine does what the command says
 does : (m : Machine) (c : Command) → is_done (step m c).reply ≡ true → (step m c).next ≡ (effect m c).next
 does m c done = ap (λ r. (stepped m c r).next) (passes m c done)
-
--- a check that fails is told
-not_done : (m : Machine) (c : Command) → first_failing (checks m c) ≢ None → outcome_of (step m c).reply ≡ outcome.Refused
-not_done m c = go (first_failing (checks m c))
-  where
-    go : (r : Option Refusal) → r ≢ None → outcome_of (stepped m c r).reply ≡ outcome.Refused
-    go None fails = absurd (fails refl)
-    go (Some r) fails = refl
 
 -- the reply to such a command is `ok`, or it is refused
 done_by : (m : Machine) (c : Command) → IsPlain c → outcome_of (step m c).reply ≡ outcome.Ok → is_done (step m c).reply ≡ true
