@@ -40,3 +40,7 @@ pub record NotesNew (is_new : Bool) (place : Place) (before now : FileNotes) : T
   pub absent : IsTrue is_new → contains place_ord.ghosts.cmp before place ≡ false
   pub kept : KeepsAll before now
   pub others : KeepsOthers place before now
+
+-- whatever the notes were to which the place was added, none of them is lost
+abbrev pub PutsBack : Bool → Place → FileNotes → FileNotes → Type 0
+PutsBack is_new place before now = (earlier : FileNotes) → NotesNew is_new place earlier before → KeepsAll earlier now
