@@ -19,6 +19,10 @@ IsNoted notes place = IsTrue (contains place_ord.ghosts.cmp notes place)
 abbrev pub KeepsNote : Place → FileNotes → FileNotes → Type 0
 KeepsNote place before now = IsNoted before place → IsNoted now place
 
+-- a file that was noted at the first place is noted at the second
+abbrev pub MovesNote : Place → Place → FileNotes → FileNotes → Type 0
+MovesNote from to before now = IsNoted before from → IsNoted now to
+
 -- no note is lost
 abbrev pub KeepsAll : FileNotes → FileNotes → Type 0
 KeepsAll before now = IsSubset place_ord.ghosts.cmp before now
