@@ -1,5 +1,5 @@
 -- A note that is made for a step and taken back.
-use Rattle.std.proofs.Common.{◌≡◌, sym, ap, ◌∙◌, Bool, true, false, inl, inr}
+use Rattle.std.proofs.Common.{◌≡◌, sym, ◌∙◌, false, inl, inr}
 use Rattle.std.proofs.lemmas.Bool.{cases_Bool, false≢true}
 use Rattle.std.proofs.lemmas.Map.Steps.{list_any_congr}
 use Rattle.std.specs.BTreeSet.{contains}

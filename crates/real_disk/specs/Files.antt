@@ -19,6 +19,10 @@ IsNoted notes place = IsTrue (contains place_ord.ghosts.cmp notes place)
 abbrev pub KeepsNote : Place → FileNotes → FileNotes → Type 0
 KeepsNote place before now = IsNoted before place → IsNoted now place
 
+-- a file that was noted at the first place is noted at the second
+abbrev pub MovesNote : Place → Place → FileNotes → FileNotes → Type 0
+MovesNote from to before now = IsNoted before from → IsNoted now to
+
 -- no note is lost
 abbrev pub KeepsAll : FileNotes → FileNotes → Type 0
 KeepsAll before now = IsSubset place_ord.ghosts.cmp before now
@@ -40,3 +44,7 @@ pub record NotesNew (is_new : Bool) (place : Place) (before now : FileNotes) : T
   pub absent : IsTrue is_new → contains place_ord.ghosts.cmp before place ≡ false
   pub kept : KeepsAll before now
   pub others : KeepsOthers place before now
+
+-- whatever the notes were to which the place was added, none of them is lost
+abbrev pub PutsBack : Bool → Place → FileNotes → FileNotes → Type 0
+PutsBack is_new place before now = (earlier : FileNotes) → NotesNew is_new place earlier before → KeepsAll earlier now

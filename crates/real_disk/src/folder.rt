@@ -3,7 +3,7 @@
 ghost use Rattle.std.specs.Prelude.{◌≡◌, ◌≤◌, ◌⊎◌, IfOk, OnOk, OnErr, IsTrue, length};
 ghost use Rattle.std.specs.BTreeSet.{btree_set_len, IsUnchanged};
 ghost use Rattle.real_disk.specs.Areas.{area_in};
-ghost use Rattle.real_disk.specs.Files.{FileNotes, IsNoted, NotesNew, KeepsNote, KeepsOthers, KeepsAllBut, KeepsAll, Owes};
+ghost use Rattle.real_disk.specs.Files.{IsNoted, NotesNew, PutsBack, KeepsNote, KeepsOthers, KeepsAllBut, KeepsAll, MovesNote, Owes};
 ghost use Rattle.real_disk.specs.Folders.{NoneLost, NoneLeft, HasNote};
 
 use crate::contents::{after_change, read_from, write_end, write_over};
@@ -161,7 +161,7 @@ impl<R: Files + AllocGlobal> Folder<'_, R> {
     /// A file that has changed is to be synced under its new name. It is noted there before, so that a note that
     /// finds no memory leaves all as it was. What stood there has nothing to sync any more.
     pub(crate) fn rename(&mut self, from: &Place, to: &Place) -> io::Result<()>
-        ensures moved { OnOk result (IsNoted self.old.files from.now → IsNoted self.new.files to.now) }
+        ensures moved { OnOk result (MovesNote from.now to.now self.old.files self.new.files) }
         ensures from_folder { OnOk result (HasNote self.new.tree.folders (area_in from.now)) }
         ensures to_folder { OnOk result (HasNote self.new.tree.folders (area_in to.now)) }
         ensures kept { OnErr result (KeepsAll self.old.files self.new.files) }
@@ -243,7 +243,7 @@ fn note_if(
 // Takes back a note, if it is new, where the step for which it was made has failed.
 fn take_back(files: &mut BTreeSet<Place, Global>, place: &Place, is_new: bool)
     ensures others { KeepsOthers place.now files.old files.new }
-    ensures back { (before : FileNotes) → NotesNew is_new place.now before files.old → KeepsAll before files.new }
+    ensures back { PutsBack is_new place.now files.old files.new }
 {
     if is_new {
         files.remove(place);

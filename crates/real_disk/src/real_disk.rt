@@ -15,7 +15,8 @@ use std::rt::Files;
 /// A folder of the machine, with the folders `entries` and `doomed` and the files of the index in it.
 ///
 /// The folder, and those above it, are made with the first file. Folders are made with the mode 0700 and files with
-/// 0600. Files with other names are left alone.
+/// 0600. Files with other names are left alone, and so is what is no regular file, as a folder or a link: it is not
+/// listed, and at a place each call that asks for its size, reads or writes fails.
 ///
 /// Each call that fails raises the count of faults by one. Where the system has no memory the call answers so, and
 /// no fault is counted. Contracts are told nothing of what the folder holds, but that after a sync no change waits.
@@ -58,7 +59,7 @@ impl<R: Files + AllocGlobal> RealDisk<'_, R> {
 impl<R: Files + AllocGlobal + Clone + Drop> Disk for RealDisk<'_, R> {
     ghost use Rattle.std.specs.Prelude.{IsTrue};
     ghost use Rattle.disk_model.specs.State.{settled};
-    ghost use Rattle.disk_model.specs.Calls.{if_ok, counted_change};
+    ghost use Rattle.disk_model.specs.Calls.{if_ok, counted_sync};
     ghost use Rattle.real_disk.specs.Pending.{NothingPending};
 
     ghost tells = { false };
@@ -76,7 +77,7 @@ impl<R: Files + AllocGlobal + Clone + Drop> Disk for RealDisk<'_, R> {
     fn sync(&mut self) -> Result<(), DiskFault>
         ensures synced { OnOk result (NothingPending self.new) }
         ensures state { IsTrue false → nothing ≡ if_ok result (settled nothing) nothing }
-        ensures counts { IsTrue false → no_counts ≡ counted_change result no_counts }
+        ensures counts { IsTrue false → no_counts ≡ counted_sync result no_counts }
         ensures cause { HasCause (IsErrOf result DiskFault.Failed) self.old.faults self.new.faults }
     {
         let outcome = self.folder.sync();

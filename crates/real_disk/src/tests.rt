@@ -1,6 +1,7 @@
 //! The disk over the folder that a test runs in, beside std's own calls on it.
 
 mod files;
+mod interrupted;
 mod names;
 
 use crate::RealDisk;

@@ -2,6 +2,12 @@ use super::*;
 use std::os::unix::fs::symlink;
 use std::test::Fail;
 
+const OCCUPIED: &str = "occupied/entries/0000000000000000000000000000000000000000";
+
+const OCCUPIED_LAST: &str = "occupied/entries/FFFFFFFFFFFFFFFFFFFFFFFFFFFFFFFFFFFFFFFF";
+
+const LINKED: &str = "linked/entries/0000000000000000000000000000000000000000";
+
 #[test]
 fn a_file_is_made_with_its_folders(rt: HostRuntime) -> Result<(), Fail> {
     let mut disk = disk_in(&rt, "above/cache//")?;
@@ -150,9 +156,9 @@ fn a_missing_file_is_not_made(rt: HostRuntime) -> Result<(), Fail> {
 
 #[test]
 fn a_folder_at_a_place_fails_each_call(rt: HostRuntime) -> Result<(), Fail> {
-    let mut disk = disk_in(&rt, "cache")?;
+    let mut disk = disk_in(&rt, "occupied")?;
     assert_eq!(rt; make(&mut disk, &LAST, b"last"), Ok(()));
-    assert!(rt; fs::create_dir(&rt, FIRST_PATH).is_ok());
+    assert!(rt; fs::create_dir(&rt, OCCUPIED).is_ok());
     assert_eq!(rt; disk.size(&FIRST), Err(DiskFault::Failed));
     assert_eq!(rt; disk.read(&FIRST, 0, &mut [0; 5]), Err(DiskFault::Failed));
     assert_eq!(rt; disk.create(&FIRST), Err(DiskFault::Failed));
@@ -161,22 +167,22 @@ fn a_folder_at_a_place_fails_each_call(rt: HostRuntime) -> Result<(), Fail> {
     assert_eq!(rt; disk.rename(&LAST, &FIRST), Err(DiskFault::Failed));
     assert_eq!(rt; disk.remove(&FIRST), Err(DiskFault::Failed));
     assert_eq!(rt; disk.sync(), Ok(()));
-    assert!(rt; holds(&rt, LAST_PATH, b"last"));
+    assert!(rt; holds(&rt, OCCUPIED_LAST, b"last"));
     Ok(())
 }
 
 // The file that a link leads to is neither read nor written, and stays where a new file takes the link's place.
 #[test]
 fn a_link_at_a_place_is_not_followed(rt: HostRuntime) -> Result<(), Fail> {
-    let mut disk = disk_in(&rt, "cache")?;
+    let mut disk = disk_in(&rt, "linked")?;
     assert_eq!(rt; make(&mut disk, &LAST, b"last"), Ok(()));
     assert!(rt; fs::write(&rt, "elsewhere", b"foreign").is_ok());
-    assert!(rt; symlink(&rt, "../../elsewhere", FIRST_PATH).is_ok());
+    assert!(rt; symlink(&rt, "../../elsewhere", LINKED).is_ok());
     assert_eq!(rt; disk.size(&FIRST), Err(DiskFault::Failed));
     assert_eq!(rt; disk.read(&FIRST, 0, &mut [0; 5]), Err(DiskFault::Failed));
     assert_eq!(rt; disk.write_end(&FIRST, 0, b"x"), Err(DiskFault::Failed));
     assert_eq!(rt; make(&mut disk, &FIRST, b"first"), Ok(()));
-    assert!(rt; holds(&rt, FIRST_PATH, b"first"));
+    assert!(rt; holds(&rt, LINKED, b"first"));
     assert!(rt; holds(&rt, "elsewhere", b"foreign"));
     Ok(())
 }
