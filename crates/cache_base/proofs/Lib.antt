@@ -1,2 +1,3 @@
 pub mod ByteLaws
 pub mod CheckLaws
+pub mod NumberLaws

@@ -4,4 +4,5 @@ pub mod Causes
 pub mod Checks
 pub mod Limits
 pub mod Names
+pub mod Numbers
 pub mod Status

@@ -1,6 +1,6 @@
 //! A buffer for one chunk of a body.
 
-ghost use Rattle.std.specs.Prelude.{◌≡◌, ℕ, ◌<◌, ◌≤◌, ◌-◌, List, [], ◌∷◌, ◌++◌, length, take, replicate, IfOk, vec_len, vec_capacity};
+ghost use Rattle.std.specs.Prelude.{◌≡◌, ℕ, ◌<◌, ◌≤◌, ◌-◌, ◌+◌, List, [], ◌∷◌, ◌++◌, length, take, replicate, IfOk, vec_len, vec_capacity};
 ghost use Rattle.std.specs.Borrow.{sem};
 ghost use Rattle.cache_base.specs.declared.limits.TheConstants.{BUFFER_MAX};
 
@@ -24,6 +24,14 @@ impl Model for Buffer {
     ghost invariant = { λ s. (vec_len s.room ≤ BUFFER_MAX) × (BUFFER_MAX ≤ vec_capacity s.room) };
 }
 
+// Copies the bytes to the end of the slice, from a place on.
+fn put_end(slice: &mut [u8], at: usize, b: &[u8])
+    requires { at + length b.now ≡ length slice.old }
+    ensures { slice.new ≡ take at slice.old ++ b.now }
+{
+    slice[at..].copy_from_slice(b);
+}
+
 impl Buffer {
     ghost use Rattle.cache_base.specs.Buffer.{LendsBytes};
 
@@ -41,6 +49,16 @@ impl Buffer {
         ensures { self.new ≡ self.old ++ x ∷ [] }
     {
         self.room.push_reserved(x);
+    }
+
+    /// Adds bytes at the end.
+    pub fn extend(&mut self, b: &[u8])
+        requires { length self.old + length b.now ≤ BUFFER_MAX }
+        ensures { self.new ≡ self.old ++ b.now }
+    {
+        let at = self.as_slice().len();
+        self.set_len(at + b.len());
+        put_end(self.as_mut_slice(), at, b);
     }
 
     /// Cuts the list to `n` bytes, or fills it up to `n` with zero bytes: after a cut and a filling up, no byte that

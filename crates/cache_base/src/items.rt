@@ -1,6 +1,6 @@
 //! Small lists that contracts see as lists.
 
-ghost use Rattle.std.specs.Prelude.{◌≡◌, ◌↔◌, List, [], ◌∷◌, ◌++◌, IfOk, OnOk, OnErr, Any, IsTrue};
+ghost use Rattle.std.specs.Prelude.{◌≡◌, ◌↔◌, List, [], ◌∷◌, ◌++◌, IfOk, OnOk, OnErr, Any, IsTrue, decimal};
 
 use crate::Name;
 use std::alloc::{AllocError, AllocFailed, Global};
@@ -97,6 +97,15 @@ impl Items<u8> {
     {
         self.items.extend_from_slice(b)?;
         Ok(())
+    }
+
+    /// Adds a number in decimal at the end, or leaves the list as it was.
+    pub fn extend_decimal(&mut self, alloc: Global, n: u64) -> Result<(), NoMemory>
+        ensures ok { OnOk result (self.new ≡ self.old ++ decimal n) }
+        ensures err { OnErr result (self.new ≡ self.old) }
+    {
+        let digits = n.to_string(alloc)?;
+        self.extend(digits.as_bytes())
     }
 }
 

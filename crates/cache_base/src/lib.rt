@@ -7,6 +7,7 @@ mod items;
 mod laws;
 mod limits;
 mod name;
+mod numbers;
 mod status;
 
 pub use buffer::Buffer;
@@ -17,6 +18,7 @@ pub use limits::{
     PIECE_MAX, SCRIPT_MAX, SLOTS, chunks,
 };
 pub use name::{Moment, Name};
+pub use numbers::number;
 pub use status::Status;
 
 #[cfg(test)]

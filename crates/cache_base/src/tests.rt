@@ -1,6 +1,6 @@
 ghost use Rattle.std.specs.Prelude.{◌≡◌, ◌<◌, ◌≤◌, ◌++◌, length, drop, replicate, slice_set};
 
-use crate::{BUFFER_MAX, Buffer, Bytes, Name, Names, Numbers, Status, chunks};
+use crate::{BUFFER_MAX, Buffer, Bytes, Name, Names, Numbers, Status, chunks, number};
 use std::test::Fail;
 
 #[test]
@@ -107,5 +107,15 @@ fn a_buffer_is_filled_and_cut_in_place(rt: HostRuntime) -> Result<(), Fail> {
     assert!(rt; buffer.as_slice().iter().all(|x| *x == 0));
     buffer.set_len(0);
     assert!(rt; buffer.as_slice().is_empty());
+    Ok(())
+}
+
+#[test]
+fn numbers_in_decimal_have_one_form(rt: HostRuntime) -> Result<(), Fail> {
+    assert_eq!(rt; number(b"0"), Some(0));
+    assert_eq!(rt; number(b"4294967295"), Some(4_294_967_295));
+    for word in [b"".as_slice(), b"00", b"007", b"4294967296", b"+1", b"1 "] {
+        assert_eq!(rt; number(word), None, "{word:?}");
+    }
     Ok(())
 }

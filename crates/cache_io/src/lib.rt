@@ -11,5 +11,5 @@ mod tests;
 
 pub use mem::{MemSink, MemSource};
 pub use sink::{Sink, SinkFault, write_whole};
-pub use source::{Source, SourceFault};
+pub use source::{Source, SourceFault, read_after};
 pub use stdio::{StdSink, StdSource};

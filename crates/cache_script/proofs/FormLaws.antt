@@ -10,10 +10,10 @@ use Rattle.cache_theory.specs.Command.Command.{At, Finish, ReadPart, Close}
 use Rattle.cache_theory.specs.Command.{Command}
 use Rattle.cache_theory.specs.Text.{FieldsFit, IsOneLine, command_words, spaced}
 use Rattle.cache_script.specs.Lines.{Form, Tells, cut, number_below, slot_in, read_in, set_in, slot_form, verb_form, form_in}
-use Rattle.cache_script.specs.Numbers.{number_in}
+use Rattle.cache_base.specs.Numbers.{number_in}
 use Rattle.cache_script.proofs.CutLaws.{Lacks, IsCut, cut_is}
 use Rattle.cache_script.proofs.LineLaws.{all_behind, line_read}
-use Rattle.cache_script.proofs.NumberLaws.{number_spelled}
+use Rattle.cache_base.proofs.NumberLaws.{number_spelled}
 
 -- bytes with no newline among them
 abbrev pub IsLine : List ℕ → Type 0

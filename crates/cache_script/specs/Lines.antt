@@ -8,7 +8,7 @@ use Rattle.cache_theory.specs.Command.{Command}
 use Rattle.cache_theory.specs.Command.Command.{At, Create, OpenKey, Append, Finish, SetElement, UnsetElement, ElementOf, ReadPart, Close, Doom, Get, Flush}
 use Rattle.cache_theory.specs.Text.{FieldsFit, IsOneLine, command_data, command_words, spaced}
 use Rattle.cache_script.specs.Command.{command_of}
-use Rattle.cache_script.specs.Numbers.{number_in}
+use Rattle.cache_base.specs.Numbers.{number_in}
 use Rattle.cache_script.specs.declared.lines.Line.{Line}
 use Rattle.cache_script.specs.declared.lines.Line.TheVariants as line
 

@@ -6,7 +6,6 @@ mod front;
 mod giving;
 mod laws;
 mod lines;
-mod numbers;
 mod reader;
 mod reading;
 mod refusals;
@@ -14,7 +13,6 @@ mod window;
 
 pub use command::Command;
 pub use laws::{bytes_have_commands, commands_are_one, none_begins_another};
-pub use numbers::number;
 pub use reader::{Reader, ScriptFault};
 pub use refusals::refusal_text;
 

@@ -7,8 +7,7 @@ ghost use Rattle.cache_theory.specs.Text.{FieldsFit, IsOneLine, command_words, s
 ghost use Rattle.cache_script.specs.Lines.{Tells, cut as cut_of, number_below as number_below_of, slot_in, set_in, read_in, slot_form, verb_form, form_in, line_form};
 
 use crate::Command;
-use crate::numbers::number;
-use cache_base::{ELEMENTS_MAX, PIECE_MAX, SLOTS};
+use cache_base::{ELEMENTS_MAX, PIECE_MAX, SLOTS, number};
 use memchr::memchr;
 
 /// What the line of a command tells of it.

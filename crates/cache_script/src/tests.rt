@@ -1,7 +1,7 @@
 ghost use Rattle.std.specs.Prelude.{◌<◌};
 
 use crate::front::{Front, front_of};
-use crate::{Command, Reader, ScriptFault, number, refusal_text};
+use crate::{Command, Reader, ScriptFault, refusal_text};
 use cache_base::{Bytes, NoMemory, Numbers, SCRIPT_MAX};
 use cache_io::{MemSource, Source};
 use cache_theory::Refusal;
@@ -369,15 +369,5 @@ fn refusals_have_their_texts(rt: HostRuntime) -> Result<(), Fail> {
         (Refusal::BadElement, "bad element"),
     ];
     texts_are(&rt, rt.alloc(), &table)?;
-    Ok(())
-}
-
-#[test]
-fn numbers_have_one_form(rt: HostRuntime) -> Result<(), Fail> {
-    assert_eq!(rt; number(b"0"), Some(0));
-    assert_eq!(rt; number(b"4294967295"), Some(4_294_967_295));
-    for word in [b"".as_slice(), b"00", b"007", b"4294967296", b"+1", b"1 "] {
-        assert_eq!(rt; number(word), None, "{word:?}");
-    }
     Ok(())
 }

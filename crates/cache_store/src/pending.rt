@@ -16,14 +16,6 @@ pub(crate) struct Pending {
     pub(crate) held: Buffer,
 }
 
-// Copies the bytes to the end of the slice, from a place on.
-fn put_end(slice: &mut [u8], at: usize, b: &[u8])
-    requires { at + length b.now ≡ length slice.old }
-    ensures { slice.new ≡ take at slice.old ++ b.now }
-{
-    slice[at..].copy_from_slice(b);
-}
-
 impl Pending {
     /// Nothing. All memory is taken here.
     pub(crate) fn new(alloc: Global) -> Result<Pending, NoMemory>
@@ -32,16 +24,6 @@ impl Pending {
         Ok(Pending {
             held: Buffer::new(alloc)?,
         })
-    }
-
-    // Holds bytes that have room.
-    fn hold(&mut self, b: &[u8])
-        requires { length self.old.held + length b.now ≤ BUFFER_MAX }
-        ensures { self.new.held ≡ self.old.held ++ b.now }
-    {
-        let at = self.held.as_slice().len();
-        self.held.set_len(at + b.len());
-        put_end(self.held.as_mut_slice(), at, b);
     }
 
     /// Says bytes. They are held, and where they have no room what is held goes out first.
@@ -58,7 +40,7 @@ impl Pending {
                 return write_whole(sink, b);
             }
         }
-        self.hold(b);
+        self.held.extend(b);
         Ok(())
     }
 

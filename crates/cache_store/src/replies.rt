@@ -8,13 +8,12 @@ use cache_base::{Bytes, NoMemory};
 use entry_metadata::Meta;
 use std::alloc::Global;
 
-// SaysMore a number in decimal, behind a space.
+// Adds a space and a number in decimal.
 fn extend_field(alloc: Global, to: &mut Bytes, n: u64) -> Result<(), NoMemory>
     ensures { OnOk result (to.new ≡ to.old ++ 32 ∷ decimal n) }
 {
-    let digits = n.to_string(alloc)?;
     to.push(b' ')?;
-    to.extend(digits.as_bytes())
+    to.extend_decimal(alloc, n)
 }
 
 fn extend_fields(alloc: Global, to: &mut Bytes, numbers: &[u64]) -> Result<(), NoMemory>

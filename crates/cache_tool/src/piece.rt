@@ -4,7 +4,7 @@ ghost use Rattle.std.specs.Prelude.{◌≡◌, ◌≢◌, ◌≤◌, ◌<◌, �
 ghost use Rattle.std.specs.Io.KnownBytes.{Consumes, IsAtEnd, Keeps};
 ghost use Rattle.cache_base.specs.Causes.{HasCause};
 
-use cache_io::{Source, SourceFault};
+use cache_io::{Source, SourceFault, read_after};
 
 /// How far a piece was filled.
 #[derive(Clone, Copy, Debug, PartialEq, Eq)]
@@ -24,23 +24,6 @@ pub(crate) struct Filled {
     pub(crate) ended: Ended,
 }
 
-// Reads behind the first bytes of the piece.
-fn read_behind<S: Source>(
-    source: &mut S,
-    piece: &mut [u8],
-    count: usize,
-) -> Result<usize, SourceFault>
-    requires { count < length piece.old }
-    ensures front { take count piece.new ≡ take count piece.old }
-    ensures bound { IfOk result (λ n. count + n ≤ length piece.new) }
-    ensures bytes { IfOk result (λ n. Consumes (S.left source.old) (S.left source.new) (take n (drop count piece.new))) }
-    ensures ended { result ≡ Ok 0 → IsAtEnd (S.left source.new) }
-    ensures failed { OnErr result (Keeps (S.left source.old) (S.left source.new)) }
-    ensures cause { HasCause (IsErrOf result SourceFault.Failed) (S.faults source.old) (S.faults source.new) }
-{
-    source.read(&mut piece[count..])
-}
-
 /// Fills the piece from the source, as far as it goes.
 pub(crate) fn fill<S: Source>(source: &mut S, piece: &mut [u8]) -> Filled
     ensures within { result.count ≤ length piece.new }
@@ -52,7 +35,7 @@ pub(crate) fn fill<S: Source>(source: &mut S, piece: &mut [u8]) -> Filled
 {
     let mut count = 0;
     'reads: while count < piece.len() {
-        match read_behind(source, piece, count) {
+        match read_after(source, piece, count) {
             Ok(0) => return Filled {
                 count,
                 ended: Ended::End,

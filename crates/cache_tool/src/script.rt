@@ -156,10 +156,9 @@ fn perform_next<D: Disk, S: Source, K: Sink>(
 fn bad_text(alloc: Global, number: u64) -> Result<Bytes, NoMemory>
     ensures { IfOk result (λ text. text ≡ bad_line number) }
 {
-    let digits = number.to_string(alloc)?;
     let mut text = Bytes::new(alloc);
     text.extend(b"script ")?;
-    text.extend(digits.as_bytes())?;
+    text.extend_decimal(alloc, number)?;
     text.push(b'\n')?;
     Ok(text)
 }

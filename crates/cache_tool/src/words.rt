@@ -6,7 +6,7 @@ ghost use Rattle.cache_tool.specs.Words.{alone as alone_of, asked_in, of_key as 
 ghost use Rattle.cache_tool.specs.Asked.{asked, AskedIsGiven};
 
 use cache_base::Moment;
-use cache_script::{Command, number};
+use cache_script::Command;
 
 /// What the words ask for, at a moment.
 #[derive(Clone, Copy)]

@@ -8,6 +8,8 @@ pub mod Listing
 pub mod Image
 pub mod Writes
 pub mod Calls
+pub mod Account
+pub mod Told
 pub mod MemWrite
 pub mod MemFile
 pub mod MemSlots

@@ -1,10 +1,9 @@
 //! The folder of doomed files is cleared, as when the cache is opened and no entry is in use.
 
-ghost use Rattle.std.specs.Prelude.{◌≡◌, OnOk, IsTrue, IsErrOf};
-ghost use Rattle.cache_base.specs.Causes.{HasCause};
-ghost use Rattle.disk_model.specs.Calls.{StopsAtFault};
+ghost use Rattle.std.specs.Prelude.{OnOk, IsTrue};
+ghost use Rattle.disk_model.specs.Account.{Accounts, LooksAtNoEntry, ending};
 ghost use Rattle.disk_model.specs.Listing.{AreDoomed, AreRisingNumbers};
-ghost use Rattle.disk_model.specs.declared.disk.DiskFault.TheVariants.{Failed};
+ghost use Rattle.disk_model.specs.Told.{Told};
 ghost use Rattle.doom_area.specs.DoomArea.{RemovesDoomed, IsCleared};
 
 use cache_base::Numbers;
@@ -15,12 +14,10 @@ use std::alloc::Global;
 fn remove_each<D: Disk>(disk: &mut D, numbers: &[u32]) -> Result<(), DiskFault>
     requires rising { AreRisingNumbers numbers.now }
     requires told { IsTrue D.tells → AreDoomed (D.state disk.old) numbers.now }
-    ensures removes { IsTrue D.tells → RemovesDoomed (D.state disk.old) (D.state disk.new) }
-    ensures cleared { OnOk result (IsTrue D.tells → IsCleared (D.state disk.old) (D.state disk.new)) }
-    ensures went_on { OnOk result (IsTrue D.tells → (D.counts disk.new).failed ≡ (D.counts disk.old).failed) }
-    ensures stops { IsTrue D.tells → StopsAtFault (D.counts disk.old) (D.counts disk.new) }
-    ensures looks { IsTrue D.tells → (D.counts disk.new).entry_reads ≡ (D.counts disk.old).entry_reads }
-    ensures cause { HasCause (IsErrOf result DiskFault.Failed) (D.faults disk.old) (D.faults disk.new) }
+    ensures removes { Told D.Disk RemovesDoomed disk.old disk.new }
+    ensures cleared { OnOk result (Told D.Disk IsCleared disk.old disk.new) }
+    ensures account { Accounts D.Disk (ending result) disk.old disk.new }
+    ensures no_entry { LooksAtNoEntry D.Disk disk.old disk.new }
 {
     for number in numbers {
         disk.remove(&Place::Doomed(*number))?;
@@ -32,12 +29,10 @@ fn remove_each<D: Disk>(disk: &mut D, numbers: &[u32]) -> Result<(), DiskFault>
 /// Foreign names in the folder are left alone.
 pub fn clear<D: Disk>(alloc: Global, disk: &mut D) -> Result<(), DiskFault>
     // Nothing but doomed files was removed, and after an Ok none stands.
-    ensures removes { IsTrue D.tells → RemovesDoomed (D.state disk.old) (D.state disk.new) }
-    ensures cleared { OnOk result (IsTrue D.tells → IsCleared (D.state disk.old) (D.state disk.new)) }
-    ensures went_on { OnOk result (IsTrue D.tells → (D.counts disk.new).failed ≡ (D.counts disk.old).failed) }
-    ensures stops { IsTrue D.tells → StopsAtFault (D.counts disk.old) (D.counts disk.new) }
-    ensures looks { IsTrue D.tells → (D.counts disk.new).entry_reads ≡ (D.counts disk.old).entry_reads }
-    ensures cause { HasCause (IsErrOf result DiskFault.Failed) (D.faults disk.old) (D.faults disk.new) }
+    ensures removes { Told D.Disk RemovesDoomed disk.old disk.new }
+    ensures cleared { OnOk result (Told D.Disk IsCleared disk.old disk.new) }
+    ensures account { Accounts D.Disk (ending result) disk.old disk.new }
+    ensures no_entry { LooksAtNoEntry D.Disk disk.old disk.new }
 {
     let mut numbers = Numbers::new(alloc);
     disk.doomed(&mut numbers)?;

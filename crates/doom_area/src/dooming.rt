@@ -1,11 +1,11 @@
 //! An entry that loses its name, and later its file.
 
-ghost use Rattle.std.specs.Prelude.{◌≡◌, ◌<◌, ℕ, length, IfOk, IsTrue, IsSome, IsErrOf};
-ghost use Rattle.cache_base.specs.Causes.{HasCause};
+ghost use Rattle.std.specs.Prelude.{◌≡◌, ◌<◌, ℕ, length, IfOk, IsTrue, IsSome};
+ghost use Rattle.disk_model.specs.Account.{Accounts, ending};
 ghost use Rattle.disk_model.specs.State.{standing, renamed, removed};
 ghost use Rattle.disk_model.specs.Calls.{counted_change, if_done};
 ghost use Rattle.disk_model.specs.declared.place.Place.TheVariants.{Entry, Doomed};
-ghost use Rattle.disk_model.specs.declared.disk.DiskFault.TheVariants.{Failed};
+ghost use Rattle.disk_model.specs.Told.{Told};
 ghost use Rattle.doom_area.specs.DoomArea.{IsLeastFree};
 
 use cache_base::Name;
@@ -29,9 +29,10 @@ pub fn doom<D: Disk>(disk: &mut D, name: &Name, in_use: &[u32]) -> Result<u32, D
     requires few { length in_use.now < 64 }
     requires told { IsTrue D.tells → IsSome (standing (D.state disk.old) (Entry name.now)) }
     ensures number { IfOk result (IsLeastFree in_use.now) }
-    ensures state { IsTrue D.tells → (number : ℕ) → IsLeastFree in_use.now number → D.state disk.new ≡ if_done result (renamed (Entry name.now) (Doomed number) (D.state disk.old)) (D.state disk.old) }
+    ensures state { (number : ℕ) → IsLeastFree in_use.now number →
+        Told D.Disk (λ s t. t ≡ if_done result (renamed (Entry name.now) (Doomed number) s) s) disk.old disk.new }
     ensures counts { IsTrue D.tells → D.counts disk.new ≡ counted_change result (D.counts disk.old) }
-    ensures cause { HasCause (IsErrOf result DiskFault.Failed) (D.faults disk.old) (D.faults disk.new) }
+    ensures account { Accounts D.Disk (ending result) disk.old disk.new }
 {
     let number = least_free(in_use);
     disk.rename(&Place::Entry(*name), &Place::Doomed(number))?;
@@ -41,9 +42,9 @@ pub fn doom<D: Disk>(disk: &mut D, name: &Name, in_use: &[u32]) -> Result<u32, D
 /// Removes the file of a doomed entry.
 pub fn release<D: Disk>(disk: &mut D, number: u32) -> Result<(), DiskFault>
     requires { IsTrue D.tells → IsSome (standing (D.state disk.old) (Doomed number)) }
-    ensures state { IsTrue D.tells → D.state disk.new ≡ if_done result (removed (Doomed number) (D.state disk.old)) (D.state disk.old) }
+    ensures state { Told D.Disk (λ s t. t ≡ if_done result (removed (Doomed number) s) s) disk.old disk.new }
     ensures counts { IsTrue D.tells → D.counts disk.new ≡ counted_change result (D.counts disk.old) }
-    ensures cause { HasCause (IsErrOf result DiskFault.Failed) (D.faults disk.old) (D.faults disk.new) }
+    ensures account { Accounts D.Disk (ending result) disk.old disk.new }
 {
     disk.remove(&Place::Doomed(number))
 }

@@ -20,24 +20,6 @@ use chunk_store::append_chunk;
 use disk_model::{Disk, DiskFault, Place};
 use jenkins_hash::hash16;
 
-// Copies the bytes to the end of the slice, from a place on.
-fn put_end(slice: &mut [u8], at: usize, b: &[u8])
-    requires { at + length b.now ≡ length slice.old }
-    ensures { slice.new ≡ take at slice.old ++ b.now }
-{
-    slice[at..].copy_from_slice(b);
-}
-
-// Adds the bytes at the end.
-fn extend(buf: &mut Buffer, b: &[u8])
-    requires { length buf.old + length b.now ≤ BUFFER_MAX }
-    ensures { buf.new ≡ buf.old ++ b.now }
-{
-    let at = buf.as_slice().len();
-    buf.set_len(at + b.len());
-    put_end(buf.as_mut_slice(), at, b);
-}
-
 // Adds the hash of the whole chunk, and writes the chunk.
 fn put_full<D: Disk>(
     disk: &mut D,
@@ -77,7 +59,7 @@ impl NewEntry {
         ensures stops { IsTrue D.tells → StopsAtFault (D.counts disk.old) (D.counts disk.new) }
         ensures cause { HasCause (IsErrOf result DiskFault.Failed) (D.faults disk.old) (D.faults disk.new) }
     {
-        extend(&mut self.rest, b);
+        self.rest.extend(b);
         let result = put_full(disk, place, &mut self.rest, &mut self.hashes);
         self.rest.set_len(0);
         result

@@ -1,4 +1,3 @@
-pub mod Told
 pub mod Ever
 pub mod Scan
 pub mod IndexKind

@@ -1,4 +1,3 @@
-pub mod DecimalLaws
 pub mod TakenLaws
 pub mod NoteLaws
 pub mod AnswerLaws

@@ -9,11 +9,10 @@ ghost use Rattle.real_disk.specs.Folders.{NoneLost, NoneLeft, HasNote};
 use crate::contents::{after_change, read_from, write_end, write_over};
 use crate::kept::Kept;
 use crate::listing::read_names;
-use crate::numbers::read_number;
 use crate::paths::{Area, area_of, path_of, path_of_area};
 use crate::syncing::sync_each;
 use crate::tree::{Tree, file_len, read_and_write, read_only};
-use cache_base::Name;
+use cache_base::{Name, number};
 use disk_model::Place;
 use entry_name::read_text;
 use std::alloc::{AllocError, Global};
@@ -220,7 +219,7 @@ impl<R: Files + AllocGlobal + Clone + Drop> Folder<'_, R> {
     pub(crate) fn doomed(&self) -> io::Result<BTreeSet<u32, Global>> {
         let rt = self.tree.rt;
         let path = path_of_area(rt, self.tree.dir.as_str(), &Area::Doomed)?;
-        read_names(rt, path.as_str(), |text| read_number(text))
+        read_names(rt, path.as_str(), |text| number(text.as_bytes()))
     }
 }
 

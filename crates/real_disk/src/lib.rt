@@ -11,7 +11,6 @@ mod kept;
 mod listing;
 mod making;
 mod notes;
-mod numbers;
 mod paths;
 mod real_disk;
 mod syncing;

@@ -1,5 +1,3 @@
-pub mod Account
-pub mod Looks
 pub mod Kept
 pub mod Reads
 pub mod Starts

@@ -8,9 +8,9 @@ ghost use Rattle.disk_model.specs.State.{settled, standing};
 ghost use Rattle.disk_model.specs.declared.place.Place.TheVariants.{Index};
 ghost use Rattle.index_theory.specs.Apart.{IsApart};
 ghost use Rattle.index_theory.specs.Closing.{closed, flagged, log_synced};
-ghost use Rattle.index_theory.specs.Told.{Told};
+ghost use Rattle.disk_model.specs.Told.{Told};
 ghost use Rattle.index_theory.specs.Unclean.{IsUnclean};
-ghost use Rattle.startup_read.specs.Account.{Accounts, ending};
+ghost use Rattle.disk_model.specs.Account.{Accounts, LooksAtNoEntry, ending};
 ghost use Rattle.startup_read.specs.Closing as spec;
 ghost use Rattle.startup_read.specs.Kept.{KeepsIndex};
 ghost use Rattle.startup_read.specs.Spares.{SparesEntries};
@@ -52,6 +52,7 @@ fn refresh<D: Disk>(
     ensures keeps { OnOk result (Told D.Disk (spec.KeepsOver map.old map.new) disk.old disk.new) }
     ensures based { OnOk result (map.new.has_base ≡ true) }
     ensures account { Accounts D.Disk (ending result) disk.old disk.new }
+    ensures no_entry { LooksAtNoEntry D.Disk disk.old disk.new }
 {
     if is_due(map) {
         write_index(alloc, disk, map, now)
@@ -66,6 +67,7 @@ fn write_log<D: Disk>(disk: &mut D, bytes: &[u8]) -> Result<(), DiskFault>
         (Told D.Disk (λ s t. t ≡ log_synced bytes.now s) disk.old disk.new) }
     ensures amid { Told D.Disk (spec.IsAmidLogging bytes.now) disk.old disk.new }
     ensures account { Accounts D.Disk (ending result) disk.old disk.new }
+    ensures no_entry { LooksAtNoEntry D.Disk disk.old disk.new }
 {
     disk.create(&Place::Log)?;
     disk.write_end(&Place::Log, 0, bytes)?;
@@ -79,6 +81,7 @@ fn clear_flag<D: Disk>(disk: &mut D) -> Result<(), DiskFault>
         (Told D.Disk (λ s t. t ≡ settled (flagged (be32 0) s)) disk.old disk.new) }
     ensures amid { Told D.Disk spec.IsAmidClearing disk.old disk.new }
     ensures account { Accounts D.Disk (ending result) disk.old disk.new }
+    ensures no_entry { LooksAtNoEntry D.Disk disk.old disk.new }
 {
     disk.patch(&Place::Index, FLAG_AT, &UP_TO_DATE.to_be_bytes())?;
     disk.sync()
@@ -90,6 +93,7 @@ fn log_and_clear<D: Disk>(disk: &mut D, bytes: &[u8]) -> Result<(), DiskFault>
     ensures closed { OnOk result (Told D.Disk (λ s t. t ≡ closed bytes.now s) disk.old disk.new) }
     ensures amid { Told D.Disk (spec.IsAmidLogging bytes.now) disk.old disk.new }
     ensures account { Accounts D.Disk (ending result) disk.old disk.new }
+    ensures no_entry { LooksAtNoEntry D.Disk disk.old disk.new }
 {
     write_log(disk, bytes)?;
     clear_flag(disk)
@@ -107,6 +111,7 @@ fn close_ended<D: Disk>(
     ensures closed { OnOk result (Told D.Disk (spec.ClosesIndex map.old now) disk.old disk.new) }
     ensures amid { Told D.Disk (spec.IsAmidClosing map.old now) disk.old disk.new }
     ensures account { Accounts D.Disk (ending result) disk.old disk.new }
+    ensures no_entry { LooksAtNoEntry D.Disk disk.old disk.new }
 {
     refresh(alloc, disk, map, now)?;
     let bytes = print_changes(alloc, map)?;
@@ -148,6 +153,7 @@ pub fn close_index<D: Disk>(
 
     // Calls and faults.
     ensures account { Accounts D.Disk (ending result) disk.old disk.new }
+    ensures no_entry { LooksAtNoEntry D.Disk disk.old disk.new }
 {
     if ended {
         close_ended(alloc, disk, map, now)

@@ -7,7 +7,7 @@ ghost use Rattle.disk_model.specs.State.{standing};
 ghost use Rattle.disk_model.specs.declared.disk.DiskFault.TheVariants.{Failed};
 ghost use Rattle.disk_model.specs.declared.place.Place.TheVariants.{Index, Log, Tmp};
 ghost use Rattle.index_theory.specs.Apart.{IsApart};
-ghost use Rattle.index_theory.specs.Told.{Told};
+ghost use Rattle.disk_model.specs.Told.{Told};
 ghost use Rattle.index_theory.specs.Unclean.{IsUnclean};
 ghost use Rattle.index_theory.specs.IndexKind.{index_kind};
 ghost use Rattle.index_theory.specs.LogKind.{log_kind};
@@ -15,9 +15,8 @@ ghost use Rattle.index_theory.specs.Start.{start_of};
 ghost use Rattle.record_list.specs.Change.{HasNoRemoved};
 ghost use Rattle.record_list.specs.Lists.{HasNames};
 ghost use Rattle.record_list.specs.Stored.{AreClean};
-ghost use Rattle.startup_read.specs.Account.{Accounts, ending};
+ghost use Rattle.disk_model.specs.Account.{Accounts, Looks, LooksAtNoEntry, ending};
 ghost use Rattle.startup_read.specs.Kept.{HasBase, KeepsIndex};
-ghost use Rattle.startup_read.specs.Looks.{LooksAtNoEntry};
 ghost use Rattle.startup_read.specs.Opening as spec;
 ghost use Rattle.startup_read.specs.Spares.{SparesEntries};
 ghost use Rattle.startup_read.specs.Starts.{IsSeen, StartsFrom, StartsWith, is_clean as is_clean_kind};
@@ -105,9 +104,8 @@ fn look<D: Disk>(alloc: Global, disk: &mut D) -> Result<Found, DiskFault>
         HasBase (standing (D.state disk.old) Index) found.opened.map) }
     ensures seen { IfOk result (λ found. IsTrue D.tells →
         IsSeen (D.state disk.old) found.clean found.log found.tmp) }
-    ensures state { IsTrue D.tells → D.state disk.new ≡ D.state disk.old }
-    ensures looks { IsTrue D.tells → LooksAtNoEntry (D.counts disk.old) (D.counts disk.new) }
-    ensures cause { HasCause (IsErrOf result DiskFault.Failed) (D.faults disk.old) (D.faults disk.new) }
+    ensures looks { Looks D.Disk (ending result) disk.old disk.new }
+    ensures no_entry { LooksAtNoEntry D.Disk disk.old disk.new }
 {
     let tmp = disk.size(&Place::Tmp)?.is_some();
     let index = read_index(alloc, disk)?;
@@ -127,6 +125,7 @@ fn set_aside<D: Disk>(disk: &mut D, log: bool) -> Result<(), DiskFault>
     requires { IsTrue D.tells → log ≡ is_some (standing (D.state disk.old) Log) }
     ensures state { Told D.Disk (λ s t. t ≡ if_done result (spec.set_aside s) s) disk.old disk.new }
     ensures account { Accounts D.Disk (ending result) disk.old disk.new }
+    ensures no_entry { LooksAtNoEntry D.Disk disk.old disk.new }
 {
     if log {
         disk.rename(&Place::Log, &Place::Tmp)
@@ -141,6 +140,7 @@ fn mark_in_use<D: Disk>(disk: &mut D, clean: bool) -> Result<(), DiskFault>
         clean ≡ is_clean_kind (index_kind (standing (D.state disk.old) Index)) }
     ensures state { Told D.Disk (λ s t. t ≡ if_done result (spec.marked s) s) disk.old disk.new }
     ensures account { Accounts D.Disk (ending result) disk.old disk.new }
+    ensures no_entry { LooksAtNoEntry D.Disk disk.old disk.new }
 {
     if clean {
         disk.patch(&Place::Index, FLAG_AT, &IN_USE.to_be_bytes())
@@ -154,6 +154,7 @@ fn remove_tmp<D: Disk>(disk: &mut D, tmp: bool) -> Result<(), DiskFault>
     requires { IsTrue D.tells → tmp ≡ is_some (standing (D.state disk.old) Tmp) }
     ensures state { Told D.Disk (λ s t. t ≡ if_done result (spec.cleared s) s) disk.old disk.new }
     ensures account { Accounts D.Disk (ending result) disk.old disk.new }
+    ensures no_entry { LooksAtNoEntry D.Disk disk.old disk.new }
 {
     if tmp {
         disk.remove(&Place::Tmp)
@@ -168,6 +169,7 @@ fn change<D: Disk>(disk: &mut D, clean: bool, log: bool, tmp: bool) -> Result<()
     ensures opened { OnOk result (Told D.Disk (λ s t. t ≡ spec.opened s) disk.old disk.new) }
     ensures amid { Told D.Disk spec.IsAmidOpening disk.old disk.new }
     ensures account { Accounts D.Disk (ending result) disk.old disk.new }
+    ensures no_entry { LooksAtNoEntry D.Disk disk.old disk.new }
 {
     set_aside(disk, log)?;
     mark_in_use(disk, clean)?;
@@ -200,6 +202,7 @@ pub fn open_index<D: Disk>(alloc: Global, disk: &mut D) -> Result<Opened, DiskFa
 
     // Calls and faults.
     ensures account { Accounts D.Disk (ending result) disk.old disk.new }
+    ensures no_entry { LooksAtNoEntry D.Disk disk.old disk.new }
 {
     let found = look(alloc, disk)?;
     change(disk, found.clean, found.log, found.tmp)?;

@@ -9,7 +9,7 @@ ghost use Rattle.index_theory.specs.declared.kinds.IndexKind.TheVariants.{Clean,
 ghost use Rattle.record_list.specs.Change.{HasNoRemoved};
 ghost use Rattle.record_list.specs.Lists.{HasNames};
 ghost use Rattle.record_list.specs.Stored.{AreClean};
-ghost use Rattle.startup_read.specs.Looks.{LooksAtNoEntry};
+ghost use Rattle.disk_model.specs.Account.{Looks, LooksAtNoEntry, ending};
 ghost use Rattle.startup_read.specs.Reads.{ReadsIndex, ReadsJournal};
 
 use crate::whole_file::read_whole;
@@ -105,9 +105,8 @@ pub(crate) fn read_index<D: Disk>(alloc: Global, disk: &mut D) -> Result<IndexRe
     ensures distinct { IfOk result (λ read. HasNames read.records) }
     ensures clean { IfOk result (λ read. AreClean read.records) }
     ensures present { IfOk result (λ read. HasNoRemoved read.records) }
-    ensures state { IsTrue D.tells → D.state disk.new ≡ D.state disk.old }
-    ensures looks { IsTrue D.tells → LooksAtNoEntry (D.counts disk.old) (D.counts disk.new) }
-    ensures cause { HasCause (IsErrOf result DiskFault.Failed) (D.faults disk.old) (D.faults disk.new) }
+    ensures looks { Looks D.Disk (ending result) disk.old disk.new }
+    ensures no_entry { LooksAtNoEntry D.Disk disk.old disk.new }
 {
     match read_whole(alloc, disk, &Place::Index)? {
         None => Ok(IndexRead {
@@ -124,9 +123,8 @@ pub(crate) fn read_log<D: Disk>(alloc: Global, disk: &mut D) -> Result<LogRead, 
         ReadsJournal (standing (D.state disk.old) Log) read.kind read.records) }
     ensures distinct { IfOk result (λ read. HasNames read.records) }
     ensures clean { IfOk result (λ read. AreClean read.records) }
-    ensures state { IsTrue D.tells → D.state disk.new ≡ D.state disk.old }
-    ensures looks { IsTrue D.tells → LooksAtNoEntry (D.counts disk.old) (D.counts disk.new) }
-    ensures cause { HasCause (IsErrOf result DiskFault.Failed) (D.faults disk.old) (D.faults disk.new) }
+    ensures looks { Looks D.Disk (ending result) disk.old disk.new }
+    ensures no_entry { LooksAtNoEntry D.Disk disk.old disk.new }
 {
     match read_whole(alloc, disk, &Place::Log)? {
         None => Ok(LogRead {

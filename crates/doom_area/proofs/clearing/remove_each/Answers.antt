@@ -16,7 +16,6 @@ loop-number-preserved g c =
     record {
       rising = rising_step xs i c.loop-number-test.true before.rising;
       to = λ tells. cleared_step xs i c.loop-number-test.true (g.D.Disk.state c.args.disk.now) (g.D.Disk.state c.loop-number.disk) (g.D.Disk.state c.remove.new.self) before.rising (before.to tells) (c.in_ok-remove.ensures.state tells);
-      fault = search rules;
       looks = search rules;
-      faults = search rules;
+      calm = search rules;
     }

@@ -1,0 +1,45 @@
+-- How an answer is tied to what a disk counts.
+use Rattle.std.specs.Prelude.{Err, IsTrue, Ok, Result, ◌≡◌}
+use Rattle.cache_base.specs.Causes.{HasCause}
+use Rattle.disk_model.specs.Calls.{StopsAtFault}
+use Rattle.disk_model.specs.declared.disk.Disk.{Ghosts}
+use Rattle.disk_model.specs.declared.disk.DiskFault.{DiskFault}
+use Rattle.disk_model.specs.declared.disk.DiskFault.TheVariants.{Failed, Memory}
+
+-- what an answer says of the calls of a disk: none failed, one failed, or memory ran out
+pub data Ending : Type 0 where
+  NoneFailed : Ending
+  OneFailed : Ending
+  OutOfMemory : Ending
+
+abbrev pub fault_ending : DiskFault → Ending
+fault_ending Failed = Ending.OneFailed
+fault_ending Memory = Ending.OutOfMemory
+
+abbrev pub ending : {T : Type 0} → Result T DiskFault → Ending
+ending (Ok value) = Ending.NoneFailed
+ending (Err fault) = fault_ending fault
+
+-- the faults of the disk are accounted for by the answer
+pub record Accounts {Self : _} (D : Ghosts Self) (answer : Ending) (before now : Self) : Type 0 where
+  -- a fault is answered only where the count of faults rose, and otherwise the count is the same
+  pub cause : HasCause (answer ≡ Ending.OneFailed) (D.faults before) (D.faults now)
+  -- where none is answered and memory sufficed, no change and no sync failed
+  pub went_on : answer ≡ Ending.NoneFailed → IsTrue D.tells → (D.counts now).failed ≡ (D.counts before).failed
+  -- after a change or a sync that failed no call follows
+  pub stops : IsTrue D.tells → StopsAtFault (D.counts before) (D.counts now)
+
+-- the call only looked: the disk holds the same, no change and no sync failed, and the faults are accounted for
+pub record Looks {Self : _} (D : Ghosts Self) (answer : Ending) (before now : Self) : Type 0 where
+  pub cause : HasCause (answer ≡ Ending.OneFailed) (D.faults before) (D.faults now)
+  pub state : IsTrue D.tells → D.state now ≡ D.state before
+  pub no_change : IsTrue D.tells → (D.counts now).failed ≡ (D.counts before).failed
+
+-- no call failed in between, as at each turn of a loop
+pub record IsCalm {Self : _} (D : Ghosts Self) (before now : Self) : Type 0 where
+  pub faults : D.faults now ≡ D.faults before
+  pub no_change : IsTrue D.tells → (D.counts now).failed ≡ (D.counts before).failed
+
+-- no entry was looked at
+abbrev pub LooksAtNoEntry : {Self : _} → Ghosts Self → Self → Self → Type 0
+LooksAtNoEntry D before now = IsTrue D.tells → (D.counts now).entry_reads ≡ (D.counts before).entry_reads
