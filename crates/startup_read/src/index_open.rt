@@ -65,11 +65,8 @@ fn begin_map(
 {
     match start {
         Start::Build => Ok(RecordMap::new(alloc)),
-        Start::Update => RecordMap::with_base(alloc, &index.records, &index.records, false),
-        Start::Ready => {
-            let now = index_journal::apply(alloc, &index.records, &log.records)?;
-            RecordMap::with_base(alloc, &index.records, &now, true)
-        }
+        Start::Update => RecordMap::with_base(alloc, &index.records, false),
+        Start::Ready => RecordMap::with_journal(alloc, &index.records, &log.records),
     }
 }
 
