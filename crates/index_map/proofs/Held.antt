@@ -13,7 +13,7 @@ use Rattle.indexmap.specs.IndexMap.{insert_entry, swap_remove_entry}
 use Rattle.record_list.specs.Change.{record_eq}
 use Rattle.record_list.specs.Lists.{same_name}
 use Rattle.record_list.proofs.NameLaws.{same_is, same_itself}
-use Rattle.index_map.specs.Slots.{IsTable, Slot, bare, changed_of, counts_of, is_held, is_used, kilobytes_of, one_if, record_of, records_of, seen_held, seen_only, slot_of, slots_of}
+use Rattle.index_map.specs.Slots.{Slot, bare, changed_of, counts_of, is_held, is_used, kilobytes_of, one_if, record_of, records_of, seen_held, seen_only, slot_of, slots_of}
 use Rattle.index_map.specs.declared.slot.Facts.{Facts}
 use Rattle.index_map.specs.declared.counts.Counts.{Counts}
 use Rattle.index_map.specs.declared.slot.Held.{Held}

@@ -1,10 +1,8 @@
 //! Opens the index.
 
-ghost use Rattle.std.specs.Prelude.{◌≡◌, ℕ, IfOk, IsErrOf, IsTrue, List, OnOk, Option, is_some};
-ghost use Rattle.cache_base.specs.Causes.{HasCause};
+ghost use Rattle.std.specs.Prelude.{◌≡◌, ℕ, IfOk, IsTrue, List, OnOk, Option, is_some};
 ghost use Rattle.disk_model.specs.Calls.{if_done};
 ghost use Rattle.disk_model.specs.State.{standing};
-ghost use Rattle.disk_model.specs.declared.disk.DiskFault.TheVariants.{Failed};
 ghost use Rattle.disk_model.specs.declared.place.Place.TheVariants.{Index, Log, Tmp};
 ghost use Rattle.index_theory.specs.Apart.{IsApart};
 ghost use Rattle.disk_model.specs.Told.{Told};

@@ -1,5 +1,6 @@
-ghost use Rattle.std.specs.Prelude.{OnOk};
+ghost use Rattle.disk_model.specs.State.{State};
 ghost use Rattle.index_map.specs.Known.{IsPlain, SameBase};
+ghost use Rattle.startup_read.specs.Kept.{KeepsIndex};
 
 use super::*;
 use cache_base::CHANGED_MAX;

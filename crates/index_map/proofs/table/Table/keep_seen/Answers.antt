@@ -1,4 +1,4 @@
-use Rattle.std.proofs.Common.{ap, refl, ◌∙◌, rules}
+use Rattle.std.proofs.Common.{ap, ◌∙◌, rules}
 use Rattle.std.specs.Prelude.{map}
 use Rattle.index_map.specs.Slots.{bare, counts_of, rewritten, seen_held, seen_only, slots_of}
 use Rattle.index_map.proofs.Held.{counts_bare, distinct_slots, seen_same}
