@@ -1,13 +1,15 @@
 use Rattle.std.proofs.Common.{◌≡◌, Some, Ok, sym, ap, subst, ◌∙◌}
 use Rattle.disk_model.specs.State.{State}
 use Rattle.entry_file.proofs.Writing.{not_written}
+use Rattle.file_handles.specs.Cache.{cache_at}
 use Rattle.file_handles.specs.Changes.{ChangesThere, with_version}
 use Rattle.file_handles.specs.Kept.{kept, with_object}
 use Rattle.file_handles.specs.Setting.{changed_by, with_change}
 use Rattle.file_handles.specs.declared.object.Entry.{Entry}
 use Rattle.file_handles.specs.declared.object.Entry.TheVariants.{Draft, Finished}
 use Rattle.file_handles.specs.declared.object.Object.{Object}
-use Rattle.file_handles.proofs.ElementChanged.{IsDraftWith, IsMetaWith, cause_handed_on, draft_becomes, meta_becomes, meta_writes, stores}
+use Rattle.file_handles.proofs.Accounting.{account_handed_on}
+use Rattle.file_handles.proofs.ElementChanged.{IsDraftWith, IsMetaWith, draft_becomes, meta_becomes, meta_writes, stores}
 use Rattle.file_handles.proofs.PutBack.{changes_done, changes_failed, put_back}
 use Rattle.file_handles.proofs.handles.Handles.change_at.Goals as goal
 use Rattle.file_handles.proofs.handles.Handles.change_at.Goals.{in-Draft+in_ok-changed_draft-in-Draft, in-Finished+in_ok-meta-in-Finished+in_ok-rewrite_meta-in-Finished}
@@ -49,11 +51,11 @@ returns-in_err-rewrite_meta-in-Finished-clause-changes g c told =
     (λ o filed. meta_writes (changed_by c.args.change) x o s filed c.in-Finished.meta c.in_ok-meta-in-Finished.meta c.in-Finished.is with t c.file_place-file.result c.file_place-file.ensures (c.rewrite_meta.ensures.writes told))
     c.from_residual-in_err-rewrite_meta-in-Finished.ensures.0
 
-pub returns-in_err-rewrite_meta-in-Finished-clause-cause :
-    goal.returns-in_err-rewrite_meta-in-Finished-clause-cause
-returns-in_err-rewrite_meta-in-Finished-clause-cause g c =
-    cause_handed_on c.rewrite_meta.result c.in_err-rewrite_meta-in-Finished.field-0.0 c.from_residual-in_err-rewrite_meta-in-Finished.result _ _
-    c.in_err-rewrite_meta-in-Finished.was c.from_residual-in_err-rewrite_meta-in-Finished.ensures.1 c.rewrite_meta.ensures.cause
+pub returns-in_err-rewrite_meta-in-Finished-clause-account :
+    goal.returns-in_err-rewrite_meta-in-Finished-clause-account
+returns-in_err-rewrite_meta-in-Finished-clause-account g c =
+    account_handed_on g.D.Disk c.rewrite_meta.result c.in_err-rewrite_meta-in-Finished.field-0.0 c.from_residual-in_err-rewrite_meta-in-Finished.result _ _
+    c.in_err-rewrite_meta-in-Finished.was c.from_residual-in_err-rewrite_meta-in-Finished.ensures.1 c.rewrite_meta.ensures.cause c.rewrite_meta.ensures.stops
 
 pub returns-clause-changes : goal.returns-clause-changes
 returns-clause-changes g c told =
@@ -69,7 +71,7 @@ returns-clause-changes g c told =
           let t_is : g.D.Disk.state c.match-entry.disk ≡ s = ap g.D.Disk.state w.disk-is in
           let y : Object = record { name = x.name; doomed = x.doomed; entry = Draft w.in_ok-changed_draft-in-Draft.field-0 } in
           let put = put_back k (kept c.take.new.self) after c.args.place _ c.take.ensures.kept c.put.ensures ∙ ap (λ (e : Entry). with_object k c.args.place (Some (record { name = x.name; doomed = x.doomed; entry = e }))) w.entry-is in
-          subst (λ (u : State). ChangesThere c.args.place (with_version (with_change c.args.change)) (Ok c.rewrote-effect.result) s u k after) (sym t_is)
+          subst (λ (u : State). ChangesThere c.args.place (with_version (with_change c.args.change)) (Ok c.rewrote-effect.result) (cache_at k s) (cache_at after u)) (sym t_is)
           (changes_done c.args.place (with_version (with_change c.args.change)) (Ok c.rewrote-effect.result) s s k after x c.in_ok-object.ensures.found (λ o filed. not_written _ _ s)
           y (λ o filed. draft_becomes (changed_by c.args.change) x o s filed w.in-Draft.draft w.in_ok-changed_draft-in-Draft.field-0 w.in-Draft.is with) put)
       | in-Finished+in_ok-meta-in-Finished+in_ok-rewrite_meta-in-Finished w ↦
@@ -80,7 +82,7 @@ returns-clause-changes g c told =
           let t_is : g.D.Disk.state c.match-entry.disk ≡ t = ap g.D.Disk.state w.disk-is in
           let y : Object = record { name = x.name; doomed = x.doomed; entry = Finished w.in_ok-meta-in-Finished.meta } in
           let put = put_back k (kept c.take.new.self) after c.args.place _ c.take.ensures.kept c.put.ensures ∙ ap (λ (e : Entry). with_object k c.args.place (Some (record { name = x.name; doomed = x.doomed; entry = e }))) w.entry-is in
-          subst (λ (u : State). ChangesThere c.args.place (with_version (with_change c.args.change)) (Ok c.rewrote-effect.result) s u k after) (sym t_is)
+          subst (λ (u : State). ChangesThere c.args.place (with_version (with_change c.args.change)) (Ok c.rewrote-effect.result) (cache_at k s) (cache_at after u)) (sym t_is)
           (changes_done c.args.place (with_version (with_change c.args.change)) (Ok c.rewrote-effect.result) s t k after x c.in_ok-object.ensures.found
           (λ o filed. meta_writes (changed_by c.args.change) x o s filed w.in-Finished.meta w.in_ok-meta-in-Finished.meta w.in-Finished.is with t c.file_place-file.result c.file_place-file.ensures (w.rewrite_meta.ensures.writes told))
           y (λ o filed. meta_becomes (changed_by c.args.change) x o s filed w.in-Finished.meta w.in_ok-meta-in-Finished.meta w.in-Finished.is with t c.file_place-file.result c.file_place-file.ensures

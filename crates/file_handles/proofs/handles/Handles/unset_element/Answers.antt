@@ -2,6 +2,7 @@ use Rattle.std.proofs.Common.{Ok, not, refl, sym, ap, subst, ◌∙◌}
 use Rattle.cache_theory.specs.Command.Command.{UnsetElement}
 use Rattle.entry_parts.specs.Elements.{element}
 use Rattle.file_handles.specs.Answers.{done_or}
+use Rattle.file_handles.specs.Cache.{cache_at}
 use Rattle.file_handles.specs.Carries.{CarriesOut}
 use Rattle.file_handles.specs.Effects.{wrote_where}
 use Rattle.file_handles.specs.Held.{is_draft}
@@ -41,7 +42,7 @@ returns-in_err-effect-clause-carried g c told =
     let x = c.in_ok-object_at.field-0.now in
     let has = at_object _ x (HasAt k c.args.slot c.in_ok-place.place) c.in_ok-object_at.ensures.found c.in_ok-place.ensures.object in
     let some = mapped_some _ c.get.result _ (c.get.ensures ∙ ap (element name) c.elements.ensures) c.if-is_none.ensures in
-    subst (λ reply. CarriesOut (UnsetElement c.args.slot name) reply s t k after)
+    subst (λ reply. CarriesOut (UnsetElement c.args.slot name) reply (cache_at k s) (cache_at after t))
     (ap done_or c.in_err-effect.was ∙ sym (fault_reply c.from_residual-in_err-effect.result c.in_err-effect.field-0.0 c.from_residual-in_err-effect.ensures.1))
     (unset_leaves s t (g.met.D.Disk.sound c.args.disk.now told) k after c.args.slot c.requires.slot c.in_ok-place.place x has name c.change_at.result (c.change_at.ensures.quiet told) c.change_at.ensures.refused
     some.0 some.1 (c.in_ok-place.ensures.passes name) (c.change_at.ensures.changes told))
