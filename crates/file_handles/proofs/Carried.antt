@@ -19,7 +19,7 @@ use Rattle.file_handles.specs.Cache.{cache_at}
 use Rattle.file_handles.specs.Carries.{CarriesOut}
 use Rattle.file_handles.specs.Changes.{ChangesAt}
 use Rattle.file_handles.specs.Held.{IsHeldAs}
-use Rattle.file_handles.specs.Kept.{Kept, object_at, with_object}
+use Rattle.file_handles.specs.Kept.{Kept, with_object}
 use Rattle.file_handles.specs.Refuses.{HasAt, Passes}
 use Rattle.file_handles.specs.Stands.{HandlesStand, KeepsWhere}
 use Rattle.file_handles.specs.declared.fault.HandleFault.{HandleFault}
@@ -107,10 +107,10 @@ module _ (s t : State) (k after : Kept) (c : Command) (slot : ℕ) (small : slot
                   (subst (λ (l : Kept). KeepsWhere b (cache_at l t) (history_of (stored m (is.number p) (change (object m (is.number p)))) (begun m c w))) (sym put) stands));
             }
 
--- such a command is carried out: a fault is no refusal, since the object is there
+-- such a command is carried out: a fault is no refusal
 change_where : (s t : State) → IsSound s → (k after : Kept) (c : Command) (slot : ℕ) → slot < SLOTS → (p : ℕ) (x : Object) → HasAt k slot p x → (change : MachineObject → MachineObject)
     (Writes : MachineObject → Type 0) → MakesChange k c slot change Writes → {T : Type 0} (r : Result T HandleFault) → ChangesAt p change r (cache_at k s) (cache_at after t) x
-    → ((o : MachineObject) → IsHeldAs x o → Writes o ⊎ (t ≡ s)) → OnRefused r (λ _. object_at k p ≡ None) → CarriesOutWhere c (done_or r) (cache_at k s) (cache_at after t)
+    → ((o : MachineObject) → IsHeldAs x o → Writes o ⊎ (t ≡ s)) → OnRefused r (λ _. ⊥) → CarriesOutWhere c (done_or r) (cache_at k s) (cache_at after t)
 change_where s t sound k after c slot small p x has change Writes makes (Ok value) there writes none b m w is =
     made s t k after c slot small p x has change Writes makes (Ok value) there writes m w (begun_in s k m c w is) sound there.put_back
 change_where s t sound k after c slot small p x has change Writes makes (Err fault.Disk) there writes none b m w is =
@@ -118,10 +118,10 @@ change_where s t sound k after c slot small p x has change Writes makes (Err fau
 change_where s t sound k after c slot small p x has change Writes makes (Err fault.Memory) there writes none b m w is =
     failed s t k after c slot small p x has change Writes makes (Err fault.Memory) there writes m w (begun_in s k m c w is)
 change_where s t sound k after c slot small p x has change Writes makes (Err (fault.Refused refusal)) there writes none b m w is =
-    absurd (let never : None ≡ Some x = sym (none refusal refl) ∙ has.found in cc)
+    absurd (none refusal refl)
 
 pub change_carried : (s t : State) → IsSound s → (k after : Kept) (c : Command) (slot : ℕ) → slot < SLOTS → (p : ℕ) (x : Object) → HasAt k slot p x → (change : MachineObject → MachineObject)
     (Writes : MachineObject → Type 0) → MakesChange k c slot change Writes → {T : Type 0} (r : Result T HandleFault) → ChangesAt p change r (cache_at k s) (cache_at after t) x
-    → ((o : MachineObject) → IsHeldAs x o → Writes o ⊎ (t ≡ s)) → OnRefused r (λ _. object_at k p ≡ None) → CarriesOut c (done_or r) (cache_at k s) (cache_at after t)
+    → ((o : MachineObject) → IsHeldAs x o → Writes o ⊎ (t ≡ s)) → OnRefused r (λ _. ⊥) → CarriesOut c (done_or r) (cache_at k s) (cache_at after t)
 change_carried s t sound k after c slot small p x has change Writes makes r there writes none =
     carries_out (change_where s t sound k after c slot small p x has change Writes makes r there writes none)

@@ -1,5 +1,5 @@
 -- A slot is closed: its writer finishes its object first.
-use Rattle.std.proofs.Common.{◌≡◌, ℕ, ◌<◌, Bool, true, false, not, ◌&&◌, Some, None, IsSome, Result, Ok, Err, refl, sym, ap, subst, ◌∙◌, IsTrue}
+use Rattle.std.proofs.Common.{◌≡◌, ℕ, ◌<◌, Bool, true, false, not, ◌&&◌, Option, Some, None, IsSome, Result, Ok, Err, refl, sym, ap, subst, ◌∙◌, IsTrue}
 use Rattle.std.specs.Prelude.{IfOk, IsErrAnd, IsOkAnd, IsSomeAnd, OnOk, if◌then◌else◌, option_map}
 use Rattle.std.proofs.lemmas.Bool.{and_parts, cond-false, cond-true, not-true}
 use Rattle.cache_base.specs.Checks.{first_failing}
@@ -18,6 +18,7 @@ use Rattle.cache_theory.proofs.Objects.{nth}
 use Rattle.cache_theory.proofs.Storing.{MayStand, stored_here}
 use Rattle.disk_model.specs.Sound.{IsSound}
 use Rattle.disk_model.specs.State.{State, standing}
+use Rattle.disk_model.specs.declared.disk.DiskFault.{DiskFault}
 use Rattle.file_handles.specs.Answers.{done_or, reply_in}
 use Rattle.file_handles.specs.Cache.{cache_at}
 use Rattle.file_handles.specs.Changes.{Becomes, ChangesAt, ChangesThere, IsFiledAs, completed}
@@ -74,6 +75,11 @@ no_reply r f is none = reply_is r f is ∙ go f none
 pub faulted_leaves : {T : Type 0} {b : Bool} (slot : ℕ) (r : Result T HandleFault) (f : HandleFault) (t : State) (after : Kept) (m : Machine) (w : Marks) → IsErrAnd r (λ e. e ≡ f) → ((refusal : Refusal) → f ≡ fault.Refused refusal → ⊥)
     → (IsTrue b → IsSafe t (begun m (Close slot) w)) → LeavesWhere b (Close slot) (history_of m w) (done_or r) (cache_at after t)
 faulted_leaves {b = b} slot r f t after m w is none safe = subst (λ o. LeavesWhere b (Close slot) (history_of m w) o (cache_at after t)) (sym (no_reply r f is none)) (record { safe = safe; replies = tt; next = tt })
+
+-- a draft is there
+pub draft_there : (w : Bool) (o : Option Object) → (w && is_some_draft o) ≡ true → IsSomeAnd o (λ x. is_draft x.entry ≡ true)
+draft_there w None is = absurd (let never : is_some_draft None ≡ true = (and_parts w (is_some_draft None) is).1 in cc)
+draft_there w (Some x) is = (and_parts w (is_draft x.entry) is).1
 
 -- an entry is a draft where the object is not finished
 draft_is : (x : Entry) (o : MachineObject) → IsEntryOf x o → not o.finished ≡ is_draft x
@@ -208,7 +214,7 @@ module _ (s : State) (k : Kept) (slot : ℕ) (small : slot < SLOTS) (u : Use) (a
     reads : (object_of (finished_by m slot) slot).finished ≡ false → is_writer (finished_by m slot) slot ≡ false
     reads = finished_reads m slot is.stands.proper (has_slot m is.number is.stands)
 
-    pub closed_safe : (r : Result (Unit {0}) HandleFault) → GivesUp slot r (cache_at mid t) (cache_at after v) → IsTrue b → IsSafe v (begun m (Close slot) w)
+    pub closed_safe : (r : Result (Unit {0}) DiskFault) → GivesUp slot r (cache_at mid t) (cache_at after v) → IsTrue b → IsSafe v (begun m (Close slot) w)
     closed_safe r gives = (gives.leaves b (history_of (finished_by m slot) (begun m (Close slot) w)) reads stands).safe
 
     pub closed_leaves : GivesUp slot (Ok tt) (cache_at mid t) (cache_at after v) → LeavesWhere b (Close slot) (history_of m w) (Some Done) (cache_at after v)

@@ -62,7 +62,7 @@ set_makes k slot name value name_bytes value_bytes passes = record {
 }
 
 module _ (s t : State) (sound : IsSound s) (k after : Kept) (slot : ℕ) (small : slot < SLOTS) (p : ℕ) (x : Object) (has : HasAt k slot p x) (name : List ℕ) {T : Type 0} (r : Result T HandleFault)
-    (quiet : IfSome (object_at k p) (λ z. is_draft z.entry ≡ true → t ≡ s)) (none : OnRefused r (λ _. object_at k p ≡ None)) where
+    (quiet : IfSome (object_at k p) (λ z. is_draft z.entry ≡ true → t ≡ s)) (none : OnRefused r (λ _. ⊥)) where
   writes : (o : MachineObject) → IsHeldAs x o → IsFinished o ⊎ (t ≡ s)
   writes = writes_finished s t x (if_object (object_at k p) x (λ z. is_draft z.entry ≡ true → t ≡ s) has.found quiet)
 

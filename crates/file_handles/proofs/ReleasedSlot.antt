@@ -1,6 +1,6 @@
 -- A slot of the handles is given up, and its object where no other slot has it.
 use Rattle.std.proofs.Common.{◌≡◌, ◌≢◌, inl, inr, ℕ, ◌<◌, List, length, true, false, Option, Some, None, Result, Ok, Err, refl, sym, ap, subst, ◌∙◌, Bool}
-use Rattle.std.specs.Prelude.{option_map, slice_set}
+use Rattle.std.specs.Prelude.{OnOk, option_map, slice_set}
 use Rattle.std.specs.List.{list_any}
 use Rattle.std.proofs.lemmas.Bool.{cases_eq}
 use Rattle.cache_base.specs.declared.limits.TheConstants.{SLOTS}
@@ -200,3 +200,8 @@ module _
       (ap (λ p. list_any (is_use_of p) (with_use k slot None).slots) own.1.1 ∙ ap (λ r. list_any (is_use_of p) (with_use k r None).slots) (sym same) ∙ none) x (ap (object_at k) own.1.1 ∙ at) in
       let here : with_object (with_use k slot None) own.0.place None ≡ after = (λ i. with_object (with_use k (sym same i) None) (own.1.1 i) None) ∙ sym left in
       subst (λ (u : State). KeepsWhere b (cache_at after u) (history_of (released m slot) w)) (sym gone) (subst (λ (k : Kept). KeepsWhere b (cache_at k (let_go_by x s)) (history_of (released m slot) w)) here last)
+
+  pub last_given_or : (x : Object) (t : State) (after : Kept) (d : Result (Unit {0}) DiskFault) → list_any (is_use_of p) (with_use k r None).slots ≡ false → object_at k p ≡ Some x → t ≡ if_done d (let_go_by x s) s
+      → after ≡ with_object (with_use k r None) p None → OnOk d (KeepsWhere b (cache_at after t) (history_of (released m slot) w))
+  last_given_or x t after (Ok v) none at gone left = last_given x t after none at gone left
+  last_given_or x t after (Err f) none at gone left = tt

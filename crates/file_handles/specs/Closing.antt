@@ -62,7 +62,7 @@ abbrev pub WritesNothing : Machine → ℕ → Type 0
 WritesNothing m slot = (object_of m slot).finished ≡ false → is_writer m slot ≡ false
 
 -- the slot is given up, whatever the history in which it writes nothing
-pub record GivesUp (slot : ℕ) (answer : Result (Unit {0}) HandleFault) (before after : Cache)
+pub record GivesUp (slot : ℕ) (answer : Result (Unit {0}) DiskFault) (before after : Cache)
     : Type 0 where
   pub leaves : (crash : Bool) (h : History) → WritesNothing h.machine slot
       → KeepsWhere crash before h

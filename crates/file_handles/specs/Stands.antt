@@ -11,7 +11,6 @@ use Rattle.disk_model.specs.State.{standing}
 use Rattle.file_handles.specs.Cache.{Cache}
 use Rattle.file_handles.specs.Held.{IsHeldAs}
 use Rattle.file_handles.specs.Kept.{Kept, object_at, use_at}
-use Rattle.file_handles.specs.declared.fault.HandleFault.{HandleFault}
 use Rattle.file_handles.specs.declared.object.Object.{Object}
 use Rattle.file_handles.specs.declared.object.Use.{Use}
 
@@ -66,8 +65,8 @@ pub record KeepsWhere (crash : Bool) (now : Cache) (h : History) : Type 0 where
 
 -- a call leaves this history: a crash at any exit may lose no more than its marks allow, and after
 -- an Ok the disk keeps to it
-pub record ReachesHistory {T : Type 0} (crash : Bool) (h : History) (answer : Result T HandleFault)
-    (after : Cache) : Type 0 where
+pub record ReachesHistory {T E : Type 0} (crash : Bool) (h : History) (answer : Result T E) (after : Cache)
+    : Type 0 where
   pub safe : IsTrue crash → IsSafe after.disk h.marks
   pub next : OnOk answer (KeepsWhere crash after h)
 

@@ -1,6 +1,6 @@
 //! Appends to the body of the entry in a slot.
 
-ghost use Rattle.std.specs.Prelude.{ℕ, List, ◌≡◌, ◌+◌, ◌<◌, IfErr, IfOk, IfSome, IsTrue, None, OnOk, length, Ok};
+ghost use Rattle.std.specs.Prelude.{ℕ, List, ◌≡◌, ◌+◌, ◌<◌, IfErr, IfOk, IfSome, IsSomeAnd, IsTrue, None, OnOk, length, Ok};
 ghost use Rattle.cache_base.specs.declared.limits.TheConstants.{CHUNK, SLOTS};
 ghost use Rattle.cache_theory.specs.Command.Command.{Append};
 ghost use Rattle.cache_theory.specs.Machine.{Machine};
@@ -61,7 +61,7 @@ impl Handles {
         b: &[u8],
     ) -> Result<(), HandleFault>
         requires place { place < SLOTS }
-        requires limit { IfSome (object_kept_at (kept self.old) place)
+        requires limit { IsSomeAnd (object_kept_at (kept self.old) place)
             (λ x. grow_fault x.entry (length b.now) ≡ Ok tt) }
         requires told { IsTrue D.tells → IsFiledAt (cache D.Disk self.old disk.old) place }
         ensures changes { let at = cache D.Disk in IsTrue D.tells →
@@ -70,10 +70,10 @@ impl Handles {
         ensures within { IfSome (object_kept_at (kept self.old) place)
             (λ x. length (rest_in x.entry) + length b.now < CHUNK →
             (result ≡ Ok tt) × (disk.new ≡ disk.old)) }
-        ensures refused { OnRefused result (λ _. object_kept_at (kept self.old) place ≡ None) }
+        ensures refused { OnRefused result (λ _. ⊥) }
         ensures account { Accounts D.Disk (ending result) disk.old disk.new }
     {
-        let object = self.take(place)?;
+        let object = self.take(place);
         let file = object.file_place();
         let Object {
             name,
@@ -81,7 +81,7 @@ impl Handles {
             entry,
         } = object;
         let Entry::Draft(draft) = entry else {
-            return Err(HandleFault::Memory);
+            unreachable!();
         };
         let Draft {
             body,

@@ -99,7 +99,7 @@ impl Handles {
             MayGiveUp slot used.place (cache D.Disk self.new disk.new)) }
         ensures effect { IfOk result (λ effect. effect ≡ wrote_where
             (λ x. used.writes && is_draft x.entry) (object_kept_at (kept self.old) used.place)) }
-        ensures refused { IsTrue D.tells → OnRefused result (λ _. ⊥) }
+        ensures refused { OnRefused result (λ _. ⊥) }
         ensures account { Accounts D.Disk (ending result) disk.old disk.new }
     {
         if self.is_finished_by(used) {
@@ -110,22 +110,22 @@ impl Handles {
     }
 
     // Gives up a slot that has this place, and the object there if no other slot uses it.
-    fn give_up<D: Disk>(&mut self, disk: &mut D, slot: u8, place: usize) -> Result<(), HandleFault>
+    fn give_up<D: Disk>(&mut self, disk: &mut D, slot: u8, place: usize) -> Result<(), DiskFault>
         requires slot { slot < SLOTS }
         requires place { place < SLOTS }
         requires told { IsTrue D.tells → MayGiveUp slot place (cache D.Disk self.old disk.old) }
         ensures gives_up { let at = cache D.Disk in IsTrue D.tells →
             GivesUp slot result (at self.old disk.old) (at self.new disk.new) }
-        ensures refused { IsTrue D.tells → OnRefused result (λ _. ⊥) }
-        ensures account { Accounts D.Disk (ending result) disk.old disk.new }
+        ensures account { Accounts D.Disk (disk_ending result) disk.old disk.new }
     {
         self.slots[usize::from(slot)] = None;
         if is_used(&self.slots, place) {
             return Ok(());
         }
-        let object = self.take(place)?;
-        let_go(disk, &object)?;
-        Ok(())
+        match self.take_any(place) {
+            Some(object) => let_go(disk, &object),
+            None => Ok(()),
+        }
     }
 
     /// Closes a slot. The writer of an entry that is not finished finishes it first; the file of a doomed entry is removed

@@ -75,7 +75,7 @@ impl Handles {
         if doomed.count >= SLOTS {
             return Err(HandleFault::Memory);
         }
-        let object = self.take(place)?;
+        let object = self.take(place);
         let number = move_to_doomed(disk, name, &doomed.numbers[..doomed.count])?;
         let Object { name, entry, .. } = object;
         self.put(

@@ -221,7 +221,7 @@ impl Handles {
         change: Change<'_>,
     ) -> Result<Effect, HandleFault>
         requires place { place < SLOTS }
-        requires room { IfSome (object_kept_at (kept self.old) place)
+        requires room { IsSomeAnd (object_kept_at (kept self.old) place)
             (λ x. HasRoom x.entry (changed_by change (elements_in x.entry))) }
         requires told { IsTrue D.tells → IsFiledAt (cache D.Disk self.old disk.old) place }
         ensures changes { let at = cache D.Disk in IsTrue D.tells →
@@ -231,10 +231,10 @@ impl Handles {
             (λ x. is_draft x.entry ≡ true → D.state disk.new ≡ D.state disk.old) }
         ensures effect { IfOk result (λ effect. effect ≡ wrote_where
             (λ x. not (is_draft x.entry)) (object_kept_at (kept self.old) place)) }
-        ensures refused { OnRefused result (λ _. object_kept_at (kept self.old) place ≡ None) }
+        ensures refused { OnRefused result (λ _. ⊥) }
         ensures account { Accounts D.Disk (ending result) disk.old disk.new }
     {
-        let object = self.take(place)?;
+        let object = self.take(place);
         let file = object.file_place();
         let effect = rewrote(&object);
         let Object {

@@ -1,6 +1,6 @@
 //! Finishes an entry: its file becomes whole.
 
-ghost use Rattle.std.specs.Prelude.{◌≡◌, ◌<◌, IfErr, IfOk, IfSome, IsTrue, None, OnOk, true};
+ghost use Rattle.std.specs.Prelude.{◌≡◌, ◌<◌, IfErr, IfOk, IsSomeAnd, IsTrue, None, OnOk, true};
 ghost use Rattle.cache_base.specs.declared.limits.TheConstants.{SLOTS};
 ghost use Rattle.cache_theory.specs.Command.Command.{Finish};
 ghost use Rattle.disk_model.specs.Account.{Accounts};
@@ -58,17 +58,17 @@ impl Handles {
         place: usize,
     ) -> Result<Effect, HandleFault>
         requires place { place < SLOTS }
-        requires draft { IfSome (object_kept_at (kept self.old) place)
+        requires draft { IsSomeAnd (object_kept_at (kept self.old) place)
             (λ x. is_draft x.entry ≡ true) }
         requires told { IsTrue D.tells → IsFiledAt (cache D.Disk self.old disk.old) place }
         ensures changes { let at = cache D.Disk in IsTrue D.tells →
             ChangesThere place completed result (at self.old disk.old) (at self.new disk.new) }
         ensures effect { IfOk result (λ effect.
             effect ≡ wrote_where (λ x. true) (object_kept_at (kept self.old) place)) }
-        ensures refused { OnRefused result (λ _. object_kept_at (kept self.old) place ≡ None) }
+        ensures refused { OnRefused result (λ _. ⊥) }
         ensures account { Accounts D.Disk (ending result) disk.old disk.new }
     {
-        let object = self.take(place)?;
+        let object = self.take(place);
         let file = object.file_place();
         let effect = object.wrote();
         let Object {
@@ -77,7 +77,7 @@ impl Handles {
             entry,
         } = object;
         let Entry::Draft(draft) = entry else {
-            return Err(HandleFault::Memory);
+            unreachable!();
         };
         // No body is longer, so that its block is small.
         if draft.body.len() as usize > BODY_MAX {

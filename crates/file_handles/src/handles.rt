@@ -1,6 +1,6 @@
 //! The table of entries in use, and of the slots that use them.
 
-ghost use Rattle.std.specs.Prelude.{◌≡◌, ◌<◌, EachIndex, IfErr, IfOk, None, Some, slice_index_or};
+ghost use Rattle.std.specs.Prelude.{◌≡◌, ◌<◌, EachIndex, IfErr, IfOk, IsSome, None, Some, slice_index_or};
 ghost use Rattle.std.specs.List.{position};
 ghost use Rattle.cache_base.specs.declared.limits.TheConstants.{SLOTS};
 ghost use Rattle.file_handles.specs.Finding.{is_free, is_user};
@@ -73,16 +73,25 @@ impl Handles {
         }
     }
 
-    /// Takes the object at a place out of the table.
-    pub(crate) fn take(&mut self, place: usize) -> Result<Object, Refusal>
+    /// Takes what is at a place out of the table.
+    pub(crate) fn take_any(&mut self, place: usize) -> Option<Object>
         requires { place < SLOTS }
-        ensures found { IfOk result (λ object. object_kept_at (kept self.old) place ≡ Some object) }
-        ensures none { IfErr result (λ _. object_kept_at (kept self.old) place ≡ None) }
+        ensures found { result ≡ object_kept_at (kept self.old) place }
         ensures kept { kept self.new ≡ with_object (kept self.old) place None }
     {
-        match self.objects[place].take() {
-            Some(object) => Ok(object),
-            None => Err(Refusal::NoSlot),
+        self.objects[place].take()
+    }
+
+    /// Takes the object at a place out of the table.
+    pub(crate) fn take(&mut self, place: usize) -> Object
+        requires place { place < SLOTS }
+        requires there { IsSome (object_kept_at (kept self.old) place) }
+        ensures found { object_kept_at (kept self.old) place ≡ Some result }
+        ensures kept { kept self.new ≡ with_object (kept self.old) place None }
+    {
+        match self.take_any(place) {
+            Some(object) => object,
+            None => unreachable!(),
         }
     }
 

@@ -2,9 +2,12 @@ use Rattle.std.proofs.Common.{sym, ◌∙◌}
 use Rattle.cache_theory.specs.Command.Command.{Close}
 use Rattle.file_handles.specs.Kept.{kept}
 use Rattle.file_handles.proofs.Begun.{begun_in}
-use Rattle.file_handles.proofs.ClosedSlot.{finished_in, finished_may, finished_safe, may_give_up, told_then, unchanged_in}
+use Rattle.file_handles.proofs.ClosedSlot.{draft_there, finished_in, finished_may, finished_safe, may_give_up, told_then, unchanged_in}
 use Rattle.file_handles.proofs.Places.{filed_somehow}
 use Rattle.file_handles.proofs.handles.Handles.finish_first.Goals as goal
+
+pub finish_at-requires-clause-draft : goal.finish_at-requires-clause-draft
+finish_at-requires-clause-draft g c = draft_there c.args.used.writes _ (sym c.is_finished_by.ensures ∙ c.if-is_finished_by.true)
 
 pub finish_at-requires-clause-told : goal.finish_at-requires-clause-told
 finish_at-requires-clause-told g c told = filed_somehow _ _ _ (c.requires.told told)

@@ -9,7 +9,7 @@ use Rattle.file_handles.specs.Held.{is_draft}
 use Rattle.file_handles.specs.Kept.{kept, object_at}
 use Rattle.file_handles.specs.Refuses.{HasAt}
 use Rattle.file_handles.proofs.EffectLaws.{effect_is, unsets_rewrite}
-use Rattle.file_handles.proofs.ElementChecks.{at_object}
+use Rattle.file_handles.proofs.ElementChecks.{at_object, if_object, some_object}
 use Rattle.file_handles.proofs.ElementCommands.{fault_reply, unset_leaves}
 use Rattle.file_handles.proofs.ElementEntries.{room_without}
 use Rattle.file_handles.proofs.ElementReads.{mapped_none, mapped_some, unset_none_leaves}
@@ -27,7 +27,10 @@ returns-then-is_none-clause-carried g c told =
     (mapped_none _ c.get.result _ (c.get.ensures ∙ ap (element name) c.elements.ensures) c.if-is_none.ensures)
 
 pub change_at-requires-clause-room : goal.change_at-requires-clause-room
-change_at-requires-clause-room g c = room_without (object_at (kept c.args.self.now) c.in_ok-place.place) c.args.name.now
+change_at-requires-clause-room g c =
+    let o = object_at (kept c.args.self.now) c.in_ok-place.place in
+    let x = c.in_ok-object_at.field-0.now in
+    some_object o x _ c.in_ok-object_at.ensures.found (if_object o x _ c.in_ok-object_at.ensures.found (room_without o c.args.name.now))
 
 pub change_at-requires-clause-told : goal.change_at-requires-clause-told
 change_at-requires-clause-told g c told = filed_somehow _ _ _ (c.requires.told told)
