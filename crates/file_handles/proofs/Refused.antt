@@ -1,10 +1,11 @@
 -- A command that is refused changes nothing.
-use Rattle.std.proofs.Common.{◌≡◌, Option, Some, Result, Ok, Err, IsErrAnd, sym, ap, subst}
+use Rattle.std.proofs.Common.{◌≡◌, Option, Some, None, Result, Ok, Err, IsErrAnd, sym, ap, subst}
 use Rattle.cache_base.specs.Checks.{first_failing}
 use Rattle.cache_theory.specs.Checks.{checks}
 use Rattle.cache_theory.specs.Command.{Command}
 use Rattle.cache_theory.specs.Command.Command.{At, Create, OpenKey, Append, Finish, SetElement, UnsetElement, ElementOf, ReadPart, Close, Doom, Get, Flush}
 use Rattle.cache_theory.specs.Command.Reply.{Refused}
+use Rattle.cache_theory.specs.Crash.{IsSafe}
 use Rattle.cache_theory.specs.Machine.{Machine}
 use Rattle.cache_theory.specs.Marks.{Marks, acked, begun, begun_by}
 use Rattle.cache_theory.specs.Step.{step, stepped}
@@ -54,6 +55,18 @@ refused_where s k c r refuses b m w is =
 
 pub refused_leaves : (s : State) (k : Kept) (c : Command) (r : Refusal) → Refuses k c r → CarriesOut c (Some (Refused r)) (cache_at k s) (cache_at k s)
 refused_leaves s k c r refuses = carries_out (refused_where s k c r refuses)
+
+-- the same where the disk was only looked at
+pub refused_same : {s t : State} {k : Kept} {c : Command} {r : Refusal} → Refuses k c r → t ≡ s → CarriesOut c (Some (Refused r)) (cache_at k s) (cache_at k t)
+refused_same {s} {t} {k} {c} {r} refuses same = subst (λ u. CarriesOut c (Some (Refused r)) (cache_at k s) (cache_at k u)) (sym same) (refused_leaves s k c r refuses)
+
+-- and a fault without a change is allowed to any command
+pub faulted_same : {s t : State} {k : Kept} {c : Command} → t ≡ s → CarriesOut c None (cache_at k s) (cache_at k t)
+faulted_same {s} {t} {k} {c} same = carries_out (λ b m w is. record {
+  safe = λ on. subst (λ u. IsSafe u (begun m c w)) (sym same) ((begun_in s k m c w is).crash_kept on).safe;
+  replies = tt;
+  next = tt;
+})
 
 -- a refusal that is handed on as the answer
 pub refused_answer : {T : Type 0} (a : Result T HandleFault) (s : State) (k : Kept) (c : Command) (r : Refusal) → IsErrAnd a (λ e. e ≡ fault.Refused r) → Refuses k c r → CarriesOut c (done_or a) (cache_at k s) (cache_at k s)

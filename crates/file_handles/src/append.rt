@@ -91,26 +91,19 @@ impl Handles {
         } = draft;
         let mut body = body;
         body.append(disk, &file, b)?;
-        let draft = Draft {
+        let entry = Entry::Draft(Draft {
             body,
             header,
             key,
             elements,
-        };
-        let entry = Entry::Draft(draft);
-        self.put(
-            place,
-            Object {
-                name,
-                doomed,
-                entry,
-            },
-        );
+        });
+        self.put_entry(place, name, doomed, entry);
         Ok(())
     }
 
-    /// Appends bytes to the body of the entry in a slot. Each chunk is written as soon as it is full; within a chunk no
-    /// call of the disk is made.
+    /// Appends bytes to the body of the entry in a slot. A chunk is written as soon as it is full; no other call of the
+    /// disk is made.
+    #[tactic(auto, using(crate::proofs::Refused::faulted_same))]
     pub fn append<D: Disk>(&mut self, disk: &mut D, slot: u8, b: &[u8]) -> Result<(), HandleFault>
         requires slot { slot < SLOTS }
         requires told { IsTrue D.tells → RepresentsSome (cache D.Disk self.old disk.old) }

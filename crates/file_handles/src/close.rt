@@ -51,7 +51,7 @@ fn let_go<D: Disk>(disk: &mut D, object: &Object) -> Result<(), DiskFault>
     }
 }
 
-// Removes the file of an object that does not outlast the handles: a doomed one, or one that is not finished.
+// Removes the file of an object that does not outlast the handles: one that is doomed, or not finished.
 fn drop_file<D: Disk>(disk: &mut D, object: &Object) -> Result<(), DiskFault>
     requires { IsTrue D.tells → IsSome (standing (D.state disk.old) (object_place object.now)) }
     ensures state { Told D.Disk (λ s t. t ≡ if_done result (dropped object.now s) s)
@@ -128,8 +128,8 @@ impl Handles {
         }
     }
 
-    /// Closes a slot. The writer of an entry that is not finished finishes it first; the file of a doomed entry is removed
-    /// with its last slot.
+    /// Closes a slot. If it writes an entry that is not finished, the entry is finished first. The file of a doomed entry
+    /// is removed with its last slot.
     pub fn close<D: Disk>(
         &mut self,
         alloc: Global,

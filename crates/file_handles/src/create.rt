@@ -34,7 +34,7 @@ fn bytes_of(alloc: Global, b: &[u8]) -> Result<Bytes, NoMemory>
     Ok(bytes)
 }
 
-// A new draft of a key, whose name is given, with a new empty file.
+// A new draft of a key with this name, and its file, which is new and empty.
 fn drafted<D: Disk>(
     alloc: Global,
     disk: &mut D,
@@ -77,7 +77,7 @@ impl Handles {
     ghost use Rattle.file_handles.specs.Kept.{kept};
     ghost use Rattle.file_handles.specs.Stands.{RepresentsSome};
 
-    /// Makes a new entry of a key at this moment, of which the slot is the writer. What stood under the name is doomed.
+    /// Makes a new entry of a key at this moment, which the slot writes. What stood under the name is doomed.
     pub fn create<D: Disk>(
         &mut self,
         alloc: Global,

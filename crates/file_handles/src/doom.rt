@@ -21,7 +21,7 @@ use entry_key::may_write;
 use entry_name::name_of;
 use std::alloc::Global;
 
-// The numbers of the doomed files in use, as the prefix of an array, and how many they are.
+// The numbers of the doomed files in use: so many, as the prefix of an array.
 #[derive(Drop)]
 struct DoomedNumbers {
     numbers: [u32; SLOTS],
@@ -55,7 +55,7 @@ impl Handles {
     ghost use Rattle.file_handles.specs.Loading.{user_place};
     ghost use Rattle.file_handles.specs.Stands.{RepresentsSome};
 
-    // Dooms the undoomed object in use of a name, which is at this place: its file moves among the doomed.
+    // Dooms the undoomed object in use of a name, which is at this place. Its file moves among the doomed.
     fn doom_at<D: Disk>(
         &mut self,
         disk: &mut D,
@@ -78,14 +78,7 @@ impl Handles {
         let object = self.take(place);
         let number = move_to_doomed(disk, name, &doomed.numbers[..doomed.count])?;
         let Object { name, entry, .. } = object;
-        self.put(
-            place,
-            Object {
-                name,
-                doomed: Some(number),
-                entry,
-            },
-        );
+        self.put_entry(place, name, Some(number), entry);
         Ok(())
     }
 
@@ -116,7 +109,7 @@ impl Handles {
         }
     }
 
-    // The name of a key of which an entry is in use, or a file stands.
+    // The name of a key, if an entry of it is in use or its file stands.
     fn may_doom<D: Disk>(
         &self,
         alloc: Global,
@@ -141,7 +134,7 @@ impl Handles {
         Ok(name)
     }
 
-    /// Dooms the entry of a key: where a slot has it, its file moves among the doomed, and else it is removed.
+    /// Dooms the entry of a key. Its file moves among the doomed where a slot has it, and otherwise is removed.
     pub fn doom<D: Disk>(
         &mut self,
         alloc: Global,

@@ -38,7 +38,7 @@ fn has_zero(b: &[u8]) -> bool
     b.contains(&0)
 }
 
-// The length of the elements without the first of the name, where there is one.
+// The length of the elements without the first of the name, if there is one.
 fn len_without(elements: &Elements, name: &[u8]) -> usize
     ensures { (value : List ℕ) → length (elements_bytes (with_element name.now value elements.now))
         ≡ result + length name.now + length value + 2 }
@@ -49,7 +49,7 @@ fn len_without(elements: &Elements, name: &[u8]) -> usize
     }
 }
 
-// The length of the elements with one set, where it is at most `ELEMENTS_MAX`.
+// The length of the elements with this one set, if it is at most `ELEMENTS_MAX`.
 fn len_with(elements: &Elements, name: &[u8], value: &[u8]) -> Option<usize>
     ensures { result ≡ small_len
         (length (elements_bytes (with_element name.now value.now elements.now))) }
@@ -78,7 +78,7 @@ fn block_with(entry: &Entry, elements: usize) -> usize
     4 + 2 * hashes + 32 + key + 1 + elements
 }
 
-// Whether the entry may have its elements with this one set.
+// Whether the entry has room for its elements with this one set.
 fn may_have(entry: &Entry, elements: &Elements, name: &[u8], value: &[u8]) -> bool
     ensures { result ≡ are_small entry.now (with_element name.now value.now elements.now) }
 {
@@ -154,7 +154,7 @@ fn changed_meta(meta: Meta, change: Change<'_>) -> Result<Meta, NoMemory>
     })
 }
 
-// What an index must learn where the elements of an entry changed.
+// What an index must learn after the elements of an entry changed.
 fn rewrote(object: &Object) -> Effect
     ensures { result ≡ wrote_where (λ x. not (is_draft x.entry)) (Some object.now) }
 {
@@ -212,7 +212,7 @@ impl Handles {
         }
     }
 
-    // Changes the elements of the object at a place. The metadata of a finished entry are written anew.
+    // Changes the elements of the object at a place. The metadata of a finished entry are rewritten.
     fn change_at<D: Disk>(
         &mut self,
         alloc: Global,
@@ -250,19 +250,12 @@ impl Handles {
                 Entry::Finished(meta)
             }
         };
-        self.put(
-            place,
-            Object {
-                name,
-                doomed,
-                entry,
-            },
-        );
+        self.put_entry(place, name, doomed, entry);
         Ok(effect)
     }
 
-    /// Sets the value of the first element of the name in its place, or adds the element at the end. The metadata of a
-    /// finished entry are written anew.
+    /// Sets the value of the first element of the name, or adds the element at the end. The metadata of a finished
+    /// entry are rewritten.
     pub fn set_element<D: Disk>(
         &mut self,
         alloc: Global,
@@ -285,8 +278,8 @@ impl Handles {
         self.change_at(alloc, disk, place, Change::Set { name, value })
     }
 
-    /// Removes the first element of the name, or answers none where there is none. The metadata of a finished entry are
-    /// written anew.
+    /// Removes the first element of the name, or answers none if there is none. The metadata of a finished entry are
+    /// rewritten.
     pub fn unset_element<D: Disk>(
         &mut self,
         alloc: Global,

@@ -1,4 +1,4 @@
-//! Finishes an entry: its file becomes whole.
+//! Finishes the entry of a slot: its file becomes whole.
 
 ghost use Rattle.std.specs.Prelude.{◌≡◌, ◌<◌, IfErr, IfOk, IsSomeAnd, IsTrue, None, OnOk, true};
 ghost use Rattle.cache_base.specs.declared.limits.TheConstants.{SLOTS};
@@ -16,7 +16,7 @@ use disk_model::Disk;
 use std::alloc::Global;
 
 impl Object {
-    /// What an index must learn where its file was written whole.
+    /// What an index must learn after its file was written whole.
     pub(crate) fn wrote(&self) -> Effect
         ensures { result ≡ wrote_effect self.now.name self.now.doomed }
     {
@@ -91,18 +91,12 @@ impl Handles {
         } = draft;
         let meta = body.finish(alloc, disk, &file, header, key, elements)?;
         let entry = Entry::Finished(meta);
-        self.put(
-            place,
-            Object {
-                name,
-                doomed,
-                entry,
-            },
-        );
+        self.put_entry(place, name, doomed, entry);
         Ok(effect)
     }
 
     /// Finishes the entry of a slot. Its file becomes whole by one call of the disk.
+    #[tactic(auto, using(crate::proofs::Refused::faulted_same, crate::proofs::Refused::refused_same))]
     pub fn finish<D: Disk>(
         &mut self,
         alloc: Global,

@@ -36,9 +36,9 @@ returns-clause-dooms g c = λ tells. record {
       let s = g.D.Disk.state c.args.disk.now in
       let k = kept c.args.self.now in
       let free = subst (λ xs. IsLeastFree xs c.in_ok-number.number) c.doomed_numbers-doomed.ensures.numbers c.in_ok-number.ensures.number in
-      let done = dooms_there s (g.D.Disk.state c.doom.new.disk) k (kept c.take-object.new.self) (kept c.put.new.self) c.args.name.now c.args.place c.take-object.result c.in_ok-number.number
+      let done = dooms_there s (g.D.Disk.state c.doom.new.disk) k (kept c.take-object.new.self) (kept c.put_entry.new.self) c.args.name.now c.args.place c.take-object.result c.in_ok-number.number
       (g.met.D.Disk.sound c.args.disk.now tells) c.requires.user c.take-object.ensures.found free
-      (c.in_ok-number.ensures.state c.in_ok-number.number c.in_ok-number.ensures.number tells) c.take-object.ensures.kept c.put.ensures h.machine h.marks touched stand in
+      (c.in_ok-number.ensures.state c.in_ok-number.number c.in_ok-number.ensures.number tells) c.take-object.ensures.kept c.put_entry.ensures h.machine h.marks touched stand in
       record { safe = done.0; next = done.1 };
 }
 
