@@ -13,7 +13,7 @@ use Rattle.cache_theory.specs.Machine.{Machine}
 use Rattle.cache_theory.specs.Step.{step}
 use Rattle.cache_theory.specs.Text.{refusal_words, reply_text, spaced, line}
 use Rattle.disk_model.specs.State.{State}
-use Rattle.file_handles.specs.Cache.{Cache}
+use Rattle.file_handles.specs.Cache.{Cache, cache_at}
 use Rattle.file_handles.specs.Kept.{Kept}
 use Rattle.file_handles.specs.Stands.{Represents}
 
@@ -59,7 +59,7 @@ AnswersFor at c answer before now =
 -- so it is over any disk
 abbrev pub AnswersOver : Kept → Command → Result Answered StoreFault → Option (List ℕ) → Saying → Type 0
 AnswersOver handles c answer before now =
-    (s : State) → AnswersFor (record { handles = handles; disk = s }) c answer before now
+    (s : State) → AnswersFor (cache_at handles s) c answer before now
 
 -- the rest of an answer goes out after what was said, whatever the text that the two make up
 abbrev pub SendsRest : List ℕ → Saying → Option (List ℕ) → Type 0

@@ -1,16 +1,18 @@
-use Rattle.std.proofs.Common.{◌≡◌, ◌*◌, ◌≤◌, List, Some, length, take, ℕ}
+use Rattle.std.proofs.Common.{◌≡◌, ◌*◌, take}
 use Rattle.std.specs.Bool.{IsTrue}
 use Rattle.cache_base.specs.Limits.{chunk_size}
-use Rattle.disk_model.specs.State.{standing}
+use Rattle.disk_model.specs.Account.{IsCalm}
+use Rattle.cache_store.specs.Prefix.{ForPrefix}
+use Rattle.cache_store.specs.Said.{saying}
 use Rattle.cache_store.specs.Saying.{SaysMore}
-use Rattle.cache_store.proofs.getting.say_chunks.Given as goal
+use Rattle.cache_store.proofs.get.say_chunks.Given as goal
 
 -- the chunks so far were said, and nothing else was done
 abbrev pub invariant-loop-index : goal.invariant-loop-index
-invariant-loop-index g l =
-    (IsTrue g.D.Disk.tells → (content : List ℕ) → standing (g.D.Disk.state l.fn.disk) l.place ≡ Some content → l.len ≤ length content
-    → SaysMore (g.K.Sink.taken l.fn.sink) (g.K.Sink.taken l.sink) l.fn.reply.held l.reply.held (take (l.index * chunk_size) (take l.len content)))
-    × (IsTrue g.D.Disk.tells → g.D.Disk.state l.disk ≡ g.D.Disk.state l.fn.disk)
-    × (IsTrue g.D.Disk.tells → (g.D.Disk.counts l.disk).failed ≡ (g.D.Disk.counts l.fn.disk).failed)
-    × (g.K.Sink.faults l.sink ≡ g.K.Sink.faults l.fn.sink)
-    × (g.D.Disk.faults l.disk ≡ g.D.Disk.faults l.fn.disk)
+invariant-loop-index g l = record {
+  says : IsTrue g.D.Disk.tells → ForPrefix (g.D.Disk.state l.fn.disk) l.place l.len (λ body.
+      SaysMore (saying g.K.Sink l.fn.reply l.fn.sink) (saying g.K.Sink l.reply l.sink) (take (l.index * chunk_size) body));
+  state : IsTrue g.D.Disk.tells → g.D.Disk.state l.disk ≡ g.D.Disk.state l.fn.disk;
+  calm : IsCalm g.D.Disk l.fn.disk l.disk;
+  sink : g.K.Sink.faults l.sink ≡ g.K.Sink.faults l.fn.sink;
+}
