@@ -102,9 +102,8 @@ impl Store {
     ) -> Result<Answered, StoreFault>
         requires slot { slot < SLOTS }
         requires empty { self.old.reply.held ≡ [] }
-        ensures answers {
-            AnswersOver (kept self.old.handles) (ElementOf slot name.now) result
-                (K.taken sink.old) (saying K.Sink self.new.reply sink.new) }
+        ensures answers { AnswersOver (kept self.old.handles) (ElementOf slot name.now) result
+            (K.taken sink.old) (saying K.Sink self.new.reply sink.new) }
         ensures unsaid { IfOk result (λ a. a ≢ Answered.All → sink.new ≡ sink.old) }
         ensures still_empty { IfOk result (λ a.
             a ≢ Answered.All → self.new.reply.held ≡ []) }
@@ -135,7 +134,7 @@ impl Store {
         requires told { IsTrue D.tells → RepresentsSome (cache D.Disk self.old.handles disk.old) }
         ensures carried { let at = cache D.Disk in IsTrue D.tells →
             CarriesOut (UnsetElement slot name.now) (replied result)
-                (at self.old.handles disk.old) (at self.new.handles disk.new) }
+            (at self.old.handles disk.old) (at self.new.handles disk.new) }
         ensures not_said { result ≢ Ok Answered.All }
         ensures no_sink { result ≢ Err StoreFault.Sink }
         ensures moment { self.new.moment ≡ self.old.moment }
@@ -162,7 +161,7 @@ impl Store {
         requires told { IsTrue D.tells → IsOpen (session D.Disk self.old disk.old) }
         ensures does { let at = session D.Disk in IsTrue D.tells →
             DoesFor (command_of c.now) result (at self.old disk.old) (at self.new disk.new)
-                (K.taken sink.old) (saying K.Sink self.new.reply sink.new) }
+            (K.taken sink.old) (saying K.Sink self.new.reply sink.new) }
         ensures plain { IfOk result (λ a. is_plain (command_of c.now) ≡ true → IsPlain a) }
         ensures bad_key { HasBadKey (command_of c.now) → result ≢ Ok Answered.Done }
         ensures unsaid { IfOk result (λ a. a ≢ Answered.All → sink.new ≡ sink.old) }
@@ -236,7 +235,7 @@ impl Store {
         requires told { IsTrue D.tells → IsOpen (session D.Disk self.old disk.old) }
         ensures performs { let at = session D.Disk in IsTrue D.tells →
             PerformsFor (command_of c.now) result (at self.old disk.old) (at self.new disk.new)
-                (K.taken sink.old) (K.taken sink.new) }
+            (K.taken sink.old) (K.taken sink.new) }
         ensures prints { IfOk result (λ o.
             Prints (command_of c.now) o (K.taken sink.old) (K.taken sink.new)) }
         ensures bad_key { HasBadKey (command_of c.now) → result ≢ Ok Outcome.Ok }

@@ -57,10 +57,10 @@ fn say_chunks<D: Disk, K: Sink>(
 ) -> Result<(), StoreFault>
     ensures said { let at = saying K.Sink in OnOk result (IsTrue D.tells →
         ForPrefix (D.state disk.old) place.now len (λ body.
-            SaysMore (at reply.old sink.old) (at reply.new sink.new) body)) }
+        SaysMore (at reply.old sink.old) (at reply.new sink.new) body)) }
     ensures cut { let at = saying K.Sink in OnErr result (IsTrue D.tells →
         ForPrefix (D.state disk.old) place.now len (λ body.
-            CutsIn (at reply.old sink.old) (K.taken sink.new) body)) }
+        CutsIn (at reply.old sink.old) (K.taken sink.new) body)) }
     ensures looks { Looks D.Disk (ending result) disk.old disk.new }
     ensures sink { let failed = IsErrOf result StoreFault.Sink in
         HasCause failed (K.faults sink.old) (K.faults sink.new) }
@@ -89,12 +89,12 @@ impl Store {
     ) -> Result<(), StoreFault>
         ensures said { let at = saying K.Sink in OnOk result (IsTrue D.tells →
             ForPrefix (D.state disk.old) place.now meta.now.offset (λ body.
-                let text = entry_text (meta_of meta.now) body in
-                SaysMore (at self.old.reply sink.old) (at self.new.reply sink.new) text)) }
+            let text = entry_text (meta_of meta.now) body in
+            SaysMore (at self.old.reply sink.old) (at self.new.reply sink.new) text)) }
         ensures cut { let at = saying K.Sink in OnErr result (IsTrue D.tells →
             ForPrefix (D.state disk.old) place.now meta.now.offset (λ body.
-                let text = entry_text (meta_of meta.now) body in
-                CutsIn (at self.old.reply sink.old) (K.taken sink.new) text)) }
+            let text = entry_text (meta_of meta.now) body in
+            CutsIn (at self.old.reply sink.old) (K.taken sink.new) text)) }
         ensures open { open_of self.new ≡ open_of self.old }
         ensures looks { Looks D.Disk (ending result) disk.old disk.new }
         ensures sink { let failed = IsErrOf result StoreFault.Sink in
@@ -125,7 +125,7 @@ impl Store {
         requires told { IsTrue D.tells → RepresentsSome (cache D.Disk self.old.handles disk.old) }
         ensures answers { IsTrue D.tells →
             AnswersFor (cache D.Disk self.old.handles disk.old) (Get key.now) result
-                (K.taken sink.old) (saying K.Sink self.new.reply sink.new) }
+            (K.taken sink.old) (saying K.Sink self.new.reply sink.new) }
         ensures unsaid { IfOk result (λ a. a ≢ Answered.All → sink.new ≡ sink.old) }
         ensures still_empty { IfOk result (λ a.
             a ≢ Answered.All → self.new.reply.held ≡ []) }

@@ -38,12 +38,12 @@ fn say_part<D: Disk, K: Sink>(
     requires told { IsTrue D.tells → RepresentsSome (cache D.Disk handles.old disk.old) }
     ensures says { let at = saying K.Sink in IfOk result (λ n. IsTrue D.tells →
         ForBody (cache D.Disk handles.old disk.old) slot (λ body.
-            let part = part_of_body body from len in
-            SaysPart n (at reply.old sink.old) (at reply.new sink.new) part)) }
+        let part = part_of_body body from len in
+        SaysPart n (at reply.old sink.old) (at reply.new sink.new) part)) }
     ensures stops { let at = saying K.Sink in OnErr result (IsTrue D.tells →
         ForBody (cache D.Disk handles.old disk.old) slot (λ body.
-            let part = part_of_body body from len in
-            StopsIn (at reply.old sink.old) (K.taken sink.new) part)) }
+        let part = part_of_body body from len in
+        StopsIn (at reply.old sink.old) (K.taken sink.new) part)) }
     ensures bound { IfOk result (λ n. n ≤ len) }
     ensures kept { kept handles.new ≡ kept handles.old }
     ensures looks { Looks D.Disk (ending result) disk.old disk.new }
@@ -77,12 +77,12 @@ fn say_parts<D: Disk, K: Sink>(
     requires told { IsTrue D.tells → RepresentsSome (cache D.Disk handles.old disk.old) }
     ensures says { let at = saying K.Sink in OnOk result (IsTrue D.tells →
         ForBody (cache D.Disk handles.old disk.old) slot (λ body.
-            let bytes = take len (drop from body) in
-            SaysMore (at reply.old sink.old) (at reply.new sink.new) bytes)) }
+        let bytes = take len (drop from body) in
+        SaysMore (at reply.old sink.old) (at reply.new sink.new) bytes)) }
     ensures stops { let at = saying K.Sink in OnErr result (IsTrue D.tells →
         ForBody (cache D.Disk handles.old disk.old) slot (λ body.
-            let bytes = take len (drop from body) in
-            StopsIn (at reply.old sink.old) (K.taken sink.new) bytes)) }
+        let bytes = take len (drop from body) in
+        StopsIn (at reply.old sink.old) (K.taken sink.new) bytes)) }
     ensures kept { kept handles.new ≡ kept handles.old }
     ensures looks { Looks D.Disk (ending result) disk.old disk.new }
     ensures sink { let failed = IsErrOf result StoreFault.Sink in
@@ -115,15 +115,15 @@ fn say_bytes<D: Disk, K: Sink>(
     requires told { IsTrue D.tells → RepresentsSome (cache D.Disk handles.old disk.old) }
     ensures says { let at = saying K.Sink in OnOk result (IsTrue D.tells →
         ForBody (cache D.Disk handles.old disk.old) slot (λ body.
-            let bytes = take len (drop from body) in
-            let text = with_bytes (codes "data") bytes in
-            len ≡ length bytes →
-                SaysMore (at reply.old sink.old) (at reply.new sink.new) text)) }
+        let bytes = take len (drop from body) in
+        let text = with_bytes (codes "data") bytes in
+        len ≡ length bytes →
+        SaysMore (at reply.old sink.old) (at reply.new sink.new) text)) }
     ensures cut { let at = saying K.Sink in OnErr result (IsTrue D.tells →
         ForBody (cache D.Disk handles.old disk.old) slot (λ body.
-            let bytes = take len (drop from body) in
-            let text = with_bytes (codes "data") bytes in
-            len ≡ length bytes → CutsIn (at reply.old sink.old) (K.taken sink.new) text)) }
+        let bytes = take len (drop from body) in
+        let text = with_bytes (codes "data") bytes in
+        len ≡ length bytes → CutsIn (at reply.old sink.old) (K.taken sink.new) text)) }
     ensures kept { kept handles.new ≡ kept handles.old }
     ensures looks { Looks D.Disk (ending result) disk.old disk.new }
     ensures sink { let failed = IsErrOf result StoreFault.Sink in
@@ -155,7 +155,7 @@ impl Store {
         requires told { IsTrue D.tells → RepresentsSome (cache D.Disk self.old.handles disk.old) }
         ensures answers { IsTrue D.tells →
             AnswersFor (cache D.Disk self.old.handles disk.old) (ReadPart slot from len) result
-                (K.taken sink.old) (saying K.Sink self.new.reply sink.new) }
+            (K.taken sink.old) (saying K.Sink self.new.reply sink.new) }
         ensures unsaid { IfOk result (λ a. a ≢ Answered.All → sink.new ≡ sink.old) }
         ensures still_empty { IfOk result (λ a.
             a ≢ Answered.All → self.new.reply.held ≡ []) }
