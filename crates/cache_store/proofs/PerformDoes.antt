@@ -102,7 +102,7 @@ reading_does c answer before after out now reads same_disk same_open answers b h
     }))
   where
     begun_is : CacheKeepsWhere b (cache_of before) (begun c h)
-    begun_is = begun_in (cache_of before) c h is.stands
+    begun_is = begun_in before.disk before.open_store.handles h.machine c h.marks is.stands
 
     stands : KeepsWhere b before (acked c h)
     stands =
@@ -123,7 +123,7 @@ pub at_does : (now : ℕ) (before : Session) (reply : Saying) → now < 2 ^ 32 �
 unfolding checks effect
 at_does now before reply small none b h is =
     let proper : IsProper (at_moment now h.machine) = stays_proper h.machine (At now) small is.stands.stands.proper in
-    let begun_is = begun_in (cache_of before) (At now) h is.stands in
+    let begun_is = begun_in before.disk before.open_store.handles h.machine (At now) h.marks is.stands in
     record {
       safe = λ on. (begun_is.crash_kept on).safe;
       answers = unsaid_answers (Ok answered.Done) tt Done refl reply none;
@@ -137,7 +137,7 @@ pub flush_does : (before : Session) (t : State) (sound : IsSound before.disk) (r
 unfolding checks effect
 flush_does before t sound reply none is b h stands =
     subst (λ (u : State). Does b Flush h (Ok answered.Done) (record { open_store = before.open_store; disk = u }) reply.taken reply) (sym is) (record {
-      safe = λ on. sync_keeps before.disk (begun Flush h).marks ((begun_in (cache_of before) Flush h stands.stands).crash_kept on).safe;
+      safe = λ on. sync_keeps before.disk (begun Flush h).marks ((begun_in before.disk before.open_store.handles h.machine Flush h.marks stands.stands).crash_kept on).safe;
       answers = unsaid_answers (Ok answered.Done) tt Done refl reply none;
       next = record { stands = settled_in (cache_of before) sound h stands.stands; same_moment = stands.same_moment };
       effect = tt;
@@ -156,7 +156,7 @@ flush_fails r d answer before t reply none is failed b h stands =
     let f = failure.0 in
     let after : Session = record { open_store = before.open_store; disk = t } in
     subst (λ (a : Result Answered StoreFault). Does b Flush h a after reply.taken reply) (sym failure.1.0) (record {
-      safe = λ on. sync_safe r before.disk t (begun Flush h).marks is ((begun_in (cache_of before) Flush h stands.stands).crash_kept on).safe;
+      safe = λ on. sync_safe r before.disk t (begun Flush h).marks is ((begun_in before.disk before.open_store.handles h.machine Flush h.marks stands.stands).crash_kept on).safe;
       answers = unsaid_answers (Err f) failure.1.1 (step h.machine Flush).reply tt reply none;
       next = tt;
       effect = unsaid_effect (Err f) failure.1.1 (KeepsWhere b after (acked Flush h));

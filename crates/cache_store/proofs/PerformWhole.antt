@@ -36,7 +36,7 @@ begun_stands (Close slot) h before after is safe stands = stands
 begun_stands (Doom key) h before after is safe stands = stands
 begun_stands (Get key) h before after is safe stands = stands
 begun_stands Flush h before after is safe stands =
-    let was = begun_in (cache_of before) Flush h (marked_in is.stands) in
+    let was = begun_in before.disk before.open_store.handles h.machine Flush h.marks (marked_in is.stands) in
     let kept = stands.stands.crash_kept in
     record {
       stands = record {
