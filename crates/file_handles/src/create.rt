@@ -1,15 +1,15 @@
-//! A new entry.
+//! Makes a new entry, which a slot writes.
 
-ghost use Rattle.std.specs.Prelude.{◌≡◌, ◌<◌, false, true, IfOk, IsErrOf, IsTrue, OnOk, length};
-ghost use Rattle.cache_base.specs.Causes.{HasCause};
+ghost use Rattle.std.specs.Prelude.{◌≡◌, ◌<◌, false, true, IfOk, IsTrue, OnOk, length};
 ghost use Rattle.cache_base.specs.declared.limits.TheConstants.{SLOTS};
 ghost use Rattle.cache_theory.specs.Command.Command.{Create};
 ghost use Rattle.cache_theory.specs.Step.{fresh};
-ghost use Rattle.disk_model.specs.Calls.{StopsAtFault};
+ghost use Rattle.disk_model.specs.Account.{Accounts};
+ghost use Rattle.disk_model.specs.Told.{Told};
 ghost use Rattle.disk_model.specs.declared.place.Place.TheVariants.{Entry as EntryAt};
 ghost use Rattle.entry_key.specs.Writing.{may_write as may_write_of};
 ghost use Rattle.entry_name.specs.EntryName.{file_name};
-ghost use Rattle.file_handles.specs.Answers.{OnRefused, done_or};
+ghost use Rattle.file_handles.specs.Answers.{OnRefused, done_or, ending};
 ghost use Rattle.file_handles.specs.Creating.{MayHaveMade};
 ghost use Rattle.file_handles.specs.Dooming.{TakesFirstFree};
 ghost use Rattle.file_handles.specs.Effects.{HasEffect};
@@ -44,12 +44,11 @@ fn drafted<D: Disk>(
 ) -> Result<Object, HandleFault>
     requires good { may_write_of key.now ≡ true }
     requires named { name.0 ≡ file_name key.now }
-    ensures draft { IfOk result (λ object. (object.name ≡ name) × IsHeldAs object (fresh now key.now)) }
-    ensures state { IsTrue D.tells → MayHaveMade (EntryAt name) result (D.state disk.old) (D.state disk.new) }
+    ensures draft { IfOk result (λ object. (object.name ≡ name)
+        × IsHeldAs object (fresh now key.now)) }
+    ensures state { Told D.Disk (MayHaveMade (EntryAt name) result) disk.old disk.new }
     ensures refused { OnRefused result (λ _. ⊥) }
-    ensures went_on { OnOk result (IsTrue D.tells → (D.counts disk.new).failed ≡ (D.counts disk.old).failed) }
-    ensures stops { IsTrue D.tells → StopsAtFault (D.counts disk.old) (D.counts disk.new) }
-    ensures cause { HasCause (IsErrOf result HandleFault.Disk) (D.faults disk.old) (D.faults disk.new) }
+    ensures account { Accounts D.Disk (ending result) disk.old disk.new }
 {
     let bytes = bytes_of(alloc, key)?;
     let body = begin(alloc, disk, &Place::Entry(name))?;
@@ -66,16 +65,17 @@ fn drafted<D: Disk>(
     })
 }
 
-// The tables have a row for each slot: their lengths, as a caller whose handles changed wants them.
+// The tables have a row for each slot: it tells the lengths to a caller whose handles changed.
 fn has_rows(objects: &[Option<Object>; SLOTS], slots: &[Option<Use>; SLOTS])
     ensures objects { length objects.now ≡ SLOTS }
     ensures slots { length slots.now ≡ SLOTS }
 {}
 
 impl Handles {
+    ghost use Rattle.file_handles.specs.Cache.{cache};
     ghost use Rattle.file_handles.specs.Carries.{CarriesOutAt};
     ghost use Rattle.file_handles.specs.Kept.{kept};
-    ghost use Rattle.file_handles.specs.Stands.{StandsSomehow};
+    ghost use Rattle.file_handles.specs.Stands.{RepresentsSome};
 
     /// Makes a new entry of a key at this moment, of which the slot is the writer. What stood under the name is doomed.
     pub fn create<D: Disk>(
@@ -87,16 +87,15 @@ impl Handles {
         now: Moment,
     ) -> Result<Effect, HandleFault>
         requires slot { slot < SLOTS }
-        requires told { IsTrue D.tells → StandsSomehow (D.state disk.old) (kept self.old) }
-        ensures carried { IsTrue D.tells → CarriesOutAt now (Create slot key.now) (done_or result) (D.state disk.old) (D.state disk.new) (kept self.old) (kept self.new) }
+        requires told { IsTrue D.tells → RepresentsSome (cache D.Disk self.old disk.old) }
+        ensures carried { let at = cache D.Disk in IsTrue D.tells →
+            CarriesOutAt now (Create slot key.now) (done_or result)
+            (at self.old disk.old) (at self.new disk.new) }
         ensures effect { IfOk result (HasEffect (kept self.old) (Create slot key.now)) }
         ensures bad_key { may_write_of key.now ≡ false → OnOk result ⊥ }
-        ensures numbered { IsTrue D.tells → TakesFirstFree (D.state disk.old) (D.state disk.new) }
-        ensures went_on { OnOk result (IsTrue D.tells → (D.counts disk.new).failed ≡ (D.counts disk.old).failed) }
+        ensures numbered { Told D.Disk TakesFirstFree disk.old disk.new }
         ensures unchanged { OnRefused result (λ _. disk.new ≡ disk.old) }
-        ensures refused_on { OnRefused result (λ _. IsTrue D.tells → (D.counts disk.new).failed ≡ (D.counts disk.old).failed) }
-        ensures stops { IsTrue D.tells → StopsAtFault (D.counts disk.old) (D.counts disk.new) }
-        ensures cause { HasCause (IsErrOf result HandleFault.Disk) (D.faults disk.old) (D.faults disk.new) }
+        ensures account { Accounts D.Disk (ending result) disk.old disk.new }
     {
         if self.use_of(slot).is_ok() {
             return Err(HandleFault::Refused(Refusal::SlotTaken));

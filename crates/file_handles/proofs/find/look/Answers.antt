@@ -7,8 +7,8 @@ use Rattle.entry_file.specs.EntryFile.{read_for}
 use Rattle.entry_file.specs.EntryRead.{ReadsAs}
 use Rattle.entry_file.specs.declared.entry_read.EntryRead.{EntryRead}
 use Rattle.file_handles.proofs.FoundFile.{absent_with, keys_apart, not_fits_is_none, other_is_none, reads_none}
-use Rattle.file_handles.proofs.finding.look.Goals as goal
-use Rattle.file_handles.proofs.finding.look.Goals.{in_default-via-in-Fits+else-eq, in_default-via-in_default}
+use Rattle.file_handles.proofs.find.look.Goals as goal
+use Rattle.file_handles.proofs.find.look.Goals.{in_default-via-in-Fits+else-eq, in_default-via-in_default}
 
 pub returns-in_default-clause-refused : goal.returns-in_default-clause-refused
 returns-in_default-clause-refused g c =

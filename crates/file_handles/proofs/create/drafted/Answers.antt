@@ -3,7 +3,7 @@ use Rattle.entry_key.specs.Walk.{read_key, reads}
 use Rattle.entry_parts.specs.Elements.{Element, elements_bytes}
 use Rattle.entry_parts.specs.declared.header.Header.{Header}
 use Rattle.cache_theory.proofs.Versions.{is_key}
-use Rattle.file_handles.proofs.creating.drafted.Goals as goal
+use Rattle.file_handles.proofs.create.drafted.Goals as goal
 
 pub overflow_cast-key : goal.overflow_cast-key
 overflow_cast-key g c = let short = (is_key c.args.key.now c.requires.good).short in omega (arith, short)

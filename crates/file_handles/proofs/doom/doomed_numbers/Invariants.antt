@@ -1,7 +1,7 @@
 use Rattle.std.proofs.Common.{◌≡◌, ◌≤◌, take, length}
 use Rattle.cache_base.specs.declared.limits.TheConstants.{SLOTS}
 use Rattle.file_handles.specs.Dooming.{numbers_in}
-use Rattle.file_handles.proofs.dooming.doomed_numbers.Given as goal
+use Rattle.file_handles.proofs.doom.doomed_numbers.Given as goal
 
 -- the numbers of the objects so far
 abbrev pub invariant-loop-object : goal.invariant-loop-object

@@ -2,8 +2,8 @@ use Rattle.std.proofs.Common.{◌≡◌, ◌+◌, ◌<◌, ℕ, List, [], ◌∷
 use Rattle.std.proofs.lemmas.List.{take_more_set}
 use Rattle.file_handles.specs.Dooming.{number_in}
 use Rattle.file_handles.proofs.DoomedNumbers.{numbers_more, numbers_same}
-use Rattle.file_handles.proofs.dooming.doomed_numbers.Goals as goal
-use Rattle.file_handles.proofs.dooming.doomed_numbers.Goals.{in-Some+in-Some-doomed+then-count-lt-SLOTS, in-Some+in-Some-doomed+else-count-lt-SLOTS, in-Some+in_default-doomed, in_default}
+use Rattle.file_handles.proofs.doom.doomed_numbers.Goals as goal
+use Rattle.file_handles.proofs.doom.doomed_numbers.Goals.{in-Some+in-Some-doomed+then-count-lt-SLOTS, in-Some+in-Some-doomed+else-count-lt-SLOTS, in-Some+in_default-doomed, in_default}
 
 -- the front of an array is as before where array and count are
 same_front : (numbers numbers' : List ℕ) (count count' : ℕ) → count' ≡ count → numbers' ≡ numbers → take count' numbers' ≡ take count numbers

@@ -1,11 +1,10 @@
-//! An entry that its writer finishes.
+//! Finishes an entry: its file becomes whole.
 
-ghost use Rattle.std.specs.Prelude.{◌≡◌, ◌<◌, IfErr, IfOk, IfSome, IsErrOf, IsSomeAnd, IsTrue, None, OnOk, true};
-ghost use Rattle.cache_base.specs.Causes.{HasCause};
+ghost use Rattle.std.specs.Prelude.{◌≡◌, ◌<◌, IfErr, IfOk, IsSomeAnd, IsTrue, None, OnOk, true};
 ghost use Rattle.cache_base.specs.declared.limits.TheConstants.{SLOTS};
 ghost use Rattle.cache_theory.specs.Command.Command.{Finish};
-ghost use Rattle.disk_model.specs.Calls.{StopsAtFault};
-ghost use Rattle.file_handles.specs.Answers.{OnRefused, done_or};
+ghost use Rattle.disk_model.specs.Account.{Accounts};
+ghost use Rattle.file_handles.specs.Answers.{OnRefused, done_or, ending};
 ghost use Rattle.file_handles.specs.Effects.{HasEffect, wrote_effect, wrote_where};
 ghost use Rattle.file_handles.specs.Held.{is_draft};
 
@@ -29,18 +28,20 @@ impl Object {
 }
 
 impl Handles {
+    ghost use Rattle.file_handles.specs.Cache.{cache};
     ghost use Rattle.file_handles.specs.Carries.{CarriesOut};
     ghost use Rattle.file_handles.specs.Changes.{ChangesThere, IsFiledAt, completed};
     ghost use Rattle.file_handles.specs.Kept.{kept, object_at as object_kept_at, object_in};
-    ghost use Rattle.file_handles.specs.Refuses.{HasAt, Passes, Refuses};
-    ghost use Rattle.file_handles.specs.Stands.{StandsSomehow};
+    ghost use Rattle.file_handles.specs.Refuses.{Passes, Refuses, UsesObject};
+    ghost use Rattle.file_handles.specs.Stands.{RepresentsSome};
 
     // The place of the draft that a slot may finish.
     fn may_finish(&self, slot: u8) -> Result<usize, Refusal>
         requires { slot < SLOTS }
         ensures refused { IfErr result (λ r. Refuses (kept self.now) (Finish slot) r) }
         ensures passes { OnOk result (Passes (kept self.now) (Finish slot)) }
-        ensures object { IfOk result (λ place. IsSomeAnd (object_kept_at (kept self.now) place) (λ x. HasAt (kept self.now) slot place x × (is_draft x.entry ≡ true))) }
+        ensures object { IfOk result (λ place.
+            UsesObject (kept self.now) slot place (λ x. is_draft x.entry ≡ true)) }
     {
         let used = self.writing(slot)?;
         match self.object_at(used.place)?.entry {
@@ -49,7 +50,7 @@ impl Handles {
         }
     }
 
-    /// Finishes the draft at a place: its file becomes whole, by one call of the disk.
+    /// Finishes the draft at a place. Its file becomes whole by one call of the disk.
     pub(crate) fn finish_at<D: Disk>(
         &mut self,
         alloc: Global,
@@ -57,16 +58,17 @@ impl Handles {
         place: usize,
     ) -> Result<Effect, HandleFault>
         requires place { place < SLOTS }
-        requires draft { IfSome (object_kept_at (kept self.old) place) (λ x. is_draft x.entry ≡ true) }
-        requires told { IsTrue D.tells → IsFiledAt (D.state disk.old) (kept self.old) place }
-        ensures changes { IsTrue D.tells → ChangesThere place completed result (D.state disk.old) (D.state disk.new) (kept self.old) (kept self.new) }
-        ensures effect { IfOk result (λ effect. effect ≡ wrote_where (λ x. true) (object_kept_at (kept self.old) place)) }
-        ensures refused { OnRefused result (λ _. object_kept_at (kept self.old) place ≡ None) }
-        ensures went_on { OnOk result (IsTrue D.tells → (D.counts disk.new).failed ≡ (D.counts disk.old).failed) }
-        ensures stops { IsTrue D.tells → StopsAtFault (D.counts disk.old) (D.counts disk.new) }
-        ensures cause { HasCause (IsErrOf result HandleFault.Disk) (D.faults disk.old) (D.faults disk.new) }
+        requires draft { IsSomeAnd (object_kept_at (kept self.old) place)
+            (λ x. is_draft x.entry ≡ true) }
+        requires told { IsTrue D.tells → IsFiledAt (cache D.Disk self.old disk.old) place }
+        ensures changes { let at = cache D.Disk in IsTrue D.tells →
+            ChangesThere place completed result (at self.old disk.old) (at self.new disk.new) }
+        ensures effect { IfOk result (λ effect.
+            effect ≡ wrote_where (λ x. true) (object_kept_at (kept self.old) place)) }
+        ensures refused { OnRefused result (λ _. ⊥) }
+        ensures account { Accounts D.Disk (ending result) disk.old disk.new }
     {
-        let object = self.take(place)?;
+        let object = self.take(place);
         let file = object.file_place();
         let effect = object.wrote();
         let Object {
@@ -75,7 +77,7 @@ impl Handles {
             entry,
         } = object;
         let Entry::Draft(draft) = entry else {
-            return Err(HandleFault::Memory);
+            unreachable!();
         };
         // No body is longer, so that its block is small.
         if draft.body.len() as usize > BODY_MAX {
@@ -100,7 +102,7 @@ impl Handles {
         Ok(effect)
     }
 
-    /// Finishes the entry of a slot: its file becomes whole, by one call of the disk.
+    /// Finishes the entry of a slot. Its file becomes whole by one call of the disk.
     pub fn finish<D: Disk>(
         &mut self,
         alloc: Global,
@@ -108,14 +110,13 @@ impl Handles {
         slot: u8,
     ) -> Result<Effect, HandleFault>
         requires slot { slot < SLOTS }
-        requires told { IsTrue D.tells → StandsSomehow (D.state disk.old) (kept self.old) }
-        ensures carried { IsTrue D.tells → CarriesOut (Finish slot) (done_or result) (D.state disk.old) (D.state disk.new) (kept self.old) (kept self.new) }
+        requires told { IsTrue D.tells → RepresentsSome (cache D.Disk self.old disk.old) }
+        ensures carried { let at = cache D.Disk in IsTrue D.tells →
+            CarriesOut (Finish slot) (done_or result)
+            (at self.old disk.old) (at self.new disk.new) }
         ensures effect { IfOk result (HasEffect (kept self.old) (Finish slot)) }
-        ensures went_on { OnOk result (IsTrue D.tells → (D.counts disk.new).failed ≡ (D.counts disk.old).failed) }
         ensures unchanged { OnRefused result (λ _. disk.new ≡ disk.old) }
-        ensures refused_on { OnRefused result (λ _. IsTrue D.tells → (D.counts disk.new).failed ≡ (D.counts disk.old).failed) }
-        ensures stops { IsTrue D.tells → StopsAtFault (D.counts disk.old) (D.counts disk.new) }
-        ensures cause { HasCause (IsErrOf result HandleFault.Disk) (D.faults disk.old) (D.faults disk.new) }
+        ensures account { Accounts D.Disk (ending result) disk.old disk.new }
     {
         let place = self.may_finish(slot)?;
         self.finish_at(alloc, disk, place)

@@ -1,14 +1,14 @@
-//! An entry that a slot reads.
+//! Opens the entry of a key, which a slot reads.
 
-ghost use Rattle.std.specs.Prelude.{ℕ, ◌≡◌, ◌<◌, IsErrOf, IsSome, IsTrue, None, Some};
-ghost use Rattle.cache_base.specs.Causes.{HasCause};
+ghost use Rattle.std.specs.Prelude.{ℕ, ◌≡◌, ◌<◌, IsSome, IsTrue, None, Some};
 ghost use Rattle.cache_base.specs.declared.limits.TheConstants.{SLOTS};
 ghost use Rattle.cache_theory.specs.Command.Command.{OpenKey};
 ghost use Rattle.cache_theory.specs.Machine.{Machine, used_by};
 ghost use Rattle.cache_theory.specs.Proper.{IsProper};
-ghost use Rattle.file_handles.specs.Answers.{done_or};
+ghost use Rattle.disk_model.specs.Account.{Looks};
+ghost use Rattle.file_handles.specs.Answers.{done_or, ending};
 
-use crate::finding::load;
+use crate::find::load;
 use crate::object::{Entry, Object, Use};
 use crate::{HandleFault, Handles};
 use cache_theory::Refusal;
@@ -18,10 +18,11 @@ use entry_name::name_of;
 use std::alloc::Global;
 
 impl Handles {
+    ghost use Rattle.file_handles.specs.Cache.{cache};
     ghost use Rattle.file_handles.specs.Carries.{CarriesOut};
     ghost use Rattle.file_handles.specs.Joining.{AddsTo, JoinsAt};
     ghost use Rattle.file_handles.specs.Kept.{kept};
-    ghost use Rattle.file_handles.specs.Stands.{HandlesStand, StandsSomehow};
+    ghost use Rattle.file_handles.specs.Stands.{HandlesStand, RepresentsSome};
 
     /// Makes a slot a user of the object at a place.
     pub(crate) fn join(&mut self, slot: u8, place: usize, writes: bool)
@@ -45,8 +46,8 @@ impl Handles {
         Ok(())
     }
 
-    /// Makes a slot a reader of the entry of a key. An entry that is in use is joined as it is; else every chunk of its
-    /// file is held against its hash.
+    /// Makes a slot a reader of the entry of a key. An entry that is in use is joined as it is; otherwise every chunk of
+    /// its file is checked against its hash.
     pub fn open<D: Disk>(
         &mut self,
         alloc: Global,
@@ -55,12 +56,14 @@ impl Handles {
         key: &[u8],
     ) -> Result<(), HandleFault>
         requires slot { slot < SLOTS }
-        requires told { IsTrue D.tells → StandsSomehow (D.state disk.old) (kept self.old) }
-        ensures carried { IsTrue D.tells → CarriesOut (OpenKey slot key.now) (done_or result) (D.state disk.old) (D.state disk.new) (kept self.old) (kept self.new) }
-        ensures in_use { (m : Machine) (number : ℕ → ℕ) → IsProper m → HandlesStand (kept self.old) m number → IsSome (used_by m key.now) → disk.new ≡ disk.old }
-        ensures state { IsTrue D.tells → D.state disk.new ≡ D.state disk.old }
-        ensures no_change { IsTrue D.tells → (D.counts disk.new).failed ≡ (D.counts disk.old).failed }
-        ensures cause { HasCause (IsErrOf result HandleFault.Disk) (D.faults disk.old) (D.faults disk.new) }
+        requires told { IsTrue D.tells → RepresentsSome (cache D.Disk self.old disk.old) }
+        ensures carried { let at = cache D.Disk in IsTrue D.tells →
+            CarriesOut (OpenKey slot key.now) (done_or result)
+            (at self.old disk.old) (at self.new disk.new) }
+        ensures in_use { (m : Machine) (number : ℕ → ℕ) → IsProper m →
+            HandlesStand (kept self.old) m number → IsSome (used_by m key.now) →
+            disk.new ≡ disk.old }
+        ensures looks { Looks D.Disk (ending result) disk.old disk.new }
     {
         if self.use_of(slot).is_ok() {
             return Err(HandleFault::Refused(Refusal::SlotTaken));

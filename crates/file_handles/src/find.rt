@@ -1,14 +1,14 @@
-//! What stands under a key, and whether it is in use.
+//! Finds the entry of a key, and whether it is in use.
 
-ghost use Rattle.std.specs.Prelude.{◌≡◌, false, IfOk, IsErrOf, IsTrue};
-ghost use Rattle.cache_base.specs.Causes.{HasCause};
+ghost use Rattle.std.specs.Prelude.{◌≡◌, false, IfOk, IsTrue};
 ghost use Rattle.cache_theory.specs.Machine.{is_entry};
 ghost use Rattle.cache_theory.specs.declared.refusal.Refusal.TheVariants as refused;
+ghost use Rattle.disk_model.specs.Account.{Looks};
 ghost use Rattle.disk_model.specs.State.{standing};
 ghost use Rattle.disk_model.specs.declared.place.Place.TheVariants.{Entry as EntryAt};
 ghost use Rattle.entry_file.specs.EntryFile.{read_for};
 ghost use Rattle.entry_name.specs.EntryName.{file_name};
-ghost use Rattle.file_handles.specs.Answers.{OnRefused};
+ghost use Rattle.file_handles.specs.Answers.{OnRefused, ending};
 ghost use Rattle.file_handles.specs.Loading.{IsMetaFor, LoadsAs};
 
 use crate::object::Entry;
@@ -30,11 +30,12 @@ pub(crate) fn look<D: Disk>(
     name: &Name,
 ) -> Result<Meta, HandleFault>
     requires { name.now.0 ≡ file_name key.now }
-    ensures found { IfOk result (λ meta. IsTrue D.tells → IsMetaFor key.now (standing (D.state disk.old) (EntryAt name.now)) meta) }
-    ensures refused { OnRefused result (λ r. (r ≡ refused.Absent) × (IsTrue D.tells → is_entry (read_for key.now (standing (D.state disk.old) (EntryAt name.now))) ≡ false)) }
-    ensures state { IsTrue D.tells → D.state disk.new ≡ D.state disk.old }
-    ensures no_change { IsTrue D.tells → (D.counts disk.new).failed ≡ (D.counts disk.old).failed }
-    ensures cause { HasCause (IsErrOf result HandleFault.Disk) (D.faults disk.old) (D.faults disk.new) }
+    ensures found { let file = standing (D.state disk.old) (EntryAt name.now) in
+        IfOk result (λ meta. IsTrue D.tells → IsMetaFor key.now file meta) }
+    ensures refused { let file = standing (D.state disk.old) (EntryAt name.now) in
+        OnRefused result (λ r. (r ≡ refused.Absent)
+        × (IsTrue D.tells → is_entry (read_for key.now file) ≡ false)) }
+    ensures looks { Looks D.Disk (ending result) disk.old disk.new }
 {
     match read_meta(alloc, disk, &Place::Entry(*name), name)? {
         EntryRead::Fits { meta, .. } if meta.key.as_slice() == key => Ok(meta),
@@ -42,7 +43,7 @@ pub(crate) fn look<D: Disk>(
     }
 }
 
-/// The metadata of the file of a key, every chunk of which is held against its hash.
+/// The metadata of the file of a key, every chunk of which is checked against its hash.
 pub(crate) fn load<D: Disk>(
     alloc: Global,
     disk: &mut D,
@@ -51,10 +52,9 @@ pub(crate) fn load<D: Disk>(
     chunk: &mut Buffer,
 ) -> Result<Meta, HandleFault>
     requires { name.now.0 ≡ file_name key.now }
-    ensures loads { IsTrue D.tells → LoadsAs (read_for key.now (standing (D.state disk.old) (EntryAt name.now))) result }
-    ensures state { IsTrue D.tells → D.state disk.new ≡ D.state disk.old }
-    ensures no_change { IsTrue D.tells → (D.counts disk.new).failed ≡ (D.counts disk.old).failed }
-    ensures cause { HasCause (IsErrOf result HandleFault.Disk) (D.faults disk.old) (D.faults disk.new) }
+    ensures loads { let file = standing (D.state disk.old) (EntryAt name.now) in
+        IsTrue D.tells → LoadsAs (read_for key.now file) result }
+    ensures looks { Looks D.Disk (ending result) disk.old disk.new }
 {
     let meta = look(alloc, disk, key, name)?;
     match check_body(disk, &Place::Entry(*name), &meta, chunk)? {
@@ -64,10 +64,11 @@ pub(crate) fn load<D: Disk>(
 }
 
 impl Handles {
+    ghost use Rattle.file_handles.specs.Cache.{cache};
     ghost use Rattle.file_handles.specs.Found.{Finds};
     ghost use Rattle.file_handles.specs.Kept.{kept};
     ghost use Rattle.file_handles.specs.Loading.{is_writing as is_writing_in, used_place};
-    ghost use Rattle.file_handles.specs.Stands.{StandsSomehow};
+    ghost use Rattle.file_handles.specs.Stands.{RepresentsSome};
 
     /// The place of the undoomed object in use that has this key, whose name is given.
     pub(crate) fn used_by(&self, name: &Name, key: &[u8]) -> Option<usize>
@@ -93,7 +94,7 @@ impl Handles {
         }
     }
 
-    /// The metadata of the finished entry of a key, every chunk of which is held against its hash. Its file stands under
+    /// The metadata of the finished entry of a key, every chunk of which is checked against its hash. Its file stands under
     /// its name.
     pub fn find<D: Disk>(
         &mut self,
@@ -101,12 +102,10 @@ impl Handles {
         disk: &mut D,
         key: &[u8],
     ) -> Result<Meta, HandleFault>
-        requires told { IsTrue D.tells → StandsSomehow (D.state disk.old) (kept self.old) }
-        ensures finds { IsTrue D.tells → Finds key.now result (D.state disk.old) (kept self.old) }
+        requires told { IsTrue D.tells → RepresentsSome (cache D.Disk self.old disk.old) }
+        ensures finds { IsTrue D.tells → Finds key.now result (cache D.Disk self.old disk.old) }
         ensures kept { kept self.new ≡ kept self.old }
-        ensures state { IsTrue D.tells → D.state disk.new ≡ D.state disk.old }
-        ensures no_change { IsTrue D.tells → (D.counts disk.new).failed ≡ (D.counts disk.old).failed }
-        ensures cause { HasCause (IsErrOf result HandleFault.Disk) (D.faults disk.old) (D.faults disk.new) }
+        ensures looks { Looks D.Disk (ending result) disk.old disk.new }
     {
         if !may_write(key) {
             return Err(HandleFault::Refused(Refusal::BadKey));
