@@ -3,11 +3,11 @@
 #![tactic(auto)]
 
 mod answered;
+mod command;
 mod fault;
-mod getting;
+mod get;
 mod pending;
-mod performing;
-mod reading;
+mod read;
 mod replies;
 mod store;
 

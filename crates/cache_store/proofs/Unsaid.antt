@@ -1,19 +1,28 @@
 -- An answer of which nothing is said yet.
-use Rattle.std.proofs.Common.{◌≡◌, ◌≢◌, ◌∙◌, ℕ, ◌<◌, List, [], ◌∷◌, ◌++◌, length, take, Option, Some, None, Result, Ok, Err, refl, sym, ap, subst, arith}
+use Rattle.std.proofs.Common.{◌≡◌, ◌≢◌, ◌∙◌, ℕ, ◌<◌, List, [], ◌∷◌, ◌++◌, length, Option, Result, Ok, Err, refl, sym, ap, subst, arith}
 use Rattle.std.specs.Prelude.{IfErr, IfSome, OnOk, codes, decimal, ⊤}
-use Rattle.std.specs.Io.KnownBytes.{Appends}
+use Rattle.std.proofs.KnownBytes.{Appends-nil}
 use Rattle.cache_theory.specs.Command.{Reply}
+use Rattle.cache_theory.specs.Command.Command.{Get}
 use Rattle.cache_theory.specs.Command.Reply.{Done, Refused, NoneThere, Value, Part, Found}
+use Rattle.cache_theory.specs.Machine.{Machine}
+use Rattle.cache_theory.specs.Step.{step}
 use Rattle.cache_theory.specs.Text.{line, refusal_words, reply_text, spaced}
 use Rattle.cache_theory.specs.declared.refusal.Refusal.{Refusal}
+use Rattle.disk_model.specs.State.{State}
 use Rattle.entry_parts.specs.Elements.{elements_bytes}
+use Rattle.file_handles.specs.Answers.{reply_in}
+use Rattle.file_handles.specs.Found.{FindsIn}
+use Rattle.file_handles.specs.declared.fault.HandleFault.{HandleFault}
+use Rattle.file_handles.specs.declared.fault.HandleFault.TheVariants as handle
 use Rattle.cache_store.specs.Answering.{AnswersTo, SaysOf, outcome_of, rest_of}
 use Rattle.cache_store.specs.Replied.{replied}
-use Rattle.cache_store.specs.Said.{IsCut, Said}
+use Rattle.cache_store.specs.Said.{IsCut, Saying}
 use Rattle.cache_store.specs.declared.answered.Answered.{Answered}
 use Rattle.cache_store.specs.declared.answered.Answered.TheVariants as answered
 use Rattle.cache_store.specs.declared.fault.StoreFault.{StoreFault}
 use Rattle.cache_store.specs.declared.fault.StoreFault.TheVariants as fault
+use Rattle.cache_store.proofs.SayingLaws.{said_nothing}
 
 -- nothing of it is said yet
 abbrev pub IsUnsaid : Result Answered StoreFault → Type 0
@@ -34,16 +43,7 @@ unsaid_by (Err fault.Disk) not_said no_sink = tt
 unsaid_by (Err fault.Memory) not_said no_sink = tt
 unsaid_by (Err fault.Sink) not_said no_sink = no_sink refl
 
-append_none : (xs : List ℕ) → xs ++ [] ≡ xs
-append_none [] = refl
-append_none (x ∷ xs) = ap (λ ys. x ∷ ys) (append_none xs)
-
--- nothing went out
-appends_none : (o : Option (List ℕ)) → Appends o o []
-appends_none None = tt
-appends_none (Some xs) = sym (append_none xs)
-
--- a text is no shorter for what comes behind it
+-- a text is no shorter for what comes after it
 more_long : (xs ys : List ℕ) → 0 < length xs → 0 < length (xs ++ ys)
 more_long [] ys lt = absurd (omega (arith, lt))
 more_long (x ∷ xs) ys lt = omega arith
@@ -71,10 +71,10 @@ text_long (Found v) =
 
 -- so a reply of which nothing went out is cut
 pub none_cut : (r : Reply) (o : Option (List ℕ)) → IsCut o o (reply_text r)
-none_cut r o = (0, (text_long r, appends_none o))
+none_cut r o = (0, (text_long r, Appends-nil o))
 
-said_none : (o : Option (List ℕ)) (text : List ℕ) (rest : List ℕ) → rest ≡ text → SaysOf text rest o o []
-said_none o text rest is = record { front = []; said = record { front = []; out = appends_none o; is = refl }; whole = is }
+said_none : (now : Saying) → now.held ≡ [] → (text rest : List ℕ) → rest ≡ text → SaysOf text rest now.taken now
+said_none now none text rest is = record { front = []; said = said_nothing now none; whole = is }
 
 rest_refused : (q : Refusal) → rest_of (answered.Refused q) ≡ reply_text (Refused q)
 unfolding reply_text
@@ -89,12 +89,12 @@ unfolding reply_text
 rest_none = refl
 
 -- it answers to its reply
-pub unsaid_answers : (answer : Result Answered StoreFault) → IsUnsaid answer → (r : Reply) → IfSome (replied answer) (λ q. q ≡ r) → (o : Option (List ℕ)) → AnswersTo r answer o o []
-unsaid_answers (Ok answered.Done) unsaid r is o = record { says = said_none o (reply_text r) _ (rest_done ∙ ap reply_text is); outcome = ap outcome_of is; cut = tt }
-unsaid_answers (Ok answered.All) unsaid r is o = absurd unsaid
-unsaid_answers (Ok answered.NoneThere) unsaid r is o = record { says = said_none o (reply_text r) _ (rest_none ∙ ap reply_text is); outcome = ap outcome_of is; cut = tt }
-unsaid_answers (Ok (answered.Refused q)) unsaid r is o = record { says = said_none o (reply_text r) _ (rest_refused q ∙ ap reply_text is); outcome = ap outcome_of is; cut = tt }
-unsaid_answers (Err f) unsaid r is o = record { says = tt; outcome = tt; cut = none_cut r o }
+pub unsaid_answers : (answer : Result Answered StoreFault) → IsUnsaid answer → (r : Reply) → IfSome (replied answer) (λ q. q ≡ r) → (now : Saying) → now.held ≡ [] → AnswersTo r answer now.taken now
+unsaid_answers (Ok answered.Done) unsaid r is now none = record { says = said_none now none (reply_text r) _ (rest_done ∙ ap reply_text is); outcome = ap outcome_of is; cut = tt }
+unsaid_answers (Ok answered.All) unsaid r is now none = absurd unsaid
+unsaid_answers (Ok answered.NoneThere) unsaid r is now none = record { says = said_none now none (reply_text r) _ (rest_none ∙ ap reply_text is); outcome = ap outcome_of is; cut = tt }
+unsaid_answers (Ok (answered.Refused q)) unsaid r is now none = record { says = said_none now none (reply_text r) _ (rest_refused q ∙ ap reply_text is); outcome = ap outcome_of is; cut = tt }
+unsaid_answers (Err f) unsaid r is now none = record { says = tt; outcome = tt; cut = none_cut r now.taken }
 
 -- what holds of its reply holds after it
 pub unsaid_next : (answer : Result Answered StoreFault) → IsUnsaid answer → (P : Type 0) → IfSome (replied answer) (λ q. P) → OnOk answer P
@@ -110,3 +110,10 @@ unsaid_effect (Ok a) unsaid P = tt
 unsaid_effect (Err fault.Disk) unsaid P = λ same. absurd (cc)
 unsaid_effect (Err fault.Memory) unsaid P = λ same. absurd (cc)
 unsaid_effect (Err fault.Sink) unsaid P = absurd unsaid
+
+-- what the machine replies where the handles find nothing
+pub finds_reply : (key : List ℕ) (f : HandleFault) (s : State) (m : Machine) → FindsIn key (Err f) s m → (answer : Result Answered StoreFault) → replied answer ≡ reply_in f
+    → IfSome (replied answer) (λ q. q ≡ (step m (Get key)).reply)
+finds_reply key (handle.Refused r) s m finds answer is = subst (λ (o : Option Reply). IfSome o (λ q. q ≡ (step m (Get key)).reply)) (sym is) (sym (finds.none r refl))
+finds_reply key handle.Disk s m finds answer is = subst (λ (o : Option Reply). IfSome o (λ q. q ≡ (step m (Get key)).reply)) (sym is) tt
+finds_reply key handle.Memory s m finds answer is = subst (λ (o : Option Reply). IfSome o (λ q. q ≡ (step m (Get key)).reply)) (sym is) tt
