@@ -46,18 +46,21 @@ pub record SaysOf (text rest : List ℕ) (before : Option (List ℕ)) (now : Say
   pub whole : front ++ rest ≡ text
 
 -- this is the reply, as far as it was said, or it was cut
-pub record AnswersTo (r : Reply) (answer : Result Answered StoreFault) (before : Option (List ℕ)) (now : Saying) : Type 0 where
+pub record AnswersTo (r : Reply) (answer : Result Answered StoreFault)
+    (before : Option (List ℕ)) (now : Saying) : Type 0 where
   pub says : IfOk answer (λ a. SaysOf (reply_text r) (rest_of a) before now)
   pub outcome : IfOk answer (λ a. outcome_in a ≡ outcome_of r)
   pub cut : OnErr answer (IsCut before now.taken (reply_text r))
 
 -- it is the machine's reply to the command, whatever machine the cache stands for
-abbrev pub AnswersFor : Cache → Command → Result Answered StoreFault → Option (List ℕ) → Saying → Type 0
+abbrev pub AnswersFor : Cache → Command → Result Answered StoreFault
+    → Option (List ℕ) → Saying → Type 0
 AnswersFor at c answer before now =
     (m : Machine) → Represents at m → AnswersTo (step m c).reply answer before now
 
 -- so it is over any disk
-abbrev pub AnswersOver : Kept → Command → Result Answered StoreFault → Option (List ℕ) → Saying → Type 0
+abbrev pub AnswersOver : Kept → Command → Result Answered StoreFault
+    → Option (List ℕ) → Saying → Type 0
 AnswersOver handles c answer before now =
     (s : State) → AnswersFor (cache_at handles s) c answer before now
 

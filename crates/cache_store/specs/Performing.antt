@@ -18,7 +18,8 @@ use Rattle.cache_theory.specs.Text.{reply_text}
 use Rattle.disk_model.specs.State.{State}
 
 -- for a machine: what the whole command comes to
-pub record Performs (c : Command) (m : Machine) (answer : Result Outcome StoreFault) (after : Session) (before now : Option (List ℕ)) : Type 0 where
+pub record Performs (c : Command) (m : Machine) (answer : Result Outcome StoreFault)
+    (after : Session) (before now : Option (List ℕ)) : Type 0 where
   -- with an answer the reply is out, it is the machine's, and the store stands for the machine's next state
   pub printed : OnOk answer (Appends before now (reply_text (step m c).reply))
   pub outcome : IfOk answer (λ o. o ≡ outcome_of (step m c).reply)
@@ -28,7 +29,8 @@ pub record Performs (c : Command) (m : Machine) (answer : Result Outcome StoreFa
   pub effect : IfErr answer (λ f. f ≡ fault.Sink → Represents after (step m c).next)
 
 -- for a history: what the disk keeps
-pub record Keeps (c : Command) (h : History) (answer : Result Outcome StoreFault) (after : Session) : Type 0 where
+pub record Keeps (c : Command) (h : History) (answer : Result Outcome StoreFault)
+    (after : Session) : Type 0 where
   -- at every exit a crash may lose no more than the marks allow
   pub safe : IsSafe after.disk (begun c h).marks
   pub next : OnOk answer (KeepsTo after (acked c h))
@@ -38,7 +40,8 @@ pub record Keeps (c : Command) (h : History) (answer : Result Outcome StoreFault
   pub unanswered : IfErr answer (λ f. f ≡ fault.Sink → KeepsTo after (left_unanswered c h))
 
 -- whatever machine the store stands for, and whatever history the disk keeps to
-pub record PerformsFor (c : Command) (answer : Result Outcome StoreFault) (before after : Session) (taken now : Option (List ℕ)) : Type 0 where
+pub record PerformsFor (c : Command) (answer : Result Outcome StoreFault) (before after : Session)
+    (taken now : Option (List ℕ)) : Type 0 where
   pub answers : (m : Machine) → Represents before m → Performs c m answer after taken now
   pub crash : (h : History) → KeepsTo before h → Keeps c h answer after
 
@@ -55,12 +58,14 @@ PerformsSafely c answer before t =
     → IsCrashSafe t (begun c h).marks × (HadEffect answer → IsCrashSafe t (acked c h).marks)
 
 -- for a history: what the command does before its reply is out whole, with and without a crash
-pub record Does (crash : Bool) (c : Command) (h : History) (answer : Result Answered StoreFault) (after : Session) (before : Option (List ℕ)) (now : Saying) : Type 0 where
+pub record Does (crash : Bool) (c : Command) (h : History) (answer : Result Answered StoreFault)
+    (after : Session) (before : Option (List ℕ)) (now : Saying) : Type 0 where
   pub safe : IsTrue crash → IsSafe after.disk (begun c h).marks
   pub answers : AnswersTo (step h.machine c).reply answer before now
   pub next : OnOk answer (KeepsWhere crash after (acked c h))
   pub effect : IfErr answer (λ f. f ≡ fault.Sink → KeepsWhere crash after (acked c h))
 
-abbrev pub DoesFor : Command → Result Answered StoreFault → Session → Session → Option (List ℕ) → Saying → Type 0
+abbrev pub DoesFor : Command → Result Answered StoreFault → Session → Session
+    → Option (List ℕ) → Saying → Type 0
 DoesFor c answer before after taken now =
     (crash : Bool) (h : History) → KeepsWhere crash before h → Does crash c h answer after taken now

@@ -1,5 +1,5 @@
-//! A session of the cache: the store is opened at a moment, performs commands one after the other, each with its reply, and
-//! is closed.
+//! A session of the cache: the store is opened at a moment, performs commands one after the other, each with its
+//! reply, and is closed.
 #![tactic(auto)]
 
 mod answered;

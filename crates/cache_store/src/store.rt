@@ -13,7 +13,8 @@ use doom_area::clear;
 use file_handles::Handles;
 use std::alloc::Global;
 
-/// A cache that is open. It is closed by `close`; after a fault of the disk, or once memory ran out, it may only be dropped.
+/// A cache that is open. It is closed by `close`; after a fault of the disk, or once memory ran out, it may only be
+/// dropped.
 #[derive(Drop)]
 pub struct Store {
     pub(crate) handles: Handles,
@@ -29,8 +30,8 @@ impl Store {
     ghost use Rattle.cache_store.specs.Open.{Closes, ClosesSafely, HasShelf, IsOpen, KeepsFound, Opens, OpensSafely};
     ghost use Rattle.cache_store.specs.Session.{session};
 
-    /// Opens the cache at this moment: the files of doomed entries that an earlier run left are removed, and what stands
-    /// is made durable. That counts as a flush.
+    /// Opens the cache at this moment: the files of doomed entries that an earlier run left are removed, and what
+    /// stands is synced. That counts as a flush.
     pub fn open<D: Disk>(alloc: Global, disk: &mut D, now: Moment) -> Result<Store, StoreFault>
         ensures safe { Told D.Disk (OpensSafely now) disk.old disk.new }
         ensures shelf { IsTrue D.tells → HasShelf (D.state disk.old) }
@@ -55,8 +56,8 @@ impl Store {
         })
     }
 
-    /// Closes the cache: all slots are given up, what is not finished and what is doomed leaves no file, and nothing is
-    /// pending on the disk.
+    /// Closes the cache: all slots are given up, what is not finished and what is doomed leaves no file, and nothing
+    /// is pending on the disk.
     pub fn close<D: Disk>(self, disk: &mut D) -> Result<(), StoreFault>
         requires told { IsTrue D.tells → IsOpen (session D.Disk self disk.old) }
         ensures closes { IsTrue D.tells →
