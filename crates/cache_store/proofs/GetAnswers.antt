@@ -1,6 +1,5 @@
 -- The answer to a `get` that finds an entry.
 use Rattle.std.proofs.Common.{◌≡◌, ◌≤◌, ◌++◌, ◌∙◌, ◌∷◌, [], ℕ, List, Ok, Err, Some, Result, IsErrAnd, length, take, sym, ap, subst, arith, length-append}
-use Rattle.std.specs.declared.option.Option.{Option}
 use Rattle.std.proofs.lemmas.List.{append-nil, append_assoc}
 use Rattle.std.proofs.Math.Seq.{take-append_seam}
 use Rattle.cache_base.specs.Bytes.{be32}

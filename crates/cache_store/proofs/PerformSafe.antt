@@ -1,5 +1,5 @@
 -- What a crash may lose after a command, and when the store is open then.
-use Rattle.std.proofs.Common.{◌≡◌, List, ℕ, Option, Result, Ok, Err, refl}
+use Rattle.std.proofs.Common.{List, ℕ, Option, Result, Ok, Err, refl}
 use Rattle.cache_theory.specs.Command.{Command}
 use Rattle.cache_theory.specs.History.{acked, begun}
 use Rattle.cache_theory.specs.Step.{step}

@@ -1,13 +1,13 @@
 -- What the handles and the disk represent, where the moment is set and where the disk is synced.
-use Rattle.std.proofs.Common.{◌≡◌, ◌∙◌, ℕ, ◌<◌, List, [], length, Bool, true, false, Option, Some, None, refl, sym, ap, subst, arith}
+use Rattle.std.proofs.Common.{◌≡◌, ◌∙◌, ℕ, List, Bool, false, Option, Some, refl, sym, ap, arith}
 use Rattle.std.specs.Prelude.{option_map, slice_get, unwrap_or}
-use Rattle.cache_theory.specs.Crash.{IsCrashKept, WasUnder}
-use Rattle.cache_theory.specs.Ever.{EverAt, IsFiledOnce, entries, entry_place}
+use Rattle.cache_theory.specs.Crash.{IsCrashKept}
+use Rattle.cache_theory.specs.Ever.{EverAt, entries, entry_place}
 use Rattle.cache_theory.specs.History.{History, settled_at}
-use Rattle.cache_theory.specs.Machine.{Machine, Object as MachineObject, object}
+use Rattle.cache_theory.specs.Machine.{Machine, Object as MachineObject}
 use Rattle.cache_theory.specs.Marks.{Marks, is_buried, marks_of}
 use Rattle.cache_theory.specs.Proper.{IsProper}
-use Rattle.cache_theory.specs.Stands.{DoomedStand, EntriesStand, IsHeldDoomed, entry_file}
+use Rattle.cache_theory.specs.Stands.{DoomedStand, IsHeldDoomed}
 use Rattle.cache_theory.specs.Table.{get}
 use Rattle.cache_theory.proofs.Crashes.{quiet_is_safe}
 use Rattle.cache_theory.proofs.EntryFiles.{entry_along, found_on_shelf}

@@ -14,7 +14,7 @@ use Rattle.cache_store.specs.Answering.{CutsRest, SendsRest, outcome_in, rest_of
 use Rattle.cache_store.specs.Open.{KeepsTo, Represents}
 use Rattle.cache_store.specs.Performing.{DoesFor, PerformsFor}
 use Rattle.cache_store.specs.Said.{Saying}
-use Rattle.cache_store.specs.Session.{Open, Session, cache_of}
+use Rattle.cache_store.specs.Session.{Open, Session}
 use Rattle.cache_store.specs.declared.answered.Answered.{Answered}
 use Rattle.cache_store.specs.declared.fault.Outcome.{Outcome}
 use Rattle.cache_store.specs.declared.fault.StoreFault.{StoreFault}

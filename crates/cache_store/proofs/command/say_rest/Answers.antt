@@ -1,4 +1,4 @@
-use Rattle.std.proofs.Common.{[], ◌∷◌, ◌++◌, ◌∙◌, List, ℕ, subst, sym}
+use Rattle.std.proofs.Common.{[], ◌∷◌, ◌∙◌, List, ℕ, subst, sym}
 use Rattle.cache_store.specs.Answering.{rest_of}
 use Rattle.cache_store.specs.Said.{saying}
 use Rattle.cache_store.specs.Saying.{CutsIn, SaysMore}

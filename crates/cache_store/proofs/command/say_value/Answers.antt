@@ -4,7 +4,7 @@ use Rattle.cache_store.specs.Said.{saying}
 use Rattle.cache_store.specs.Saying.{CutsIn, SaysMore}
 use Rattle.cache_store.specs.Texts.{counted_line}
 use Rattle.cache_store.proofs.SaidMore.{when_err}
-use Rattle.cache_store.proofs.SayingLaws.{cuts_first, cuts_front, cuts_then, says_then}
+use Rattle.cache_store.proofs.SayingLaws.{cuts_first, cuts_front, cuts_then}
 use Rattle.cache_store.proofs.command.say_value.Goals as goal
 
 pub returns-in_err-head-clause-cut : goal.returns-in_err-head-clause-cut

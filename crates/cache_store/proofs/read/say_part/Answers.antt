@@ -1,4 +1,4 @@
-use Rattle.std.proofs.Common.{◌∙◌, List, ℕ, ap, length, min, subst, sym, arith}
+use Rattle.std.proofs.Common.{List, ℕ, ap, length, subst, arith}
 use Rattle.cache_theory.specs.Machine.{object_of}
 use Rattle.file_handles.specs.Reading.{part_of_body}
 use Rattle.cache_store.specs.Said.{saying}

@@ -1,7 +1,6 @@
 use Rattle.std.proofs.Common.{◌≡◌, ◌∙◌, ◌+◌, List, ℕ, ap, drop, rules, take, subst, arith, length}
 use Rattle.cache_theory.specs.Machine.{object_of}
 use Rattle.file_handles.specs.Cache.{cache}
-use Rattle.file_handles.specs.Kept.{kept}
 use Rattle.cache_store.specs.Said.{saying}
 use Rattle.cache_store.specs.Saying.{SaysMore}
 use Rattle.cache_store.proofs.PartWhole.{all_is, part, represents_same, says_with_part, stops_in_part}

@@ -1,4 +1,3 @@
-use Rattle.std.proofs.Common.{List, ℕ}
 use Rattle.cache_store.specs.Answering.{rest_of}
 use Rattle.cache_store.specs.Said.{saying}
 use Rattle.cache_store.proofs.ReplyLaws.{rest_cut, rest_said}

@@ -1,4 +1,4 @@
-use Rattle.std.proofs.Common.{◌≡◌, List, ℕ, Bor, refl, subst, Ok}
+use Rattle.std.proofs.Common.{List, ℕ, Bor, refl, subst, Ok}
 use Rattle.std.specs.Prelude.{Option, option_map}
 use Rattle.cache_theory.specs.Command.Command.{ElementOf}
 use Rattle.cache_theory.specs.Command.Reply.{NoneThere, Refused, Value}

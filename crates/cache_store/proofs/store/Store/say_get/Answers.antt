@@ -1,5 +1,4 @@
-use Rattle.std.proofs.Common.{Result, subst, sym}
-use Rattle.std.specs.Prelude.{Option}
+use Rattle.std.proofs.Common.{Result}
 use Rattle.cache_store.specs.Answering.{AnswersTo}
 use Rattle.cache_store.specs.Said.{saying}
 use Rattle.cache_store.specs.declared.answered.Answered.{Answered}

@@ -1,4 +1,4 @@
-use Rattle.std.proofs.Common.{◌∙◌, Ok, Err, ap, subst, sym}
+use Rattle.std.proofs.Common.{◌∙◌, Ok, ap, subst, sym}
 use Rattle.std.specs.Prelude.{Option, Result}
 use Rattle.cache_theory.specs.Command.{Reply}
 use Rattle.cache_theory.specs.Command.Command.{UnsetElement}
