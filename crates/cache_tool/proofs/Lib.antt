@@ -1,4 +1,6 @@
-pub mod OneComes
+pub mod Begun
+pub mod Moments
+pub mod OneCommand
 pub mod PutEnds
 pub mod PutMachine
 pub mod PutPieces
@@ -13,3 +15,5 @@ pub mod ScriptRan
 pub mod ScriptReads
 pub mod ScriptRuns
 pub mod ScriptTells
+pub mod StatusLaws
+pub mod WordsTable

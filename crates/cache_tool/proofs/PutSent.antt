@@ -5,47 +5,46 @@ use Rattle.std.proofs.lemmas.Bool.{eqb-true}
 use Rattle.std.proofs.lemmas.List.{nil_from_length}
 use Rattle.std.proofs.lemmas.Result.{err_from_is_err_and}
 use Rattle.cache_base.specs.declared.limits.TheConstants.{BODY_MAX}
-use Rattle.cache_store.specs.Open.{Open, StandsFor}
+use Rattle.cache_store.specs.Open.{KeepsTo}
 use Rattle.cache_store.specs.Performing.{Keeps, Performs}
+use Rattle.cache_store.specs.Session.{Session}
 use Rattle.cache_store.specs.declared.fault.Outcome.{Outcome}
 use Rattle.cache_store.specs.declared.fault.Outcome.TheVariants as outcome
 use Rattle.cache_store.specs.declared.fault.StoreFault.{StoreFault}
 use Rattle.cache_theory.specs.Command.{Command}
 use Rattle.cache_theory.specs.Command.Command.{Append}
-use Rattle.cache_theory.specs.Machine.{Machine}
-use Rattle.cache_theory.specs.Marks.{Marks}
+use Rattle.cache_theory.specs.History.{History}
 use Rattle.cache_theory.specs.Step.{step}
 use Rattle.cache_theory.specs.Text.{reply_text}
-use Rattle.cache_tool.specs.PutWent.{PieceWent, Sends, Writes}
+use Rattle.cache_tool.specs.PutProgress.{IsSent, IsWriting, PieceIsSent}
 use Rattle.cache_tool.proofs.PutMachine.{piece_none, piece_over, piece_sent}
-use Rattle.disk_model.specs.State.{State}
 
 -- what went out to a sink that held nothing is what it holds
-pub sends_of : (c : Command) (m : Machine) (w : Marks) (answer : Result Outcome StoreFault) (t : State) (o : Open) (before said : List ℕ) → before ≡ []
-    → Performs c m answer t o (Some before) (Some said) → Keeps c m w answer t o → Sends c m w answer t o said
-sends_of c m w answer t o before said none p kept = record { safe = kept.safe; next = kept.next; outcome = p.outcome; replied = held answer p.printed }
+pub sends_of : (c : Command) (h : History) (answer : Result Outcome StoreFault) (now : Session) (before said : List ℕ) → before ≡ []
+    → Performs c h.machine answer now (Some before) (Some said) → Keeps c h answer now → IsSent c h answer now said
+sends_of c h answer now before said none p kept = record { safe = kept.safe; next = kept.next; outcome = p.outcome; replied = held answer p.printed }
   where
-    held : (a : Result Outcome StoreFault) → OnOk a (said ≡ before ++ reply_text (step m c).reply) → OnOk a (said ≡ reply_text (step m c).reply)
-    held (Ok r) is = is ∙ ap (λ l. l ++ reply_text (step m c).reply) none
+    held : (a : Result Outcome StoreFault) → OnOk a (said ≡ before ++ reply_text (step h.machine c).reply) → OnOk a (said ≡ reply_text (step h.machine c).reply)
+    held (Ok r) is = is ∙ ap (λ l. l ++ reply_text (step h.machine c).reply) none
     held (Err f) is = tt
 
 -- an empty piece
-pub empty_went : (m : Machine) (w : Marks) (body piece : List ℕ) (t : State) (o : Open) (said : List ℕ) → piece ≡ [] → StandsFor t o m w → Writes m body
-    → PieceWent m w body piece (Ok outcome.Ok) t o said
-empty_went m w body piece t o said empty stands writes = subst (λ p. PieceWent m w body p (Ok outcome.Ok) t o said) (sym empty) (piece_none m w body t o said stands writes)
+pub empty_went : (h : History) (body piece : List ℕ) (now : Session) (said : List ℕ) → piece ≡ [] → KeepsTo now h → IsWriting h.machine body
+    → PieceIsSent body piece h (Ok outcome.Ok) now said
+empty_went h body piece now said empty stands writes = subst (λ p. PieceIsSent body p h (Ok outcome.Ok) now said) (sym empty) (piece_none h body now said stands writes)
 
 -- another one
-pub piece_went : (m : Machine) (w : Marks) (body piece : List ℕ) (answer : Result Outcome StoreFault) (t : State) (o : Open) (said : List ℕ) → piece ≢ []
-    → Writes m body → Sends (Append 0 piece) m w answer t o said → PieceWent m w body piece answer t o said
-piece_went m w body [] answer t o said some writes sends = absurd (some refl)
-piece_went m w body (x ∷ xs) answer t o said some writes sends = piece_sent m w body x xs answer t o said writes sends
+pub piece_went : (h : History) (body piece : List ℕ) (answer : Result Outcome StoreFault) (now : Session) (said : List ℕ) → piece ≢ []
+    → IsWriting h.machine body → IsSent (Append 0 piece) h answer now said → PieceIsSent body piece h answer now said
+piece_went h body [] answer now said some writes sends = absurd (some refl)
+piece_went h body (x ∷ xs) answer now said some writes sends = piece_sent h body x xs answer now said writes sends
 
 -- one for which there is no room
-pub over_went : (m : Machine) (w : Marks) (body piece : List ℕ) (room : ℕ) (r : Outcome) (t : State) (o : Open) (said : List ℕ) → piece ≢ [] → room < length piece
-    → room + length body ≡ BODY_MAX → Writes m body → Sends (Append 0 piece) m w (Ok r) t o said → PieceWent m w body piece (Ok outcome.Refused) t o said
-over_went m w body piece room r t o said some long is writes sends =
-    let refused = piece_over m w body piece r t o said writes (omega (arith, long, is)) sends in
-    subst (λ x. PieceWent m w body piece (Ok x) t o said) refused (piece_went m w body piece (Ok r) t o said some writes sends)
+pub over_went : (h : History) (body piece : List ℕ) (room : ℕ) (r : Outcome) (now : Session) (said : List ℕ) → piece ≢ [] → room < length piece
+    → room + length body ≡ BODY_MAX → IsWriting h.machine body → IsSent (Append 0 piece) h (Ok r) now said → PieceIsSent body piece h (Ok outcome.Refused) now said
+over_went h body piece room r now said some long is writes sends =
+    let refused = piece_over h body piece r now said writes (omega (arith, long, is)) sends in
+    subst (λ x. PieceIsSent body piece h (Ok x) now said) refused (piece_went h body piece (Ok r) now said some writes sends)
 
 -- the error that a `?` hands on
 pub handed_on : {T : Type 0} (r : Result T StoreFault) (f : StoreFault) → IsErrAnd r (λ e. e ≡ f) → r ≡ Err f

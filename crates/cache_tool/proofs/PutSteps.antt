@@ -9,80 +9,77 @@ use Rattle.cache_base.specs.declared.limits.TheConstants.{BODY_MAX, PIECE_MAX}
 use Rattle.cache_base.specs.declared.status.Status.{Status}
 use Rattle.cache_base.specs.declared.status.Status.TheVariants as status
 use Rattle.cache_theory.specs.Command.{Command}
-use Rattle.cache_theory.specs.Machine.{Machine}
-use Rattle.cache_theory.specs.Marks.{Marks, all_begun}
+use Rattle.cache_theory.specs.History.{History}
 use Rattle.cache_theory.specs.Step.{after}
-use Rattle.cache_theory.proofs.Acked.{after-append}
-use Rattle.cache_store.specs.Open.{Open, StandsFor}
+use Rattle.cache_store.specs.Open.{KeepsTo}
+use Rattle.cache_store.specs.Session.{Session}
 use Rattle.cache_store.specs.declared.fault.Outcome.{Outcome}
 use Rattle.cache_store.specs.declared.fault.Outcome.TheVariants as outcome
 use Rattle.cache_store.specs.declared.fault.StoreFault.{StoreFault}
 use Rattle.cache_tool.specs.declared.piece.Ended.{Ended}
 use Rattle.cache_tool.specs.declared.piece.Ended.TheVariants as ended
-use Rattle.cache_tool.specs.Put.{Faults, appends, faults}
-use Rattle.cache_tool.specs.PutWent.{AppendWent, AreDone, BodyOf, CameBy, IsBroken, IsWhole, PieceWentFor, Ran, SoFar, Stood, Writes, piece_commands}
-use Rattle.cache_tool.specs.Sessions.{status_of}
-use Rattle.cache_tool.specs.Told.{HoldsRefusal, IsRefusalLine, TakesAtMost, TakesTooMuch}
+use Rattle.cache_tool.specs.AnyDisk.{HoldsRefusal, IsRefusalLine, TakesAtMost, TakesTooMuch}
+use Rattle.cache_tool.specs.Put.{GivesPart, GivesWhole, appends}
+use Rattle.cache_tool.specs.PutProgress.{AgreesWith, AppendsPiece, AppendsSoFar, AreDone, AreSent, BodyIsAppended, BodyIsSent, BodyOf, IsWriting, all_unanswered, piece_commands}
+use Rattle.cache_tool.specs.Statuses.{status_of}
+use Rattle.cache_tool.specs.World.{Supply}
 use Rattle.cache_tool.proofs.PutPieces.{leads_more, leads_step}
-use Rattle.cache_tool.proofs.PutRuns.{begun-append, done-append, ran_more, ran_same, ran_then, until_all}
-use Rattle.disk_model.specs.State.{State}
+use Rattle.cache_tool.proofs.PutRuns.{done-append, sent_more, sent_same, sent_then, unanswered-append, until_all}
 
 -- nothing was appended yet
-pub so_far_none : (left : Option (List ℕ)) (tells : Type 0) (s : State) (o : Open) → SoFar left left tells BODY_MAX s s o o
-so_far_none left tells s o = record {
+pub so_far_none : (tells : Type 0) (left : Option (List ℕ)) (now : Session) → AppendsSoFar tells BODY_MAX left left now now
+so_far_none tells left now = record {
   body = [];
   commands = [];
   read = Consumes-nil left;
   leads = λ rest. refl;
   room_is = omega arith;
-  stood = λ told m w stands writes. record { stands = stands; done = tt; writes = writes };
+  sent = λ told h stands writes. record { stands = stands; done = tt; writes = writes };
 }
 
 -- commands that were performed where others were done
-stood_more : (m : Machine) (w : Marks) (cs ds : List Command) (body : List ℕ) (t : State) (o : Open) (said : List ℕ) → AreDone m cs
-    → Ran (after m cs) (all_begun m cs w) ds (Ok outcome.Ok) t o said → Writes (after (after m cs) ds) body → Stood m w body (cs ++ ds) t o
-stood_more m w cs ds body t o said first ran writes =
+body_more : (h : History) (cs ds : List Command) (body : List ℕ) (now : Session) (said : List ℕ) → AreDone h.machine cs
+    → AreSent ds (all_unanswered cs h) (Ok outcome.Ok) now said → IsWriting (after (after h.machine cs) ds) body → BodyIsSent body (cs ++ ds) h now
+body_more h cs ds body now said first ran writes =
     let done = ran.done refl in
-    let all = until_all (after m cs) ds done in
-    let machine : after m (cs ++ ds) ≡ after (after m cs) ds = after-append m cs ds in
+    let all = until_all (after h.machine cs) ds done in
+    let same = unanswered-append cs ds h in
     record {
-      stands = subst (λ n. StandsFor t o n (all_begun m (cs ++ ds) w)) (sym machine)
-          (subst (λ x. StandsFor t o (after (after m cs) ds) x) (sym (begun-append m cs ds w))
-          (subst (λ l. StandsFor t o (after (after m cs) l) (all_begun (after m cs) l (all_begun m cs w))) all ran.stands));
-      done = done-append m cs ds first done;
-      writes = subst (λ n. Writes n body) (sym machine) writes;
+      stands = subst (λ x. KeepsTo now x) (sym same) (subst (λ l. KeepsTo now (all_unanswered l (all_unanswered cs h))) all ran.stands);
+      done = done-append h.machine cs ds first done;
+      writes = subst (λ (x : History). IsWriting x.machine body) (sym same) writes;
     }
 
-module _ (left mid now : Option (List ℕ)) (tells : Type 0) (room : ℕ) (s t u : State) (old new newer : Open) (piece : List ℕ) (said : List ℕ)
-    (so : SoFar left mid tells room s t old new) (given : Consumes mid now piece) where
+module _ (tells : Type 0) (room : ℕ) (left mid left_now : Option (List ℕ)) (before between now : Session) (piece : List ℕ) (said : List ℕ)
+    (so : AppendsSoFar tells room left mid before between) (given : Consumes mid left_now piece) where
   -- a full piece more
-  pub so_far_more : (less : ℕ) → length piece ≡ PIECE_MAX → less + length piece ≡ room → (tells → PieceWentFor piece room (Ok outcome.Ok) t u new newer said)
-      → SoFar left now tells less s u old newer
-  so_far_more less full left_over went = record {
+  pub so_far_more : (less : ℕ) → length piece ≡ PIECE_MAX → less + length piece ≡ room → (tells → AppendsPiece piece room (Ok outcome.Ok) between now said)
+      → AppendsSoFar tells less left left_now before now
+  so_far_more less full left_over appends_piece = record {
     body = so.body ++ piece;
     commands = so.commands ++ piece_commands piece;
-    read = Consumes-trans left mid now so.body piece so.read given;
+    read = Consumes-trans left mid left_now so.body piece so.read given;
     leads = leads_more so.body piece so.commands so.leads full;
     room_is = let is = so.room_is in let joined = length-append so.body piece in omega (arith, is, joined, left_over);
-    stood = λ told m w stands writes.
-        let before = so.stood told m w stands writes in
-        let p = went told (after m so.commands) (all_begun m so.commands w) so.body before.stands before.writes so.room_is in
-        stood_more m w so.commands (piece_commands piece) (so.body ++ piece) u newer said before.done p.ran (p.writes refl);
+    sent = λ told h stands writes.
+        let done = so.sent told h stands writes in
+        let p = (appends_piece told).each (all_unanswered so.commands h) so.body done.stands done.writes so.room_is in
+        body_more h so.commands (piece_commands piece) (so.body ++ piece) now said done.done p.sent (p.writes refl);
   }
 
--- What the source has behind a piece.
+-- What the source has after a piece.
 
 -- the whole body, or what was given before the source failed
-abbrev pub BodyBy : Ended → Faults → Option (List ℕ) → Option (List ℕ) → List ℕ → Type 0
-BodyBy ended.Full failed left now body = IsWhole failed left body
-BodyBy ended.End failed left now body = IsWhole failed left body
-BodyBy ended.Failed failed left now body = IsBroken failed left now body
+abbrev pub BodyBy : Ended → Supply → Supply → List ℕ → Type 0
+BodyBy ended.Full from to body = GivesWhole from to body
+BodyBy ended.End from to body = GivesWhole from to body
+BodyBy ended.Failed from to body = GivesPart from to body
 
-pub record Ahead (left now : Option (List ℕ)) (failed : Faults) (how : Ended) (body piece : List ℕ) : Type 0 where
+pub record Ahead (from to : Supply) (how : Ended) (body piece : List ℕ) : Type 0 where
   pub rest : List ℕ
   pub short : length piece < PIECE_MAX → rest ≡ []
   pub last : how ≢ ended.Full → rest ≡ []
-  pub body_by : BodyBy how failed left now (body ++ (piece ++ rest))
+  pub body_by : BodyBy how from to (body ++ (piece ++ rest))
 
 whole_of : (left mid now : Option (List ℕ)) (body piece : List ℕ) → IsSome left → Consumes left mid body → Consumes mid now piece
     → (rest : List ℕ) × ((now ≡ Some rest) × (left ≡ Some (body ++ (piece ++ rest))))
@@ -91,76 +88,89 @@ whole_of (Some xs) None now body piece some first second = absurd first
 whole_of (Some xs) (Some ys) None body piece some first second = absurd second
 whole_of (Some xs) (Some ys) (Some zs) body piece some first second = (zs, (refl, ap (λ l. Some l) (first ∙ ap (λ l. body ++ l) second)))
 
-pub ahead : (left mid now : Option (List ℕ)) (failed : Faults) (how : Ended) (body piece : List ℕ) → IsSome left → Consumes left mid body → Consumes mid now piece
-    → (how ≡ ended.Full → length piece ≡ PIECE_MAX) → (how ≡ ended.End → IsAtEnd now) → (how ≡ ended.Failed → Rose failed.before failed.after_call)
-    → (how ≢ ended.Failed → failed.after_call ≡ failed.before) → Ahead left now failed how body piece
-ahead left mid now failed ended.Full body piece some first second full end fail calm =
-    let whole = whole_of left mid now body piece some first second in
+pub ahead : (from to : Supply) (mid : Option (List ℕ)) (how : Ended) (body piece : List ℕ) → IsSome from.left → Consumes from.left mid body → Consumes mid to.left piece
+    → (how ≡ ended.Full → length piece ≡ PIECE_MAX) → (how ≡ ended.End → IsAtEnd to.left) → (how ≡ ended.Failed → Rose from.faults to.faults)
+    → (how ≢ ended.Failed → to.faults ≡ from.faults) → Ahead from to how body piece
+ahead from to mid ended.Full body piece some first second full end fail calm =
+    let whole = whole_of from.left mid to.left body piece some first second in
     let same = full refl in
-    record { rest = whole.0; short = λ less. absurd (omega (arith, less, same)); last = λ other. absurd (other refl); body_by = (calm (λ e. cc), whole.1.1) }
-ahead left mid now failed ended.End body piece some first second full end fail calm =
-    let whole = whole_of left mid now body piece some first second in
+    record {
+      rest = whole.0;
+      short = λ less. absurd (omega (arith, less, same));
+      last = λ other. absurd (other refl);
+      body_by = record { calm = calm (λ e. cc); whole = whole.1.1 };
+    }
+ahead from to mid ended.End body piece some first second full end fail calm =
+    let whole = whole_of from.left mid to.left body piece some first second in
     let none : whole.0 ≡ [] = subst IsAtEnd whole.1.0 (end refl) in
-    record { rest = []; short = λ less. refl; last = λ other. refl; body_by = (calm (λ e. cc), whole.1.1 ∙ ap (λ l. Some (body ++ (piece ++ l))) none) }
-ahead left mid now failed ended.Failed body piece some first second full end fail calm =
     record {
       rest = [];
       short = λ less. refl;
       last = λ other. refl;
-      body_by = (fail refl, subst (λ l. Consumes left now (body ++ l)) (sym (append-nil piece)) (Consumes-trans left mid now body piece first second));
+      body_by = record { calm = calm (λ e. cc); whole = whole.1.1 ∙ ap (λ l. Some (body ++ (piece ++ l))) none };
+    }
+ahead from to mid ended.Failed body piece some first second full end fail calm =
+    record {
+      rest = [];
+      short = λ less. refl;
+      last = λ other. refl;
+      body_by = record {
+        failed = fail refl;
+        given = subst (λ l. Consumes from.left to.left (body ++ l)) (sym (append-nil piece)) (Consumes-trans from.left mid to.left body piece first second);
+      };
     }
 
-pub either_by : (how : Ended) (failed : Faults) (left now : Option (List ℕ)) (body : List ℕ) → BodyBy how failed left now body → IsWhole failed left body ⊎ IsBroken failed left now body
-either_by ended.Full failed left now body by = inl by
-either_by ended.End failed left now body by = inl by
-either_by ended.Failed failed left now body by = inr by
+pub either_by : (how : Ended) (from to : Supply) (body : List ℕ) → BodyBy how from to body → GivesWhole from to body ⊎ GivesPart from to body
+either_by ended.Full from to body by = inl by
+either_by ended.End from to body by = inl by
+either_by ended.Failed from to body by = inr by
 
 -- the commands of what is ahead, where no piece was refused only if nothing is
-ran_ahead : (m : Machine) (w : Marks) (cs ds : List Command) (answer : Result Outcome StoreFault) (t : State) (o : Open) (said : List ℕ) → (answer ≡ Ok outcome.Ok → ds ≡ [])
-    → Ran m w cs answer t o said → Ran m w (cs ++ ds) answer t o said
-ran_ahead m w cs ds (Ok outcome.Ok) t o said none ran = ran_same m w cs (cs ++ ds) (Ok outcome.Ok) t o said (sym (ap (λ l. cs ++ l) (none refl) ∙ append-nil cs)) ran
-ran_ahead m w cs ds (Ok outcome.Refused) t o said none ran = ran_more m w cs ds (Ok outcome.Refused) t o said (λ e. absurd (cc)) ran
-ran_ahead m w cs ds (Err f) t o said none ran = ran_more m w cs ds (Err f) t o said (λ e. absurd (cc)) ran
+sent_ahead : (h : History) (cs ds : List Command) (answer : Result Outcome StoreFault) (now : Session) (said : List ℕ) → (answer ≡ Ok outcome.Ok → ds ≡ [])
+    → AreSent cs h answer now said → AreSent (cs ++ ds) h answer now said
+sent_ahead h cs ds (Ok outcome.Ok) now said none ran = sent_same h cs (cs ++ ds) (Ok outcome.Ok) now said (sym (ap (λ l. cs ++ l) (none refl) ∙ append-nil cs)) ran
+sent_ahead h cs ds (Ok outcome.Refused) now said none ran = sent_more h cs ds (Ok outcome.Refused) now said (λ e. absurd (cc)) ran
+sent_ahead h cs ds (Err f) now said none ran = sent_more h cs ds (Err f) now said (λ e. absurd (cc)) ran
 
-module _ (left mid now : Option (List ℕ)) (failed : Faults) (tells : Type 0) (room : ℕ) (s t u : State) (old new newer : Open) (piece : List ℕ) (said : List ℕ) (how : Ended)
-    (answer : Result Outcome StoreFault) (so : SoFar left mid tells room s t old new) (behind : Ahead left now failed how so.body piece) (fits : length piece ≤ PIECE_MAX)
-    (told : tells) (went : PieceWentFor piece room answer t u new newer said) (m : Machine) (w : Marks) (stands : StandsFor s old m w) (writes : Writes m []) where
+module _ (from to : Supply) {tells : Type 0} {room : ℕ} {mid : Option (List ℕ)} {before between now : Session} {piece said : List ℕ} {how : Ended} {answer : Result Outcome StoreFault}
+    (so : AppendsSoFar tells room from.left mid before between) (next : Ahead from to how so.body piece) (fits : length piece ≤ PIECE_MAX)
+    (told : tells) (appends_piece : AppendsPiece piece room answer between now said) (h : History) (stands : KeepsTo before h) (writes : IsWriting h.machine []) where
   -- the last piece
-  last_went : (came : Result Status StoreFault) → BodyOf came failed left now (so.body ++ (piece ++ behind.rest)) → CameBy came answer
-      → (answer ≡ Ok outcome.Ok → how ≢ ended.Full) → AppendWent m w left now failed came u newer said
+  last_went : (came : Result Status StoreFault) → BodyOf came from to (so.body ++ (piece ++ next.rest)) → AgreesWith came answer
+      → (answer ≡ Ok outcome.Ok → how ≢ ended.Full) → BodyIsAppended h from to came now said
   last_went came body_of by none =
-      let before = so.stood told m w stands writes in
-      let p = went (after m so.commands) (all_begun m so.commands w) so.body before.stands before.writes so.room_is in
+      let done = so.sent told h stands writes in
+      let p = appends_piece.each (all_unanswered so.commands h) so.body done.stands done.writes so.room_is in
       record {
-        body = so.body ++ (piece ++ behind.rest);
+        body = so.body ++ (piece ++ next.rest);
         body_of = body_of;
         answer = answer;
-        ran = ran_same m w _ _ answer u newer said (sym (leads_step so.body piece so.commands so.leads behind.rest fits behind.short))
-            (ran_then m w so.commands (piece_commands piece ++ appends behind.rest) answer u newer said before.done
-            (ran_ahead (after m so.commands) (all_begun m so.commands w) (piece_commands piece) (appends behind.rest) answer u newer said (λ e. ap appends (behind.last (none e))) p.ran));
+        sent = sent_same h _ _ answer now said (sym (leads_step so.body piece so.commands so.leads next.rest fits next.short))
+            (sent_then h so.commands (piece_commands piece ++ appends next.rest) answer now said done.done
+            (sent_ahead (all_unanswered so.commands h) (piece_commands piece) (appends next.rest) answer now said (λ e. ap appends (next.last (none e))) p.sent));
         same = by;
       }
 
-  -- with a fault of the disk, or for want of memory
-  pub last_failed : (f : StoreFault) → answer ≡ Err f → AppendWent m w left now failed (Err f) u newer said
-  last_failed f is = last_went (Err f) (either_by how failed left now _ behind.body_by) is (λ e. absurd (cc))
+  -- with a fault of the disk, or out of memory
+  pub last_failed : (f : StoreFault) → answer ≡ Err f → BodyIsAppended h from to (Err f) now said
+  last_failed f is = last_went (Err f) (either_by how from to _ next.body_by) is (λ e. absurd (cc))
 
   -- with a source that failed
-  pub last_broken : (o : Outcome) → answer ≡ Ok o → how ≡ ended.Failed → AppendWent m w left now failed (Ok status.Source) u newer said
+  pub last_broken : (o : Outcome) → answer ≡ Ok o → how ≡ ended.Failed → BodyIsAppended h from to (Ok status.Source) now said
   last_broken o is broken =
-      last_went (Ok status.Source) (subst (λ h. BodyBy h failed left now (so.body ++ (piece ++ behind.rest))) broken behind.body_by) (o, is) (λ e full. absurd (cc))
+      last_went (Ok status.Source) (subst (λ x. BodyBy x from to (so.body ++ (piece ++ next.rest))) broken next.body_by) (o, is) (λ e full. absurd (cc))
 
   -- with a source that is at its end
-  pub last_ended : (o : Outcome) → answer ≡ Ok o → how ≡ ended.End → AppendWent m w left now failed (Ok (status_of o)) u newer said
+  pub last_ended : (o : Outcome) → answer ≡ Ok o → how ≡ ended.End → BodyIsAppended h from to (Ok (status_of o)) now said
   last_ended outcome.Ok is end =
-      last_went (Ok status.Done) (subst (λ h. BodyBy h failed left now (so.body ++ (piece ++ behind.rest))) end behind.body_by) is (λ e full. absurd (cc))
+      last_went (Ok status.Done) (subst (λ x. BodyBy x from to (so.body ++ (piece ++ next.rest))) end next.body_by) is (λ e full. absurd (cc))
   last_ended outcome.Refused is end =
-      last_went (Ok status.No) (subst (λ h. BodyBy h failed left now (so.body ++ (piece ++ behind.rest))) end behind.body_by) is (λ e full. absurd (cc))
+      last_went (Ok status.No) (subst (λ x. BodyBy x from to (so.body ++ (piece ++ next.rest))) end next.body_by) is (λ e full. absurd (cc))
 
   -- with a full piece that is refused
-  pub last_refused : answer ≡ Ok outcome.Refused → how ≡ ended.Full → AppendWent m w left now failed (Ok status.No) u newer said
+  pub last_refused : answer ≡ Ok outcome.Refused → how ≡ ended.Full → BodyIsAppended h from to (Ok status.No) now said
   last_refused is full =
-      last_went (Ok status.No) (subst (λ h. BodyBy h failed left now (so.body ++ (piece ++ behind.rest))) full behind.body_by) is (λ e. absurd (cc))
+      last_went (Ok status.No) (subst (λ x. BodyBy x from to (so.body ++ (piece ++ next.rest))) full next.body_by) is (λ e. absurd (cc))
 
 -- What the filling of a piece says.
 
@@ -174,17 +184,18 @@ module _ (count : ℕ) (bytes : List ℕ) (within : count ≤ length bytes) (siz
   pub filled_full : count ≡ length bytes → length (take count bytes) ≡ PIECE_MAX
   filled_full same = let len = filled_length in omega (arith, len, same, size)
 
-pub filled_ahead : {left mid : Option (List ℕ)} {tells : Type 0} {room : ℕ} {s t : State} {old new : Open} (so : SoFar left mid tells room s t old new)
-    (now : Option (List ℕ)) (before between later : ℕ) (how : Ended) (count : ℕ) (bytes : List ℕ) → count ≤ length bytes → length bytes ≡ PIECE_MAX
-    → IsSome left → Consumes mid now (take count bytes) → (how ≡ ended.Full → count ≡ length bytes) → (how ≡ ended.End → IsAtEnd now)
-    → between ≡ before → HasCause (how ≡ ended.Failed) between later → Ahead left now (faults before later) how so.body (take count bytes)
-filled_ahead {left} {mid} so now before between later how count bytes within size some given full end same cause =
-    ahead left mid now (faults before later) how so.body (take count bytes) some so.read given (λ is. filled_full count bytes within size (full is)) end
-    (λ is. subst (λ n. Rose n later) same (cause.rose is)) (λ other. cause.kept other ∙ same)
+pub filled_ahead : {left mid : Option (List ℕ)} {tells : Type 0} {room : ℕ} {old new : Session} (so : AppendsSoFar tells room left mid old new)
+    (left_now : Option (List ℕ)) (before between later : ℕ) (how : Ended) (count : ℕ) (bytes : List ℕ) → count ≤ length bytes → length bytes ≡ PIECE_MAX
+    → IsSome left → Consumes mid left_now (take count bytes) → (how ≡ ended.Full → count ≡ length bytes) → (how ≡ ended.End → IsAtEnd left_now)
+    → between ≡ before → HasCause (how ≡ ended.Failed) between later
+    → Ahead (record { left = left; faults = before }) (record { left = left_now; faults = later }) how so.body (take count bytes)
+filled_ahead {left} {mid} so left_now before between later how count bytes within size some given full end same cause =
+    ahead (record { left = left; faults = before }) (record { left = left_now; faults = later }) mid how so.body (take count bytes) some so.read given
+    (λ is. filled_full count bytes within size (full is)) end (λ is. subst (λ n. Rose n later) same (cause.rose is)) (λ other. cause.kept other ∙ same)
 
 -- How much of the source was taken with one piece more.
 
-module _ {left mid : Option (List ℕ)} {tells : Type 0} {room : ℕ} {s t : State} {old new : Open} (so : SoFar left mid tells room s t old new)
+module _ {tells : Type 0} {room : ℕ} {left mid : Option (List ℕ)} {before between : Session} (so : AppendsSoFar tells room left mid before between)
     (now : Option (List ℕ)) (piece : List ℕ) (given : Consumes mid now piece) where
   pub takes_at_most : length piece ≤ PIECE_MAX → TakesAtMost (BODY_MAX + PIECE_MAX) left now
   takes_at_most fits =
