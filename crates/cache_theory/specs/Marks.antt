@@ -6,7 +6,7 @@ use Rattle.std.specs.Str.{bytes_eq}
 use Rattle.cache_base.specs.Checks.{first_failing}
 use Rattle.cache_theory.specs.Checks.{checks}
 use Rattle.cache_theory.specs.Command.{Command}
-use Rattle.cache_theory.specs.Command.Command.{At, Create, OpenKey, Append, Finish, SetElement, UnsetElement, ElementOf, ReadPart, Close, Doom, Get, Flush}
+use Rattle.cache_theory.specs.Command.Command.{Create, Append, Finish, SetElement, UnsetElement, Close, Doom, Flush}
 use Rattle.cache_theory.specs.Machine.{Machine, Object, is_writer, number_of, object, object_of}
 use Rattle.cache_theory.specs.Step.{effect, step}
 use Rattle.cache_theory.specs.Table.{get}
@@ -43,15 +43,7 @@ rewritten m (Finish s) = Some (number_of m s)
 rewritten m (SetElement s name value) = if (object_of m s).finished then Some (number_of m s) else None
 rewritten m (UnsetElement s name) = if (object_of m s).finished && is_some (element name (object_of m s).version.elements) then Some (number_of m s) else None
 rewritten m (Close s) = if is_writer m s && not (object_of m s).finished then Some (number_of m s) else None
-rewritten m (At now) = None
-rewritten m (Create s key) = None
-rewritten m (OpenKey s key) = None
-rewritten m (Append s bytes) = None
-rewritten m (ElementOf s name) = None
-rewritten m (ReadPart s from len) = None
-rewritten m (Doom key) = None
-rewritten m (Get key) = None
-rewritten m Flush = None
+rewritten m _ = None
 
 -- the name of an object, if it is undoomed
 abbrev pub undoomed_name : Object → List (List ℕ)
@@ -70,12 +62,7 @@ touches m (Finish s) = name_of_some m (rewritten m (Finish s))
 touches m (SetElement s name value) = name_of_some m (rewritten m (SetElement s name value))
 touches m (UnsetElement s name) = name_of_some m (rewritten m (UnsetElement s name))
 touches m (Close s) = name_of_some m (rewritten m (Close s))
-touches m (At now) = []
-touches m (OpenKey s key) = []
-touches m (ElementOf s name) = []
-touches m (ReadPart s from len) = []
-touches m (Get key) = []
-touches m Flush = []
+touches m _ = []
 
 -- a version that goes out through an object, unless the object was doomed at the mark
 abbrev pub put_out : Marks → Machine → Option ℕ → List Written
@@ -99,18 +86,7 @@ begun m c w = begun_by (first_failing (checks m c)) m c w
 -- and when it is acknowledged
 abbrev pub acked : Machine → Command → Marks → Marks
 acked m Flush w = marks_of m
-acked m (At now) w = begun m (At now) w
-acked m (Create s key) w = begun m (Create s key) w
-acked m (OpenKey s key) w = begun m (OpenKey s key) w
-acked m (Append s bytes) w = begun m (Append s bytes) w
-acked m (Finish s) w = begun m (Finish s) w
-acked m (SetElement s name value) w = begun m (SetElement s name value) w
-acked m (UnsetElement s name) w = begun m (UnsetElement s name) w
-acked m (ElementOf s name) w = begun m (ElementOf s name) w
-acked m (ReadPart s from len) w = begun m (ReadPart s from len) w
-acked m (Close s) w = begun m (Close s) w
-acked m (Doom key) w = begun m (Doom key) w
-acked m (Get key) w = begun m (Get key) w
+acked m c w = begun m c w
 
 -- the marks where these commands are acknowledged, and where they have begun
 abbrev pub all_acked : Machine → List Command → Marks → Marks

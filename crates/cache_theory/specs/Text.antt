@@ -84,17 +84,7 @@ command_words Flush = codes "flush" ∷ []
 abbrev pub command_data : Command → List ℕ
 command_data (Append s bytes) = bytes ++ 10 ∷ []
 command_data (SetElement s name value) = value ++ 10 ∷ []
-command_data (At now) = []
-command_data (Create s key) = []
-command_data (OpenKey s key) = []
-command_data (Finish s) = []
-command_data (UnsetElement s name) = []
-command_data (ElementOf s name) = []
-command_data (ReadPart s from len) = []
-command_data (Close s) = []
-command_data (Doom key) = []
-command_data (Get key) = []
-command_data Flush = []
+command_data _ = []
 
 -- the bytes of a command
 unfoldable pub command_bytes : Command → List ℕ

@@ -96,7 +96,7 @@ impl NewEntry {
             self.put_chunk(disk, place, front)?;
             left = back;
         }
-        extend(&mut self.rest, left);
+        self.rest.extend(left);
         Ok(())
     }
 }

@@ -46,11 +46,32 @@ impl<R: Files + AllocGlobal> Folder<'_, R> {
         self.tree.rt.alloc()
     }
 
-    pub(crate) fn size(&self, place: &Place) -> io::Result<Option<u64>> {
-        match file_len(self.tree.rt, self.tree.path(place)?.as_str()) {
-            Ok(len) => Ok(Some(len)),
-            Err(error) if error.kind() == ErrorKind::NotFound => Ok(None),
-            Err(error) => Err(error),
+    /// The length of the file, which is then kept open, since it is mostly read next. A missing file has none.
+    pub(crate) fn size(&mut self, place: &Place) -> io::Result<Option<u64>>
+        ensures files { self.new.files ≡ self.old.files }
+        ensures folders { self.new.tree ≡ self.old.tree }
+    {
+        let path = self.tree.path(place)?;
+        let len = match file_len(self.tree.rt, path.as_str()) {
+            Ok(len) => len,
+            Err(error) if error.kind() == ErrorKind::NotFound => return Ok(None),
+            Err(error) => return Err(error),
+        };
+        self.keep_to_read(place, path.as_str());
+        Ok(Some(len))
+    }
+
+    // Opens the file at the path of the place, unless it is kept already. One that cannot be opened has a length all
+    // the same, and the call that reads it fails.
+    fn keep_to_read(&mut self, place: &Place, path: &str)
+        ensures files { self.new.files ≡ self.old.files }
+        ensures folders { self.new.tree ≡ self.old.tree }
+    {
+        if self.kept.file_of(place).is_some() {
+            return;
+        }
+        if let Ok(file) = read_only().open(self.tree.rt, path) {
+            self.kept.keep(place, file, false);
         }
     }
 

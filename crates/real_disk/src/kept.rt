@@ -10,7 +10,7 @@ pub(crate) struct Opened<F: Drop> {
     pub(crate) writable: bool,
 }
 
-/// The file that was made, written or read last, so that it is opened once.
+/// The file that was last made, written, read or asked for its length, so that it is opened once.
 #[derive(Drop)]
 pub(crate) struct Kept<F: Drop> {
     opened: Option<Opened<F>>,

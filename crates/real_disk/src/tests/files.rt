@@ -89,6 +89,21 @@ fn a_patched_file_keeps_its_length(rt: HostRuntime) -> Result<(), Fail> {
     Ok(())
 }
 
+// Asked for its length, it is opened to be read alone.
+#[test]
+fn a_file_is_written_after_its_length_was_asked(rt: HostRuntime) -> Result<(), Fail> {
+    let mut disk = disk_in(&rt, "asked")?;
+    assert!(rt; fs::create_dir(&rt, "asked").is_ok());
+    assert!(rt; fs::write(&rt, "asked/index", b"0123456789").is_ok());
+    assert_eq!(rt; disk.size(&Place::Index), Ok(Some(10)));
+    assert_eq!(rt; disk.patch(&Place::Index, 3, b"abc"), Ok(()));
+    assert_eq!(rt; disk.write_end(&Place::Index, 8, b"d"), Ok(()));
+    assert_eq!(rt; disk.size(&Place::Index), Ok(Some(9)));
+    assert_eq!(rt; disk.sync(), Ok(()));
+    assert!(rt; holds(&rt, "asked/index", b"012abc67d"));
+    Ok(())
+}
+
 #[test]
 fn a_new_file_does_not_cut_the_old_one(rt: HostRuntime) -> Result<(), Fail> {
     let mut disk = disk_in(&rt, "cache")?;

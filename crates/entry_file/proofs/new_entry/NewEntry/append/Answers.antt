@@ -43,7 +43,7 @@ pub returns-clause-body : goal.returns-clause-body
 returns-clause-body g c = λ body has.
     let long = ap length c.as_slice.ensures.bytes in
     let test = c.loop-left-test.false in
-    has_whole (held c.loop-left.self) c.loop-left.left.now _ _ _ (c.loop-left.invariant.midway body has) (omega (arith, long, test)) c.extend.new.buf c.extend.ensures
+    has_whole (held c.loop-left.self) c.loop-left.left.now _ _ _ (c.loop-left.invariant.midway body has) (omega (arith, long, test)) c.extend.new.self c.extend.ensures
 
 pub returns-clause-stands : goal.returns-clause-stands
 returns-clause-stands g c = λ told body has stood.
