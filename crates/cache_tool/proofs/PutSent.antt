@@ -5,7 +5,8 @@ use Rattle.std.proofs.lemmas.Bool.{eqb-true}
 use Rattle.std.proofs.lemmas.List.{nil_from_length}
 use Rattle.std.proofs.lemmas.Result.{err_from_is_err_and}
 use Rattle.cache_base.specs.declared.limits.TheConstants.{BODY_MAX}
-use Rattle.cache_store.specs.Open.{KeepsTo}
+use Rattle.cache_store.specs.Faults.{ending, fault_ending}
+use Rattle.cache_store.specs.Open.{IsOpen, KeepsTo, LeavesOpen}
 use Rattle.cache_store.specs.Performing.{Keeps, Performs}
 use Rattle.cache_store.specs.Session.{Session}
 use Rattle.cache_store.specs.declared.fault.Outcome.{Outcome}
@@ -17,6 +18,7 @@ use Rattle.cache_theory.specs.History.{History}
 use Rattle.cache_theory.specs.Step.{step}
 use Rattle.cache_theory.specs.Text.{reply_text}
 use Rattle.cache_tool.specs.PutProgress.{IsSent, IsWriting, PieceIsSent}
+use Rattle.disk_model.specs.Account.{Ending}
 use Rattle.cache_tool.proofs.PutMachine.{piece_none, piece_over, piece_sent}
 
 -- what went out to a sink that held nothing is what it holds
@@ -49,6 +51,10 @@ over_went h body piece room r now said some long is writes sends =
 -- the error that a `?` hands on
 pub handed_on : {T : Type 0} (r : Result T StoreFault) (f : StoreFault) → IsErrAnd r (λ e. e ≡ f) → r ≡ Err f
 handed_on r f h = let e = err_from_is_err_and r h in e.1 ∙ ap (λ x. Err x) e.2
+
+-- and what it says of the store
+pub handed_open : {T : Type 0} (r : Result T StoreFault) (f : StoreFault) (now : Session) → IsErrAnd r (λ e. e ≡ f) → (fault_ending f ≡ Ending.NoneFailed → IsOpen now) → LeavesOpen r now
+handed_open r f now h still none = still (sym (ap ending (handed_on r f h)) ∙ none)
 
 -- whether a piece is empty
 pub is_empty_of : (piece : List ℕ) (b : Bool) → b ≡ (length piece == 0) → b ≡ true → piece ≡ []

@@ -5,7 +5,7 @@ use Rattle.cache_base.specs.declared.limits.TheConstants.{PIECE_MAX}
 use Rattle.cache_store.specs.Session.{session}
 use Rattle.cache_tool.specs.HeldReply.{said_in}
 use Rattle.cache_tool.specs.World.{supply}
-use Rattle.cache_tool.proofs.PutSent.{handed_on}
+use Rattle.cache_tool.proofs.PutSent.{handed_on, handed_open}
 use Rattle.cache_tool.proofs.PutSteps.{filled_ahead, filled_fits, filled_full, filled_length, last_broken, last_ended, last_failed, last_refused, holds_refusal, no_is_refused, so_far_more, so_far_none, takes_at_most}
 use Rattle.cache_tool.proofs.put.append_all.Goals as goal
 
@@ -126,3 +126,6 @@ pub returns-in-Refused-clause-refused : goal.returns-in-Refused-clause-refused
 returns-in-Refused-clause-refused g c = λ no.
     holds_refusal c.pieces.invariant.so_far (g.S.Source.left c.fill-filled.new.source) (take c.fill-filled.result.count c.fill-filled.new.piece) c.fill-filled.ensures.bytes
     (said_in c.append_piece.new.said) (c.in_ok-outcome.ensures.refused (ap (λ o. Ok o) c.in-Refused.is))
+
+pub returns-in_err-outcome-clause-open : goal.returns-in_err-outcome-clause-open
+returns-in_err-outcome-clause-open g c = λ told. handed_open c.from_residual.result c.in_err-outcome.field-0.0 (session g.D.Disk c.append_piece.new.store c.append_piece.new.disk) c.from_residual.ensures.1 (c.in_err-outcome.ensures.open told)

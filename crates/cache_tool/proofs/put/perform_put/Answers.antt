@@ -10,7 +10,7 @@ use Rattle.cache_theory.specs.Command.Command.{Create}
 use Rattle.cache_theory.specs.History.{unanswered}
 use Rattle.cache_tool.specs.HeldReply.{said_in}
 use Rattle.cache_tool.specs.World.{supply}
-use Rattle.cache_tool.proofs.PutSent.{handed_on}
+use Rattle.cache_tool.proofs.PutSent.{handed_on, handed_open}
 use Rattle.cache_tool.proofs.PutWhole.{appended_failed, appended_other, close_failed, close_went, create_failed, create_refused, created, nothing_went, other_outcome}
 use Rattle.cache_tool.proofs.put.perform_put.Goals as goal
 
@@ -105,3 +105,6 @@ returns g c = record {
   no_sink = search rules;
   account = search rules;
 }
+
+pub returns-in_err-outcome-clause-open : goal.returns-in_err-outcome-clause-open
+returns-in_err-outcome-clause-open g c = λ told. handed_open c.from_residual-in_err-outcome.result c.in_err-outcome.field-0.0 (session g.D.Disk c.send-in-Done.new.store c.send-in-Done.new.disk) c.from_residual-in_err-outcome.ensures.1 (c.in_err-outcome.ensures.open told)
