@@ -78,8 +78,7 @@ pub not_opened : (m : Machine) (key : List ℕ) (from to : Supply) (f : StoreFau
     → (IsQuiet before.disk → IsSafe t (marks_of m))
     → (cs : List Command) × (ArePut m key from to (status_in (Err f)) cs × PrintsLast m cs (status_in (Err f)) before (record before { disk = t }))
 not_opened m key from to f before t other calm some safe =
-    let body = some_body from to calm some in
-    (
+    let body = some_body from to calm some in (
       put_commands m key body.0,
       (
         Whole body.0 body.1 refl,

@@ -50,7 +50,7 @@ StoresBody moment key ended before now =
     IsSome before.source.left
     → (shelf : Table (List ℕ)) (rest : List (List ℕ)) → IsShelf before.disk shelf
     → (cs : List Command) × (ArePut (opened moment shelf rest) key before.source now.source ended cs
-        × PrintsLast (opened moment shelf rest) cs ended (output_of before) (output_of now))
+    × PrintsLast (opened moment shelf rest) cs ended (output_of before) (output_of now))
 
 -- These are the commands of a script, and of their replies this is printed. What is printed tells how many are
 -- acknowledged, and one more may have begun.

@@ -54,8 +54,8 @@ impl Sink for LastReply {
     fn write(&mut self, b: &[u8]) -> Result<usize, SinkFault>
         requires { 0 < length b.now }
         ensures bound { IfOk result (λ n. (0 < n) × (n ≤ length b.now)) }
-        ensures bytes {
-            WriteAppends (Some (said_in self.old)) (Some (said_in self.new)) result b.now }
+        ensures bytes { let now = Some (said_in self.new) in
+            WriteAppends (Some (said_in self.old)) now result b.now }
         ensures cause { HasCause (IsErrOf result SinkFault.Failed) 0 0 }
         ensures whole { IfOk result (λ n. n ≡ length b.now) }
     {

@@ -31,8 +31,8 @@ pub(crate) fn fill<S: Source>(source: &mut S, piece: &mut [u8]) -> Filled
     ensures full { result.ended ≡ Ended.Full → result.count ≡ length piece.new }
     ensures short { result.ended ≢ Ended.Full → result.count < length piece.new }
     ensures end { result.ended ≡ Ended.End → IsAtEnd (S.left source.new) }
-    ensures cause {
-        HasCause (result.ended ≡ Ended.Failed) (S.faults source.old) (S.faults source.new) }
+    ensures cause { let failed = result.ended ≡ Ended.Failed in
+        HasCause failed (S.faults source.old) (S.faults source.new) }
 {
     let mut count = 0;
     'reads: while count < piece.len() {

@@ -48,7 +48,7 @@ fn send<D: Disk>(
     requires told { IsTrue D.tells → IsOpen (session D.Disk store.old disk.old) }
     ensures sends { let at = session D.Disk in let before = at store.old disk.old in
         let now = at store.new disk.new in IsTrue D.tells →
-            SendsCommand (command_of c.now) result before now (said_in said.new) }
+        SendsCommand (command_of c.now) result before now (said_in said.new) }
     ensures prints { IfOk result (λ o.
         Prints (command_of c.now) o (Some []) (Some (said_in said.new))) }
     ensures bad_key { HasBadKey (command_of c.now) → result ≢ Ok Outcome.Ok }
@@ -73,7 +73,7 @@ fn append_piece<D: Disk>(
     requires told { IsTrue D.tells → IsOpen (session D.Disk store.old disk.old) }
     ensures appends { let at = session D.Disk in let before = at store.old disk.old in
         let now = at store.new disk.new in IsTrue D.tells →
-            AppendsPiece piece.now room result before now (said_in said.new) }
+        AppendsPiece piece.now room result before now (said_in said.new) }
     ensures fits { result ≡ Ok Outcome.Ok → length piece.now ≤ room }
     ensures refused { result ≡ Ok Outcome.Refused →
         IsRefusalLine (said_in said.new) ⊎ (room < length piece.now) }
@@ -115,7 +115,7 @@ fn append_all<D: Disk, S: Source>(
     requires told { IsTrue D.tells → IsOpen (session D.Disk store.old disk.old) }
     ensures appends { let gives = supply S.Source in let at = session D.Disk in
         let before = at store.old disk.old in let now = at store.new disk.new in IsTrue D.tells →
-            AppendsBody (gives source.old) (gives source.new) result before now (said_in said.new) }
+        AppendsBody (gives source.old) (gives source.new) result before now (said_in said.new) }
     ensures only { IfOk result (λ s. IsAnswer s ⊎ (s ≡ Status.Source)) }
     ensures read { result ≡ Ok Status.Done → IsAtEnd (S.left source.new) }
     ensures source { result ≡ Ok Status.Source → Rose (S.faults source.old) (S.faults source.new) }
@@ -156,7 +156,7 @@ fn perform_put<D: Disk, S: Source>(
     ensures performs { let gives = supply S.Source in let at = session D.Disk in
         let before = at store.old disk.old in let now = at store.new disk.new in
         let from = gives source.old in IsTrue D.tells →
-            PerformsPut key.now from (gives source.new) result before now (said_in said.new) }
+        PerformsPut key.now from (gives source.new) result before now (said_in said.new) }
     ensures only { IfOk result (λ s. IsAnswer s ⊎ (s ≡ Status.Source)) }
     ensures read { result ≡ Ok Status.Done → IsAtEnd (S.left source.new) }
     ensures unread { may_write key.now ≡ false → source.new ≡ source.old }

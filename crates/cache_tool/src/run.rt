@@ -46,14 +46,14 @@ pub fn run<D: Disk, S: Source, K: Sink>(
     ensures runs { let at = world S.Source K.Sink D.Disk in
         let before = at source.old sink.old disk.old in
         WhenRun (asked_in words.now) (λ now. IsTrue D.tells →
-            RunsScript now result before (at source.new sink.new disk.new)) }
+        RunsScript now result before (at source.new sink.new disk.new)) }
     ensures stores { let at = world S.Source K.Sink D.Disk in
         let before = at source.old sink.old disk.old in
         WhenPut (asked_in words.now) (λ now key. IsTrue D.tells →
-            StoresBody now key result before (at source.new sink.new disk.new)) }
+        StoresBody now key result before (at source.new sink.new disk.new)) }
     ensures answers { let at = output K.Sink D.Disk in
         WhenOne (asked_in words.now) (λ now c. IsTrue D.tells →
-            AnswersCommand now c result (at sink.old disk.old) (at sink.new disk.new)) }
+        AnswersCommand now c result (at sink.old disk.old) (at sink.new disk.new)) }
 
     // With `Done` a `run` and a `put` have read the source to its end, and for a `run` its bytes spell a script; with
     // `Script` they spell none. A `put` under a key that cannot be written reads nothing, and other verbs never do.
@@ -75,7 +75,7 @@ pub fn run<D: Disk, S: Source, K: Sink>(
         WhenPut (asked_in words.now) (λ now key. PrintsOk (K.taken sink.old) (K.taken sink.new)) }
     ensures put_no { let at = world S.Source K.Sink D.Disk in result ≡ Status.No →
         WhenPut (asked_in words.now) (λ now key.
-            PutRefuses (at source.old sink.old disk.old) (at source.new sink.new disk.new)) }
+        PutRefuses (at source.old sink.old disk.old) (at source.new sink.new disk.new)) }
     ensures one_done { result ≡ Status.Done → WhenOne (asked_in words.now) (λ now c.
         is_plain c ≡ true → PrintsOk (K.taken sink.old) (K.taken sink.new)) }
     ensures one_no { result ≡ Status.No → WhenOne (asked_in words.now) (λ now c.

@@ -173,8 +173,8 @@ fn say_bad<K: Sink>(alloc: Global, number: u64, sink: &mut K) -> Result<(), Stor
     ensures said { OnOk result (Appends (K.taken sink.old) (K.taken sink.new) (bad_line number)) }
     ensures cut { OnErr result (IsCut (K.taken sink.old) (K.taken sink.new) (bad_line number)) }
     ensures no_disk { result ≢ Err StoreFault.Disk }
-    ensures sink {
-        HasCause (IsErrOf result StoreFault.Sink) (K.faults sink.old) (K.faults sink.new) }
+    ensures sink { let failed = IsErrOf result StoreFault.Sink in
+        HasCause failed (K.faults sink.old) (K.faults sink.new) }
 {
     let text = bad_text(alloc, number)?;
     write_whole(sink, text.as_slice())?;
