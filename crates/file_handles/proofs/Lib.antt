@@ -1,3 +1,5 @@
+pub mod Histories
+pub mod Accounting
 pub mod KeptLaws
 pub mod Places
 pub mod Where

@@ -11,13 +11,15 @@ use Rattle.cache_theory.specs.Step.{step, stepped}
 use Rattle.cache_theory.specs.declared.refusal.Refusal.{Refusal}
 use Rattle.disk_model.specs.State.{State}
 use Rattle.file_handles.specs.Answers.{done_or, done_or_none, reply_in}
+use Rattle.file_handles.specs.Cache.{cache_at}
 use Rattle.file_handles.specs.Carries.{CarriesOut}
 use Rattle.file_handles.specs.Kept.{Kept}
 use Rattle.file_handles.specs.Refuses.{Refuses}
-use Rattle.file_handles.specs.Stands.{IsInWhere}
+use Rattle.file_handles.specs.Stands.{KeepsWhere}
 use Rattle.file_handles.specs.declared.fault.HandleFault.{HandleFault}
 use Rattle.file_handles.specs.declared.fault.HandleFault.TheVariants as fault
 use Rattle.file_handles.proofs.Begun.{begun_in}
+use Rattle.file_handles.proofs.Histories.{history_of}
 use Rattle.file_handles.proofs.Where.{CarriesOutWhere, carries_out}
 
 begun_refused : (m : Machine) (c : Command) (w : Marks) (r : Refusal) → first_failing (checks m c) ≡ Some r → begun m c w ≡ w
@@ -41,24 +43,24 @@ acked_refused m (Doom key) w r e = begun_refused m (Doom key) w r e
 acked_refused m (Get key) w r e = begun_refused m (Get key) w r e
 
 -- so it is carried out, whatever the state of the machine and the marks
-pub refused_where : (s : State) (k : Kept) (c : Command) (r : Refusal) → Refuses k c r → CarriesOutWhere c (Some (Refused r)) s s k k
+pub refused_where : (s : State) (k : Kept) (c : Command) (r : Refusal) → Refuses k c r → CarriesOutWhere c (Some (Refused r)) (cache_at k s) (cache_at k s)
 refused_where s k c r refuses b m w is =
     let fails : first_failing (checks m c) ≡ Some r = refuses m is.number is.stands.proper is.stands.handles in
     record {
       safe = λ on. ((begun_in s k m c w is).crash_kept on).safe;
       replies = ap (λ o. (stepped m c o).reply) (sym fails);
-      next = subst (λ (v : Marks). IsInWhere b s k (step m c).next v) (sym (acked_refused m c w r fails)) (subst (λ (n : Machine). IsInWhere b s k n w) (ap (λ o. (stepped m c o).next) (sym fails)) is);
+      next = subst (λ (v : Marks). KeepsWhere b (cache_at k s) (history_of (step m c).next v)) (sym (acked_refused m c w r fails)) (subst (λ (n : Machine). KeepsWhere b (cache_at k s) (history_of n w)) (ap (λ o. (stepped m c o).next) (sym fails)) is);
     }
 
-pub refused_leaves : (s : State) (k : Kept) (c : Command) (r : Refusal) → Refuses k c r → CarriesOut c (Some (Refused r)) s s k k
+pub refused_leaves : (s : State) (k : Kept) (c : Command) (r : Refusal) → Refuses k c r → CarriesOut c (Some (Refused r)) (cache_at k s) (cache_at k s)
 refused_leaves s k c r refuses = carries_out (refused_where s k c r refuses)
 
 -- a refusal that is handed on as the answer
-pub refused_answer : {T : Type 0} (a : Result T HandleFault) (s : State) (k : Kept) (c : Command) (r : Refusal) → IsErrAnd a (λ e. e ≡ fault.Refused r) → Refuses k c r → CarriesOut c (done_or a) s s k k
+pub refused_answer : {T : Type 0} (a : Result T HandleFault) (s : State) (k : Kept) (c : Command) (r : Refusal) → IsErrAnd a (λ e. e ≡ fault.Refused r) → Refuses k c r → CarriesOut c (done_or a) (cache_at k s) (cache_at k s)
 refused_answer (Ok x) s k c r is refuses = absurd is
-refused_answer (Err e) s k c r is refuses = subst (λ o. CarriesOut c o s s k k) (ap reply_in (sym is)) (refused_leaves s k c r refuses)
+refused_answer (Err e) s k c r is refuses = subst (λ o. CarriesOut c o (cache_at k s) (cache_at k s)) (ap reply_in (sym is)) (refused_leaves s k c r refuses)
 
 pub refused_answer_or_none : {T : Type 0} (a : Result (Option T) HandleFault) (s : State) (k : Kept) (c : Command) (r : Refusal) → IsErrAnd a (λ e. e ≡ fault.Refused r) → Refuses k c r
-    → CarriesOut c (done_or_none a) s s k k
+    → CarriesOut c (done_or_none a) (cache_at k s) (cache_at k s)
 refused_answer_or_none (Ok x) s k c r is refuses = absurd is
-refused_answer_or_none (Err e) s k c r is refuses = subst (λ o. CarriesOut c o s s k k) (ap reply_in (sym is)) (refused_leaves s k c r refuses)
+refused_answer_or_none (Err e) s k c r is refuses = subst (λ o. CarriesOut c o (cache_at k s) (cache_at k s)) (ap reply_in (sym is)) (refused_leaves s k c r refuses)

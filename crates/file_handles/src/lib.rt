@@ -3,18 +3,18 @@
 //! its last slot is closed.
 #![tactic(auto)]
 
-mod closing;
-mod creating;
-mod dooming;
+mod append;
+mod close;
+mod create;
+mod doom;
 mod elements;
 mod fault;
-mod finding;
-mod finishing;
-mod growing;
+mod find;
+mod finish;
 mod handles;
 mod object;
-mod opening;
-mod reading;
+mod open;
+mod read;
 
 pub use cache_theory::Refusal;
 pub use fault::{Effect, HandleFault};

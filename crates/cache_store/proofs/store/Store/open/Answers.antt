@@ -1,5 +1,5 @@
 use Rattle.std.proofs.Common.{refl, arith}
-use Rattle.cache_store.specs.Open.{open_of}
+use Rattle.cache_store.specs.Session.{open_of}
 use Rattle.cache_store.proofs.Closed.{sync_safe}
 use Rattle.cache_store.proofs.Opened.{cleared_safe, keeps_found, opened_safe, opened_stands, opens_open}
 use Rattle.cache_store.proofs.Shelves.{shelf_exists}
@@ -53,7 +53,7 @@ returns-clause-opens g c = λ told.
     (g.met.D.Disk.sound c.sync.new.self told) (c.in_ok-sync.ensures.state told) (c.in_ok-clear.ensures.cleared told) refl (omega arith) c.in_ok-handles.ensures
 
 pub returns-clause-open : goal.returns-clause-open
-returns-clause-open g c = λ told. opens_open _ _ c.args.now _ (g.met.D.Disk.finite c.args.disk.now told) (returns-clause-opens g c told)
+returns-clause-open g c = λ told. opens_open _ c.args.now _ (g.met.D.Disk.finite c.args.disk.now told) (returns-clause-opens g c told)
 
 pub returns-in_err-handles-clause-shelf : goal.returns-in_err-handles-clause-shelf
 returns-in_err-handles-clause-shelf g c = λ told. shelf_exists _ (g.met.D.Disk.finite c.args.disk.now told)

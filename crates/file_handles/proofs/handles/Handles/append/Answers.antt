@@ -7,7 +7,7 @@ use Rattle.file_handles.specs.Kept.{kept}
 use Rattle.file_handles.specs.declared.object.Object.{Object}
 use Rattle.file_handles.proofs.Carried.{change_carried}
 use Rattle.file_handles.specs.Answers.{done_or}
-use Rattle.file_handles.proofs.ElementChecks.{if_object, the_object}
+use Rattle.file_handles.proofs.ElementChecks.{both_right, if_object, the_object}
 use Rattle.file_handles.proofs.InChunk.{appends_done, fits_held}
 use Rattle.file_handles.proofs.Places.{filed_somehow}
 use Rattle.file_handles.proofs.WriterCommands.{append_makes}
@@ -16,6 +16,9 @@ use Rattle.file_handles.proofs.handles.Handles.append.Goals as goal
 
 pub append_at-requires-clause-told : goal.append_at-requires-clause-told
 append_at-requires-clause-told g c told = filed_somehow _ _ _ (c.requires.told told)
+
+pub append_at-requires-clause-limit : goal.append_at-requires-clause-limit
+append_at-requires-clause-limit g c = both_right _ _ _ c.in_ok-place.ensures.object
 
 pub returns-clause-carried : goal.returns-clause-carried
 returns-clause-carried g c told =

@@ -1,7 +1,9 @@
 use Rattle.std.proofs.Common.{◌<◌, ◌≤◌, length, sym, ap, subst, ◌∙◌, arith}
 use Rattle.std.proofs.lemmas.Result.{IfOk-from_err}
+use Rattle.disk_model.specs.Account.{IsCalm}
 use Rattle.file_handles.specs.Kept.{kept}
-use Rattle.file_handles.proofs.ClosedAll.{IsDroppedTo, all_closed, all_failed, item_at, next_somehow, no_fault, none_dropped, one_dropped}
+use Rattle.file_handles.proofs.Accounting.{calm_then}
+use Rattle.file_handles.proofs.ClosedAll.{IsDroppedTo, all_closed, all_failed, item_at, next_somehow, none_dropped, one_dropped}
 use Rattle.file_handles.proofs.handles.Handles.close_all.Goals.{in-Some+in_ok-drop_file, in_default}
 use Rattle.file_handles.proofs.handles.Handles.close_all.Goals as goal
 
@@ -15,8 +17,8 @@ pub returns-in_err-drop_file-clause-closes : goal.returns-in_err-drop_file-claus
 returns-in_err-drop_file-clause-closes g c told =
     let within : c.loop-object.object-index < length c.args.self.objects = let lt = c.loop-object-test.true in let l = c.loop-object.invariant.long in omega (arith, lt, l) in
     record {
-      crash = all_failed (kept c.args.self) c.loop-object.object-index c.in-Some.object c.drop_file.result (g.D.Disk.state c.args.disk.now) (g.D.Disk.state c.loop-object.disk) (g.D.Disk.state c.drop_file.new.disk)
-          (item_at (kept c.args.self) c.loop-object.object-index c.object-item.result _ within c.in-Some.is) (c.drop_file.ensures.state told) (c.loop-object.invariant.to told);
+      crash = λ h is. all_failed (kept c.args.self) c.loop-object.object-index c.in-Some.object c.drop_file.result (g.D.Disk.state c.args.disk.now) (g.D.Disk.state c.loop-object.disk) (g.D.Disk.state c.drop_file.new.disk)
+          (item_at (kept c.args.self) c.loop-object.object-index c.object-item.result _ within c.in-Some.is) (c.drop_file.ensures.state told) (c.loop-object.invariant.to told) h.machine h.marks is;
       closed = λ m stand. IfOk-from_err c.from_residual.result _ c.from_residual.ensures.0;
     }
 
@@ -33,15 +35,13 @@ loop-object-preserved g c =
         long = before.long;
         to = λ told. one_dropped k i w.in-Some.object s t (g.D.Disk.state c.match-object.disk) (item_at k i c.object-item.result _ within w.in-Some.is)
             (ap g.D.Disk.state w.disk-is ∙ w.in_ok-drop_file.ensures.state told) (before.to told);
-        fault = λ told. ap (λ d. (g.D.Disk.counts d).failed) w.disk-is ∙ w.in_ok-drop_file.ensures.went_on told ∙ before.fault told;
-        faults = ap g.D.Disk.faults w.disk-is ∙ w.in_ok-drop_file.ensures.cause.kept (no_fault w.in_ok-drop_file.field-0) ∙ before.faults;
+        calm = subst (IsCalm g.D.Disk c.args.disk.now) (sym w.disk-is) (calm_then g.D.Disk _ _ _ before.calm w.in_ok-drop_file.ensures.account);
       }
       | in_default w ↦ record {
         long = before.long;
         to = λ told. none_dropped k i s (g.D.Disk.state c.match-object.disk) (item_at k i c.object-item.result _ within w.in_default.is)
             (subst (λ d. IsDroppedTo k i s (g.D.Disk.state d)) (sym w.disk-is) (before.to told));
-        fault = λ told. ap (λ d. (g.D.Disk.counts d).failed) w.disk-is ∙ before.fault told;
-        faults = ap g.D.Disk.faults w.disk-is ∙ before.faults;
+        calm = subst (IsCalm g.D.Disk c.args.disk.now) (sym w.disk-is) before.calm;
       }
     ]
 

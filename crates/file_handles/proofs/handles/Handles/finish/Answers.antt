@@ -5,7 +5,7 @@ use Rattle.file_handles.specs.Kept.{kept}
 use Rattle.file_handles.proofs.Carried.{change_carried}
 use Rattle.file_handles.specs.Effects.{wrote_where}
 use Rattle.file_handles.proofs.EffectLaws.{by_value, effect_is}
-use Rattle.file_handles.proofs.ElementChecks.{the_object}
+use Rattle.file_handles.proofs.ElementChecks.{both_right, the_object}
 use Rattle.file_handles.proofs.Places.{filed_somehow}
 use Rattle.file_handles.proofs.WriterCommands.{finish_makes}
 use Rattle.file_handles.proofs.Refused.{refused_answer}
@@ -13,6 +13,9 @@ use Rattle.file_handles.proofs.handles.Handles.finish.Goals as goal
 
 pub finish_at-requires-clause-told : goal.finish_at-requires-clause-told
 finish_at-requires-clause-told g c told = filed_somehow _ _ _ (c.requires.told told)
+
+pub finish_at-requires-clause-draft : goal.finish_at-requires-clause-draft
+finish_at-requires-clause-draft g c = both_right _ _ _ c.in_ok-place.ensures.object
 
 pub returns-clause-carried : goal.returns-clause-carried
 returns-clause-carried g c told =

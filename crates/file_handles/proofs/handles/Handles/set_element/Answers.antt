@@ -10,7 +10,7 @@ use Rattle.file_handles.specs.Held.{elements_in, is_draft}
 use Rattle.file_handles.specs.Refuses.{HasAt}
 use Rattle.file_handles.specs.Setting.{HasRoom}
 use Rattle.file_handles.proofs.EffectLaws.{by_value, effect_is, sets_rewrite}
-use Rattle.file_handles.proofs.ElementChecks.{the_object}
+use Rattle.file_handles.proofs.ElementChecks.{both_right, the_object}
 use Rattle.file_handles.proofs.ElementCommands.{set_leaves}
 use Rattle.file_handles.proofs.Places.{filed_somehow}
 use Rattle.file_handles.proofs.Refused.{refused_answer}
@@ -18,6 +18,9 @@ use Rattle.file_handles.proofs.handles.Handles.set_element.Goals as goal
 
 pub change_at-requires-clause-told : goal.change_at-requires-clause-told
 change_at-requires-clause-told g c told = filed_somehow _ _ _ (c.requires.told told)
+
+pub change_at-requires-clause-room : goal.change_at-requires-clause-room
+change_at-requires-clause-room g c = both_right _ _ _ c.in_ok-place.ensures.object
 
 pub returns-clause-carried : goal.returns-clause-carried
 returns-clause-carried g c told =
