@@ -1,5 +1,5 @@
 -- What the machine does with the commands of a put.
-use Rattle.std.proofs.Common.{◌≡◌, ◌≢◌, ℕ, ◌+◌, ◌<◌, ◌≤◌, List, [], ◌∷◌, ◌++◌, length, true, false, Some, None, refl, sym, ap, subst, ◌∙◌, arith}
+use Rattle.std.proofs.Common.{◌≡◌, ℕ, ◌+◌, ◌<◌, ◌≤◌, List, [], ◌∷◌, ◌++◌, length, true, false, Some, None, refl, sym, ap, subst, ◌∙◌, arith}
 use Rattle.std.specs.Prelude.{IfOk, Ok, OnOk, Option, Result, option_map, unwrap_or}
 use Rattle.std.proofs.lemmas.Bool.{leb-true}
 use Rattle.std.proofs.lemmas.List.{append-nil}
@@ -29,7 +29,7 @@ use Rattle.cache_store.specs.declared.fault.Outcome.TheVariants as outcome
 use Rattle.cache_store.specs.declared.fault.StoreFault.{StoreFault}
 use Rattle.cache_tool.specs.PutProgress.{AreSent, IsRefused, IsSent, IsWriting, PieceIsSent}
 use Rattle.cache_tool.specs.Replies.{is_done}
-use Rattle.cache_tool.proofs.PutRuns.{sent_none, sent_one_of}
+use Rattle.cache_tool.proofs.PutCommands.{sent_none, sent_one_of}
 
 -- a command whose reply is `ok` where no check fails, and which is acknowledged as it begins
 pub record IsPlain (c : Command) : Type 0 where

@@ -1,5 +1,5 @@
 -- The whole put: an entry is made, gets its body and is closed.
-use Rattle.std.proofs.Common.{◌≡◌, ◌≢◌, inl, inr, ℕ, List, [], ◌∷◌, ◌++◌, false, true, Some, None, refl, sym, ap, subst, ◌∙◌}
+use Rattle.std.proofs.Common.{◌≡◌, ◌≢◌, inl, inr, ℕ, List, [], ◌∷◌, ◌++◌, true, Some, None, refl, sym, ap, subst, ◌∙◌}
 use Rattle.std.specs.Prelude.{Err, IsSome, Ok, Option, Result}
 use Rattle.cache_base.specs.declared.status.Status.{Status}
 use Rattle.cache_base.specs.declared.status.Status.TheVariants as status
@@ -23,7 +23,7 @@ use Rattle.cache_tool.specs.Statuses.{IsAnswer, IsClosing, status_in, status_of}
 use Rattle.cache_tool.specs.World.{Supply}
 use Rattle.cache_tool.proofs.Begun.{all_begin_keep}
 use Rattle.cache_tool.proofs.PutMachine.{close_is_plain, create_is_plain, create_writes, sent_one, sent_done}
-use Rattle.cache_tool.proofs.PutRuns.{last_of, last_stopped, sent_more, sent_then, until_all}
+use Rattle.cache_tool.proofs.PutCommands.{last_of, last_stopped, sent_more, sent_then, until_all}
 
 -- a fault is no answer, and but for that of a sink the store is not closed
 pub fault_is_none : (f : StoreFault) → ¬ (IsAnswer (status_in (Err f)))

@@ -45,8 +45,8 @@ AnswersCommand moment c ended before now =
     → PrintsLast (opened moment shelf rest) (c ∷ []) ended before now
 
 -- `put`, of a source that tells its bytes: the entry gets them as its body
-abbrev pub StoresBody : ℕ → List ℕ → Status → World → World → Type 0
-StoresBody moment key ended before now =
+abbrev pub StoresEntry : ℕ → List ℕ → Status → World → World → Type 0
+StoresEntry moment key ended before now =
     IsSome before.source.left
     → (shelf : Table (List ℕ)) (rest : List (List ℕ)) → IsShelf before.disk shelf
     → (cs : List Command) × (ArePut (opened moment shelf rest) key before.source now.source ended cs

@@ -17,7 +17,7 @@ pub(crate) enum Ended {
     Failed,
 }
 
-/// The bytes at the front of a piece that came from the source, and how far that went.
+/// How many bytes at the beginning of a piece came from the source, and how that ended.
 #[derive(Clone, Copy, Debug, PartialEq, Eq)]
 pub(crate) struct Filled {
     pub(crate) count: usize,

@@ -16,7 +16,7 @@ ghost use Rattle.cache_tool.specs.AnyDisk.{HoldsRefusal, IsRefusalLine, PutRefus
 ghost use Rattle.cache_tool.specs.HeldReply.{said_in};
 ghost use Rattle.cache_tool.specs.PutProgress.{AppendsBody, AppendsPiece, PerformsPut, SendsCommand};
 ghost use Rattle.cache_tool.specs.Statuses.{IsAnswer, IsClosing};
-ghost use Rattle.cache_tool.specs.Verbs.{StoresBody};
+ghost use Rattle.cache_tool.specs.Verbs.{StoresEntry};
 ghost use Rattle.cache_tool.specs.World.{supply, world};
 ghost use Rattle.disk_model.specs.Account.{Accounts};
 ghost use Rattle.disk_model.specs.Calls.{StopsAtFault};
@@ -214,7 +214,7 @@ pub(crate) fn put<D: Disk, S: Source, K: Sink>(
 ) -> Status
     ensures stores { let at = world S.Source K.Sink D.Disk in
         let before = at source.old sink.old disk.old in
-        IsTrue D.tells → StoresBody now key.now result before (at source.new sink.new disk.new) }
+        IsTrue D.tells → StoresEntry now key.now result before (at source.new sink.new disk.new) }
     ensures read { result ≡ Status.Done → IsAtEnd (S.left source.new) }
     ensures unread { may_write key.now ≡ false → source.new ≡ source.old }
     ensures taken { TakesAtMost (BODY_LEN + PIECE_LEN) (S.left source.old) (S.left source.new) }

@@ -8,7 +8,7 @@ ghost use Rattle.cache_store.specs.Printed.{PrintsOk, PrintsRefusal, is_plain};
 ghost use Rattle.cache_tool.specs.AnyDisk.{PutRefuses, TakesAtMost};
 ghost use Rattle.cache_tool.specs.Script.{HasBadCommand, HasScript, IsScript};
 ghost use Rattle.cache_tool.specs.Statuses.{IsAnswer, IsClosing};
-ghost use Rattle.cache_tool.specs.Verbs.{AnswersCommand, RunsScript, StoresBody};
+ghost use Rattle.cache_tool.specs.Verbs.{AnswersCommand, RunsScript, StoresEntry};
 ghost use Rattle.cache_tool.specs.Words.{WhenOne, WhenPut, WhenRun, asked_in};
 ghost use Rattle.cache_tool.specs.World.{output, world};
 ghost use Rattle.disk_model.specs.Calls.{StopsAtFault};
@@ -50,7 +50,7 @@ pub fn run<D: Disk, S: Source, K: Sink>(
     ensures stores { let at = world S.Source K.Sink D.Disk in
         let before = at source.old sink.old disk.old in
         WhenPut (asked_in words.now) (λ now key. IsTrue D.tells →
-        StoresBody now key result before (at source.new sink.new disk.new)) }
+        StoresEntry now key result before (at source.new sink.new disk.new)) }
     ensures answers { let at = output K.Sink D.Disk in
         WhenOne (asked_in words.now) (λ now c. IsTrue D.tells →
         AnswersCommand now c result (at sink.old disk.old) (at sink.new disk.new)) }

@@ -91,14 +91,12 @@ fn comes_so(alloc: Global, disk: &mut MemDisk, row: &Row<'_>) -> Result<bool, Fa
 
 // How many rows come to what they say, one after the other, up to the first that does not.
 fn rows_so(alloc: Global, disk: &mut MemDisk, rows: &[Row<'_>]) -> Result<usize, Fail> {
-    let mut done = 0;
-    for row in rows {
-        if !comes_so(alloc, disk, row)? {
-            return Ok(done);
+    for index in 0..rows.len() {
+        if !comes_so(alloc, disk, &rows[index])? {
+            return Ok(index);
         }
-        done += 1;
     }
-    Ok(done)
+    Ok(rows.len())
 }
 
 // A disk on which this file stands at the place of the key.

@@ -1,7 +1,7 @@
 use Rattle.std.proofs.Common.{arith}
 use Rattle.cache_base.proofs.ByteLaws.{all_below}
 use Rattle.cache_store.specs.Session.{session}
-use Rattle.cache_tool.proofs.PutSent.{empty_went, handed_on, handed_open, is_empty_of, not_empty_of, over_went, piece_went}
+use Rattle.cache_tool.proofs.PutReplies.{empty_went, handed_on, handed_open, is_empty_of, not_empty_of, over_went, piece_went}
 use Rattle.cache_tool.proofs.put.append_piece.Goals as goal
 
 pub returns-then-is_empty-clause-appends : goal.returns-then-is_empty-clause-appends

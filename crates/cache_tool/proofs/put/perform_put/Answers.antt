@@ -10,7 +10,7 @@ use Rattle.cache_theory.specs.Command.Command.{Create}
 use Rattle.cache_theory.specs.History.{unanswered}
 use Rattle.cache_tool.specs.HeldReply.{said_in}
 use Rattle.cache_tool.specs.World.{supply}
-use Rattle.cache_tool.proofs.PutSent.{handed_on, handed_open}
+use Rattle.cache_tool.proofs.PutReplies.{handed_on, handed_open}
 use Rattle.cache_tool.proofs.PutWhole.{appended_failed, appended_other, close_failed, close_went, create_failed, create_refused, created, nothing_went, other_outcome}
 use Rattle.cache_tool.proofs.put.perform_put.Goals as goal
 

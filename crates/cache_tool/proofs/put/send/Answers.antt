@@ -1,6 +1,6 @@
 use Rattle.cache_store.proofs.Represented.{represents}
 use Rattle.cache_tool.specs.HeldReply.{said_in}
-use Rattle.cache_tool.proofs.PutSent.{sends_of}
+use Rattle.cache_tool.proofs.PutReplies.{sends_of}
 use Rattle.cache_tool.proofs.put.send.Goals as goal
 
 pub returns-clause-sends : goal.returns-clause-sends

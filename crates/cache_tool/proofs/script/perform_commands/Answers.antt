@@ -1,6 +1,6 @@
 use Rattle.std.proofs.Common.{refl}
 use Rattle.cache_tool.specs.World.{progress}
-use Rattle.cache_tool.proofs.ScriptGoes.{starts}
+use Rattle.cache_tool.proofs.ScriptTurns.{starts}
 use Rattle.cache_tool.proofs.script.perform_commands.Goals as goal
 
 pub turns-init : goal.turns-init

@@ -1,7 +1,7 @@
 use Rattle.std.proofs.Common.{Err, ap}
 use Rattle.cache_script.specs.Command.{command_of}
 use Rattle.cache_tool.specs.World.{progress, supply}
-use Rattle.cache_tool.proofs.ScriptGoes.{gives_none, gives_one, turn_bad, turn_err, turn_failed, turn_on, turn_whole}
+use Rattle.cache_tool.proofs.ScriptTurns.{gives_none, gives_one, turn_bad, turn_err, turn_failed, turn_on, turn_whole}
 use Rattle.cache_tool.proofs.script.perform_next.Goals as goal
 
 pub returns-in_err-command-in-Ok-Some-clause-performs : goal.returns-in_err-command-in-Ok-Some-clause-performs

@@ -1,5 +1,5 @@
 use Rattle.cache_tool.specs.World.{progress}
-use Rattle.cache_tool.proofs.ScriptRan.{ran_bad, ran_bad_cut, ran_broke, ran_failed, ran_nothing, ran_whole}
+use Rattle.cache_tool.proofs.ScriptWhole.{ran_bad, ran_bad_cut, ran_broke, ran_failed, ran_nothing, ran_whole}
 use Rattle.cache_tool.proofs.script.perform_script.Goals as goal
 
 pub returns-in_err-reader-clause-performs : goal.returns-in_err-reader-clause-performs

@@ -1,6 +1,6 @@
 use Rattle.std.proofs.Common.{Err, ap, ◌∙◌}
 use Rattle.cache_tool.specs.World.{progress, world}
-use Rattle.cache_tool.proofs.ScriptRuns.{runs_ended, runs_unopened}
+use Rattle.cache_tool.proofs.ScriptEnds.{runs_ended, runs_unopened}
 use Rattle.cache_tool.proofs.script.run_script.Goals as goal
 
 pub returns-in-Err-clause-runs : goal.returns-in-Err-clause-runs

@@ -24,7 +24,7 @@ use Rattle.cache_tool.specs.PutProgress.{AgreesWith, AppendsPiece, AppendsSoFar,
 use Rattle.cache_tool.specs.Statuses.{status_of}
 use Rattle.cache_tool.specs.World.{Supply}
 use Rattle.cache_tool.proofs.PutPieces.{leads_more, leads_step}
-use Rattle.cache_tool.proofs.PutRuns.{done-append, sent_more, sent_same, sent_then, unanswered-append, until_all}
+use Rattle.cache_tool.proofs.PutCommands.{done-append, sent_more, sent_same, sent_then, unanswered-append, until_all}
 
 -- nothing was appended yet
 pub so_far_none : (tells : Type 0) (left : Option (List ℕ)) (now : Session) → AppendsSoFar tells BODY_MAX left left now now

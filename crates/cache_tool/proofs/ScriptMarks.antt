@@ -13,12 +13,12 @@ use Rattle.cache_theory.specs.Crash.{IsSafe}
 use Rattle.cache_theory.specs.History.{History, unanswered}
 use Rattle.cache_theory.specs.Machine.{Machine}
 use Rattle.cache_theory.specs.Marks.{Marks, all_acked, all_begun, begun}
-use Rattle.cache_theory.specs.Step.{after, step}
+use Rattle.cache_theory.specs.Step.{after}
 use Rattle.cache_tool.specs.Script.{performed}
 use Rattle.cache_tool.specs.ScriptProgress.{LeavesScript, all_answered, history_from, marks_from}
 use Rattle.cache_tool.specs.Statuses.{IsClosing, status_in}
 use Rattle.cache_tool.proofs.Begun.{all_begin_keep}
-use Rattle.cache_tool.proofs.ScriptGoes.{after_more}
+use Rattle.cache_tool.proofs.ScriptTurns.{after_more}
 use Rattle.disk_model.specs.State.{State}
 
 -- with the acknowledged commands, whatever may have begun

@@ -19,8 +19,8 @@ use Rattle.cache_tool.specs.Statuses.{status_in}
 use Rattle.cache_tool.specs.World.{Progress}
 use Rattle.cache_tool.specs.declared.script.Ended.TheVariants as ended
 use Rattle.cache_tool.proofs.Moments.{with_left, with_taken}
-use Rattle.cache_tool.proofs.ScriptKeeps.{keeps_cut, keeps_front}
-use Rattle.cache_tool.proofs.ScriptTells.{tells_cut, tells_front, tells_line}
+use Rattle.cache_tool.proofs.ScriptMarks.{keeps_cut, keeps_front}
+use Rattle.cache_tool.proofs.ScriptReplies.{tells_cut, tells_front, tells_line}
 
 -- ---- the commands that were read are the first of all that there are
 
@@ -36,7 +36,7 @@ whole_is_longest bytes cs whole = record {
   longest = λ c more is e. absurd (let long = command_some c in omega (arith, long, ap length e, length-append (command_bytes c) more));
 }
 
--- the front of what was taken is the front of all
+-- a prefix of what was taken is a prefix of all
 taken_front : (xs ys taken rest : List ℕ) (cs : List Command) → xs ≡ taken ++ ys → SpellsFront taken cs rest → SpellsFront xs cs (rest ++ ys)
 taken_front xs ys taken rest cs e front = record {
   commands = front.commands;

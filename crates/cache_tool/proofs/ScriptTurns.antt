@@ -23,7 +23,7 @@ use Rattle.cache_tool.specs.World.{Progress, Supply}
 use Rattle.cache_tool.specs.declared.script.Ended.{Ended}
 use Rattle.cache_tool.specs.declared.script.Ended.TheVariants as ended
 use Rattle.cache_tool.proofs.Moments.{with_source}
-use Rattle.cache_tool.proofs.ScriptReads.{more_length, nothing_read, read_bad, read_front, read_on, read_taken, read_whole}
+use Rattle.cache_tool.proofs.ScriptBytes.{more_length, nothing_read, read_bad, read_front, read_on, read_taken, read_whole}
 
 -- the machine after some commands and one more
 pub after_more : (m : Machine) (cs : List Command) (c : Command) → after m (cs ++ c ∷ []) ≡ (step (after m cs) c).next

@@ -1,13 +1,12 @@
 -- A source whose bytes spell a script has no bad command.
-use Rattle.std.proofs.Common.{◌≡◌, ◌≢◌, ◌⊎◌, inl, inr, ℕ, ◌<◌, List, [], ◌∷◌, ◌++◌, length, Option, None, Some, refl, ap, subst, arith, length-append}
+use Rattle.std.proofs.Common.{◌≡◌, ◌≢◌, ◌⊎◌, inl, inr, ℕ, List, Option, None, Some, refl, subst}
 use Rattle.cache_base.specs.declared.status.Status.{Status}
 use Rattle.cache_base.specs.declared.status.Status.TheVariants as status
 use Rattle.cache_script.proofs.ListLaws.{commands_are_one}
-use Rattle.cache_theory.specs.Command.{Command}
-use Rattle.cache_theory.specs.Text.{CommandsIn, NoMore, ScriptSpells, command_bytes, command_data, command_words, spaced}
+use Rattle.cache_theory.specs.Text.{ScriptSpells}
 use Rattle.cache_tool.specs.Script.{HasBadCommand, IsScript}
 use Rattle.cache_tool.specs.Statuses.{IsAnswer}
-use Rattle.cache_tool.proofs.ScriptRan.{whole_is_longest}
+use Rattle.cache_tool.proofs.ScriptWhole.{whole_is_longest}
 
 pub script_is_not_bad : (left : Option (List ℕ)) → IsScript left → HasBadCommand left → ⊥
 script_is_not_bad None script bad = script

@@ -15,7 +15,7 @@ use Rattle.cache_theory.proofs.Acked.{cut_is_acked, whole_is_acked}
 use Rattle.cache_tool.specs.Script.{AreTaken, bad_line}
 use Rattle.cache_tool.specs.ScriptProgress.{TellsAcked}
 use Rattle.cache_tool.specs.World.{Progress}
-use Rattle.cache_tool.proofs.ScriptGoes.{replies_text_joined}
+use Rattle.cache_tool.proofs.ScriptTurns.{replies_text_joined}
 use Rattle.entry_file.specs.Version.{Version}
 use Rattle.entry_parts.specs.Elements.{elements_bytes}
 

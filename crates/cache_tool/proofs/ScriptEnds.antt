@@ -24,8 +24,8 @@ use Rattle.cache_tool.specs.Statuses.{IsClosing, status_in}
 use Rattle.cache_tool.specs.Verbs.{RunsScript}
 use Rattle.cache_tool.specs.World.{Progress, World, world_of}
 use Rattle.cache_tool.proofs.Moments.{with_left}
-use Rattle.cache_tool.proofs.ScriptKeeps.{more_begun, none_begun}
-use Rattle.cache_tool.proofs.ScriptTells.{begins_more, front_acked}
+use Rattle.cache_tool.proofs.ScriptMarks.{more_begun, none_begun}
+use Rattle.cache_tool.proofs.ScriptReplies.{begins_more, front_acked}
 use Rattle.cache_tool.proofs.StatusLaws.{EndsAs, closes_or_not, closing_same}
 use Rattle.disk_model.specs.State.{State}
 
