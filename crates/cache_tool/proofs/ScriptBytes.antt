@@ -11,9 +11,9 @@ use Rattle.cache_script.specs.declared.reader.Reader.{Reader}
 use Rattle.cache_theory.specs.Command.{Command}
 use Rattle.cache_theory.specs.Text.{CommandsIn, IsCommand, ScriptSpells, SpellsFront, command_bytes, script_bytes}
 use Rattle.cache_tool.specs.Script.{AreTaken}
-use Rattle.cache_tool.specs.ScriptWent.{AreRead}
+use Rattle.cache_tool.specs.ScriptProgress.{AreRead}
 
--- nothing, at the front
+-- nothing, at the beginning
 pub nothing_read : (left : Option (List ℕ)) (held : List ℕ) → held ≡ [] → AreRead left left [] held
 nothing_read left held none = record {
   commands = tt;
@@ -62,7 +62,7 @@ always : {X : Type 0} (o : Option X) (P : X → Type 0) → ((x : X) → P x) �
 always None P h = tt
 always (Some x) P h = h x
 
--- of what is left behind the bytes that are held
+-- of what is left after the bytes that are held
 behind : (o : Option (List ℕ)) (held : List ℕ) (P Q : List ℕ → Type 0) → IfSome (prepend_known held o) P → ((rest : List ℕ) → P (held ++ rest) → Q rest) → IfSome o Q
 behind None held P Q h f = tt
 behind (Some xs) held P Q h f = f xs h
@@ -100,7 +100,7 @@ read_taken old left mid now cs r b = (
   ),
 )
 
--- a script that ends behind its commands has nothing behind them
+-- a script that ends after its commands has nothing after them
 more_is_none : (bytes : List ℕ) (cs : List Command) (rest : List ℕ) → SpellsFront bytes cs rest → ScriptSpells bytes cs → rest ≡ []
 more_is_none bytes cs rest front whole = append_cancel_left (script_bytes cs) rest [] (sym front.spelled ∙ whole.spelled)
 

@@ -3,33 +3,27 @@ use Rattle.std.proofs.Common.{◌≡◌, ◌≢◌, inl, inr, ℕ, List, [], ◌
 use Rattle.std.specs.Prelude.{Err, Ok, OnOk, Result, ◌⊎◌}
 use Rattle.cache_theory.specs.Command.{Command}
 use Rattle.cache_theory.specs.Crash.{IsSafe}
+use Rattle.cache_theory.specs.History.{History, unanswered}
 use Rattle.cache_theory.specs.Machine.{Machine}
-use Rattle.cache_theory.specs.Marks.{Marks, all_begun, begun}
+use Rattle.cache_theory.specs.Marks.{all_begun, begun}
 use Rattle.cache_theory.specs.Step.{after, step}
 use Rattle.cache_theory.specs.Text.{reply_text}
-use Rattle.cache_theory.proofs.Acked.{after-append}
-use Rattle.cache_theory.proofs.Begins.{begin_keeps}
 use Rattle.cache_store.specs.Answering.{outcome_of}
-use Rattle.cache_store.specs.Open.{Open, StandsFor}
+use Rattle.cache_store.specs.Open.{KeepsTo}
+use Rattle.cache_store.specs.Session.{Session}
 use Rattle.cache_store.specs.declared.fault.Outcome.{Outcome}
 use Rattle.cache_store.specs.declared.fault.Outcome.TheVariants as outcome
 use Rattle.cache_store.specs.declared.fault.StoreFault.{StoreFault}
-use Rattle.cache_tool.specs.Put.{is_done, until_refused}
-use Rattle.cache_tool.specs.PutWent.{AreDone, IsRefused, Ran, StopsWith}
-use Rattle.cache_tool.specs.Sessions.{last_reply}
-use Rattle.disk_model.specs.State.{State}
+use Rattle.cache_tool.specs.PutProgress.{AreDone, AreSent, IsRefused, StopsWith, all_unanswered}
+use Rattle.cache_tool.specs.Replies.{is_done, last_reply, until_refused}
+use Rattle.cache_tool.proofs.Begun.{all_begin_keep}
 
--- the marks of commands one after the other
-pub begun-append : (m : Machine) (cs ds : List Command) (w : Marks) → all_begun m (cs ++ ds) w ≡ all_begun (after m cs) ds (all_begun m cs w)
-begun-append m [] ds w = refl
-begun-append m (c ∷ cs) ds w = begun-append (step m c).next cs ds (begun m c w)
+-- the history after commands one after the other
+pub unanswered-append : (cs ds : List Command) (h : History) → all_unanswered (cs ++ ds) h ≡ all_unanswered ds (all_unanswered cs h)
+unanswered-append [] ds h = refl
+unanswered-append (c ∷ cs) ds h = unanswered-append cs ds (unanswered c h)
 
--- commands that may have begun keep the disk safe
-pub all_begin_keep : (s : State) (m : Machine) (cs : List Command) (w : Marks) → IsSafe s w → IsSafe s (all_begun m cs w)
-all_begin_keep s m [] w safe = safe
-all_begin_keep s m (c ∷ cs) w safe = all_begin_keep s (step m c).next cs (begun m c w) (begin_keeps s m c w safe)
-
--- behind a command that is done the others follow, and behind one that is not none does
+-- after a command that is done the others follow, and after one that is not none does
 until_done : (m : Machine) (c : Command) (cs : List Command) → is_done (step m c).reply ≡ true → until_refused m (c ∷ cs) ≡ c ∷ until_refused (step m c).next cs
 until_done m c cs done = ap (λ b. c ∷ cond b (until_refused (step m c).next cs) []) done
 
@@ -59,7 +53,7 @@ until_stopped m (c ∷ cs) ds said (inl here) = until_not m c (cs ++ ds) here.no
 until_stopped m (c ∷ cs) ds said (inr later) =
     until_done m c (cs ++ ds) later.0 ∙ ap (λ l. c ∷ l) (until_stopped (step m c).next cs ds said later.1) ∙ sym (until_done m c cs later.0)
 
--- in any case those of a front come first
+-- in any case those of a prefix come first
 until_front : (m : Machine) (cs ds : List Command) → (more : List Command) × (until_refused m (cs ++ ds) ≡ until_refused m cs ++ more)
 until_front m [] ds = (until_refused m ds, refl)
 until_front m (c ∷ cs) ds = go (is_done (step m c).reply) (until_front (step m c).next cs ds)
@@ -83,13 +77,13 @@ stops_before m (c ∷ cs) ds said (inl here) = inl here
 stops_before m (c ∷ cs) ds said (inr later) = inr (later.0, stops_before (step m c).next cs ds said later.1)
 
 -- the same commands by another name
-pub ran_same : (m : Machine) (w : Marks) (cs ds : List Command) (answer : Result Outcome StoreFault) (t : State) (o : Open) (said : List ℕ) → cs ≡ ds
-    → Ran m w cs answer t o said → Ran m w ds answer t o said
-ran_same m w cs ds answer t o said same ran = subst (λ l. Ran m w l answer t o said) same ran
+pub sent_same : (h : History) (cs ds : List Command) (answer : Result Outcome StoreFault) (now : Session) (said : List ℕ) → cs ≡ ds
+    → AreSent cs h answer now said → AreSent ds h answer now said
+sent_same h cs ds answer now said same ran = subst (λ l. AreSent l h answer now said) same ran
 
 -- no command
-pub ran_none : (m : Machine) (w : Marks) (t : State) (o : Open) (said : List ℕ) → StandsFor t o m w → Ran m w [] (Ok outcome.Ok) t o said
-ran_none m w t o said stands = record {
+pub sent_none : (h : History) (now : Session) (said : List ℕ) → KeepsTo now h → AreSent [] h (Ok outcome.Ok) now said
+sent_none h now said stands = record {
   safe = stands.stands.crash_kept.safe;
   stands = stands;
   done = λ e. tt;
@@ -97,12 +91,12 @@ ran_none m w t o said stands = record {
 }
 
 -- one command
-pub ran_one_of : (m : Machine) (w : Marks) (c : Command) (answer : Result Outcome StoreFault) (t : State) (o : Open) (said : List ℕ) → IsSafe t (begun m c w)
-    → OnOk answer (StandsFor t o (step m c).next (begun m c w)) → (answer ≡ Ok outcome.Ok → is_done (step m c).reply ≡ true)
-    → (answer ≡ Ok outcome.Refused → IsRefused m c said) → Ran m w (c ∷ []) answer t o said
-ran_one_of m w c answer t o said safe stands done refused = record {
-  safe = subst (λ l. IsSafe t (all_begun m l w)) (sym (until_one m c)) safe;
-  stands = subst (λ l. OnOk answer (StandsFor t o (after m l) (all_begun m l w))) (sym (until_one m c)) stands;
+pub sent_one_of : (h : History) (c : Command) (answer : Result Outcome StoreFault) (now : Session) (said : List ℕ) → IsSafe now.disk (begun h.machine c h.marks)
+    → OnOk answer (KeepsTo now (unanswered c h)) → (answer ≡ Ok outcome.Ok → is_done (step h.machine c).reply ≡ true)
+    → (answer ≡ Ok outcome.Refused → IsRefused h.machine c said) → AreSent (c ∷ []) h answer now said
+sent_one_of h c answer now said safe stands done refused = record {
+  safe = subst (λ l. IsSafe now.disk (all_begun h.machine l h.marks)) (sym (until_one h.machine c)) safe;
+  stands = subst (λ l. OnOk answer (KeepsTo now (all_unanswered l h))) (sym (until_one h.machine c)) stands;
   done = λ e. (done e, tt);
   refused = λ e. inl (refused e);
 }
@@ -113,42 +107,39 @@ stopped_or_fault (Ok outcome.Ok) other = absurd (other refl)
 stopped_or_fault (Ok outcome.Refused) other = inl refl
 stopped_or_fault (Err f) other = inr (f, refl)
 
-pub ran_more : (m : Machine) (w : Marks) (cs ds : List Command) (answer : Result Outcome StoreFault) (t : State) (o : Open) (said : List ℕ) → answer ≢ Ok outcome.Ok
-    → Ran m w cs answer t o said → Ran m w (cs ++ ds) answer t o said
-ran_more m w cs ds answer t o said other ran = record {
+pub sent_more : (h : History) (cs ds : List Command) (answer : Result Outcome StoreFault) (now : Session) (said : List ℕ) → answer ≢ Ok outcome.Ok
+    → AreSent cs h answer now said → AreSent (cs ++ ds) h answer now said
+sent_more h cs ds answer now said other ran = record {
   safe = safe;
   stands = stands answer refl other;
   done = λ e. absurd (other e);
-  refused = λ e. stops_before m cs ds said (ran.refused e);
+  refused = λ e. stops_before h.machine cs ds said (ran.refused e);
 }
   where
-    safe : IsSafe t (all_begun m (until_refused m (cs ++ ds)) w)
+    safe : IsSafe now.disk (all_begun h.machine (until_refused h.machine (cs ++ ds)) h.marks)
     safe =
-        let front = until_front m cs ds in
-        subst (IsSafe t) (sym (ap (λ l. all_begun m l w) front.1 ∙ begun-append m (until_refused m cs) front.0 w))
-        (all_begin_keep t (after m (until_refused m cs)) front.0 (all_begun m (until_refused m cs) w) ran.safe)
+        let front = until_front h.machine cs ds in
+        subst (λ (x : History). IsSafe now.disk x.marks) (sym (ap (λ l. all_unanswered l h) front.1 ∙ unanswered-append (until_refused h.machine cs) front.0 h))
+        (all_begin_keep now.disk (after h.machine (until_refused h.machine cs)) front.0 (all_begun h.machine (until_refused h.machine cs) h.marks) ran.safe)
 
-    stands : (a : Result Outcome StoreFault) → answer ≡ a → a ≢ Ok outcome.Ok → OnOk a (StandsFor t o (after m (until_refused m (cs ++ ds))) (all_begun m (until_refused m (cs ++ ds)) w))
+    stands : (a : Result Outcome StoreFault) → answer ≡ a → a ≢ Ok outcome.Ok → OnOk a (KeepsTo now (all_unanswered (until_refused h.machine (cs ++ ds)) h))
     stands (Ok outcome.Ok) e not_ok = absurd (not_ok refl)
     stands (Ok outcome.Refused) e not_ok =
-        let same = until_stopped m cs ds said (ran.refused e) in
-        subst (λ l. StandsFor t o (after m l) (all_begun m l w)) (sym same) (subst (λ a. OnOk a (StandsFor t o (after m (until_refused m cs)) (all_begun m (until_refused m cs) w))) e ran.stands)
+        let same = until_stopped h.machine cs ds said (ran.refused e) in
+        subst (λ l. KeepsTo now (all_unanswered l h)) (sym same) (subst (λ a. OnOk a (KeepsTo now (all_unanswered (until_refused h.machine cs) h))) e ran.stands)
     stands (Err f) e not_ok = tt
 
 -- more commands after all were done
-pub ran_then : (m : Machine) (w : Marks) (cs ds : List Command) (answer : Result Outcome StoreFault) (t : State) (o : Open) (said : List ℕ) → AreDone m cs
-    → Ran (after m cs) (all_begun m cs w) ds answer t o said → Ran m w (cs ++ ds) answer t o said
-ran_then m w cs ds answer t o said first second =
-    let all = until_append m cs ds first in
-    let marks : all_begun m (until_refused m (cs ++ ds)) w ≡ all_begun (after m cs) (until_refused (after m cs) ds) (all_begun m cs w) =
-    ap (λ l. all_begun m l w) all ∙ begun-append m cs (until_refused (after m cs) ds) w in
-    let machine : after m (until_refused m (cs ++ ds)) ≡ after (after m cs) (until_refused (after m cs) ds) = ap (after m) all ∙ after-append m cs (until_refused (after m cs) ds) in
+pub sent_then : (h : History) (cs ds : List Command) (answer : Result Outcome StoreFault) (now : Session) (said : List ℕ) → AreDone h.machine cs
+    → AreSent ds (all_unanswered cs h) answer now said → AreSent (cs ++ ds) h answer now said
+sent_then h cs ds answer now said first second =
+    let same : all_unanswered (until_refused h.machine (cs ++ ds)) h ≡ all_unanswered (until_refused (after h.machine cs) ds) (all_unanswered cs h) =
+    ap (λ l. all_unanswered l h) (until_append h.machine cs ds first) ∙ unanswered-append cs (until_refused (after h.machine cs) ds) h in
     record {
-      safe = subst (IsSafe t) (sym marks) second.safe;
-      stands = subst (λ n. OnOk answer (StandsFor t o n (all_begun m (until_refused m (cs ++ ds)) w))) (sym machine)
-          (subst (λ x. OnOk answer (StandsFor t o (after (after m cs) (until_refused (after m cs) ds)) x)) (sym marks) second.stands);
-      done = λ e. done-append m cs ds first (second.done e);
-      refused = λ e. stops-append m cs ds said first (second.refused e);
+      safe = subst (λ (x : History). IsSafe now.disk x.marks) (sym same) second.safe;
+      stands = subst (λ x. OnOk answer (KeepsTo now x)) (sym same) second.stands;
+      done = λ e. done-append h.machine cs ds first (second.done e);
+      refused = λ e. stops-append h.machine cs ds said first (second.refused e);
     }
 
 -- the reply to the last of commands, the others of which are done

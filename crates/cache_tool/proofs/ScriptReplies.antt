@@ -1,5 +1,5 @@
 -- What goes out of a script, and how far that tells.
-use Rattle.std.proofs.Common.{◌≡◌, ◌≢◌, ℕ, ◌+◌, ◌<◌, List, [], ◌∷◌, ◌++◌, length, take, drop, Option, sym, ap, subst, ◌∙◌, arith, append_assoc, append-nil, length-append, take-append-drop}
+use Rattle.std.proofs.Common.{◌≡◌, ◌≢◌, ℕ, ◌+◌, ◌<◌, List, [], ◌∷◌, ◌++◌, length, take, drop, sym, ap, subst, ◌∙◌, arith, append_assoc, append-nil, length-append, take-append-drop}
 use Rattle.std.specs.Io.KnownBytes.{Appends}
 use Rattle.std.specs.Prelude.{codes, decimal}
 use Rattle.std.proofs.Math.Seq.{take-append_seam}
@@ -13,8 +13,9 @@ use Rattle.cache_theory.specs.Step.{after, step}
 use Rattle.cache_theory.specs.Text.{ScriptSpells, line, refusal_words, replies_text, reply_text, spaced, version_text, with_bytes}
 use Rattle.cache_theory.proofs.Acked.{cut_is_acked, whole_is_acked}
 use Rattle.cache_tool.specs.Script.{AreTaken, bad_line}
-use Rattle.cache_tool.specs.ScriptWent.{Tells}
-use Rattle.cache_tool.proofs.ScriptGoes.{replies_text_joined}
+use Rattle.cache_tool.specs.ScriptProgress.{TellsAcked}
+use Rattle.cache_tool.specs.World.{Progress}
+use Rattle.cache_tool.proofs.ScriptTurns.{replies_text_joined}
 use Rattle.entry_file.specs.Version.{Version}
 use Rattle.entry_parts.specs.Elements.{elements_bytes}
 
@@ -49,19 +50,19 @@ reply_some (Found v) = found_some v
 -- ---- how many commands are acknowledged
 
 -- replies that went out whole, and nothing more
-front_acked : (m : Machine) (ds more : List Command) → IsAcked m (ds ++ more) (replies_text m ds) (length ds)
+pub front_acked : (m : Machine) (ds more : List Command) → IsAcked m (ds ++ more) (replies_text m ds) (length ds)
 front_acked m ds [] =
     subst (λ cs. IsAcked m cs (replies_text m ds) (length ds)) (sym (append-nil ds)) (subst (λ out. IsAcked m ds out (length ds)) (append-nil (replies_text m ds)) (whole_is_acked m ds []))
 front_acked m ds (c ∷ more) =
     subst (λ out. IsAcked m (ds ++ c ∷ more) out (length ds)) (append-nil (replies_text m ds)) (cut_is_acked m ds more c 0 (reply_some (step (after m ds) c).reply))
 
-begins_more : (text more out : List ℕ) → BeginsWith text out → BeginsWith (text ++ more) out
+pub begins_more : (text more out : List ℕ) → BeginsWith text out → BeginsWith (text ++ more) out
 begins_more text more out b = (b.0 ++ more, ap (λ l. l ++ more) b.1 ∙ append_assoc out b.0 more)
 
-module _ (m : Machine) (bytes : List ℕ) (left now before after_it : Option (List ℕ)) where
+module _ (m : Machine) (bytes : List ℕ) (before now : Progress) where
   -- the replies to the first commands went out
-  pub tells_front : (ds more : List Command) (ended : Status) → Appends before after_it (replies_text m ds) → (ended ≡ status.Done → more ≡ []) → ended ≢ status.Script → (ended ≡ status.Source → AreTaken left now ds)
-      → Tells m bytes (ds ++ more) ended left now before after_it (length ds)
+  pub tells_front : (ds more : List Command) (ended : Status) → Appends before.taken now.taken (replies_text m ds) → (ended ≡ status.Done → more ≡ []) → ended ≢ status.Script → (ended ≡ status.Source → AreTaken before.source.left now.source.left ds)
+      → TellsAcked m bytes (ds ++ more) ended before now (length ds)
   tells_front ds more ended out all unnamed taken =
       let begins : BeginsWith (replies_text m (ds ++ more)) (replies_text m ds) = (replies_text (after m ds) more, replies_text_joined m ds more) in
       let seam : take (length ds) (ds ++ more) ≡ ds = take-append_seam ds more in
@@ -73,12 +74,12 @@ module _ (m : Machine) (bytes : List ℕ) (left now before after_it : Option (Li
         no_line = λ whole. begins;
         done = λ e. ap (λ cs. replies_text m cs) (sym (ap (λ l. ds ++ l) (all e) ∙ append-nil ds));
         script = λ e. absurd (unnamed e);
-        source = λ e. (ap (λ cs. replies_text m cs) (sym seam), subst (λ cs. AreTaken left now cs) (sym seam) (taken e));
+        source = λ e. (ap (λ cs. replies_text m cs) (sym seam), subst (λ cs. AreTaken before.source.left now.source.left cs) (sym seam) (taken e));
       }
 
   -- the replies to all commands went out, and of the line that names a bad one so many bytes
-  pub tells_line : (cs : List Command) (n : ℕ) (ended : Status) → Appends before after_it (replies_text m cs ++ take n (bad_line (length cs + 1))) → (ended ≡ status.Script → take n (bad_line (length cs + 1)) ≡ bad_line (length cs + 1))
-      → ended ≢ status.Done → ended ≢ status.Source → ¬ (ScriptSpells bytes cs) → Tells m bytes cs ended left now before after_it (length cs)
+  pub tells_line : (cs : List Command) (n : ℕ) (ended : Status) → Appends before.taken now.taken (replies_text m cs ++ take n (bad_line (length cs + 1))) → (ended ≡ status.Script → take n (bad_line (length cs + 1)) ≡ bad_line (length cs + 1))
+      → ended ≢ status.Done → ended ≢ status.Source → ¬ (ScriptSpells bytes cs) → TellsAcked m bytes cs ended before now (length cs)
   tells_line cs n ended out all undone unfailed unspelled =
       let text : List ℕ = bad_line (length cs + 1) in
       record {
@@ -93,8 +94,8 @@ module _ (m : Machine) (bytes : List ℕ) (left now before after_it : Option (Li
       }
 
   -- of the reply to the next command so many bytes
-  pub tells_cut : (ds more : List Command) (c : Command) (n : ℕ) (ended : Status) → n < length (reply_text (step (after m ds) c).reply) → Appends before after_it (replies_text m ds ++ take n (reply_text (step (after m ds) c).reply))
-      → ended ≢ status.Done → ended ≢ status.Script → ended ≢ status.Source → Tells m bytes (ds ++ c ∷ more) ended left now before after_it (length ds)
+  pub tells_cut : (ds more : List Command) (c : Command) (n : ℕ) (ended : Status) → n < length (reply_text (step (after m ds) c).reply) → Appends before.taken now.taken (replies_text m ds ++ take n (reply_text (step (after m ds) c).reply))
+      → ended ≢ status.Done → ended ≢ status.Script → ended ≢ status.Source → TellsAcked m bytes (ds ++ c ∷ more) ended before now (length ds)
   tells_cut ds more c n ended short out undone unnamed unfailed =
       let text : List ℕ = reply_text (step (after m ds) c).reply in
       let rest : List ℕ = replies_text (step (after m ds) c).next more in

@@ -5,6 +5,7 @@ use Rattle.cache_base.specs.declared.limits.TheConstants.{BODY_MAX}
 use Rattle.cache_store.specs.Printed.{PrintsRefusal}
 use Rattle.cache_theory.specs.Text.{line, refusal_words}
 use Rattle.cache_theory.specs.declared.refusal.Refusal.{Refusal}
+use Rattle.cache_tool.specs.World.{World}
 
 -- at most so many bytes were taken from the source, where it tells what it has left
 abbrev pub TakesAtMost : ℕ → Option (List ℕ) → Option (List ℕ) → Type 0
@@ -26,5 +27,6 @@ abbrev pub HoldsRefusal : List ℕ → Option (List ℕ) → Option (List ℕ) �
 HoldsRefusal said left now = IsRefusalLine said ⊎ TakesTooMuch left now
 
 -- so it is of what is printed
-abbrev pub PutRefuses : Option (List ℕ) → Option (List ℕ) → Option (List ℕ) → Option (List ℕ) → Type 0
-PutRefuses before after_it left now = PrintsRefusal before after_it ⊎ TakesTooMuch left now
+abbrev pub PutRefuses : World → World → Type 0
+PutRefuses before now =
+    PrintsRefusal before.taken now.taken ⊎ TakesTooMuch before.source.left now.source.left
