@@ -5,9 +5,11 @@ ghost use Rattle.cache_base.specs.declared.limits.TheConstants.{CHUNK, SLOTS};
 ghost use Rattle.cache_theory.specs.Command.Command.{Append};
 ghost use Rattle.cache_theory.specs.Machine.{Machine};
 ghost use Rattle.disk_model.specs.Account.{Accounts};
+ghost use Rattle.disk_model.specs.Told.{Told};
 ghost use Rattle.file_handles.specs.Answers.{OnRefused, done_or, ending};
 ghost use Rattle.file_handles.specs.Growing.{AnswersInChunk, FitsInChunk, grow_fault};
 ghost use Rattle.file_handles.specs.Held.{rest_in};
+ghost use Rattle.index_theory.specs.Leaves.{LeavesIndex};
 
 use crate::object::{Draft, Entry, Object};
 use crate::{HandleFault, Handles};
@@ -114,6 +116,7 @@ impl Handles {
             FitsInChunk m slot b.now → disk.new ≡ disk.old }
         ensures within_reply { AnswersInChunk (kept self.old) slot b.now result }
         ensures unchanged { OnRefused result (λ _. disk.new ≡ disk.old) }
+        ensures index { Told D.Disk LeavesIndex disk.old disk.new }
         ensures account { Accounts D.Disk (ending result) disk.old disk.new }
     {
         let place = self.may_append(slot, b.len())?;

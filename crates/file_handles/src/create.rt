@@ -14,6 +14,7 @@ ghost use Rattle.file_handles.specs.Creating.{MayHaveMade};
 ghost use Rattle.file_handles.specs.Dooming.{TakesFirstFree};
 ghost use Rattle.file_handles.specs.Effects.{HasEffect};
 ghost use Rattle.file_handles.specs.Held.{IsHeldAs};
+ghost use Rattle.index_theory.specs.Leaves.{LeavesIndex};
 
 use crate::object::{Draft, Entry, Object, Use};
 use crate::{Effect, HandleFault, Handles};
@@ -95,6 +96,7 @@ impl Handles {
         ensures bad_key { may_write_of key.now ≡ false → OnOk result ⊥ }
         ensures numbered { Told D.Disk TakesFirstFree disk.old disk.new }
         ensures unchanged { OnRefused result (λ _. disk.new ≡ disk.old) }
+        ensures index { Told D.Disk LeavesIndex disk.old disk.new }
         ensures account { Accounts D.Disk (ending result) disk.old disk.new }
     {
         if self.use_of(slot).is_ok() {

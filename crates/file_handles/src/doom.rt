@@ -9,6 +9,7 @@ ghost use Rattle.entry_name.specs.EntryName.{file_name};
 ghost use Rattle.file_handles.specs.Answers.{OnRefused, done_or, ending};
 ghost use Rattle.file_handles.specs.Dooming.{TakesFirstFree, numbers_in};
 ghost use Rattle.file_handles.specs.Effects.{HasEffect};
+ghost use Rattle.index_theory.specs.Leaves.{LeavesIndex};
 
 use crate::find::look;
 use crate::object::Object;
@@ -69,6 +70,7 @@ impl Handles {
             DoomsUnder name.now.0 result (at self.old disk.old) (at self.new disk.new) }
         ensures numbered { Told D.Disk TakesFirstFree disk.old disk.new }
         ensures refused { OnRefused result (λ _. ⊥) }
+        ensures index { Told D.Disk LeavesIndex disk.old disk.new }
         ensures account { Accounts D.Disk (ending result) disk.old disk.new }
     {
         let doomed = doomed_numbers(&self.objects);
@@ -98,6 +100,7 @@ impl Handles {
         ensures some { IfOk result (λ doomed.
             doomed ≡ is_some (user_place (kept self.old) name.now)) }
         ensures refused { OnRefused result (λ _. ⊥) }
+        ensures index { Told D.Disk LeavesIndex disk.old disk.new }
         ensures account { Accounts D.Disk (ending result) disk.old disk.new }
     {
         match self.user(name) {
@@ -148,6 +151,7 @@ impl Handles {
         ensures effect { IfOk result (HasEffect (kept self.old) (Doom key.now)) }
         ensures numbered { Told D.Disk TakesFirstFree disk.old disk.new }
         ensures unchanged { OnRefused result (λ _. Told D.Disk (λ s t. t ≡ s) disk.old disk.new) }
+        ensures index { Told D.Disk LeavesIndex disk.old disk.new }
         ensures account { Accounts D.Disk (ending result) disk.old disk.new }
     {
         let name = self.may_doom(alloc, disk, key)?;

@@ -7,6 +7,7 @@ ghost use Rattle.cache_theory.specs.Command.Command.{ElementOf, SetElement, Unse
 ghost use Rattle.cache_theory.specs.Command.Reply.{Refused};
 ghost use Rattle.cache_theory.specs.Step.{element_reply};
 ghost use Rattle.disk_model.specs.Account.{Accounts};
+ghost use Rattle.disk_model.specs.Told.{Told};
 ghost use Rattle.entry_metadata.specs.Metadata.{block_length};
 ghost use Rattle.entry_parts.specs.Elements.{elements_bytes};
 ghost use Rattle.entry_parts.specs.Setting.{has_zero as has_zero_in, with_element};
@@ -14,6 +15,7 @@ ghost use Rattle.file_handles.specs.Answers.{OnRefused, done_or, done_or_none, e
 ghost use Rattle.file_handles.specs.Effects.{HasEffect, wrote_where};
 ghost use Rattle.file_handles.specs.Held.{body_len_in, elements_in, is_draft, key_in};
 ghost use Rattle.file_handles.specs.Setting.{HasRoom, are_small, changed_by, small_len, with_change};
+ghost use Rattle.index_theory.specs.Leaves.{LeavesIndex};
 
 use crate::object::{Draft, Entry, Object};
 use crate::{Effect, HandleFault, Handles};
@@ -272,6 +274,7 @@ impl Handles {
         ensures effect { IfOk result
             (HasEffect (kept self.old) (SetElement slot name.now value.now)) }
         ensures unchanged { OnRefused result (λ _. disk.new ≡ disk.old) }
+        ensures index { Told D.Disk LeavesIndex disk.old disk.new }
         ensures account { Accounts D.Disk (ending result) disk.old disk.new }
     {
         let place = self.may_set(slot, name, value)?;
@@ -296,6 +299,7 @@ impl Handles {
             IfSome some (HasEffect (kept self.old) (UnsetElement slot name.now))) }
         ensures unchanged { OnRefused result (λ _. disk.new ≡ disk.old) }
         ensures none_there { IfOk result (λ effect. IfNone effect (disk.new ≡ disk.old)) }
+        ensures index { Told D.Disk LeavesIndex disk.old disk.new }
         ensures account { Accounts D.Disk (ending result) disk.old disk.new }
     {
         let place = self.may_change(slot)?;

@@ -4,9 +4,11 @@ ghost use Rattle.std.specs.Prelude.{◌≡◌, ◌<◌, IfErr, IfOk, IsSomeAnd, 
 ghost use Rattle.cache_base.specs.declared.limits.TheConstants.{SLOTS};
 ghost use Rattle.cache_theory.specs.Command.Command.{Finish};
 ghost use Rattle.disk_model.specs.Account.{Accounts};
+ghost use Rattle.disk_model.specs.Told.{Told};
 ghost use Rattle.file_handles.specs.Answers.{OnRefused, done_or, ending};
 ghost use Rattle.file_handles.specs.Effects.{HasEffect, wrote_effect, wrote_where};
 ghost use Rattle.file_handles.specs.Held.{is_draft};
+ghost use Rattle.index_theory.specs.Leaves.{LeavesIndex};
 
 use crate::object::{Draft, Entry, Object};
 use crate::{Effect, HandleFault, Handles};
@@ -96,7 +98,7 @@ impl Handles {
     }
 
     /// Finishes the entry of a slot. Its file becomes whole by one call of the disk.
-    #[tactic(auto, using(crate::proofs::Refused::faulted_same, crate::proofs::Refused::refused_same))]
+    #[tactic(auto, using(crate::proofs::Refused::faulted_index, crate::proofs::Refused::faulted_same, crate::proofs::Refused::refused_same))]
     pub fn finish<D: Disk>(
         &mut self,
         alloc: Global,
@@ -110,6 +112,7 @@ impl Handles {
             (at self.old disk.old) (at self.new disk.new) }
         ensures effect { IfOk result (HasEffect (kept self.old) (Finish slot)) }
         ensures unchanged { OnRefused result (λ _. disk.new ≡ disk.old) }
+        ensures index { Told D.Disk LeavesIndex disk.old disk.new }
         ensures account { Accounts D.Disk (ending result) disk.old disk.new }
     {
         let place = self.may_finish(slot)?;
