@@ -99,8 +99,10 @@ module _ (m : Machine) (c : Command) (before now : Output) (safe : IsQuiet befor
     part = part;
     cut = λ is. absurd (stop_is_no_sink ended stop is);
     silent = λ is. absurd (stop_is_no_source ended stop is);
-    shut = λ closing. absurd (stop_closes_not ended stop closing);
-    crash = λ quiet. safe_is_crash_safe now.disk (begun c (settled_at m)).marks (safe quiet);
+    leaves = record {
+      shut = λ closing. absurd (stop_closes_not ended stop closing);
+      crash = λ quiet. safe_is_crash_safe now.disk (begun c (settled_at m)).marks (safe quiet);
+    };
   }
 
   sunk : (ended : Status) → ended ≡ status.Sink → IsCut before.taken now.taken (reply_text (step m c).reply) → IsShut now.disk (step m c).next → PrintsLast m (c ∷ []) ended before now
@@ -110,8 +112,10 @@ module _ (m : Machine) (c : Command) (before now : Output) (safe : IsQuiet befor
     part = cut_part before.taken now.taken (reply_text (step m c).reply) cut;
     cut = λ is. cut;
     silent = λ is. absurd (cc);
-    shut = λ closing. shut;
-    crash = λ quiet. safe_is_crash_safe now.disk (begun c (settled_at m)).marks (safe quiet);
+    leaves = record {
+      shut = λ closing. shut;
+      crash = λ quiet. safe_is_crash_safe now.disk (begun c (settled_at m)).marks (safe quiet);
+    };
   }
 
   answered : (o : Outcome) (ended : Status) → ended ≡ status_of o → o ≡ outcome_of (step m c).reply → Appends before.taken now.taken (reply_text (step m c).reply) → IsShut now.disk (step m c).next
@@ -122,8 +126,10 @@ module _ (m : Machine) (c : Command) (before now : Output) (safe : IsQuiet befor
     part = all_part before.taken now.taken (reply_text (step m c).reply) printed;
     cut = λ sink. absurd (sink_is_no_answer ended sink (outcome_is_answer o ended is));
     silent = λ source. absurd (source_is_no_answer ended source (outcome_is_answer o ended is));
-    shut = λ closing. shut;
-    crash = λ quiet. safe_is_crash_safe now.disk (begun c (settled_at m)).marks (safe quiet);
+    leaves = record {
+      shut = λ closing. shut;
+      crash = λ quiet. safe_is_crash_safe now.disk (begun c (settled_at m)).marks (safe quiet);
+    };
   }
 
 -- ---- the store did not open

@@ -88,8 +88,10 @@ not_opened m key from to f before t other calm some safe =
           part = none_printed before.taken _;
           cut = λ sink. absurd (sink_is f other sink);
           silent = λ source. Keeps-refl before.taken;
-          shut = λ closing. absurd (not_closing f other closing);
-          crash = λ quiet. crash_safe t m (put_commands m key body.0) (all_begin_keep t m (put_commands m key body.0) (marks_of m) (safe quiet));
+          leaves = record {
+            shut = λ closing. absurd (not_closing f other closing);
+            crash = λ quiet. crash_safe t m (put_commands m key body.0) (all_begin_keep t m (put_commands m key body.0) (marks_of m) (safe quiet));
+          };
         },
       ),
     )
@@ -123,8 +125,10 @@ module _ (m : Machine) (key : List ℕ) (from to : Supply) (came ended : Status)
             part = subst (IsPart before.taken taken) reply.replied printed.part;
             cut = λ sink. subst (IsCut before.taken taken) reply.replied (printed.cut sink);
             silent = λ source. absurd (never_source ended final answer printed.same source);
-            shut = λ closing. shut (answer_closes ended answer);
-            crash = λ quiet. crash_safe t m put.commands (closed (subst IsClosing is (answer_closes ended answer))).safe;
+            leaves = record {
+              shut = λ closing. shut (answer_closes ended answer);
+              crash = λ quiet. crash_safe t m put.commands (closed (subst IsClosing is (answer_closes ended answer))).safe;
+            };
           },
         ),
       )
@@ -142,8 +146,10 @@ module _ (m : Machine) (key : List ℕ) (from to : Supply) (came ended : Status)
         part = none_printed before.taken _;
         cut = λ sink. absurd (no_sink sink);
         silent = λ source. Keeps-refl before.taken;
-        shut = shut;
-        crash = λ quiet. crash_safe t m put.commands safe;
+        leaves = record {
+          shut = shut;
+          crash = λ quiet. crash_safe t m put.commands safe;
+        };
       },
     ),
   )

@@ -51,8 +51,10 @@ runs_nothing moment ended (Some bytes) before t undone unnamed unfailed open_sti
       done = λ e. absurd (undone e);
       script = λ e. absurd (unnamed e);
       source = λ e. absurd (unfailed e);
-      shut = λ closing. absurd (open_still closing);
-      crash = λ quiet. safe_is_crash_safe t (marks_between m cs 0 (min (0 + 1) (length cs))) (more_begun t m (marks_of m) cs 0 (min (0 + 1) (length cs)) (safe shelf rest quiet is));
+      leaves = record {
+        shut = λ closing. absurd (open_still closing);
+        crash = λ quiet. safe_is_crash_safe t (marks_between m cs 0 (min (0 + 1) (length cs))) (more_begun t m (marks_of m) cs 0 (min (0 + 1) (length cs)) (safe shelf rest quiet is));
+      };
     }
 
 pub runs_unopened : (moment : ℕ) (ended : Status) (f : StoreFault) (before : World) (t : State) → ended ≡ status_in (Err f) → f ≢ fault.Sink → OpensSafely moment before.disk t
@@ -119,6 +121,8 @@ runs_ended moment ended came s mid last t opens performs ends same dropped = go 
           done = λ e. r.tells.done (sym (closing_same ended (status_in came) same (subst IsClosing (sym e) tt)) ∙ e);
           script = λ e. r.tells.script (sym (closing_same ended (status_in came) same (subst IsClosing (sym e) tt)) ∙ e);
           source = λ e. r.tells.source (sym (closing_same ended (status_in came) same (subst IsClosing (sym e) tt)) ∙ e);
-          shut = ended_shut (settled_at m) cs r.acked last.session t ended (status_in came) r.leaves ends same dropped;
-          crash = λ quiet. safe_is_crash_safe t (marks_between m cs r.acked (min (r.acked + 1) (length cs))) safe;
+          leaves = record {
+            shut = ended_shut (settled_at m) cs r.acked last.session t ended (status_in came) r.leaves ends same dropped;
+            crash = λ quiet. safe_is_crash_safe t (marks_between m cs r.acked (min (r.acked + 1) (length cs))) safe;
+          };
         }

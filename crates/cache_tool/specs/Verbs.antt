@@ -20,7 +20,35 @@ use Rattle.cache_tool.specs.Script.{AreTaken, bad_line, performed}
 use Rattle.cache_tool.specs.Statuses.{IsAnswer, IsClosing, status_of}
 use Rattle.cache_tool.specs.World.{Output, World, output_of}
 use Rattle.disk_model.specs.Sound.{IsQuiet}
+use Rattle.disk_model.specs.State.{State}
 use Rattle.file_handles.specs.Carries.{IsShelf}
+
+-- Commands are performed one after the other, from the first on.
+
+-- how far: those that were performed, how many are acknowledged, and how many may have begun
+pub record Reach : Type 0 where
+  pub done : List Command
+  pub acked : ℕ
+  pub begun : ℕ
+
+-- all of them at once, with one answer to the last; and one by one, each with an answer of its own
+abbrev pub all_begun_none_acked : List Command → Reach
+all_begun_none_acked cs = record { done = cs; acked = 0; begun = length cs }
+
+abbrev pub one_begun_after : ℕ → Status → List Command → Reach
+one_begun_after acked ended cs = record {
+  done = take (performed ended acked (length cs)) cs;
+  acked = acked;
+  begun = min (acked + 1) (length cs);
+}
+
+-- what they leave on a disk that held s and holds t
+pub record LeavesDisk (m : Machine) (cs : List Command) (r : Reach) (ended : Status) (s t : State)
+    : Type 0 where
+  -- where the store was closed nothing is pending, no doomed file stands, and the entries are those of the machine
+  pub shut : IsClosing ended → IsShut t (after m r.done)
+  -- with nothing pending at the call, a crash leaves no image but those that the marks allow
+  pub crash : IsQuiet s → IsCrashSafe t (marks_between m cs r.acked r.begun)
 
 -- These commands were performed for words other than `run`, and the last reply is what is printed. None is acknowledged,
 -- and all may have begun.
@@ -33,10 +61,7 @@ pub record PrintsLast (m : Machine) (cs : List Command) (ended : Status) (before
   pub part : IsPart before.taken now.taken (reply_text (last_reply m cs))
   pub cut : ended ≡ status.Sink → IsCut before.taken now.taken (reply_text (last_reply m cs))
   pub silent : ended ≡ status.Source → Keeps before.taken now.taken
-  -- nothing is pending, no doomed file stands, and the entries are those of the machine
-  pub shut : IsClosing ended → IsShut now.disk (after m cs)
-  -- with nothing pending at the call, a crash leaves no image but those that the marks allow
-  pub crash : IsQuiet before.disk → IsCrashSafe now.disk (marks_between m cs 0 (length cs))
+  pub leaves : LeavesDisk m cs (all_begun_none_acked cs) ended before.disk now.disk
 
 -- `get`, `doom` and `flush`: the command is performed, and its reply is printed
 abbrev pub AnswersCommand : ℕ → Command → Status → Output → Output → Type 0
@@ -70,12 +95,7 @@ pub record PrintsReplies (m : Machine) (bytes : List ℕ) (cs : List Command) (e
   pub source : ended ≡ status.Source
       → (out ≡ replies_text m (take acked cs))
       × AreTaken before.source.left now.source.left (take acked cs)
-  -- nothing is pending, no doomed file stands, and the entries are those of the machine
-  pub shut : IsClosing ended
-      → IsShut now.disk (after m (take (performed ended acked (length cs)) cs))
-  -- with nothing pending at the call, a crash leaves no image but those that the marks allow
-  pub crash : IsQuiet before.disk
-      → IsCrashSafe now.disk (marks_between m cs acked (min (acked + 1) (length cs)))
+  pub leaves : LeavesDisk m cs (one_begun_after acked ended cs) ended before.disk now.disk
 
 -- `run`, of a source that tells its bytes: the commands that these spell are performed
 abbrev pub RunsScript : ℕ → Status → World → World → Type 0
