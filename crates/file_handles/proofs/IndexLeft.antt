@@ -1,12 +1,12 @@
 -- The changes of the files of entries leave the index alone.
-use Rattle.std.proofs.Common.{◌≡◌, ◌⊎◌, ⊎_elim, ℕ, List, [], ◌∷◌, Bool, Option, Some, None, Result, Ok, Err, if◌then◌else◌, not, ◌&&◌, refl, sym, ap, subst, ◌∙◌}
+use Rattle.std.proofs.Common.{◌≡◌, ⊎_elim, ℕ, List, [], ◌∷◌, Option, Some, None, Result, Ok, Err, not, ◌&&◌, refl, sym, subst}
 use Rattle.std.specs.Prelude.{is_none}
 use Rattle.std.proofs.lemmas.Bool.{cond_both}
 use Rattle.cache_base.specs.declared.name.Name.{Name}
 use Rattle.cache_theory.specs.Machine.{Object as MachineObject}
 use Rattle.disk_model.specs.Calls.{if_done, if_ok}
 use Rattle.disk_model.specs.Sound.{IsSound}
-use Rattle.disk_model.specs.State.{File, State, content, content_of, created, names_now, removed, renamed, settled, standing}
+use Rattle.disk_model.specs.State.{File, State, content_of, created, names_now, removed, renamed, settled}
 use Rattle.disk_model.specs.declared.disk.DiskFault.{DiskFault}
 use Rattle.disk_model.specs.declared.disk.DiskFault.TheVariants.{Failed, Memory}
 use Rattle.disk_model.specs.declared.place.Place.TheVariants.{Doomed, Entry}

@@ -1,5 +1,6 @@
 use Rattle.cache_theory.proofs.Crashes.{safe_is_crash_safe}
 use Rattle.cache_store.proofs.Closed.{on_ok_err, settled_shut, sync_safe}
+use Rattle.file_handles.proofs.IndexLeft.{synced_left, then_left}
 use Rattle.cache_store.proofs.store.Store.close.Goals as goal
 
 pub returns-in_err-close_all-clause-closes : goal.returns-in_err-close_all-clause-closes
@@ -31,3 +32,13 @@ returns-in_err-sync-clause-crash g c = λ told h is. safe_is_crash_safe _ h.mark
 
 pub returns-clause-crash : goal.returns-clause-crash
 returns-clause-crash g c = λ told h is. safe_is_crash_safe _ h.marks ((returns-clause-closes g c told).crash h is)
+
+pub returns-in_err-sync-clause-index : goal.returns-in_err-sync-clause-index
+returns-in_err-sync-clause-index g c = λ told.
+    then_left (g.D.Disk.state c.args.disk.now) (g.D.Disk.state c.close_all.new.disk) (g.D.Disk.state c.sync.new.self) (c.close_all.ensures.index told)
+    (synced_left c.sync.result _ _ (g.met.D.Disk.sound c.close_all.new.disk told) (c.sync.ensures.state told))
+
+pub returns-clause-index : goal.returns-clause-index
+returns-clause-index g c = λ told.
+    then_left (g.D.Disk.state c.args.disk.now) (g.D.Disk.state c.close_all.new.disk) (g.D.Disk.state c.sync.new.self) (c.close_all.ensures.index told)
+    (synced_left c.sync.result _ _ (g.met.D.Disk.sound c.close_all.new.disk told) (c.sync.ensures.state told))

@@ -6,6 +6,7 @@ use Rattle.cache_store.specs.Said.{saying}
 use Rattle.cache_store.specs.Session.{session}
 use Rattle.cache_store.proofs.PerformDoes.{as_command, at_does, carried_does, flush_does, flush_fails, handled_at_does, handled_does, reading_does}
 use Rattle.cache_store.proofs.Unsaid.{unsaid_by}
+use Rattle.file_handles.proofs.IndexLeft.{same_left, synced_left}
 use Rattle.cache_store.proofs.store.Store.perform.Goals as goal
 
 pub returns-in-At-clause-does : goal.returns-in-At-clause-does
@@ -72,3 +73,15 @@ returns-in_ok-sync-in-Flush-clause-does g c = λ told.
     as_command _ Flush _ _ _ _ _ (ap command_of c.in-Flush.is)
     (flush_does (session g.D.Disk c.args.self.now c.args.disk.now) (g.D.Disk.state c.sync.new.self) (g.met.D.Disk.sound c.args.disk.now told) (saying g.K.Sink c.args.self.now.reply c.args.sink.now) c.requires.empty
     (c.in_ok-sync-in-Flush.ensures.state told))
+
+pub returns-in-ReadPart-clause-index : goal.returns-in-ReadPart-clause-index
+returns-in-ReadPart-clause-index g c = λ told. same_left (c.say_read.ensures.looks.state told)
+
+pub returns-in-Get-clause-index : goal.returns-in-Get-clause-index
+returns-in-Get-clause-index g c = λ told. same_left (c.say_get.ensures.looks.state told)
+
+pub returns-in_err-sync-in-Flush-clause-index : goal.returns-in_err-sync-in-Flush-clause-index
+returns-in_err-sync-in-Flush-clause-index g c = λ told. synced_left c.sync.result _ _ (g.met.D.Disk.sound c.args.disk.now told) (c.sync.ensures.state told)
+
+pub returns-in_ok-sync-in-Flush-clause-index : goal.returns-in_ok-sync-in-Flush-clause-index
+returns-in_ok-sync-in-Flush-clause-index g c = λ told. synced_left c.sync.result _ _ (g.met.D.Disk.sound c.args.disk.now told) (c.sync.ensures.state told)
