@@ -22,6 +22,7 @@ use Rattle.cache_theory.specs.Marks.{all_begun, marks_of}
 use Rattle.cache_theory.specs.Session.{marks_between}
 use Rattle.cache_theory.specs.Step.{after}
 use Rattle.cache_theory.proofs.Crashes.{safe_is_crash_safe}
+use Rattle.disk_model.specs.Calls.{Counts, LastFails, StopsAtFault}
 use Rattle.cache_tool.specs.Ending.{EndsSession, IsEnded}
 use Rattle.cache_tool.specs.Put.{ArePut, put_commands}
 use Rattle.cache_tool.specs.Put.ArePut.{Broken, Whole}
@@ -229,3 +230,21 @@ disk_cause (Err fault.Disk) ended a b c d only other same first second dropped =
       kept = λ other_end. absurd (other_end end.0);
     }
 disk_cause (Err fault.Sink) ended a b c d only other same first second dropped = absurd (other refl)
+
+-- Once a change or a sync fails no call follows: the opening went on, and where the commands failed the closing makes no call.
+
+module _ (a b : Counts) (went_on : b.failed ≡ a.failed) where
+  stops_after : (c d : Counts) → c.failed ≡ b.failed → StopsAtFault c d → StopsAtFault a d
+  stops_after c d same (inl closed) = inl (closed ∙ same ∙ went_on)
+  stops_after c d same (inr last) = inr last
+
+  stops_at : (c d : Counts) → StopsAtFault b c → d ≡ c → StopsAtFault a d
+  stops_at c d (inl same) is = inl (ap (λ (n : Counts). n.failed) is ∙ same ∙ went_on)
+  stops_at c d (inr last) is = inr (subst LastFails (sym is) last)
+
+  pub put_stops : (came : Result Status StoreFault) (c d : Counts) → (ending came ≡ Ending.NoneFailed → c.failed ≡ b.failed) → StopsAtFault b c → StopsAtFault c d
+      → (¬ (IsClosing (status_in came)) → d ≡ c) → StopsAtFault a d
+  put_stops (Ok s) c d calm first second dropped = stops_after c d (calm refl) second
+  put_stops (Err fault.Sink) c d calm first second dropped = stops_after c d (calm refl) second
+  put_stops (Err fault.Disk) c d calm first second dropped = stops_at c d first (dropped (λ h. h))
+  put_stops (Err fault.Memory) c d calm first second dropped = stops_at c d first (dropped (λ h. h))

@@ -6,7 +6,7 @@ use Rattle.cache_theory.specs.Machine.{opened}
 use Rattle.cache_tool.specs.HeldReply.{said_in}
 use Rattle.cache_tool.specs.Statuses.{status_in}
 use Rattle.cache_tool.specs.World.{output, supply}
-use Rattle.cache_tool.proofs.PutEnds.{answered, disk_cause, ended_no_sink, never_others, never_sink, not_answered, not_opened, source_came}
+use Rattle.cache_tool.proofs.PutEnds.{answered, disk_cause, ended_no_sink, never_others, never_sink, not_answered, not_opened, put_stops, source_came}
 use Rattle.cache_tool.proofs.StatusLaws.{no_answer}
 use Rattle.cache_tool.proofs.put.put.Goals as goal
 
@@ -48,7 +48,10 @@ returns g c = record {
   refused = λ is. absurd (c.in_default.not-No is);
   others = never_others c.perform_put-came.result c.end.result c.perform_put-came.ensures.only c.perform_put-came.ensures.no_sink c.end.ensures.same;
   quiet = c.end.ensures.quiet;
-  stops = search rules;
+  stops = λ told.
+      put_stops (g.D.Disk.counts c.args.disk.now) (g.D.Disk.counts c.open.new.disk) (c.in-Ok.ensures.account.went_on refl told) c.perform_put-came.result
+      (g.D.Disk.counts c.perform_put-came.new.disk) (g.D.Disk.counts c.end.new.disk) (λ calm. c.perform_put-came.ensures.account.went_on calm told)
+      (c.perform_put-came.ensures.account.stops told) (c.end.ensures.stops told) (λ dropped. ap g.D.Disk.counts (c.end.ensures.dropped dropped).1);
   source = λ source. c.perform_put-came.ensures.source (source_came c.perform_put-came.result c.end.result c.end.ensures.same source);
   sink = λ sink. absurd (ended_no_sink c.end.result (status_in c.perform_put-came.result) (never_sink c.perform_put-came.result c.perform_put-came.ensures.only c.perform_put-came.ensures.no_sink) c.end.ensures.same sink);
   calm = λ answer. absurd (no_answer c.end.result c.in_default.not-Done c.in_default.not-No answer);
