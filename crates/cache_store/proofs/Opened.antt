@@ -17,10 +17,11 @@ use Rattle.doom_area.specs.DoomArea.{IsCleared, RemovesDoomed, removed_each}
 use Rattle.entry_file.specs.EntryFile.{read_for, whole_in}
 use Rattle.entry_name.specs.EntryName.{file_name}
 use Rattle.file_handles.specs.Carries.{Begins, IsShelf}
-use Rattle.cache_store.specs.Open.{IsOpen, KeepsFound, Open, Opens, OpensSafely}
+use Rattle.cache_store.specs.Open.{IsOpen, KeepsFound, Opens, OpensSafely}
+use Rattle.cache_store.specs.Session.{Open, Session}
 use Rattle.cache_store.proofs.Closed.{settled_quiet}
+use Rattle.cache_store.proofs.Represented.{represents}
 use Rattle.cache_store.proofs.Shelves.{shelf_exists}
-use Rattle.cache_store.proofs.StandsAs.{stands_as}
 
 -- doomed files are removed one after the other
 each_safe : (numbers : List ℕ) (s : State) (w : Marks) → IsSafe s w → IsSafe (removed_each numbers s) w
@@ -45,7 +46,7 @@ synced_shelf s t shelf cleared is = record {
 }
 
 -- and the store stands for the machine at the opening
-pub opened_stands : (s t u : State) (now : ℕ) (o : Open) → IsSound u → u ≡ settled t → IsCleared s t → o.moment ≡ now → now < 2 ^ 32 → Begins o.handles → Opens now s u o
+pub opened_stands : (s t u : State) (now : ℕ) (o : Open) → IsSound u → u ≡ settled t → IsCleared s t → o.moment ≡ now → now < 2 ^ 32 → Begins o.handles → Opens now s (record { open_store = o; disk = u })
 opened_stands s t u now o sound synced cleared moment small begins shelf rest is =
     let quiet : IsQuiet u = subst IsQuiet (sym synced) (settled_quiet t) in
     let same : IsShelf u shelf = subst (λ v. IsShelf v shelf) (sym synced) (synced_shelf s t shelf cleared is) in
@@ -56,10 +57,10 @@ opened_stands s t u now o sound synced cleared moment small begins shelf rest is
     }
 
 -- so it is open
-pub opens_open : (s t : State) (now : ℕ) (o : Open) → IsFinite s → Opens now s t o → IsOpen t o
-opens_open s t now o finite opens =
+pub opens_open : (s : State) (now : ℕ) (after : Session) → IsFinite s → Opens now s after → IsOpen after
+opens_open s now after finite opens =
     let shelf = shelf_exists s finite in
-    (opened now shelf.0 [], stands_as (opens shelf.0 [] shelf.1))
+    (opened now shelf.0 [], represents (opens shelf.0 [] shelf.1))
 
 -- and after a crash at any exit each key is found as it was
 pub keeps_found : (s t : State) (now : ℕ) → IsFinite s → OpensSafely now s t → KeepsFound s t

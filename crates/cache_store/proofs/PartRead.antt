@@ -1,8 +1,8 @@
 -- What the machine replies to a read, and how many bytes that is.
-use Rattle.std.proofs.Common.{◌≡◌, ◌∙◌, ℕ, ◌-◌, List, length, length-drop, min, take, drop, None, Some, sym, ap, subst, arith}
+use Rattle.std.proofs.Common.{◌≡◌, ◌∙◌, ℕ, ◌-◌, List, length, length-drop, min, take, drop, None, Some, sym, ap, arith}
 use Rattle.cache_base.specs.Checks.{first_failing}
 use Rattle.cache_theory.specs.Checks.{checks}
-use Rattle.cache_theory.specs.Command.{Command, Reply}
+use Rattle.cache_theory.specs.Command.{Command}
 use Rattle.cache_theory.specs.Command.Command.{ReadPart}
 use Rattle.cache_theory.specs.Command.Reply.{Part, Refused}
 use Rattle.cache_theory.specs.Machine.{Machine, object_of}

@@ -4,12 +4,14 @@ use Rattle.std.proofs.lemmas.List.{drop-drop, length-take, take_all, take_min}
 use Rattle.std.proofs.Math.Seq.{take-add}
 use Rattle.std.specs.declared.option.Option.{Option}
 use Rattle.cache_theory.specs.Machine.{Machine}
-use Rattle.disk_model.specs.State.{State, standing}
+use Rattle.disk_model.specs.State.{State}
+use Rattle.file_handles.specs.Cache.{Cache, cache_at}
 use Rattle.file_handles.specs.Kept.{Kept}
 use Rattle.file_handles.specs.Reading.{part_of_body}
-use Rattle.file_handles.specs.Stands.{Stands}
+use Rattle.file_handles.specs.Stands.{Represents}
+use Rattle.cache_store.specs.Said.{Saying}
 use Rattle.cache_store.specs.Saying.{SaysMore, StopsIn}
-use Rattle.cache_store.proofs.ElemSaid.{says_then, stops_front, stops_then}
+use Rattle.cache_store.proofs.SayingLaws.{says_then, stops_front, stops_then}
 
 -- a part is no longer than was asked for
 pub part_short : (body : List ℕ) (from len : ℕ) → length (part_of_body body from len) ≤ len
@@ -57,16 +59,16 @@ module _ (body : List ℕ) (from len done : ℕ) where
       ∙ sym (take-add (done + n) (len - (done + n)) X)
       ∙ ap (λ j. take j X) (let e : done + n + (len - (done + n)) ≡ len = omega (arith, short, le) in e)
 
-  pub stops_in_part : done ≤ len → (a b c : Option (List ℕ)) (x y : List ℕ) → SaysMore a b x y so_far → StopsIn b c y part → StopsIn a c x (take len (drop from body))
-  stops_in_part le a b c x y says stops =
+  pub stops_in_part : done ≤ len → (a b : Saying) (now : Option (List ℕ)) → SaysMore a b so_far → StopsIn b now part → StopsIn a now (take len (drop from body))
+  stops_in_part le a b now says stops =
       let n : ℕ = length part in
       let more = take (len - (done + n)) (drop (done + n) (drop from body)) in
-      subst (λ (t : List ℕ). StopsIn a c x t) (begins_so le) (stops_then a b c x y y so_far (part ++ more) says (stops_front b c y part more stops))
+      subst (λ (t : List ℕ). StopsIn a now t) (begins_so le) (stops_then a b now so_far (part ++ more) says (stops_front b now part more stops))
 
-  pub says_with_part : (n : ℕ) → n ≡ length part → (a b c : Option (List ℕ)) (x y z : List ℕ) → SaysMore a b x y so_far → SaysMore b c y z part → SaysMore a c x z (take (done + n) (drop from body))
-  says_with_part n is a b c x y z says more = subst (λ (t : List ℕ). SaysMore a c x z t) (more_is n is) (says_then a b c x y z so_far part says more)
+  pub says_with_part : (n : ℕ) → n ≡ length part → (a b c : Saying) → SaysMore a b so_far → SaysMore b c part → SaysMore a c (take (done + n) (drop from body))
+  says_with_part n is a b c says more = subst (λ (t : List ℕ). SaysMore a c t) (more_is n is) (says_then a b c so_far part says more)
 
--- what the handles and the disk stand for, they stand for when both are the same
-pub stands_same : (s t : State) (k l : Kept) (m : Machine) (number : ℕ → ℕ) → t ≡ s → l ≡ k → Stands (standing s) k m number → Stands (standing t) l m number
-stands_same s t k l m number of_disk of_kept stands =
-    subst (λ (x : State). Stands (standing x) l m number) (sym of_disk) (subst (λ (x : Kept). Stands (standing s) x m number) (sym of_kept) stands)
+-- what the handles and the disk represent, they represent when both are the same
+pub represents_same : (at after : Cache) (m : Machine) → after.disk ≡ at.disk → after.handles ≡ at.handles → Represents at m → Represents after m
+represents_same at after m of_disk of_kept represents =
+    subst (λ (x : State). Represents (cache_at after.handles x) m) (sym of_disk) (subst (λ (x : Kept). Represents (cache_at x at.disk) m) (sym of_kept) represents)

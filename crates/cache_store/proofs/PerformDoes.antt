@@ -1,13 +1,13 @@
 -- What a command does before its reply is out.
-use Rattle.std.proofs.Common.{Bool, ◌≡◌, ◌≢◌, ◌∙◌, ℕ, ◌<◌, ◌^◌, List, [], Option, Some, None, Result, Ok, Err, IsErrAnd, refl, sym, ap, subst}
+use Rattle.std.proofs.Common.{Bool, ◌≡◌, ◌≢◌, ◌∙◌, ℕ, ◌<◌, ◌^◌, List, [], Option, Some, None, Result, Ok, Err, IsErrAnd, refl, sym, subst}
 use Rattle.std.specs.Prelude.{IfErr, IfSome, OnOk}
 use Rattle.cache_theory.specs.Checks.{checks}
 use Rattle.cache_theory.specs.Command.{Command, Reply}
 use Rattle.cache_theory.specs.Command.Command.{At, Create, Flush}
 use Rattle.cache_theory.specs.Command.Reply.{Done}
-use Rattle.cache_theory.specs.Given.{IsGiven}
+use Rattle.cache_theory.specs.History.{History, acked, begun}
 use Rattle.cache_theory.specs.Machine.{Machine}
-use Rattle.cache_theory.specs.Marks.{Marks, acked, begun, marks_of}
+use Rattle.cache_theory.specs.Marks.{Marks, begun as begun_marks}
 use Rattle.cache_theory.specs.Proper.{IsProper}
 use Rattle.cache_theory.specs.Step.{effect, step}
 use Rattle.cache_theory.proofs.Proper.{stays_proper}
@@ -17,55 +17,57 @@ use Rattle.disk_model.specs.Sound.{IsSound}
 use Rattle.disk_model.specs.State.{State, settled}
 use Rattle.disk_model.specs.declared.disk.DiskFault.{DiskFault}
 use Rattle.disk_model.specs.declared.disk.DiskFault.TheVariants.{Failed, Memory}
-use Rattle.file_handles.specs.Answers.{OnRefused, done_or}
+use Rattle.file_handles.specs.Answers.{done_or}
 use Rattle.file_handles.specs.Carries.{CarriesOut, CarriesOutAt}
-use Rattle.file_handles.specs.Stands.{IsInWhere, Stands, StandsSomehow}
+use Rattle.file_handles.specs.Stands.{KeepsWhere as CacheKeepsWhere, RepresentsSome}
 use Rattle.file_handles.specs.declared.fault.HandleFault.{HandleFault}
-use Rattle.file_handles.specs.declared.fault.HandleFault.TheVariants as handle
 use Rattle.file_handles.proofs.Begun.{begun_in}
-use Rattle.cache_store.specs.Answering.{AnswersTo}
+use Rattle.file_handles.proofs.Where.{LeavesWhere, carried_out, carried_out_at}
+use Rattle.cache_store.specs.Answering.{AnswersFor}
 use Rattle.cache_store.specs.Faults.{of_disk}
-use Rattle.cache_store.specs.Open.{IsOpen, Open, StandsAs, StandsWhere}
+use Rattle.cache_store.specs.Open.{IsOpen, KeepsWhere}
 use Rattle.cache_store.specs.Performing.{Does, DoesFor}
 use Rattle.cache_store.specs.Replied.{replied}
+use Rattle.cache_store.specs.Said.{Saying}
+use Rattle.cache_store.specs.Session.{Open, Session, cache_of}
 use Rattle.cache_store.specs.declared.answered.Answered.{Answered}
 use Rattle.cache_store.specs.declared.answered.Answered.TheVariants as answered
 use Rattle.cache_store.specs.declared.fault.StoreFault.{StoreFault}
 use Rattle.cache_store.specs.declared.fault.StoreFault.TheVariants as fault
 use Rattle.cache_store.proofs.Closed.{sync_safe}
-use Rattle.cache_store.proofs.PerformAnswers.{IsUnsaid, unsaid_by, unsaid_answers, unsaid_effect, unsaid_next}
 use Rattle.cache_store.proofs.PerformStands.{at_moment, moment_in, settled_in}
 use Rattle.cache_store.proofs.PerformSteps.{IsReading, KeepsMoment, reading_acked, reading_next, step_moment}
-use Rattle.cache_store.proofs.StandsAs.{as_stands}
-use Rattle.file_handles.proofs.Where.{LeavesWhere, carried_out, carried_out_at}
+use Rattle.cache_store.proofs.Represented.{represented}
+use Rattle.cache_store.proofs.Unsaid.{IsUnsaid, unsaid_by, unsaid_answers, unsaid_effect, unsaid_next}
 
--- an open store has handles that stand for a machine
-pub open_somehow : (s : State) (o : Open) → IsOpen s o → StandsSomehow s o.handles
-open_somehow s o (m, is) = (m, is.stands)
+-- an open store has handles that represent a machine
+pub open_somehow : (now : Session) → IsOpen now → RepresentsSome (cache_of now)
+open_somehow now (m, is) = (m, is.stands)
 
 -- what a call of the handles leaves
-leaves_does : {b : Bool} (c : Command) (m : Machine) (w : Marks) (answer : Result Answered StoreFault) (t : State) (old new : Open) (out : Option (List ℕ)) → IsUnsaid answer → KeepsMoment c
-    → new.moment ≡ old.moment → m.moment ≡ old.moment → LeavesWhere b c m w (replied answer) t new.handles → Does b c m w answer t new out out []
-leaves_does {b} c m w answer t old new out unsaid keeps same is leaves = record {
+pub leaves_does : {b : Bool} (c : Command) (h : History) (answer : Result Answered StoreFault) (before after : Session) (now : Saying) → IsUnsaid answer → KeepsMoment c
+    → after.open_store.moment ≡ before.open_store.moment → h.machine.moment ≡ before.open_store.moment → now.held ≡ []
+    → LeavesWhere b c h (replied answer) (cache_of after) → Does b c h answer after now.taken now
+leaves_does {b} c h answer before after now unsaid keeps same is none leaves = record {
   safe = leaves.safe;
-  answers = unsaid_answers answer unsaid (step m c).reply leaves.replies out;
-  next = go (replied answer) leaves.next (unsaid_next answer unsaid (StandsWhere b t new (step m c).next (acked m c w)));
-  effect = unsaid_effect answer unsaid (StandsWhere b t new (step m c).next (acked m c w));
+  answers = unsaid_answers answer unsaid (step h.machine c).reply leaves.replies now none;
+  next = go (replied answer) leaves.next (unsaid_next answer unsaid (KeepsWhere b after (acked c h)));
+  effect = unsaid_effect answer unsaid (KeepsWhere b after (acked c h));
 }
   where
-    moment : (step m c).next.moment ≡ new.moment
-    moment = step_moment m c keeps ∙ is ∙ sym same
+    moment : (step h.machine c).next.moment ≡ after.open_store.moment
+    moment = step_moment h.machine c keeps ∙ is ∙ sym same
 
-    go : (o : Option Reply) → IfSome o (λ r. IsInWhere b t new.handles (step m c).next (acked m c w)) → (IfSome o (λ r. StandsWhere b t new (step m c).next (acked m c w)) → OnOk answer (StandsWhere b t new (step m c).next (acked m c w)))
-        → OnOk answer (StandsWhere b t new (step m c).next (acked m c w))
-    go (Some r) in_ then = then (record { stands = in_; same_moment = moment })
-    go None in_ then = then tt
+    go : (o : Option Reply) → IfSome o (λ r. CacheKeepsWhere b (cache_of after) (acked c h)) → (IfSome o (λ r. KeepsWhere b after (acked c h)) → OnOk answer (KeepsWhere b after (acked c h)))
+        → OnOk answer (KeepsWhere b after (acked c h))
+    go (Some r) kept then = then (record { stands = kept; same_moment = moment })
+    go None kept then = then tt
 
 -- a command that the handles carry out
-pub carried_does : (c : Command) (answer : Result Answered StoreFault) (s t : State) (old new : Open) (out : Option (List ℕ)) (held : List ℕ) → IsUnsaid answer → KeepsMoment c
-    → new.moment ≡ old.moment → held ≡ [] → CarriesOut c (replied answer) s t old.handles new.handles → DoesFor c answer s t old new out out held
-carried_does c answer s t old new out held unsaid keeps same empty carried b m w is =
-    subst (Does b c m w answer t new out out) (sym empty) (leaves_does c m w answer t old new out unsaid keeps same is.same_moment (carried_out carried b m w is.stands))
+pub carried_does : (c : Command) (answer : Result Answered StoreFault) (before after : Session) (now : Saying) → IsUnsaid answer → KeepsMoment c
+    → after.open_store.moment ≡ before.open_store.moment → now.held ≡ [] → CarriesOut c (replied answer) (cache_of before) (cache_of after) → DoesFor c answer before after now.taken now
+carried_does c answer before after now unsaid keeps same none carried b h is =
+    leaves_does c h answer before after now unsaid keeps same is.same_moment none (carried_out carried b h.machine h.marks is.stands)
 
 -- the answer of the handles, as the store's
 pub record IsAnswerOf {T : Type 0} (r : Result T HandleFault) (answer : Result Answered StoreFault) : Type 0 where
@@ -73,39 +75,39 @@ pub record IsAnswerOf {T : Type 0} (r : Result T HandleFault) (answer : Result A
   pub not_said : answer ≢ Ok answered.All
   pub no_sink : answer ≢ Err fault.Sink
 
-pub handled_does : (c : Command) {T : Type 0} (r : Result T HandleFault) (answer : Result Answered StoreFault) (s t : State) (old new : Open) (out : Option (List ℕ)) (held : List ℕ) → IsAnswerOf r answer → KeepsMoment c
-    → new.moment ≡ old.moment → held ≡ [] → CarriesOut c (done_or r) s t old.handles new.handles → DoesFor c answer s t old new out out held
-handled_does c r answer s t old new out held is keeps same empty carried =
-    carried_does c answer s t old new out held (unsaid_by answer is.not_said is.no_sink) keeps same empty (subst (λ o. CarriesOut c o s t old.handles new.handles) (sym is.replies) carried)
+pub handled_does : (c : Command) {T : Type 0} (r : Result T HandleFault) (answer : Result Answered StoreFault) (before after : Session) (now : Saying) → IsAnswerOf r answer → KeepsMoment c
+    → after.open_store.moment ≡ before.open_store.moment → now.held ≡ [] → CarriesOut c (done_or r) (cache_of before) (cache_of after) → DoesFor c answer before after now.taken now
+handled_does c r answer before after now is keeps same none carried =
+    carried_does c answer before after now (unsaid_by answer is.not_said is.no_sink) keeps same none (subst (λ o. CarriesOut c o (cache_of before) (cache_of after)) (sym is.replies) carried)
 
 -- the same for a machine of this moment
-pub handled_at_does : (slot : ℕ) (key : List ℕ) {T : Type 0} (r : Result T HandleFault) (answer : Result Answered StoreFault) (s t : State) (old new : Open) (out : Option (List ℕ)) (held : List ℕ) → IsAnswerOf r answer
-    → new.moment ≡ old.moment → held ≡ [] → CarriesOutAt old.moment (Create slot key) (done_or r) s t old.handles new.handles → DoesFor (Create slot key) answer s t old new out out held
-handled_at_does slot key r answer s t old new out held is same empty carried b m w stands =
+pub handled_at_does : (slot : ℕ) (key : List ℕ) {T : Type 0} (r : Result T HandleFault) (answer : Result Answered StoreFault) (before after : Session) (now : Saying) → IsAnswerOf r answer
+    → after.open_store.moment ≡ before.open_store.moment → now.held ≡ [] → CarriesOutAt before.open_store.moment (Create slot key) (done_or r) (cache_of before) (cache_of after)
+    → DoesFor (Create slot key) answer before after now.taken now
+handled_at_does slot key r answer before after now is same none carried b h stands =
     let c : Command = Create slot key in
-    subst (Does b c m w answer t new out out) (sym empty)
-    (leaves_does c m w answer t old new out (unsaid_by answer is.not_said is.no_sink) tt same stands.same_moment
-    (subst (λ o. LeavesWhere b c m w o t new.handles) (sym is.replies) (carried_out_at carried b m w stands.same_moment stands.stands)))
+    leaves_does c h answer before after now (unsaid_by answer is.not_said is.no_sink) tt same stands.same_moment none
+    (subst (λ o. LeavesWhere b c h o (cache_of after)) (sym is.replies) (carried_out_at carried b h.machine h.marks stands.same_moment stands.stands))
 
 -- a command that only reads
-pub reading_does : (c : Command) (answer : Result Answered StoreFault) (s t : State) (old new : Open) (before now : Option (List ℕ)) (held : List ℕ) → IsReading c → t ≡ s → new ≡ old
-    → ((m : Machine) → StandsAs s old m → AnswersTo (step m c).reply answer before now held) → DoesFor c answer s t old new before now held
-reading_does c answer s t old new before now held reads same_state same_open answers b m w is =
-    subst (λ u. Does b c m w answer u new before now held) (sym same_state)
-    (subst (λ o. Does b c m w answer s o before now held) (sym same_open) (record {
+pub reading_does : (c : Command) (answer : Result Answered StoreFault) (before after : Session) (out : Option (List ℕ)) (now : Saying) → IsReading c → after.disk ≡ before.disk → after.open_store ≡ before.open_store
+    → AnswersFor (cache_of before) c answer out now → DoesFor c answer before after out now
+reading_does c answer before after out now reads same_disk same_open answers b h is =
+    subst (λ (s : State). Does b c h answer (record { open_store = after.open_store; disk = s }) out now) (sym same_disk)
+    (subst (λ (o : Open). Does b c h answer (record { open_store = o; disk = before.disk }) out now) (sym same_open) (record {
       safe = λ on. (begun_is.crash_kept on).safe;
-      answers = answers m (as_stands is);
+      answers = answers h.machine (represented is).stands;
       next = on_ok answer stands;
       effect = if_err answer stands;
     }))
   where
-    begun_is : IsInWhere b s old.handles m (begun m c w)
-    begun_is = begun_in s old.handles m c w is.stands
+    begun_is : CacheKeepsWhere b (cache_of before) (begun c h)
+    begun_is = begun_in before.disk before.open_store.handles h.machine c h.marks is.stands
 
-    stands : StandsWhere b s old (step m c).next (acked m c w)
+    stands : KeepsWhere b before (acked c h)
     stands =
-        subst (λ (v : Marks). StandsWhere b s old (step m c).next v) (sym (reading_acked m c w reads))
-        (subst (λ n. StandsWhere b s old n (begun m c w)) (sym (reading_next m c reads)) (record { stands = begun_is; same_moment = is.same_moment }))
+        subst (λ (v : Marks). KeepsWhere b before (record { machine = (step h.machine c).next; marks = v })) (sym (reading_acked h.machine c h.marks reads))
+        (subst (λ (n : Machine). KeepsWhere b before (record { machine = n; marks = begun_marks h.machine c h.marks })) (sym (reading_next h.machine c reads)) (record { stands = begun_is; same_moment = is.same_moment }))
 
     on_ok : (a : Result Answered StoreFault) {P : Type 0} → P → OnOk a P
     on_ok (Ok x) p = p
@@ -116,32 +118,30 @@ reading_does c answer s t old new before now held reads same_state same_open ans
     if_err (Err f) p = λ same. p
 
 -- the moment is set
-pub at_does : (now : ℕ) (s : State) (old new : Open) (out : Option (List ℕ)) (held : List ℕ) → now < 2 ^ 32 → new.handles ≡ old.handles → new.moment ≡ now → held ≡ []
-    → DoesFor (At now) (Ok answered.Done) s s old new out out held
+pub at_does : (now : ℕ) (before : Session) (reply : Saying) → now < 2 ^ 32 → reply.held ≡ []
+    → DoesFor (At now) (Ok answered.Done) before (record { open_store = record { handles = before.open_store.handles; moment = now }; disk = before.disk }) reply.taken reply
 unfolding checks effect
-at_does now s old new out held small same moment empty b m w is =
-    let proper : IsProper (at_moment now m) = stays_proper m (At now) small is.stands.stands.proper in
-    let begun_is = begun_in s old.handles m (At now) w is.stands in
-    subst (Does b (At now) m w (Ok answered.Done) s new out out) (sym empty) (record {
+at_does now before reply small none b h is =
+    let proper : IsProper (at_moment now h.machine) = stays_proper h.machine (At now) small is.stands.stands.proper in
+    let begun_is = begun_in before.disk before.open_store.handles h.machine (At now) h.marks is.stands in
+    record {
       safe = λ on. (begun_is.crash_kept on).safe;
-      answers = unsaid_answers (Ok answered.Done) tt Done refl out;
-      next = record { stands = subst (λ k. IsInWhere b s k (at_moment now m) (begun m (At now) w)) (sym same) (moment_in now m s old.handles (begun m (At now) w) proper begun_is); same_moment = sym moment };
+      answers = unsaid_answers (Ok answered.Done) tt Done refl reply none;
+      next = record { stands = moment_in now (cache_of before) (begun (At now) h) proper begun_is; same_moment = refl };
       effect = tt;
-    })
+    }
 
 -- the disk is synced
-pub flush_does : (s t : State) (sound : IsSound s) (old new : Open) (out : Option (List ℕ)) (held : List ℕ) → new ≡ old → held ≡ [] → t ≡ settled s
-    → DoesFor Flush (Ok answered.Done) s t old new out out held
+pub flush_does : (before : Session) (t : State) (sound : IsSound before.disk) (reply : Saying) → reply.held ≡ [] → t ≡ settled before.disk
+    → DoesFor Flush (Ok answered.Done) before (record { open_store = before.open_store; disk = t }) reply.taken reply
 unfolding checks effect
-flush_does s t sound old new out held same empty is b m w stands =
-    subst (Does b Flush m w (Ok answered.Done) t new out out) (sym empty)
-    (subst (λ o. Does b Flush m w (Ok answered.Done) t o out out []) (sym same)
-    (subst (λ u. Does b Flush m w (Ok answered.Done) u old out out []) (sym is) (record {
-      safe = λ on. sync_keeps s (begun m Flush w) ((begun_in s old.handles m Flush w stands.stands).crash_kept on).safe;
-      answers = unsaid_answers (Ok answered.Done) tt Done refl out;
-      next = record { stands = settled_in s sound old.handles m w stands.stands; same_moment = stands.same_moment };
+flush_does before t sound reply none is b h stands =
+    subst (λ (u : State). Does b Flush h (Ok answered.Done) (record { open_store = before.open_store; disk = u }) reply.taken reply) (sym is) (record {
+      safe = λ on. sync_keeps before.disk (begun Flush h).marks ((begun_in before.disk before.open_store.handles h.machine Flush h.marks stands.stands).crash_kept on).safe;
+      answers = unsaid_answers (Ok answered.Done) tt Done refl reply none;
+      next = record { stands = settled_in (cache_of before) sound h stands.stands; same_moment = stands.same_moment };
       effect = tt;
-    })))
+    })
 
 err_unsaid : (answer : Result Answered StoreFault) (d : DiskFault) → IsErrAnd answer (λ e. e ≡ of_disk d) → (f : StoreFault) × ((answer ≡ Err f) × IsUnsaid (Err f))
 err_unsaid (Ok x) d is = absurd is
@@ -149,34 +149,20 @@ err_unsaid (Err f) Failed is = (f, (refl, subst (λ (e : StoreFault). IsUnsaid (
 err_unsaid (Err f) Memory is = (f, (refl, subst (λ (e : StoreFault). IsUnsaid (Err e)) (sym is) tt))
 
 -- or the sync failed
-pub flush_fails : (r : Result (Unit {0}) DiskFault) (d : DiskFault) (answer : Result Answered StoreFault) (s t : State) (o : Open) (out : Option (List ℕ)) (held : List ℕ) → held ≡ [] → t ≡ if_ok r (settled s) s
-    → IsErrAnd answer (λ e. e ≡ of_disk d) → DoesFor Flush answer s t o o out out held
-flush_fails r d answer s t o out held empty is failed b m w stands =
-    let fault = err_unsaid answer d failed in
-    let f = fault.0 in
-    subst (λ a. Does b Flush m w a t o out out held) (sym fault.1.0)
-    (subst (Does b Flush m w (Err f) t o out out) (sym empty) (record {
-      safe = λ on. sync_safe r s t (begun m Flush w) is ((begun_in s o.handles m Flush w stands.stands).crash_kept on).safe;
-      answers = unsaid_answers (Err f) fault.1.1 (step m Flush).reply tt out;
+pub flush_fails : (r : Result (Unit {0}) DiskFault) (d : DiskFault) (answer : Result Answered StoreFault) (before : Session) (t : State) (reply : Saying) → reply.held ≡ [] → t ≡ if_ok r (settled before.disk) before.disk
+    → IsErrAnd answer (λ e. e ≡ of_disk d) → DoesFor Flush answer before (record { open_store = before.open_store; disk = t }) reply.taken reply
+flush_fails r d answer before t reply none is failed b h stands =
+    let failure = err_unsaid answer d failed in
+    let f = failure.0 in
+    let after : Session = record { open_store = before.open_store; disk = t } in
+    subst (λ (a : Result Answered StoreFault). Does b Flush h a after reply.taken reply) (sym failure.1.0) (record {
+      safe = λ on. sync_safe r before.disk t (begun Flush h).marks is ((begun_in before.disk before.open_store.handles h.machine Flush h.marks stands.stands).crash_kept on).safe;
+      answers = unsaid_answers (Err f) failure.1.1 (step h.machine Flush).reply tt reply none;
       next = tt;
-      effect = unsaid_effect (Err f) fault.1.1 (StandsWhere b t o (step m Flush).next (acked m Flush w));
-    }))
+      effect = unsaid_effect (Err f) failure.1.1 (KeepsWhere b after (acked Flush h));
+    })
 
 -- a command by another name
-pub as_command : (c d : Command) (answer : Result Answered StoreFault) (s t : State) (old new : Open) (before now : Option (List ℕ)) (held : List ℕ) → c ≡ d
-    → DoesFor d answer s t old new before now held → DoesFor c answer s t old new before now held
-as_command c d answer s t old new before now held same does = subst (λ k. DoesFor k answer s t old new before now held) (sym same) does
-
-never_none : (a : Answered) → IsUnsaid (Ok a) → replied (Ok a) ≡ None → ⊥
-never_none answered.Done unsaid none = cc
-never_none answered.All unsaid none = unsaid
-never_none answered.NoneThere unsaid none = cc
-never_none (answered.Refused r) unsaid none = cc
-
--- what holds where the handles answer, and where they refuse, holds where the store answers
-pub answered_on : {T : Type 0} (r : Result T HandleFault) (answer : Result Answered StoreFault) (P : Type 0) → IsAnswerOf r answer → OnOk r P → OnRefused r (λ refusal. P) → OnOk answer P
-answered_on r (Err f) P is done refused = tt
-answered_on (Ok value) (Ok a) P is done refused = done
-answered_on (Err (handle.Refused q)) (Ok a) P is done refused = refused q refl
-answered_on (Err handle.Disk) (Ok a) P is done refused = absurd (never_none a (unsaid_by (Ok a) is.not_said is.no_sink) is.replies)
-answered_on (Err handle.Memory) (Ok a) P is done refused = absurd (never_none a (unsaid_by (Ok a) is.not_said is.no_sink) is.replies)
+pub as_command : (c d : Command) (answer : Result Answered StoreFault) (before after : Session) (out : Option (List ℕ)) (now : Saying) → c ≡ d
+    → DoesFor d answer before after out now → DoesFor c answer before after out now
+as_command c d answer before after out now same does = subst (λ (k : Command). DoesFor k answer before after out now) (sym same) does

@@ -1,12 +1,13 @@
--- What the handles and the disk stand for, where the moment is set and where the disk is synced.
-use Rattle.std.proofs.Common.{◌≡◌, ◌∙◌, ℕ, ◌<◌, List, [], length, Bool, true, false, Option, Some, None, refl, sym, ap, subst, arith}
+-- What the handles and the disk represent, where the moment is set and where the disk is synced.
+use Rattle.std.proofs.Common.{◌≡◌, ◌∙◌, ℕ, List, Bool, false, Option, Some, refl, sym, ap, arith}
 use Rattle.std.specs.Prelude.{option_map, slice_get, unwrap_or}
-use Rattle.cache_theory.specs.Crash.{IsCrashKept, WasUnder}
-use Rattle.cache_theory.specs.Ever.{EverAt, IsFiledOnce, entries, entry_place}
-use Rattle.cache_theory.specs.Machine.{Machine, Object as MachineObject, object}
+use Rattle.cache_theory.specs.Crash.{IsCrashKept}
+use Rattle.cache_theory.specs.Ever.{EverAt, entries, entry_place}
+use Rattle.cache_theory.specs.History.{History, settled_at}
+use Rattle.cache_theory.specs.Machine.{Machine, Object as MachineObject}
 use Rattle.cache_theory.specs.Marks.{Marks, is_buried, marks_of}
 use Rattle.cache_theory.specs.Proper.{IsProper}
-use Rattle.cache_theory.specs.Stands.{DoomedStand, EntriesStand, IsHeldDoomed, entry_file}
+use Rattle.cache_theory.specs.Stands.{DoomedStand, IsHeldDoomed}
 use Rattle.cache_theory.specs.Table.{get}
 use Rattle.cache_theory.proofs.Crashes.{quiet_is_safe}
 use Rattle.cache_theory.proofs.EntryFiles.{entry_along, found_on_shelf}
@@ -19,8 +20,9 @@ use Rattle.disk_model.specs.declared.place.Place.TheVariants.{Doomed}
 use Rattle.disk_model.proofs.Standing.{settled_same}
 use Rattle.entry_file.specs.EntryFile.{found, read_for, whole_in}
 use Rattle.entry_name.specs.EntryName.{file_name}
+use Rattle.file_handles.specs.Cache.{Cache, cache_at}
 use Rattle.file_handles.specs.Kept.{Kept}
-use Rattle.file_handles.specs.Stands.{HandlesStand, IsAt, IsInWhere, Stands}
+use Rattle.file_handles.specs.Stands.{HandlesStand, IsAt, KeepsWhere, Stands}
 use Rattle.cache_store.proofs.Closed.{settled_quiet}
 
 -- ---- another moment
@@ -62,17 +64,19 @@ module _ (now : ℕ) (m : Machine) where
     young = kept.young;
   }
 
-  pub moment_in : {b : Bool} (s : State) (k : Kept) (w : Marks) → IsProper (at_moment now m) → IsInWhere b s k m w → IsInWhere b s k (at_moment now m) w
-  moment_in s k w proper is = record {
-    number = is.number;
-    stands = record {
-      proper = proper;
-      handles = moment_handles k is.number is.stands.handles;
-      entries = λ name. is.stands.entries name ∙ sym (entry_along m (at_moment now m) name refl refl (λ i at. refl));
-      doomed = moment_doomed (standing s) (IsAt k is.number) is.stands.doomed;
-    };
-    crash_kept = λ on. moment_kept s w (IsAt k is.number) (is.crash_kept on);
-  }
+pub moment_in : (now : ℕ) {b : Bool} (at : Cache) (h : History) → IsProper (at_moment now h.machine) → KeepsWhere b at h → KeepsWhere b at (record { machine = at_moment now h.machine; marks = h.marks })
+moment_in now at h proper is =
+    let m = h.machine in
+    record {
+      number = is.number;
+      stands = record {
+        proper = proper;
+        handles = moment_handles now m at.handles is.number is.stands.handles;
+        entries = λ name. is.stands.entries name ∙ sym (entry_along m (at_moment now m) name refl refl (λ i at. refl));
+        doomed = moment_doomed now m (standing at.disk) (IsAt at.handles is.number) is.stands.doomed;
+      };
+      crash_kept = λ on. moment_kept now m at.disk h.marks (IsAt at.handles is.number) (is.crash_kept on);
+    }
 
 -- ---- a sync
 
@@ -104,15 +108,18 @@ module _ (s : State) (sound : IsSound s) (k : Kept) (m : Machine) where
       let same = sound.one_place 0 (Doomed d) (entry_place name) file at (ever_settled s (entry_place name) file ever) in
       absurd (cc)
 
-  pub settled_in : {b : Bool} (w : Marks) → IsInWhere b s k m w → IsInWhere b (settled s) k m (marks_of m)
-  settled_in w is = record {
-    number = is.number;
-    stands = settled_stands is.number is.stands;
-    crash_kept = λ on. record {
-      safe = quiet_is_safe (settled s) m (settled_quiet s) (settled_found is.number is.stands);
-      once = sync_files_once s (is.crash_kept on).once;
-      doomed = λ d i file name at h names ever. apart_doomed d file name _ names ever;
-      unburied = never_buried m;
-      young = omega arith;
-    };
-  }
+pub settled_in : {b : Bool} (at : Cache) (sound : IsSound at.disk) (h : History) → KeepsWhere b at h → KeepsWhere b (cache_at at.handles (settled at.disk)) (settled_at h.machine)
+settled_in at sound h is =
+    let s = at.disk in
+    let m = h.machine in
+    record {
+      number = is.number;
+      stands = settled_stands s sound at.handles m is.number is.stands;
+      crash_kept = λ on. record {
+        safe = quiet_is_safe (settled s) m (settled_quiet s) (settled_found s sound at.handles m is.number is.stands);
+        once = sync_files_once s (is.crash_kept on).once;
+        doomed = λ d i file name placed held names ever. apart_doomed s sound at.handles m d file name _ names ever;
+        unburied = never_buried m;
+        young = omega arith;
+      };
+    }

@@ -1,5 +1,5 @@
 -- What a step leaves of the machine.
-use Rattle.std.proofs.Common.{◌≡◌, ℕ, List, Bool, cond, true, Option, Some, None, refl, sym, ap, ◌∙◌}
+use Rattle.std.proofs.Common.{◌≡◌, ℕ, true, Option, Some, None, refl, ◌∙◌}
 use Rattle.std.specs.Prelude.{◌&&◌, ◌||◌, ⊤, is_none, not}
 use Rattle.std.proofs.lemmas.Bool.{cond_both}
 use Rattle.cache_base.specs.Checks.{first_failing}

@@ -1,24 +1,24 @@
--- What was said, and more behind it.
+-- What was said, and more after it.
 use Rattle.std.proofs.Common.{◌≡◌, ◌+◌, ◌++◌, ◌∙◌, ℕ, List, [], length, take, Result, Ok, Err, OnOk, OnErr, subst, sym, ap, arith, length-append, refl}
 use Rattle.std.specs.declared.option.Option.{Option}
 use Rattle.std.specs.Io.KnownBytes.{Appends}
 use Rattle.std.proofs.KnownBytes.{Appends-trans}
 use Rattle.std.proofs.lemmas.List.{append-nil, take-append-le}
 use Rattle.std.proofs.Math.Seq.{take-append-add}
-use Rattle.cache_store.specs.Said.{IsCut, Said}
+use Rattle.cache_store.specs.Said.{IsCut, Said, Saying}
 
 -- all that was held went out
-pub said_sent : (before old now : Option (List ℕ)) (held text : List ℕ) → Said before old held text → Appends old now held → Appends before now text
-said_sent before old now held text said all =
-    subst (Appends before now) (sym said.is) (Appends-trans before old now said.front held said.out all)
+pub said_sent : (before : Option (List ℕ)) (was : Saying) (now : Option (List ℕ)) (text : List ℕ) → Said before was text → Appends was.taken now was.held → Appends before now text
+said_sent before was now text said all =
+    subst (Appends before now) (sym said.is) (Appends-trans before was.taken now said.front was.held said.out all)
 
 -- a part of it did
-pub said_cut : (before old now : Option (List ℕ)) (held text : List ℕ) → Said before old held text → IsCut old now held → IsCut before now text
-said_cut before old now held text said cut =
+pub said_cut : (before : Option (List ℕ)) (was : Saying) (now : Option (List ℕ)) (text : List ℕ) → Said before was text → IsCut was.taken now was.held → IsCut before now text
+said_cut before was now text said cut =
     let n = cut.0 in
-    let is : take (length said.front + n) text ≡ said.front ++ take n held = ap (take (length said.front + n)) said.is ∙ take-append-add said.front held n in (
+    let is : take (length said.front + n) text ≡ said.front ++ take n was.held = ap (take (length said.front + n)) said.is ∙ take-append-add said.front was.held n in (
       length said.front + n,
-      (omega (arith, cut.1.0, ap length said.is, length-append said.front held), subst (Appends before now) (sym is) (Appends-trans before old now said.front (take n held) said.out cut.1.1)),
+      (omega (arith, cut.1.0, ap length said.is, length-append said.front was.held), subst (Appends before now) (sym is) (Appends-trans before was.taken now said.front (take n was.held) said.out cut.1.1)),
     )
 
 -- of a longer text a part went out, too
@@ -28,18 +28,18 @@ cut_more before now text more cut = (
   (omega (arith, cut.1.0, length-append text more), subst (Appends before now) (sym (take-append-le cut.0 text more (omega (arith, cut.1.0)))) cut.1.1),
 )
 
--- all went out, and more behind it
-pub said_behind : (before mid now : Option (List ℕ)) (text more : List ℕ) → Appends before mid text → Appends mid now more → Said before now [] (text ++ more)
-said_behind before mid now text more all out = record {
+-- all went out, and more after it
+pub said_after : (before mid now : Option (List ℕ)) (text more : List ℕ) → Appends before mid text → Appends mid now more → Said before (record { taken = now; held = [] }) (text ++ more)
+said_after before mid now text more all out = record {
   front = text ++ more;
   out = Appends-trans before mid now text more all out;
   is = sym (append-nil (text ++ more));
 }
 
 -- and a part of more
-pub cut_behind : (before mid now : Option (List ℕ)) (text more : List ℕ) → Appends before mid text → IsCut mid now more → IsCut before now (text ++ more)
-cut_behind before mid now text more all cut =
-    said_cut before mid now more (text ++ more) (record { front = text; out = all; is = refl }) cut
+pub cut_after : (before mid now : Option (List ℕ)) (text more : List ℕ) → Appends before mid text → IsCut mid now more → IsCut before now (text ++ more)
+cut_after before mid now text more all cut =
+    said_cut before (record { taken = mid; held = more }) now (text ++ more) (record { front = text; out = all; is = refl }) cut
 
 -- what holds in any case holds with an answer, and after a failure
 pub when_ok : {A E : Type 0} (r : Result A E) (P : Type 0) → P → OnOk r P

@@ -1,14 +1,21 @@
 -- How a reply is said.
 use Rattle.std.specs.Prelude.{IfOk, List, OnErr, Option, Result, [], codes, ℕ, ◌++◌, ◌∷◌, ◌≡◌}
-use Rattle.cache_store.specs.Said.{IsCut, Said}
+use Rattle.std.specs.Io.KnownBytes.{Appends}
+use Rattle.cache_store.specs.Said.{IsCut, Said, Saying}
 use Rattle.cache_store.specs.declared.answered.Answered.{Answered}
 use Rattle.cache_store.specs.declared.answered.Answered.TheVariants as answered
 use Rattle.cache_store.specs.declared.fault.Outcome.{Outcome}
 use Rattle.cache_store.specs.declared.fault.Outcome.TheVariants as outcome
 use Rattle.cache_store.specs.declared.fault.StoreFault.{StoreFault}
-use Rattle.cache_theory.specs.Command.{Reply}
+use Rattle.cache_theory.specs.Command.{Command, Reply}
 use Rattle.cache_theory.specs.Command.Reply.{Done, Refused, NoneThere, Value, Part, Found}
-use Rattle.cache_theory.specs.Text.{refusal_words, reply_text, spaced, line}
+use Rattle.cache_theory.specs.Machine.{Machine}
+use Rattle.cache_theory.specs.Step.{step}
+use Rattle.cache_theory.specs.Text.{refusal_words, reply_text, line}
+use Rattle.disk_model.specs.State.{State}
+use Rattle.file_handles.specs.Cache.{Cache, cache_at}
+use Rattle.file_handles.specs.Kept.{Kept}
+use Rattle.file_handles.specs.Stands.{Represents}
 
 -- what is still to be said
 abbrev pub rest_of : Answered → List ℕ
@@ -33,13 +40,36 @@ outcome_in answered.NoneThere = outcome.Ok
 outcome_in (answered.Refused r) = outcome.Refused
 
 -- a part of the text was said, and the rest of the answer completes it
-pub record SaysOf (text rest : List ℕ) (before now : Option (List ℕ)) (held : List ℕ) : Type 0 where
+pub record SaysOf (text rest : List ℕ) (before : Option (List ℕ)) (now : Saying) : Type 0 where
   pub front : List ℕ
-  pub said : Said before now held front
+  pub said : Said before now front
   pub whole : front ++ rest ≡ text
 
 -- this is the reply, as far as it was said, or it was cut
-pub record AnswersTo (r : Reply) (answer : Result Answered StoreFault) (before now : Option (List ℕ)) (held : List ℕ) : Type 0 where
-  pub says : IfOk answer (λ a. SaysOf (reply_text r) (rest_of a) before now held)
+pub record AnswersTo (r : Reply) (answer : Result Answered StoreFault)
+    (before : Option (List ℕ)) (now : Saying) : Type 0 where
+  pub says : IfOk answer (λ a. SaysOf (reply_text r) (rest_of a) before now)
   pub outcome : IfOk answer (λ a. outcome_in a ≡ outcome_of r)
-  pub cut : OnErr answer (IsCut before now (reply_text r))
+  pub cut : OnErr answer (IsCut before now.taken (reply_text r))
+
+-- it is the machine's reply to the command, whatever machine the cache stands for
+abbrev pub AnswersFor : Cache → Command → Result Answered StoreFault
+    → Option (List ℕ) → Saying → Type 0
+AnswersFor at c answer before now =
+    (m : Machine) → Represents at m → AnswersTo (step m c).reply answer before now
+
+-- so it is over any disk
+abbrev pub AnswersOver : Kept → Command → Result Answered StoreFault
+    → Option (List ℕ) → Saying → Type 0
+AnswersOver handles c answer before now =
+    (s : State) → AnswersFor (cache_at handles s) c answer before now
+
+-- the rest of an answer goes out after what was said, whatever the text that the two make up
+abbrev pub SendsRest : List ℕ → Saying → Option (List ℕ) → Type 0
+SendsRest rest was now =
+    (text : List ℕ) (before : Option (List ℕ)) → SaysOf text rest before was → Appends before now text
+
+-- of the two together a part goes out, and not all
+abbrev pub CutsRest : List ℕ → Saying → Option (List ℕ) → Type 0
+CutsRest rest was now =
+    (text : List ℕ) (before : Option (List ℕ)) → SaysOf text rest before was → IsCut before now text

@@ -1,8 +1,10 @@
 -- Faults of the disk and of the sink, as the store's.
+use Rattle.std.specs.Prelude.{Err, Ok, Result}
 use Rattle.cache_io.specs.declared.sink.SinkFault.{SinkFault}
 use Rattle.cache_io.specs.declared.sink.SinkFault.TheVariants as sink
 use Rattle.cache_store.specs.declared.fault.StoreFault.{StoreFault}
 use Rattle.cache_store.specs.declared.fault.StoreFault.TheVariants.{Disk, Memory, Sink}
+use Rattle.disk_model.specs.Account.{Ending}
 use Rattle.disk_model.specs.declared.disk.DiskFault.{DiskFault}
 use Rattle.disk_model.specs.declared.disk.DiskFault.TheVariants as disk
 
@@ -13,3 +15,13 @@ of_disk disk.Memory = Memory
 abbrev pub of_sink : SinkFault → StoreFault
 of_sink sink.Failed = Sink
 of_sink sink.Memory = Memory
+
+-- what a fault, and an answer, say of the calls of the disk: where the sink failed none of them did
+abbrev pub fault_ending : StoreFault → Ending
+fault_ending Disk = Ending.OneFailed
+fault_ending Memory = Ending.OutOfMemory
+fault_ending Sink = Ending.NoneFailed
+
+abbrev pub ending : {T : Type 0} → Result T StoreFault → Ending
+ending (Ok value) = Ending.NoneFailed
+ending (Err fault) = fault_ending fault

@@ -3,8 +3,10 @@ pub mod EntryText
 pub mod Faults
 pub mod Open
 pub mod Performing
+pub mod Prefix
 pub mod Printed
 pub mod Replied
 pub mod Said
 pub mod Saying
+pub mod Session
 pub mod Texts

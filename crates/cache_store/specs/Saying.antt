@@ -1,25 +1,41 @@
 -- What a call adds to a reply, whatever was said of it before.
 use Rattle.std.specs.Prelude.{List, Option, length, take, ℕ, ◌++◌, ◌≡◌, ◌≤◌}
 use Rattle.std.specs.Io.KnownBytes.{Appends}
-use Rattle.cache_store.specs.Said.{IsCut, Said}
+use Rattle.cache_store.specs.Said.{IsCut, Said, Saying}
 
 -- a part of the text went out, or all of it
 abbrev pub IsPart : Option (List ℕ) → Option (List ℕ) → List ℕ → Type 0
 IsPart before now text = (n : ℕ) × ((n ≤ length text) × Appends before now (take n text))
 
--- behind what was said, this was said too
-abbrev pub SaysMore : Option (List ℕ) → Option (List ℕ) → List ℕ → List ℕ → List ℕ → Type 0
-SaysMore from now was held more = (before : Option (List ℕ)) (text : List ℕ) → Said before from was text → Said before now held (text ++ more)
+-- after what was said, this was said too
+abbrev pub SaysMore : Saying → Saying → List ℕ → Type 0
+SaysMore was now more =
+    (before : Option (List ℕ)) (text : List ℕ) → Said before was text
+    → Said before now (text ++ more)
 
--- what was said with this behind it was cut
-abbrev pub CutsIn : Option (List ℕ) → Option (List ℕ) → List ℕ → List ℕ → Type 0
-CutsIn from now was more = (before : Option (List ℕ)) (text : List ℕ) → Said before from was text → IsCut before now (text ++ more)
+-- what was said, with this after it, was cut: of the two together a part went out, and not all
+abbrev pub CutsIn : Saying → Option (List ℕ) → List ℕ → Type 0
+CutsIn was now more =
+    (before : Option (List ℕ)) (text : List ℕ) → Said before was text
+    → IsCut before now (text ++ more)
 
--- a part of it went out, or all of it
-abbrev pub StopsIn : Option (List ℕ) → Option (List ℕ) → List ℕ → List ℕ → Type 0
-StopsIn from now was more = (before : Option (List ℕ)) (text : List ℕ) → Said before from was text → IsPart before now (text ++ more)
+-- of the two together a part went out, or all
+abbrev pub StopsIn : Saying → Option (List ℕ) → List ℕ → Type 0
+StopsIn was now more =
+    (before : Option (List ℕ)) (text : List ℕ) → Said before was text
+    → IsPart before now (text ++ more)
 
 -- this part was said, and this is its length
-pub record SaysPart (n : ℕ) (from now : Option (List ℕ)) (was held part : List ℕ) : Type 0 where
+pub record SaysPart (n : ℕ) (was now : Saying) (part : List ℕ) : Type 0 where
   pub len : n ≡ length part
-  pub says : SaysMore from now was held part
+  pub says : SaysMore was now part
+
+-- what was said went out whole
+abbrev pub SendsAll : Saying → Option (List ℕ) → Type 0
+SendsAll was now =
+    (before : Option (List ℕ)) (text : List ℕ) → Said before was text → Appends before now text
+
+-- or was cut
+abbrev pub CutsAll : Saying → Option (List ℕ) → Type 0
+CutsAll was now =
+    (before : Option (List ℕ)) (text : List ℕ) → Said before was text → IsCut before now text

@@ -15,7 +15,7 @@ found_line m =
     ∷ decimal m.header.frecency ∷ decimal m.header.expiration ∷ decimal m.header.flags
     ∷ decimal (length (elements_bytes m.elements)) ∷ decimal m.offset ∷ [])
 
--- the same numbers as fields, each behind a space
+-- the same numbers as fields, each after a space
 abbrev pub fields : List ℕ → List ℕ
 fields [] = []
 fields (n ∷ ns) = 32 ∷ (decimal n ++ fields ns)

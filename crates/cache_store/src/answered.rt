@@ -1,8 +1,16 @@
-//! What a command comes to before its reply is out whole.
+//! What a command answers before its reply is out whole.
 
+ghost use Rattle.std.specs.Prelude.{◌≡◌, ◌≢◌, IfOk, Err, Ok};
+ghost use Rattle.cache_store.specs.Faults.{ending};
+ghost use Rattle.cache_store.specs.Printed.{IsPlain};
+ghost use Rattle.cache_store.specs.Replied.{replied};
+ghost use Rattle.file_handles.specs.Answers.{done_or, ending as handle_ending, fault_ending as handle_fault_ending, reply_in};
+
+use crate::StoreFault;
 use cache_theory::Refusal;
+use file_handles::HandleFault;
 
-/// What a command comes to before its reply is out whole.
+/// What a command answers before its reply is out whole.
 pub(crate) enum Answered {
     /// It was done, and says `ok`.
     Done,
@@ -12,4 +20,33 @@ pub(crate) enum Answered {
     NoneThere,
     /// It is refused, and says why.
     Refused(Refusal),
+}
+
+/// The answer to a fault of the handles: a refusal is still to be said, and the others are faults of the store.
+pub(crate) fn fault_answer(fault: HandleFault) -> Result<Answered, StoreFault>
+    ensures replies { replied result ≡ reply_in fault }
+    ensures not_said { result ≢ Ok Answered.All }
+    ensures plain { IfOk result IsPlain }
+    ensures no_sink { result ≢ Err StoreFault.Sink }
+    ensures ending { ending result ≡ handle_fault_ending fault }
+{
+    match fault {
+        HandleFault::Refused(refusal) => Ok(Answered::Refused(refusal)),
+        HandleFault::Disk => Err(StoreFault::Disk),
+        HandleFault::Memory => Err(StoreFault::Memory),
+    }
+}
+
+/// The answer to what a call of the handles answers.
+pub(crate) fn answer_of<T: Drop>(answer: Result<T, HandleFault>) -> Result<Answered, StoreFault>
+    ensures replies { replied result ≡ done_or answer }
+    ensures not_said { result ≢ Ok Answered.All }
+    ensures plain { IfOk result IsPlain }
+    ensures no_sink { result ≢ Err StoreFault.Sink }
+    ensures ending { ending result ≡ handle_ending answer }
+{
+    match answer {
+        Ok(_) => Ok(Answered::Done),
+        Err(fault) => fault_answer(fault),
+    }
 }

@@ -1,13 +1,13 @@
-//! A session of the cache: the store is opened at a moment, performs commands one after the other, each with its reply, and
-//! is closed.
+//! A session of the cache: the store is opened at a moment, performs commands one after the other, each with its
+//! reply, and is closed.
 #![tactic(auto)]
 
 mod answered;
+mod command;
 mod fault;
-mod getting;
+mod get;
 mod pending;
-mod performing;
-mod reading;
+mod read;
 mod replies;
 mod store;
 

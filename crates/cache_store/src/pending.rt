@@ -1,10 +1,8 @@
-//! What of a reply is not out yet.
+//! Holds back what of a reply is not out yet.
 
-ghost use Rattle.std.specs.Prelude.{ℕ, List, Option, ◌≡◌, ◌≤◌, ◌+◌, ◌++◌, [], OnErr, OnOk, IfOk, IsErrOf, length, take};
+ghost use Rattle.std.specs.Prelude.{◌≡◌, [], OnErr, OnOk, IfOk, IsErrOf};
 ghost use Rattle.cache_base.specs.declared.limits.TheConstants.{BUFFER_MAX};
-ghost use Rattle.std.specs.Io.KnownBytes.{Appends};
 ghost use Rattle.cache_base.specs.Causes.{HasCause};
-ghost use Rattle.cache_store.specs.Said.{IsCut, Said};
 
 use cache_base::{BUFFER_MAX, Buffer, NoMemory};
 use cache_io::{Sink, SinkFault, write_whole};
@@ -17,6 +15,9 @@ pub(crate) struct Pending {
 }
 
 impl Pending {
+    ghost use Rattle.cache_store.specs.Said.{saying};
+    ghost use Rattle.cache_store.specs.Saying.{CutsAll, CutsIn, SaysMore, SendsAll};
+
     /// Nothing. All memory is taken here.
     pub(crate) fn new(alloc: Global) -> Result<Pending, NoMemory>
         ensures { IfOk result (λ pending. pending.held ≡ []) }
@@ -28,11 +29,12 @@ impl Pending {
 
     /// Says bytes. They are held, and where they have no room what is held goes out first.
     pub(crate) fn put<K: Sink>(&mut self, sink: &mut K, b: &[u8]) -> Result<(), SinkFault>
-        ensures said { OnOk result ((before : Option (List ℕ)) (text : List ℕ) → Said before (K.taken sink.old) self.old.held text
-            → Said before (K.taken sink.new) self.new.held (text ++ b.now)) }
-        ensures cut { OnErr result ((before : Option (List ℕ)) (text : List ℕ) → Said before (K.taken sink.old) self.old.held text
-            → IsCut before (K.taken sink.new) (text ++ b.now)) }
-        ensures cause { HasCause (IsErrOf result SinkFault.Failed) (K.faults sink.old) (K.faults sink.new) }
+        ensures said { let at = saying K.Sink in
+            OnOk result (SaysMore (at self.old sink.old) (at self.new sink.new) b.now) }
+        ensures cut { let at = saying K.Sink in
+            OnErr result (CutsIn (at self.old sink.old) (K.taken sink.new) b.now) }
+        ensures cause { let failed = IsErrOf result SinkFault.Failed in
+            HasCause failed (K.faults sink.old) (K.faults sink.new) }
     {
         if b.len() > BUFFER_MAX - self.held.as_slice().len() {
             self.send(sink)?;
@@ -47,11 +49,12 @@ impl Pending {
     /// All that is held goes out.
     pub(crate) fn send<K: Sink>(&mut self, sink: &mut K) -> Result<(), SinkFault>
         ensures held { OnOk result (self.new.held ≡ []) }
-        ensures said { OnOk result ((before : Option (List ℕ)) (text : List ℕ) → Said before (K.taken sink.old) self.old.held text
-            → Appends before (K.taken sink.new) text) }
-        ensures cut { OnErr result ((before : Option (List ℕ)) (text : List ℕ) → Said before (K.taken sink.old) self.old.held text
-            → IsCut before (K.taken sink.new) text) }
-        ensures cause { HasCause (IsErrOf result SinkFault.Failed) (K.faults sink.old) (K.faults sink.new) }
+        ensures said { let at = saying K.Sink in
+            OnOk result (SendsAll (at self.old sink.old) (K.taken sink.new)) }
+        ensures cut { let at = saying K.Sink in
+            OnErr result (CutsAll (at self.old sink.old) (K.taken sink.new)) }
+        ensures cause { let failed = IsErrOf result SinkFault.Failed in
+            HasCause failed (K.faults sink.old) (K.faults sink.new) }
     {
         write_whole(sink, self.held.as_slice())?;
         self.held.set_len(0);

@@ -6,8 +6,10 @@ use Rattle.cache_theory.specs.Machine.{Machine, Object as MachineObject}
 use Rattle.cache_theory.specs.Marks.{Marks, begun, is_buried}
 use Rattle.cache_theory.proofs.Begins.{begin_keeps, begun_marked, begun_touched}
 use Rattle.disk_model.specs.State.{State}
+use Rattle.file_handles.specs.Cache.{cache_at}
 use Rattle.file_handles.specs.Kept.{Kept}
-use Rattle.file_handles.specs.Stands.{IsInWhere}
+use Rattle.file_handles.specs.Stands.{KeepsWhere}
+use Rattle.file_handles.proofs.Histories.{history_of}
 
 -- the same objects were doomed at the mark
 pub begun_buried : (m : Machine) (c : Command) (w : Marks) (i : ℕ) → is_buried (begun m c w) i ≡ is_buried w i
@@ -18,7 +20,7 @@ begun_under m c w i o name was =
     record { unburied = begun_buried m c w i ∙ was.unburied; named = was.named; touched = begun_touched m c w name was.touched }
 
 -- all stands as before, under the marks of the command
-pub begun_in : {b : Bool} (s : State) (k : Kept) (m : Machine) (c : Command) (w : Marks) → IsInWhere b s k m w → IsInWhere b s k m (begun m c w)
+pub begun_in : {b : Bool} (s : State) (k : Kept) (m : Machine) (c : Command) (w : Marks) → KeepsWhere b (cache_at k s) (history_of m w) → KeepsWhere b (cache_at k s) (history_of m (begun m c w))
 begun_in s k m c w is =
     record {
       number = is.number;

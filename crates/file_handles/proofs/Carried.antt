@@ -15,18 +15,20 @@ use Rattle.cache_theory.proofs.Storing.{MayStand, stored_here}
 use Rattle.disk_model.specs.Sound.{IsSound}
 use Rattle.disk_model.specs.State.{State}
 use Rattle.file_handles.specs.Answers.{OnRefused, done_or}
+use Rattle.file_handles.specs.Cache.{cache_at}
 use Rattle.file_handles.specs.Carries.{CarriesOut}
 use Rattle.file_handles.specs.Changes.{ChangesAt}
 use Rattle.file_handles.specs.Held.{IsHeldAs}
-use Rattle.file_handles.specs.Kept.{Kept, object_at, with_object}
+use Rattle.file_handles.specs.Kept.{Kept, with_object}
 use Rattle.file_handles.specs.Refuses.{HasAt, Passes}
-use Rattle.file_handles.specs.Stands.{HandlesStand, IsInWhere}
+use Rattle.file_handles.specs.Stands.{HandlesStand, KeepsWhere}
 use Rattle.file_handles.specs.declared.fault.HandleFault.{HandleFault}
 use Rattle.file_handles.specs.declared.fault.HandleFault.TheVariants as fault
 use Rattle.file_handles.specs.declared.object.Object.{Object}
 use Rattle.file_handles.proofs.Begun.{begun_in}
 use Rattle.file_handles.proofs.Changed.{MayGoOut, changed_in_safe, changed_safe}
 use Rattle.file_handles.proofs.ElementSlots.{there_number}
+use Rattle.file_handles.proofs.Histories.{history_of}
 use Rattle.file_handles.proofs.Where.{CarriesOutWhere, LeavesWhere, carries_out}
 
 -- a command that passes its checks and makes this change of the slot's object, and writes to its file only where `Writes`
@@ -45,8 +47,8 @@ pub record MakesChange (k : Kept) (c : Command) (slot : ℕ) (change : MachineOb
       → object (effect m c).next (number_of m slot) ≡ change (object_of m slot) → MayGoOut (begun m c w) (number_of m slot) (change (object_of m slot))
 
 module _ (s t : State) (k after : Kept) (c : Command) (slot : ℕ) (small : slot < SLOTS) (p : ℕ) (x : Object) (has : HasAt k slot p x) (change : MachineObject → MachineObject) (Writes : MachineObject → Type 0)
-    (makes : MakesChange k c slot change Writes) {T : Type 0} (r : Result T HandleFault) (there : ChangesAt p change r s t k after x) (writes : (o : MachineObject) → IsHeldAs x o → Writes o ⊎ (t ≡ s)) where
-  module _ {b : Bool} (m : Machine) (w : Marks) (is : IsInWhere b s k m (begun m c w)) where
+    (makes : MakesChange k c slot change Writes) {T : Type 0} (r : Result T HandleFault) (there : ChangesAt p change r (cache_at k s) (cache_at after t) x) (writes : (o : MachineObject) → IsHeldAs x o → Writes o ⊎ (t ≡ s)) where
+  module _ {b : Bool} (m : Machine) (w : Marks) (is : KeepsWhere b (cache_at k s) (history_of m (begun m c w))) where
     slot_number : number_of m slot ≡ is.number p
     slot_number = there_number k m is.number is.stands.handles slot small p x has
 
@@ -84,31 +86,31 @@ module _ (s t : State) (k after : Kept) (c : Command) (slot : ℕ) (small : slot
       | inr same ↦ subst (λ (u : State). IsSafe u (begun m c w)) (sym same) (is.crash_kept on).safe
     ]
 
-    failed : LeavesWhere b c m w None t after
+    failed : LeavesWhere b c (history_of m w) None (cache_at after t)
     failed = record { safe = safe; replies = tt; next = tt }
 
     -- and after an Ok all stands for the next machine
-    made : IsSound s → IsOkAnd there.changed (λ y. after ≡ with_object k p (Some y)) → LeavesWhere b c m w (Some Done) t after
+    made : IsSound s → IsOkAnd there.changed (λ y. after ≡ with_object k p (Some y)) → LeavesWhere b c (history_of m w) (Some Done) (cache_at after t)
     made sound put = go there.changed refl put
       where
-        go : (changed : Result Object HandleFault) → there.changed ≡ changed → IsOkAnd changed (λ y. after ≡ with_object k p (Some y)) → LeavesWhere b c m w (Some Done) t after
+        go : (changed : Result Object HandleFault) → there.changed ≡ changed → IsOkAnd changed (λ y. after ≡ with_object k p (Some y)) → LeavesWhere b c (history_of m w) (Some Done) (cache_at after t)
         go (Err f) e put = absurd put
         go (Ok y) e put =
-            let stands : IsInWhere b t (with_object k p (Some y)) (stored m (is.number p) (change (object m (is.number p)))) (begun m c w) =
+            let stands : KeepsWhere b (cache_at (with_object k p (Some y)) t) (history_of (stored m (is.number p) (change (object m (is.number p)))) (begun m c w)) =
             changed_in_safe s t k m (begun m c w) is p x y change there.changed sound has.found there.changes e may safe in
             record {
               safe = safe;
               replies = ap (λ (a : Answer). a.reply) (sym step_is);
               next =
-                  subst (λ (v : Marks). IsInWhere b t after (step m c).next v) (sym (makes.acks m w))
-                  (subst (λ (n : Machine). IsInWhere b t after n (begun m c w)) (ap (λ (a : Answer). a.next) (sym step_is))
-                  (subst (λ (l : Kept). IsInWhere b t l (stored m (is.number p) (change (object m (is.number p)))) (begun m c w)) (sym put) stands));
+                  subst (λ (v : Marks). KeepsWhere b (cache_at after t) (history_of (step m c).next v)) (sym (makes.acks m w))
+                  (subst (λ (n : Machine). KeepsWhere b (cache_at after t) (history_of n (begun m c w))) (ap (λ (a : Answer). a.next) (sym step_is))
+                  (subst (λ (l : Kept). KeepsWhere b (cache_at l t) (history_of (stored m (is.number p) (change (object m (is.number p)))) (begun m c w))) (sym put) stands));
             }
 
--- such a command is carried out: a fault is no refusal, since the object is there
+-- such a command is carried out: a fault is no refusal
 change_where : (s t : State) → IsSound s → (k after : Kept) (c : Command) (slot : ℕ) → slot < SLOTS → (p : ℕ) (x : Object) → HasAt k slot p x → (change : MachineObject → MachineObject)
-    (Writes : MachineObject → Type 0) → MakesChange k c slot change Writes → {T : Type 0} (r : Result T HandleFault) → ChangesAt p change r s t k after x
-    → ((o : MachineObject) → IsHeldAs x o → Writes o ⊎ (t ≡ s)) → OnRefused r (λ _. object_at k p ≡ None) → CarriesOutWhere c (done_or r) s t k after
+    (Writes : MachineObject → Type 0) → MakesChange k c slot change Writes → {T : Type 0} (r : Result T HandleFault) → ChangesAt p change r (cache_at k s) (cache_at after t) x
+    → ((o : MachineObject) → IsHeldAs x o → Writes o ⊎ (t ≡ s)) → OnRefused r (λ _. ⊥) → CarriesOutWhere c (done_or r) (cache_at k s) (cache_at after t)
 change_where s t sound k after c slot small p x has change Writes makes (Ok value) there writes none b m w is =
     made s t k after c slot small p x has change Writes makes (Ok value) there writes m w (begun_in s k m c w is) sound there.put_back
 change_where s t sound k after c slot small p x has change Writes makes (Err fault.Disk) there writes none b m w is =
@@ -116,10 +118,10 @@ change_where s t sound k after c slot small p x has change Writes makes (Err fau
 change_where s t sound k after c slot small p x has change Writes makes (Err fault.Memory) there writes none b m w is =
     failed s t k after c slot small p x has change Writes makes (Err fault.Memory) there writes m w (begun_in s k m c w is)
 change_where s t sound k after c slot small p x has change Writes makes (Err (fault.Refused refusal)) there writes none b m w is =
-    absurd (let never : None ≡ Some x = sym (none refusal refl) ∙ has.found in cc)
+    absurd (none refusal refl)
 
 pub change_carried : (s t : State) → IsSound s → (k after : Kept) (c : Command) (slot : ℕ) → slot < SLOTS → (p : ℕ) (x : Object) → HasAt k slot p x → (change : MachineObject → MachineObject)
-    (Writes : MachineObject → Type 0) → MakesChange k c slot change Writes → {T : Type 0} (r : Result T HandleFault) → ChangesAt p change r s t k after x
-    → ((o : MachineObject) → IsHeldAs x o → Writes o ⊎ (t ≡ s)) → OnRefused r (λ _. object_at k p ≡ None) → CarriesOut c (done_or r) s t k after
+    (Writes : MachineObject → Type 0) → MakesChange k c slot change Writes → {T : Type 0} (r : Result T HandleFault) → ChangesAt p change r (cache_at k s) (cache_at after t) x
+    → ((o : MachineObject) → IsHeldAs x o → Writes o ⊎ (t ≡ s)) → OnRefused r (λ _. ⊥) → CarriesOut c (done_or r) (cache_at k s) (cache_at after t)
 change_carried s t sound k after c slot small p x has change Writes makes r there writes none =
     carries_out (change_where s t sound k after c slot small p x has change Writes makes r there writes none)

@@ -31,12 +31,14 @@ use Rattle.entry_file.specs.EntryFile.{fits}
 use Rattle.entry_file.specs.Version.{file_of}
 use Rattle.entry_file.proofs.StopLaws.{unfinished_is_short}
 use Rattle.entry_name.specs.EntryName.{file_name}
+use Rattle.file_handles.specs.Cache.{cache_at}
 use Rattle.file_handles.specs.Changes.{Becomes, Changes, IsFiledAs, IsMomentOf}
 use Rattle.file_handles.specs.Held.{IsHeldAs, object_place, place_of}
 use Rattle.file_handles.specs.Kept.{Kept, object_at, with_object}
-use Rattle.file_handles.specs.Stands.{HandlesStand, IsAt, IsInWhere, IsObjectOf}
+use Rattle.file_handles.specs.Stands.{HandlesStand, IsAt, IsObjectOf, KeepsWhere}
 use Rattle.file_handles.specs.declared.fault.HandleFault.{HandleFault}
 use Rattle.file_handles.specs.declared.object.Object.{Object}
+use Rattle.file_handles.proofs.Histories.{history_of}
 use Rattle.file_handles.proofs.KeptLaws.{object_set_here, object_set_other, place_within}
 use Rattle.file_handles.proofs.Places.{doomed_at, doomed_is, file_stands, is_filed, undoomed_is, undoomed_place}
 
@@ -59,7 +61,7 @@ writes_weaker s t file P Q all writes = record {
   moments = λ left lt. all _ (writes.moments left lt);
 }
 
-module _ {b : Bool} (s : State) (k : Kept) (m : Machine) (w : Marks) (is : IsInWhere b s k m w) (p : ℕ) (x : Object) (at : object_at k p ≡ Some x) (o : MachineObject) (may : MayStand m (is.number p) o) where
+module _ {b : Bool} (s : State) (k : Kept) (m : Machine) (w : Marks) (is : KeepsWhere b (cache_at k s) (history_of m w)) (p : ℕ) (x : Object) (at : object_at k p ≡ Some x) (o : MachineObject) (may : MayStand m (is.number p) o) where
   module _ (on : IsTrue b) (out : MayGoOut w (is.number p) o) where
     -- where the object's file ever stood as an entry
     stood : (file : ℕ) → names_now s (object_place x) ≡ Some file → (name : List ℕ) → EverAt s (entry_place name) file → WasUnder w (is.number p) (object m (is.number p)) name
@@ -288,7 +290,7 @@ module _ {b : Bool} (s : State) (k : Kept) (m : Machine) (w : Marks) (is : IsInW
         young = let l = length-set m.objects (is.number p) o in let young = (is.crash_kept on).young in omega (arith, l, young);
       }
 
-      wrote_in : (IsTrue b → IsSafe t w) → IsInWhere b t (with_object k p (Some y)) (stored m (is.number p) o) w
+      wrote_in : (IsTrue b → IsSafe t w) → KeepsWhere b (cache_at (with_object k p (Some y)) t) (history_of (stored m (is.number p) o) w)
       wrote_in safe = record {
         number = is.number;
         stands = record {
@@ -301,23 +303,23 @@ module _ {b : Bool} (s : State) (k : Kept) (m : Machine) (w : Marks) (is : IsInW
       }
 
 -- at every exit a crash may lose no more than the marks allow
-pub changed_safe : {b : Bool} (s t : State) (k : Kept) (m : Machine) (w : Marks) (is : IsInWhere b s k m w) (p : ℕ) (x : Object) (change : MachineObject → MachineObject) (changed : Result Object HandleFault)
+pub changed_safe : {b : Bool} (s t : State) (k : Kept) (m : Machine) (w : Marks) (is : KeepsWhere b (cache_at k s) (history_of m w)) (p : ℕ) (x : Object) (change : MachineObject → MachineObject) (changed : Result Object HandleFault)
     → object_at k p ≡ Some x → Changes x change changed s t → MayStand m (is.number p) (change (object m (is.number p))) → MayGoOut w (is.number p) (change (object m (is.number p))) → IsTrue b → IsSafe t w
 changed_safe s t k m w is p x change changed at changes may out =
     wrote_safe s k m w is p x at (change (object m (is.number p))) may t (changes.writes (object m (is.number p)) (is_filed s k m is.number is.stands p x at)) out
 
 -- and after an Ok all stands for the machine with the object changed, where that is safe
-pub changed_in_safe : {b : Bool} (s t : State) (k : Kept) (m : Machine) (w : Marks) (is : IsInWhere b s k m w) (p : ℕ) (x y : Object) (change : MachineObject → MachineObject) (changed : Result Object HandleFault)
+pub changed_in_safe : {b : Bool} (s t : State) (k : Kept) (m : Machine) (w : Marks) (is : KeepsWhere b (cache_at k s) (history_of m w)) (p : ℕ) (x y : Object) (change : MachineObject → MachineObject) (changed : Result Object HandleFault)
     → IsSound s → object_at k p ≡ Some x → Changes x change changed s t → changed ≡ Ok y → MayStand m (is.number p) (change (object m (is.number p)))
-    → (IsTrue b → IsSafe t w) → IsInWhere b t (with_object k p (Some y)) (stored m (is.number p) (change (object m (is.number p)))) w
+    → (IsTrue b → IsSafe t w) → KeepsWhere b (cache_at (with_object k p (Some y)) t) (history_of (stored m (is.number p) (change (object m (is.number p)))) w)
 changed_in_safe s t k m w is p x y change changed sound at changes ok may safe =
     let o : MachineObject = object m (is.number p) in
     let filed = is_filed s k m is.number is.stands p x at in
     let at_ok : IfOk {E = HandleFault} (Ok y) (λ y. (o : MachineObject) → IsFiledAs x o s → Becomes x y (change o) t) = subst (λ (r : Result Object HandleFault). IfOk r (λ y. (o : MachineObject) → IsFiledAs x o s → Becomes x y (change o) t)) ok changes.becomes in
     wrote_in s k m w is p x at (change o) may t (changes.writes o filed) y sound (at_ok o filed) safe
 
-pub changed_in : {b : Bool} (s t : State) (k : Kept) (m : Machine) (w : Marks) (is : IsInWhere b s k m w) (p : ℕ) (x y : Object) (change : MachineObject → MachineObject) (changed : Result Object HandleFault)
+pub changed_in : {b : Bool} (s t : State) (k : Kept) (m : Machine) (w : Marks) (is : KeepsWhere b (cache_at k s) (history_of m w)) (p : ℕ) (x y : Object) (change : MachineObject → MachineObject) (changed : Result Object HandleFault)
     → IsSound s → object_at k p ≡ Some x → Changes x change changed s t → changed ≡ Ok y → MayStand m (is.number p) (change (object m (is.number p)))
-    → MayGoOut w (is.number p) (change (object m (is.number p))) → IsInWhere b t (with_object k p (Some y)) (stored m (is.number p) (change (object m (is.number p)))) w
+    → MayGoOut w (is.number p) (change (object m (is.number p))) → KeepsWhere b (cache_at (with_object k p (Some y)) t) (history_of (stored m (is.number p) (change (object m (is.number p)))) w)
 changed_in s t k m w is p x y change changed sound at changes ok may out =
     changed_in_safe s t k m w is p x y change changed sound at changes ok may (changed_safe s t k m w is p x change changed at changes may out)

@@ -32,14 +32,16 @@ use Rattle.entry_file.specs.EntryFile.{file_meta, found, read, read_for, whole_i
 use Rattle.entry_file.specs.EntryFile.Reading.{Nothing}
 use Rattle.entry_file.proofs.StopLaws.{unfinished_is_short}
 use Rattle.entry_name.specs.EntryName.{file_name}
+use Rattle.file_handles.specs.Cache.{cache_at}
 use Rattle.file_handles.specs.Closing.{ClosesAll, IsClosed, dropped}
 use Rattle.file_handles.specs.Held.{IsEntryOf, is_draft, object_place, place_of}
 use Rattle.file_handles.specs.Kept.{Kept, object_at, use_at}
-use Rattle.file_handles.specs.Stands.{IsIn, Stands, StandsSomehow, slot_of}
+use Rattle.file_handles.specs.Stands.{KeepsTo, RepresentsSome, Stands, slot_of}
 use Rattle.file_handles.specs.declared.object.Entry.{Entry}
 use Rattle.file_handles.specs.declared.object.Entry.TheVariants as entry
 use Rattle.file_handles.specs.declared.object.Object.{Object}
 use Rattle.file_handles.specs.declared.object.Use.{Use}
+use Rattle.file_handles.proofs.Histories.{history_of}
 use Rattle.file_handles.proofs.KeptLaws.{place_within}
 use Rattle.file_handles.proofs.Places.{doomed_at, file_stands, undoomed_is, undoomed_place}
 use Rattle.file_handles.proofs.Released.{some_object}
@@ -265,7 +267,7 @@ unfinished_found key body =
     (λ other. refl))
 
 -- so nothing is lost with any file that is removed
-pub may_drop : (s : State) (k : Kept) (m : Machine) (w : Marks) (is : IsIn s k m w) (p : ℕ) (x : Object) → object_at k p ≡ Some x → stays x ≡ false → MayDrop w x
+pub may_drop : (s : State) (k : Kept) (m : Machine) (w : Marks) (is : KeepsTo (cache_at k s) (history_of m w)) (p : ℕ) (x : Object) → object_at k p ≡ Some x → stays x ≡ false → MayDrop w x
 may_drop s k m w is p x at no_stay name place = elim (cases_Bool (is_touched w name)) [
   | inl touched ↦ inl touched
   | inr un ↦ inr (go (names_now s (entry_place name)) refl (is.crash_kept.safe.untouched name un))
@@ -288,16 +290,16 @@ may_drop s k m w is p x at no_stay name place = elim (cases_Bool (is_touched w n
 
 -- All that is closed.
 
-pub all_closed : (s t : State) (k : Kept) (n : ℕ) → length k.objects ≤ n → IsDroppedTo k n s t → ClosesAll (Ok tt) s t k
+pub all_closed : (s t : State) (k : Kept) (n : ℕ) → length k.objects ≤ n → IsDroppedTo k n s t → ClosesAll (Ok tt) (cache_at k s) t
 all_closed s t k n all to = record {
   closed = λ m stand. closed s k m stand.0 stand.1 t n all to;
-  crash = λ m w is. to.safe w (may_drop s k m w is) is.crash_kept.safe;
+  crash = λ h is. to.safe h.marks (may_drop s k h.machine h.marks is) is.crash_kept.safe;
 }
 
 pub all_failed : {T : Type 0} (k : Kept) (i : ℕ) (x : Object) (r : Result T DiskFault) (s t u : State) → object_at k i ≡ Some x → u ≡ if_done r (dropped x t) t → IsDroppedTo k i s t
-    → (m : Machine) (w : Marks) → IsIn s k m w → IsSafe u w
+    → (m : Machine) (w : Marks) → KeepsTo (cache_at k s) (history_of m w) → IsSafe u w
 all_failed k i x r s t u at_x is to m w stands = safe_done k i x r s t u at_x is to w (may_drop s k m w stands) stands.crash_kept.safe
 
 -- the next file stands, whatever the machine is
-pub next_somehow : (s t : State) (k : Kept) (i : ℕ) (x : Object) → StandsSomehow s k → object_at k i ≡ Some x → IsDroppedTo k i s t → IsSome (standing t (object_place x))
+pub next_somehow : (s t : State) (k : Kept) (i : ℕ) (x : Object) → RepresentsSome (cache_at k s) → object_at k i ≡ Some x → IsDroppedTo k i s t → IsSome (standing t (object_place x))
 next_somehow s t k i x (m, (number, stands)) at to = next_stands s k m number stands i x t at to

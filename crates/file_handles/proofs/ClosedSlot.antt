@@ -1,5 +1,5 @@
 -- A slot is closed: its writer finishes its object first.
-use Rattle.std.proofs.Common.{◌≡◌, ℕ, ◌<◌, Bool, true, false, not, ◌&&◌, Some, None, IsSome, Result, Ok, Err, refl, sym, ap, subst, ◌∙◌, IsTrue}
+use Rattle.std.proofs.Common.{◌≡◌, ℕ, ◌<◌, Bool, true, false, not, ◌&&◌, Option, Some, None, IsSome, Result, Ok, Err, refl, sym, ap, subst, ◌∙◌, IsTrue}
 use Rattle.std.specs.Prelude.{IfOk, IsErrAnd, IsOkAnd, IsSomeAnd, OnOk, if◌then◌else◌, option_map}
 use Rattle.std.proofs.lemmas.Bool.{and_parts, cond-false, cond-true, not-true}
 use Rattle.cache_base.specs.Checks.{first_failing}
@@ -18,13 +18,15 @@ use Rattle.cache_theory.proofs.Objects.{nth}
 use Rattle.cache_theory.proofs.Storing.{MayStand, stored_here}
 use Rattle.disk_model.specs.Sound.{IsSound}
 use Rattle.disk_model.specs.State.{State, standing}
+use Rattle.disk_model.specs.declared.disk.DiskFault.{DiskFault}
 use Rattle.file_handles.specs.Answers.{done_or, reply_in}
+use Rattle.file_handles.specs.Cache.{cache_at}
 use Rattle.file_handles.specs.Changes.{Becomes, ChangesAt, ChangesThere, IsFiledAs, completed}
 use Rattle.file_handles.specs.Closing.{GivesUp, MayGiveUp, is_some_draft}
 use Rattle.file_handles.specs.Held.{IsEntryOf, is_draft, object_place}
 use Rattle.file_handles.specs.Kept.{Kept, object_at, use_at, used, with_object}
 use Rattle.file_handles.specs.Refuses.{Refuses}
-use Rattle.file_handles.specs.Stands.{IsInWhere, Stands, StandsSomehow}
+use Rattle.file_handles.specs.Stands.{KeepsWhere, RepresentsSome, Stands}
 use Rattle.file_handles.specs.declared.fault.HandleFault.{HandleFault}
 use Rattle.file_handles.specs.declared.fault.HandleFault.TheVariants as fault
 use Rattle.file_handles.specs.declared.object.Entry.{Entry}
@@ -35,6 +37,7 @@ use Rattle.file_handles.proofs.Begun.{begun_in}
 use Rattle.file_handles.proofs.Changed.{MayGoOut, changed_in_safe, changed_safe}
 use Rattle.file_handles.proofs.ElementMarks.{goes_out}
 use Rattle.file_handles.proofs.ElementSlots.{no_slot, no_use_found, slot_is, slot_number, slot_writes}
+use Rattle.file_handles.proofs.Histories.{history_of}
 use Rattle.file_handles.proofs.KeptLaws.{object_set_here, place_within}
 use Rattle.file_handles.proofs.Places.{file_stands, is_filed}
 use Rattle.file_handles.proofs.Refused.{refused_where}
@@ -55,9 +58,9 @@ reply_is (Ok value) f is = absurd is
 reply_is (Err e) f is = ap reply_in is
 
 pub unused_leaves : {T : Type 0} {b : Bool} (s : State) (k : Kept) (slot : ℕ) → slot < SLOTS → (refusal : Refusal) → used (use_at k slot) ≡ Err refusal → (r : Result T HandleFault) → IsErrAnd r (λ e. e ≡ fault.Refused refusal)
-    → (m : Machine) (w : Marks) → IsInWhere b s k m w → LeavesWhere b (Close slot) m w (done_or r) s k
+    → (m : Machine) (w : Marks) → KeepsWhere b (cache_at k s) (history_of m w) → LeavesWhere b (Close slot) (history_of m w) (done_or r) (cache_at k s)
 unused_leaves {b = b} s k slot small refusal is r same m w stands =
-    subst (λ o. LeavesWhere b (Close slot) m w o s k) (sym (reply_is r (fault.Refused refusal) same)) (refused_where s k (Close slot) refusal (close_no_slot k slot small refusal is) b m w stands)
+    subst (λ o. LeavesWhere b (Close slot) (history_of m w) o (cache_at k s)) (sym (reply_is r (fault.Refused refusal) same)) (refused_where s k (Close slot) refusal (close_no_slot k slot small refusal is) b m w stands)
 
 -- A fault that is no refusal has no reply.
 
@@ -70,8 +73,13 @@ no_reply r f is none = reply_is r f is ∙ go f none
     go (fault.Refused refusal) none = absurd (none refusal refl)
 
 pub faulted_leaves : {T : Type 0} {b : Bool} (slot : ℕ) (r : Result T HandleFault) (f : HandleFault) (t : State) (after : Kept) (m : Machine) (w : Marks) → IsErrAnd r (λ e. e ≡ f) → ((refusal : Refusal) → f ≡ fault.Refused refusal → ⊥)
-    → (IsTrue b → IsSafe t (begun m (Close slot) w)) → LeavesWhere b (Close slot) m w (done_or r) t after
-faulted_leaves {b = b} slot r f t after m w is none safe = subst (λ o. LeavesWhere b (Close slot) m w o t after) (sym (no_reply r f is none)) (record { safe = safe; replies = tt; next = tt })
+    → (IsTrue b → IsSafe t (begun m (Close slot) w)) → LeavesWhere b (Close slot) (history_of m w) (done_or r) (cache_at after t)
+faulted_leaves {b = b} slot r f t after m w is none safe = subst (λ o. LeavesWhere b (Close slot) (history_of m w) o (cache_at after t)) (sym (no_reply r f is none)) (record { safe = safe; replies = tt; next = tt })
+
+-- a draft is there
+pub draft_there : (w : Bool) (o : Option Object) → (w && is_some_draft o) ≡ true → IsSomeAnd o (λ x. is_draft x.entry ≡ true)
+draft_there w None is = absurd (let never : is_some_draft None ≡ true = (and_parts w (is_some_draft None) is).1 in cc)
+draft_there w (Some x) is = (and_parts w (is_draft x.entry) is).1
 
 -- an entry is a draft where the object is not finished
 draft_is : (x : Entry) (o : MachineObject) → IsEntryOf x o → not o.finished ≡ is_draft x
@@ -105,7 +113,7 @@ module _ (s : State) (k : Kept) (slot : ℕ) (small : slot < SLOTS) (u : Use) (a
     close_step = ap (stepped m (Close slot)) close_passes
 
     -- an object that is not finished by the slot has its file
-    pub may_give_up : MayGiveUp slot u.place s k
+    pub may_give_up : MayGiveUp slot u.place (cache_at k s)
     may_give_up =
         let x = object_there in
         record {
@@ -114,15 +122,15 @@ module _ (s : State) (k : Kept) (slot : ℕ) (small : slot < SLOTS) (u : Use) (a
         }
 
   -- Nothing is to be finished.
-  module _ (not_finishes : (u.writes && is_some_draft (object_at k u.place)) ≡ false) {b : Bool} (m : Machine) (w : Marks) (is : IsInWhere b s k m w) where
-    pub unchanged_in : IsInWhere b s k (finished_by m slot) (begun m (Close slot) w)
+  module _ (not_finishes : (u.writes && is_some_draft (object_at k u.place)) ≡ false) {b : Bool} (m : Machine) (w : Marks) (is : KeepsWhere b (cache_at k s) (history_of m w)) where
+    pub unchanged_in : KeepsWhere b (cache_at k s) (history_of (finished_by m slot) (begun m (Close slot) w))
     unchanged_in =
         let same : finished_by m slot ≡ m = ap (λ (b : Bool). if b then stored m (number_of m slot) (completed (object_of m slot)) else m) (finishes m is.number is.stands ∙ not_finishes) in
-        subst (λ (n : Machine). IsInWhere b s k n (begun m (Close slot) w)) (sym same) (begun_in s k m (Close slot) w is)
+        subst (λ (n : Machine). KeepsWhere b (cache_at k s) (history_of n (begun m (Close slot) w))) (sym same) (begun_in s k m (Close slot) w is)
 
   -- The object is finished.
-  module _ (to_finish : (u.writes && is_some_draft (object_at k u.place)) ≡ true) {T : Type 0} (r : Result T HandleFault) (t : State) (after : Kept) (changes : ChangesThere u.place completed r s t k after) where
-    module _ {b : Bool} (m : Machine) (w : Marks) (is : IsInWhere b s k m (begun m (Close slot) w)) where
+  module _ (to_finish : (u.writes && is_some_draft (object_at k u.place)) ≡ true) {T : Type 0} (r : Result T HandleFault) (t : State) (after : Kept) (changes : ChangesThere u.place completed r (cache_at k s) (cache_at after t)) where
+    module _ {b : Bool} (m : Machine) (w : Marks) (is : KeepsWhere b (cache_at k s) (history_of m (begun m (Close slot) w))) where
       writes : (is_writer m slot && not (object_of m slot).finished) ≡ true
       writes = finishes m is.number is.stands ∙ to_finish
 
@@ -151,7 +159,7 @@ module _ (s : State) (k : Kept) (slot : ℕ) (small : slot < SLOTS) (u : Use) (a
           subst (λ j. MayGoOut (begun m (Close slot) w) j (completed (object m j))) (numbered m is.number is.stands)
           (goes_out m (Close slot) w (close_passes m is.number is.stands) (number_of m slot) (completed (object_of m slot)) writes_it refl becomes refl refl)
 
-      there : ChangesAt u.place completed r s t k after (object_there m is.number is.stands).0
+      there : ChangesAt u.place completed r (cache_at k s) (cache_at after t) (object_there m is.number is.stands).0
       there = let x = object_there m is.number is.stands in changes x.0 x.1
 
       pub finished_safe : IsTrue b → IsSafe t (begun m (Close slot) w)
@@ -159,29 +167,29 @@ module _ (s : State) (k : Kept) (slot : ℕ) (small : slot < SLOTS) (u : Use) (a
           let x = object_there m is.number is.stands in
           changed_safe s t k m (begun m (Close slot) w) is u.place x.0 completed there.changed x.1 there.changes may out
 
-      finished_when : IsSound s → IsOkAnd there.changed (λ y. after ≡ with_object k u.place (Some y)) → IsInWhere b t after (finished_by m slot) (begun m (Close slot) w)
+      finished_when : IsSound s → IsOkAnd there.changed (λ y. after ≡ with_object k u.place (Some y)) → KeepsWhere b (cache_at after t) (history_of (finished_by m slot) (begun m (Close slot) w))
       finished_when sound put = go there.changed refl put
         where
-          go : (changed : Result Object HandleFault) → there.changed ≡ changed → IsOkAnd changed (λ y. after ≡ with_object k u.place (Some y)) → IsInWhere b t after (finished_by m slot) (begun m (Close slot) w)
+          go : (changed : Result Object HandleFault) → there.changed ≡ changed → IsOkAnd changed (λ y. after ≡ with_object k u.place (Some y)) → KeepsWhere b (cache_at after t) (history_of (finished_by m slot) (begun m (Close slot) w))
           go (Err f) e put = absurd put
           go (Ok y) e put =
               let x = object_there m is.number is.stands in
-              let stands : IsInWhere b t (with_object k u.place (Some y)) (stored m (is.number u.place) (completed (object m (is.number u.place)))) (begun m (Close slot) w) =
+              let stands : KeepsWhere b (cache_at (with_object k u.place (Some y)) t) (history_of (stored m (is.number u.place) (completed (object m (is.number u.place)))) (begun m (Close slot) w)) =
               changed_in_safe s t k m (begun m (Close slot) w) is u.place x.0 y completed there.changed sound x.1 there.changes e may finished_safe in
               let same : stored m (is.number u.place) (completed (object m (is.number u.place))) ≡ finished_by m slot = ap (λ j. stored m j (completed (object m j))) (sym (numbered m is.number is.stands)) ∙ sym finished_is in
-              subst (λ (l : Kept). IsInWhere b t l (finished_by m slot) (begun m (Close slot) w)) (sym put)
-              (subst (λ (n : Machine). IsInWhere b t (with_object k u.place (Some y)) n (begun m (Close slot) w)) same stands)
+              subst (λ (l : Kept). KeepsWhere b (cache_at l t) (history_of (finished_by m slot) (begun m (Close slot) w))) (sym put)
+              (subst (λ (n : Machine). KeepsWhere b (cache_at (with_object k u.place (Some y)) t) (history_of n (begun m (Close slot) w))) same stands)
 
-      pub finished_in : IsSound s → OnOk r (IsInWhere b t after (finished_by m slot) (begun m (Close slot) w))
+      pub finished_in : IsSound s → OnOk r (KeepsWhere b (cache_at after t) (history_of (finished_by m slot) (begun m (Close slot) w)))
       finished_in sound = go r there.put_back
         where
-          go : (r : Result T HandleFault) → OnOk r (IsOkAnd there.changed (λ y. after ≡ with_object k u.place (Some y))) → OnOk r (IsInWhere b t after (finished_by m slot) (begun m (Close slot) w))
+          go : (r : Result T HandleFault) → OnOk r (IsOkAnd there.changed (λ y. after ≡ with_object k u.place (Some y))) → OnOk r (KeepsWhere b (cache_at after t) (history_of (finished_by m slot) (begun m (Close slot) w)))
           go (Ok value) put = finished_when sound put
           go (Err f) put = tt
 
     -- and its file stands where it stood
-    still_there : (m : Machine) (number : ℕ → ℕ) (stands : Stands (standing s) k m number) (x : Object) (at_x : object_at k u.place ≡ Some x) (change : ChangesAt u.place completed r s t k after x)
-        → (changed : Result Object HandleFault) → change.changed ≡ changed → IsOkAnd changed (λ y. after ≡ with_object k u.place (Some y)) → MayGiveUp slot u.place t after
+    still_there : (m : Machine) (number : ℕ → ℕ) (stands : Stands (standing s) k m number) (x : Object) (at_x : object_at k u.place ≡ Some x) (change : ChangesAt u.place completed r (cache_at k s) (cache_at after t) x)
+        → (changed : Result Object HandleFault) → change.changed ≡ changed → IsOkAnd changed (λ y. after ≡ with_object k u.place (Some y)) → MayGiveUp slot u.place (cache_at after t)
     still_there m number stands x at_x change (Err f) e put = absurd put
     still_there m number stands x at_x change (Ok y) e put =
         let filed = is_filed s k m number stands u.place x at_x in
@@ -194,28 +202,28 @@ module _ (s : State) (k : Kept) (slot : ℕ) (small : slot < SLOTS) (u : Use) (a
           there = subst (λ o. IsSomeAnd o (λ x. IsSome (standing t (object_place x)))) (sym placed) (subst IsSome (sym (ap (standing t) becomes.same_place ∙ becomes.file)) refl);
         }
 
-    pub finished_may : StandsSomehow s k → OnOk r (MayGiveUp slot u.place t after)
+    pub finished_may : RepresentsSome (cache_at k s) → OnOk r (MayGiveUp slot u.place (cache_at after t))
     finished_may (m, (number, stands)) = go r (let x = object_there m number stands in changes x.0 x.1).put_back
       where
-        go : (r' : Result T HandleFault) → OnOk r' (IsOkAnd (let x = object_there m number stands in changes x.0 x.1).changed (λ y. after ≡ with_object k u.place (Some y))) → OnOk r' (MayGiveUp slot u.place t after)
+        go : (r' : Result T HandleFault) → OnOk r' (IsOkAnd (let x = object_there m number stands in changes x.0 x.1).changed (λ y. after ≡ with_object k u.place (Some y))) → OnOk r' (MayGiveUp slot u.place (cache_at after t))
         go (Ok value) put = let x = object_there m number stands in still_there m number stands x.0 x.1 (changes x.0 x.1) (changes x.0 x.1).changed refl put
         go (Err f) put = tt
 
   -- The slot is given up then.
-  module _ (t : State) (mid after : Kept) {b : Bool} (m : Machine) (w : Marks) (is : IsInWhere b s k m w) (stands : IsInWhere b t mid (finished_by m slot) (begun m (Close slot) w)) (v : State) where
+  module _ (t : State) (mid after : Kept) {b : Bool} (m : Machine) (w : Marks) (is : KeepsWhere b (cache_at k s) (history_of m w)) (stands : KeepsWhere b (cache_at mid t) (history_of (finished_by m slot) (begun m (Close slot) w))) (v : State) where
     reads : (object_of (finished_by m slot) slot).finished ≡ false → is_writer (finished_by m slot) slot ≡ false
     reads = finished_reads m slot is.stands.proper (has_slot m is.number is.stands)
 
-    pub closed_safe : (r : Result (Unit {0}) HandleFault) → GivesUp slot r t v mid after → IsTrue b → IsSafe v (begun m (Close slot) w)
-    closed_safe r gives = (gives b (finished_by m slot) (begun m (Close slot) w) reads stands).0
+    pub closed_safe : (r : Result (Unit {0}) DiskFault) → GivesUp slot r (cache_at mid t) (cache_at after v) → IsTrue b → IsSafe v (begun m (Close slot) w)
+    closed_safe r gives = (gives.leaves b (history_of (finished_by m slot) (begun m (Close slot) w)) reads stands).safe
 
-    pub closed_leaves : GivesUp slot (Ok tt) t v mid after → LeavesWhere b (Close slot) m w (Some Done) v after
+    pub closed_leaves : GivesUp slot (Ok tt) (cache_at mid t) (cache_at after v) → LeavesWhere b (Close slot) (history_of m w) (Some Done) (cache_at after v)
     closed_leaves gives =
-        let given = gives b (finished_by m slot) (begun m (Close slot) w) reads stands in
+        let given = gives.leaves b (history_of (finished_by m slot) (begun m (Close slot) w)) reads stands in
         record {
-          safe = given.0;
+          safe = given.safe;
           replies = ap (λ (a : Answer). a.reply) (sym (close_step m is.number is.stands));
-          next = subst (λ (n : Machine). IsInWhere b v after n (begun m (Close slot) w)) (ap (λ (a : Answer). a.next) (sym (close_step m is.number is.stands))) given.1;
+          next = subst (λ (n : Machine). KeepsWhere b (cache_at after v) (history_of n (begun m (Close slot) w))) (ap (λ (a : Answer). a.next) (sym (close_step m is.number is.stands))) given.next;
         }
 
 -- what holds of an Ok where the disk tells

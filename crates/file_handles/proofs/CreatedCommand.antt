@@ -20,13 +20,14 @@ use Rattle.disk_model.specs.Sound.{IsSound}
 use Rattle.disk_model.specs.State.{State, created}
 use Rattle.entry_key.specs.Writing.{may_write}
 use Rattle.entry_name.specs.EntryName.{file_name}
+use Rattle.file_handles.specs.Cache.{cache_at}
 use Rattle.file_handles.specs.Carries.{CarriesOutAt}
 use Rattle.file_handles.specs.Dooming.{DoomsUnder}
 use Rattle.file_handles.specs.Finding.{is_user}
 use Rattle.file_handles.specs.Held.{IsHeldAs}
 use Rattle.file_handles.specs.Joining.{Adds}
 use Rattle.file_handles.specs.Kept.{Kept, use_at, used}
-use Rattle.file_handles.specs.Stands.{IsInWhere}
+use Rattle.file_handles.specs.Stands.{KeepsWhere}
 use Rattle.file_handles.specs.declared.fault.HandleFault.{HandleFault}
 use Rattle.file_handles.specs.declared.object.Object.{Object}
 use Rattle.file_handles.specs.declared.object.Use.{Use}
@@ -35,6 +36,7 @@ use Rattle.file_handles.proofs.CreatedIn.{after_doom, created_in, made_safe}
 use Rattle.file_handles.proofs.DoomedBut.{IsInBut}
 use Rattle.file_handles.proofs.DoomedCarried.{done_in, touches_name}
 use Rattle.file_handles.proofs.ElementSlots.{no_slot, slot_is}
+use Rattle.file_handles.proofs.Histories.{history_of}
 use Rattle.file_handles.proofs.JoinedObject.{MayAdd}
 use Rattle.file_handles.proofs.JoinedOpen.{used_none}
 use Rattle.file_handles.proofs.Refused.{refused_where}
@@ -54,14 +56,14 @@ used_some None ok = absurd (let never : false ≡ true = ok in cc)
 used_some (Some u) ok = (u, refl)
 
 module _ (s : State) (k : Kept) (slot : ℕ) (key : List ℕ) (small : slot < SLOTS) where
-  pub taken_leaves : (r : Result Use Refusal) → r ≡ used (use_at k slot) → is_ok r ≡ true → (now : ℕ) → CarriesOutAt now (Create slot key) (Some (Refused refused.SlotTaken)) s s k k
+  pub taken_leaves : (r : Result Use Refusal) → r ≡ used (use_at k slot) → is_ok r ≡ true → (now : ℕ) → CarriesOutAt now (Create slot key) (Some (Refused refused.SlotTaken)) (cache_at k s) (cache_at k s)
   unfolding checked
   taken_leaves r is ok now =
       let at = used_some (use_at k slot) (ap (λ o. is_ok o) (sym is) ∙ ok) in
       carries_out_at (λ b m w moment. refused_where s k (Create slot key) refused.SlotTaken
       (λ n number proper stand. create_checks n slot key ∙ ap (λ b. checked (not b) (may_write key)) (slot_is k n number stand slot small at.0 at.1)) b m w)
 
-  pub bad_key_leaves : use_at k slot ≡ None → may_write key ≡ false → (now : ℕ) → CarriesOutAt now (Create slot key) (Some (Refused refused.BadKey)) s s k k
+  pub bad_key_leaves : use_at k slot ≡ None → may_write key ≡ false → (now : ℕ) → CarriesOutAt now (Create slot key) (Some (Refused refused.BadKey)) (cache_at k s) (cache_at k s)
   unfolding checked
   bad_key_leaves unused bad now =
       carries_out_at (λ b m w moment. refused_where s k (Create slot key) refused.BadKey (λ n number proper stand. create_checks n slot key ∙ (λ i. checked (not (no_slot k n number stand slot small unused i)) (bad i))) b m w)
@@ -79,7 +81,7 @@ pub may_create_by : (k : Kept) (slot : ℕ) (key : List ℕ) (name : Name) → s
 may_create_by k slot key name small r is free good ok unused writes fine named =
     record { small = small; unused = used_none (use_at k slot) r is (sym ok ∙ unused); good = sym writes ∙ fine; named = named }
 
-module _ (s : State) (k : Kept) (slot : ℕ) (key : List ℕ) (name : Name) (may : MayCreate k slot key name) {b : Bool} (m : Machine) (w : Marks) (stand : IsInWhere b s k m w) where
+module _ (s : State) (k : Kept) (slot : ℕ) (key : List ℕ) (name : Name) (may : MayCreate k slot key name) {b : Bool} (m : Machine) (w : Marks) (stand : KeepsWhere b (cache_at k s) (history_of m w)) where
   slot_free : is_slot m slot ≡ false
   slot_free = no_slot k m stand.number stand.stands.handles slot may.small may.unused
 
@@ -90,19 +92,19 @@ module _ (s : State) (k : Kept) (slot : ℕ) (key : List ℕ) (name : Name) (may
   touched : is_touched (begun m (Create slot key) w) name.0 ≡ true
   touched = touches_name m (Create slot key) w name.0 passes (ap (λ n. n ∷ []) (sym may.named))
 
-  here : IsInWhere b s k m (begun m (Create slot key) w)
+  here : KeepsWhere b (cache_at k s) (history_of m (begun m (Create slot key) w))
   here = begun_in s k m (Create slot key) w stand
 
   -- who was in use could not be doomed
-  pub doom_fails : (u : State) (after : Kept) (f : HandleFault) → (position (is_user name) k.objects ≢ None → DoomsUnder {T = Bool} name.0 (Err f) s u k after) → (position (is_user name) k.objects ≢ None)
+  pub doom_fails : (u : State) (after : Kept) (f : HandleFault) → (position (is_user name) k.objects ≢ None → DoomsUnder {T = Bool} name.0 (Err f) (cache_at k s) (cache_at after u)) → (position (is_user name) k.objects ≢ None)
       → IsTrue b → IsSafe u (begun m (Create slot key) w)
-  doom_fails u after f dooms some = (dooms some b m (begun m (Create slot key) w) touched here).0
+  doom_fails u after f dooms some = ((dooms some).leaves b (history_of m (begun m (Create slot key) w)) touched here).safe
 
   -- or is doomed, if there was one
-  pub doom_done : {D X : Type 0} (state : D → State) (d e : D) (after : Kept) (some_ : Bool) → state d ≡ s → (position (is_user name) k.objects ≢ None → DoomsUnder {T = Bool} name.0 (Ok some_) s (state e) k after)
+  pub doom_done : {D X : Type 0} (state : D → State) (d e : D) (after : Kept) (some_ : Bool) → state d ≡ s → (position (is_user name) k.objects ≢ None → DoomsUnder {T = Bool} name.0 (Ok some_) (cache_at k s) (cache_at after (state e)))
       → (position (is_user name) k.objects ≡ None → X × ((e ≡ d) × (after ≡ k))) → IsInBut b name.0 (state e) after (doomed_under m name.0) (begun m (Create slot key) w)
   doom_done state d e after some_ is dooms still =
-      after_doom s (state e) k after name m (begun m (Create slot key) w) here (λ some. (dooms some b m (begun m (Create slot key) w) touched here).1)
+      after_doom s (state e) k after name m (begun m (Create slot key) w) here (λ some. ((dooms some).leaves b (history_of m (begun m (Create slot key) w)) touched here).next)
       (λ bare. let same = (still bare).1 in (ap state same.0 ∙ is, same.1))
 
   module _ (u t : State) (before : Kept) (sound : IsSound u) (but : IsInBut b name.0 u before (doomed_under m name.0) (begun m (Create slot key) w)) where
@@ -112,7 +114,7 @@ module _ (s : State) (k : Kept) (slot : ℕ) (key : List ℕ) (name : Name) (may
 
     -- and its object is added
     pub added_leaves : (after : Kept) (x : Object) → AreBytes key → t ≡ created (Entry name) u → IsHeldAs x (fresh m.moment key) → Adds slot x true before after → slot < length before.slots
-        → ((p : ℕ) → p < SLOTS → p < length before.objects) → LeavesWhere b (Create slot key) m w (Some Done) t after
+        → ((p : ℕ) → p < SLOTS → p < length before.objects) → LeavesWhere b (Create slot key) (history_of m w) (Some Done) (cache_at after t)
     unfolding effect
     added_leaves after x bytes is held adds within places =
         let v : Marks = begun m (Create slot key) w in
@@ -131,5 +133,5 @@ module _ (s : State) (k : Kept) (slot : ℕ) (key : List ℕ) (name : Name) (may
         in
         let but_key : IsInBut b name.0 u before next v = subst (λ n. IsInBut b name.0 u before (doomed_under m n) v) may.named but in
         let done = created_in u name sound v touched before next slot m.moment key x adds.place use_ may.named add but_key in
-        let kept_so : IsInWhere b (created (Entry name) u) after last v = subst (λ (a : Kept). IsInWhere b (created (Entry name) u) a last v) (sym adds.joins.same) done in
-        done_in t after (Create slot key) m w passes refl refl (subst (λ z. IsInWhere b z after last v) (sym is) kept_so)
+        let kept_so : KeepsWhere b (cache_at after (created (Entry name) u)) (history_of last v) = subst (λ (a : Kept). KeepsWhere b (cache_at a (created (Entry name) u)) (history_of last v)) (sym adds.joins.same) done in
+        done_in t after (Create slot key) m w passes refl refl (subst (λ z. KeepsWhere b (cache_at after z) (history_of last v)) (sym is) kept_so)

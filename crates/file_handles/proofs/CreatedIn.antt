@@ -20,18 +20,20 @@ use Rattle.disk_model.specs.Standing.{Puts}
 use Rattle.disk_model.specs.State.{State, created, empty_file, standing}
 use Rattle.disk_model.proofs.Standing.{added_puts}
 use Rattle.entry_name.specs.EntryName.{file_name}
+use Rattle.file_handles.specs.Cache.{cache_at}
 use Rattle.file_handles.specs.Finding.{is_user}
 use Rattle.file_handles.specs.Kept.{Kept, with_object, with_use}
-use Rattle.file_handles.specs.Stands.{IsAt, IsInWhere}
+use Rattle.file_handles.specs.Stands.{IsAt, KeepsWhere}
 use Rattle.file_handles.specs.declared.object.Object.{Object}
 use Rattle.file_handles.specs.declared.object.Use.{Use}
 use Rattle.file_handles.proofs.DoomedBut.{IsInBut, in_but, undoomed_but}
+use Rattle.file_handles.proofs.Histories.{history_of}
 use Rattle.file_handles.proofs.JoinedObject.{MayAdd, crash_added, doomed_added, handles_added, numbers}
 use Rattle.file_handles.proofs.User.{no_user_there}
 
 -- once who was in use is doomed, all stands but for the file
-pub after_doom : {b : Bool} (s t : State) (k after : Kept) (name : Name) (m : Machine) (w : Marks) → IsInWhere b s k m w
-    → (position (is_user name) k.objects ≢ None → IsInWhere b t after (doomed_under m name.0) w) → (position (is_user name) k.objects ≡ None → (t ≡ s) × (after ≡ k))
+pub after_doom : {b : Bool} (s t : State) (k after : Kept) (name : Name) (m : Machine) (w : Marks) → KeepsWhere b (cache_at k s) (history_of m w)
+    → (position (is_user name) k.objects ≢ None → KeepsWhere b (cache_at after t) (history_of (doomed_under m name.0) w)) → (position (is_user name) k.objects ≡ None → (t ≡ s) × (after ≡ k))
     → IsInBut b name.0 t after (doomed_under m name.0) w
 after_doom {b} s t k after name m w stand doomed still = go (position (is_user name) k.objects) refl
   where
@@ -84,7 +86,7 @@ module _ (s : State) (name : Name) (sound : IsSound s) where
             ∙ sym (entry_entered_other m slot true (fresh now key) but.stands.proper may.enters q (λ e. apart (named ∙ sym e)))
       ]
 
-      pub created_in : IsInWhere b (created (Entry name) s) (with_use (with_object k p (Some x)) slot (Some u)) (entered m slot true (fresh now key)) w
+      pub created_in : KeepsWhere b (cache_at (with_use (with_object k p (Some x)) slot (Some u)) (created (Entry name) s)) (history_of (entered m slot true (fresh now key)) w)
       created_in =
           let proper = but.stands.proper in
           let stand = but.stands.handles in

@@ -23,9 +23,11 @@ use Rattle.disk_model.specs.Image.{Files}
 use Rattle.disk_model.specs.Standing.{Puts}
 use Rattle.disk_model.specs.State.{State, removed, standing}
 use Rattle.disk_model.proofs.Standing.{removed_puts}
+use Rattle.file_handles.specs.Cache.{cache_at}
 use Rattle.file_handles.specs.Held.{IsHeldAs}
 use Rattle.file_handles.specs.Kept.{Kept}
-use Rattle.file_handles.specs.Stands.{HandlesStand, IsAt, IsInWhere, Stands}
+use Rattle.file_handles.specs.Stands.{HandlesStand, IsAt, KeepsWhere, Stands}
+use Rattle.file_handles.proofs.Histories.{history_of}
 
 -- the files and the handles are the machine's, but for the file under the name
 pub record StandsBut (name : List ℕ) (files : Files) (k : Kept) (m : Machine) (number : ℕ → ℕ) : Type 0 where
@@ -40,7 +42,7 @@ pub record IsInBut (b : Bool) (name : List ℕ) (s : State) (k : Kept) (m : Mach
   pub crash_kept : IsTrue b → IsCrashKept s m w (IsAt k number)
 
 -- all stands
-pub in_but : {b : Bool} (name : List ℕ) (s : State) (k : Kept) (m : Machine) (w : Marks) → IsInWhere b s k m w → IsInBut b name s k m w
+pub in_but : {b : Bool} (name : List ℕ) (s : State) (k : Kept) (m : Machine) (w : Marks) → KeepsWhere b (cache_at k s) (history_of m w) → IsInBut b name s k m w
 in_but name s k m w is = record {
   number = is.number;
   stands = record { proper = is.stands.proper; handles = is.stands.handles; entries_but = λ q apart. is.stands.entries q; doomed = is.stands.doomed };
@@ -94,7 +96,7 @@ module _ (name : List ℕ) (s : State) (k : Kept) (m : Machine) (w : Marks) (unu
     young = (let l = doomed_length m name in let y = kept.young in omega (arith, l, y));
   }
 
-  pub undoomed_but : {b : Bool} → IsInWhere b s k m w → IsInBut b name s k (doomed_under m name) w
+  pub undoomed_but : {b : Bool} → KeepsWhere b (cache_at k s) (history_of m w) → IsInBut b name s k (doomed_under m name) w
   undoomed_but is = record { number = is.number; stands = stands_but is.number is.stands; crash_kept = λ on. crash_but is.number (is.crash_kept on) }
 
 -- Once its file is removed all stands.
@@ -128,5 +130,5 @@ module _ (name : Name) (s : State) (k : Kept) (m : Machine) (w : Marks) (none : 
     young = kept.young;
   }
 
-  pub removed_in : {b : Bool} → IsInBut b name.0 s k m w → IsInWhere b (removed (Entry name) s) k m w
+  pub removed_in : {b : Bool} → IsInBut b name.0 s k m w → KeepsWhere b (cache_at k (removed (Entry name) s)) (history_of m w)
   removed_in but = record { number = but.number; stands = stands_gone but.number but.stands; crash_kept = λ on. crash_gone but.number (but.crash_kept on) }

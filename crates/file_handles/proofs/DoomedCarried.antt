@@ -15,9 +15,11 @@ use Rattle.cache_theory.specs.Marks.{Marks, acked, begun, begun_by, is_touched, 
 use Rattle.cache_theory.specs.Step.{effect, step, stepped}
 use Rattle.cache_theory.specs.declared.refusal.Refusal.{Refusal}
 use Rattle.disk_model.specs.State.{State}
+use Rattle.file_handles.specs.Cache.{cache_at}
 use Rattle.file_handles.specs.Kept.{Kept}
-use Rattle.file_handles.specs.Stands.{IsInWhere}
+use Rattle.file_handles.specs.Stands.{KeepsWhere}
 use Rattle.file_handles.proofs.Begun.{begun_in}
+use Rattle.file_handles.proofs.Histories.{history_of}
 use Rattle.file_handles.proofs.Where.{LeavesWhere}
 
 acked_refused : (m : Machine) (c : Command) (w : Marks) (r : Refusal) → first_failing (checks m c) ≡ Some r → acked m c w ≡ w
@@ -37,24 +39,24 @@ acked_refused m (Doom key) w r e = ap (λ o. begun_by o m (Doom key) w) e
 acked_refused m (Get key) w r e = ap (λ o. begun_by o m (Get key) w) e
 
 -- a refusal in this state of the machine
-pub refused_in : {b : Bool} (s : State) (k : Kept) (c : Command) (r : Refusal) (m : Machine) (w : Marks) → IsInWhere b s k m w → first_failing (checks m c) ≡ Some r → LeavesWhere b c m w (Some (Refused r)) s k
+pub refused_in : {b : Bool} (s : State) (k : Kept) (c : Command) (r : Refusal) (m : Machine) (w : Marks) → KeepsWhere b (cache_at k s) (history_of m w) → first_failing (checks m c) ≡ Some r → LeavesWhere b c (history_of m w) (Some (Refused r)) (cache_at k s)
 refused_in {b} s k c r m w is fails = record {
   safe = λ on. ((begun_in s k m c w is).crash_kept on).safe;
   replies = ap (λ o. (stepped m c o).reply) (sym fails);
-  next = subst (λ (v : Marks). IsInWhere b s k (step m c).next v) (sym (acked_refused m c w r fails)) (subst (λ (n : Machine). IsInWhere b s k n w) (ap (λ o. (stepped m c o).next) (sym fails)) is);
+  next = subst (λ (v : Marks). KeepsWhere b (cache_at k s) (history_of (step m c).next v)) (sym (acked_refused m c w r fails)) (subst (λ (n : Machine). KeepsWhere b (cache_at k s) (history_of n w)) (ap (λ o. (stepped m c o).next) (sym fails)) is);
 }
 
 -- no reply
-pub failed_in : {b : Bool} (t : State) (after : Kept) (c : Command) (m : Machine) (w : Marks) → (IsTrue b → IsSafe t (begun m c w)) → LeavesWhere b c m w None t after
+pub failed_in : {b : Bool} (t : State) (after : Kept) (c : Command) (m : Machine) (w : Marks) → (IsTrue b → IsSafe t (begun m c w)) → LeavesWhere b c (history_of m w) None (cache_at after t)
 failed_in t after c m w safe = record { safe = safe; replies = tt; next = tt }
 
 -- it is done
 pub done_in : {b : Bool} (t : State) (after : Kept) (c : Command) (m : Machine) (w : Marks) → first_failing (checks m c) ≡ None → acked m c w ≡ begun m c w → (effect m c).reply ≡ Done
-    → IsInWhere b t after (effect m c).next (begun m c w) → LeavesWhere b c m w (Some Done) t after
+    → KeepsWhere b (cache_at after t) (history_of (effect m c).next (begun m c w)) → LeavesWhere b c (history_of m w) (Some Done) (cache_at after t)
 done_in {b} t after c m w passes acks replies is = record {
   safe = λ on. (is.crash_kept on).safe;
   replies = sym (ap (λ o. (stepped m c o).reply) passes ∙ replies);
-  next = subst (λ (v : Marks). IsInWhere b t after (step m c).next v) (sym acks) (subst (λ (n : Machine). IsInWhere b t after n (begun m c w)) (ap (λ o. (stepped m c o).next) (sym passes)) is);
+  next = subst (λ (v : Marks). KeepsWhere b (cache_at after t) (history_of (step m c).next v)) (sym acks) (subst (λ (n : Machine). KeepsWhere b (cache_at after t) (history_of n (begun m c w))) (ap (λ o. (stepped m c o).next) (sym passes)) is);
 }
 
 touched_first : (name : List ℕ) (names : List (List ℕ)) → list_any (bytes_eq name) (name ∷ names) ≡ true

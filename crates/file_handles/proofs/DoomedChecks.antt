@@ -22,6 +22,7 @@ use Rattle.entry_metadata.specs.Metadata.{Meta as Said}
 use Rattle.entry_metadata.specs.declared.meta.Meta.{Meta}
 use Rattle.entry_name.specs.EntryName.{file_name}
 use Rattle.file_handles.specs.Answers.{OnRefused}
+use Rattle.file_handles.specs.Cache.{cache_at}
 use Rattle.file_handles.specs.Dooming.{EndsOn}
 use Rattle.file_handles.specs.Kept.{Kept}
 use Rattle.file_handles.specs.Loading.{IsMetaFor, used_place}
@@ -39,15 +40,15 @@ pub doom_checks : (m : Machine) (key : List ℕ) → first_failing (checks m (Do
 unfolding checks ended
 doom_checks m key = refl
 
-pub doom_bad_key : (s : State) (k : Kept) (key : List ℕ) → may_write key ≡ false → EndsOn s k (Doom key) (Some refused.BadKey)
+pub doom_bad_key : (s : State) (k : Kept) (key : List ℕ) → may_write key ≡ false → EndsOn (cache_at k s) (Doom key) (Some refused.BadKey)
 unfolding ended
-doom_bad_key s k key bad m number stands = doom_checks m key ∙ ap (λ b. ended b (is_some (used_by m key) || is_entry (on_shelf m key))) bad
+doom_bad_key s k key bad m stand = doom_checks m key ∙ ap (λ b. ended b (is_some (used_by m key) || is_entry (on_shelf m key))) bad
 
 damaged_is_entry : (m : Said) (body : List ℕ) (ds : List Damage) → is_entry (by_damages m body ds) ≡ true
 damaged_is_entry m body [] = refl
 damaged_is_entry m body (d ∷ ds) = refl
 
--- a file of the key is an entry, be it damaged
+-- a file of the key is an entry, even if it is damaged
 meta_is_entry : (key : List ℕ) (o : Option (List ℕ)) (meta : Meta) → IsMetaFor key o meta → is_entry (read_for key o) ≡ true
 unfolding read
 meta_is_entry key None meta is = absurd is
@@ -71,17 +72,17 @@ module _ (s : State) (k : Kept) (key : List ℕ) (name : Name) (named : name.0 �
   used_as : (m : Machine) (number : ℕ → ℕ) → Stands (standing s) k m number → is_some (used_by m key) ≡ is_some (used_place k name key)
   used_as m number stands = ap is_some (used_same k name key m number stands.proper stands.handles named) ∙ mapped number (used_place k name key)
 
-  pub doom_absent : is_some (used_place k name key) ≡ false → is_entry (read_for key (standing s (Entry name))) ≡ false → EndsOn s k (Doom key) (Some refused.Absent)
+  pub doom_absent : is_some (used_place k name key) ≡ false → is_entry (read_for key (standing s (Entry name))) ≡ false → EndsOn (cache_at k s) (Doom key) (Some refused.Absent)
   unfolding ended
-  doom_absent unused nothing m number stands = ends_by false false m (used_as m number stands ∙ unused) (read_same m number stands ∙ nothing)
+  doom_absent unused nothing m (number, stands) = ends_by false false m (used_as m number stands ∙ unused) (read_same m number stands ∙ nothing)
 
-  pub doom_used : is_some (used_place k name key) ≡ true → EndsOn s k (Doom key) None
+  pub doom_used : is_some (used_place k name key) ≡ true → EndsOn (cache_at k s) (Doom key) None
   unfolding ended
-  doom_used used m number stands = ends_by true (is_entry (on_shelf m key)) m (used_as m number stands ∙ used) refl
+  doom_used used m (number, stands) = ends_by true (is_entry (on_shelf m key)) m (used_as m number stands ∙ used) refl
 
-  pub doom_read : (meta : Meta) → IsMetaFor key (standing s (Entry name)) meta → EndsOn s k (Doom key) None
+  pub doom_read : (meta : Meta) → IsMetaFor key (standing s (Entry name)) meta → EndsOn (cache_at k s) (Doom key) None
   unfolding ended
-  doom_read meta is m number stands =
+  doom_read meta is m (number, stands) =
       ends_by (is_some (used_by m key)) true m refl (read_same m number stands ∙ meta_is_entry key (standing s (Entry name)) meta is)
       ∙ ap (λ b. ended true b) (or_right (is_some (used_by m key)) true refl)
 

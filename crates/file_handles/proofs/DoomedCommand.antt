@@ -28,10 +28,11 @@ use Rattle.entry_file.specs.EntryFile.{read_for}
 use Rattle.entry_key.specs.Writing.{may_write}
 use Rattle.entry_name.specs.EntryName.{file_name}
 use Rattle.file_handles.specs.Answers.{done_or, fault_of}
+use Rattle.file_handles.specs.Cache.{cache_at}
 use Rattle.file_handles.specs.Dooming.{EndsOn}
 use Rattle.file_handles.specs.Finding.{is_user}
 use Rattle.file_handles.specs.Kept.{Kept}
-use Rattle.file_handles.specs.Stands.{IsInWhere, StandsSomehow}
+use Rattle.file_handles.specs.Stands.{KeepsWhere, RepresentsSome}
 use Rattle.file_handles.specs.declared.fault.HandleFault.{HandleFault}
 use Rattle.file_handles.specs.declared.fault.HandleFault.TheVariants as fault
 use Rattle.file_handles.proofs.Begun.{begun_in}
@@ -39,6 +40,7 @@ use Rattle.file_handles.proofs.DoomedBut.{removed_in, undoomed_but}
 use Rattle.file_handles.proofs.DoomedCarried.{done_in, failed_in, refused_in, touches_name}
 use Rattle.file_handles.proofs.DoomedChecks.{doom_checks, ended}
 use Rattle.file_handles.proofs.FoundShelf.{shelf_read}
+use Rattle.file_handles.proofs.Histories.{history_of}
 use Rattle.file_handles.proofs.User.{no_one, no_user_there}
 use Rattle.file_handles.proofs.Where.{LeavesWhere}
 
@@ -46,16 +48,16 @@ use Rattle.file_handles.proofs.Where.{LeavesWhere}
 
 -- a refusal, or a fault, before anything changed
 pub refused_on_leaves : {T : Type 0} {b : Bool} (r : Result T HandleFault) (f : HandleFault) (s t : State) (k : Kept) (c : Command) → IsErrAnd r (λ e. e ≡ f)
-    → ((refusal : Refusal) → f ≡ fault.Refused refusal → EndsOn s k c (Some refusal)) → t ≡ s → (m : Machine) (w : Marks) → IsInWhere b s k m w → LeavesWhere b c m w (done_or r) t k
+    → ((refusal : Refusal) → f ≡ fault.Refused refusal → EndsOn (cache_at k s) c (Some refusal)) → t ≡ s → (m : Machine) (w : Marks) → KeepsWhere b (cache_at k s) (history_of m w) → LeavesWhere b c (history_of m w) (done_or r) (cache_at k t)
 refused_on_leaves (Ok value) f s t k c is ends same m w stand = absurd is
 refused_on_leaves {b = b} (Err (fault.Refused q)) f s t k c is ends same m w stand =
-    subst (λ u. LeavesWhere b c m w (Some (Refused q)) u k) (sym same) (refused_in s k c q m w stand (ends q (sym is) m stand.number stand.stands))
+    subst (λ u. LeavesWhere b c (history_of m w) (Some (Refused q)) (cache_at k u)) (sym same) (refused_in s k c q m w stand (ends q (sym is) m (stand.number, stand.stands)))
 refused_on_leaves (Err fault.Disk) f s t k c is ends same m w stand = failed_in t k c m w (λ on. subst (λ u. IsSafe u (begun m c w)) (sym same) ((begun_in s k m c w stand).crash_kept on).safe)
 refused_on_leaves (Err fault.Memory) f s t k c is ends same m w stand = failed_in t k c m w (λ on. subst (λ u. IsSafe u (begun m c w)) (sym same) ((begun_in s k m c w stand).crash_kept on).safe)
 
 -- a fault that is no refusal
 pub failed_on_leaves : {T : Type 0} {b : Bool} (r : Result T HandleFault) (f : HandleFault) (t : State) (after : Kept) (c : Command) → IsErrAnd r (λ e. e ≡ f)
-    → ((refusal : Refusal) → f ≡ fault.Refused refusal → ⊥) → (m : Machine) (w : Marks) → (IsTrue b → IsSafe t (begun m c w)) → LeavesWhere b c m w (done_or r) t after
+    → ((refusal : Refusal) → f ≡ fault.Refused refusal → ⊥) → (m : Machine) (w : Marks) → (IsTrue b → IsSafe t (begun m c w)) → LeavesWhere b c (history_of m w) (done_or r) (cache_at after t)
 failed_on_leaves (Ok value) f t after c is never m w safe = absurd is
 failed_on_leaves (Err (fault.Refused q)) f t after c is never m w safe = absurd (never q (sym is))
 failed_on_leaves (Err fault.Disk) f t after c is never m w safe = failed_in t after c m w safe
@@ -71,9 +73,9 @@ pub doom_touches : (key : List ℕ) (name : List ℕ) (m : Machine) (w : Marks) 
 doom_touches key name m w named passes = touches_name m (Doom key) w name passes (ap (λ n. n ∷ []) (sym named))
 
 pub doomed_leaves : {b : Bool} (t : State) (after : Kept) (key : List ℕ) (name : List ℕ) (m : Machine) (w : Marks) → name ≡ file_name key → first_failing (checks m (Doom key)) ≡ None
-    → IsInWhere b t after (doomed_under m name) (begun m (Doom key) w) → LeavesWhere b (Doom key) m w (Some Done) t after
+    → KeepsWhere b (cache_at after t) (history_of (doomed_under m name) (begun m (Doom key) w)) → LeavesWhere b (Doom key) (history_of m w) (Some Done) (cache_at after t)
 unfolding effect
-doomed_leaves {b} t after key name m w named passes is = done_in t after (Doom key) m w passes refl refl (subst (λ n. IsInWhere b t after (doomed_under m n) (begun m (Doom key) w)) named is)
+doomed_leaves {b} t after key name m w named passes is = done_in t after (Doom key) m w passes refl refl (subst (λ n. KeepsWhere b (cache_at after t) (history_of (doomed_under m n) (begun m (Doom key) w))) named is)
 
 -- No object is in use.
 
@@ -88,13 +90,13 @@ some_file key None is = absurd (cc)
 some_file key (Some c) is = refl
 
 -- there is a file, since the command is not refused
-pub bare_stands : (s : State) (k : Kept) (key : List ℕ) (name : Name) → name.0 ≡ file_name key → position (is_user name) k.objects ≡ None → EndsOn s k (Doom key) None → StandsSomehow s k → IsSome (standing s (Entry name))
+pub bare_stands : (s : State) (k : Kept) (key : List ℕ) (name : Name) → name.0 ≡ file_name key → position (is_user name) k.objects ≡ None → EndsOn (cache_at k s) (Doom key) None → RepresentsSome (cache_at k s) → IsSome (standing s (Entry name))
 bare_stands s k key name named bare passes (m, (number, stands)) =
     let unused : used_by m key ≡ None =
     ap (λ o. option_and_then (λ i. if bytes_eq (object m i).version.key key then Some i else None) o)
     (ap (get m.in_use) (sym named) ∙ no_user_there k m number stands.proper stands.handles name bare)
     in
-    let there = ended_there (may_write key) (is_some (used_by m key) || is_entry (on_shelf m key)) (sym (doom_checks m key) ∙ passes m number stands) in
+    let there = ended_there (may_write key) (is_some (used_by m key) || is_entry (on_shelf m key)) (sym (doom_checks m key) ∙ passes m (number, stands)) in
     let shelved : is_entry (on_shelf m key) ≡ true = ap (λ o. is_some o || is_entry (on_shelf m key)) (sym unused) ∙ there in
     let read : is_entry (read_for key (standing s (Entry name))) ≡ true =
     ap (λ n. is_entry (read_for key (entries (standing s) n))) named ∙ ap is_entry (shelf_read (standing s) m stands.proper stands.entries key) ∙ shelved
@@ -112,22 +114,22 @@ none_if o b is none = no_one o (sym is ∙ none)
 pub some_if : {X : Type 0} (o : Option X) (b : Bool) → b ≡ is_some o → b ≡ true → o ≢ None
 some_if o b is one none = let never : true ≡ false = sym one ∙ is ∙ ap is_some none in cc
 
-module _ (s u : State) (k : Kept) (key : List ℕ) (name : Name) (named : name.0 ≡ file_name key) (bare : position (is_user name) k.objects ≡ None) (passes : EndsOn s k (Doom key) None) (same : u ≡ s) where
-  pub remove_fails : (t : State) (f : DiskFault) → t ≡ if_done {T = Unit {0}} (Err f) (removed (Entry name) u) u → {b : Bool} (m : Machine) (w : Marks) → IsInWhere b s k m w → IsTrue b → IsSafe t (begun m (Doom key) w)
+module _ (s u : State) (k : Kept) (key : List ℕ) (name : Name) (named : name.0 ≡ file_name key) (bare : position (is_user name) k.objects ≡ None) (passes : EndsOn (cache_at k s) (Doom key) None) (same : u ≡ s) where
+  pub remove_fails : (t : State) (f : DiskFault) → t ≡ if_done {T = Unit {0}} (Err f) (removed (Entry name) u) u → {b : Bool} (m : Machine) (w : Marks) → KeepsWhere b (cache_at k s) (history_of m w) → IsTrue b → IsSafe t (begun m (Doom key) w)
   remove_fails t f is m w stand on =
       removed_or_not s t (begun m (Doom key) w) name f (subst (λ v. t ≡ if_done {T = Unit {0}} (Err f) (removed (Entry name) v) v) same is)
-      (doom_touches key name.0 m w named (passes m stand.number stand.stands)) ((begun_in s k m (Doom key) w stand).crash_kept on).safe
+      (doom_touches key name.0 m w named (passes m (stand.number, stand.stands))) ((begun_in s k m (Doom key) w stand).crash_kept on).safe
 
-  removed_leaves_here : {b : Bool} (m : Machine) (w : Marks) → IsInWhere b s k m w → LeavesWhere b (Doom key) m w (Some Done) (removed (Entry name) s) k
+  removed_leaves_here : {b : Bool} (m : Machine) (w : Marks) → KeepsWhere b (cache_at k s) (history_of m w) → LeavesWhere b (Doom key) (history_of m w) (Some Done) (cache_at k (removed (Entry name) s))
   removed_leaves_here m w stand =
-      let fine = passes m stand.number stand.stands in
+      let fine = passes m (stand.number, stand.stands) in
       let v : Marks = begun m (Doom key) w in
       let unused = no_user_there k m stand.number stand.stands.proper stand.stands.handles name bare in
       let but = undoomed_but name.0 s k m v unused (begun_in s k m (Doom key) w stand) in
       doomed_leaves (removed (Entry name) s) k key name.0 m w named fine
       (removed_in name s k (doomed_under m name.0) v (entry_doomed m name.0) (doom_touches key name.0 m w named fine) but)
 
-  pub removed_leaves : (t : State) (after : Kept) → t ≡ removed (Entry name) u → after ≡ k → {b : Bool} (m : Machine) (w : Marks) → IsInWhere b s k m w → LeavesWhere b (Doom key) m w (Some Done) t after
+  pub removed_leaves : (t : State) (after : Kept) → t ≡ removed (Entry name) u → after ≡ k → {b : Bool} (m : Machine) (w : Marks) → KeepsWhere b (cache_at k s) (history_of m w) → LeavesWhere b (Doom key) (history_of m w) (Some Done) (cache_at after t)
   removed_leaves t after is still {b} m w stand =
-      subst (λ v. LeavesWhere b (Doom key) m w (Some Done) v after) (sym (is ∙ ap (removed (Entry name)) same))
-      (subst (λ a. LeavesWhere b (Doom key) m w (Some Done) (removed (Entry name) s) a) (sym still) (removed_leaves_here m w stand))
+      subst (λ v. LeavesWhere b (Doom key) (history_of m w) (Some Done) (cache_at after v)) (sym (is ∙ ap (removed (Entry name)) same))
+      (subst (λ a. LeavesWhere b (Doom key) (history_of m w) (Some Done) (cache_at a (removed (Entry name) s))) (sym still) (removed_leaves_here m w stand))

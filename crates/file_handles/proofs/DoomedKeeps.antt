@@ -23,12 +23,14 @@ use Rattle.disk_model.specs.State.{State, names_now, renamed}
 use Rattle.disk_model.proofs.Places.{is_same-apart, is_same-refl}
 use Rattle.doom_area.specs.DoomArea.{IsLeastFree}
 use Rattle.entry_name.specs.EntryName.{file_name}
+use Rattle.file_handles.specs.Cache.{cache_at}
 use Rattle.file_handles.specs.Dooming.{numbers_in}
 use Rattle.file_handles.specs.Finding.{is_user}
 use Rattle.file_handles.specs.Kept.{Kept, object_at, with_object}
-use Rattle.file_handles.specs.Stands.{IsAt, IsInWhere}
+use Rattle.file_handles.specs.Stands.{IsAt, KeepsWhere}
 use Rattle.file_handles.specs.declared.object.Object.{Object}
 use Rattle.file_handles.proofs.DoomedStands.{MayDoom, doomed_as, one_doomed, other_next, other_number, other_object, stands_next, user_next, was_doomed}
+use Rattle.file_handles.proofs.Histories.{history_of}
 use Rattle.file_handles.proofs.User.{user_found, user_is_used}
 
 module _ (s : State) (k : Kept) (m : Machine) (number : ℕ → ℕ) (name : Name) (p : ℕ) (x : Object) (n : ℕ) (may : MayDoom s k m number name p x n) where
@@ -100,7 +102,7 @@ module _ (s : State) (k : Kept) (m : Machine) (number : ℕ → ℕ) (name : Nam
 
 -- after the move all stands for the machine in which it is doomed
 pub dooms_user : {b : Bool} (s : State) (k : Kept) (name : Name) (p : ℕ) (x : Object) (n : ℕ) → IsSound s → position (is_user name) k.objects ≡ Some p → object_at k p ≡ Some x → IsLeastFree (numbers_in k.objects) n
-    → (m : Machine) (w : Marks) → is_touched w name.0 ≡ true → IsInWhere b s k m w → IsInWhere b (renamed (Entry name) (Doomed n) s) (with_object k p (Some (doomed_as x n))) (doomed_under m name.0) w
+    → (m : Machine) (w : Marks) → is_touched w name.0 ≡ true → KeepsWhere b (cache_at k s) (history_of m w) → KeepsWhere b (cache_at (with_object k p (Some (doomed_as x n))) (renamed (Entry name) (Doomed n) s)) (history_of (doomed_under m name.0) w)
 dooms_user s k name p x n sound is at free m w touched stand =
     let there = user_found k name p is in
     let one : Some there.object ≡ Some x = sym there.at_place ∙ at in

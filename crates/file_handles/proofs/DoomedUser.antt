@@ -21,17 +21,19 @@ use Rattle.disk_model.specs.Sound.{IsSound}
 use Rattle.disk_model.specs.State.{State, renamed, standing}
 use Rattle.doom_area.specs.DoomArea.{IsLeastFree}
 use Rattle.doom_area.proofs.LeastFree.{lesser_more, long_enough}
+use Rattle.file_handles.specs.Cache.{cache_at}
 use Rattle.file_handles.specs.Dooming.{numbers_in}
 use Rattle.file_handles.specs.Finding.{is_user}
 use Rattle.file_handles.specs.Kept.{Kept, object_at, with_object}
-use Rattle.file_handles.specs.Stands.{IsInWhere, StandsSomehow}
+use Rattle.file_handles.specs.Stands.{KeepsWhere, RepresentsSome}
 use Rattle.file_handles.specs.declared.object.Object.{Object}
 use Rattle.file_handles.proofs.DoomedKeeps.{dooms_user}
 use Rattle.file_handles.proofs.DoomedStands.{doomed_as}
+use Rattle.file_handles.proofs.Histories.{history_of}
 use Rattle.file_handles.proofs.User.{user_is_used}
 
 -- the file of the object in use of a name stands
-pub user_stands : (s : State) (k : Kept) (name : Name) (p : ℕ) → position (is_user name) k.objects ≡ Some p → StandsSomehow s k → IsSome (standing s (Entry name))
+pub user_stands : (s : State) (k : Kept) (name : Name) (p : ℕ) → position (is_user name) k.objects ≡ Some p → RepresentsSome (cache_at k s) → IsSome (standing s (Entry name))
 user_stands s k name p is (m, (number, stands)) =
     let used = user_is_used k m number stands.proper stands.handles name p is in
     let file : standing s (Entry name) ≡ Some (object_file (object m (number p))) = stands.entries name.0 ∙ entry_used m name.0 (number p) stands.proper used in
@@ -73,9 +75,9 @@ object_again k p x y = ap (λ objects. record k { objects = objects }) (set-set 
 
 pub dooms_there : {d : Bool} (s t : State) (k a b : Kept) (name : Name) (p : ℕ) (x : Object) (n : ℕ) → IsSound s → position (is_user name) k.objects ≡ Some p → object_at k p ≡ Some x → IsLeastFree (numbers_in k.objects) n
     → t ≡ renamed (Entry name) (Doomed n) s → a ≡ with_object k p None → b ≡ with_object a p (Some (doomed_as x n))
-    → (m : Machine) (w : Marks) → is_touched w name.0 ≡ true → IsInWhere d s k m w → (IsTrue d → IsSafe t w) × IsInWhere d t b (doomed_under m name.0) w
+    → (m : Machine) (w : Marks) → is_touched w name.0 ≡ true → KeepsWhere d (cache_at k s) (history_of m w) → (IsTrue d → IsSafe t w) × KeepsWhere d (cache_at b t) (history_of (doomed_under m name.0) w)
 dooms_there {d} s t k a b name p x n sound is at free moved taken put m w touched stand =
     let same : b ≡ with_object k p (Some (doomed_as x n)) = put ∙ ap (λ c. with_object c p (Some (doomed_as x n))) taken ∙ object_again k p None (Some (doomed_as x n)) in
     let done = dooms_user s k name p x n sound is at free m w touched stand in
-    let all : IsInWhere d t b (doomed_under m name.0) w = subst (λ u. IsInWhere d u b (doomed_under m name.0) w) (sym moved) (subst (λ c. IsInWhere d (renamed (Entry name) (Doomed n) s) c (doomed_under m name.0) w) (sym same) done) in
+    let all : KeepsWhere d (cache_at b t) (history_of (doomed_under m name.0) w) = subst (λ u. KeepsWhere d (cache_at b u) (history_of (doomed_under m name.0) w)) (sym moved) (subst (λ c. KeepsWhere d (cache_at c (renamed (Entry name) (Doomed n) s)) (history_of (doomed_under m name.0) w)) (sym same) done) in
     (λ on. (all.crash_kept on).safe, all)

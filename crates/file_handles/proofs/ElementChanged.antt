@@ -1,14 +1,10 @@
 -- An entry whose elements are changed, and its file.
-use Rattle.std.proofs.Common.{◌≡◌, inr, ℕ, List, Option, Some, Result, Ok, Err, IsErrAnd, true, refl, sym, ap, subst, ◌∙◌}
-use Rattle.std.specs.Prelude.{IsErrOf}
-use Rattle.cache_base.specs.Causes.{HasCause}
+use Rattle.std.proofs.Common.{◌≡◌, inr, ℕ, List, Option, Some, true, refl, sym, ap, subst, ◌∙◌}
 use Rattle.cache_theory.specs.Machine.{Object as MachineObject}
 use Rattle.cache_theory.specs.Stands.{object_file}
 use Rattle.cache_theory.proofs.EntryFiles.{finished_file_is, unfinished_file_is}
 use Rattle.disk_model.specs.State.{State, standing}
 use Rattle.disk_model.specs.Writes.{WritesAt}
-use Rattle.disk_model.specs.declared.disk.DiskFault.{DiskFault}
-use Rattle.disk_model.specs.declared.disk.DiskFault.TheVariants as disk
 use Rattle.disk_model.specs.declared.place.Place.{Place}
 use Rattle.entry_file.specs.Held.{held}
 use Rattle.entry_file.specs.NewEntry.{HasBody}
@@ -20,11 +16,8 @@ use Rattle.entry_metadata.specs.Meta.{meta_of}
 use Rattle.entry_metadata.specs.Metadata.{Meta as Said}
 use Rattle.entry_metadata.specs.declared.meta.Meta.{Meta}
 use Rattle.entry_parts.specs.Elements.{Element}
-use Rattle.file_handles.specs.Answers.{fault_of}
 use Rattle.file_handles.specs.Changes.{Becomes, IsFiledAs, IsMomentOf, with_version}
 use Rattle.file_handles.specs.Held.{IsEntryOf, object_place}
-use Rattle.file_handles.specs.declared.fault.HandleFault.{HandleFault}
-use Rattle.file_handles.specs.declared.fault.HandleFault.TheVariants as fault
 use Rattle.file_handles.specs.declared.object.Draft.{Draft as DraftOf}
 use Rattle.file_handles.specs.declared.object.Entry.{Entry}
 use Rattle.file_handles.specs.declared.object.Entry.TheVariants.{Draft, Finished}
@@ -118,20 +111,3 @@ module _ (es : List Element → List Element) where
       entry_becomes x o s s (Draft new) filed
       (was.0, record { body = body; header = with.header ∙ was.1.header; key = with.key ∙ was.1.key; elements = with.elements ∙ ap es was.1.elements })
       (filed.file ∙ ap Some (unfinished_file_is o was.0 ∙ sym (unfinished_file_is (with_elements o) was.0)))
-
--- The cause of a fault that is handed on.
-
-cause_along : (A B : Type 0) (before now : ℕ) → (A → B) → (B → A) → HasCause A before now → HasCause B before now
-cause_along A B before now to from cause = record { later = cause.later; rose = λ b. cause.rose (from b); kept = λ not. cause.kept (λ a. not (to a)) }
-
-failed_of : (f : DiskFault) → fault_of f ≡ fault.Disk → f ≡ disk.Failed
-failed_of disk.Failed is = refl
-failed_of disk.Memory is = cc
-
-pub cause_handed_on : {T X : Type 0} (r : Result X DiskFault) (f : DiskFault) (out : Result T HandleFault) (before now : ℕ) → r ≡ Err f → IsErrAnd out (λ e. e ≡ fault_of f)
-    → HasCause (IsErrOf r disk.Failed) before now → HasCause (IsErrOf out fault.Disk) before now
-cause_handed_on r f (Ok value) before now at is cause = absurd is
-cause_handed_on r f (Err e) before now at is cause =
-    cause_along (IsErrOf r disk.Failed) (IsErrOf (Err e) fault.Disk) before now
-    (λ failed. let same : f ≡ disk.Failed = cc in ap Err (is ∙ ap fault_of same))
-    (λ failed. at ∙ ap Err (failed_of f (sym is ∙ (let same : e ≡ fault.Disk = cc in same)))) cause

@@ -1,5 +1,5 @@
 -- The checks of the commands on elements, by what the handles have.
-use Rattle.std.proofs.Common.{◌≡◌, ℕ, ◌<◌, List, length, ◌&&◌, arith, eqb-true, IfSome, IsSomeAnd, [], ◌∷◌, Bool, true, false, cond, not, Option, Some, None, Result, Ok, Err, IfErr, IsErrAnd, refl, sym, ap, subst, ◌∙◌}
+use Rattle.std.proofs.Common.{◌≡◌, ℕ, ◌<◌, List, length, ◌&&◌, arith, eqb-true, IfSome, IsSome, IsSomeAnd, [], ◌∷◌, Bool, true, false, cond, not, Option, Some, None, Result, Ok, Err, IfErr, IsErrAnd, refl, sym, ap, subst, ◌∙◌}
 use Rattle.std.specs.Prelude.{◌||◌, ◌==◌, nat_lt}
 use Rattle.std.proofs.lemmas.Bool.{and_from, and_left, and_right, eqb-false, le-ltb, lt-ltb}
 use Rattle.cache_base.specs.Checks.{first_failing}
@@ -114,6 +114,19 @@ at_object o x P e is = subst (λ y. IsSomeAnd y P) e is
 pub the_object : (o : Option Object) (P : Object → Type 0) → IsSomeAnd o P → (x : Object) × ((o ≡ Some x) × P x)
 the_object None P is = absurd is
 the_object (Some x) P is = (x, (refl, is))
+
+pub is_there : (o : Option Object) (P : Object → Type 0) → IsSomeAnd o P → IsSome o
+is_there None P is = absurd is
+is_there (Some x) P is = refl
+
+pub not_there : (o : Option Object) (P : Object → Type 0) → IsSomeAnd o P → o ≡ None → ⊥
+not_there None P is none = is
+not_there (Some x) P is none = cc
+
+-- what is known of it beside
+pub both_right : (o : Option Object) (P Q : Object → Type 0) → IsSomeAnd o (λ x. P x × Q x) → IsSomeAnd o Q
+both_right None P Q is = absurd is
+both_right (Some x) P Q is = is.1
 
 pub if_object : (o : Option Object) (x : Object) (P : Object → Type 0) → o ≡ Some x → IfSome o P → P x
 if_object o x P e is = subst (λ y. IfSome y P) e is

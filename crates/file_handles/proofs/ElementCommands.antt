@@ -17,6 +17,7 @@ use Rattle.disk_model.specs.State.{State}
 use Rattle.entry_parts.specs.Elements.{element}
 use Rattle.entry_parts.specs.Setting.{with_element, without_element}
 use Rattle.file_handles.specs.Answers.{OnRefused, done_or, done_or_none, reply_in}
+use Rattle.file_handles.specs.Cache.{cache_at}
 use Rattle.file_handles.specs.Carries.{CarriesOut}
 use Rattle.file_handles.specs.Changes.{ChangesThere}
 use Rattle.file_handles.specs.Held.{IsHeldAs, elements_in, is_draft}
@@ -61,13 +62,13 @@ set_makes k slot name value name_bytes value_bytes passes = record {
 }
 
 module _ (s t : State) (sound : IsSound s) (k after : Kept) (slot : ℕ) (small : slot < SLOTS) (p : ℕ) (x : Object) (has : HasAt k slot p x) (name : List ℕ) {T : Type 0} (r : Result T HandleFault)
-    (quiet : IfSome (object_at k p) (λ z. is_draft z.entry ≡ true → t ≡ s)) (none : OnRefused r (λ _. object_at k p ≡ None)) where
+    (quiet : IfSome (object_at k p) (λ z. is_draft z.entry ≡ true → t ≡ s)) (none : OnRefused r (λ _. ⊥)) where
   writes : (o : MachineObject) → IsHeldAs x o → IsFinished o ⊎ (t ≡ s)
   writes = writes_finished s t x (if_object (object_at k p) x (λ z. is_draft z.entry ≡ true → t ≡ s) has.found quiet)
 
   -- what a call answers that sets an element
-  pub set_leaves : (value : List ℕ) → AreBytes name → AreBytes value → Passes k (SetElement slot name value) → ChangesThere p (with_elements (with_element name value)) r s t k after
-      → CarriesOut (SetElement slot name value) (done_or r) s t k after
+  pub set_leaves : (value : List ℕ) → AreBytes name → AreBytes value → Passes k (SetElement slot name value) → ChangesThere p (with_elements (with_element name value)) r (cache_at k s) (cache_at after t)
+      → CarriesOut (SetElement slot name value) (done_or r) (cache_at k s) (cache_at after t)
   set_leaves value name_bytes value_bytes passes there =
       change_carried s t sound k after (SetElement slot name value) slot small p x has (with_elements (with_element name value)) IsFinished (set_makes k slot name value name_bytes value_bytes passes) r (there x has.found) writes none
 
@@ -94,7 +95,7 @@ module _ (s t : State) (sound : IsSound s) (k after : Kept) (slot : ℕ) (small 
           (λ i. if done i && is_some (element_there m number stand i) then Some (number_of m slot) else None) refl becomes refl refl;
     }
 
-    pub unset_leaves : ChangesThere p (with_elements (without_element name)) r s t k after → CarriesOut (UnsetElement slot name) (done_or r) s t k after
+    pub unset_leaves : ChangesThere p (with_elements (without_element name)) r (cache_at k s) (cache_at after t) → CarriesOut (UnsetElement slot name) (done_or r) (cache_at k s) (cache_at after t)
     unset_leaves there = change_carried s t sound k after (UnsetElement slot name) slot small p x has (with_elements (without_element name)) IsFinished unset_makes r (there x has.found) writes none
 
 -- a fault that is handed on

@@ -1,13 +1,13 @@
 -- The number of a file that is new among the doomed.
 use Rattle.std.proofs.Common.{◌≡◌, ◌⊎◌, inl, inr, ℕ, zero, suc, ◌<◌, ◌==◌, List, [], ◌∷◌, length, take, Bool, true, false, Option, Some, None, IsSome, Result, Ok, Err, refl, sym, ap, subst, ◌∙◌, arith}
 use Rattle.std.specs.List.{Contains, cons_option}
-use Rattle.std.specs.Prelude.{if◌then◌else◌, option_and_then, slice_get, unwrap_or}
+use Rattle.std.specs.Prelude.{if◌then◌else◌, slice_get, unwrap_or}
 use Rattle.std.proofs.lemmas.Bool.{eqb-true}
 use Rattle.std.proofs.lemmas.List.{length-take}
 use Rattle.std.proofs.lemmas.List.Elements.{Contains-append_cases}
 use Rattle.cache_base.specs.declared.limits.TheConstants.{SLOTS}
 use Rattle.cache_base.specs.declared.name.Name.{Name}
-use Rattle.cache_theory.specs.Machine.{Machine, object}
+use Rattle.cache_theory.specs.Machine.{object}
 use Rattle.cache_theory.specs.Stands.{object_file}
 use Rattle.disk_model.specs.Calls.{if_done}
 use Rattle.disk_model.specs.declared.disk.DiskFault.{DiskFault}
@@ -16,10 +16,11 @@ use Rattle.disk_model.specs.declared.place.Place.TheVariants.{Doomed, Entry}
 use Rattle.disk_model.specs.State.{State, content_of, names_now, renamed, standing}
 use Rattle.doom_area.specs.DoomArea.{IsLeastFree}
 use Rattle.doom_area.proofs.LeastFree.{long_enough}
+use Rattle.file_handles.specs.Cache.{cache_at}
 use Rattle.file_handles.specs.Dooming.{IsFirstFree, TakesFirstFree, number_in, numbers_in}
 use Rattle.file_handles.specs.Held.{place_of}
 use Rattle.file_handles.specs.Kept.{Kept, object_at}
-use Rattle.file_handles.specs.Stands.{StandsSomehow}
+use Rattle.file_handles.specs.Stands.{RepresentsSome}
 use Rattle.file_handles.specs.declared.object.Object.{Object}
 use Rattle.file_handles.proofs.Places.{file_stands}
 
@@ -43,7 +44,7 @@ doomed_in (x ∷ xs) d has = elim (first_or_more (number_in x) (numbers_in xs) d
 ]
 
 -- so its file stands
-doomed_stands : (s : State) (k : Kept) (d : ℕ) → StandsSomehow s k → Contains (numbers_in k.objects) d → IsSome (standing s (Doomed d))
+doomed_stands : (s : State) (k : Kept) (d : ℕ) → RepresentsSome (cache_at k s) → Contains (numbers_in k.objects) d → IsSome (standing s (Doomed d))
 doomed_stands s k d (m, (number, stands)) has = let at = doomed_in k.objects d has in go at.0 (object_at k at.0) refl at.1
   where
     go : (p : ℕ) (o : Option Object) → object_at k p ≡ o → number_in o ≡ Some d → IsSome (standing s (Doomed d))
@@ -52,7 +53,7 @@ doomed_stands s k d (m, (number, stands)) has = let at = doomed_in k.objects d h
         let there : standing s (place_of x.name x.doomed) ≡ Some (object_file (object m (number p))) = file_stands s k m number stands p x at in
         subst (λ (o : Option (List ℕ)). IsSome o) (sym (ap (λ n. standing s (place_of x.name n)) (sym is) ∙ there)) refl
 
--- the front of an array has no more numbers than it was cut to
+-- a prefix of an array has no more numbers than it was cut to
 pub few_numbers : (count : ℕ) (xs ys : List ℕ) → take count xs ≡ ys → count < SLOTS → length ys < SLOTS
 few_numbers count xs ys is few = let same = ap length is in let le = length-take count xs in omega (arith, few, same, le)
 
@@ -61,7 +62,7 @@ none_some None none some = absurd (cc)
 none_some (Some x) none some = absurd (cc)
 
 -- the least number that no object has, of a list that is short
-module _ (s : State) (k : Kept) (somehow : StandsSomehow s k) (name : Name) (n : ℕ) (free : IsLeastFree (numbers_in k.objects) n) (few : length (numbers_in k.objects) < SLOTS) where
+module _ (s : State) (k : Kept) (somehow : RepresentsSome (cache_at k s)) (name : Name) (n : ℕ) (free : IsLeastFree (numbers_in k.objects) n) (few : length (numbers_in k.objects) < SLOTS) where
   small : n < SLOTS
   small = let le = long_enough (numbers_in k.objects) n free.lesser in omega (arith, le, few)
 

@@ -20,6 +20,7 @@ use Rattle.entry_file.specs.EntryFile.Reading.{Whole, Damaged, Nothing}
 use Rattle.entry_key.specs.Writing.{may_write}
 use Rattle.entry_metadata.specs.declared.meta.Meta.{Meta}
 use Rattle.entry_name.specs.EntryName.{file_name}
+use Rattle.file_handles.specs.Cache.{cache_at}
 use Rattle.file_handles.specs.Found.{Finds, FindsIn}
 use Rattle.file_handles.specs.Kept.{Kept}
 use Rattle.file_handles.specs.Loading.{LoadsAs, is_writing}
@@ -51,18 +52,22 @@ refuses m key r s is = record {
   none = λ q same. replies_refused m key r is ∙ ap Refused (let e : r ≡ q = cc in e);
 }
 
-pub finds_bad_key : (key : List ℕ) (s : State) (k : Kept) → may_write key ≡ false → Finds key (Err (fault.Refused refused.BadKey)) s k
+pub finds_bad_key : (key : List ℕ) (s : State) (k : Kept) → may_write key ≡ false → Finds key (Err (fault.Refused refused.BadKey)) (cache_at k s)
 unfolding checked
-finds_bad_key key s k bad m number stands =
-    refuses m key refused.BadKey s (get_checks m key ∙ ap (λ b. checked b (finished_use m key) (is_some (used_by m key) || is_entry (on_shelf m key)) (on_shelf m key)) bad)
+finds_bad_key key s k bad = record {
+  finds = λ m stand.
+      refuses m key refused.BadKey s (get_checks m key ∙ ap (λ b. checked b (finished_use m key) (is_some (used_by m key) || is_entry (on_shelf m key)) (on_shelf m key)) bad);
+}
 
 module _ (key : List ℕ) (s : State) (k : Kept) (name : Name) (named : name.0 ≡ file_name key) (good : may_write key ≡ true) where
-  pub finds_unfinished : is_writing k name key ≡ true → Finds key (Err (fault.Refused refused.Unfinished)) s k
+  pub finds_unfinished : is_writing k name key ≡ true → Finds key (Err (fault.Refused refused.Unfinished)) (cache_at k s)
   unfolding checked finished_use
-  finds_unfinished writing m number stands =
-      let un : finished_use m key ≡ false = writing_same k name key m number stands.proper stands.handles named ∙ ap not writing in
-      refuses m key refused.Unfinished s
-      (get_checks m key ∙ (λ i. checked (good i) (un i) (is_some (used_by m key) || is_entry (on_shelf m key)) (on_shelf m key)))
+  finds_unfinished writing = record {
+    finds = λ m stand.
+        let un : finished_use m key ≡ false = writing_same k name key m stand.0 stand.1.proper stand.1.handles named ∙ ap not writing in
+        refuses m key refused.Unfinished s
+        (get_checks m key ∙ (λ i. checked (good i) (un i) (is_some (used_by m key) || is_entry (on_shelf m key)) (on_shelf m key)));
+  }
 
   module _ (idle : is_writing k name key ≡ false) (m : Machine) (number : ℕ → ℕ) (stands : Stands (standing s) k m number) where
     done : finished_use m key ≡ true
@@ -115,7 +120,9 @@ module _ (key : List ℕ) (s : State) (k : Kept) (name : Name) (named : name.0 �
     by_reading r (Err fault.Disk) is loads = record { some = tt; none = λ q same. absurd (cc) }
     by_reading r (Err fault.Memory) is loads = record { some = tt; none = λ q same. absurd (cc) }
 
-  pub finds_loaded : is_writing k name key ≡ false → (answer : Result Meta HandleFault) → LoadsAs (read_for key (standing s (Entry name))) answer → Finds key answer s k
-  finds_loaded idle answer loads m number stands =
-      by_reading idle m number stands (on_shelf m key) answer refl
-      (let P : Reading → Type 0 = λ r. LoadsAs r answer in subst P (read_same idle m number stands) loads)
+  pub finds_loaded : is_writing k name key ≡ false → (answer : Result Meta HandleFault) → LoadsAs (read_for key (standing s (Entry name))) answer → Finds key answer (cache_at k s)
+  finds_loaded idle answer loads = record {
+    finds = λ m stand.
+        by_reading idle m stand.0 stand.1 (on_shelf m key) answer refl
+        (let P : Reading → Type 0 = λ r. LoadsAs r answer in subst P (read_same idle m stand.0 stand.1) loads);
+  }

@@ -12,10 +12,12 @@ use Rattle.cache_theory.proofs.HeldDoomed.{held_before_reader, held_reader}
 use Rattle.cache_theory.proofs.Slots.{free_is_none, slot_kept, use_of, with_slot_other, with_slot_same}
 use Rattle.cache_theory.proofs.Users.{in_use_along}
 use Rattle.disk_model.specs.State.{State, standing}
+use Rattle.file_handles.specs.Cache.{cache_at}
 use Rattle.file_handles.specs.Kept.{Kept, object_at, with_use}
-use Rattle.file_handles.specs.Stands.{HandlesStand, IsAt, IsInWhere, slot_of}
+use Rattle.file_handles.specs.Stands.{HandlesStand, IsAt, KeepsWhere, slot_of}
 use Rattle.file_handles.specs.declared.object.Object.{Object}
 use Rattle.file_handles.specs.declared.object.Use.{Use}
+use Rattle.file_handles.proofs.Histories.{history_of}
 use Rattle.file_handles.proofs.JoinedSlots.{same_place, use_set_here, use_set_other}
 
 -- the slot is free, and reads the object at the place from now on
@@ -29,7 +31,7 @@ pub record MayRead (k : Kept) (m : Machine) (number : ℕ → ℕ) (slot p : ℕ
   pub placed : u.place ≡ p
   pub reads : u.writes ≡ false
 
-module _ {b : Bool} (s : State) (k : Kept) (m : Machine) (w : Marks) (is : IsInWhere b s k m w) (slot p : ℕ) (u : Use) (may : MayRead k m is.number slot p u) where
+module _ {b : Bool} (s : State) (k : Kept) (m : Machine) (w : Marks) (is : KeepsWhere b (cache_at k s) (history_of m w)) (slot p : ℕ) (u : Use) (may : MayRead k m is.number slot p u) where
   abbrev pub after : Kept
   after = with_use k slot (Some u)
 
@@ -78,7 +80,7 @@ module _ {b : Bool} (s : State) (k : Kept) (m : Machine) (w : Marks) (is : IsInW
     one_number = λ d e i a b. is.stands.doomed.one_number d e i (at_off d i a) (at_off e i b);
   }
 
-  pub reader_in : IsInWhere b s after next w
+  pub reader_in : KeepsWhere b (cache_at after s) (history_of next w)
   reader_in = record {
     number = is.number;
     stands = record {

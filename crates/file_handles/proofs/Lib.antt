@@ -1,3 +1,5 @@
+pub mod Histories
+pub mod Accounting
 pub mod KeptLaws
 pub mod Places
 pub mod Where
@@ -25,6 +27,7 @@ pub mod DoomedNumbers
 pub mod DoomedStands
 pub mod DoomedKeeps
 pub mod DoomedUser
+pub mod IndexLeft
 pub mod FirstFree
 pub mod FoundFile
 pub mod FoundLoad

@@ -1,7 +1,6 @@
 -- Whose body a slot reads.
-use Rattle.std.proofs.Common.{◌≡◌, ◌∙◌, ℕ, ◌<◌, List, length, cond, Option, Some, None, Result, Ok, Err, IfErr, IsErrAnd, refl, sym, ap, subst, arith, OnOk}
-use Rattle.std.specs.Prelude.{IfOk, IfSome, IsErrOf, is_some, option_map}
-use Rattle.cache_base.specs.Causes.{HasCause}
+use Rattle.std.proofs.Common.{◌≡◌, ◌∙◌, ℕ, ◌<◌, List, length, cond, Option, Some, None, Result, Ok, Err, IfErr, IsErrAnd, refl, sym, ap, subst, OnOk}
+use Rattle.std.specs.Prelude.{IfOk, IfSome, is_some, option_map}
 use Rattle.cache_base.specs.declared.limits.TheConstants.{SLOTS}
 use Rattle.cache_theory.specs.Checks.{checks}
 use Rattle.cache_theory.specs.Command.Command.{ReadPart}
@@ -75,32 +74,6 @@ part_read s k slot small u is shown chunk from len fetched lent m number stands 
 pub err_is : {T E : Type 0} (r : Result T E) (e : E) → IsErrAnd r (λ f. f ≡ e) → r ≡ Err e
 err_is (Ok x) e is = absurd is
 err_is (Err f) e is = ap (λ e. Err e) is
-
-pub cause_on : {T U : Type 0} (r : Result T HandleFault) (q : Result U HandleFault) (e : HandleFault) (before now : ℕ) → r ≡ Err e → q ≡ Err e → HasCause (IsErrOf r fault.Disk) before now → HasCause (IsErrOf q fault.Disk) before now
-cause_on r q e before now is same h = record {
-  later = h.later;
-  rose = λ f. h.rose (is ∙ ap (λ e. Err e) (disk_of q same f));
-  kept = λ not. h.kept (λ f. not (same ∙ ap (λ e. Err e) (disk_of r is f)));
-}
-  where
-    disk_of : {X : Type 0} (a : Result X HandleFault) → a ≡ Err e → a ≡ Err fault.Disk → e ≡ fault.Disk
-    disk_of {X = X} a is f = let both : ◌≡◌ {A = Result X HandleFault} (Err e) (Err fault.Disk) = sym is ∙ f in cc
-
--- a refusal is no fault of the disk
-pub no_cause : {T : Type 0} (r : Result T HandleFault) (f : Refusal) (n : ℕ) → r ≡ Err (fault.Refused f) → HasCause (IsErrOf r fault.Disk) n n
-no_cause {T = T} r f n is = record {
-  later = omega arith;
-  rose = λ disk. absurd (let both : ◌≡◌ {A = Result T HandleFault} (Err (fault.Refused f)) (Err fault.Disk) = sym is ∙ disk in let never : fault.Refused f ≡ fault.Disk = cc in cc);
-  kept = λ not. refl;
-}
-
--- nor is what is read
-pub cause_ok : {T U : Type 0} (r : Result T HandleFault) (x : T) (y : U) (before now : ℕ) → r ≡ Ok x → HasCause (IsErrOf r fault.Disk) before now → HasCause (IsErrOf (Ok y) fault.Disk) before now
-cause_ok {T = T} r x y before now is h = record {
-  later = h.later;
-  rose = λ f. absurd (cc);
-  kept = λ not. h.kept (λ f. let both : ◌≡◌ {A = Result T HandleFault} (Ok x) (Err fault.Disk) = sym is ∙ f in cc);
-}
 
 -- what an error says
 pub error_says : {T : Type 0} (r : Result T HandleFault) (e : HandleFault) (Q : T → Type 0) (P : Refusal → Type 0) → r ≡ Err e → ((f : Refusal) → e ≡ fault.Refused f → P f) → IfOk r Q × OnRefused r P

@@ -9,10 +9,11 @@ use Rattle.cache_theory.proofs.Users.{undoomed_user}
 use Rattle.disk_model.specs.State.{State, standing}
 use Rattle.disk_model.specs.declared.place.Place.TheVariants.{Doomed}
 use Rattle.entry_name.specs.EntryName.{file_name}
+use Rattle.file_handles.specs.Cache.{cache_at}
 use Rattle.file_handles.specs.Changes.{IsFiledAs, IsFiledAt}
 use Rattle.file_handles.specs.Held.{object_place, place_of}
 use Rattle.file_handles.specs.Kept.{Kept, object_at}
-use Rattle.file_handles.specs.Stands.{IsAt, IsObjectOf, Stands, StandsSomehow}
+use Rattle.file_handles.specs.Stands.{IsAt, IsObjectOf, RepresentsSome, Stands}
 use Rattle.file_handles.specs.declared.object.Object.{Object}
 
 module _ (s : State) (k : Kept) (m : Machine) (number : ℕ → ℕ) (stands : Stands (standing s) k m number) (p : ℕ) (x : Object) (at : object_at k p ≡ Some x) where
@@ -54,5 +55,5 @@ module _ (s : State) (k : Kept) (m : Machine) (number : ℕ → ℕ) (stands : S
     file = file_stands;
   }
 
-pub filed_somehow : (s : State) (k : Kept) (p : ℕ) → StandsSomehow s k → IsFiledAt s k p
+pub filed_somehow : (s : State) (k : Kept) (p : ℕ) → RepresentsSome (cache_at k s) → IsFiledAt (cache_at k s) p
 filed_somehow s k p (m, (number, stands)) x at = (object m (number p), is_filed s k m number stands p x at)

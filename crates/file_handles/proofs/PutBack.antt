@@ -6,6 +6,7 @@ use Rattle.std.proofs.lemmas.Result.{IfOk-from_err}
 use Rattle.cache_theory.specs.Machine.{Object as MachineObject}
 use Rattle.disk_model.specs.State.{State}
 use Rattle.disk_model.specs.Writes.{WritesAt}
+use Rattle.file_handles.specs.Cache.{cache_at}
 use Rattle.file_handles.specs.Changes.{Becomes, ChangesAt, IsFiledAs, IsMomentOf}
 use Rattle.file_handles.specs.Held.{object_place}
 use Rattle.file_handles.specs.Kept.{Kept, object_at, with_object}
@@ -23,8 +24,8 @@ one_object k p x y at also = let both : Some x ≡ Some y = sym at ∙ also in c
 module _ {T : Type 0} (p : ℕ) (change : MachineObject → MachineObject) (answer : Result T HandleFault) (s t : State) (before after : Kept) (x : Object) (at : object_at before p ≡ Some x)
     (writes : (o : MachineObject) → IsFiledAs x o s → WritesAt (object_place x) (IsMomentOf (change o)) s t) where
   -- a call that failed puts nothing back
-  pub changes_failed : IsErr answer → (z : Object) → object_at before p ≡ Some z → ChangesAt p change answer s t before after z
-  changes_failed failed z also = subst (ChangesAt p change answer s t before after) (one_object before p x z at also) (record {
+  pub changes_failed : IsErr answer → (z : Object) → object_at before p ≡ Some z → ChangesAt p change answer (cache_at before s) (cache_at after t) z
+  changes_failed failed z also = subst (ChangesAt p change answer (cache_at before s) (cache_at after t)) (one_object before p x z at also) (record {
     changed = Err fault.Memory;
     changes = record { writes = writes; becomes = tt };
     put_back = IfOk-from_err answer (λ v. IsOkAnd {E = HandleFault} (Err fault.Memory) (λ y. after ≡ with_object before p (Some y))) failed;
@@ -32,8 +33,8 @@ module _ {T : Type 0} (p : ℕ) (change : MachineObject → MachineObject) (answ
 
   -- and else the changed object
   pub changes_done : (y : Object) → ((o : MachineObject) → IsFiledAs x o s → Becomes x y (change o) t) → after ≡ with_object before p (Some y) → (z : Object) → object_at before p ≡ Some z
-      → ChangesAt p change answer s t before after z
-  changes_done y becomes put z also = subst (ChangesAt p change answer s t before after) (one_object before p x z at also) (record {
+      → ChangesAt p change answer (cache_at before s) (cache_at after t) z
+  changes_done y becomes put z also = subst (ChangesAt p change answer (cache_at before s) (cache_at after t)) (one_object before p x z at also) (record {
     changed = Ok y;
     changes = record { writes = writes; becomes = becomes };
     put_back = on_ok answer;

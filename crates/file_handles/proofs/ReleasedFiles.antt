@@ -17,12 +17,14 @@ use Rattle.cache_theory.proofs.Slots.{HasSlot}
 use Rattle.cache_theory.proofs.Users.{in_use_along}
 use Rattle.disk_model.specs.State.{State, names_now, standing}
 use Rattle.disk_model.specs.declared.place.Place.TheVariants.{Doomed}
+use Rattle.file_handles.specs.Cache.{cache_at}
 use Rattle.file_handles.specs.Held.{IsHeldAs}
 use Rattle.file_handles.specs.Kept.{Kept, object_at, use_at}
-use Rattle.file_handles.specs.Stands.{HandlesStand, IsAt, IsInWhere}
+use Rattle.file_handles.specs.Stands.{HandlesStand, IsAt, KeepsWhere}
 use Rattle.file_handles.specs.declared.object.Object.{Object}
 use Rattle.file_handles.specs.declared.object.Use.{Use}
 use Rattle.file_handles.proofs.ElementSlots.{slot_is}
+use Rattle.file_handles.proofs.Histories.{history_of}
 use Rattle.file_handles.proofs.Released.{left_at, left_has, released_objects, released_slots, some_object, use_was}
 
 -- the handles with these objects, without the slot
@@ -51,7 +53,7 @@ module _
     (k : Kept)
     (m : Machine)
     (w : Marks)
-    (is : IsInWhere b s k m w)
+    (is : KeepsWhere b (cache_at k s) (history_of m w))
     (slot : ℕ)
     (u : Use)
     (at_slot : use_at k slot ≡ Some u)
@@ -122,7 +124,7 @@ module _
     young = let same = ap (λ (objects : List MachineObject). length objects) (released_objects m slot) in let young = (is.crash_kept on).young in omega (arith, same, young);
   }
 
-  pub left_in : IsInWhere b t (left_with k slot objects) (released m slot) w
+  pub left_in : KeepsWhere b (cache_at (left_with k slot objects) t) (history_of (released m slot) w)
   left_in = record {
     number = is.number;
     stands = record {

@@ -1,6 +1,6 @@
 -- A slot of the handles is given up, and its object where no other slot has it.
 use Rattle.std.proofs.Common.{◌≡◌, ◌≢◌, inl, inr, ℕ, ◌<◌, List, length, true, false, Option, Some, None, Result, Ok, Err, refl, sym, ap, subst, ◌∙◌, Bool}
-use Rattle.std.specs.Prelude.{option_map, slice_set}
+use Rattle.std.specs.Prelude.{OnOk, option_map, slice_set}
 use Rattle.std.specs.List.{list_any}
 use Rattle.std.proofs.lemmas.Bool.{cases_eq}
 use Rattle.cache_base.specs.declared.limits.TheConstants.{SLOTS}
@@ -21,11 +21,13 @@ use Rattle.disk_model.specs.declared.disk.DiskFault.TheVariants.{Failed, Memory}
 use Rattle.disk_model.specs.declared.place.Place.TheVariants.{Doomed}
 use Rattle.disk_model.proofs.Sound.{found}
 use Rattle.disk_model.proofs.Standing.{removed_puts}
+use Rattle.file_handles.specs.Cache.{cache_at}
 use Rattle.file_handles.specs.Closing.{is_use_of, let_go_by, without_doomed}
 use Rattle.file_handles.specs.Kept.{Kept, object_at, use_at, with_object, with_use}
-use Rattle.file_handles.specs.Stands.{HandlesStand, IsAt, IsInWhere}
+use Rattle.file_handles.specs.Stands.{HandlesStand, IsAt, KeepsWhere}
 use Rattle.file_handles.specs.declared.object.Object.{Object}
 use Rattle.file_handles.specs.declared.object.Use.{Use}
+use Rattle.file_handles.proofs.Histories.{history_of}
 use Rattle.file_handles.proofs.KeptLaws.{object_set_here, object_set_other, place_within}
 use Rattle.file_handles.proofs.Places.{doomed_at}
 use Rattle.file_handles.proofs.Released.{no_other, other_left, other_use, use_placed}
@@ -54,7 +56,7 @@ module _
     (k : Kept)
     (m : Machine)
     (w : Marks)
-    (is : IsInWhere b s k m w)
+    (is : KeepsWhere b (cache_at k s) (history_of m w))
     (slot : ℕ)
     (u : Use)
     (at_slot : use_at k slot ≡ Some u)
@@ -65,7 +67,7 @@ module _
   stand = is.stands.handles
 
   -- Another slot has the object.
-  pub shared_in : list_any (is_use_of u.place) (with_use k slot None).slots ≡ true → IsInWhere b s (with_use k slot None) (released m slot) w
+  pub shared_in : list_any (is_use_of u.place) (with_use k slot None).slots ≡ true → KeepsWhere b (cache_at (with_use k slot None) s) (history_of (released m slot) w)
   shared_in any = left_in s s k m w is slot u at_slot small room reads k.objects (record {
     was = λ q x at. at;
     stays = λ q x at has. at;
@@ -167,7 +169,7 @@ module _
         ever None name file at_e = at_e
         ever (Some d) name file at_e = ever_removed s (Doomed d) (entry_place name) file at_e
 
-    pub last_in : IsInWhere b (let_go_by x s) (with_object (with_use k slot None) u.place None) (released m slot) w
+    pub last_in : KeepsWhere b (cache_at (with_object (with_use k slot None) u.place None) (let_go_by x s)) (history_of (released m slot) w)
     last_in = left_in s (let_go_by x s) k m w is slot u at_slot small room reads (slice_set k.objects u.place None) (leaves x.doomed refl)
 
 -- The same by the place of the slot's use.
@@ -183,18 +185,23 @@ module _
     (m : Machine)
     (w : Marks)
     (reads : (object_of m slot).finished ≡ false → is_writer m slot ≡ false)
-    (is : IsInWhere b s k m w) where
-  pub shared_given : list_any (is_use_of p) (with_use k r None).slots ≡ true → IsInWhere b s (with_use k r None) (released m slot) w
+    (is : KeepsWhere b (cache_at k s) (history_of m w)) where
+  pub shared_given : list_any (is_use_of p) (with_use k r None).slots ≡ true → KeepsWhere b (cache_at (with_use k r None) s) (history_of (released m slot) w)
   shared_given any =
       let own = use_placed (use_at k slot) p placed in
-      subst (λ r. IsInWhere b s (with_use k r None) (released m slot) w) (sym same)
+      subst (λ r. KeepsWhere b (cache_at (with_use k r None) s) (history_of (released m slot) w)) (sym same)
       (shared_in s k m w is slot own.0 own.1.0 small room reads (ap (λ p. list_any (is_use_of p) (with_use k slot None).slots) own.1.1 ∙ ap (λ r. list_any (is_use_of p) (with_use k r None).slots) (sym same) ∙ any))
 
   pub last_given : (x : Object) (t : State) (after : Kept) → list_any (is_use_of p) (with_use k r None).slots ≡ false → object_at k p ≡ Some x → t ≡ let_go_by x s
-      → after ≡ with_object (with_use k r None) p None → IsInWhere b t after (released m slot) w
+      → after ≡ with_object (with_use k r None) p None → KeepsWhere b (cache_at after t) (history_of (released m slot) w)
   last_given x t after none at gone left =
       let own = use_placed (use_at k slot) p placed in
       let last = last_in s k m w is slot own.0 own.1.0 small room reads
       (ap (λ p. list_any (is_use_of p) (with_use k slot None).slots) own.1.1 ∙ ap (λ r. list_any (is_use_of p) (with_use k r None).slots) (sym same) ∙ none) x (ap (object_at k) own.1.1 ∙ at) in
       let here : with_object (with_use k slot None) own.0.place None ≡ after = (λ i. with_object (with_use k (sym same i) None) (own.1.1 i) None) ∙ sym left in
-      subst (λ (u : State). IsInWhere b u after (released m slot) w) (sym gone) (subst (λ (k : Kept). IsInWhere b (let_go_by x s) k (released m slot) w) here last)
+      subst (λ (u : State). KeepsWhere b (cache_at after u) (history_of (released m slot) w)) (sym gone) (subst (λ (k : Kept). KeepsWhere b (cache_at k (let_go_by x s)) (history_of (released m slot) w)) here last)
+
+  pub last_given_or : (x : Object) (t : State) (after : Kept) (d : Result (Unit {0}) DiskFault) → list_any (is_use_of p) (with_use k r None).slots ≡ false → object_at k p ≡ Some x → t ≡ if_done d (let_go_by x s) s
+      → after ≡ with_object (with_use k r None) p None → OnOk d (KeepsWhere b (cache_at after t) (history_of (released m slot) w))
+  last_given_or x t after (Ok v) none at gone left = last_given x t after none at gone left
+  last_given_or x t after (Err f) none at gone left = tt

@@ -1,5 +1,5 @@
 -- Where the undoomed object in use of a name is.
-use Rattle.std.proofs.Common.{◌≡◌, ◌≢◌, inl, inr, ℕ, ◌<◌, length, get_or, Bool, true, false, cond, Option, Some, None, IsSome, refl, sym, ap, ◌∙◌, arith, ltb}
+use Rattle.std.proofs.Common.{◌≡◌, ◌≢◌, inl, inr, ℕ, ◌<◌, length, get_or, Bool, true, false, cond, Option, Some, None, IsSome, refl, sym, ap, subst, ◌∙◌, arith, ltb}
 use Rattle.std.specs.List.{position, position_or_len}
 use Rattle.std.specs.Prelude.{is_none, is_some, option_map}
 use Rattle.std.specs.Str.{bytes_eq}
@@ -46,6 +46,9 @@ pub user_found : (k : Kept) (name : Name) (p : ℕ) → position (is_user name) 
 user_found k name p is =
     let here = position-Some (is_user name) k.objects p None is in
     user_at k name p (get_or k.objects p None) here.0 (unwrap_or-slice_get k.objects p None) here.1
+
+pub user_is_there : (k : Kept) (name : Name) (p : ℕ) → position (is_user name) k.objects ≡ Some p → IsSome (object_at k p)
+user_is_there k name p is = subst IsSome (sym (user_found k name p is).at_place) refl
 
 passes : (k : Kept) (name : Name) (p : ℕ) → IsUserAt k name p → is_user name (get_or k.objects p None) ≡ true
 passes k name p there =

@@ -3,6 +3,7 @@ use Rattle.std.specs.Prelude.{Err, IfErr, None, Ok, Option, Result, Some, ◌≡
 use Rattle.cache_theory.specs.declared.refusal.Refusal.{Refusal}
 use Rattle.cache_theory.specs.Command.{Reply}
 use Rattle.cache_theory.specs.Command.Reply.{Done, Refused, NoneThere}
+use Rattle.disk_model.specs.Account.{Ending}
 use Rattle.disk_model.specs.declared.disk.DiskFault.{DiskFault}
 use Rattle.disk_model.specs.declared.disk.DiskFault.TheVariants as disk
 use Rattle.file_handles.specs.declared.fault.HandleFault.{HandleFault}
@@ -13,7 +14,7 @@ abbrev pub fault_of : DiskFault → HandleFault
 fault_of disk.Failed = fault.Disk
 fault_of disk.Memory = fault.Memory
 
--- the reply in a fault: a refusal, and else none
+-- the reply in a fault: the refusal, if it is one
 abbrev pub reply_in : HandleFault → Option Reply
 reply_in (fault.Refused r) = Some (Refused r)
 reply_in fault.Disk = None
@@ -33,3 +34,13 @@ done_or_none (Err f) = reply_in f
 -- a refusal of this answer has P
 abbrev pub OnRefused : {T : Type 0} → Result T HandleFault → (Refusal → Type 0) → Type 0
 OnRefused r P = IfErr r (λ f. (refusal : Refusal) → f ≡ fault.Refused refusal → P refusal)
+
+-- what a fault, and an answer, say of the calls of the disk: a refusal comes where none failed
+abbrev pub fault_ending : HandleFault → Ending
+fault_ending (fault.Refused r) = Ending.NoneFailed
+fault_ending fault.Disk = Ending.OneFailed
+fault_ending fault.Memory = Ending.OutOfMemory
+
+abbrev pub ending : {T : Type 0} → Result T HandleFault → Ending
+ending (Ok value) = Ending.NoneFailed
+ending (Err f) = fault_ending f

@@ -7,14 +7,17 @@ use Rattle.disk_model.specs.State.{State, standing}
 use Rattle.disk_model.specs.Writes.{WritesAt}
 use Rattle.entry_file.specs.EntryFile.{fits}
 use Rattle.entry_file.specs.Version.{Version, file_of}
+use Rattle.file_handles.specs.Cache.{Cache}
 use Rattle.file_handles.specs.Held.{IsHeldAs, object_place}
-use Rattle.file_handles.specs.Kept.{Kept, object_at, with_object}
+use Rattle.file_handles.specs.Kept.{object_at, with_object}
 use Rattle.file_handles.specs.declared.fault.HandleFault.{HandleFault}
 use Rattle.file_handles.specs.declared.object.Object.{Object}
 
--- a new moment of the file of an object that becomes `o`: it fits under no name, or is the file of o's version
+-- a new moment of the file of an object that becomes `o`: it fits under no name, or is the file of
+-- the version of `o`
 abbrev pub IsMomentOf : MachineObject → List ℕ → Type 0
-IsMomentOf o c = ((name : List ℕ) → fits name c ≡ false) ⊎ ((o.finished ≡ true) × (c ≡ file_of o.version))
+IsMomentOf o c =
+    ((name : List ℕ) → fits name c ≡ false) ⊎ ((o.finished ≡ true) × (c ≡ file_of o.version))
 
 -- the object is the machine's, and its file stands where it should
 pub record IsFiledAs (x : Object) (o : MachineObject) (s : State) : Type 0 where
@@ -30,25 +33,32 @@ pub record Becomes (x y : Object) (o : MachineObject) (t : State) : Type 0 where
   pub as_held : IsHeldAs y o
   pub file : standing t (object_place x) ≡ Some (object_file o)
 
--- a call makes this change of every machine's object that x is: at every exit its file alone was written to, and after
--- an Ok it is changed
-pub record Changes (x : Object) (change : MachineObject → MachineObject) (changed : Result Object HandleFault) (s t : State) : Type 0 where
-  pub writes : (o : MachineObject) → IsFiledAs x o s → WritesAt (object_place x) (IsMomentOf (change o)) s t
+-- a call makes this change of every machine's object that x is: at every exit its file alone was
+-- written to, and after an Ok it is changed
+pub record Changes (x : Object) (change : MachineObject → MachineObject)
+    (changed : Result Object HandleFault) (s t : State) : Type 0 where
+  pub writes : (o : MachineObject) → IsFiledAs x o s
+      → WritesAt (object_place x) (IsMomentOf (change o)) s t
   pub becomes : IfOk changed (λ y. (o : MachineObject) → IsFiledAs x o s → Becomes x y (change o) t)
 
 -- it makes it of the object at a place, and changes nothing else of the handles
-pub record ChangesAt {T : Type 0} (p : ℕ) (change : MachineObject → MachineObject) (answer : Result T HandleFault) (s t : State) (before after : Kept) (x : Object) : Type 0 where
+pub record ChangesAt {T : Type 0} (p : ℕ) (change : MachineObject → MachineObject)
+    (answer : Result T HandleFault) (before after : Cache) (x : Object) : Type 0 where
   pub changed : Result Object HandleFault
-  pub changes : Changes x change changed s t
-  pub put_back : OnOk answer (IsOkAnd changed (λ y. after ≡ with_object before p (Some y)))
+  pub changes : Changes x change changed before.disk after.disk
+  pub put_back : OnOk answer
+      (IsOkAnd changed (λ y. after.handles ≡ with_object before.handles p (Some y)))
 
 -- the object at a place, if there is one
-abbrev pub ChangesThere : {T : Type 0} → ℕ → (MachineObject → MachineObject) → Result T HandleFault → State → State → Kept → Kept → Type 0
-ChangesThere p change answer s t before after = (x : Object) → object_at before p ≡ Some x → ChangesAt p change answer s t before after x
+abbrev pub ChangesThere : {T : Type 0} → ℕ → (MachineObject → MachineObject) → Result T HandleFault
+    → Cache → Cache → Type 0
+ChangesThere p change answer before after =
+    (x : Object) → object_at before.handles p ≡ Some x → ChangesAt p change answer before after x
 
 -- the object at a place is that of a machine's, with its file
-abbrev pub IsFiledAt : State → Kept → ℕ → Type 0
-IsFiledAt s k p = (x : Object) → object_at k p ≡ Some x → (o : MachineObject) × IsFiledAs x o s
+abbrev pub IsFiledAt : Cache → ℕ → Type 0
+IsFiledAt now p =
+    (x : Object) → object_at now.handles p ≡ Some x → (o : MachineObject) × IsFiledAs x o now.disk
 
 -- the changes: bytes more in the body, the entry finished, and its elements changed
 abbrev pub appended : List ℕ → MachineObject → MachineObject

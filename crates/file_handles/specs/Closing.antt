@@ -1,19 +1,20 @@
--- Slots that are given up.
-use Rattle.std.specs.Prelude.{Bool, IsSome, IsSomeAnd, IsTrue, List, None, OnOk, Option, Result, Some, false, if◌then◌else◌, is_none, not, option_map, unwrap_or, ℕ, ◌&&◌, ◌==◌, ◌≡◌}
+-- When a slot is given up.
+use Rattle.std.specs.Prelude.{Bool, IsSome, IsSomeAnd, List, None, OnOk, Option, Result, Some, false, if◌then◌else◌, is_none, not, option_map, unwrap_or, ℕ, ◌&&◌, ◌==◌, ◌≡◌}
 use Rattle.cache_theory.specs.Command.Command.{Close}
 use Rattle.cache_theory.specs.Crash.{IsSafe}
 use Rattle.cache_theory.specs.Ever.{entries}
+use Rattle.cache_theory.specs.History.{History, begun}
 use Rattle.cache_theory.specs.Machine.{Machine, is_writer, object_of}
-use Rattle.cache_theory.specs.Marks.{Marks, begun}
 use Rattle.cache_theory.specs.Step.{finished_by, released}
 use Rattle.cache_theory.specs.Table.{get}
 use Rattle.disk_model.specs.Image.{Files}
 use Rattle.disk_model.specs.State.{State, removed, standing}
 use Rattle.disk_model.specs.declared.disk.DiskFault.{DiskFault}
 use Rattle.disk_model.specs.declared.place.Place.TheVariants.{Doomed}
+use Rattle.file_handles.specs.Cache.{Cache}
 use Rattle.file_handles.specs.Held.{is_draft, object_place}
-use Rattle.file_handles.specs.Kept.{Kept, object_at, use_at}
-use Rattle.file_handles.specs.Stands.{IsIn, IsInWhere, StandFor}
+use Rattle.file_handles.specs.Kept.{object_at, use_at}
+use Rattle.file_handles.specs.Stands.{KeepsTo, KeepsWhere, ReachesHistory, Represents}
 use Rattle.file_handles.specs.declared.fault.HandleFault.{HandleFault}
 use Rattle.file_handles.specs.declared.object.Object.{Object}
 use Rattle.file_handles.specs.declared.object.Use.{Use}
@@ -39,29 +40,41 @@ let_go_by x s = without_doomed x.doomed s
 abbrev pub dropped : Object → State → State
 dropped x s = if is_none x.doomed && not (is_draft x.entry) then s else removed (object_place x) s
 
--- the writer of the slot finishes its object first, whatever the state of the machine and the marks
-abbrev pub FinishesFirst : {T : Type 0} → ℕ → Result T HandleFault → State → State → Kept → Kept → Type 0
-FinishesFirst slot answer s t before after =
-    (crash : Bool) (m : Machine) (w : Marks) → IsInWhere crash s before m w
-    → (IsTrue crash → IsSafe t (begun m (Close slot) w)) × OnOk answer (IsInWhere crash t after (finished_by m slot) (begun m (Close slot) w))
+-- the closing of the slot has begun, and its writer has finished its object
+abbrev pub closing : ℕ → History → History
+closing slot h =
+    record { machine = finished_by h.machine slot; marks = (begun (Close slot) h).marks }
+
+-- the writer of the slot finishes its object first, whatever the history
+pub record FinishesFirst {T : Type 0} (slot : ℕ) (answer : Result T HandleFault)
+    (before after : Cache) : Type 0 where
+  pub leaves : (crash : Bool) (h : History) → KeepsWhere crash before h
+      → ReachesHistory crash (closing slot h) answer after
 
 -- the slot has this place, where an object is whose file stands
-pub record MayGiveUp (slot place : ℕ) (s : State) (k : Kept) : Type 0 where
-  pub placed : option_map (λ u. u.place) (use_at k slot) ≡ Some place
-  pub there : IsSomeAnd (object_at k place) (λ x. IsSome (standing s (object_place x)))
+pub record MayGiveUp (slot place : ℕ) (now : Cache) : Type 0 where
+  pub placed : option_map (λ u. u.place) (use_at now.handles slot) ≡ Some place
+  pub there : IsSomeAnd (object_at now.handles place)
+      (λ x. IsSome (standing now.disk (object_place x)))
 
--- the slot is given up, whatever the state of the machine and the marks: it is no writer of an unfinished object
-abbrev pub GivesUp : ℕ → Result (Unit {0}) HandleFault → State → State → Kept → Kept → Type 0
-GivesUp slot answer s t before after =
-    (crash : Bool) (m : Machine) (w : Marks) → ((object_of m slot).finished ≡ false → is_writer m slot ≡ false) → IsInWhere crash s before m w
-    → (IsTrue crash → IsSafe t w) × OnOk answer (IsInWhere crash t after (released m slot) w)
+-- the slot is no writer of an unfinished object
+abbrev pub WritesNothing : Machine → ℕ → Type 0
+WritesNothing m slot = (object_of m slot).finished ≡ false → is_writer m slot ≡ false
+
+-- the slot is given up, whatever the history in which it writes nothing
+pub record GivesUp (slot : ℕ) (answer : Result (Unit {0}) DiskFault) (before after : Cache)
+    : Type 0 where
+  pub leaves : (crash : Bool) (h : History) → WritesNothing h.machine slot
+      → KeepsWhere crash before h
+      → ReachesHistory crash (record h { machine = released h.machine slot }) answer after
 
 -- the entries are those of the shelf, and no doomed file stands
 pub record IsClosed (files : Files) (m : Machine) : Type 0 where
   pub entries_are : (name : List ℕ) → entries files name ≡ get m.shelf name
   pub no_doomed : (k : ℕ) → files (Doomed k) ≡ None
 
--- all slots are given up, whatever machine the handles and the disk stand for, and whatever marks the disk keeps to
-pub record ClosesAll (answer : Result (Unit {0}) DiskFault) (s t : State) (before : Kept) : Type 0 where
-  pub closed : (m : Machine) → StandFor s before m → OnOk answer (IsClosed (standing t) m)
-  pub crash : (m : Machine) (w : Marks) → IsIn s before m w → IsSafe t w
+-- all slots are given up, whatever machine is represented, and whatever history the disk keeps to
+pub record ClosesAll (answer : Result (Unit {0}) DiskFault) (before : Cache) (t : State)
+    : Type 0 where
+  pub closed : (m : Machine) → Represents before m → OnOk answer (IsClosed (standing t) m)
+  pub crash : (h : History) → KeepsTo before h → IsSafe t h.marks

@@ -2,7 +2,7 @@
 use Rattle.std.specs.Prelude.{Bool, List, None, Option, Some, [], if◌then◌else◌, ℕ, ◌∷◌, ◌≡◌}
 use Rattle.cache_base.specs.declared.name.Name.{Name}
 use Rattle.cache_theory.specs.Command.{Command}
-use Rattle.cache_theory.specs.Command.Command.{At, Create, OpenKey, Append, Finish, SetElement, UnsetElement, ElementOf, ReadPart, Close, Doom, Get, Flush}
+use Rattle.cache_theory.specs.Command.Command.{Create, Doom}
 use Rattle.cache_theory.specs.Machine.{Machine}
 use Rattle.cache_theory.specs.Marks.{name_of_some, rewritten}
 use Rattle.entry_name.specs.EntryName.{file_name}
@@ -39,8 +39,9 @@ gone_by (Create s key) = file_name key ∷ []
 gone_by (Doom key) = file_name key ∷ []
 gone_by _ = []
 
--- the effect says of a command of the machine what the index must learn: under which name no finished entry stands any
--- more, and under which name the file of an entry that is not doomed was finished or had its metadata rewritten
+-- the effect says of a command of the machine what the index must learn: under which name no
+-- finished entry stands any more, and under which name the file of an entry that is not doomed was
+-- finished or had its metadata rewritten
 pub record IsEffectOf (m : Machine) (c : Command) (e : Effect) : Type 0 where
   pub gone : gone_in e ≡ gone_by c
   pub written : written_in e ≡ name_of_some m (rewritten m c)

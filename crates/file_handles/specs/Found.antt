@@ -1,4 +1,4 @@
--- The test part of a `get`.
+-- What a `get` finds.
 use Rattle.std.specs.Prelude.{IfOk, List, Result, Some, ℕ, ◌≡◌}
 use Rattle.cache_theory.specs.Command.Command.{Get}
 use Rattle.cache_theory.specs.Command.Reply.{Found, Refused}
@@ -11,8 +11,8 @@ use Rattle.entry_metadata.specs.Meta.{meta_of}
 use Rattle.entry_metadata.specs.declared.meta.Meta.{Meta}
 use Rattle.entry_name.specs.EntryName.{file_name}
 use Rattle.file_handles.specs.Answers.{OnRefused}
-use Rattle.file_handles.specs.Kept.{Kept}
-use Rattle.file_handles.specs.Stands.{Stands}
+use Rattle.file_handles.specs.Cache.{Cache}
+use Rattle.file_handles.specs.Stands.{Represents}
 use Rattle.file_handles.specs.declared.fault.HandleFault.{HandleFault}
 
 -- the machine finds this version, of these metadata, and its file stands
@@ -23,10 +23,12 @@ pub record IsFound (m : Machine) (key : List ℕ) (meta : Meta) (s : State) : Ty
   pub of_meta : meta_of meta ≡ version_meta version
   pub file : entries (standing s) (file_name key) ≡ Some (file_of version)
 
--- it finds what the machine finds, whatever its state
-pub record FindsIn (key : List ℕ) (answer : Result Meta HandleFault) (s : State) (m : Machine) : Type 0 where
+-- it finds what the machine finds
+pub record FindsIn (key : List ℕ) (answer : Result Meta HandleFault) (s : State) (m : Machine)
+    : Type 0 where
   pub some : IfOk answer (λ meta. IsFound m key meta s)
   pub none : OnRefused answer (λ r. (step m (Get key)).reply ≡ Refused r)
 
-abbrev pub Finds : List ℕ → Result Meta HandleFault → State → Kept → Type 0
-Finds key answer s k = (m : Machine) (number : ℕ → ℕ) → Stands (standing s) k m number → FindsIn key answer s m
+-- so it does, whatever machine is represented
+pub record Finds (key : List ℕ) (answer : Result Meta HandleFault) (now : Cache) : Type 0 where
+  pub finds : (m : Machine) → Represents now m → FindsIn key answer now.disk m

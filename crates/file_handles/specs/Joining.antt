@@ -1,4 +1,4 @@
--- A slot that begins to use an object.
+-- How a slot begins to use an object.
 use Rattle.std.specs.Prelude.{Bool, IfErr, None, OnOk, Result, Some, ℕ, ◌<◌, ◌≡◌}
 use Rattle.cache_base.specs.declared.limits.TheConstants.{SLOTS}
 use Rattle.file_handles.specs.Answers.{OnRefused}
@@ -22,8 +22,9 @@ pub record Adds (slot : ℕ) (object : Object) (writes : Bool) (before after : K
   pub free : object_at before place ≡ None
   pub joins : JoinsAt slot place writes (with_object before place (Some object)) after
 
--- nothing else is answered than want of memory
-pub record AddsTo (slot : ℕ) (object : Object) (writes : Bool) (answer : Result (Unit {0}) HandleFault) (before after : Kept) : Type 0 where
+-- so it is after an Ok, and the only fault is that memory ran out
+pub record AddsTo (slot : ℕ) (object : Object) (writes : Bool)
+    (answer : Result (Unit {0}) HandleFault) (before after : Kept) : Type 0 where
   pub added : OnOk answer (Adds slot object writes before after)
   pub refused : OnRefused answer (λ r. ⊥)
   pub memory : IfErr answer (λ f. f ≡ fault.Memory)

@@ -1,6 +1,7 @@
 pub mod Answers
 pub mod Held
 pub mod Kept
+pub mod Cache
 pub mod Stands
 pub mod Carries
 pub mod Effects

@@ -16,9 +16,10 @@ use Rattle.file_handles.specs.Kept.{Kept, object_at}
 use Rattle.file_handles.specs.declared.fault.HandleFault.{HandleFault}
 use Rattle.file_handles.specs.declared.fault.HandleFault.TheVariants as fault
 
--- these are the metadata of a file of the key that stands there, be it damaged
+-- these are the metadata of the file of the key that stands there, even if it is damaged
 abbrev pub IsMetaFor : List ℕ → Option (List ℕ) → Meta → Type 0
-IsMetaFor key file meta = IsSomeAnd file (λ c. (fits (file_name key) c ≡ true) × (((file_meta c).key ≡ key) × (meta_of meta ≡ file_meta c)))
+IsMetaFor key file meta = IsSomeAnd file (λ c. (fits (file_name key) c ≡ true)
+    × (((file_meta c).key ≡ key) × (meta_of meta ≡ file_meta c)))
 
 -- the metadata of what is read, or why there is none
 abbrev pub LoadsAs : Reading → Result Meta HandleFault → Type 0
@@ -31,13 +32,18 @@ LoadsAs Nothing (Err (fault.Refused r)) = r ≡ refused.Absent
 LoadsAs r (Err fault.Disk) = ⊤
 LoadsAs r (Err fault.Memory) = ⊤
 
+-- the place of the undoomed object in use of a name
+abbrev pub user_place : Kept → Name → Option ℕ
+user_place k name = position (is_user name) k.objects
+
 -- the place, if the object there has the key
 abbrev pub if_key : Kept → List ℕ → ℕ → Option ℕ
-if_key k key p = option_and_then (λ x. if bytes_eq (key_in x.entry) key then Some p else None) (object_at k p)
+if_key k key p =
+    option_and_then (λ x. if bytes_eq (key_in x.entry) key then Some p else None) (object_at k p)
 
--- the place of the undoomed object in use of a name that has the key
+-- the place of the undoomed object in use of a name, if it has the key
 abbrev pub used_place : Kept → Name → List ℕ → Option ℕ
-used_place k name key = option_and_then (if_key k key) (position (is_user name) k.objects)
+used_place k name key = option_and_then (if_key k key) (user_place k name)
 
 -- it is a draft
 abbrev pub is_draft_at : Kept → ℕ → Bool

@@ -1,5 +1,5 @@
 -- Commands that the machine refuses, and those that it does not, as the handles alone tell.
-use Rattle.std.specs.Prelude.{None, Option, Some, option_map, ℕ, ◌<◌, ◌≡◌}
+use Rattle.std.specs.Prelude.{IsSomeAnd, None, Option, Some, option_map, ℕ, ◌<◌, ◌≡◌}
 use Rattle.cache_base.specs.Checks.{first_failing}
 use Rattle.cache_base.specs.declared.limits.TheConstants.{SLOTS}
 use Rattle.cache_theory.specs.Checks.{checks}
@@ -13,7 +13,9 @@ use Rattle.file_handles.specs.declared.object.Object.{Object}
 
 -- whatever machine the handles stand for, its checks of the command end so
 abbrev pub EndsIn : Kept → Command → Option Refusal → Type 0
-EndsIn k c end = (m : Machine) (number : ℕ → ℕ) → IsProper m → HandlesStand k m number → first_failing (checks m c) ≡ end
+EndsIn k c end =
+    (m : Machine) (number : ℕ → ℕ) → IsProper m → HandlesStand k m number
+    → first_failing (checks m c) ≡ end
 
 abbrev pub Refuses : Kept → Command → Refusal → Type 0
 Refuses k c r = EndsIn k c (Some r)
@@ -26,3 +28,7 @@ pub record HasAt (k : Kept) (s p : ℕ) (x : Object) : Type 0 where
   pub ranged : p < SLOTS
   pub place : option_map (λ u. u.place) (use_at k s) ≡ Some p
   pub found : object_at k p ≡ Some x
+
+-- the slot has this place, and the object there is P
+abbrev pub UsesObject : Kept → ℕ → ℕ → (Object → Type 0) → Type 0
+UsesObject k s p P = IsSomeAnd (object_at k p) (λ x. HasAt k s p x × P x)

@@ -23,13 +23,16 @@ with_change c v = record v { elements = changed_by c v.elements }
 -- the entry has room for these elements
 abbrev pub HasRoom : Entry → List Element → Type 0
 HasRoom (entry.Draft d) es = length (elements_bytes es) ≤ ELEMENTS_MAX
-HasRoom (entry.Finished meta) es = block_length (length meta.hashes) (length meta.key) (length (elements_bytes es)) ≤ BLOCK_MAX
+HasRoom (entry.Finished meta) es =
+    block_length (length meta.hashes) (length meta.key) (length (elements_bytes es)) ≤ BLOCK_MAX
 
 -- the elements are small, and so is the block of the entry with them
 abbrev pub are_small : Entry → List Element → Bool
 are_small x es =
     nat_le (length (elements_bytes es)) ELEMENTS_MAX
-    && nat_le (block_length (chunks (body_len_in x)) (length (key_in x)) (length (elements_bytes es))) BLOCK_MAX
+    && nat_le
+    (block_length (chunks (body_len_in x)) (length (key_in x)) (length (elements_bytes es)))
+    BLOCK_MAX
 
 -- a length that is small
 abbrev pub small_len : ℕ → Option ℕ

@@ -1,13 +1,14 @@
 -- The handles and the disk as the machine has them.
-use Rattle.std.specs.Prelude.{Bool, IsSome, IsTrue, Some, option_map, ℕ, ◌<◌, ◌≡◌}
+use Rattle.std.specs.Prelude.{Bool, IsSome, IsTrue, OnOk, Result, Some, option_map, ℕ, ◌<◌, ◌≡◌}
 use Rattle.cache_base.specs.declared.limits.TheConstants.{SLOTS}
-use Rattle.cache_theory.specs.Crash.{IsCrashKept}
+use Rattle.cache_theory.specs.Crash.{IsCrashKept, IsSafe}
+use Rattle.cache_theory.specs.History.{History}
 use Rattle.cache_theory.specs.Machine.{Machine, Slot, object}
-use Rattle.cache_theory.specs.Marks.{Marks}
 use Rattle.cache_theory.specs.Proper.{IsInUse, IsProper}
 use Rattle.cache_theory.specs.Stands.{DoomedStand, EntriesStand}
 use Rattle.disk_model.specs.Image.{Files}
-use Rattle.disk_model.specs.State.{State, standing}
+use Rattle.disk_model.specs.State.{standing}
+use Rattle.file_handles.specs.Cache.{Cache}
 use Rattle.file_handles.specs.Held.{IsHeldAs}
 use Rattle.file_handles.specs.Kept.{Kept, object_at, use_at}
 use Rattle.file_handles.specs.declared.object.Object.{Object}
@@ -27,7 +28,8 @@ pub record HandlesStand (k : Kept) (m : Machine) (number : ℕ → ℕ) : Type 0
   pub slots : (s : ℕ) → s < SLOTS → m.slots s ≡ option_map (slot_of number) (use_at k s)
   pub used : (s : ℕ) (u : Use) → use_at k s ≡ Some u → IsSome (object_at k u.place)
   pub objects : (p : ℕ) (x : Object) → object_at k p ≡ Some x → IsObjectOf m (number p) x
-  pub apart : (p q : ℕ) (x y : Object) → object_at k p ≡ Some x → object_at k q ≡ Some y → number p ≡ number q → p ≡ q
+  pub apart : (p q : ℕ) (x y : Object) → object_at k p ≡ Some x → object_at k q ≡ Some y
+      → number p ≡ number q → p ≡ q
 
 -- the machine's object of a number has this number among the doomed
 pub record IsAt (k : Kept) (number : ℕ → ℕ) (doomed i : ℕ) : Type 0 where
@@ -44,22 +46,30 @@ pub record Stands (files : Files) (k : Kept) (m : Machine) (number : ℕ → ℕ
   pub entries : EntriesStand files m
   pub doomed : DoomedStand files m (IsAt k number)
 
--- so are they for some numbers
-abbrev pub StandFor : State → Kept → Machine → Type 0
-StandFor s k m = (number : ℕ → ℕ) × Stands (standing s) k m number
+-- the handles and the files represent the machine
+abbrev pub Represents : Cache → Machine → Type 0
+Represents now m = (number : ℕ → ℕ) × Stands (standing now.disk) now.handles m number
 
--- so are they, and the disk keeps what these marks ask for
-pub record IsIn (s : State) (k : Kept) (m : Machine) (w : Marks) : Type 0 where
+-- they represent the machine of the history, and the disk keeps what its marks ask for
+pub record KeepsTo (now : Cache) (h : History) : Type 0 where
   pub number : ℕ → ℕ
-  pub stands : Stands (standing s) k m number
-  pub crash_kept : IsCrashKept s m w (IsAt k number)
+  pub stands : Stands (standing now.disk) now.handles h.machine number
+  pub crash_kept : IsCrashKept now.disk h.machine h.marks (IsAt now.handles number)
 
--- so are they, and where a crash is spoken of the disk keeps what the marks ask for
-pub record IsInWhere (crash : Bool) (s : State) (k : Kept) (m : Machine) (w : Marks) : Type 0 where
+-- they represent the machine of the history, and where a crash is spoken of the disk keeps what its
+-- marks ask for
+pub record KeepsWhere (crash : Bool) (now : Cache) (h : History) : Type 0 where
   pub number : ℕ → ℕ
-  pub stands : Stands (standing s) k m number
-  pub crash_kept : IsTrue crash → IsCrashKept s m w (IsAt k number)
+  pub stands : Stands (standing now.disk) now.handles h.machine number
+  pub crash_kept : IsTrue crash → IsCrashKept now.disk h.machine h.marks (IsAt now.handles number)
 
--- there is a machine that they are
-abbrev pub StandsSomehow : State → Kept → Type 0
-StandsSomehow s k = (m : Machine) × StandFor s k m
+-- a call leaves this history: a crash at any exit may lose no more than its marks allow, and after
+-- an Ok the disk keeps to it
+pub record ReachesHistory {T E : Type 0} (crash : Bool) (h : History) (answer : Result T E) (after : Cache)
+    : Type 0 where
+  pub safe : IsTrue crash → IsSafe after.disk h.marks
+  pub next : OnOk answer (KeepsWhere crash after h)
+
+-- they represent some machine
+abbrev pub RepresentsSome : Cache → Type 0
+RepresentsSome now = (m : Machine) × Represents now m

@@ -1,21 +1,21 @@
-//! The elements of an entry in use.
+//! Reads and changes the elements of an entry in use.
 
-ghost use Rattle.std.specs.Prelude.{ℕ, List, None, Some, true, ◌+◌, ◌≡◌, ◌<◌, ◌≤◌, not, IfErr, IfNone, IfOk, IfSome, IsErrOf, IsSomeAnd, IsTrue, OnOk, length, option_map};
-ghost use Rattle.cache_base.specs.Causes.{HasCause};
+ghost use Rattle.std.specs.Prelude.{ℕ, List, None, Some, true, ◌+◌, ◌≡◌, ◌<◌, ◌≤◌, not, IfErr, IfNone, IfOk, IfSome, IsSomeAnd, IsTrue, OnOk, length, option_map};
 ghost use Rattle.cache_base.specs.Limits.{chunks as chunks_of};
 ghost use Rattle.cache_base.specs.declared.limits.TheConstants.{ELEMENTS_MAX, SLOTS};
 ghost use Rattle.cache_theory.specs.Command.Command.{ElementOf, SetElement, UnsetElement};
 ghost use Rattle.cache_theory.specs.Command.Reply.{Refused};
 ghost use Rattle.cache_theory.specs.Step.{element_reply};
-ghost use Rattle.disk_model.specs.Calls.{StopsAtFault};
-ghost use Rattle.disk_model.specs.State.{State};
+ghost use Rattle.disk_model.specs.Account.{Accounts};
+ghost use Rattle.disk_model.specs.Told.{Told};
 ghost use Rattle.entry_metadata.specs.Metadata.{block_length};
 ghost use Rattle.entry_parts.specs.Elements.{elements_bytes};
 ghost use Rattle.entry_parts.specs.Setting.{has_zero as has_zero_in, with_element};
-ghost use Rattle.file_handles.specs.Answers.{OnRefused, done_or, done_or_none};
+ghost use Rattle.file_handles.specs.Answers.{OnRefused, done_or, done_or_none, ending};
 ghost use Rattle.file_handles.specs.Effects.{HasEffect, wrote_where};
 ghost use Rattle.file_handles.specs.Held.{body_len_in, elements_in, is_draft, key_in};
 ghost use Rattle.file_handles.specs.Setting.{HasRoom, are_small, changed_by, small_len, with_change};
+ghost use Rattle.index_theory.specs.Leaves.{LeavesIndex};
 
 use crate::object::{Draft, Entry, Object};
 use crate::{Effect, HandleFault, Handles};
@@ -40,9 +40,10 @@ fn has_zero(b: &[u8]) -> bool
     b.contains(&0)
 }
 
-// The length of the elements without the first of the name, where there is one.
+// The length of the elements without the first of the name, if there is one.
 fn len_without(elements: &Elements, name: &[u8]) -> usize
-    ensures { (value : List ℕ) → length (elements_bytes (with_element name.now value elements.now)) ≡ result + length name.now + length value + 2 }
+    ensures { (value : List ℕ) → length (elements_bytes (with_element name.now value elements.now))
+        ≡ result + length name.now + length value + 2 }
 {
     match elements.get(name) {
         Some(old) => elements.len() - old.len() - name.len() - 2,
@@ -50,9 +51,10 @@ fn len_without(elements: &Elements, name: &[u8]) -> usize
     }
 }
 
-// The length of the elements with one set, where it is at most `ELEMENTS_MAX`.
+// The length of the elements with this one set, if it is at most `ELEMENTS_MAX`.
 fn len_with(elements: &Elements, name: &[u8], value: &[u8]) -> Option<usize>
-    ensures { result ≡ small_len (length (elements_bytes (with_element name.now value.now elements.now))) }
+    ensures { result ≡ small_len
+        (length (elements_bytes (with_element name.now value.now elements.now))) }
 {
     let kept = len_without(elements, name);
     if kept > ELEMENTS_MAX || name.len() > ELEMENTS_MAX || value.len() > ELEMENTS_MAX {
@@ -65,7 +67,8 @@ fn len_with(elements: &Elements, name: &[u8], value: &[u8]) -> Option<usize>
 // The length of the block of an entry with so many bytes of elements.
 fn block_with(entry: &Entry, elements: usize) -> usize
     requires { elements ≤ ELEMENTS_MAX }
-    ensures { result ≡ block_length (chunks_of (body_len_in entry.now)) (length (key_in entry.now)) elements }
+    ensures { result ≡ block_length
+        (chunks_of (body_len_in entry.now)) (length (key_in entry.now)) elements }
 {
     let (hashes, key) = match entry {
         Entry::Draft(draft) => (
@@ -77,7 +80,7 @@ fn block_with(entry: &Entry, elements: usize) -> usize
     4 + 2 * hashes + 32 + key + 1 + elements
 }
 
-// Whether the entry may have its elements with this one set.
+// Whether the entry has room for its elements with this one set.
 fn may_have(entry: &Entry, elements: &Elements, name: &[u8], value: &[u8]) -> bool
     ensures { result ≡ are_small entry.now (with_element name.now value.now elements.now) }
 {
@@ -108,8 +111,10 @@ fn changed(elements: Elements, change: Change<'_>) -> Result<Elements, NoMemory>
 // The draft after the change.
 fn changed_draft(draft: Draft, change: Change<'_>) -> Result<Draft, NoMemory>
     requires { length (elements_bytes (changed_by change draft.elements)) ≤ ELEMENTS_MAX }
-    ensures elements { IfOk result (λ after. after.elements ≡ changed_by change.entry draft.elements) }
-    ensures others { IfOk result (λ after. (after.body ≡ draft.body) × ((after.header ≡ draft.header) × (after.key ≡ draft.key))) }
+    ensures elements { IfOk result (λ after.
+        after.elements ≡ changed_by change.entry draft.elements) }
+    ensures others { IfOk result (λ after. (after.body ≡ draft.body)
+        × ((after.header ≡ draft.header) × (after.key ≡ draft.key))) }
 {
     let Draft {
         body,
@@ -129,8 +134,10 @@ fn changed_draft(draft: Draft, change: Change<'_>) -> Result<Draft, NoMemory>
 // The metadata after the change.
 fn changed_meta(meta: Meta, change: Change<'_>) -> Result<Meta, NoMemory>
     requires { HasRoom (Entry.Finished meta) (changed_by change meta.elements) }
-    ensures elements { IfOk result (λ after. after.elements ≡ changed_by change.entry meta.elements) }
-    ensures others { IfOk result (λ after. (after.header ≡ meta.header) × ((after.key ≡ meta.key) × ((after.hashes ≡ meta.hashes) × (after.offset ≡ meta.offset)))) }
+    ensures elements { IfOk result (λ after.
+        after.elements ≡ changed_by change.entry meta.elements) }
+    ensures others { IfOk result (λ after. (after.header ≡ meta.header) × ((after.key ≡ meta.key)
+        × ((after.hashes ≡ meta.hashes) × (after.offset ≡ meta.offset)))) }
 {
     let Meta {
         header,
@@ -149,7 +156,7 @@ fn changed_meta(meta: Meta, change: Change<'_>) -> Result<Meta, NoMemory>
     })
 }
 
-// What an index must learn where the elements of an entry changed.
+// What an index must learn after the elements of an entry changed.
 fn rewrote(object: &Object) -> Effect
     ensures { result ≡ wrote_where (λ x. not (is_draft x.entry)) (Some object.now) }
 {
@@ -160,19 +167,24 @@ fn rewrote(object: &Object) -> Effect
 }
 
 impl Handles {
-    ghost use Rattle.file_handles.specs.Carries.{CarriesOut};
+    ghost use Rattle.file_handles.specs.Cache.{cache};
+    ghost use Rattle.file_handles.specs.Carries.{Answers, CarriesOut};
     ghost use Rattle.file_handles.specs.Changes.{ChangesThere, IsFiledAt, with_version};
     ghost use Rattle.file_handles.specs.Kept.{kept, object_at as object_kept_at, object_in};
-    ghost use Rattle.file_handles.specs.Refuses.{HasAt, Passes, Refuses};
-    ghost use Rattle.file_handles.specs.Stands.{StandsSomehow};
+    ghost use Rattle.file_handles.specs.Refuses.{HasAt, Passes, Refuses, UsesObject};
+    ghost use Rattle.file_handles.specs.Stands.{RepresentsSome};
 
     // The place of the object whose elements a slot may change.
     fn may_change(&self, slot: u8) -> Result<usize, Refusal>
         requires { slot < SLOTS }
-        ensures refused { IfErr result (λ r. (name : List ℕ) → Refuses (kept self.now) (UnsetElement slot name) r) }
-        ensures refused_set { IfErr result (λ r. (name value : List ℕ) → Refuses (kept self.now) (SetElement slot name value) r) }
-        ensures passes { OnOk result ((name : List ℕ) → Passes (kept self.now) (UnsetElement slot name)) }
-        ensures object { IfOk result (λ place. IsSomeAnd (object_kept_at (kept self.now) place) (HasAt (kept self.now) slot place)) }
+        ensures refused { IfErr result (λ r. (name : List ℕ) →
+            Refuses (kept self.now) (UnsetElement slot name) r) }
+        ensures refused_set { IfErr result (λ r. (name value : List ℕ) →
+            Refuses (kept self.now) (SetElement slot name value) r) }
+        ensures passes { OnOk result ((name : List ℕ) →
+            Passes (kept self.now) (UnsetElement slot name)) }
+        ensures object { IfOk result (λ place.
+            IsSomeAnd (object_kept_at (kept self.now) place) (HasAt (kept self.now) slot place)) }
     {
         let used = self.use_of(slot)?;
         match self.object_at(used.place)?.entry {
@@ -184,10 +196,11 @@ impl Handles {
     // The place of the object whose element a slot may set.
     fn may_set(&self, slot: u8, name: &[u8], value: &[u8]) -> Result<usize, Refusal>
         requires { slot < SLOTS }
-        ensures refused { IfErr result (λ r. Refuses (kept self.now) (SetElement slot name.now value.now) r) }
+        ensures refused { IfErr result (λ r.
+            Refuses (kept self.now) (SetElement slot name.now value.now) r) }
         ensures passes { OnOk result (Passes (kept self.now) (SetElement slot name.now value.now)) }
-        ensures object { IfOk result (λ place. IsSomeAnd (object_kept_at (kept self.now) place) (λ x. HasAt (kept self.now) slot place x
-            × HasRoom x.entry (with_element name.now value.now (elements_in x.entry)))) }
+        ensures object { IfOk result (λ place. UsesObject (kept self.now) slot place
+            (λ x. HasRoom x.entry (with_element name.now value.now (elements_in x.entry)))) }
     {
         let place = self.may_change(slot)?;
         if name.is_empty() || has_zero(name) || has_zero(value) {
@@ -201,7 +214,7 @@ impl Handles {
         }
     }
 
-    // Changes the elements of the object at a place. The metadata of a finished entry are written anew.
+    // Changes the elements of the object at a place. The metadata of a finished entry are rewritten.
     fn change_at<D: Disk>(
         &mut self,
         alloc: Global,
@@ -210,17 +223,20 @@ impl Handles {
         change: Change<'_>,
     ) -> Result<Effect, HandleFault>
         requires place { place < SLOTS }
-        requires room { IfSome (object_kept_at (kept self.old) place) (λ x. HasRoom x.entry (changed_by change (elements_in x.entry))) }
-        requires told { IsTrue D.tells → IsFiledAt (D.state disk.old) (kept self.old) place }
-        ensures changes { IsTrue D.tells → ChangesThere place (with_version (with_change change.entry)) result (D.state disk.old) (D.state disk.new) (kept self.old) (kept self.new) }
-        ensures quiet { IsTrue D.tells → IfSome (object_kept_at (kept self.old) place) (λ x. is_draft x.entry ≡ true → D.state disk.new ≡ D.state disk.old) }
-        ensures effect { IfOk result (λ effect. effect ≡ wrote_where (λ x. not (is_draft x.entry)) (object_kept_at (kept self.old) place)) }
-        ensures refused { OnRefused result (λ _. object_kept_at (kept self.old) place ≡ None) }
-        ensures went_on { OnOk result (IsTrue D.tells → (D.counts disk.new).failed ≡ (D.counts disk.old).failed) }
-        ensures stops { IsTrue D.tells → StopsAtFault (D.counts disk.old) (D.counts disk.new) }
-        ensures cause { HasCause (IsErrOf result HandleFault.Disk) (D.faults disk.old) (D.faults disk.new) }
+        requires room { IsSomeAnd (object_kept_at (kept self.old) place)
+            (λ x. HasRoom x.entry (changed_by change (elements_in x.entry))) }
+        requires told { IsTrue D.tells → IsFiledAt (cache D.Disk self.old disk.old) place }
+        ensures changes { let at = cache D.Disk in IsTrue D.tells →
+            ChangesThere place (with_version (with_change change.entry)) result
+            (at self.old disk.old) (at self.new disk.new) }
+        ensures quiet { IsTrue D.tells → IfSome (object_kept_at (kept self.old) place)
+            (λ x. is_draft x.entry ≡ true → D.state disk.new ≡ D.state disk.old) }
+        ensures effect { IfOk result (λ effect. effect ≡ wrote_where
+            (λ x. not (is_draft x.entry)) (object_kept_at (kept self.old) place)) }
+        ensures refused { OnRefused result (λ _. ⊥) }
+        ensures account { Accounts D.Disk (ending result) disk.old disk.new }
     {
-        let object = self.take(place)?;
+        let object = self.take(place);
         let file = object.file_place();
         let effect = rewrote(&object);
         let Object {
@@ -236,19 +252,12 @@ impl Handles {
                 Entry::Finished(meta)
             }
         };
-        self.put(
-            place,
-            Object {
-                name,
-                doomed,
-                entry,
-            },
-        );
+        self.put_entry(place, name, doomed, entry);
         Ok(effect)
     }
 
-    /// Sets the value of the first element of the name in its place, or adds the element at the end. The metadata of a
-    /// finished entry are written anew.
+    /// Sets the value of the first element of the name, or adds the element at the end. The metadata of a finished
+    /// entry are rewritten.
     pub fn set_element<D: Disk>(
         &mut self,
         alloc: Global,
@@ -258,21 +267,22 @@ impl Handles {
         value: &[u8],
     ) -> Result<Effect, HandleFault>
         requires slot { slot < SLOTS }
-        requires told { IsTrue D.tells → StandsSomehow (D.state disk.old) (kept self.old) }
-        ensures carried { IsTrue D.tells → CarriesOut (SetElement slot name.now value.now) (done_or result) (D.state disk.old) (D.state disk.new) (kept self.old) (kept self.new) }
-        ensures effect { IfOk result (HasEffect (kept self.old) (SetElement slot name.now value.now)) }
-        ensures went_on { OnOk result (IsTrue D.tells → (D.counts disk.new).failed ≡ (D.counts disk.old).failed) }
+        requires told { IsTrue D.tells → RepresentsSome (cache D.Disk self.old disk.old) }
+        ensures carried { let at = cache D.Disk in IsTrue D.tells →
+            CarriesOut (SetElement slot name.now value.now) (done_or result)
+            (at self.old disk.old) (at self.new disk.new) }
+        ensures effect { IfOk result
+            (HasEffect (kept self.old) (SetElement slot name.now value.now)) }
         ensures unchanged { OnRefused result (λ _. disk.new ≡ disk.old) }
-        ensures refused_on { OnRefused result (λ _. IsTrue D.tells → (D.counts disk.new).failed ≡ (D.counts disk.old).failed) }
-        ensures stops { IsTrue D.tells → StopsAtFault (D.counts disk.old) (D.counts disk.new) }
-        ensures cause { HasCause (IsErrOf result HandleFault.Disk) (D.faults disk.old) (D.faults disk.new) }
+        ensures index { Told D.Disk LeavesIndex disk.old disk.new }
+        ensures account { Accounts D.Disk (ending result) disk.old disk.new }
     {
         let place = self.may_set(slot, name, value)?;
         self.change_at(alloc, disk, place, Change::Set { name, value })
     }
 
-    /// Removes the first element of the name, or answers none where there is none. The metadata of a finished entry are
-    /// written anew.
+    /// Removes the first element of the name, or answers none if there is none. The metadata of a finished entry are
+    /// rewritten.
     pub fn unset_element<D: Disk>(
         &mut self,
         alloc: Global,
@@ -281,15 +291,16 @@ impl Handles {
         name: &[u8],
     ) -> Result<Option<Effect>, HandleFault>
         requires slot { slot < SLOTS }
-        requires told { IsTrue D.tells → StandsSomehow (D.state disk.old) (kept self.old) }
-        ensures carried { IsTrue D.tells → CarriesOut (UnsetElement slot name.now) (done_or_none result) (D.state disk.old) (D.state disk.new) (kept self.old) (kept self.new) }
-        ensures effect { IfOk result (λ some. IfSome some (HasEffect (kept self.old) (UnsetElement slot name.now))) }
-        ensures went_on { OnOk result (IsTrue D.tells → (D.counts disk.new).failed ≡ (D.counts disk.old).failed) }
+        requires told { IsTrue D.tells → RepresentsSome (cache D.Disk self.old disk.old) }
+        ensures carried { let at = cache D.Disk in IsTrue D.tells →
+            CarriesOut (UnsetElement slot name.now) (done_or_none result)
+            (at self.old disk.old) (at self.new disk.new) }
+        ensures effect { IfOk result (λ some.
+            IfSome some (HasEffect (kept self.old) (UnsetElement slot name.now))) }
         ensures unchanged { OnRefused result (λ _. disk.new ≡ disk.old) }
         ensures none_there { IfOk result (λ effect. IfNone effect (disk.new ≡ disk.old)) }
-        ensures refused_on { OnRefused result (λ _. IsTrue D.tells → (D.counts disk.new).failed ≡ (D.counts disk.old).failed) }
-        ensures stops { IsTrue D.tells → StopsAtFault (D.counts disk.old) (D.counts disk.new) }
-        ensures cause { HasCause (IsErrOf result HandleFault.Disk) (D.faults disk.old) (D.faults disk.new) }
+        ensures index { Told D.Disk LeavesIndex disk.old disk.new }
+        ensures account { Accounts D.Disk (ending result) disk.old disk.new }
     {
         let place = self.may_change(slot)?;
         if self.object_at(place)?.elements().get(name).is_none() {
@@ -302,8 +313,10 @@ impl Handles {
     /// The value of the first element of the name, or none. It takes no memory.
     pub fn element(&self, slot: u8, name: &[u8]) -> Result<Option<&[u8]>, Refusal>
         requires { slot < SLOTS }
-        ensures found { IfOk result (λ value. (s : State) → CarriesOut (ElementOf slot name.now) (Some (element_reply (option_map (λ bytes. bytes.now) value))) s s (kept self.now) (kept self.now)) }
-        ensures refused { IfErr result (λ r. (s : State) → CarriesOut (ElementOf slot name.now) (Some (Refused r)) s s (kept self.now) (kept self.now)) }
+        ensures found { IfOk result (λ value. Answers (kept self.now) (ElementOf slot name.now)
+            (element_reply (option_map (λ bytes. bytes.now) value))) }
+        ensures refused { IfErr result (λ r.
+            Answers (kept self.now) (ElementOf slot name.now) (Refused r)) }
     {
         let used = self.use_of(slot)?;
         let object = self.object_at(used.place)?;

@@ -1,16 +1,16 @@
 //! The table of entries in use, and of the slots that use them.
 
-ghost use Rattle.std.specs.Prelude.{◌≡◌, ◌<◌, EachIndex, IfErr, IfOk, None, Some, slice_index_or};
+ghost use Rattle.std.specs.Prelude.{◌≡◌, ◌<◌, EachIndex, IfErr, IfOk, IsSome, None, Some, slice_index_or};
 ghost use Rattle.std.specs.List.{position};
 ghost use Rattle.cache_base.specs.declared.limits.TheConstants.{SLOTS};
 ghost use Rattle.file_handles.specs.Finding.{is_free, is_user};
 
-use crate::object::{Object, Use};
+use crate::object::{Entry, Object, Use};
 use cache_base::{Buffer, Name, NoMemory, SLOTS};
 use cache_theory::{Refusal, opens_proper};
 use std::alloc::Global;
 
-/// The entries in use. After an answer `Disk` or `Memory` of a call that changes them they may only be dropped.
+/// The entries in use. After a call that changes them has answered `Disk` or `Memory` they may only be dropped.
 #[derive(Drop)]
 pub struct Handles {
     pub(crate) objects: [Option<Object>; SLOTS],
@@ -21,9 +21,11 @@ pub struct Handles {
 
 impl Handles {
     ghost use Rattle.file_handles.specs.Carries.{Begins};
+    ghost use Rattle.file_handles.specs.Held.{object_with};
     ghost use Rattle.file_handles.specs.Kept.{kept, object_at as object_kept_at, use_at, used as used_or, with_object, writing as writing_or};
+    ghost use Rattle.file_handles.specs.Loading.{user_place};
 
-    /// No entry is in use. The memory for a chunk is taken here.
+    /// Handles with no entry in use. The memory for a chunk is taken here.
     pub fn new(alloc: Global) -> Result<Handles, NoMemory>
         ensures { IfOk result (λ handles. Begins (kept handles)) }
     {
@@ -35,7 +37,7 @@ impl Handles {
         })
     }
 
-    /// What a slot has.
+    /// The use of a slot.
     pub(crate) fn use_of(&self, slot: u8) -> Result<Use, Refusal>
         requires { slot < SLOTS }
         ensures { result ≡ used_or (use_at (kept self.now) slot) }
@@ -46,7 +48,7 @@ impl Handles {
         }
     }
 
-    /// What a slot has that writes.
+    /// The use of a slot, if it writes.
     pub(crate) fn writing(&self, slot: u8) -> Result<Use, Refusal>
         requires { slot < SLOTS }
         ensures { result ≡ writing_or (use_at (kept self.now) slot) }
@@ -59,10 +61,11 @@ impl Handles {
         }
     }
 
-    /// The object at a place. That there is none is answered as for a slot that is not in use.
+    /// The object at a place. A place without one is answered as a slot that is not in use.
     pub(crate) fn object_at(&self, place: usize) -> Result<&Object, Refusal>
         requires { place < SLOTS }
-        ensures found { IfOk result (λ object. object_kept_at (kept self.now) place ≡ Some object.now) }
+        ensures found { IfOk result (λ object.
+            object_kept_at (kept self.now) place ≡ Some object.now) }
         ensures none { IfErr result (λ _. object_kept_at (kept self.now) place ≡ None) }
     {
         match &self.objects[place] {
@@ -71,16 +74,25 @@ impl Handles {
         }
     }
 
-    /// Takes the object at a place out of the table.
-    pub(crate) fn take(&mut self, place: usize) -> Result<Object, Refusal>
+    /// Takes what is at a place out of the table.
+    pub(crate) fn take_any(&mut self, place: usize) -> Option<Object>
         requires { place < SLOTS }
-        ensures found { IfOk result (λ object. object_kept_at (kept self.old) place ≡ Some object) }
-        ensures none { IfErr result (λ _. object_kept_at (kept self.old) place ≡ None) }
+        ensures found { result ≡ object_kept_at (kept self.old) place }
         ensures kept { kept self.new ≡ with_object (kept self.old) place None }
     {
-        match self.objects[place].take() {
-            Some(object) => Ok(object),
-            None => Err(Refusal::NoSlot),
+        self.objects[place].take()
+    }
+
+    /// Takes the object at a place out of the table.
+    pub(crate) fn take(&mut self, place: usize) -> Object
+        requires place { place < SLOTS }
+        requires there { IsSome (object_kept_at (kept self.old) place) }
+        ensures found { object_kept_at (kept self.old) place ≡ Some result }
+        ensures kept { kept self.new ≡ with_object (kept self.old) place None }
+    {
+        match self.take_any(place) {
+            Some(object) => object,
+            None => unreachable!(),
         }
     }
 
@@ -92,6 +104,22 @@ impl Handles {
         self.objects[place] = Some(object);
     }
 
+    /// Puts an object of these parts at a place.
+    pub(crate) fn put_entry(&mut self, place: usize, name: Name, doomed: Option<u32>, entry: Entry)
+        requires { place < SLOTS }
+        ensures { kept self.new
+            ≡ with_object (kept self.old) place (Some (object_with name doomed entry)) }
+    {
+        self.put(
+            place,
+            Object {
+                name,
+                doomed,
+                entry,
+            },
+        );
+    }
+
     /// The first place that no object has.
     pub(crate) fn free_place(&self) -> Option<usize>
         ensures { result ≡ position is_free (kept self.now).objects }
@@ -101,7 +129,7 @@ impl Handles {
 
     /// The place of the undoomed object in use of a name.
     pub(crate) fn user(&self, name: &Name) -> Option<usize>
-        ensures { result ≡ position (is_user name.now) (kept self.now).objects }
+        ensures { result ≡ user_place (kept self.now) name.now }
     {
         self.objects
             .iter()

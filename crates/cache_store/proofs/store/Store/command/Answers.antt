@@ -1,35 +1,35 @@
 use Rattle.std.proofs.Common.{ap}
 use Rattle.cache_script.specs.Command.{command_of}
-use Rattle.cache_store.proofs.PerformSafe.{performs_open, performs_safely, performs_sink_open}
+use Rattle.cache_store.specs.Said.{saying}
+use Rattle.cache_store.specs.Session.{open_of, session}
+use Rattle.cache_store.proofs.PerformSafe.{performs_open, performs_safely}
 use Rattle.cache_store.proofs.PerformWhole.{does_performs, fails_performs}
 use Rattle.cache_store.proofs.PrintedLaws.{prints_outcome}
 use Rattle.cache_store.proofs.store.Store.command.Goals as goal
 
 pub returns-in_err-answered-clause-performs : goal.returns-in_err-answered-clause-performs
 returns-in_err-answered-clause-performs g c = λ told.
-    fails_performs (command_of c.args.c.now) c.in_err-answered.field-0.0 c.from_residual.result _ _ _ _ _ _ _ c.from_residual.ensures.1 (c.in_err-answered.ensures.does told)
+    fails_performs (command_of c.args.c.now) c.in_err-answered.field-0.0 c.from_residual.result _ _ _ _ c.from_residual.ensures.1 (c.in_err-answered.ensures.does told)
 
 pub returns-clause-performs : goal.returns-clause-performs
 returns-clause-performs g c = λ told.
-    does_performs (command_of c.args.c.now) c.in_ok-answered.answered c.finish_reply.result _ _ _ _ _ _ _ _ _ c.finish_reply.ensures.printed c.finish_reply.ensures.cut c.finish_reply.ensures.outcome
+    does_performs (command_of c.args.c.now) c.in_ok-answered.answered c.finish_reply.result _ (session g.D.Disk c.perform.new.self c.perform.new.disk) (open_of c.finish_reply.new.self) _
+    (saying g.K.Sink c.perform.new.self.reply c.perform.new.sink) (g.K.Sink.taken c.finish_reply.new.sink) c.finish_reply.ensures.printed c.finish_reply.ensures.cut c.finish_reply.ensures.outcome
     c.finish_reply.ensures.open (c.in_ok-answered.ensures.does told)
 
 pub returns-in_err-answered-clause-crash : goal.returns-in_err-answered-clause-crash
-returns-in_err-answered-clause-crash g c = λ told. performs_safely (command_of c.args.c.now) _ _ _ _ _ _ c.from_residual.result (returns-in_err-answered-clause-performs g c told)
+returns-in_err-answered-clause-crash g c = λ told. performs_safely (command_of c.args.c.now) _ _ _ _ c.from_residual.result (returns-in_err-answered-clause-performs g c told)
 
 pub returns-clause-crash : goal.returns-clause-crash
-returns-clause-crash g c = λ told. performs_safely (command_of c.args.c.now) _ _ _ _ _ _ c.finish_reply.result (returns-clause-performs g c told)
+returns-clause-crash g c = λ told. performs_safely (command_of c.args.c.now) _ _ _ _ c.finish_reply.result (returns-clause-performs g c told)
+
+pub returns-in_err-answered-clause-open : goal.returns-in_err-answered-clause-open
+returns-in_err-answered-clause-open g c = λ told. performs_open (command_of c.args.c.now) _ _ _ _ c.from_residual.result (c.requires.told told) (returns-in_err-answered-clause-performs g c told)
 
 pub returns-clause-open : goal.returns-clause-open
-returns-clause-open g c = performs_open (command_of c.args.c.now) _ _ _ _ _ _ c.finish_reply.result c.requires.told (returns-clause-performs g c)
-
-pub returns-in_err-answered-clause-sink_open : goal.returns-in_err-answered-clause-sink_open
-returns-in_err-answered-clause-sink_open g c = λ same told. performs_sink_open (command_of c.args.c.now) _ _ _ _ _ _ c.from_residual.result (c.requires.told told) (returns-in_err-answered-clause-performs g c told) same
-
-pub returns-clause-sink_open : goal.returns-clause-sink_open
-returns-clause-sink_open g c = λ same told. performs_sink_open (command_of c.args.c.now) _ _ _ _ _ _ c.finish_reply.result (c.requires.told told) (returns-clause-performs g c told) same
+returns-clause-open g c = λ told. performs_open (command_of c.args.c.now) _ _ _ _ c.finish_reply.result (c.requires.told told) (returns-clause-performs g c told)
 
 pub returns-clause-prints : goal.returns-clause-prints
 returns-clause-prints g c =
-    prints_outcome (command_of c.args.c.now) c.in_ok-answered.answered c.finish_reply.result _ _ _ _ (λ n. ap g.K.Sink.taken (c.in_ok-answered.ensures.unsaid n)) c.in_ok-answered.ensures.still_empty
+    prints_outcome (command_of c.args.c.now) c.in_ok-answered.answered c.finish_reply.result _ _ _ (λ n. ap g.K.Sink.taken (c.in_ok-answered.ensures.unsaid n)) c.in_ok-answered.ensures.still_empty
     c.in_ok-answered.ensures.plain c.finish_reply.ensures.printed c.finish_reply.ensures.outcome

@@ -1,28 +1,32 @@
 use Rattle.std.proofs.Common.{Ok, Some, refl}
 use Rattle.file_handles.specs.Changes.{appended}
 use Rattle.file_handles.specs.Kept.{kept}
+use Rattle.file_handles.proofs.ElementChecks.{is_there}
 use Rattle.file_handles.proofs.Grown.{grown_becomes, grown_writes}
 use Rattle.file_handles.proofs.PutBack.{changes_done, changes_failed, put_back}
 use Rattle.file_handles.proofs.handles.Handles.append_at.Goals as goal
 
+pub take-object-requires-clause-there : goal.take-object-requires-clause-there
+take-object-requires-clause-there g c = is_there _ _ c.requires.limit
+
 pub returns-in_err-append-clause-changes : goal.returns-in_err-append-clause-changes
 returns-in_err-append-clause-changes g c tells =
-    let x = c.in_ok-object.object in
+    let x = c.take-object.result in
     let b = c.args.b.now in
     let s = g.D.Disk.state c.args.disk.now in
     let t = g.D.Disk.state c.append.new.disk in
-    changes_failed c.args.place (appended b) c.from_residual-in_err-append.result s t (kept c.args.self.now) (kept c.take.new.self) x c.in_ok-object.ensures.found
+    changes_failed c.args.place (appended b) c.from_residual.result s t (kept c.args.self.now) (kept c.take-object.new.self) x c.take-object.ensures.found
     (grown_writes x c.in-Draft.draft c.in-Draft.is b s t c.file_place-file.result c.file_place-file.ensures (c.in_err-append.ensures.writes tells))
-    c.from_residual-in_err-append.ensures.0
+    c.from_residual.ensures.0
 
 pub returns-clause-changes : goal.returns-clause-changes
 returns-clause-changes g c tells =
-    let x = c.in_ok-object.object in
+    let x = c.take-object.result in
     let b = c.args.b.now in
     let s = g.D.Disk.state c.args.disk.now in
     let t = g.D.Disk.state c.append.new.disk in
-    changes_done c.args.place (appended b) (Ok tt) s t (kept c.args.self.now) (kept c.put.new.self) x c.in_ok-object.ensures.found
+    changes_done c.args.place (appended b) (Ok tt) s t (kept c.args.self.now) (kept c.put_entry.new.self) x c.take-object.ensures.found
     (grown_writes x c.in-Draft.draft c.in-Draft.is b s t c.file_place-file.result c.file_place-file.ensures (c.in_ok-append.ensures.writes tells))
     _
     (grown_becomes x c.in-Draft.draft c.in-Draft.is b s t c.file_place-file.result c.file_place-file.ensures _ refl refl refl c.in_ok-append.ensures.body (c.in_ok-append.ensures.stands tells))
-    (put_back (kept c.args.self.now) (kept c.take.new.self) (kept c.put.new.self) c.args.place (Some _) c.in_ok-object.ensures.kept c.put.ensures)
+    (put_back (kept c.args.self.now) (kept c.take-object.new.self) (kept c.put_entry.new.self) c.args.place (Some _) c.take-object.ensures.kept c.put_entry.ensures)

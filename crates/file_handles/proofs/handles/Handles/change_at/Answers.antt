@@ -1,36 +1,42 @@
 use Rattle.std.proofs.Common.{◌≡◌, Some, Ok, sym, ap, subst, ◌∙◌}
 use Rattle.disk_model.specs.State.{State}
 use Rattle.entry_file.proofs.Writing.{not_written}
+use Rattle.file_handles.specs.Cache.{cache_at}
 use Rattle.file_handles.specs.Changes.{ChangesThere, with_version}
 use Rattle.file_handles.specs.Kept.{kept, with_object}
 use Rattle.file_handles.specs.Setting.{changed_by, with_change}
 use Rattle.file_handles.specs.declared.object.Entry.{Entry}
 use Rattle.file_handles.specs.declared.object.Entry.TheVariants.{Draft, Finished}
 use Rattle.file_handles.specs.declared.object.Object.{Object}
-use Rattle.file_handles.proofs.ElementChanged.{IsDraftWith, IsMetaWith, cause_handed_on, draft_becomes, meta_becomes, meta_writes, stores}
+use Rattle.file_handles.proofs.Accounting.{account_handed_on}
+use Rattle.file_handles.proofs.ElementChecks.{is_there}
+use Rattle.file_handles.proofs.ElementChanged.{IsDraftWith, IsMetaWith, draft_becomes, meta_becomes, meta_writes, stores}
 use Rattle.file_handles.proofs.PutBack.{changes_done, changes_failed, put_back}
 use Rattle.file_handles.proofs.handles.Handles.change_at.Goals as goal
 use Rattle.file_handles.proofs.handles.Handles.change_at.Goals.{in-Draft+in_ok-changed_draft-in-Draft, in-Finished+in_ok-meta-in-Finished+in_ok-rewrite_meta-in-Finished}
+
+pub take-object-requires-clause-there : goal.take-object-requires-clause-there
+take-object-requires-clause-there g c = is_there _ _ c.requires.room
 
 pub returns-in_err-changed_draft-in-Draft-clause-changes :
     goal.returns-in_err-changed_draft-in-Draft-clause-changes
 returns-in_err-changed_draft-in-Draft-clause-changes g c told =
     let s = g.D.Disk.state c.args.disk.now in
-    changes_failed c.args.place (with_version (with_change c.args.change)) c.from_residual-in_err-changed_draft-in-Draft.result s s (kept c.args.self.now) (kept c.take.new.self) c.in_ok-object.object c.in_ok-object.ensures.found
-    (λ o filed. not_written _ _ s) c.from_residual-in_err-changed_draft-in-Draft.ensures.0
+    changes_failed c.args.place (with_version (with_change c.args.change)) c.from_residual.result s s (kept c.args.self.now) (kept c.take-object.new.self) c.take-object.result c.take-object.ensures.found
+    (λ o filed. not_written _ _ s) c.from_residual.ensures.0
 
 pub returns-in_err-meta-in-Finished-clause-changes :
     goal.returns-in_err-meta-in-Finished-clause-changes
 returns-in_err-meta-in-Finished-clause-changes g c told =
     let s = g.D.Disk.state c.args.disk.now in
-    changes_failed c.args.place (with_version (with_change c.args.change)) c.from_residual-in_err-meta-in-Finished.result s s (kept c.args.self.now) (kept c.take.new.self) c.in_ok-object.object c.in_ok-object.ensures.found
+    changes_failed c.args.place (with_version (with_change c.args.change)) c.from_residual-in_err-meta-in-Finished.result s s (kept c.args.self.now) (kept c.take-object.new.self) c.take-object.result c.take-object.ensures.found
     (λ o filed. not_written _ _ s) c.from_residual-in_err-meta-in-Finished.ensures.0
 
 pub rewrite_meta-requires : goal.rewrite_meta-requires
 rewrite_meta-requires g c told =
     let s = g.D.Disk.state c.args.disk.now in
-    let x = c.in_ok-object.object in
-    let filed = c.requires.told told x c.in_ok-object.ensures.found in
+    let x = c.take-object.result in
+    let filed = c.requires.told told x c.take-object.ensures.found in
     let new = c.in_ok-meta-in-Finished.ensures in
     let with : IsMetaWith (changed_by c.args.change) c.in-Finished.meta c.in_ok-meta-in-Finished.meta =
     record { header = new.others.0; key = new.others.1.0; elements = new.elements; hashes = new.others.1.1.0; offset = new.others.1.1.1 } in
@@ -41,26 +47,26 @@ pub returns-in_err-rewrite_meta-in-Finished-clause-changes :
 returns-in_err-rewrite_meta-in-Finished-clause-changes g c told =
     let s = g.D.Disk.state c.args.disk.now in
     let t = g.D.Disk.state c.rewrite_meta.new.disk in
-    let x = c.in_ok-object.object in
+    let x = c.take-object.result in
     let new = c.in_ok-meta-in-Finished.ensures in
     let with : IsMetaWith (changed_by c.args.change) c.in-Finished.meta c.in_ok-meta-in-Finished.meta =
     record { header = new.others.0; key = new.others.1.0; elements = new.elements; hashes = new.others.1.1.0; offset = new.others.1.1.1 } in
-    changes_failed c.args.place (with_version (with_change c.args.change)) c.from_residual-in_err-rewrite_meta-in-Finished.result s t (kept c.args.self.now) (kept c.take.new.self) x c.in_ok-object.ensures.found
+    changes_failed c.args.place (with_version (with_change c.args.change)) c.from_residual-in_err-rewrite_meta-in-Finished.result s t (kept c.args.self.now) (kept c.take-object.new.self) x c.take-object.ensures.found
     (λ o filed. meta_writes (changed_by c.args.change) x o s filed c.in-Finished.meta c.in_ok-meta-in-Finished.meta c.in-Finished.is with t c.file_place-file.result c.file_place-file.ensures (c.rewrite_meta.ensures.writes told))
     c.from_residual-in_err-rewrite_meta-in-Finished.ensures.0
 
-pub returns-in_err-rewrite_meta-in-Finished-clause-cause :
-    goal.returns-in_err-rewrite_meta-in-Finished-clause-cause
-returns-in_err-rewrite_meta-in-Finished-clause-cause g c =
-    cause_handed_on c.rewrite_meta.result c.in_err-rewrite_meta-in-Finished.field-0.0 c.from_residual-in_err-rewrite_meta-in-Finished.result _ _
-    c.in_err-rewrite_meta-in-Finished.was c.from_residual-in_err-rewrite_meta-in-Finished.ensures.1 c.rewrite_meta.ensures.cause
+pub returns-in_err-rewrite_meta-in-Finished-clause-account :
+    goal.returns-in_err-rewrite_meta-in-Finished-clause-account
+returns-in_err-rewrite_meta-in-Finished-clause-account g c =
+    account_handed_on g.D.Disk c.rewrite_meta.result c.in_err-rewrite_meta-in-Finished.field-0.0 c.from_residual-in_err-rewrite_meta-in-Finished.result _ _
+    c.in_err-rewrite_meta-in-Finished.was c.from_residual-in_err-rewrite_meta-in-Finished.ensures.1 c.rewrite_meta.ensures.cause c.rewrite_meta.ensures.stops
 
 pub returns-clause-changes : goal.returns-clause-changes
 returns-clause-changes g c told =
     let s = g.D.Disk.state c.args.disk.now in
     let k = kept c.args.self.now in
-    let after = kept c.put.new.self in
-    let x = c.in_ok-object.object in
+    let after = kept c.put_entry.new.self in
+    let x = c.take-object.result in
     elim c.match-entry.branch [
       | in-Draft+in_ok-changed_draft-in-Draft w ↦
           let new = w.in_ok-changed_draft-in-Draft.ensures in
@@ -68,9 +74,9 @@ returns-clause-changes g c told =
           record { body = new.others.0; header = new.others.1.0; key = new.others.1.1; elements = new.elements } in
           let t_is : g.D.Disk.state c.match-entry.disk ≡ s = ap g.D.Disk.state w.disk-is in
           let y : Object = record { name = x.name; doomed = x.doomed; entry = Draft w.in_ok-changed_draft-in-Draft.field-0 } in
-          let put = put_back k (kept c.take.new.self) after c.args.place _ c.take.ensures.kept c.put.ensures ∙ ap (λ (e : Entry). with_object k c.args.place (Some (record { name = x.name; doomed = x.doomed; entry = e }))) w.entry-is in
-          subst (λ (u : State). ChangesThere c.args.place (with_version (with_change c.args.change)) (Ok c.rewrote-effect.result) s u k after) (sym t_is)
-          (changes_done c.args.place (with_version (with_change c.args.change)) (Ok c.rewrote-effect.result) s s k after x c.in_ok-object.ensures.found (λ o filed. not_written _ _ s)
+          let put = put_back k (kept c.take-object.new.self) after c.args.place _ c.take-object.ensures.kept c.put_entry.ensures ∙ ap (λ (e : Entry). with_object k c.args.place (Some (record { name = x.name; doomed = x.doomed; entry = e }))) w.entry-is in
+          subst (λ (u : State). ChangesThere c.args.place (with_version (with_change c.args.change)) (Ok c.rewrote-effect.result) (cache_at k s) (cache_at after u)) (sym t_is)
+          (changes_done c.args.place (with_version (with_change c.args.change)) (Ok c.rewrote-effect.result) s s k after x c.take-object.ensures.found (λ o filed. not_written _ _ s)
           y (λ o filed. draft_becomes (changed_by c.args.change) x o s filed w.in-Draft.draft w.in_ok-changed_draft-in-Draft.field-0 w.in-Draft.is with) put)
       | in-Finished+in_ok-meta-in-Finished+in_ok-rewrite_meta-in-Finished w ↦
           let new = w.in_ok-meta-in-Finished.ensures in
@@ -79,9 +85,9 @@ returns-clause-changes g c told =
           let t : State = g.D.Disk.state w.rewrite_meta.new.disk in
           let t_is : g.D.Disk.state c.match-entry.disk ≡ t = ap g.D.Disk.state w.disk-is in
           let y : Object = record { name = x.name; doomed = x.doomed; entry = Finished w.in_ok-meta-in-Finished.meta } in
-          let put = put_back k (kept c.take.new.self) after c.args.place _ c.take.ensures.kept c.put.ensures ∙ ap (λ (e : Entry). with_object k c.args.place (Some (record { name = x.name; doomed = x.doomed; entry = e }))) w.entry-is in
-          subst (λ (u : State). ChangesThere c.args.place (with_version (with_change c.args.change)) (Ok c.rewrote-effect.result) s u k after) (sym t_is)
-          (changes_done c.args.place (with_version (with_change c.args.change)) (Ok c.rewrote-effect.result) s t k after x c.in_ok-object.ensures.found
+          let put = put_back k (kept c.take-object.new.self) after c.args.place _ c.take-object.ensures.kept c.put_entry.ensures ∙ ap (λ (e : Entry). with_object k c.args.place (Some (record { name = x.name; doomed = x.doomed; entry = e }))) w.entry-is in
+          subst (λ (u : State). ChangesThere c.args.place (with_version (with_change c.args.change)) (Ok c.rewrote-effect.result) (cache_at k s) (cache_at after u)) (sym t_is)
+          (changes_done c.args.place (with_version (with_change c.args.change)) (Ok c.rewrote-effect.result) s t k after x c.take-object.ensures.found
           (λ o filed. meta_writes (changed_by c.args.change) x o s filed w.in-Finished.meta w.in_ok-meta-in-Finished.meta w.in-Finished.is with t c.file_place-file.result c.file_place-file.ensures (w.rewrite_meta.ensures.writes told))
           y (λ o filed. meta_becomes (changed_by c.args.change) x o s filed w.in-Finished.meta w.in_ok-meta-in-Finished.meta w.in-Finished.is with t c.file_place-file.result c.file_place-file.ensures
           (w.in_ok-rewrite_meta-in-Finished.ensures.stands told)) put)

@@ -1,9 +1,13 @@
 use Rattle.std.proofs.Common.{sym, ◌∙◌}
+use Rattle.file_handles.specs.Answers.{fault_of}
 use Rattle.file_handles.specs.Kept.{kept}
 use Rattle.file_handles.proofs.ClosedSlot.{closed_leaves, closed_safe, faulted_leaves, unused_leaves}
+use Rattle.file_handles.proofs.DoomedCommand.{no_refusal}
 use Rattle.file_handles.proofs.EffectLaws.{closed_effect}
 use Rattle.file_handles.proofs.ElementSlots.{use_found}
+use Rattle.file_handles.proofs.Histories.{history_of}
 use Rattle.file_handles.proofs.Where.{carries_out}
+use Rattle.file_handles.proofs.IndexLeft.{then_left}
 use Rattle.file_handles.proofs.handles.Handles.close.Goals as goal
 
 pub returns-in_err-used-clause-carried : goal.returns-in_err-used-clause-carried
@@ -13,21 +17,21 @@ returns-in_err-used-clause-carried g c told = carries_out (λ b m w is.
 pub returns-in_err-effect-clause-carried : goal.returns-in_err-effect-clause-carried
 returns-in_err-effect-clause-carried g c told = carries_out (λ b m w is.
     faulted_leaves c.args.slot c.from_residual-in_err-effect.result c.in_err-effect.field-0.0 (g.D.Disk.state c.finish_first.new.disk) (kept c.finish_first.new.self) m w c.from_residual-in_err-effect.ensures.1
-    (c.in_err-effect.ensures.refused told) (c.in_err-effect.ensures.finishes told b m w is).0)
+    c.in_err-effect.ensures.refused ((c.in_err-effect.ensures.finishes told).leaves b (history_of m w) is).safe)
 
 pub returns-in_err-give_up-clause-carried : goal.returns-in_err-give_up-clause-carried
 returns-in_err-give_up-clause-carried g c told = carries_out (λ b m w is.
     let used = use_found _ _ (sym c.use_of.ensures ∙ c.in_ok-used.was) in
-    let stands = (c.in_ok-effect.ensures.finishes told b m w is).1 in
+    let stands = ((c.in_ok-effect.ensures.finishes told).leaves b (history_of m w) is).next in
     let safe = closed_safe (g.D.Disk.state c.args.disk.now) (kept c.args.self.now) c.args.slot c.requires.slot c.in_ok-used.used used (g.D.Disk.state c.finish_first.new.disk)
     (kept c.finish_first.new.self) (kept c.give_up.new.self) m w is stands (g.D.Disk.state c.give_up.new.disk) c.give_up.result (c.give_up.ensures.gives_up told) in
-    faulted_leaves c.args.slot c.from_residual-in_err-give_up.result c.in_err-give_up.field-0.0 (g.D.Disk.state c.give_up.new.disk) (kept c.give_up.new.self) m w c.from_residual-in_err-give_up.ensures.1
-    (c.in_err-give_up.ensures.refused told) safe)
+    faulted_leaves c.args.slot c.from_residual-in_err-give_up.result (fault_of c.in_err-give_up.field-0.0) (g.D.Disk.state c.give_up.new.disk) (kept c.give_up.new.self) m w c.from_residual-in_err-give_up.ensures.1
+    (no_refusal c.in_err-give_up.field-0.0) safe)
 
 pub returns-clause-carried : goal.returns-clause-carried
 returns-clause-carried g c told = carries_out (λ b m w is.
     let used = use_found _ _ (sym c.use_of.ensures ∙ c.in_ok-used.was) in
-    let stands = (c.in_ok-effect.ensures.finishes told b m w is).1 in
+    let stands = ((c.in_ok-effect.ensures.finishes told).leaves b (history_of m w) is).next in
     closed_leaves (g.D.Disk.state c.args.disk.now) (kept c.args.self.now) c.args.slot c.requires.slot c.in_ok-used.used used (g.D.Disk.state c.finish_first.new.disk)
     (kept c.finish_first.new.self) (kept c.give_up.new.self) m w is stands (g.D.Disk.state c.give_up.new.disk) (c.in_ok-give_up.ensures.gives_up told))
 
@@ -35,3 +39,11 @@ pub returns-clause-effect : goal.returns-clause-effect
 returns-clause-effect g c = λ m number stand.
     let used = use_found _ _ (sym c.use_of.ensures ∙ c.in_ok-used.was) in
     closed_effect (kept c.args.self.now) m number stand c.args.slot c.requires.slot c.in_ok-used.used used c.in_ok-effect.effect c.in_ok-effect.ensures.effect
+
+pub returns-in_err-give_up-clause-index : goal.returns-in_err-give_up-clause-index
+returns-in_err-give_up-clause-index g c told =
+    then_left (g.D.Disk.state c.args.disk.now) (g.D.Disk.state c.finish_first.new.disk) (g.D.Disk.state c.give_up.new.disk) (c.finish_first.ensures.index told) (c.give_up.ensures.index told)
+
+pub returns-clause-index : goal.returns-clause-index
+returns-clause-index g c told =
+    then_left (g.D.Disk.state c.args.disk.now) (g.D.Disk.state c.finish_first.new.disk) (g.D.Disk.state c.give_up.new.disk) (c.finish_first.ensures.index told) (c.give_up.ensures.index told)

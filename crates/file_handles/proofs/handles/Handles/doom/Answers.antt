@@ -5,61 +5,68 @@ use Rattle.cache_theory.specs.Marks.{begun}
 use Rattle.disk_model.specs.State.{standing}
 use Rattle.disk_model.specs.declared.place.Place.TheVariants.{Entry}
 use Rattle.file_handles.specs.Answers.{fault_of}
+use Rattle.file_handles.specs.Cache.{cache_at}
 use Rattle.file_handles.specs.Finding.{is_user}
 use Rattle.file_handles.specs.Kept.{kept}
-use Rattle.file_handles.specs.Stands.{IsInWhere}
+use Rattle.file_handles.specs.Stands.{KeepsWhere}
 use Rattle.file_handles.proofs.Begun.{begun_in}
 use Rattle.file_handles.proofs.DoomedCommand.{bare_stands, doom_touches, doomed_leaves, failed_on_leaves, no_refusal, none_if, refused_on_leaves, remove_fails, removed_leaves, some_if}
+use Rattle.file_handles.proofs.Histories.{history_of}
 use Rattle.file_handles.proofs.Where.{carries_out}
+use Rattle.file_handles.proofs.IndexLeft.{removed_left, same_left, then_left}
 use Rattle.file_handles.proofs.handles.Handles.doom.Goals as goal
 
 pub returns-in_err-name-clause-carried : goal.returns-in_err-name-clause-carried
 returns-in_err-name-clause-carried g c = λ tells. carries_out (λ b m w stand.
     refused_on_leaves c.from_residual.result c.in_err-name.field-0.0 (g.D.Disk.state c.args.disk.now) (g.D.Disk.state c.may_doom.new.disk) (kept c.args.self.now) (Doom c.args.key.now)
-    c.from_residual.ensures.1 (λ refusal same. c.in_err-name.ensures.refuses refusal same tells) (c.may_doom.ensures.state tells) m w stand)
+    c.from_residual.ensures.1 (λ refusal same. c.in_err-name.ensures.refuses refusal same tells) (c.may_doom.ensures.looks.state tells) m w stand)
 
 pub returns-in_err-doom_user-clause-carried : goal.returns-in_err-doom_user-clause-carried
 returns-in_err-doom_user-clause-carried g c = λ tells. carries_out (λ b m w stand.
     let key = c.args.key.now in
     let name = c.in_ok-name.name in
+    let named = c.in_ok-name.ensures.named in
     let passes = c.in_ok-name.ensures.passes in
-    let there : IsInWhere b (g.D.Disk.state c.may_doom.new.disk) (kept c.args.self.now) m w = subst (λ s. IsInWhere b s (kept c.args.self.now) m w) (sym (c.may_doom.ensures.state tells)) stand in
-    let touched = doom_touches key name.0 m w passes.0 (passes.1 tells m stand.number stand.stands) in
+    let there : KeepsWhere b (cache_at (kept c.args.self.now) (g.D.Disk.state c.may_doom.new.disk)) (history_of m w) = subst (λ s. KeepsWhere b (cache_at (kept c.args.self.now) s) (history_of m w)) (sym (c.may_doom.ensures.looks.state tells)) stand in
+    let touched = doom_touches key name.0 m w named (passes tells m (stand.number, stand.stands)) in
     let some : position (is_user name) (kept c.args.self.now).objects ≢ None = λ bare. let never = (c.in_err-doom_user.ensures.none bare).0 in cc in
-    let doomed = c.in_err-doom_user.ensures.dooms tells some b m (begun m (Doom key) w) touched (begun_in (g.D.Disk.state c.may_doom.new.disk) (kept c.args.self.now) m (Doom key) w there) in
+    let doomed = (c.in_err-doom_user.ensures.dooms tells some).leaves b (history_of m (begun m (Doom key) w)) touched (begun_in (g.D.Disk.state c.may_doom.new.disk) (kept c.args.self.now) m (Doom key) w there) in
     failed_on_leaves c.from_residual-in_err-doom_user.result c.in_err-doom_user.field-0.0 (g.D.Disk.state c.doom_user.new.disk) (kept c.doom_user.new.self) (Doom key)
-    c.from_residual-in_err-doom_user.ensures.1 (λ refusal same. c.in_err-doom_user.ensures.refused refusal same) m w doomed.0)
+    c.from_residual-in_err-doom_user.ensures.1 (λ refusal same. c.in_err-doom_user.ensures.refused refusal same) m w doomed.safe)
 
 pub remove-requires : goal.remove-requires
 remove-requires g c = λ tells.
     let k = kept c.args.self.now in
     let name = c.in_ok-name.name in
+    let named = c.in_ok-name.ensures.named in
     let passes = c.in_ok-name.ensures.passes in
     let bare = none_if (position (is_user name) k.objects) c.in_ok-doom_user.field-0 c.in_ok-doom_user.ensures.some c.if-not-branch.true in
-    let same = ap g.D.Disk.state (c.in_ok-doom_user.ensures.none bare).1.0 ∙ c.may_doom.ensures.state tells in
-    subst (λ s. IsSome (standing s (Entry name))) (sym same) (bare_stands (g.D.Disk.state c.args.disk.now) k c.args.key.now name passes.0 bare (passes.1 tells) (c.requires.told tells))
+    let same = ap g.D.Disk.state (c.in_ok-doom_user.ensures.none bare).1.0 ∙ c.may_doom.ensures.looks.state tells in
+    subst (λ s. IsSome (standing s (Entry name))) (sym same) (bare_stands (g.D.Disk.state c.args.disk.now) k c.args.key.now name named bare (passes tells) (c.requires.told tells))
 
 pub returns-in_err-remove-clause-carried : goal.returns-in_err-remove-clause-carried
 returns-in_err-remove-clause-carried g c = λ tells. carries_out (λ b m w stand.
     let k = kept c.args.self.now in
     let key = c.args.key.now in
     let name = c.in_ok-name.name in
+    let named = c.in_ok-name.ensures.named in
     let passes = c.in_ok-name.ensures.passes in
     let bare = none_if (position (is_user name) k.objects) c.in_ok-doom_user.field-0 c.in_ok-doom_user.ensures.some c.if-not-branch.true in
-    let same = ap g.D.Disk.state (c.in_ok-doom_user.ensures.none bare).1.0 ∙ c.may_doom.ensures.state tells in
+    let same = ap g.D.Disk.state (c.in_ok-doom_user.ensures.none bare).1.0 ∙ c.may_doom.ensures.looks.state tells in
     let f = c.in_err-remove.field-0.0 in
-    let safe = remove_fails (g.D.Disk.state c.args.disk.now) (g.D.Disk.state c.doom_user.new.disk) k key name passes.0 bare (passes.1 tells) same (g.D.Disk.state c.remove.new.self) f (c.in_err-remove.ensures.state tells) m w stand in
+    let safe = remove_fails (g.D.Disk.state c.args.disk.now) (g.D.Disk.state c.doom_user.new.disk) k key name named bare (passes tells) same (g.D.Disk.state c.remove.new.self) f (c.in_err-remove.ensures.state tells) m w stand in
     failed_on_leaves c.from_residual-in_err-remove.result (fault_of f) (g.D.Disk.state c.remove.new.self) (kept c.doom_user.new.self) (Doom key) c.from_residual-in_err-remove.ensures.1 (no_refusal f) m w safe)
 
 pub returns-in_ok-remove-clause-carried : goal.returns-in_ok-remove-clause-carried
 returns-in_ok-remove-clause-carried g c = λ tells.
     let k = kept c.args.self.now in
     let name = c.in_ok-name.name in
+    let named = c.in_ok-name.ensures.named in
     let passes = c.in_ok-name.ensures.passes in
     let bare = none_if (position (is_user name) k.objects) c.in_ok-doom_user.field-0 c.in_ok-doom_user.ensures.some c.if-not-branch.true in
     let still = (c.in_ok-doom_user.ensures.none bare).1 in
-    let same = ap g.D.Disk.state still.0 ∙ c.may_doom.ensures.state tells in
-    carries_out (λ b m w stand. removed_leaves (g.D.Disk.state c.args.disk.now) (g.D.Disk.state c.doom_user.new.disk) k c.args.key.now name passes.0 bare (passes.1 tells) same
+    let same = ap g.D.Disk.state still.0 ∙ c.may_doom.ensures.looks.state tells in
+    carries_out (λ b m w stand. removed_leaves (g.D.Disk.state c.args.disk.now) (g.D.Disk.state c.doom_user.new.disk) k c.args.key.now name named bare (passes tells) same
     (g.D.Disk.state c.remove.new.self) (kept c.doom_user.new.self) (c.in_ok-remove.ensures.state tells) still.1 m w stand)
 
 pub returns-else-not-branch-clause-carried : goal.returns-else-not-branch-clause-carried
@@ -67,10 +74,34 @@ returns-else-not-branch-clause-carried g c = λ tells. carries_out (λ b m w sta
     let k = kept c.args.self.now in
     let key = c.args.key.now in
     let name = c.in_ok-name.name in
+    let named = c.in_ok-name.ensures.named in
     let passes = c.in_ok-name.ensures.passes in
-    let fine = passes.1 tells m stand.number stand.stands in
+    let fine = passes tells m (stand.number, stand.stands) in
     let s = g.D.Disk.state c.may_doom.new.disk in
-    let there : IsInWhere b s k m w = subst (λ s. IsInWhere b s k m w) (sym (c.may_doom.ensures.state tells)) stand in
+    let there : KeepsWhere b (cache_at k s) (history_of m w) = subst (λ s. KeepsWhere b (cache_at k s) (history_of m w)) (sym (c.may_doom.ensures.looks.state tells)) stand in
     let some = some_if (position (is_user name) k.objects) c.in_ok-doom_user.field-0 c.in_ok-doom_user.ensures.some c.if-not-branch.false in
-    let doomed = c.in_ok-doom_user.ensures.dooms tells some b m (begun m (Doom key) w) (doom_touches key name.0 m w passes.0 fine) (begun_in s k m (Doom key) w there) in
-    doomed_leaves (g.D.Disk.state c.doom_user.new.disk) (kept c.doom_user.new.self) key name.0 m w passes.0 fine doomed.1)
+    let doomed = (c.in_ok-doom_user.ensures.dooms tells some).leaves b (history_of m (begun m (Doom key) w)) (doom_touches key name.0 m w named fine) (begun_in s k m (Doom key) w there) in
+    doomed_leaves (g.D.Disk.state c.doom_user.new.disk) (kept c.doom_user.new.self) key name.0 m w named fine doomed.next)
+
+pub returns-in_err-name-clause-index : goal.returns-in_err-name-clause-index
+returns-in_err-name-clause-index g c told = same_left (c.may_doom.ensures.looks.state told)
+
+pub returns-in_err-doom_user-clause-index : goal.returns-in_err-doom_user-clause-index
+returns-in_err-doom_user-clause-index g c told =
+    then_left (g.D.Disk.state c.args.disk.now) (g.D.Disk.state c.may_doom.new.disk) (g.D.Disk.state c.doom_user.new.disk) (same_left (c.may_doom.ensures.looks.state told)) (c.doom_user.ensures.index told)
+
+pub returns-else-not-branch-clause-index : goal.returns-else-not-branch-clause-index
+returns-else-not-branch-clause-index g c told =
+    then_left (g.D.Disk.state c.args.disk.now) (g.D.Disk.state c.may_doom.new.disk) (g.D.Disk.state c.doom_user.new.disk) (same_left (c.may_doom.ensures.looks.state told)) (c.doom_user.ensures.index told)
+
+pub returns-in_err-remove-clause-index : goal.returns-in_err-remove-clause-index
+returns-in_err-remove-clause-index g c told =
+    then_left (g.D.Disk.state c.args.disk.now) (g.D.Disk.state c.doom_user.new.disk) (g.D.Disk.state c.remove.new.self)
+    (then_left _ (g.D.Disk.state c.may_doom.new.disk) _ (same_left (c.may_doom.ensures.looks.state told)) (c.doom_user.ensures.index told))
+    (removed_left c.remove.result _ _ c.in_ok-name.name (c.remove.ensures.state told))
+
+pub returns-in_ok-remove-clause-index : goal.returns-in_ok-remove-clause-index
+returns-in_ok-remove-clause-index g c told =
+    then_left (g.D.Disk.state c.args.disk.now) (g.D.Disk.state c.doom_user.new.disk) (g.D.Disk.state c.remove.new.self)
+    (then_left _ (g.D.Disk.state c.may_doom.new.disk) _ (same_left (c.may_doom.ensures.looks.state told)) (c.doom_user.ensures.index told))
+    (removed_left c.remove.result _ _ c.in_ok-name.name (c.remove.ensures.state told))

@@ -1,40 +1,47 @@
-use Rattle.std.proofs.Common.{◌≡◌, ◌<◌, ℕ, Result, Some, None, Ok, Err, sym, subst, ◌∙◌, arith}
+use Rattle.std.proofs.Common.{◌<◌, ℕ, Result, Ok, Err, sym, subst, arith}
 use Rattle.cache_base.specs.declared.limits.TheConstants.{SLOTS}
 use Rattle.std.proofs.lemmas.Result.{IfOk-from_err}
 use Rattle.disk_model.specs.declared.disk.DiskFault.{DiskFault}
 use Rattle.doom_area.specs.DoomArea.{IsLeastFree}
-use Rattle.file_handles.specs.Kept.{kept, object_at}
+use Rattle.file_handles.specs.Cache.{cache_at}
+use Rattle.file_handles.specs.Kept.{kept}
 use Rattle.cache_theory.specs.Step.{doomed_under}
-use Rattle.file_handles.specs.Stands.{IsInWhere}
+use Rattle.file_handles.specs.Stands.{KeepsWhere}
 use Rattle.file_handles.specs.Dooming.{numbers_in}
 use Rattle.file_handles.proofs.DoomedUser.{dooms_not, dooms_there, least_free, user_stands}
 use Rattle.file_handles.proofs.FirstFree.{few_numbers, takes_first}
-use Rattle.file_handles.proofs.User.{user_found}
+use Rattle.file_handles.proofs.Histories.{history_of}
+use Rattle.file_handles.proofs.User.{user_is_there}
+use Rattle.file_handles.proofs.IndexLeft.{doomed_left}
 use Rattle.file_handles.proofs.handles.Handles.doom_at.Goals as goal
 
-pub returns-in_err-object-clause-refused : goal.returns-in_err-object-clause-refused
-returns-in_err-object-clause-refused g c =
-    let there = user_found (kept c.args.self.now) c.args.name.now c.args.place c.requires.user in
-    let none : object_at (kept c.args.self.now) c.args.place ≡ None = c.in_err-object.ensures.none in
-    absurd (let never : None ≡ Some there.object = sym none ∙ there.at_place in cc)
+pub take-object-requires-clause-there : goal.take-object-requires-clause-there
+take-object-requires-clause-there g c = user_is_there (kept c.args.self.now) c.args.name.now c.args.place c.requires.user
 
 pub doom-requires-clause-told : goal.doom-requires-clause-told
 doom-requires-clause-told g c = λ tells. user_stands (g.D.Disk.state c.args.disk.now) (kept c.args.self.now) c.args.name.now c.args.place c.requires.user (c.requires.told tells)
 
 pub returns-in_err-number-clause-dooms : goal.returns-in_err-number-clause-dooms
-returns-in_err-number-clause-dooms g c = λ tells b m w touched stand.
-    let s = g.D.Disk.state c.args.disk.now in
-    let f = c.from_residual-in_err-number.ensures in
-    (λ on. dooms_not s (g.D.Disk.state c.doom.new.disk) w c.args.name.now _ c.in_err-number.field-0.0 (c.in_err-number.ensures.state tells) touched (stand.crash_kept on).safe, IfOk-from_err c.from_residual-in_err-number.result (λ done. IsInWhere b (g.D.Disk.state c.doom.new.disk) (kept c.take.new.self) (doomed_under m c.args.name.now.0) w) f.0)
+returns-in_err-number-clause-dooms g c = λ tells. record {
+  leaves = λ b h touched stand.
+      let m = h.machine in
+      let w = h.marks in
+      let s = g.D.Disk.state c.args.disk.now in
+      let f = c.from_residual.ensures in
+      record { safe = λ on. dooms_not s (g.D.Disk.state c.doom.new.disk) w c.args.name.now _ c.in_err-number.field-0.0 (λ n least. c.in_err-number.ensures.state n least tells) touched (stand.crash_kept on).safe; next = IfOk-from_err c.from_residual.result (λ done. KeepsWhere b (cache_at (kept c.take-object.new.self) (g.D.Disk.state c.doom.new.disk)) (history_of (doomed_under m c.args.name.now.0) w)) f.0 };
+}
 
 pub returns-clause-dooms : goal.returns-clause-dooms
-returns-clause-dooms g c = λ tells b m w touched stand.
-    let s = g.D.Disk.state c.args.disk.now in
-    let k = kept c.args.self.now in
-    let free = subst (λ xs. IsLeastFree xs c.in_ok-number.number) c.doomed_numbers-doomed.ensures.numbers c.in_ok-number.ensures.number in
-    dooms_there s (g.D.Disk.state c.doom.new.disk) k (kept c.take.new.self) (kept c.put.new.self) c.args.name.now c.args.place c.in_ok-object.object c.in_ok-number.number
-    (g.met.D.Disk.sound c.args.disk.now tells) c.requires.user c.in_ok-object.ensures.found free
-    (c.in_ok-number.ensures.state tells c.in_ok-number.number c.in_ok-number.ensures.number) c.take.ensures.kept c.put.ensures m w touched stand
+returns-clause-dooms g c = λ tells. record {
+  leaves = λ b h touched stand.
+      let s = g.D.Disk.state c.args.disk.now in
+      let k = kept c.args.self.now in
+      let free = subst (λ xs. IsLeastFree xs c.in_ok-number.number) c.doomed_numbers-doomed.ensures.numbers c.in_ok-number.ensures.number in
+      let done = dooms_there s (g.D.Disk.state c.doom.new.disk) k (kept c.take-object.new.self) (kept c.put_entry.new.self) c.args.name.now c.args.place c.take-object.result c.in_ok-number.number
+      (g.met.D.Disk.sound c.args.disk.now tells) c.requires.user c.take-object.ensures.found free
+      (c.in_ok-number.ensures.state c.in_ok-number.number c.in_ok-number.ensures.number tells) c.take-object.ensures.kept c.put_entry.ensures h.machine h.marks touched stand in
+      record { safe = done.0; next = done.1 };
+}
 
 pub returns-in_err-number-clause-numbered : goal.returns-in_err-number-clause-numbered
 returns-in_err-number-clause-numbered g c = λ tells.
@@ -45,7 +52,7 @@ returns-in_err-number-clause-numbered g c = λ tells.
     takes_first (g.D.Disk.state c.args.disk.now) k (c.requires.told tells) c.args.name.now l.0 l.1
     (few_numbers _ _ _ c.doomed_numbers-doomed.ensures.numbers few)
     (g.D.Disk.state c.doom.new.disk) failed
-    (c.in_err-number.ensures.state tells l.0 (subst (λ xs. IsLeastFree xs l.0) (sym c.doomed_numbers-doomed.ensures.numbers) l.1))
+    (c.in_err-number.ensures.state l.0 (subst (λ xs. IsLeastFree xs l.0) (sym c.doomed_numbers-doomed.ensures.numbers) l.1) tells)
 
 pub returns-clause-numbered : goal.returns-clause-numbered
 returns-clause-numbered g c = λ tells.
@@ -55,4 +62,12 @@ returns-clause-numbered g c = λ tells.
     takes_first (g.D.Disk.state c.args.disk.now) k (c.requires.told tells) c.args.name.now n
     (subst (λ xs. IsLeastFree xs n) c.doomed_numbers-doomed.ensures.numbers c.in_ok-number.ensures.number)
     (few_numbers _ _ _ c.doomed_numbers-doomed.ensures.numbers few)
-    (g.D.Disk.state c.doom.new.disk) (Ok n) (c.in_ok-number.ensures.state tells n c.in_ok-number.ensures.number)
+    (g.D.Disk.state c.doom.new.disk) (Ok n) (c.in_ok-number.ensures.state n c.in_ok-number.ensures.number tells)
+
+pub returns-in_err-number-clause-index : goal.returns-in_err-number-clause-index
+returns-in_err-number-clause-index g c told =
+    doomed_left c.doom.result (g.D.Disk.state c.args.disk.now) (g.D.Disk.state c.doom.new.disk) c.args.name.now _ (g.met.D.Disk.sound c.args.disk.now told) (λ n least. c.doom.ensures.state n least told)
+
+pub returns-clause-index : goal.returns-clause-index
+returns-clause-index g c told =
+    doomed_left c.doom.result (g.D.Disk.state c.args.disk.now) (g.D.Disk.state c.doom.new.disk) c.args.name.now _ (g.met.D.Disk.sound c.args.disk.now told) (λ n least. c.doom.ensures.state n least told)

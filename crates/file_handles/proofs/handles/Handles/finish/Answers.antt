@@ -5,14 +5,18 @@ use Rattle.file_handles.specs.Kept.{kept}
 use Rattle.file_handles.proofs.Carried.{change_carried}
 use Rattle.file_handles.specs.Effects.{wrote_where}
 use Rattle.file_handles.proofs.EffectLaws.{by_value, effect_is}
-use Rattle.file_handles.proofs.ElementChecks.{the_object}
+use Rattle.file_handles.proofs.ElementChecks.{both_right, the_object}
 use Rattle.file_handles.proofs.Places.{filed_somehow}
 use Rattle.file_handles.proofs.WriterCommands.{finish_makes}
 use Rattle.file_handles.proofs.Refused.{refused_answer}
+use Rattle.file_handles.proofs.IndexLeft.{change_left}
 use Rattle.file_handles.proofs.handles.Handles.finish.Goals as goal
 
 pub finish_at-requires-clause-told : goal.finish_at-requires-clause-told
 finish_at-requires-clause-told g c told = filed_somehow _ _ _ (c.requires.told told)
+
+pub finish_at-requires-clause-draft : goal.finish_at-requires-clause-draft
+finish_at-requires-clause-draft g c = both_right _ _ _ c.in_ok-place.ensures.object
 
 pub returns-clause-carried : goal.returns-clause-carried
 returns-clause-carried g c told =
@@ -34,3 +38,9 @@ returns-clause-effect g c =
 pub returns-in_err-place-clause-carried : goal.returns-in_err-place-clause-carried
 returns-in_err-place-clause-carried g c = λ told.
     refused_answer c.from_residual.result (g.D.Disk.state c.args.disk.now) (kept c.args.self.now) (Finish c.args.slot) c.in_err-place.field-0.0 c.from_residual.ensures.1 c.in_err-place.ensures.refused
+
+pub returns-clause-index : goal.returns-clause-index
+returns-clause-index g c told =
+    let there = the_object _ _ c.in_ok-place.ensures.object in
+    change_left (g.D.Disk.state c.args.disk.now) (g.D.Disk.state c.finish_at.new.disk) (kept c.args.self.now) (kept c.finish_at.new.self) c.in_ok-place.place there.0 (completed) c.finish_at.result
+    (g.met.D.Disk.sound c.args.disk.now told) there.1.0 (filed_somehow _ _ _ (c.requires.told told)) (c.finish_at.ensures.changes told)

@@ -2,25 +2,29 @@ use Rattle.std.proofs.Common.{Ok, Some}
 use Rattle.file_handles.specs.Changes.{completed}
 use Rattle.file_handles.specs.Kept.{kept}
 use Rattle.file_handles.proofs.Completed.{completed_becomes, completed_writes}
+use Rattle.file_handles.proofs.ElementChecks.{is_there}
 use Rattle.file_handles.proofs.PutBack.{changes_done, changes_failed, put_back}
 use Rattle.file_handles.proofs.handles.Handles.finish_at.Goals as goal
 
+pub take-object-requires-clause-there : goal.take-object-requires-clause-there
+take-object-requires-clause-there g c = is_there _ _ c.requires.draft
+
 pub returns-in_err-meta-clause-changes : goal.returns-in_err-meta-clause-changes
 returns-in_err-meta-clause-changes g c tells =
-    let x = c.in_ok-object.object in
+    let x = c.take-object.result in
     let s = g.D.Disk.state c.args.disk.now in
     let t = g.D.Disk.state c.finish.new.disk in
-    changes_failed c.args.place completed c.from_residual-in_err-meta.result s t (kept c.args.self.now) (kept c.take.new.self) x c.in_ok-object.ensures.found
+    changes_failed c.args.place completed c.from_residual.result s t (kept c.args.self.now) (kept c.take-object.new.self) x c.take-object.ensures.found
     (completed_writes x c.in-Draft.draft c.in-Draft.is s t c.file_place-file.result c.file_place-file.ensures (c.in_err-meta.ensures.writes tells))
-    c.from_residual-in_err-meta.ensures.0
+    c.from_residual.ensures.0
 
 pub returns-clause-changes : goal.returns-clause-changes
 returns-clause-changes g c tells =
-    let x = c.in_ok-object.object in
+    let x = c.take-object.result in
     let s = g.D.Disk.state c.args.disk.now in
     let t = g.D.Disk.state c.finish.new.disk in
-    changes_done c.args.place completed (Ok c.wrote-effect.result) s t (kept c.args.self.now) (kept c.put.new.self) x c.in_ok-object.ensures.found
+    changes_done c.args.place completed (Ok c.wrote-effect.result) s t (kept c.args.self.now) (kept c.put_entry.new.self) x c.take-object.ensures.found
     (completed_writes x c.in-Draft.draft c.in-Draft.is s t c.file_place-file.result c.file_place-file.ensures (c.in_ok-meta.ensures.writes tells))
     _
     (completed_becomes x c.in-Draft.draft c.in-Draft.is s t c.file_place-file.result c.file_place-file.ensures c.in_ok-meta.meta c.in_ok-meta.ensures.meta (c.in_ok-meta.ensures.stands tells))
-    (put_back (kept c.args.self.now) (kept c.take.new.self) (kept c.put.new.self) c.args.place (Some _) c.in_ok-object.ensures.kept c.put.ensures)
+    (put_back (kept c.args.self.now) (kept c.take-object.new.self) (kept c.put_entry.new.self) c.args.place (Some _) c.take-object.ensures.kept c.put_entry.ensures)

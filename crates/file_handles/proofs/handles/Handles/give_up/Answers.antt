@@ -1,26 +1,32 @@
 use Rattle.std.proofs.Common.{None, sym, ◌∙◌, length-set}
-use Rattle.std.proofs.lemmas.Result.{IfOk-from_err}
 use Rattle.file_handles.specs.Kept.{kept}
-use Rattle.file_handles.proofs.ReleasedSlot.{last_given, safe_may_go, shared_given}
+use Rattle.file_handles.proofs.ElementChecks.{not_there}
+use Rattle.file_handles.proofs.ReleasedSlot.{last_given_or, safe_may_go, shared_given}
+use Rattle.file_handles.proofs.IndexLeft.{let_go_left}
 use Rattle.file_handles.proofs.handles.Handles.give_up.Goals as goal
 
 pub returns-then-is_used-clause-gives_up : goal.returns-then-is_used-clause-gives_up
-returns-then-is_used-clause-gives_up g c tells b m w reads is = (
-  λ on. (is.crash_kept on).safe,
-  shared_given (g.D.Disk.state c.args.disk.now) (kept c.args.self.now) c.args.slot c.args.place c.from.result c.requires.slot
-      (sym (length-set c.args.self.now.slots c.from.result None) ∙ c.is_used.ensures.length) (c.requires.told tells).placed c.from.ensures m w reads is (sym c.is_used.ensures.used ∙ c.if-is_used.true),
-)
+returns-then-is_used-clause-gives_up g c tells = record {
+  leaves = λ b h reads is. record {
+    safe = λ on. (is.crash_kept on).safe;
+    next = shared_given (g.D.Disk.state c.args.disk.now) (kept c.args.self.now) c.args.slot c.args.place c.from.result c.requires.slot
+        (sym (length-set c.args.self.now.slots c.from.result None) ∙ c.is_used.ensures.length) (c.requires.told tells).placed c.from.ensures h.machine h.marks reads is (sym c.is_used.ensures.used ∙ c.if-is_used.true);
+  };
+}
 
-pub returns-in_err-let_go-clause-gives_up : goal.returns-in_err-let_go-clause-gives_up
-returns-in_err-let_go-clause-gives_up g c tells b m w reads is = (
-  λ on. safe_may_go c.let_go.result (g.D.Disk.state c.args.disk.now) (g.D.Disk.state c.let_go.new.disk) w c.in_ok-object.object (c.let_go.ensures.state tells) (is.crash_kept on).safe,
-  IfOk-from_err c.from_residual-in_err-let_go.result _ c.from_residual-in_err-let_go.ensures.0,
-)
+pub returns-in-None-clause-gives_up : goal.returns-in-None-clause-gives_up
+returns-in-None-clause-gives_up g c tells =
+    absurd (not_there _ _ (c.requires.told tells).there (sym c.take_any.ensures.found ∙ c.in-None.is))
 
-pub returns-clause-gives_up : goal.returns-clause-gives_up
-returns-clause-gives_up g c tells b m w reads is = (
-  λ on. safe_may_go c.let_go.result (g.D.Disk.state c.args.disk.now) (g.D.Disk.state c.let_go.new.disk) w c.in_ok-object.object (c.let_go.ensures.state tells) (is.crash_kept on).safe,
-  last_given (g.D.Disk.state c.args.disk.now) (kept c.args.self.now) c.args.slot c.args.place c.from.result c.requires.slot
-      (sym (length-set c.args.self.now.slots c.from.result None) ∙ c.is_used.ensures.length) (c.requires.told tells).placed c.from.ensures m w reads is c.in_ok-object.object (g.D.Disk.state c.let_go.new.disk)
-      (kept c.take.new.self) (sym c.is_used.ensures.used ∙ c.if-is_used.false) c.in_ok-object.ensures.found (c.in_ok-let_go.ensures.state tells) c.take.ensures.kept,
-)
+pub returns-in-Some-clause-gives_up : goal.returns-in-Some-clause-gives_up
+returns-in-Some-clause-gives_up g c tells = record {
+  leaves = λ b h reads is. record {
+    safe = λ on. safe_may_go c.let_go.result (g.D.Disk.state c.args.disk.now) (g.D.Disk.state c.let_go.new.disk) h.marks c.in-Some.object (c.let_go.ensures.state tells) (is.crash_kept on).safe;
+    next = last_given_or (g.D.Disk.state c.args.disk.now) (kept c.args.self.now) c.args.slot c.args.place c.from.result c.requires.slot
+        (sym (length-set c.args.self.now.slots c.from.result None) ∙ c.is_used.ensures.length) (c.requires.told tells).placed c.from.ensures h.machine h.marks reads is c.in-Some.object (g.D.Disk.state c.let_go.new.disk)
+        (kept c.take_any.new.self) c.let_go.result (sym c.is_used.ensures.used ∙ c.if-is_used.false) (sym c.take_any.ensures.found ∙ c.in-Some.is) (c.let_go.ensures.state tells) c.take_any.ensures.kept;
+  };
+}
+
+pub returns-in-Some-clause-index : goal.returns-in-Some-clause-index
+returns-in-Some-clause-index g c told = let_go_left c.let_go.result _ _ c.in-Some.object (c.let_go.ensures.state told)

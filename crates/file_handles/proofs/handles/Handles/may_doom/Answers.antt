@@ -7,33 +7,27 @@ use Rattle.file_handles.proofs.DoomedChecks.{doom_absent, doom_bad_key, doom_rea
 use Rattle.file_handles.proofs.handles.Handles.may_doom.Goals as goal
 
 pub returns-then-not-may_write-clause-refuses : goal.returns-then-not-may_write-clause-refuses
-returns-then-not-may_write-clause-refuses g c = λ refusal same tells m number stands.
+returns-then-not-may_write-clause-refuses g c = λ refusal same tells m stand.
     let bad : may_write c.args.key.now ≡ false = search rules in
     let e : refused.BadKey ≡ refusal = cc in
-    doom_bad_key (g.D.Disk.state c.args.disk.now) (kept c.args.self.now) c.args.key.now bad m number stands ∙ ap Some e
+    doom_bad_key (g.D.Disk.state c.args.disk.now) (kept c.args.self.now) c.args.key.now bad m stand ∙ ap Some e
 
 pub returns-then-is_some-clause-passes : goal.returns-then-is_some-clause-passes
-returns-then-is_some-clause-passes g c = (
-  c.name_of-name.ensures,
-  λ tells.
-      let good : may_write c.args.key.now ≡ true = sym c.may_write.ensures ∙ c.if-not-may_write.false in
-      let used : is_some (used_place (kept c.args.self.now) c.name_of-name.result c.args.key.now) ≡ true = ap is_some (sym c.used_by.ensures) ∙ sym c.is_some.ensures ∙ c.if-is_some.true in
-      doom_used (g.D.Disk.state c.args.disk.now) (kept c.args.self.now) c.args.key.now c.name_of-name.result c.name_of-name.ensures good used,
-)
+returns-then-is_some-clause-passes g c = λ tells.
+    let good : may_write c.args.key.now ≡ true = sym c.may_write.ensures ∙ c.if-not-may_write.false in
+    let used : is_some (used_place (kept c.args.self.now) c.name_of-name.result c.args.key.now) ≡ true = ap is_some (sym c.used_by.ensures) ∙ sym c.is_some.ensures ∙ c.if-is_some.true in
+    doom_used (g.D.Disk.state c.args.disk.now) (kept c.args.self.now) c.args.key.now c.name_of-name.result c.name_of-name.ensures good used
 
 pub returns-in_err-look-clause-refuses : goal.returns-in_err-look-clause-refuses
 returns-in_err-look-clause-refuses g c =
     let good : may_write c.args.key.now ≡ true = sym c.may_write.ensures ∙ c.if-not-may_write.false in
     let unused : is_some (used_place (kept c.args.self.now) c.name_of-name.result c.args.key.now) ≡ false = ap is_some (sym c.used_by.ensures) ∙ sym c.is_some.ensures ∙ c.if-is_some.false in
     refused_on c.from_residual.result c.in_err-look.field-0.0 _ c.from_residual.ensures.1
-    (λ refusal same tells m number stands.
+    (λ refusal same tells m stand.
     let absent = c.in_err-look.ensures.refused refusal same in
-    doom_absent (g.D.Disk.state c.args.disk.now) (kept c.args.self.now) c.args.key.now c.name_of-name.result c.name_of-name.ensures good unused (absent.1 tells) m number stands ∙ ap Some (sym absent.0))
+    doom_absent (g.D.Disk.state c.args.disk.now) (kept c.args.self.now) c.args.key.now c.name_of-name.result c.name_of-name.ensures good unused (absent.1 tells) m stand ∙ ap Some (sym absent.0))
 
 pub returns-clause-passes : goal.returns-clause-passes
-returns-clause-passes g c = (
-  c.name_of-name.ensures,
-  λ tells.
-      let good : may_write c.args.key.now ≡ true = sym c.may_write.ensures ∙ c.if-not-may_write.false in
-      doom_read (g.D.Disk.state c.args.disk.now) (kept c.args.self.now) c.args.key.now c.name_of-name.result c.name_of-name.ensures good c.in_ok-look.field-0 (c.in_ok-look.ensures.found tells),
-)
+returns-clause-passes g c = λ tells.
+    let good : may_write c.args.key.now ≡ true = sym c.may_write.ensures ∙ c.if-not-may_write.false in
+    doom_read (g.D.Disk.state c.args.disk.now) (kept c.args.self.now) c.args.key.now c.name_of-name.result c.name_of-name.ensures good c.in_ok-look.field-0 (c.in_ok-look.ensures.found tells)

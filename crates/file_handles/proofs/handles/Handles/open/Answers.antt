@@ -5,6 +5,7 @@ use Rattle.disk_model.specs.declared.place.Place.TheVariants.{Entry}
 use Rattle.entry_file.specs.EntryFile.{read_for}
 use Rattle.entry_metadata.specs.declared.meta.Meta.{Meta}
 use Rattle.file_handles.specs.Answers.{done_or}
+use Rattle.file_handles.specs.Cache.{cache_at}
 use Rattle.file_handles.specs.Carries.{CarriesOut}
 use Rattle.file_handles.specs.Kept.{kept, use_at}
 use Rattle.file_handles.specs.Loading.{LoadsAs}
@@ -34,7 +35,7 @@ returns-in_err-meta-clause-carried g c = λ told.
     let k = kept c.args.self.now in
     let s = g.D.Disk.state c.args.disk.now in
     let P : Result Meta HandleFault → Type 0 = λ r. LoadsAs (read_for c.args.key.now (standing s (Entry c.name_of-name.result))) r in
-    subst (λ (t : State). CarriesOut (OpenKey c.args.slot c.args.key.now) (done_or c.from_residual.result) s t k k) (sym (c.load.ensures.state told))
+    subst (λ (t : State). CarriesOut (OpenKey c.args.slot c.args.key.now) (done_or c.from_residual.result) (cache_at k s) (cache_at k t)) (sym (c.load.ensures.looks.state told))
     (unread_answer s k c.args.slot c.args.key.now c.requires.slot (used_none (use_at k c.args.slot) c.use_of.result c.use_of.ensures (sym c.is_ok.ensures.value ∙ c.if-is_ok.false))
     (sym c.may_write.ensures ∙ c.if-not-may_write.false) c.name_of-name.result c.name_of-name.ensures (omega arith) (sym c.used_by.ensures ∙ c.in_default.is)
     c.from_residual.result c.in_err-meta.field-0.0 c.from_residual.ensures.1 (subst P c.in_err-meta.was (c.load.ensures.loads told)))
@@ -44,7 +45,7 @@ returns-clause-carried g c = λ told.
     let k = kept c.args.self.now in
     let s = g.D.Disk.state c.args.disk.now in
     let P : Result Meta HandleFault → Type 0 = λ r. LoadsAs (read_for c.args.key.now (standing s (Entry c.name_of-name.result))) r in
-    subst (λ (t : State). CarriesOut (OpenKey c.args.slot c.args.key.now) (done_or c.add.result) s t k (kept c.add.new.self)) (sym (c.load.ensures.state told))
+    subst (λ (t : State). CarriesOut (OpenKey c.args.slot c.args.key.now) (done_or c.add.result) (cache_at k s) (cache_at (kept c.add.new.self) t)) (sym (c.load.ensures.looks.state told))
     (added_leaves s k c.args.slot c.args.key.now c.requires.slot (used_none (use_at k c.args.slot) c.use_of.result c.use_of.ensures (sym c.is_ok.ensures.value ∙ c.if-is_ok.false))
     (sym c.may_write.ensures ∙ c.if-not-may_write.false) c.name_of-name.result c.name_of-name.ensures (omega arith) (sym c.used_by.ensures ∙ c.in_default.is)
     c.in_ok-meta.meta _ refl (subst P c.in_ok-meta.was (c.load.ensures.loads told))

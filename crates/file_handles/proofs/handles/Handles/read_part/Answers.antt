@@ -1,16 +1,17 @@
-use Rattle.std.proofs.Common.{◌≡◌, ◌∙◌, ℕ, List, Bor, refl, sym, subst}
+use Rattle.std.proofs.Common.{◌≡◌, ◌∙◌, ℕ, List, Bor, refl, sym, subst, ap}
 use Rattle.std.specs.Prelude.{IfSome}
 use Rattle.std.specs.Bool.{IsTrue}
 use Rattle.cache_theory.specs.Command.Command.{ReadPart}
-use Rattle.cache_theory.specs.Machine.{Machine, object_of}
 use Rattle.cache_theory.specs.declared.refusal.Refusal.{Refusal}
-use Rattle.disk_model.specs.State.{standing}
+use Rattle.disk_model.specs.Account.{Ending, Looks}
+use Rattle.file_handles.specs.Answers.{ending}
+use Rattle.file_handles.specs.Cache.{cache_at}
 use Rattle.file_handles.specs.Kept.{Kept, kept, object_at, use_at}
-use Rattle.file_handles.specs.Reading.{part_in, part_of_body}
+use Rattle.file_handles.specs.Reading.{ForBody, part_in, part_of_body}
 use Rattle.file_handles.specs.Refuses.{Refuses}
-use Rattle.file_handles.specs.Stands.{Stands}
 use Rattle.file_handles.specs.declared.fault.HandleFault.TheVariants as fault
-use Rattle.file_handles.proofs.PartsSlots.{cause_ok, cause_on, err_is, error_says, no_cause, on_err, part_no_object, part_no_slot, part_passes, part_read}
+use Rattle.file_handles.proofs.Accounting.{looks_nowhere}
+use Rattle.file_handles.proofs.PartsSlots.{err_is, error_says, on_err, part_no_object, part_no_slot, part_passes, part_read}
 use Rattle.file_handles.proofs.ElementSlots.{use_found}
 use Rattle.file_handles.proofs.handles.Handles.read_part.Goals as goal
 
@@ -21,7 +22,7 @@ returns-in_err-used g c =
     let f : Refusal = c.in_err-used.field-0.0 in
     let is = err_is c.from_residual.result (fault.Refused f) c.from_residual.ensures.1 in
     let says = error_says c.from_residual.result (fault.Refused f)
-    (λ (part : Bor (List ℕ)). IsTrue g.D.Disk.tells → (m : Machine) (number : ℕ → ℕ) → Stands (standing s) k m number → part.now ≡ part_of_body (object_of m c.args.slot).version.body c.args.from c.args.len)
+    (λ (part : Bor (List ℕ)). IsTrue g.D.Disk.tells → ForBody (cache_at k s) c.args.slot (λ body. part.now ≡ part_of_body body c.args.from c.args.len))
     (λ (r : Refusal). Refuses k (ReadPart c.args.slot c.args.from c.args.len) r) is
     (λ r same.
     let one : f ≡ r = cc in
@@ -32,9 +33,7 @@ returns-in_err-used g c =
         refused = says.1;
         passes = on_err _ c.from_residual.result (fault.Refused f) is;
         kept = tt;
-        state = λ told. refl;
-        no_change = λ told. refl;
-        cause = no_cause c.from_residual.result f _ is;
+        looks = looks_nowhere g.D.Disk _ _ (ap ending is);
       },
     )
 
@@ -45,7 +44,7 @@ returns-in_err-fetch_part g c =
     let e = c.in_err-fetch_part.field-0.0 in
     let is = err_is c.from_residual-in_err-fetch_part.result e c.from_residual-in_err-fetch_part.ensures.1 in
     let says = error_says c.from_residual-in_err-fetch_part.result e
-    (λ (part : Bor (List ℕ)). IsTrue g.D.Disk.tells → (m : Machine) (number : ℕ → ℕ) → Stands (standing s) k m number → part.now ≡ part_of_body (object_of m c.args.slot).version.body c.args.from c.args.len)
+    (λ (part : Bor (List ℕ)). IsTrue g.D.Disk.tells → ForBody (cache_at k s) c.args.slot (λ body. part.now ≡ part_of_body body c.args.from c.args.len))
     (λ (r : Refusal). Refuses k (ReadPart c.args.slot c.args.from c.args.len) r) is
     (λ r same. part_no_object k c.args.slot c.requires.slot r c.in_ok-used.used (sym c.use_of.ensures ∙ c.in_ok-used.was) (c.in_err-fetch_part.ensures.refused r same) c.args.from c.args.len) in (
       (refl, λ _. tt, c.fetch_part.ensures.kept),
@@ -54,9 +53,7 @@ returns-in_err-fetch_part g c =
         refused = says.1;
         passes = on_err _ c.from_residual-in_err-fetch_part.result e is;
         kept = tt;
-        state = c.fetch_part.ensures.state;
-        no_change = c.fetch_part.ensures.no_change;
-        cause = cause_on c.fetch_part.result c.from_residual-in_err-fetch_part.result e _ _ c.in_err-fetch_part.was is c.fetch_part.ensures.cause;
+        looks = subst (λ (a : Ending). Looks g.D.Disk a c.args.disk.now c.fetch_part.new.disk) (ap ending c.in_err-fetch_part.was ∙ sym (ap ending is)) c.fetch_part.ensures.looks;
       },
     )
 
@@ -69,14 +66,12 @@ returns g c =
     let lent = subst P c.fetch_part.ensures.kept c.lend_part.ensures in (
       (refl, λ _. tt, c.fetch_part.ensures.kept),
       record {
-        part = λ told.
+        part = λ told m stand.
             part_read s k c.args.slot c.requires.slot u (sym c.use_of.ensures ∙ c.in_ok-used.was) c.lend_part.result.now c.fetch_part.new.self.chunk c.args.from c.args.len
-            (c.in_ok-fetch_part.ensures.part told) lent;
+            (c.in_ok-fetch_part.ensures.part told) lent m stand.0 stand.1;
         refused = tt;
         passes = part_passes k c.args.slot c.requires.slot u (use_found (use_at k c.args.slot) u (sym c.use_of.ensures ∙ c.in_ok-used.was)) c.args.from c.args.len;
         kept = tt;
-        state = c.fetch_part.ensures.state;
-        no_change = c.fetch_part.ensures.no_change;
-        cause = cause_ok c.fetch_part.result c.in_ok-fetch_part.field-0 c.lend_part.result _ _ c.in_ok-fetch_part.was c.fetch_part.ensures.cause;
+        looks = subst (λ (a : Ending). Looks g.D.Disk a c.args.disk.now c.fetch_part.new.disk) (ap ending c.in_ok-fetch_part.was) c.fetch_part.ensures.looks;
       },
     )

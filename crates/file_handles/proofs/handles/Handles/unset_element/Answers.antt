@@ -2,18 +2,20 @@ use Rattle.std.proofs.Common.{Ok, not, refl, sym, ap, subst, ◌∙◌}
 use Rattle.cache_theory.specs.Command.Command.{UnsetElement}
 use Rattle.entry_parts.specs.Elements.{element}
 use Rattle.file_handles.specs.Answers.{done_or}
+use Rattle.file_handles.specs.Cache.{cache_at}
 use Rattle.file_handles.specs.Carries.{CarriesOut}
 use Rattle.file_handles.specs.Effects.{wrote_where}
 use Rattle.file_handles.specs.Held.{is_draft}
 use Rattle.file_handles.specs.Kept.{kept, object_at}
 use Rattle.file_handles.specs.Refuses.{HasAt}
 use Rattle.file_handles.proofs.EffectLaws.{effect_is, unsets_rewrite}
-use Rattle.file_handles.proofs.ElementChecks.{at_object}
+use Rattle.file_handles.proofs.ElementChecks.{at_object, if_object, some_object}
 use Rattle.file_handles.proofs.ElementCommands.{fault_reply, unset_leaves}
 use Rattle.file_handles.proofs.ElementEntries.{room_without}
 use Rattle.file_handles.proofs.ElementReads.{mapped_none, mapped_some, unset_none_leaves}
 use Rattle.file_handles.proofs.Places.{filed_somehow}
 use Rattle.file_handles.proofs.Refused.{refused_answer_or_none}
+use Rattle.file_handles.proofs.IndexLeft.{change_left}
 use Rattle.file_handles.proofs.handles.Handles.unset_element.Goals as goal
 
 pub returns-then-is_none-clause-carried : goal.returns-then-is_none-clause-carried
@@ -26,7 +28,10 @@ returns-then-is_none-clause-carried g c told =
     (mapped_none _ c.get.result _ (c.get.ensures ∙ ap (element name) c.elements.ensures) c.if-is_none.ensures)
 
 pub change_at-requires-clause-room : goal.change_at-requires-clause-room
-change_at-requires-clause-room g c = room_without (object_at (kept c.args.self.now) c.in_ok-place.place) c.args.name.now
+change_at-requires-clause-room g c =
+    let o = object_at (kept c.args.self.now) c.in_ok-place.place in
+    let x = c.in_ok-object_at.field-0.now in
+    some_object o x _ c.in_ok-object_at.ensures.found (if_object o x _ c.in_ok-object_at.ensures.found (room_without o c.args.name.now))
 
 pub change_at-requires-clause-told : goal.change_at-requires-clause-told
 change_at-requires-clause-told g c told = filed_somehow _ _ _ (c.requires.told told)
@@ -41,7 +46,7 @@ returns-in_err-effect-clause-carried g c told =
     let x = c.in_ok-object_at.field-0.now in
     let has = at_object _ x (HasAt k c.args.slot c.in_ok-place.place) c.in_ok-object_at.ensures.found c.in_ok-place.ensures.object in
     let some = mapped_some _ c.get.result _ (c.get.ensures ∙ ap (element name) c.elements.ensures) c.if-is_none.ensures in
-    subst (λ reply. CarriesOut (UnsetElement c.args.slot name) reply s t k after)
+    subst (λ reply. CarriesOut (UnsetElement c.args.slot name) reply (cache_at k s) (cache_at after t))
     (ap done_or c.in_err-effect.was ∙ sym (fault_reply c.from_residual-in_err-effect.result c.in_err-effect.field-0.0 c.from_residual-in_err-effect.ensures.1))
     (unset_leaves s t (g.met.D.Disk.sound c.args.disk.now told) k after c.args.slot c.requires.slot c.in_ok-place.place x has name c.change_at.result (c.change_at.ensures.quiet told) c.change_at.ensures.refused
     some.0 some.1 (c.in_ok-place.ensures.passes name) (c.change_at.ensures.changes told))
@@ -70,3 +75,13 @@ returns-clause-effect g c = λ m number stand.
 pub returns-in_err-place-clause-carried : goal.returns-in_err-place-clause-carried
 returns-in_err-place-clause-carried g c = λ told.
     refused_answer_or_none c.from_residual.result (g.D.Disk.state c.args.disk.now) (kept c.args.self.now) (UnsetElement c.args.slot c.args.name.now) c.in_err-place.field-0.0 c.from_residual.ensures.1 (c.in_err-place.ensures.refused c.args.name.now)
+
+pub returns-in_err-effect-clause-index : goal.returns-in_err-effect-clause-index
+returns-in_err-effect-clause-index g c told =
+    change_left (g.D.Disk.state c.args.disk.now) (g.D.Disk.state c.change_at.new.disk) (kept c.args.self.now) (kept c.change_at.new.self) c.in_ok-place.place c.in_ok-object_at.field-0.now (_) c.change_at.result
+    (g.met.D.Disk.sound c.args.disk.now told) c.in_ok-object_at.ensures.found (filed_somehow _ _ _ (c.requires.told told)) (c.change_at.ensures.changes told)
+
+pub returns-clause-index : goal.returns-clause-index
+returns-clause-index g c told =
+    change_left (g.D.Disk.state c.args.disk.now) (g.D.Disk.state c.change_at.new.disk) (kept c.args.self.now) (kept c.change_at.new.self) c.in_ok-place.place c.in_ok-object_at.field-0.now (_) c.change_at.result
+    (g.met.D.Disk.sound c.args.disk.now told) c.in_ok-object_at.ensures.found (filed_somehow _ _ _ (c.requires.told told)) (c.change_at.ensures.changes told)

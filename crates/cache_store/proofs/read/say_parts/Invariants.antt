@@ -1,0 +1,23 @@
+use Rattle.std.proofs.Common.{◌-◌, ◌≡◌, ◌≤◌, IsTrue, drop, take}
+use Rattle.disk_model.specs.Account.{IsCalm}
+use Rattle.file_handles.specs.Cache.{cache}
+use Rattle.file_handles.specs.Kept.{kept}
+use Rattle.file_handles.specs.Reading.{ForBody}
+use Rattle.cache_store.specs.Said.{saying}
+use Rattle.cache_store.specs.Saying.{SaysMore}
+use Rattle.cache_store.proofs.read.say_parts.Given as goal
+
+-- the bytes so far were said, and nothing else was done
+abbrev pub invariant-loop-done : goal.invariant-loop-done
+invariant-loop-done g l = record {
+  bound : l.done ≤ l.len;
+  says : IsTrue g.D.Disk.tells → ForBody (cache g.D.Disk l.fn.handles l.fn.disk) l.slot (λ body.
+      SaysMore (saying g.K.Sink l.fn.reply l.fn.sink) (saying g.K.Sink l.reply l.sink) (take l.done (drop l.from body)));
+  same : kept l.handles ≡ kept l.fn.handles;
+  state : IsTrue g.D.Disk.tells → g.D.Disk.state l.disk ≡ g.D.Disk.state l.fn.disk;
+  calm : IsCalm g.D.Disk l.fn.disk l.disk;
+  sink : g.K.Sink.faults l.sink ≡ g.K.Sink.faults l.fn.sink;
+}
+
+abbrev pub decreases-loop-done : goal.decreases-loop-done
+decreases-loop-done g l = l.len - l.done

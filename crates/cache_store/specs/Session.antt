@@ -1,0 +1,27 @@
+-- A store that is open, over its disk.
+use Rattle.std.specs.Prelude.{ℕ}
+use Rattle.cache_store.specs.declared.store.Store.{Store}
+use Rattle.disk_model.specs.State.{State}
+use Rattle.disk_model.specs.declared.disk.Disk.{Ghosts}
+use Rattle.file_handles.specs.Cache.{Cache}
+use Rattle.file_handles.specs.Kept.{Kept, kept}
+
+-- what a store keeps: the handles and the moment
+pub record Open : Type 0 where
+  pub handles : Kept
+  pub moment : ℕ
+
+abbrev pub open_of : Store → Open
+open_of store = record { handles = kept store.handles; moment = store.moment }
+
+-- a store that is open, and the disk under it
+pub record Session : Type 0 where
+  pub open_store : Open
+  pub disk : State
+
+abbrev pub session : {C : _} → Ghosts C → Store → C → Session
+session D store disk = record { open_store = open_of store; disk = D.state disk }
+
+-- the handles, and the disk under them
+abbrev pub cache_of : Session → Cache
+cache_of now = record { handles = now.open_store.handles; disk = now.disk }

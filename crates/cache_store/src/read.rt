@@ -1,0 +1,184 @@
+//! Replies to a `read`.
+
+ghost use Rattle.std.specs.Prelude.{◌≡◌, ◌≢◌, ◌<◌, ◌≤◌, ◌+◌, ◌^◌, [], IfOk, IsErrOf, IsTrue, OnErr, OnOk, codes, drop, length, take};
+ghost use Rattle.cache_base.specs.Causes.{HasCause};
+ghost use Rattle.cache_base.specs.declared.limits.TheConstants.{SLOTS};
+ghost use Rattle.cache_store.specs.Faults.{ending};
+ghost use Rattle.cache_store.specs.Said.{saying};
+ghost use Rattle.cache_store.specs.Saying.{CutsIn, SaysMore, SaysPart, StopsIn};
+ghost use Rattle.cache_theory.specs.Command.Command.{ReadPart};
+ghost use Rattle.cache_theory.specs.Text.{with_bytes};
+ghost use Rattle.disk_model.specs.Account.{Looks};
+ghost use Rattle.file_handles.specs.Cache.{cache};
+ghost use Rattle.file_handles.specs.Kept.{kept};
+ghost use Rattle.file_handles.specs.Reading.{ForBody, part_of_body};
+ghost use Rattle.file_handles.specs.Stands.{RepresentsSome};
+
+use crate::StoreFault;
+use crate::answered::Answered;
+use crate::pending::Pending;
+use crate::replies::counted;
+use crate::store::Store;
+use cache_io::Sink;
+use disk_model::Disk;
+use file_handles::{HandleFault, Handles};
+use std::alloc::Global;
+
+// Says one part of the body, and gives its length.
+fn say_part<D: Disk, K: Sink>(
+    handles: &mut Handles,
+    disk: &mut D,
+    slot: u8,
+    from: u64,
+    len: u64,
+    reply: &mut Pending,
+    sink: &mut K,
+) -> Result<u64, StoreFault>
+    requires slot { slot < SLOTS }
+    requires told { IsTrue D.tells → RepresentsSome (cache D.Disk handles.old disk.old) }
+    ensures says { let at = saying K.Sink in IfOk result (λ n. IsTrue D.tells →
+        ForBody (cache D.Disk handles.old disk.old) slot (λ body.
+        let part = part_of_body body from len in
+        SaysPart n (at reply.old sink.old) (at reply.new sink.new) part)) }
+    ensures stops { let at = saying K.Sink in OnErr result (IsTrue D.tells →
+        ForBody (cache D.Disk handles.old disk.old) slot (λ body.
+        let part = part_of_body body from len in
+        StopsIn (at reply.old sink.old) (K.taken sink.new) part)) }
+    ensures bound { IfOk result (λ n. n ≤ len) }
+    ensures kept { kept handles.new ≡ kept handles.old }
+    ensures looks { Looks D.Disk (ending result) disk.old disk.new }
+    ensures sink { let failed = IsErrOf result StoreFault.Sink in
+        HasCause failed (K.faults sink.old) (K.faults sink.new) }
+{
+    match handles.read_part(disk, slot, from, len) {
+        Ok(part) => {
+            let n = len.min(part.len() as u64);
+            reply.put(sink, part)?;
+            Ok(n)
+        }
+        Err(HandleFault::Disk) => Err(StoreFault::Disk),
+        Err(HandleFault::Memory) => Err(StoreFault::Memory),
+        Err(HandleFault::Refused(_)) => Err(StoreFault::Memory),
+    }
+}
+
+// Says the bytes of the body from a place on, part by part.
+fn say_parts<D: Disk, K: Sink>(
+    handles: &mut Handles,
+    disk: &mut D,
+    slot: u8,
+    from: u64,
+    len: u64,
+    reply: &mut Pending,
+    sink: &mut K,
+) -> Result<(), StoreFault>
+    requires slot { slot < SLOTS }
+    requires small { from + len < 2 ^ 64 }
+    requires told { IsTrue D.tells → RepresentsSome (cache D.Disk handles.old disk.old) }
+    ensures says { let at = saying K.Sink in OnOk result (IsTrue D.tells →
+        ForBody (cache D.Disk handles.old disk.old) slot (λ body.
+        let bytes = take len (drop from body) in
+        SaysMore (at reply.old sink.old) (at reply.new sink.new) bytes)) }
+    ensures stops { let at = saying K.Sink in OnErr result (IsTrue D.tells →
+        ForBody (cache D.Disk handles.old disk.old) slot (λ body.
+        let bytes = take len (drop from body) in
+        StopsIn (at reply.old sink.old) (K.taken sink.new) bytes)) }
+    ensures kept { kept handles.new ≡ kept handles.old }
+    ensures looks { Looks D.Disk (ending result) disk.old disk.new }
+    ensures sink { let failed = IsErrOf result StoreFault.Sink in
+        HasCause failed (K.faults sink.old) (K.faults sink.new) }
+{
+    let mut done = 0;
+    while done < len {
+        let n = say_part(handles, disk, slot, from + done, len - done, reply, sink)?;
+        if n == 0 {
+            return Ok(());
+        }
+        done += n;
+    }
+    Ok(())
+}
+
+// Says so many bytes of the body from a place on, if it has them, after a line with their number.
+fn say_bytes<D: Disk, K: Sink>(
+    handles: &mut Handles,
+    alloc: Global,
+    disk: &mut D,
+    slot: u8,
+    from: u64,
+    len: u64,
+    reply: &mut Pending,
+    sink: &mut K,
+) -> Result<(), StoreFault>
+    requires slot { slot < SLOTS }
+    requires small { from + len < 2 ^ 64 }
+    requires told { IsTrue D.tells → RepresentsSome (cache D.Disk handles.old disk.old) }
+    ensures says { let at = saying K.Sink in OnOk result (IsTrue D.tells →
+        ForBody (cache D.Disk handles.old disk.old) slot (λ body.
+        let bytes = take len (drop from body) in
+        let text = with_bytes (codes "data") bytes in
+        len ≡ length bytes →
+        SaysMore (at reply.old sink.old) (at reply.new sink.new) text)) }
+    ensures cut { let at = saying K.Sink in OnErr result (IsTrue D.tells →
+        ForBody (cache D.Disk handles.old disk.old) slot (λ body.
+        let bytes = take len (drop from body) in
+        let text = with_bytes (codes "data") bytes in
+        len ≡ length bytes → CutsIn (at reply.old sink.old) (K.taken sink.new) text)) }
+    ensures kept { kept handles.new ≡ kept handles.old }
+    ensures looks { Looks D.Disk (ending result) disk.old disk.new }
+    ensures sink { let failed = IsErrOf result StoreFault.Sink in
+        HasCause failed (K.faults sink.old) (K.faults sink.new) }
+{
+    let head = counted(alloc, b"data", len)?;
+    reply.put(sink, head.as_slice())?;
+    say_parts(handles, disk, slot, from, len, reply, sink)?;
+    reply.put(sink, b"\n")?;
+    Ok(())
+}
+
+impl Store {
+    ghost use Rattle.cache_store.specs.Answering.{AnswersFor};
+    ghost use Rattle.cache_store.specs.Session.{open_of};
+
+    /// Says the part of a body, unless the command is refused.
+    pub(crate) fn say_read<D: Disk, K: Sink>(
+        &mut self,
+        alloc: Global,
+        disk: &mut D,
+        slot: u8,
+        from: u32,
+        len: u32,
+        sink: &mut K,
+    ) -> Result<Answered, StoreFault>
+        requires slot { slot < SLOTS }
+        requires empty { self.old.reply.held ≡ [] }
+        requires told { IsTrue D.tells → RepresentsSome (cache D.Disk self.old.handles disk.old) }
+        ensures answers { IsTrue D.tells →
+            AnswersFor (cache D.Disk self.old.handles disk.old) (ReadPart slot from len) result
+            (K.taken sink.old) (saying K.Sink self.new.reply sink.new) }
+        ensures unsaid { IfOk result (λ a. a ≢ Answered.All → sink.new ≡ sink.old) }
+        ensures still_empty { IfOk result (λ a.
+            a ≢ Answered.All → self.new.reply.held ≡ []) }
+        ensures open { open_of self.new ≡ open_of self.old }
+        ensures looks { Looks D.Disk (ending result) disk.old disk.new }
+        ensures sink { let failed = IsErrOf result StoreFault.Sink in
+            HasCause failed (K.faults sink.old) (K.faults sink.new) }
+    {
+        let end = match self.handles.body_len(slot) {
+            Ok(end) => end,
+            Err(refusal) => return Ok(Answered::Refused(refusal)),
+        };
+        let count = u64::from(len).min(u64::from(end.saturating_sub(from)));
+        say_bytes(
+            &mut self.handles,
+            alloc,
+            disk,
+            slot,
+            u64::from(from),
+            count,
+            &mut self.reply,
+            sink,
+        )?;
+        Ok(Answered::All)
+    }
+}

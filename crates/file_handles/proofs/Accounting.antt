@@ -1,0 +1,45 @@
+-- The account of calls in sequence, and of one whose answer is handed on.
+use Rattle.std.proofs.Common.{◌≡◌, ◌∙◌, Result, Ok, Err, IsErrAnd, IsTrue, refl, sym, subst, arith}
+use Rattle.std.specs.Prelude.{IsErrOf}
+use Rattle.cache_base.specs.Causes.{HasCause}
+use Rattle.disk_model.specs.Account.{Accounts, Ending, IsCalm, Looks}
+use Rattle.disk_model.specs.Calls.{StopsAtFault}
+use Rattle.disk_model.specs.declared.disk.Disk.{Ghosts}
+use Rattle.disk_model.specs.declared.disk.DiskFault.{DiskFault}
+use Rattle.disk_model.specs.declared.disk.DiskFault.TheVariants as disk
+use Rattle.file_handles.specs.Answers.{ending, fault_ending, fault_of}
+use Rattle.file_handles.specs.declared.fault.HandleFault.{HandleFault}
+
+-- one call more, after calls none of which failed
+pub calm_then : {Self : _} (D : Ghosts Self) (a b c : Self) → IsCalm D a b → Accounts D Ending.NoneFailed b c → IsCalm D a c
+calm_then D a b c calm last = record { faults = last.cause.kept (λ failed. cc) ∙ calm.faults; no_change = λ told. last.went_on refl told ∙ calm.no_change told }
+
+-- a call that makes none of the disk
+pub looks_nowhere : {Self : _} (D : Ghosts Self) (answer : Ending) (disk : Self) → answer ≡ Ending.NoneFailed → Looks D answer disk disk
+looks_nowhere D answer disk none = record {
+  cause = record { later = omega arith; rose = λ failed. absurd (let both : Ending.NoneFailed ≡ Ending.OneFailed = sym none ∙ failed in cc); kept = λ not. refl };
+  state = λ told. refl;
+  no_change = λ told. refl;
+}
+
+-- a fault of the disk that is handed on
+pub account_handed_on : {T X : Type 0} {Self : _} (D : Ghosts Self) (r : Result X DiskFault) (f : DiskFault) (out : Result T HandleFault) (before now : Self) → r ≡ Err f → IsErrAnd out (λ e. e ≡ fault_of f)
+    → HasCause (IsErrOf r disk.Failed) (D.faults before) (D.faults now) → (IsTrue D.tells → StopsAtFault (D.counts before) (D.counts now)) → Accounts D (ending out) before now
+account_handed_on D r f (Ok value) before now at is cause stops = absurd is
+account_handed_on {X = X} D r f (Err e) before now at is cause stops = subst (λ e. Accounts D (fault_ending e) before now) (sym is) (go f at)
+  where
+    go : (f : DiskFault) → r ≡ Err f → Accounts D (fault_ending (fault_of f)) before now
+    go disk.Failed at = record {
+      cause = record { later = cause.later; rose = λ failed. cause.rose at; kept = λ not. absurd (not refl) };
+      went_on = λ none. absurd cc;
+      stops = stops;
+    }
+    go disk.Memory at = record {
+      cause = record {
+        later = cause.later;
+        rose = λ failed. absurd cc;
+        kept = λ not. cause.kept (λ failed. let both : ◌≡◌ {A = Result X DiskFault} (Err disk.Memory) (Err disk.Failed) = sym at ∙ failed in cc);
+      };
+      went_on = λ none. absurd cc;
+      stops = stops;
+    }

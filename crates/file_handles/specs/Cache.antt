@@ -1,0 +1,16 @@
+-- The handles, and the disk under them.
+use Rattle.disk_model.specs.State.{State}
+use Rattle.disk_model.specs.declared.disk.Disk.{Ghosts}
+use Rattle.file_handles.specs.Kept.{Kept, kept}
+use Rattle.file_handles.specs.declared.handles.Handles.{Handles}
+
+pub record Cache : Type 0 where
+  pub handles : Kept
+  pub disk : State
+
+abbrev pub cache_at : Kept → State → Cache
+cache_at k s = record { handles = k; disk = s }
+
+-- the same at a moment of a call
+abbrev pub cache : {Self : _} → Ghosts Self → Handles → Self → Cache
+cache D handles disk = cache_at (kept handles) (D.state disk)

@@ -1,0 +1,172 @@
+//! Closes a slot, and all slots at the end.
+
+ghost use Rattle.std.specs.Prelude.{◌≡◌, ◌<◌, ◌&&◌, IfOk, IsSome, IsTrue, OnOk, Some, length};
+ghost use Rattle.std.specs.List.{list_any};
+ghost use Rattle.cache_base.specs.declared.limits.TheConstants.{SLOTS};
+ghost use Rattle.cache_theory.specs.Command.Command.{Close};
+ghost use Rattle.disk_model.specs.Account.{Accounts, ending as disk_ending};
+ghost use Rattle.disk_model.specs.Calls.{if_done};
+ghost use Rattle.disk_model.specs.State.{standing};
+ghost use Rattle.disk_model.specs.Told.{Told};
+ghost use Rattle.file_handles.specs.Answers.{OnRefused, done_or, ending};
+ghost use Rattle.file_handles.specs.Closing.{dropped, is_some_draft, is_use_of, let_go_by};
+ghost use Rattle.file_handles.specs.Effects.{HasEffect, wrote_where};
+ghost use Rattle.file_handles.specs.Held.{is_draft, object_place};
+ghost use Rattle.index_theory.specs.Leaves.{LeavesIndex};
+
+use crate::object::{Entry, Object, Use};
+use crate::{Effect, HandleFault, Handles};
+use cache_base::SLOTS;
+use disk_model::{Disk, DiskFault};
+use doom_area::release;
+use std::alloc::Global;
+
+// Whether the use is of this place.
+fn uses(used: &Option<Use>, place: usize) -> bool
+    ensures { result ≡ is_use_of place used.now }
+{
+    match used {
+        Some(used) => used.place == place,
+        None => false,
+    }
+}
+
+// Whether some slot uses the place.
+fn is_used(slots: &[Option<Use>; SLOTS], place: usize) -> bool
+    ensures used { result ≡ list_any (is_use_of place) slots.now }
+    ensures length { length slots.now ≡ SLOTS }
+{
+    slots.iter().any(|used| uses(used, place))
+}
+
+// Removes the file of an object that no slot uses any more, if it is doomed.
+fn let_go<D: Disk>(disk: &mut D, object: &Object) -> Result<(), DiskFault>
+    requires { IsTrue D.tells → IsSome (standing (D.state disk.old) (object_place object.now)) }
+    ensures state { Told D.Disk (λ s t. t ≡ if_done result (let_go_by object.now s) s)
+        disk.old disk.new }
+    ensures account { Accounts D.Disk (disk_ending result) disk.old disk.new }
+{
+    match object.doomed {
+        Some(number) => release(disk, number),
+        None => Ok(()),
+    }
+}
+
+// Removes the file of an object that does not outlast the handles: one that is doomed, or not finished.
+fn drop_file<D: Disk>(disk: &mut D, object: &Object) -> Result<(), DiskFault>
+    requires { IsTrue D.tells → IsSome (standing (D.state disk.old) (object_place object.now)) }
+    ensures state { Told D.Disk (λ s t. t ≡ if_done result (dropped object.now s) s)
+        disk.old disk.new }
+    ensures account { Accounts D.Disk (disk_ending result) disk.old disk.new }
+{
+    if object.doomed.is_none() && matches!(object.entry, Entry::Finished(_)) {
+        return Ok(());
+    }
+    disk.remove(&object.file_place())
+}
+
+impl Handles {
+    ghost use Rattle.file_handles.specs.Cache.{cache};
+    ghost use Rattle.file_handles.specs.Carries.{CarriesOut};
+    ghost use Rattle.file_handles.specs.Closing.{ClosesAll, FinishesFirst, GivesUp, MayGiveUp};
+    ghost use Rattle.file_handles.specs.Kept.{kept, object_at as object_kept_at, object_in, use_at};
+    ghost use Rattle.file_handles.specs.Stands.{RepresentsSome};
+
+    // Whether the use is a writer's, of a draft.
+    fn is_finished_by(&self, used: Use) -> bool
+        ensures { result ≡ (used.writes
+            && is_some_draft (object_kept_at (kept self.now) used.place)) }
+    {
+        match &self.objects[used.place] {
+            Some(object) => used.writes && matches!(object.entry, Entry::Draft(_)),
+            None => false,
+        }
+    }
+
+    // Finishes the entry of a slot that writes it, if it is not finished, before the slot is given up.
+    fn finish_first<D: Disk>(
+        &mut self,
+        alloc: Global,
+        disk: &mut D,
+        slot: u8,
+        used: Use,
+    ) -> Result<Effect, HandleFault>
+        requires slot { slot < SLOTS }
+        requires used { use_at (kept self.old) slot ≡ Some used }
+        requires told { IsTrue D.tells → RepresentsSome (cache D.Disk self.old disk.old) }
+        ensures finishes { let at = cache D.Disk in IsTrue D.tells →
+            FinishesFirst slot result (at self.old disk.old) (at self.new disk.new) }
+        ensures there { OnOk result (IsTrue D.tells →
+            MayGiveUp slot used.place (cache D.Disk self.new disk.new)) }
+        ensures effect { IfOk result (λ effect. effect ≡ wrote_where
+            (λ x. used.writes && is_draft x.entry) (object_kept_at (kept self.old) used.place)) }
+        ensures refused { OnRefused result (λ _. ⊥) }
+        ensures index { Told D.Disk LeavesIndex disk.old disk.new }
+        ensures account { Accounts D.Disk (ending result) disk.old disk.new }
+    {
+        if self.is_finished_by(used) {
+            self.finish_at(alloc, disk, used.place)
+        } else {
+            Ok(Effect::Same)
+        }
+    }
+
+    // Gives up a slot that has this place, and the object there if no other slot uses it.
+    fn give_up<D: Disk>(&mut self, disk: &mut D, slot: u8, place: usize) -> Result<(), DiskFault>
+        requires slot { slot < SLOTS }
+        requires place { place < SLOTS }
+        requires told { IsTrue D.tells → MayGiveUp slot place (cache D.Disk self.old disk.old) }
+        ensures gives_up { let at = cache D.Disk in IsTrue D.tells →
+            GivesUp slot result (at self.old disk.old) (at self.new disk.new) }
+        ensures index { Told D.Disk LeavesIndex disk.old disk.new }
+        ensures account { Accounts D.Disk (disk_ending result) disk.old disk.new }
+    {
+        self.slots[usize::from(slot)] = None;
+        if is_used(&self.slots, place) {
+            return Ok(());
+        }
+        match self.take_any(place) {
+            Some(object) => let_go(disk, &object),
+            None => Ok(()),
+        }
+    }
+
+    /// Closes a slot. If it writes an entry that is not finished, the entry is finished first. The file of a doomed entry
+    /// is removed with its last slot.
+    pub fn close<D: Disk>(
+        &mut self,
+        alloc: Global,
+        disk: &mut D,
+        slot: u8,
+    ) -> Result<Effect, HandleFault>
+        requires slot { slot < SLOTS }
+        requires told { IsTrue D.tells → RepresentsSome (cache D.Disk self.old disk.old) }
+        ensures carried { let at = cache D.Disk in IsTrue D.tells →
+            CarriesOut (Close slot) (done_or result) (at self.old disk.old) (at self.new disk.new) }
+        ensures effect { IfOk result (HasEffect (kept self.old) (Close slot)) }
+        ensures unchanged { OnRefused result (λ _. IsTrue D.tells → disk.new ≡ disk.old) }
+        ensures index { Told D.Disk LeavesIndex disk.old disk.new }
+        ensures account { Accounts D.Disk (ending result) disk.old disk.new }
+    {
+        let used = self.use_of(slot)?;
+        let effect = self.finish_first(alloc, disk, slot, used)?;
+        self.give_up(disk, slot, used.place)?;
+        Ok(effect)
+    }
+
+    /// Closes all slots. The files of entries that are not finished, and of doomed ones, are removed.
+    pub fn close_all<D: Disk>(self, disk: &mut D) -> Result<(), DiskFault>
+        requires told { IsTrue D.tells → RepresentsSome (cache D.Disk self disk.old) }
+        ensures closes { IsTrue D.tells →
+            ClosesAll result (cache D.Disk self disk.old) (D.state disk.new) }
+        ensures index { Told D.Disk LeavesIndex disk.old disk.new }
+        ensures account { Accounts D.Disk (disk_ending result) disk.old disk.new }
+    {
+        for object in &self.objects {
+            if let Some(object) = object {
+                drop_file(disk, object)?;
+            }
+        }
+        Ok(())
+    }
+}

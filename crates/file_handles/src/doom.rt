@@ -1,0 +1,163 @@
+//! Dooms an entry: it loses its name, and its file is removed or moved among the doomed.
+
+ghost use Rattle.std.specs.Prelude.{◌≡◌, ◌≢◌, ◌<◌, ◌≤◌, false, IfOk, IsTrue, None, Ok, OnOk, Some, is_some, take};
+ghost use Rattle.cache_base.specs.declared.limits.TheConstants.{SLOTS};
+ghost use Rattle.cache_theory.specs.Command.Command.{Doom};
+ghost use Rattle.disk_model.specs.Account.{Accounts, Looks};
+ghost use Rattle.disk_model.specs.Told.{Told};
+ghost use Rattle.entry_name.specs.EntryName.{file_name};
+ghost use Rattle.file_handles.specs.Answers.{OnRefused, done_or, ending};
+ghost use Rattle.file_handles.specs.Dooming.{TakesFirstFree, numbers_in};
+ghost use Rattle.file_handles.specs.Effects.{HasEffect};
+ghost use Rattle.index_theory.specs.Leaves.{LeavesIndex};
+
+use crate::find::look;
+use crate::object::Object;
+use crate::{Effect, HandleFault, Handles};
+use cache_base::{Name, SLOTS};
+use cache_theory::Refusal;
+use disk_model::{Disk, Place};
+use doom_area::doom as move_to_doomed;
+use entry_key::may_write;
+use entry_name::name_of;
+use std::alloc::Global;
+
+// The numbers of the doomed files in use: so many, as the prefix of an array.
+#[derive(Drop)]
+struct DoomedNumbers {
+    numbers: [u32; SLOTS],
+    count: usize,
+}
+
+fn doomed_numbers(objects: &[Option<Object>; SLOTS]) -> DoomedNumbers
+    ensures count { result.count ≤ SLOTS }
+    ensures numbers { take result.count result.numbers ≡ numbers_in objects.now }
+{
+    let mut numbers = [0; SLOTS];
+    let mut count = 0;
+    for object in objects {
+        if let Some(object) = object {
+            if let Some(number) = object.doomed {
+                if count < SLOTS {
+                    numbers[count] = number;
+                    count += 1;
+                }
+            }
+        }
+    }
+    DoomedNumbers { numbers, count }
+}
+
+impl Handles {
+    ghost use Rattle.file_handles.specs.Cache.{cache};
+    ghost use Rattle.file_handles.specs.Carries.{CarriesOut};
+    ghost use Rattle.file_handles.specs.Dooming.{DoomsUnder, EndsOn};
+    ghost use Rattle.file_handles.specs.Kept.{kept};
+    ghost use Rattle.file_handles.specs.Loading.{user_place};
+    ghost use Rattle.file_handles.specs.Stands.{RepresentsSome};
+
+    // Dooms the undoomed object in use of a name, which is at this place. Its file moves among the doomed.
+    fn doom_at<D: Disk>(
+        &mut self,
+        disk: &mut D,
+        place: usize,
+        name: &Name,
+    ) -> Result<(), HandleFault>
+        requires place { place < SLOTS }
+        requires user { user_place (kept self.old) name.now ≡ Some place }
+        requires told { IsTrue D.tells → RepresentsSome (cache D.Disk self.old disk.old) }
+        ensures dooms { let at = cache D.Disk in IsTrue D.tells →
+            DoomsUnder name.now.0 result (at self.old disk.old) (at self.new disk.new) }
+        ensures numbered { Told D.Disk TakesFirstFree disk.old disk.new }
+        ensures refused { OnRefused result (λ _. ⊥) }
+        ensures index { Told D.Disk LeavesIndex disk.old disk.new }
+        ensures account { Accounts D.Disk (ending result) disk.old disk.new }
+    {
+        let doomed = doomed_numbers(&self.objects);
+        if doomed.count >= SLOTS {
+            return Err(HandleFault::Memory);
+        }
+        let object = self.take(place);
+        let number = move_to_doomed(disk, name, &doomed.numbers[..doomed.count])?;
+        let Object { name, entry, .. } = object;
+        self.put_entry(place, name, Some(number), entry);
+        Ok(())
+    }
+
+    /// Dooms the undoomed object in use of a name, if there is one.
+    pub(crate) fn doom_user<D: Disk>(
+        &mut self,
+        disk: &mut D,
+        name: &Name,
+    ) -> Result<bool, HandleFault>
+        requires told { IsTrue D.tells → RepresentsSome (cache D.Disk self.old disk.old) }
+        ensures dooms { let at = cache D.Disk in
+            IsTrue D.tells → user_place (kept self.old) name.now ≢ None →
+            DoomsUnder name.now.0 result (at self.old disk.old) (at self.new disk.new) }
+        ensures numbered { Told D.Disk TakesFirstFree disk.old disk.new }
+        ensures none { user_place (kept self.old) name.now ≡ None → (result ≡ Ok false)
+            × ((disk.new ≡ disk.old) × (kept self.new ≡ kept self.old)) }
+        ensures some { IfOk result (λ doomed.
+            doomed ≡ is_some (user_place (kept self.old) name.now)) }
+        ensures refused { OnRefused result (λ _. ⊥) }
+        ensures index { Told D.Disk LeavesIndex disk.old disk.new }
+        ensures account { Accounts D.Disk (ending result) disk.old disk.new }
+    {
+        match self.user(name) {
+            Some(place) => {
+                self.doom_at(disk, place, name)?;
+                Ok(true)
+            }
+            None => Ok(false),
+        }
+    }
+
+    // The name of a key, if an entry of it is in use or its file stands.
+    fn may_doom<D: Disk>(
+        &self,
+        alloc: Global,
+        disk: &mut D,
+        key: &[u8],
+    ) -> Result<Name, HandleFault>
+        ensures refuses { OnRefused result (λ r. IsTrue D.tells →
+            EndsOn (cache D.Disk self.now disk.old) (Doom key.now) (Some r)) }
+        ensures named { IfOk result (λ name. name.0 ≡ file_name key.now) }
+        ensures passes { OnOk result (IsTrue D.tells →
+            EndsOn (cache D.Disk self.now disk.old) (Doom key.now) None) }
+        ensures looks { Looks D.Disk (ending result) disk.old disk.new }
+    {
+        if !may_write(key) {
+            return Err(HandleFault::Refused(Refusal::BadKey));
+        }
+        let name = name_of(key);
+        if self.used_by(&name, key).is_some() {
+            return Ok(name);
+        }
+        look(alloc, disk, key, &name)?;
+        Ok(name)
+    }
+
+    /// Dooms the entry of a key. Its file moves among the doomed where a slot has it, and otherwise is removed.
+    pub fn doom<D: Disk>(
+        &mut self,
+        alloc: Global,
+        disk: &mut D,
+        key: &[u8],
+    ) -> Result<Effect, HandleFault>
+        requires told { IsTrue D.tells → RepresentsSome (cache D.Disk self.old disk.old) }
+        ensures carried { let at = cache D.Disk in IsTrue D.tells →
+            CarriesOut (Doom key.now) (done_or result)
+            (at self.old disk.old) (at self.new disk.new) }
+        ensures effect { IfOk result (HasEffect (kept self.old) (Doom key.now)) }
+        ensures numbered { Told D.Disk TakesFirstFree disk.old disk.new }
+        ensures unchanged { OnRefused result (λ _. Told D.Disk (λ s t. t ≡ s) disk.old disk.new) }
+        ensures index { Told D.Disk LeavesIndex disk.old disk.new }
+        ensures account { Accounts D.Disk (ending result) disk.old disk.new }
+    {
+        let name = self.may_doom(alloc, disk, key)?;
+        if !self.doom_user(disk, &name)? {
+            disk.remove(&Place::Entry(name))?;
+        }
+        Ok(Effect::Gone(name))
+    }
+}

@@ -1,0 +1,119 @@
+//! Finds the entry of a key, and whether it is in use.
+
+ghost use Rattle.std.specs.Prelude.{◌≡◌, false, IfOk, IsTrue};
+ghost use Rattle.cache_theory.specs.Machine.{is_entry};
+ghost use Rattle.cache_theory.specs.declared.refusal.Refusal.TheVariants as refused;
+ghost use Rattle.disk_model.specs.Account.{Looks};
+ghost use Rattle.disk_model.specs.State.{standing};
+ghost use Rattle.disk_model.specs.declared.place.Place.TheVariants.{Entry as EntryAt};
+ghost use Rattle.entry_file.specs.EntryFile.{read_for};
+ghost use Rattle.entry_name.specs.EntryName.{file_name};
+ghost use Rattle.file_handles.specs.Answers.{OnRefused, ending};
+ghost use Rattle.file_handles.specs.Loading.{IsMetaFor, LoadsAs};
+
+use crate::object::Entry;
+use crate::{HandleFault, Handles};
+use cache_base::{Buffer, Name};
+use cache_theory::Refusal;
+use disk_model::{Disk, Place};
+use entry_file::{EntryRead, check_body, read_meta};
+use entry_key::may_write;
+use entry_metadata::Meta;
+use entry_name::name_of;
+use std::alloc::Global;
+
+/// The metadata of the file of a key, even if its body is damaged.
+pub(crate) fn look<D: Disk>(
+    alloc: Global,
+    disk: &mut D,
+    key: &[u8],
+    name: &Name,
+) -> Result<Meta, HandleFault>
+    requires { name.now.0 ≡ file_name key.now }
+    ensures found { let file = standing (D.state disk.old) (EntryAt name.now) in
+        IfOk result (λ meta. IsTrue D.tells → IsMetaFor key.now file meta) }
+    ensures refused { let file = standing (D.state disk.old) (EntryAt name.now) in
+        OnRefused result (λ r. (r ≡ refused.Absent)
+        × (IsTrue D.tells → is_entry (read_for key.now file) ≡ false)) }
+    ensures looks { Looks D.Disk (ending result) disk.old disk.new }
+{
+    match read_meta(alloc, disk, &Place::Entry(*name), name)? {
+        EntryRead::Fits { meta, .. } if meta.key.as_slice() == key => Ok(meta),
+        _ => Err(HandleFault::Refused(Refusal::Absent)),
+    }
+}
+
+/// The metadata of the file of a key, every chunk of which is checked against its hash.
+pub(crate) fn load<D: Disk>(
+    alloc: Global,
+    disk: &mut D,
+    key: &[u8],
+    name: &Name,
+    chunk: &mut Buffer,
+) -> Result<Meta, HandleFault>
+    requires { name.now.0 ≡ file_name key.now }
+    ensures loads { let file = standing (D.state disk.old) (EntryAt name.now) in
+        IsTrue D.tells → LoadsAs (read_for key.now file) result }
+    ensures looks { Looks D.Disk (ending result) disk.old disk.new }
+{
+    let meta = look(alloc, disk, key, name)?;
+    match check_body(disk, &Place::Entry(*name), &meta, chunk)? {
+        None => Ok(meta),
+        Some(damage) => Err(HandleFault::Refused(Refusal::Damaged(damage))),
+    }
+}
+
+impl Handles {
+    ghost use Rattle.file_handles.specs.Cache.{cache};
+    ghost use Rattle.file_handles.specs.Found.{Finds};
+    ghost use Rattle.file_handles.specs.Kept.{kept};
+    ghost use Rattle.file_handles.specs.Loading.{is_writing as is_writing_in, used_place};
+    ghost use Rattle.file_handles.specs.Stands.{RepresentsSome};
+
+    /// The place of the undoomed object in use that has this key, whose name is given.
+    pub(crate) fn used_by(&self, name: &Name, key: &[u8]) -> Option<usize>
+        ensures { result ≡ used_place (kept self.now) name.now key.now }
+    {
+        let place = self.user(name)?;
+        match self.objects.get(place) {
+            Some(Some(object)) if object.key() == key => Some(place),
+            _ => None,
+        }
+    }
+
+    // Whether the undoomed object in use that has this key is being written.
+    fn is_writing(&self, name: &Name, key: &[u8]) -> bool
+        ensures { result ≡ is_writing_in (kept self.now) name.now key.now }
+    {
+        let Some(place) = self.used_by(name, key) else {
+            return false;
+        };
+        match self.objects.get(place) {
+            Some(Some(object)) => matches!(object.entry, Entry::Draft(_)),
+            _ => false,
+        }
+    }
+
+    /// The metadata of the finished entry of a key. Every chunk is checked against its hash. The file stands under its
+    /// name.
+    pub fn find<D: Disk>(
+        &mut self,
+        alloc: Global,
+        disk: &mut D,
+        key: &[u8],
+    ) -> Result<Meta, HandleFault>
+        requires told { IsTrue D.tells → RepresentsSome (cache D.Disk self.old disk.old) }
+        ensures finds { IsTrue D.tells → Finds key.now result (cache D.Disk self.old disk.old) }
+        ensures kept { kept self.new ≡ kept self.old }
+        ensures looks { Looks D.Disk (ending result) disk.old disk.new }
+    {
+        if !may_write(key) {
+            return Err(HandleFault::Refused(Refusal::BadKey));
+        }
+        let name = name_of(key);
+        if self.is_writing(&name, key) {
+            return Err(HandleFault::Refused(Refusal::Unfinished));
+        }
+        load(alloc, disk, key, &name, &mut self.chunk)
+    }
+}

@@ -1,0 +1,121 @@
+//! Finishes the entry of a slot: its file becomes whole.
+
+ghost use Rattle.std.specs.Prelude.{◌≡◌, ◌<◌, IfErr, IfOk, IsSomeAnd, IsTrue, None, OnOk, true};
+ghost use Rattle.cache_base.specs.declared.limits.TheConstants.{SLOTS};
+ghost use Rattle.cache_theory.specs.Command.Command.{Finish};
+ghost use Rattle.disk_model.specs.Account.{Accounts};
+ghost use Rattle.disk_model.specs.Told.{Told};
+ghost use Rattle.file_handles.specs.Answers.{OnRefused, done_or, ending};
+ghost use Rattle.file_handles.specs.Effects.{HasEffect, wrote_effect, wrote_where};
+ghost use Rattle.file_handles.specs.Held.{is_draft};
+ghost use Rattle.index_theory.specs.Leaves.{LeavesIndex};
+
+use crate::object::{Draft, Entry, Object};
+use crate::{Effect, HandleFault, Handles};
+use cache_base::BODY_MAX;
+use cache_theory::Refusal;
+use disk_model::Disk;
+use std::alloc::Global;
+
+impl Object {
+    /// What an index must learn after its file was written whole.
+    pub(crate) fn wrote(&self) -> Effect
+        ensures { result ≡ wrote_effect self.now.name self.now.doomed }
+    {
+        match self.doomed {
+            Some(_) => Effect::Same,
+            None => Effect::Wrote(self.name),
+        }
+    }
+}
+
+impl Handles {
+    ghost use Rattle.file_handles.specs.Cache.{cache};
+    ghost use Rattle.file_handles.specs.Carries.{CarriesOut};
+    ghost use Rattle.file_handles.specs.Changes.{ChangesThere, IsFiledAt, completed};
+    ghost use Rattle.file_handles.specs.Kept.{kept, object_at as object_kept_at, object_in};
+    ghost use Rattle.file_handles.specs.Refuses.{Passes, Refuses, UsesObject};
+    ghost use Rattle.file_handles.specs.Stands.{RepresentsSome};
+
+    // The place of the draft that a slot may finish.
+    fn may_finish(&self, slot: u8) -> Result<usize, Refusal>
+        requires { slot < SLOTS }
+        ensures refused { IfErr result (λ r. Refuses (kept self.now) (Finish slot) r) }
+        ensures passes { OnOk result (Passes (kept self.now) (Finish slot)) }
+        ensures object { IfOk result (λ place.
+            UsesObject (kept self.now) slot place (λ x. is_draft x.entry ≡ true)) }
+    {
+        let used = self.writing(slot)?;
+        match self.object_at(used.place)?.entry {
+            Entry::Draft(_) => Ok(used.place),
+            Entry::Finished(_) => Err(Refusal::Finished),
+        }
+    }
+
+    /// Finishes the draft at a place. Its file becomes whole by one call of the disk.
+    pub(crate) fn finish_at<D: Disk>(
+        &mut self,
+        alloc: Global,
+        disk: &mut D,
+        place: usize,
+    ) -> Result<Effect, HandleFault>
+        requires place { place < SLOTS }
+        requires draft { IsSomeAnd (object_kept_at (kept self.old) place)
+            (λ x. is_draft x.entry ≡ true) }
+        requires told { IsTrue D.tells → IsFiledAt (cache D.Disk self.old disk.old) place }
+        ensures changes { let at = cache D.Disk in IsTrue D.tells →
+            ChangesThere place completed result (at self.old disk.old) (at self.new disk.new) }
+        ensures effect { IfOk result (λ effect.
+            effect ≡ wrote_where (λ x. true) (object_kept_at (kept self.old) place)) }
+        ensures refused { OnRefused result (λ _. ⊥) }
+        ensures account { Accounts D.Disk (ending result) disk.old disk.new }
+    {
+        let object = self.take(place);
+        let file = object.file_place();
+        let effect = object.wrote();
+        let Object {
+            name,
+            doomed,
+            entry,
+        } = object;
+        let Entry::Draft(draft) = entry else {
+            unreachable!();
+        };
+        // No body is longer, so that its block is small.
+        if draft.body.len() as usize > BODY_MAX {
+            return Err(HandleFault::Memory);
+        }
+        let Draft {
+            body,
+            header,
+            key,
+            elements,
+        } = draft;
+        let meta = body.finish(alloc, disk, &file, header, key, elements)?;
+        let entry = Entry::Finished(meta);
+        self.put_entry(place, name, doomed, entry);
+        Ok(effect)
+    }
+
+    /// Finishes the entry of a slot. Its file becomes whole by one call of the disk.
+    #[tactic(auto, using(crate::proofs::Refused::faulted_index, crate::proofs::Refused::faulted_same, crate::proofs::Refused::refused_same))]
+    pub fn finish<D: Disk>(
+        &mut self,
+        alloc: Global,
+        disk: &mut D,
+        slot: u8,
+    ) -> Result<Effect, HandleFault>
+        requires slot { slot < SLOTS }
+        requires told { IsTrue D.tells → RepresentsSome (cache D.Disk self.old disk.old) }
+        ensures carried { let at = cache D.Disk in IsTrue D.tells →
+            CarriesOut (Finish slot) (done_or result)
+            (at self.old disk.old) (at self.new disk.new) }
+        ensures effect { IfOk result (HasEffect (kept self.old) (Finish slot)) }
+        ensures unchanged { OnRefused result (λ _. disk.new ≡ disk.old) }
+        ensures index { Told D.Disk LeavesIndex disk.old disk.new }
+        ensures account { Accounts D.Disk (ending result) disk.old disk.new }
+    {
+        let place = self.may_finish(slot)?;
+        self.finish_at(alloc, disk, place)
+    }
+}
