@@ -1,10 +1,11 @@
 -- What the disk keeps as the cache is closed.
 use Rattle.std.proofs.Common.{◌≡◌, ◌∙◌, Result, Ok, Err, IsErrAnd, refl, sym, subst}
 use Rattle.std.specs.Prelude.{OnOk}
-use Rattle.cache_theory.specs.Crash.{IsSafe}
+use Rattle.cache_theory.specs.Crash.{IsCrashSafe, IsSafe}
 use Rattle.cache_theory.specs.Ever.{entry_place}
 use Rattle.cache_theory.specs.Machine.{Machine}
 use Rattle.cache_theory.specs.Marks.{Marks}
+use Rattle.cache_theory.proofs.Crashes.{safe_is_crash_safe}
 use Rattle.cache_theory.proofs.DiskChanges.{sync_keeps}
 use Rattle.disk_model.specs.Calls.{if_ok}
 use Rattle.disk_model.specs.Sound.{IsQuiet}
@@ -27,6 +28,10 @@ settled_quiet s = record { steps = refl; writes = λ file. refl }
 pub sync_safe : {T : Type 0} (r : Result T DiskFault) (s t : State) (w : Marks) → t ≡ if_ok r (settled s) s → IsSafe s w → IsSafe t w
 sync_safe (Ok x) s t w is safe = subst (λ u. IsSafe u w) (sym is) (sync_keeps s w safe)
 sync_safe (Err f) s t w is safe = subst (λ u. IsSafe u w) (sym is) safe
+
+-- where a state is safe, a crash in the same state is
+pub crash_from : (s t : State) (w : Marks) → t ≡ s → IsSafe s w → IsCrashSafe t w
+crash_from s t w same safe = subst (λ u. IsCrashSafe u w) (sym same) (safe_is_crash_safe s w safe)
 
 -- after it nothing is pending, and the same stands
 pub settled_shut : (s t : State) (m : Machine) → t ≡ settled s → IsClosed (standing s) m → IsShut t m
