@@ -4,7 +4,7 @@ use Rattle.cache_theory.specs.Command.Command.{At, ElementOf, Flush, Get, ReadPa
 use Rattle.cache_theory.specs.Given.{IsGiven}
 use Rattle.cache_store.specs.Said.{saying}
 use Rattle.cache_store.specs.Session.{session}
-use Rattle.cache_store.proofs.PerformDoes.{as_command, at_does, carried_does, flush_does, flush_fails, handled_at_does, handled_does, reading_does}
+use Rattle.cache_store.proofs.PerformDoes.{as_command, at_does, carried_does, err_told, flush_does, handled_at_does, handled_does, on_told, reading_does}
 use Rattle.cache_store.proofs.Unsaid.{unsaid_by}
 use Rattle.cache_store.proofs.store.Store.perform.Goals as goal
 
@@ -61,14 +61,8 @@ returns-in-Get-clause-does g c = λ told.
     as_command _ (Get c.in-Get.key.now) _ _ _ _ _ (ap command_of c.in-Get.is)
     (reading_does (Get c.in-Get.key.now) c.say_get.result _ _ _ _ tt (c.say_get.ensures.looks.state told) c.say_get.ensures.open (c.say_get.ensures.answers told))
 
-pub returns-in_err-sync-in-Flush-clause-does : goal.returns-in_err-sync-in-Flush-clause-does
-returns-in_err-sync-in-Flush-clause-does g c = λ told.
+pub returns-in-Flush-clause-does : goal.returns-in-Flush-clause-does
+returns-in-Flush-clause-does g c = λ told.
     as_command _ Flush _ _ _ _ _ (ap command_of c.in-Flush.is)
-    (flush_fails c.sync.result c.in_err-sync-in-Flush.field-0.0 c.from_residual.result (session g.D.Disk c.args.self.now c.args.disk.now) (g.D.Disk.state c.sync.new.self) (saying g.K.Sink c.args.self.now.reply c.args.sink.now) c.requires.empty
-    (c.sync.ensures.state told) c.from_residual.ensures.1)
-
-pub returns-in_ok-sync-in-Flush-clause-does : goal.returns-in_ok-sync-in-Flush-clause-does
-returns-in_ok-sync-in-Flush-clause-does g c = λ told.
-    as_command _ Flush _ _ _ _ _ (ap command_of c.in-Flush.is)
-    (flush_does (session g.D.Disk c.args.self.now c.args.disk.now) (g.D.Disk.state c.sync.new.self) (g.met.D.Disk.sound c.args.disk.now told) (saying g.K.Sink c.args.self.now.reply c.args.sink.now) c.requires.empty
-    (c.in_ok-sync-in-Flush.ensures.state told))
+    (flush_does c.flush.result (session g.D.Disk c.args.self.now c.args.disk.now) (g.D.Disk.state c.flush.new.disk) (g.met.D.Disk.sound c.args.disk.now told) (saying g.K.Sink c.args.self.now.reply c.args.sink.now) c.requires.empty
+    (on_told _ _ c.flush.result told c.flush.ensures.synced) (err_told _ _ c.flush.result told c.flush.ensures.same) c.flush.ensures.done c.flush.ensures.no_sink)
