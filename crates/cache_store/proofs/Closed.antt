@@ -14,6 +14,7 @@ use Rattle.disk_model.specs.declared.disk.DiskFault.{DiskFault}
 use Rattle.disk_model.specs.declared.place.Place.TheVariants.{Doomed}
 use Rattle.disk_model.proofs.Standing.{settled_same}
 use Rattle.file_handles.specs.Closing.{IsClosed}
+use Rattle.index_theory.specs.Leaves.{LeavesIndex}
 use Rattle.cache_store.specs.Open.{IsShut}
 
 -- a result that is an error says nothing of an answer
@@ -32,6 +33,10 @@ sync_safe (Err f) s t w is safe = subst (λ u. IsSafe u w) (sym is) safe
 -- where a state is safe, a crash in the same state is
 pub crash_from : (s t : State) (w : Marks) → t ≡ s → IsSafe s w → IsCrashSafe t w
 crash_from s t w same safe = subst (λ u. IsCrashSafe u w) (sym same) (safe_is_crash_safe s w safe)
+
+-- what left the index alone did so in the same state
+pub left_then : (s t u : State) → LeavesIndex s t → u ≡ t → LeavesIndex s u
+left_then s t u left same = subst (LeavesIndex s) (sym same) left
 
 -- after it nothing is pending, and the same stands
 pub settled_shut : (s t : State) (m : Machine) → t ≡ settled s → IsClosed (standing s) m → IsShut t m

@@ -19,7 +19,9 @@ use Rattle.file_handles.specs.Carries.{CarriesOut, CarriesOutAt}
 use Rattle.file_handles.specs.Stands.{KeepsWhere as CacheKeepsWhere, RepresentsSome}
 use Rattle.file_handles.specs.declared.fault.HandleFault.{HandleFault}
 use Rattle.file_handles.proofs.Begun.{begun_in}
+use Rattle.file_handles.proofs.IndexLeft.{same_left, synced_left}
 use Rattle.file_handles.proofs.Where.{LeavesWhere, carried_out, carried_out_at}
+use Rattle.index_theory.specs.Leaves.{LeavesIndex}
 use Rattle.cache_store.specs.Answering.{AnswersFor}
 use Rattle.cache_store.specs.Open.{IsOpen, KeepsWhere}
 use Rattle.cache_store.specs.Performing.{Does, DoesFor}
@@ -146,6 +148,11 @@ flush_does (Err f) before t sound reply none synced same done no_sink b h stands
       next = tt;
       effect = unsaid_effect (Err f) unsaid (KeepsWhere b before (acked Flush h));
     })
+
+-- so the index is left alone
+pub flush_left : (answer : Result Answered StoreFault) (s t : State) → IsSound s → OnOk answer (t ≡ settled s) → OnErr answer (t ≡ s) → LeavesIndex s t
+flush_left (Ok a) s t sound synced same = synced_left {T = Unit {0}} (Ok tt) s t sound synced
+flush_left (Err f) s t sound synced same = same_left same
 
 -- where the disk tells, what holds then
 pub on_told : {T E : Type 0} (P Q : Type 0) (answer : Result T E) → P → OnOk answer (P → Q) → OnOk answer Q

@@ -16,6 +16,7 @@ ghost use Rattle.cache_theory.specs.Text.{with_bytes};
 ghost use Rattle.disk_model.specs.Account.{Accounts};
 ghost use Rattle.disk_model.specs.State.{settled};
 ghost use Rattle.disk_model.specs.Told.{Told};
+ghost use Rattle.index_theory.specs.Leaves.{LeavesIndex};
 
 use crate::answered::{Answered, answer_of, fault_answer};
 use crate::pending::Pending;
@@ -156,6 +157,7 @@ impl Store {
         ensures no_sink { result ≢ Err StoreFault.Sink }
         ensures moment { self.new.moment ≡ self.old.moment }
         ensures held { self.new.reply.held ≡ self.old.reply.held }
+        ensures index { Told D.Disk LeavesIndex disk.old disk.new }
         ensures account { Accounts D.Disk (ending result) disk.old disk.new }
     {
         match self.handles.unset_element(alloc, disk, slot, name) {
@@ -184,6 +186,7 @@ impl Store {
         ensures unsaid { IfOk result (λ a. a ≢ Answered.All → sink.new ≡ sink.old) }
         ensures still_empty { IfOk result (λ a.
             a ≢ Answered.All → self.new.reply.held ≡ []) }
+        ensures index { Told D.Disk LeavesIndex disk.old disk.new }
         ensures account { Accounts D.Disk (ending result) disk.old disk.new }
         ensures sink { let failed = IsErrOf result StoreFault.Sink in
             HasCause failed (K.faults sink.old) (K.faults sink.new) }
@@ -256,6 +259,7 @@ impl Store {
         ensures crash { let before = session D.Disk self.old disk.old in IsTrue D.tells →
             PerformsSafely (command_of c.now) result before (D.state disk.new) }
         ensures open { IsTrue D.tells → LeavesOpen result (session D.Disk self.new disk.new) }
+        ensures index { Told D.Disk LeavesIndex disk.old disk.new }
         ensures account { Accounts D.Disk (ending result) disk.old disk.new }
         ensures sink { let failed = IsErrOf result StoreFault.Sink in
             HasCause failed (K.faults sink.old) (K.faults sink.new) }

@@ -4,6 +4,7 @@ ghost use Rattle.std.specs.Prelude.{◌≡◌, ◌≢◌, IfOk, IsTrue, OnOk, Er
 ghost use Rattle.disk_model.specs.Account.{Accounts};
 ghost use Rattle.disk_model.specs.Sound.{IsQuiet};
 ghost use Rattle.disk_model.specs.Told.{Told};
+ghost use Rattle.index_theory.specs.Leaves.{LeavesIndex};
 
 use crate::StoreFault;
 use crate::pending::Pending;
@@ -41,6 +42,7 @@ impl Store {
         ensures open { IfOk result (λ store. IsTrue D.tells →
             IsOpen (session D.Disk store disk.new)) }
         ensures no_sink { result ≢ Err StoreFault.Sink }
+        ensures index { Told D.Disk LeavesIndex disk.old disk.new }
         ensures account { Accounts D.Disk (ending result) disk.old disk.new }
     {
         let handles = Handles::new(alloc)?;
@@ -66,6 +68,7 @@ impl Store {
             ClosesSafely (session D.Disk self disk.old) (D.state disk.new) }
         ensures quiet { OnOk result (IsTrue D.tells → IsQuiet (D.state disk.new)) }
         ensures no_sink { result ≢ Err StoreFault.Sink }
+        ensures index { Told D.Disk LeavesIndex disk.old disk.new }
         ensures account { Accounts D.Disk (ending result) disk.old disk.new }
     {
         let Store { handles, .. } = self;

@@ -1,5 +1,5 @@
 -- What the machine does with the commands of a put.
-use Rattle.std.proofs.Common.{◌≡◌, ◌≢◌, ℕ, ◌+◌, ◌<◌, ◌≤◌, List, [], ◌∷◌, ◌++◌, length, true, false, Some, None, refl, sym, ap, subst, ◌∙◌, arith}
+use Rattle.std.proofs.Common.{◌≡◌, ℕ, ◌+◌, ◌<◌, ◌≤◌, List, [], ◌∷◌, ◌++◌, length, true, false, Some, None, refl, sym, ap, subst, ◌∙◌, arith}
 use Rattle.std.specs.Prelude.{IfOk, Ok, OnOk, Option, Result, option_map, unwrap_or}
 use Rattle.std.proofs.lemmas.Bool.{leb-true}
 use Rattle.std.proofs.lemmas.List.{append-nil}
@@ -10,6 +10,7 @@ use Rattle.cache_theory.specs.Checks.{checks}
 use Rattle.cache_theory.specs.Command.{Command, Reply}
 use Rattle.cache_theory.specs.Command.Command.{Append, Close, Create}
 use Rattle.cache_theory.specs.Command.Reply.{Done, Refused, NoneThere, Value, Part, Found}
+use Rattle.cache_theory.specs.History.{History}
 use Rattle.cache_theory.specs.Machine.{Machine, Object, Slot, number_of, object, object_of}
 use Rattle.cache_theory.specs.Marks.{Marks, acked, begun}
 use Rattle.cache_theory.specs.Step.{changed, doomed_under, effect, entered, fresh, step, stepped}
@@ -21,14 +22,14 @@ use Rattle.std.proofs.Common.{length-set}
 use Rattle.entry_file.specs.Version.{Version}
 use Rattle.entry_name.specs.EntryName.{file_name}
 use Rattle.cache_store.specs.Answering.{outcome_of}
-use Rattle.cache_store.specs.Open.{Open, StandsFor}
+use Rattle.cache_store.specs.Open.{KeepsTo}
+use Rattle.cache_store.specs.Session.{Session}
 use Rattle.cache_store.specs.declared.fault.Outcome.{Outcome}
 use Rattle.cache_store.specs.declared.fault.Outcome.TheVariants as outcome
 use Rattle.cache_store.specs.declared.fault.StoreFault.{StoreFault}
-use Rattle.cache_tool.specs.Put.{is_done}
-use Rattle.cache_tool.specs.PutWent.{IsRefused, PieceWent, Ran, Sends, Writes}
-use Rattle.cache_tool.proofs.PutRuns.{ran_none, ran_one_of}
-use Rattle.disk_model.specs.State.{State}
+use Rattle.cache_tool.specs.PutProgress.{AreSent, IsRefused, IsSent, IsWriting, PieceIsSent}
+use Rattle.cache_tool.specs.Replies.{is_done}
+use Rattle.cache_tool.proofs.PutCommands.{sent_none, sent_one_of}
 
 -- a command whose reply is `ok` where no check fails, and which is acknowledged as it begins
 pub record IsPlain (c : Command) : Type 0 where
@@ -78,26 +79,26 @@ not_done_by m c = go (step m c).reply
     go (Part bytes) is = refl
     go (Found v) is = refl
 
-module _ (c : Command) (m : Machine) (w : Marks) (answer : Result Outcome StoreFault) (t : State) (o : Open) (said : List ℕ) (plain : IsPlain c) (sends : Sends c m w answer t o said) where
+module _ (c : Command) (h : History) (answer : Result Outcome StoreFault) (now : Session) (said : List ℕ) (plain : IsPlain c) (sends : IsSent c h answer now said) where
   -- the outcome is that of the machine's reply
-  pub sent_outcome : (r : Outcome) → answer ≡ Ok r → r ≡ outcome_of (step m c).reply
-  sent_outcome r e = subst (λ a. IfOk a (λ x. x ≡ outcome_of (step m c).reply)) e sends.outcome
+  pub sent_outcome : (r : Outcome) → answer ≡ Ok r → r ≡ outcome_of (step h.machine c).reply
+  sent_outcome r e = subst (λ a. IfOk a (λ x. x ≡ outcome_of (step h.machine c).reply)) e sends.outcome
 
-  pub sent_done : answer ≡ Ok outcome.Ok → is_done (step m c).reply ≡ true
-  sent_done e = done_by m c plain (sym (sent_outcome outcome.Ok e))
+  pub sent_done : answer ≡ Ok outcome.Ok → is_done (step h.machine c).reply ≡ true
+  sent_done e = done_by h.machine c plain (sym (sent_outcome outcome.Ok e))
 
-  pub sent_refused : answer ≡ Ok outcome.Refused → IsRefused m c said
+  pub sent_refused : answer ≡ Ok outcome.Refused → IsRefused h.machine c said
   sent_refused e =
-      let is : outcome_of (step m c).reply ≡ outcome.Refused = sym (sent_outcome outcome.Refused e) in
-      record { not_done = not_done_by m c is; refused = is; replied = subst (λ a. OnOk a (said ≡ reply_text (step m c).reply)) e sends.replied }
+      let is : outcome_of (step h.machine c).reply ≡ outcome.Refused = sym (sent_outcome outcome.Refused e) in
+      record { not_done = not_done_by h.machine c is; refused = is; replied = subst (λ a. OnOk a (said ≡ reply_text (step h.machine c).reply)) e sends.replied }
 
   -- and so the command was performed
-  pub ran_one : Ran m w (c ∷ []) answer t o said
-  ran_one = ran_one_of m w c answer t o said sends.safe (subst (λ x. OnOk answer (StandsFor t o (step m c).next x)) (plain.marks m w) sends.next) sent_done sent_refused
+  pub sent_one : AreSent (c ∷ []) h answer now said
+  sent_one = sent_one_of h c answer now said sends.safe (subst (λ x. OnOk answer (KeepsTo now (record { machine = (step h.machine c).next; marks = x }))) (plain.marks h.machine h.marks) sends.next) sent_done sent_refused
 
 -- An entry is made.
 
-made_by : (m : Machine) (key : List ℕ) → Writes (effect m (Create 0 key)).next []
+made_by : (m : Machine) (key : List ℕ) → IsWriting (effect m (Create 0 key)).next []
 unfolding effect
 made_by m key =
     let before = doomed_under m (file_name key) in
@@ -112,8 +113,8 @@ made_by m key =
       body_is = ap (λ (x : Object). x.version.body) same;
     }
 
-pub create_writes : (m : Machine) (key : List ℕ) → is_done (step m (Create 0 key)).reply ≡ true → Writes (step m (Create 0 key)).next []
-create_writes m key done = subst (λ n. Writes n []) (sym (does m (Create 0 key) done)) (made_by m key)
+pub create_writes : (m : Machine) (key : List ℕ) → is_done (step m (Create 0 key)).reply ≡ true → IsWriting (step m (Create 0 key)).next []
+create_writes m key done = subst (λ n. IsWriting n []) (sym (does m (Create 0 key) done)) (made_by m key)
 
 -- A piece is appended.
 
@@ -121,7 +122,7 @@ append_fits : (m : Machine) (bytes : List ℕ) → first_failing (checks m (Appe
 unfolding checks
 append_fits m bytes none = let h = all_hold (checks m (Append 0 bytes)) none in leb-true _ _ h.1.1.1.0
 
-module _ (m : Machine) (body bytes : List ℕ) (writes : Writes m body) where
+module _ (m : Machine) (body bytes : List ℕ) (writes : IsWriting m body) where
   number_here : number_of m 0 ≡ writes.slot.object
   number_here = ap (λ x. unwrap_or (option_map (λ (slot : Slot). slot.object) x) (length m.objects)) writes.at
 
@@ -145,7 +146,7 @@ module _ (m : Machine) (body bytes : List ℕ) (writes : Writes m body) where
   unfolding new_object
   object_after = nth-set_same m.objects (number_of m 0) writes.slot.object new_object (let there = writes.there in omega (arith, there, number_here)) (sym number_here)
 
-  changed_writes : Writes (changed m 0 longer) (body ++ bytes)
+  changed_writes : IsWriting (changed m 0 longer) (body ++ bytes)
   unfolding new_object longer
   changed_writes = record {
     slot = writes.slot;
@@ -156,36 +157,36 @@ module _ (m : Machine) (body bytes : List ℕ) (writes : Writes m body) where
     body_is = ap (λ (x : Object). x.version.body) object_after ∙ ap (λ l. l ++ bytes) body_here;
   }
 
-  effect_writes : Writes (effect m (Append 0 bytes)).next (body ++ bytes)
+  effect_writes : IsWriting (effect m (Append 0 bytes)).next (body ++ bytes)
   unfolding effect longer
   effect_writes = changed_writes
 
-  pub append_writes : is_done (step m (Append 0 bytes)).reply ≡ true → Writes (step m (Append 0 bytes)).next (body ++ bytes)
-  append_writes done = subst (λ n. Writes n (body ++ bytes)) (sym (does m (Append 0 bytes) done)) effect_writes
+  pub append_writes : is_done (step m (Append 0 bytes)).reply ≡ true → IsWriting (step m (Append 0 bytes)).next (body ++ bytes)
+  append_writes done = subst (λ n. IsWriting n (body ++ bytes)) (sym (does m (Append 0 bytes) done)) effect_writes
 
 -- No piece, a piece, and a piece that is too long.
 
-pub piece_none : (m : Machine) (w : Marks) (body : List ℕ) (t : State) (o : Open) (said : List ℕ) → StandsFor t o m w → Writes m body
-    → PieceWent m w body [] (Ok outcome.Ok) t o said
-piece_none m w body t o said stands writes = record {
-  ran = ran_none m w t o said stands;
-  writes = λ e. subst (Writes m) (sym (append-nil body)) writes;
+pub piece_none : (h : History) (body : List ℕ) (now : Session) (said : List ℕ) → KeepsTo now h → IsWriting h.machine body
+    → PieceIsSent body [] h (Ok outcome.Ok) now said
+piece_none h body now said stands writes = record {
+  sent = sent_none h now said stands;
+  writes = λ e. subst (λ x. IsWriting h.machine x) (sym (append-nil body)) writes;
 }
 
-pub piece_sent : (m : Machine) (w : Marks) (body : List ℕ) (x : ℕ) (xs : List ℕ) (answer : Result Outcome StoreFault) (t : State) (o : Open) (said : List ℕ)
-    → Writes m body → Sends (Append 0 (x ∷ xs)) m w answer t o said → PieceWent m w body (x ∷ xs) answer t o said
-piece_sent m w body x xs answer t o said writes sends =
+pub piece_sent : (h : History) (body : List ℕ) (x : ℕ) (xs : List ℕ) (answer : Result Outcome StoreFault) (now : Session) (said : List ℕ)
+    → IsWriting h.machine body → IsSent (Append 0 (x ∷ xs)) h answer now said → PieceIsSent body (x ∷ xs) h answer now said
+piece_sent h body x xs answer now said writes sends =
     let plain = append_is_plain 0 (x ∷ xs) in
     record {
-      ran = ran_one (Append 0 (x ∷ xs)) m w answer t o said plain sends;
-      writes = λ e. append_writes m body (x ∷ xs) writes (sent_done (Append 0 (x ∷ xs)) m w answer t o said plain sends e);
+      sent = sent_one (Append 0 (x ∷ xs)) h answer now said plain sends;
+      writes = λ e. append_writes h.machine body (x ∷ xs) writes (sent_done (Append 0 (x ∷ xs)) h answer now said plain sends e);
     }
 
 -- a piece with which the body is too long is refused
-pub piece_over : (m : Machine) (w : Marks) (body bytes : List ℕ) (r : Outcome) (t : State) (o : Open) (said : List ℕ)
-    → Writes m body → BODY_MAX < length body + length bytes → Sends (Append 0 bytes) m w (Ok r) t o said → r ≡ outcome.Refused
-piece_over m w body bytes outcome.Refused t o said writes long sends = refl
-piece_over m w body bytes outcome.Ok t o said writes long sends =
-    let done = sent_done (Append 0 bytes) m w (Ok outcome.Ok) t o said (append_is_plain 0 bytes) sends refl in
-    let within = append_within m body bytes writes done in
+pub piece_over : (h : History) (body bytes : List ℕ) (r : Outcome) (now : Session) (said : List ℕ)
+    → IsWriting h.machine body → BODY_MAX < length body + length bytes → IsSent (Append 0 bytes) h (Ok r) now said → r ≡ outcome.Refused
+piece_over h body bytes outcome.Refused now said writes long sends = refl
+piece_over h body bytes outcome.Ok now said writes long sends =
+    let done = sent_done (Append 0 bytes) h (Ok outcome.Ok) now said (append_is_plain 0 bytes) sends refl in
+    let within = append_within h.machine body bytes writes done in
     absurd (omega (arith, within, long))

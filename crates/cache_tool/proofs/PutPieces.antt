@@ -9,7 +9,7 @@ use Rattle.cache_theory.specs.Command.{Command}
 use Rattle.cache_theory.specs.Command.Command.{Append}
 use Rattle.cache_tool.specs.Pieces.{pieces_of}
 use Rattle.cache_tool.specs.Put.{appends}
-use Rattle.cache_tool.specs.PutWent.{piece_commands}
+use Rattle.cache_tool.specs.PutProgress.{piece_commands}
 
 -- with fuel enough it does not matter how much there is
 pieces_fuel : (size : ℕ) → 0 < size → (f g : ℕ) (xs : List ℕ) → length xs ≤ f → length xs ≤ g → pieces_of size f xs ≡ pieces_of size g xs
@@ -23,7 +23,7 @@ pieces_fuel size some (suc f) (suc g) (x ∷ xs) first second =
     let rest = length-drop size (x ∷ xs) in
     ap (λ l. take size (x ∷ xs) ∷ l) (pieces_fuel size some f g (drop size (x ∷ xs)) (omega (arith, rest, first, some)) (omega (arith, rest, second, some)))
 
--- a piece, and what comes behind it: a piece that is not full is the last
+-- a piece, and what comes after it: a piece that is not full is the last
 module _ (size : ℕ) (piece rest : List ℕ) (fits : length piece ≤ size) (short : length piece < size → rest ≡ []) where
   front_is : take size (piece ++ rest) ≡ piece
   front_is = elim (cases_lt (length piece) size) [
@@ -57,7 +57,7 @@ commands_step size (x ∷ xs) rest some fits short = ap (map (λ piece. Append 0
 pub appends_step : (piece rest : List ℕ) → length piece ≤ PIECE_MAX → (length piece < PIECE_MAX → rest ≡ []) → appends (piece ++ rest) ≡ piece_commands piece ++ appends rest
 appends_step piece rest fits short = commands_step PIECE_MAX piece rest (omega arith) fits short
 
--- behind commands that lead so far
+-- after commands that lead so far
 pub leads_step : (body piece : List ℕ) (cs : List Command) → ((rest : List ℕ) → appends (body ++ rest) ≡ cs ++ appends rest)
     → (rest : List ℕ) → length piece ≤ PIECE_MAX → (length piece < PIECE_MAX → rest ≡ []) → appends (body ++ (piece ++ rest)) ≡ cs ++ (piece_commands piece ++ appends rest)
 leads_step body piece cs leads rest fits short = leads (piece ++ rest) ∙ ap (λ l. cs ++ l) (appends_step piece rest fits short)

@@ -1,28 +1,29 @@
 -- The whole put: an entry is made, gets its body and is closed.
-use Rattle.std.proofs.Common.{◌≡◌, ◌≢◌, inl, inr, ℕ, List, [], ◌∷◌, ◌++◌, false, true, Some, None, refl, sym, ap, subst, ◌∙◌}
+use Rattle.std.proofs.Common.{◌≡◌, ◌≢◌, inl, inr, ℕ, List, [], ◌∷◌, ◌++◌, true, Some, None, refl, sym, ap, subst, ◌∙◌}
 use Rattle.std.specs.Prelude.{Err, IsSome, Ok, Option, Result}
 use Rattle.cache_base.specs.declared.status.Status.{Status}
 use Rattle.cache_base.specs.declared.status.Status.TheVariants as status
 use Rattle.cache_store.specs.Answering.{outcome_of}
-use Rattle.cache_store.specs.Open.{Open, StandsFor}
+use Rattle.cache_store.specs.Open.{KeepsTo}
+use Rattle.cache_store.specs.Session.{Session}
 use Rattle.cache_store.specs.declared.fault.Outcome.{Outcome}
 use Rattle.cache_store.specs.declared.fault.Outcome.TheVariants as outcome
 use Rattle.cache_store.specs.declared.fault.StoreFault.{StoreFault}
 use Rattle.cache_store.specs.declared.fault.StoreFault.TheVariants as fault
 use Rattle.cache_theory.specs.Command.{Command}
 use Rattle.cache_theory.specs.Command.Command.{Close, Create}
-use Rattle.cache_theory.specs.Machine.{Machine}
-use Rattle.cache_theory.specs.Marks.{Marks, all_begun, begun}
+use Rattle.cache_theory.specs.History.{History, unanswered}
 use Rattle.cache_theory.specs.Step.{after, step}
 use Rattle.cache_theory.specs.Text.{reply_text}
-use Rattle.cache_tool.specs.Ending.{status_in}
-use Rattle.cache_tool.specs.Put.{Faults, appends, broken_commands, is_done, put_commands}
+use Rattle.cache_tool.specs.Put.{GivesPart, GivesWhole, appends, broken_commands, put_commands}
 use Rattle.cache_tool.specs.Put.ArePut.{Broken, Whole}
-use Rattle.cache_tool.specs.PutWent.{AppendWent, AreDone, IsBroken, IsWhole, PutWent, Ran, Sends, SendsFor, Writes}
-use Rattle.cache_tool.specs.Sessions.{IsAnswer, IsClosing, last_reply, status_of}
-use Rattle.cache_tool.proofs.PutMachine.{close_is_plain, create_is_plain, create_writes, ran_one, sent_done}
-use Rattle.cache_tool.proofs.PutRuns.{all_begin_keep, last_of, last_stopped, ran_more, ran_then, until_all}
-use Rattle.disk_model.specs.State.{State}
+use Rattle.cache_tool.specs.PutProgress.{AreDone, AreSent, BodyIsAppended, IsSent, IsWriting, PutIsPerformed, SendsCommand, all_unanswered}
+use Rattle.cache_tool.specs.Replies.{is_done, last_reply}
+use Rattle.cache_tool.specs.Statuses.{IsAnswer, IsClosing, status_in, status_of}
+use Rattle.cache_tool.specs.World.{Supply}
+use Rattle.cache_tool.proofs.Begun.{all_begin_keep}
+use Rattle.cache_tool.proofs.PutMachine.{close_is_plain, create_is_plain, create_writes, sent_one, sent_done}
+use Rattle.cache_tool.proofs.PutCommands.{last_of, last_stopped, sent_more, sent_then, until_all}
 
 -- a fault is no answer, and but for that of a sink the store is not closed
 pub fault_is_none : (f : StoreFault) → ¬ (IsAnswer (status_in (Err f)))
@@ -42,174 +43,182 @@ source_is_none : ¬ (IsAnswer status.Source)
 source_is_none (inl e) = absurd (cc)
 source_is_none (inr e) = absurd (cc)
 
-module _ (m : Machine) (w : Marks) (key : List ℕ) (left now : Option (List ℕ)) (failed : Faults) (t : State) (o : Open) (said : List ℕ) (body : List ℕ) where
+module _ (h : History) (key : List ℕ) (from to : Supply) (now : Session) (said : List ℕ) (body : List ℕ) where
   -- the commands of a whole body, with a fault, with a refusal, and all done
-  whole_failed : (f : StoreFault) → f ≢ fault.Sink → IsWhole failed left body → Ran m w (Create 0 key ∷ (appends body ++ Close 0 ∷ [])) (Err f) t o said
-      → PutWent m w key left now failed (status_in (Err f)) t o said
+  whole_failed : (f : StoreFault) → f ≢ fault.Sink → GivesWhole from to body → AreSent (Create 0 key ∷ (appends body ++ Close 0 ∷ [])) h (Err f) now said
+      → PutIsPerformed key h from to (status_in (Err f)) now said
   whole_failed f other whole ran = record {
-    commands = put_commands m key body;
-    are_put = Whole body whole.0 whole.1 refl;
+    commands = put_commands h.machine key body;
+    are_put = Whole body whole refl;
     safe = ran.safe;
     stands = λ closing. absurd (not_closing f other closing);
     last = λ answer. absurd (fault_is_none f answer);
   }
 
-  whole_refused : IsWhole failed left body → Ran m w (Create 0 key ∷ (appends body ++ Close 0 ∷ [])) (Ok outcome.Refused) t o said
-      → PutWent m w key left now failed status.No t o said
+  whole_refused : GivesWhole from to body → AreSent (Create 0 key ∷ (appends body ++ Close 0 ∷ [])) h (Ok outcome.Refused) now said
+      → PutIsPerformed key h from to status.No now said
   whole_refused whole ran =
-      let last = last_stopped m (Create 0 key ∷ (appends body ++ Close 0 ∷ [])) said (ran.refused refl) in
+      let last = last_stopped h.machine (Create 0 key ∷ (appends body ++ Close 0 ∷ [])) said (ran.refused refl) in
       record {
-        commands = put_commands m key body;
-        are_put = Whole body whole.0 whole.1 refl;
+        commands = put_commands h.machine key body;
+        are_put = Whole body whole refl;
         safe = ran.safe;
         stands = λ closing. ran.stands;
         last = λ answer. record { status = ap status_of (sym last.0); replied = last.1 };
       }
 
-  whole_done : IsWhole failed left body → Ran m w (Create 0 key ∷ (appends body ++ Close 0 ∷ [])) (Ok outcome.Ok) t o said
-      → outcome_of (step (after m (Create 0 key ∷ appends body)) (Close 0)).reply ≡ outcome.Ok → said ≡ reply_text (step (after m (Create 0 key ∷ appends body)) (Close 0)).reply
-      → PutWent m w key left now failed status.Done t o said
+  whole_done : GivesWhole from to body → AreSent (Create 0 key ∷ (appends body ++ Close 0 ∷ [])) h (Ok outcome.Ok) now said
+      → outcome_of (step (after h.machine (Create 0 key ∷ appends body)) (Close 0)).reply ≡ outcome.Ok → said ≡ reply_text (step (after h.machine (Create 0 key ∷ appends body)) (Close 0)).reply
+      → PutIsPerformed key h from to status.Done now said
   whole_done whole ran is replied =
-      let all = until_all m (Create 0 key ∷ (appends body ++ Close 0 ∷ [])) (ran.done refl) in
-      let last : last_reply m (put_commands m key body) ≡ (step (after m (Create 0 key ∷ appends body)) (Close 0)).reply =
-      ap (last_reply m) all ∙ last_of m (Create 0 key ∷ appends body) (Close 0) in
+      let all = until_all h.machine (Create 0 key ∷ (appends body ++ Close 0 ∷ [])) (ran.done refl) in
+      let last : last_reply h.machine (put_commands h.machine key body) ≡ (step (after h.machine (Create 0 key ∷ appends body)) (Close 0)).reply =
+      ap (last_reply h.machine) all ∙ last_of h.machine (Create 0 key ∷ appends body) (Close 0) in
       record {
-        commands = put_commands m key body;
-        are_put = Whole body whole.0 whole.1 refl;
+        commands = put_commands h.machine key body;
+        are_put = Whole body whole refl;
         safe = ran.safe;
         stands = λ closing. ran.stands;
         last = λ answer. record { status = ap status_of (sym is) ∙ ap (λ r. status_of (outcome_of r)) (sym last); replied = replied ∙ ap reply_text (sym last) };
       }
 
   -- those of what came before the source failed
-  broken_failed : (f : StoreFault) → f ≢ fault.Sink → IsBroken failed left now body → Ran m w (Create 0 key ∷ appends body) (Err f) t o said
-      → PutWent m w key left now failed (status_in (Err f)) t o said
+  broken_failed : (f : StoreFault) → f ≢ fault.Sink → GivesPart from to body → AreSent (Create 0 key ∷ appends body) h (Err f) now said
+      → PutIsPerformed key h from to (status_in (Err f)) now said
   broken_failed f other broken ran = record {
-    commands = broken_commands m key body;
-    are_put = Broken body broken.0 (fault_is_none f) broken.1 refl;
+    commands = broken_commands h.machine key body;
+    are_put = Broken body broken (fault_is_none f) refl;
     safe = ran.safe;
     stands = λ closing. absurd (not_closing f other closing);
     last = λ answer. absurd (fault_is_none f answer);
   }
 
-  broken_went : (r : Outcome) → IsBroken failed left now body → Ran m w (Create 0 key ∷ appends body) (Ok r) t o said → PutWent m w key left now failed status.Source t o said
+  broken_went : (r : Outcome) → GivesPart from to body → AreSent (Create 0 key ∷ appends body) h (Ok r) now said → PutIsPerformed key h from to status.Source now said
   broken_went r broken ran = record {
-    commands = broken_commands m key body;
-    are_put = Broken body broken.0 source_is_none broken.1 refl;
+    commands = broken_commands h.machine key body;
+    are_put = Broken body broken source_is_none refl;
     safe = ran.safe;
     stands = λ closing. ran.stands;
     last = λ answer. absurd (source_is_none answer);
   }
 
+-- the bytes of a source that tells them
+pub some_body : (from to : Supply) → to.faults ≡ from.faults → IsSome from.left → (body : List ℕ) × GivesWhole from to body
+some_body from to calm some = go from.left refl some
+  where
+    go : (left : Option (List ℕ)) → from.left ≡ left → IsSome left → (body : List ℕ) × GivesWhole from to body
+    go None is some = absurd (cc)
+    go (Some body) is some = (body, record { calm = calm; whole = is })
+
 -- nothing was done
-pub nothing_went : (m : Machine) (w : Marks) (key : List ℕ) (left now : Option (List ℕ)) (failed : Faults) (t : State) (o : Open) (said : List ℕ) → failed.after_call ≡ failed.before → IsSome left → StandsFor t o m w
-    → PutWent m w key left now failed status.Memory t o said
-nothing_went m w key None now failed t o said calm some stands = absurd (cc)
-nothing_went m w key (Some body) now failed t o said calm some stands = record {
-  commands = put_commands m key body;
-  are_put = Whole body calm refl refl;
-  safe = all_begin_keep t m (put_commands m key body) w stands.stands.crash_kept.safe;
-  stands = λ closing. absurd closing;
-  last = λ answer. absurd (fault_is_none fault.Memory answer);
-}
+pub nothing_went : (h : History) (key : List ℕ) (from to : Supply) (now : Session) (said : List ℕ) → to.faults ≡ from.faults → IsSome from.left → KeepsTo now h
+    → PutIsPerformed key h from to status.Memory now said
+nothing_went h key from to now said calm some stands =
+    let body = some_body from to calm some in
+    record {
+      commands = put_commands h.machine key body.0;
+      are_put = Whole body.0 body.1 refl;
+      safe = all_begin_keep now.disk h.machine (put_commands h.machine key body.0) h.marks stands.stands.crash_kept.safe;
+      stands = λ closing. absurd closing;
+      last = λ answer. absurd (fault_is_none fault.Memory answer);
+    }
 
 -- no entry was made
-module _ (m : Machine) (w : Marks) (key : List ℕ) (now : Option (List ℕ)) (failed : Faults) (calm : failed.after_call ≡ failed.before) (t : State) (o : Open) (said : List ℕ) where
-  pub create_failed : (left : Option (List ℕ)) (f : StoreFault) → f ≢ fault.Sink → IsSome left → Sends (Create 0 key) m w (Err f) t o said
-      → PutWent m w key left now failed (status_in (Err f)) t o said
-  create_failed None f other some sends = absurd (cc)
-  create_failed (Some body) f other some sends =
-      whole_failed m w key (Some body) now failed t o said body f other (calm, refl)
-      (ran_more m w (Create 0 key ∷ []) (appends body ++ Close 0 ∷ []) (Err f) t o said (λ e. absurd (cc)) (ran_one (Create 0 key) m w (Err f) t o said (create_is_plain 0 key) sends))
+module _ (h : History) (key : List ℕ) (from to : Supply) (now : Session) (said : List ℕ) (calm : to.faults ≡ from.faults) (some : IsSome from.left) where
+  pub create_failed : (f : StoreFault) → f ≢ fault.Sink → IsSent (Create 0 key) h (Err f) now said → PutIsPerformed key h from to (status_in (Err f)) now said
+  create_failed f other sends =
+      let body = some_body from to calm some in
+      whole_failed h key from to now said body.0 f other body.1
+      (sent_more h (Create 0 key ∷ []) (appends body.0 ++ Close 0 ∷ []) (Err f) now said (λ e. absurd (cc)) (sent_one (Create 0 key) h (Err f) now said (create_is_plain 0 key) sends))
 
-  pub create_refused : (left : Option (List ℕ)) → IsSome left → Sends (Create 0 key) m w (Ok outcome.Refused) t o said → PutWent m w key left now failed status.No t o said
-  create_refused None some sends = absurd (cc)
-  create_refused (Some body) some sends =
-      whole_refused m w key (Some body) now failed t o said body (calm, refl)
-      (ran_more m w (Create 0 key ∷ []) (appends body ++ Close 0 ∷ []) (Ok outcome.Refused) t o said (λ e. absurd (cc))
-      (ran_one (Create 0 key) m w (Ok outcome.Refused) t o said (create_is_plain 0 key) sends))
+  pub create_refused : IsSent (Create 0 key) h (Ok outcome.Refused) now said → PutIsPerformed key h from to status.No now said
+  create_refused sends =
+      let body = some_body from to calm some in
+      whole_refused h key from to now said body.0 body.1
+      (sent_more h (Create 0 key ∷ []) (appends body.0 ++ Close 0 ∷ []) (Ok outcome.Refused) now said (λ e. absurd (cc))
+      (sent_one (Create 0 key) h (Ok outcome.Refused) now said (create_is_plain 0 key) sends))
 
 -- an entry was made
-pub record Created (m : Machine) (w : Marks) (key : List ℕ) (t : State) (o : Open) : Type 0 where
-  pub done : is_done (step m (Create 0 key)).reply ≡ true
-  pub stands : StandsFor t o (step m (Create 0 key)).next (begun m (Create 0 key) w)
-  pub writes : Writes (step m (Create 0 key)).next []
+pub record Created (key : List ℕ) (h : History) (now : Session) : Type 0 where
+  pub done : is_done (step h.machine (Create 0 key)).reply ≡ true
+  pub stands : KeepsTo now (unanswered (Create 0 key) h)
+  pub writes : IsWriting (step h.machine (Create 0 key)).next []
 
-pub created : (m : Machine) (w : Marks) (key : List ℕ) (t : State) (o : Open) (said : List ℕ) → Sends (Create 0 key) m w (Ok outcome.Ok) t o said → Created m w key t o
-created m w key t o said sends =
-    let done = sent_done (Create 0 key) m w (Ok outcome.Ok) t o said (create_is_plain 0 key) sends refl in
-    record { done = done; stands = sends.next; writes = create_writes m key done }
+pub created : (h : History) (key : List ℕ) (now : Session) (said : List ℕ) → IsSent (Create 0 key) h (Ok outcome.Ok) now said → Created key h now
+created h key now said sends =
+    let done = sent_done (Create 0 key) h (Ok outcome.Ok) now said (create_is_plain 0 key) sends refl in
+    record { done = done; stands = sends.next; writes = create_writes h.machine key done }
 
-module _ (m : Machine) (w : Marks) (key : List ℕ) (left now : Option (List ℕ)) (failed : Faults) (s : State) (old : Open) (made : Created m w key s old) where
-  -- what is behind the making
-  behind_made : (cs : List Command) (answer : Result Outcome StoreFault) (t : State) (o : Open) (said : List ℕ)
-      → Ran (step m (Create 0 key)).next (begun m (Create 0 key) w) cs answer t o said → Ran m w (Create 0 key ∷ cs) answer t o said
-  behind_made cs answer t o said ran = ran_then m w (Create 0 key ∷ []) cs answer t o said (made.done, tt) ran
+module _ (h : History) (key : List ℕ) (from to : Supply) (made_at : Session) (made : Created key h made_at) where
+  -- what follows the making
+  after_made : (cs : List Command) (answer : Result Outcome StoreFault) (now : Session) (said : List ℕ)
+      → AreSent cs (unanswered (Create 0 key) h) answer now said → AreSent (Create 0 key ∷ cs) h answer now said
+  after_made cs answer now said ran = sent_then h (Create 0 key ∷ []) cs answer now said (made.done, tt) ran
 
   -- the body was not appended whole
-  pub appended_failed : (f : StoreFault) (t : State) (o : Open) (said : List ℕ) → f ≢ fault.Sink
-      → AppendWent (step m (Create 0 key)).next (begun m (Create 0 key) w) left now failed (Err f) t o said → PutWent m w key left now failed (status_in (Err f)) t o said
-  appended_failed f t o said other went =
-      let ran : Ran m w (Create 0 key ∷ appends went.body) (Err f) t o said =
-      subst (λ a. Ran m w (Create 0 key ∷ appends went.body) a t o said) went.same (behind_made (appends went.body) went.answer t o said went.ran) in
+  pub appended_failed : (f : StoreFault) (now : Session) (said : List ℕ) → f ≢ fault.Sink
+      → BodyIsAppended (unanswered (Create 0 key) h) from to (Err f) now said → PutIsPerformed key h from to (status_in (Err f)) now said
+  appended_failed f now said other went =
+      let ran : AreSent (Create 0 key ∷ appends went.body) h (Err f) now said =
+      subst (λ a. AreSent (Create 0 key ∷ appends went.body) h a now said) went.same (after_made (appends went.body) went.answer now said went.sent) in
       elim went.body_of [
-        | inl whole ↦ whole_failed m w key left now failed t o said went.body f other whole (ran_more m w (Create 0 key ∷ appends went.body) (Close 0 ∷ []) (Err f) t o said (λ e. absurd (cc)) ran)
-        | inr broken ↦ broken_failed m w key left now failed t o said went.body f other broken ran
+        | inl whole ↦ whole_failed h key from to now said went.body f other whole (sent_more h (Create 0 key ∷ appends went.body) (Close 0 ∷ []) (Err f) now said (λ e. absurd (cc)) ran)
+        | inr broken ↦ broken_failed h key from to now said went.body f other broken ran
       ]
 
-  pub appended_refused : (t : State) (o : Open) (said : List ℕ)
-      → AppendWent (step m (Create 0 key)).next (begun m (Create 0 key) w) left now failed (Ok status.No) t o said → PutWent m w key left now failed status.No t o said
-  appended_refused t o said went =
-      let ran : Ran m w (Create 0 key ∷ appends went.body) (Ok outcome.Refused) t o said =
-      subst (λ a. Ran m w (Create 0 key ∷ appends went.body) a t o said) went.same (behind_made (appends went.body) went.answer t o said went.ran) in
-      whole_refused m w key left now failed t o said went.body went.body_of (ran_more m w (Create 0 key ∷ appends went.body) (Close 0 ∷ []) (Ok outcome.Refused) t o said (λ e. absurd (cc)) ran)
+  pub appended_refused : (now : Session) (said : List ℕ)
+      → BodyIsAppended (unanswered (Create 0 key) h) from to (Ok status.No) now said → PutIsPerformed key h from to status.No now said
+  appended_refused now said went =
+      let ran : AreSent (Create 0 key ∷ appends went.body) h (Ok outcome.Refused) now said =
+      subst (λ a. AreSent (Create 0 key ∷ appends went.body) h a now said) went.same (after_made (appends went.body) went.answer now said went.sent) in
+      whole_refused h key from to now said went.body went.body_of (sent_more h (Create 0 key ∷ appends went.body) (Close 0 ∷ []) (Ok outcome.Refused) now said (λ e. absurd (cc)) ran)
 
-  pub appended_broken : (t : State) (o : Open) (said : List ℕ)
-      → AppendWent (step m (Create 0 key)).next (begun m (Create 0 key) w) left now failed (Ok status.Source) t o said → PutWent m w key left now failed status.Source t o said
-  appended_broken t o said went =
-      let ran : Ran m w (Create 0 key ∷ appends went.body) (Ok went.same.0) t o said =
-      subst (λ a. Ran m w (Create 0 key ∷ appends went.body) a t o said) went.same.1 (behind_made (appends went.body) went.answer t o said went.ran) in
-      broken_went m w key left now failed t o said went.body went.same.0 went.body_of ran
+  pub appended_broken : (now : Session) (said : List ℕ)
+      → BodyIsAppended (unanswered (Create 0 key) h) from to (Ok status.Source) now said → PutIsPerformed key h from to status.Source now said
+  appended_broken now said went =
+      let ran : AreSent (Create 0 key ∷ appends went.body) h (Ok went.same.0) now said =
+      subst (λ a. AreSent (Create 0 key ∷ appends went.body) h a now said) went.same.1 (after_made (appends went.body) went.answer now said went.sent) in
+      broken_went h key from to now said went.body went.same.0 went.body_of ran
 
-  pub appended_other : (ended : Status) (t : State) (o : Open) (said : List ℕ) → ended ≢ status.Done
-      → AppendWent (step m (Create 0 key)).next (begun m (Create 0 key) w) left now failed (Ok ended) t o said → PutWent m w key left now failed ended t o said
-  appended_other status.Done t o said other went = absurd (other refl)
-  appended_other status.No t o said other went = appended_refused t o said went
-  appended_other status.Source t o said other went = appended_broken t o said went
-  appended_other status.Memory t o said other went = absurd went.body_of
-  appended_other status.Words t o said other went = absurd went.body_of
-  appended_other status.Script t o said other went = absurd went.body_of
-  appended_other status.Sink t o said other went = absurd went.body_of
-  appended_other status.Disk t o said other went = absurd went.body_of
+  pub appended_other : (ended : Status) (now : Session) (said : List ℕ) → ended ≢ status.Done
+      → BodyIsAppended (unanswered (Create 0 key) h) from to (Ok ended) now said → PutIsPerformed key h from to ended now said
+  appended_other status.Done now said other went = absurd (other refl)
+  appended_other status.No now said other went = appended_refused now said went
+  appended_other status.Source now said other went = appended_broken now said went
+  appended_other status.Memory now said other went = absurd went.body_of
+  appended_other status.Words now said other went = absurd went.body_of
+  appended_other status.Script now said other went = absurd went.body_of
+  appended_other status.Sink now said other went = absurd went.body_of
+  appended_other status.Disk now said other went = absurd went.body_of
 
   -- it was, and the entry was closed
-  module _ (t : State) (o : Open) (before : List ℕ) (went : AppendWent (step m (Create 0 key)).next (begun m (Create 0 key) w) left now failed (Ok status.Done) t o before) where
-    appended : Ran m w (Create 0 key ∷ appends went.body) (Ok outcome.Ok) t o before
-    appended = subst (λ a. Ran m w (Create 0 key ∷ appends went.body) a t o before) went.same (behind_made (appends went.body) went.answer t o before went.ran)
+  module _ (now : Session) (before : List ℕ) (went : BodyIsAppended (unanswered (Create 0 key) h) from to (Ok status.Done) now before) where
+    appended : AreSent (Create 0 key ∷ appends went.body) h (Ok outcome.Ok) now before
+    appended = subst (λ a. AreSent (Create 0 key ∷ appends went.body) h a now before) went.same (after_made (appends went.body) went.answer now before went.sent)
 
-    appended_done : AreDone m (Create 0 key ∷ appends went.body)
+    appended_done : AreDone h.machine (Create 0 key ∷ appends went.body)
     appended_done = appended.done refl
 
-    appended_stands : StandsFor t o (after m (Create 0 key ∷ appends went.body)) (all_begun m (Create 0 key ∷ appends went.body) w)
+    appended_stands : KeepsTo now (all_unanswered (Create 0 key ∷ appends went.body) h)
     appended_stands =
-        subst (λ l. StandsFor t o (after m l) (all_begun m l w)) (until_all m (Create 0 key ∷ appends went.body) appended_done) appended.stands
+        subst (λ l. KeepsTo now (all_unanswered l h)) (until_all h.machine (Create 0 key ∷ appends went.body) appended_done) appended.stands
 
-    module _ (u : State) (n : Open) (said : List ℕ) where
-      closed_ran : (r : Result Outcome StoreFault) → Sends (Close 0) (after m (Create 0 key ∷ appends went.body)) (all_begun m (Create 0 key ∷ appends went.body) w) r u n said
-          → Ran m w (Create 0 key ∷ (appends went.body ++ Close 0 ∷ [])) r u n said
+    module _ (later : Session) (said : List ℕ) where
+      closed_ran : (r : Result Outcome StoreFault) → IsSent (Close 0) (all_unanswered (Create 0 key ∷ appends went.body) h) r later said
+          → AreSent (Create 0 key ∷ (appends went.body ++ Close 0 ∷ [])) h r later said
       closed_ran r sends =
-          ran_then m w (Create 0 key ∷ appends went.body) (Close 0 ∷ []) r u n said appended_done
-          (ran_one (Close 0) (after m (Create 0 key ∷ appends went.body)) (all_begun m (Create 0 key ∷ appends went.body) w) r u n said (close_is_plain 0) sends)
+          sent_then h (Create 0 key ∷ appends went.body) (Close 0 ∷ []) r later said appended_done
+          (sent_one (Close 0) (all_unanswered (Create 0 key ∷ appends went.body) h) r later said (close_is_plain 0) sends)
 
-      pub close_failed : (f : StoreFault) → f ≢ fault.Sink → SendsFor (Close 0) (Err f) t u o n said → PutWent m w key left now failed (status_in (Err f)) u n said
+      pub close_failed : (f : StoreFault) → f ≢ fault.Sink → SendsCommand (Close 0) (Err f) now later said → PutIsPerformed key h from to (status_in (Err f)) later said
       close_failed f other sends =
-          whole_failed m w key left now failed u n said went.body f other went.body_of (closed_ran (Err f) (sends _ _ appended_stands))
+          whole_failed h key from to later said went.body f other went.body_of (closed_ran (Err f) (sends.each _ appended_stands))
 
-      pub close_went : (r : Outcome) → SendsFor (Close 0) (Ok r) t u o n said → PutWent m w key left now failed (status_of r) u n said
-      close_went outcome.Refused sends = whole_refused m w key left now failed u n said went.body went.body_of (closed_ran (Ok outcome.Refused) (sends _ _ appended_stands))
+      pub close_went : (r : Outcome) → SendsCommand (Close 0) (Ok r) now later said → PutIsPerformed key h from to (status_of r) later said
+      close_went outcome.Refused sends = whole_refused h key from to later said went.body went.body_of (closed_ran (Ok outcome.Refused) (sends.each _ appended_stands))
       close_went outcome.Ok sends =
-          let sent = sends _ _ appended_stands in
-          whole_done m w key left now failed u n said went.body went.body_of (closed_ran (Ok outcome.Ok) sent) (sym sent.outcome) sent.replied
+          let sent = sends.each _ appended_stands in
+          whole_done h key from to later said went.body went.body_of (closed_ran (Ok outcome.Ok) sent) (sym sent.outcome) sent.replied
 
 -- an outcome that is no refusal
 pub other_outcome : (r : Outcome) → r ≢ outcome.Refused → r ≡ outcome.Ok

@@ -1,6 +1,6 @@
 -- The words of the command line, each as its bytes.
 use Rattle.std.specs.Cmp.Lexicographic.{pointwise}
-use Rattle.std.specs.Prelude.{List, None, Some, [], codes, if◌then◌else◌, map, nat_eq, string_bytes, ℕ, ◌∷◌}
+use Rattle.std.specs.Prelude.{List, None, Some, [], codes, decimal, if◌then◌else◌, map, nat_eq, string_bytes, ℕ, ◌∷◌, ◌≡◌, ◌⊎◌, ◌<◌, ◌^◌, ◌↔◌}
 use Rattle.std.specs.Option.{option_and_then}
 use Rattle.std.specs.declared.alloc.Global.{Global}
 use Rattle.std.specs.declared.option.Option.{Option}
@@ -17,6 +17,44 @@ pub data Asked : Type 0 where
   Put : (now : ℕ) (key : List ℕ) → Asked
   -- one command
   One : (now : ℕ) (command : Command) → Asked
+
+-- The table of the verbs, and which words are those of the table.
+
+-- a verb that stands alone, or one with a key after it; and what it asks for at a moment
+pub data Verb : Type 0 where
+  Alone : (name : List ℕ) (asks : ℕ → Asked) → Verb
+  WithKey : (name : List ℕ) (asks : ℕ → List ℕ → Asked) → Verb
+
+abbrev pub verbs : List Verb
+verbs =
+    Verb.Alone (codes "run") (λ now. Asked.Run now)
+    ∷ (Verb.WithKey (codes "put") (λ now key. Asked.Put now key)
+    ∷ (Verb.WithKey (codes "get") (λ now key. Asked.One now (Get key))
+    ∷ (Verb.WithKey (codes "doom") (λ now key. Asked.One now (Doom key))
+    ∷ (Verb.Alone (codes "flush") (λ now. Asked.One now Flush)
+    ∷ []))))
+
+-- these words are the verb with what follows it, and ask for this
+abbrev pub AreOfVerb : List (List ℕ) → ℕ → Asked → Verb → Type 0
+AreOfVerb words now asked (Verb.Alone name asks) = (words ≡ name ∷ []) × (asked ≡ asks now)
+AreOfVerb words now asked (Verb.WithKey name asks) =
+    (key : List ℕ) × ((words ≡ name ∷ (key ∷ [])) × (asked ≡ asks now key))
+
+-- so it is for one of these verbs
+abbrev pub AreOfOne : List (List ℕ) → ℕ → Asked → List Verb → Type 0
+AreOfOne words now asked [] = ⊥
+AreOfOne words now asked (verb ∷ more) =
+    AreOfVerb words now asked verb ⊎ AreOfOne words now asked more
+
+-- a number below 2 ^ 32 in decimal, and after it a verb of the table with what follows it
+pub record AreWords (words : List (List ℕ)) (asked : Asked) : Type 0 where
+  pub now : ℕ
+  pub small : now < 2 ^ 32
+  pub rest : List (List ℕ)
+  pub words_are : words ≡ decimal now ∷ rest
+  pub of_table : AreOfOne rest now asked verbs
+
+-- How the words are read.
 
 -- a verb that stands alone
 abbrev pub alone : ℕ → List ℕ → Option Asked
@@ -38,6 +76,11 @@ abbrev pub asked_by : List (List ℕ) → Option Asked
 asked_by (now ∷ (verb ∷ [])) = option_and_then (λ n. alone n verb) (number_in now)
 asked_by (now ∷ (verb ∷ (key ∷ []))) = option_and_then (λ n. of_key n verb key) (number_in now)
 asked_by _ = None
+
+-- words ask for something exactly where they are those of the table
+abbrev pub WordsAreOfTable : Type 0
+WordsAreOfTable =
+    (words : List (List ℕ)) (asked : Asked) → (asked_by words ≡ Some asked) ↔ AreWords words asked
 
 -- the same of the words as texts
 abbrev pub asked_in : List (String Global) → Option Asked

@@ -8,7 +8,7 @@ use cache_base::Bytes;
 use cache_io::{Sink, SinkFault};
 use std::alloc::Global;
 
-/// A sink that holds the reply to the last command. It never fails but for want of memory.
+/// A sink that holds the reply to the last command. It never fails, unless memory runs out.
 #[derive(Drop)]
 pub(crate) struct LastReply {
     alloc: Global,
@@ -16,7 +16,7 @@ pub(crate) struct LastReply {
 }
 
 impl LastReply {
-    ghost use Rattle.cache_tool.specs.PutReply.{said_in};
+    ghost use Rattle.cache_tool.specs.HeldReply.{said_in};
 
     /// No reply.
     pub(crate) fn new(alloc: Global) -> LastReply
@@ -45,7 +45,7 @@ impl LastReply {
 
 impl Sink for LastReply {
     ghost use Rattle.std.specs.Prelude.{Some};
-    ghost use Rattle.cache_tool.specs.PutReply.{said_in};
+    ghost use Rattle.cache_tool.specs.HeldReply.{said_in};
 
     ghost taken = { λ r. Some (said_in r) };
 
@@ -54,7 +54,8 @@ impl Sink for LastReply {
     fn write(&mut self, b: &[u8]) -> Result<usize, SinkFault>
         requires { 0 < length b.now }
         ensures bound { IfOk result (λ n. (0 < n) × (n ≤ length b.now)) }
-        ensures bytes { WriteAppends (Some (said_in self.old)) (Some (said_in self.new)) result b.now }
+        ensures bytes { let now = Some (said_in self.new) in
+            WriteAppends (Some (said_in self.old)) now result b.now }
         ensures cause { HasCause (IsErrOf result SinkFault.Failed) 0 0 }
         ensures whole { IfOk result (λ n. n ≡ length b.now) }
     {

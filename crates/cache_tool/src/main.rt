@@ -3,6 +3,7 @@
 #![tactic(auto)]
 
 mod last_reply;
+mod laws;
 mod one;
 mod piece;
 mod put;

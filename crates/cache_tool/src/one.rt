@@ -1,12 +1,13 @@
 //! One command, which the words give.
 
-ghost use Rattle.std.specs.Prelude.{◌≡◌, ◌≢◌, ◌⊎◌, true, IsTrue};
+ghost use Rattle.std.specs.Prelude.{◌≡◌, ◌⊎◌, true, IsTrue};
 ghost use Rattle.cache_base.specs.Causes.{HasCause, Rose};
 ghost use Rattle.cache_script.specs.Command.{command_of};
 ghost use Rattle.cache_store.specs.Printed.{PrintsOk, PrintsRefusal, is_plain};
 ghost use Rattle.cache_theory.specs.Given.{IsGiven};
-ghost use Rattle.cache_tool.specs.Ending.{ComesFor};
-ghost use Rattle.cache_tool.specs.Sessions.{IsAnswer, IsClosing};
+ghost use Rattle.cache_tool.specs.Statuses.{IsAnswer, IsClosing};
+ghost use Rattle.cache_tool.specs.Verbs.{AnswersCommand};
+ghost use Rattle.cache_tool.specs.World.{output};
 ghost use Rattle.disk_model.specs.Calls.{StopsAtFault};
 ghost use Rattle.disk_model.specs.Sound.{IsQuiet};
 
@@ -27,9 +28,12 @@ pub(crate) fn perform_one<D: Disk, K: Sink>(
     disk: &mut D,
 ) -> Status
     requires given { IsGiven (command_of command.now) }
-    ensures comes { IsTrue D.tells → ComesFor now (command_of command.now) result (K.taken sink.old) (K.taken sink.new) (D.state disk.old) (D.state disk.new) }
-    ensures others { IsAnswer result ⊎ ((result ≡ Status.Sink) ⊎ ((result ≡ Status.Disk) ⊎ (result ≡ Status.Memory))) }
-    ensures done { result ≡ Status.Done → is_plain (command_of command.now) ≡ true → PrintsOk (K.taken sink.old) (K.taken sink.new) }
+    ensures answers { let at = output K.Sink D.Disk in let c = command_of command.now in
+        IsTrue D.tells → AnswersCommand now c result (at sink.old disk.old) (at sink.new disk.new) }
+    ensures others { IsAnswer result
+        ⊎ ((result ≡ Status.Sink) ⊎ ((result ≡ Status.Disk) ⊎ (result ≡ Status.Memory))) }
+    ensures done { result ≡ Status.Done → is_plain (command_of command.now) ≡ true →
+        PrintsOk (K.taken sink.old) (K.taken sink.new) }
     ensures refused { result ≡ Status.No → PrintsRefusal (K.taken sink.old) (K.taken sink.new) }
     ensures quiet { IsClosing result → IsTrue D.tells → IsQuiet (D.state disk.new) }
     ensures stops { IsTrue D.tells → StopsAtFault (D.counts disk.old) (D.counts disk.new) }

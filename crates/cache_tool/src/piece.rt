@@ -1,7 +1,7 @@
 //! Pieces of a body, as they come from a source.
 
-ghost use Rattle.std.specs.Prelude.{◌≡◌, ◌≢◌, ◌≤◌, ◌<◌, ◌+◌, length, take, drop, IfOk, IsErrOf, OnErr, Ok};
-ghost use Rattle.std.specs.Io.KnownBytes.{Consumes, IsAtEnd, Keeps};
+ghost use Rattle.std.specs.Prelude.{◌≡◌, ◌≢◌, ◌≤◌, ◌<◌, length, take};
+ghost use Rattle.std.specs.Io.KnownBytes.{Consumes, IsAtEnd};
 ghost use Rattle.cache_base.specs.Causes.{HasCause};
 
 use cache_io::{Source, SourceFault, read_after};
@@ -17,7 +17,7 @@ pub(crate) enum Ended {
     Failed,
 }
 
-/// The bytes at the front of a piece that came from the source, and how far that went.
+/// How many bytes at the beginning of a piece came from the source, and how that ended.
 #[derive(Clone, Copy, Debug, PartialEq, Eq)]
 pub(crate) struct Filled {
     pub(crate) count: usize,
@@ -31,7 +31,8 @@ pub(crate) fn fill<S: Source>(source: &mut S, piece: &mut [u8]) -> Filled
     ensures full { result.ended ≡ Ended.Full → result.count ≡ length piece.new }
     ensures short { result.ended ≢ Ended.Full → result.count < length piece.new }
     ensures end { result.ended ≡ Ended.End → IsAtEnd (S.left source.new) }
-    ensures cause { HasCause (result.ended ≡ Ended.Failed) (S.faults source.old) (S.faults source.new) }
+    ensures cause { let failed = result.ended ≡ Ended.Failed in
+        HasCause failed (S.faults source.old) (S.faults source.new) }
 {
     let mut count = 0;
     'reads: while count < piece.len() {

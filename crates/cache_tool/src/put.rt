@@ -1,21 +1,24 @@
 //! The verb `put`: an entry is made of its key and of the bytes of the source.
 
-ghost use Rattle.std.specs.Prelude.{◌≡◌, ◌≢◌, ◌≤◌, ◌<◌, ◌+◌, ◌⊎◌, [], length, false, Err, Ok, Some, IfOk, IsErrOf, IsTrue, OnOk, vec_len};
+ghost use Rattle.std.specs.Prelude.{◌≡◌, ◌≢◌, ◌≤◌, ◌<◌, ◌+◌, ◌⊎◌, [], length, false, Err, Ok, Some, IfOk, IsTrue, vec_len};
 ghost use Rattle.std.specs.Io.KnownBytes.{Appends, IsAtEnd};
 ghost use Rattle.cache_base.specs.Causes.{HasCause, Rose};
 ghost use Rattle.cache_base.specs.declared.limits.TheConstants.{BODY_MAX as BODY_LEN, PIECE_MAX as PIECE_LEN};
 ghost use Rattle.cache_script.specs.Command.{command_of};
-ghost use Rattle.cache_store.specs.Open.{IsOpen, open_of};
+ghost use Rattle.cache_store.specs.Faults.{ending};
+ghost use Rattle.cache_store.specs.Open.{IsOpen, LeavesOpen};
 ghost use Rattle.cache_store.specs.Printed.{HasBadKey, Prints, PrintsOk};
 ghost use Rattle.cache_store.specs.Said.{IsCut};
 ghost use Rattle.cache_store.specs.Saying.{IsPart};
+ghost use Rattle.cache_store.specs.Session.{session};
 ghost use Rattle.cache_theory.specs.Given.{IsGiven};
-ghost use Rattle.cache_tool.specs.Ending.{PutsFor, status_in};
-ghost use Rattle.cache_tool.specs.Put.{faults};
-ghost use Rattle.cache_tool.specs.PutReply.{said_in};
-ghost use Rattle.cache_tool.specs.PutWent.{AppendWentFor, PieceWentFor, PutWentFor, SendsFor};
-ghost use Rattle.cache_tool.specs.Sessions.{IsAnswer, IsClosing};
-ghost use Rattle.cache_tool.specs.Told.{HoldsRefusal, IsRefusalLine, PutRefuses, TakesAtMost, ok_line};
+ghost use Rattle.cache_tool.specs.AnyDisk.{HoldsRefusal, IsRefusalLine, PutRefuses, TakesAtMost, ok_line};
+ghost use Rattle.cache_tool.specs.HeldReply.{said_in};
+ghost use Rattle.cache_tool.specs.PutProgress.{AppendsBody, AppendsPiece, PerformsPut, SendsCommand};
+ghost use Rattle.cache_tool.specs.Statuses.{IsAnswer, IsClosing};
+ghost use Rattle.cache_tool.specs.Verbs.{StoresEntry};
+ghost use Rattle.cache_tool.specs.World.{supply, world};
+ghost use Rattle.disk_model.specs.Account.{Accounts};
 ghost use Rattle.disk_model.specs.Calls.{StopsAtFault};
 ghost use Rattle.disk_model.specs.Sound.{IsQuiet};
 ghost use Rattle.entry_key.specs.Writing.{may_write};
@@ -42,15 +45,16 @@ fn send<D: Disk>(
     disk: &mut D,
 ) -> Result<Outcome, StoreFault>
     requires given { IsGiven (command_of c.now) }
-    requires told { IsTrue D.tells → IsOpen (D.state disk.old) (open_of store.old) }
-    ensures sends { IsTrue D.tells → SendsFor (command_of c.now) result (D.state disk.old) (D.state disk.new) (open_of store.old) (open_of store.new) (said_in said.new) }
-    ensures prints { IfOk result (λ o. Prints (command_of c.now) o (Some []) (Some (said_in said.new))) }
+    requires told { IsTrue D.tells → IsOpen (session D.Disk store.old disk.old) }
+    ensures sends { let at = session D.Disk in let before = at store.old disk.old in
+        let now = at store.new disk.new in IsTrue D.tells →
+        SendsCommand (command_of c.now) result before now (said_in said.new) }
+    ensures prints { IfOk result (λ o.
+        Prints (command_of c.now) o (Some []) (Some (said_in said.new))) }
     ensures bad_key { HasBadKey (command_of c.now) → result ≢ Ok Outcome.Ok }
-    ensures open { OnOk result (IsTrue D.tells → IsOpen (D.state disk.new) (open_of store.new)) }
+    ensures open { IsTrue D.tells → LeavesOpen result (session D.Disk store.new disk.new) }
     ensures no_sink { result ≢ Err StoreFault.Sink }
-    ensures went_on { OnOk result (IsTrue D.tells → (D.counts disk.new).failed ≡ (D.counts disk.old).failed) }
-    ensures stops { IsTrue D.tells → StopsAtFault (D.counts disk.old) (D.counts disk.new) }
-    ensures cause { HasCause (IsErrOf result StoreFault.Disk) (D.faults disk.old) (D.faults disk.new) }
+    ensures account { Accounts D.Disk (ending result) disk.old disk.new }
 {
     said.clear();
     store.command(alloc, disk, c, said)
@@ -66,15 +70,16 @@ fn append_piece<D: Disk>(
     said: &mut LastReply,
     disk: &mut D,
 ) -> Result<Outcome, StoreFault>
-    requires told { IsTrue D.tells → IsOpen (D.state disk.old) (open_of store.old) }
-    ensures went { IsTrue D.tells → PieceWentFor piece.now room result (D.state disk.old) (D.state disk.new) (open_of store.old) (open_of store.new) (said_in said.new) }
+    requires told { IsTrue D.tells → IsOpen (session D.Disk store.old disk.old) }
+    ensures appends { let at = session D.Disk in let before = at store.old disk.old in
+        let now = at store.new disk.new in IsTrue D.tells →
+        AppendsPiece piece.now room result before now (said_in said.new) }
     ensures fits { result ≡ Ok Outcome.Ok → length piece.now ≤ room }
-    ensures refused { result ≡ Ok Outcome.Refused → IsRefusalLine (said_in said.new) ⊎ (room < length piece.now) }
-    ensures open { OnOk result (IsTrue D.tells → IsOpen (D.state disk.new) (open_of store.new)) }
+    ensures refused { result ≡ Ok Outcome.Refused →
+        IsRefusalLine (said_in said.new) ⊎ (room < length piece.now) }
+    ensures open { IsTrue D.tells → LeavesOpen result (session D.Disk store.new disk.new) }
     ensures no_sink { result ≢ Err StoreFault.Sink }
-    ensures went_on { OnOk result (IsTrue D.tells → (D.counts disk.new).failed ≡ (D.counts disk.old).failed) }
-    ensures stops { IsTrue D.tells → StopsAtFault (D.counts disk.old) (D.counts disk.new) }
-    ensures cause { HasCause (IsErrOf result StoreFault.Disk) (D.faults disk.old) (D.faults disk.new) }
+    ensures account { Accounts D.Disk (ending result) disk.old disk.new }
 {
     if piece.is_empty() {
         return Ok(Outcome::Ok);
@@ -90,7 +95,7 @@ fn append_piece<D: Disk>(
     Ok(outcome)
 }
 
-// Room for a piece. Fails only for want of memory.
+// Room for a piece. Fails only where memory runs out.
 fn new_piece(alloc: Global) -> Result<Vec<u8>, NoMemory>
     ensures { IfOk result (λ piece. vec_len piece ≡ PIECE_LEN) }
 {
@@ -107,20 +112,20 @@ fn append_all<D: Disk, S: Source>(
     disk: &mut D,
 ) -> Result<Status, StoreFault>
     requires long { length piece.old ≡ PIECE_LEN }
-    requires told { IsTrue D.tells → IsOpen (D.state disk.old) (open_of store.old) }
-    ensures went { IsTrue D.tells → AppendWentFor (S.left source.old) (S.left source.new) (faults (S.faults source.old) (S.faults source.new)) result
-        (D.state disk.old) (D.state disk.new) (open_of store.old) (open_of store.new) (said_in said.new) }
+    requires told { IsTrue D.tells → IsOpen (session D.Disk store.old disk.old) }
+    ensures appends { let gives = supply S.Source in let at = session D.Disk in
+        let before = at store.old disk.old in let now = at store.new disk.new in IsTrue D.tells →
+        AppendsBody (gives source.old) (gives source.new) result before now (said_in said.new) }
     ensures only { IfOk result (λ s. IsAnswer s ⊎ (s ≡ Status.Source)) }
     ensures read { result ≡ Ok Status.Done → IsAtEnd (S.left source.new) }
     ensures source { result ≡ Ok Status.Source → Rose (S.faults source.old) (S.faults source.new) }
     ensures calm { IfOk result (λ s. IsAnswer s → S.faults source.new ≡ S.faults source.old) }
     ensures taken { TakesAtMost (BODY_LEN + PIECE_LEN) (S.left source.old) (S.left source.new) }
-    ensures refused { result ≡ Ok Status.No → HoldsRefusal (said_in said.new) (S.left source.old) (S.left source.new) }
-    ensures open { OnOk result (IsTrue D.tells → IsOpen (D.state disk.new) (open_of store.new)) }
+    ensures refused { result ≡ Ok Status.No →
+        HoldsRefusal (said_in said.new) (S.left source.old) (S.left source.new) }
+    ensures open { IsTrue D.tells → LeavesOpen result (session D.Disk store.new disk.new) }
     ensures no_sink { result ≢ Err StoreFault.Sink }
-    ensures went_on { OnOk result (IsTrue D.tells → (D.counts disk.new).failed ≡ (D.counts disk.old).failed) }
-    ensures stops { IsTrue D.tells → StopsAtFault (D.counts disk.old) (D.counts disk.new) }
-    ensures cause { HasCause (IsErrOf result StoreFault.Disk) (D.faults disk.old) (D.faults disk.new) }
+    ensures account { Accounts D.Disk (ending result) disk.old disk.new }
 {
     let mut room = BODY_MAX;
     'pieces: loop {
@@ -147,9 +152,11 @@ fn perform_put<D: Disk, S: Source>(
     said: &mut LastReply,
     disk: &mut D,
 ) -> Result<Status, StoreFault>
-    requires told { IsTrue D.tells → IsOpen (D.state disk.old) (open_of store.old) }
-    ensures went { IsTrue D.tells → PutWentFor key.now (S.left source.old) (S.left source.new) (faults (S.faults source.old) (S.faults source.new)) (status_in result)
-        (D.state disk.old) (D.state disk.new) (open_of store.old) (open_of store.new) (said_in said.new) }
+    requires told { IsTrue D.tells → IsOpen (session D.Disk store.old disk.old) }
+    ensures performs { let gives = supply S.Source in let at = session D.Disk in
+        let before = at store.old disk.old in let now = at store.new disk.new in
+        let from = gives source.old in IsTrue D.tells →
+        PerformsPut key.now from (gives source.new) result before now (said_in said.new) }
     ensures only { IfOk result (λ s. IsAnswer s ⊎ (s ≡ Status.Source)) }
     ensures read { result ≡ Ok Status.Done → IsAtEnd (S.left source.new) }
     ensures unread { may_write key.now ≡ false → source.new ≡ source.old }
@@ -157,12 +164,11 @@ fn perform_put<D: Disk, S: Source>(
     ensures calm { IfOk result (λ s. IsAnswer s → S.faults source.new ≡ S.faults source.old) }
     ensures taken { TakesAtMost (BODY_LEN + PIECE_LEN) (S.left source.old) (S.left source.new) }
     ensures done { result ≡ Ok Status.Done → said_in said.new ≡ ok_line }
-    ensures refused { result ≡ Ok Status.No → HoldsRefusal (said_in said.new) (S.left source.old) (S.left source.new) }
-    ensures open { OnOk result (IsTrue D.tells → IsOpen (D.state disk.new) (open_of store.new)) }
+    ensures refused { result ≡ Ok Status.No →
+        HoldsRefusal (said_in said.new) (S.left source.old) (S.left source.new) }
+    ensures open { IsTrue D.tells → LeavesOpen result (session D.Disk store.new disk.new) }
     ensures no_sink { result ≢ Err StoreFault.Sink }
-    ensures went_on { OnOk result (IsTrue D.tells → (D.counts disk.new).failed ≡ (D.counts disk.old).failed) }
-    ensures stops { IsTrue D.tells → StopsAtFault (D.counts disk.old) (D.counts disk.new) }
-    ensures cause { HasCause (IsErrOf result StoreFault.Disk) (D.faults disk.old) (D.faults disk.new) }
+    ensures account { Accounts D.Disk (ending result) disk.old disk.new }
 {
     let mut piece = new_piece(alloc)?;
     let create = Command::Create { slot: SLOT, key };
@@ -182,9 +188,11 @@ fn perform_put<D: Disk, S: Source>(
 fn print_reply<K: Sink>(status: Status, said: &LastReply, sink: &mut K) -> Status
     requires answer { IsAnswer status }
     ensures same { (result ≡ status) ⊎ ((result ≡ Status.Sink) ⊎ (result ≡ Status.Memory)) }
-    ensures all { IsAnswer result → Appends (K.taken sink.old) (K.taken sink.new) (said_in said.now) }
+    ensures all { IsAnswer result →
+        Appends (K.taken sink.old) (K.taken sink.new) (said_in said.now) }
     ensures part { IsPart (K.taken sink.old) (K.taken sink.new) (said_in said.now) }
-    ensures cut { result ≡ Status.Sink → IsCut (K.taken sink.old) (K.taken sink.new) (said_in said.now) }
+    ensures cut { result ≡ Status.Sink →
+        IsCut (K.taken sink.old) (K.taken sink.new) (said_in said.now) }
     ensures sink { result ≡ Status.Sink → Rose (K.faults sink.old) (K.faults sink.new) }
     ensures calm { IsAnswer result → K.faults sink.new ≡ K.faults sink.old }
 {
@@ -204,19 +212,22 @@ pub(crate) fn put<D: Disk, S: Source, K: Sink>(
     sink: &mut K,
     disk: &mut D,
 ) -> Status
-    ensures puts { IsTrue D.tells → PutsFor now key.now result (S.left source.old) (S.left source.new) (faults (S.faults source.old) (S.faults source.new))
-        (K.taken sink.old) (K.taken sink.new) (D.state disk.old) (D.state disk.new) }
+    ensures stores { let at = world S.Source K.Sink D.Disk in
+        let before = at source.old sink.old disk.old in
+        IsTrue D.tells → StoresEntry now key.now result before (at source.new sink.new disk.new) }
     ensures read { result ≡ Status.Done → IsAtEnd (S.left source.new) }
     ensures unread { may_write key.now ≡ false → source.new ≡ source.old }
     ensures taken { TakesAtMost (BODY_LEN + PIECE_LEN) (S.left source.old) (S.left source.new) }
     ensures done { result ≡ Status.Done → PrintsOk (K.taken sink.old) (K.taken sink.new) }
-    ensures refused { result ≡ Status.No → PutRefuses (K.taken sink.old) (K.taken sink.new) (S.left source.old) (S.left source.new) }
+    ensures refused { let at = world S.Source K.Sink D.Disk in result ≡ Status.No →
+        PutRefuses (at source.old sink.old disk.old) (at source.new sink.new disk.new) }
     ensures others { (result ≢ Status.Words) × (result ≢ Status.Script) }
     ensures quiet { IsClosing result → IsTrue D.tells → IsQuiet (D.state disk.new) }
     ensures stops { IsTrue D.tells → StopsAtFault (D.counts disk.old) (D.counts disk.new) }
     ensures source { result ≡ Status.Source → Rose (S.faults source.old) (S.faults source.new) }
     ensures sink { result ≡ Status.Sink → Rose (K.faults sink.old) (K.faults sink.new) }
-    ensures calm { IsAnswer result → (S.faults source.new ≡ S.faults source.old) × (K.faults sink.new ≡ K.faults sink.old) }
+    ensures calm { IsAnswer result →
+        (S.faults source.new ≡ S.faults source.old) × (K.faults sink.new ≡ K.faults sink.old) }
     ensures disk { HasCause (result ≡ Status.Disk) (D.faults disk.old) (D.faults disk.new) }
 {
     let mut store = match Store::open(alloc, disk, now) {

@@ -5,12 +5,12 @@ ghost use Rattle.std.specs.Io.KnownBytes.{IsAtEnd};
 ghost use Rattle.cache_base.specs.Causes.{Rose};
 ghost use Rattle.cache_base.specs.declared.limits.TheConstants.{BODY_MAX, PIECE_MAX};
 ghost use Rattle.cache_store.specs.Printed.{PrintsOk, PrintsRefusal, is_plain};
-ghost use Rattle.cache_tool.specs.Ending.{ComesFor, PutsFor, RunsFor};
-ghost use Rattle.cache_tool.specs.Put.{faults};
+ghost use Rattle.cache_tool.specs.AnyDisk.{PutRefuses, TakesAtMost};
 ghost use Rattle.cache_tool.specs.Script.{HasBadCommand, HasScript, IsScript};
-ghost use Rattle.cache_tool.specs.Sessions.{IsAnswer, IsClosing};
-ghost use Rattle.cache_tool.specs.Told.{PutRefuses, TakesAtMost};
+ghost use Rattle.cache_tool.specs.Statuses.{IsAnswer, IsClosing};
+ghost use Rattle.cache_tool.specs.Verbs.{AnswersCommand, RunsScript, StoresEntry};
 ghost use Rattle.cache_tool.specs.Words.{WhenOne, WhenPut, WhenRun, asked_in};
+ghost use Rattle.cache_tool.specs.World.{output, world};
 ghost use Rattle.disk_model.specs.Calls.{StopsAtFault};
 ghost use Rattle.disk_model.specs.Sound.{IsQuiet};
 ghost use Rattle.entry_key.specs.Writing.{may_write};
@@ -24,9 +24,9 @@ use cache_io::{Sink, Source};
 use disk_model::Disk;
 use std::alloc::Global;
 
-/// Does what the words say. These are the words behind the directory: `NOW run` performs the script that the source
-/// has, `NOW put KEY` makes an entry of the key whose body the source has, `NOW get KEY` prints an entry, `NOW doom KEY`
-/// removes one, and `NOW flush` makes all last. Each opens the store at the moment NOW and closes it.
+/// Does what the words say. These are the words after the directory: `NOW run` performs the script that the source has,
+/// `NOW put KEY` makes an entry of the key whose body the source has, `NOW get KEY` prints an entry, `NOW doom KEY`
+/// removes one, and `NOW flush` syncs what was written. Each opens the store at the moment NOW and closes it.
 ///
 /// The clauses on contents hold where the disk and the source tell theirs. Those on a crash hold where nothing was
 /// pending at the call, and speak of every exit, whatever the status.
@@ -37,54 +37,76 @@ pub fn run<D: Disk, S: Source, K: Sink>(
     sink: &mut K,
     disk: &mut D,
 ) -> Status
-    // Words without a form, and they alone, are answered so, and nothing is called.
+    // Malformed words, and they alone, are answered so, and nothing is called.
     ensures words { (result ≡ Status.Words) ↔ IsNone (asked_in words.now) }
-    ensures idle { result ≡ Status.Words → (disk.new ≡ disk.old) × (source.new ≡ source.old) × (sink.new ≡ sink.old) }
+    ensures idle { result ≡ Status.Words →
+        (disk.new ≡ disk.old) × (source.new ≡ source.old) × (sink.new ≡ sink.old) }
 
     // What is printed, what stands afterwards and what a crash may leave, by the machine.
-    ensures runs { WhenRun (asked_in words.now) (λ now. IsTrue D.tells → RunsFor now result (S.left source.old) (S.left source.new)
-        (K.taken sink.old) (K.taken sink.new) (D.state disk.old) (D.state disk.new)) }
-    ensures puts { WhenPut (asked_in words.now) (λ now key. IsTrue D.tells → PutsFor now key result (S.left source.old) (S.left source.new) (faults (S.faults source.old) (S.faults source.new))
-        (K.taken sink.old) (K.taken sink.new) (D.state disk.old) (D.state disk.new)) }
-    ensures comes { WhenOne (asked_in words.now) (λ now c. IsTrue D.tells → ComesFor now c result (K.taken sink.old) (K.taken sink.new) (D.state disk.old) (D.state disk.new)) }
+    ensures runs { let at = world S.Source K.Sink D.Disk in
+        let before = at source.old sink.old disk.old in
+        WhenRun (asked_in words.now) (λ now. IsTrue D.tells →
+        RunsScript now result before (at source.new sink.new disk.new)) }
+    ensures stores { let at = world S.Source K.Sink D.Disk in
+        let before = at source.old sink.old disk.old in
+        WhenPut (asked_in words.now) (λ now key. IsTrue D.tells →
+        StoresEntry now key result before (at source.new sink.new disk.new)) }
+    ensures answers { let at = output K.Sink D.Disk in
+        WhenOne (asked_in words.now) (λ now c. IsTrue D.tells →
+        AnswersCommand now c result (at sink.old disk.old) (at sink.new disk.new)) }
 
     // With `Done` a `run` and a `put` have read the source to its end, and for a `run` its bytes spell a script; with
     // `Script` they spell none. A `put` under a key that cannot be written reads nothing, and other verbs never do.
-    ensures read { result ≡ Status.Done → WhenRun (asked_in words.now) (λ now. IsAtEnd (S.left source.new)) × WhenPut (asked_in words.now) (λ now key. IsAtEnd (S.left source.new)) }
-    ensures spelled { result ≡ Status.Done → WhenRun (asked_in words.now) (λ now. HasScript (S.left source.old)) }
+    ensures read { result ≡ Status.Done →
+        WhenRun (asked_in words.now) (λ now. IsAtEnd (S.left source.new))
+        × WhenPut (asked_in words.now) (λ now key. IsAtEnd (S.left source.new)) }
+    ensures spelled { result ≡ Status.Done →
+        WhenRun (asked_in words.now) (λ now. HasScript (S.left source.old)) }
     ensures bad { result ≡ Status.Script → HasBadCommand (S.left source.old) }
-    ensures unread { WhenPut (asked_in words.now) (λ now key. may_write key ≡ false → source.new ≡ source.old) }
-    ensures taken { WhenPut (asked_in words.now) (λ now key. TakesAtMost (BODY_MAX + PIECE_MAX) (S.left source.old) (S.left source.new)) }
+    ensures unread { WhenPut (asked_in words.now) (λ now key.
+        may_write key ≡ false → source.new ≡ source.old) }
+    ensures taken { WhenPut (asked_in words.now) (λ now key.
+        TakesAtMost (BODY_MAX + PIECE_MAX) (S.left source.old) (S.left source.new)) }
     ensures ignored { WhenOne (asked_in words.now) (λ now c. source.new ≡ source.old) }
 
     // On any disk, also on one that tells nothing, the status is that of the printed reply: `ok` with `Done`, for a `put`
-    // and for a command whose reply is `ok` or a refusal; and a refusal with `No`, but for a `put` of too long a body.
-    ensures put_done { result ≡ Status.Done → WhenPut (asked_in words.now) (λ now key. PrintsOk (K.taken sink.old) (K.taken sink.new)) }
-    ensures put_no { result ≡ Status.No → WhenPut (asked_in words.now) (λ now key. PutRefuses (K.taken sink.old) (K.taken sink.new) (S.left source.old) (S.left source.new)) }
-    ensures one_done { result ≡ Status.Done → WhenOne (asked_in words.now) (λ now c. is_plain c ≡ true → PrintsOk (K.taken sink.old) (K.taken sink.new)) }
-    ensures one_no { result ≡ Status.No → WhenOne (asked_in words.now) (λ now c. PrintsRefusal (K.taken sink.old) (K.taken sink.new)) }
+    // and for a command whose reply is `ok` or a refusal; and a refusal with `No`, except for a `put` of too long a body.
+    ensures put_done { result ≡ Status.Done →
+        WhenPut (asked_in words.now) (λ now key. PrintsOk (K.taken sink.old) (K.taken sink.new)) }
+    ensures put_no { let at = world S.Source K.Sink D.Disk in result ≡ Status.No →
+        WhenPut (asked_in words.now) (λ now key.
+        PutRefuses (at source.old sink.old disk.old) (at source.new sink.new disk.new)) }
+    ensures one_done { result ≡ Status.Done → WhenOne (asked_in words.now) (λ now c.
+        is_plain c ≡ true → PrintsOk (K.taken sink.old) (K.taken sink.new)) }
+    ensures one_no { result ≡ Status.No → WhenOne (asked_in words.now) (λ now c.
+        PrintsRefusal (K.taken sink.old) (K.taken sink.new)) }
 
     // Where the store was closed nothing is pending.
     ensures quiet { IsClosing result → IsTrue D.tells → IsQuiet (D.state disk.new) }
 
     // A script alone is bad, and never refused; a source fails for a script and a `put` alone.
-    ensures script_alone { result ≡ Status.Script → WhenPut (asked_in words.now) (λ now key. ⊥) × WhenOne (asked_in words.now) (λ now c. ⊥) }
+    ensures script_alone { result ≡ Status.Script →
+        WhenPut (asked_in words.now) (λ now key. ⊥) × WhenOne (asked_in words.now) (λ now c. ⊥) }
     ensures never_no { WhenRun (asked_in words.now) (λ now. result ≢ Status.No) }
     ensures never_source { WhenOne (asked_in words.now) (λ now c. result ≢ Status.Source) }
 
     // A fault is answered only where its count rose, that of the disk before the others, and where the disk's rose
-    // there is no other answer but want of memory. After a change that failed no call follows.
+    // there is no other answer, unless memory ran out. After a change that failed no call follows.
     ensures source { result ≡ Status.Source → Rose (S.faults source.old) (S.faults source.new) }
     ensures sink { result ≡ Status.Sink → Rose (K.faults sink.old) (K.faults sink.new) }
     ensures disk { result ≡ Status.Disk → Rose (D.faults disk.old) (D.faults disk.new) }
     ensures disk_first { result ≢ Status.Disk → D.faults disk.new ≡ D.faults disk.old }
-    ensures calm { IsAnswer result ⊎ (result ≡ Status.Script) → (S.faults source.new ≡ S.faults source.old) × (K.faults sink.new ≡ K.faults sink.old) }
+    ensures calm { IsAnswer result ⊎ (result ≡ Status.Script) →
+        (S.faults source.new ≡ S.faults source.old) × (K.faults sink.new ≡ K.faults sink.old) }
     ensures stops { IsTrue D.tells → StopsAtFault (D.counts disk.old) (D.counts disk.new) }
 
-    // Where nothing fails, and a script is one, there is no other answer but want of memory.
-    ensures complete { IsSome (asked_in words.now) → WhenRun (asked_in words.now) (λ now. IsScript (S.left source.old)) →
-        ¬ (Rose (S.faults source.old) (S.faults source.new)) → ¬ (Rose (K.faults sink.old) (K.faults sink.new)) → ¬ (Rose (D.faults disk.old) (D.faults disk.new)) →
-        IsAnswer result ⊎ (result ≡ Status.Memory) }
+    // Where nothing fails, and a script is one, there is no other answer, unless memory ran out.
+    ensures complete { IsSome (asked_in words.now)
+        → WhenRun (asked_in words.now) (λ now. IsScript (S.left source.old))
+        → ¬ (Rose (S.faults source.old) (S.faults source.new))
+        → ¬ (Rose (K.faults sink.old) (K.faults sink.new))
+        → ¬ (Rose (D.faults disk.old) (D.faults disk.new))
+        → IsAnswer result ⊎ (result ≡ Status.Memory) }
 {
     match read_words(words) {
         Some(Asked::Run { now }) => run_script(alloc, now, source, sink, disk),

@@ -4,12 +4,15 @@ ghost use Rattle.std.specs.Prelude.{◌≡◌, ◌≢◌, ◌⊎◌, ◌<◌, Er
 ghost use Rattle.std.specs.Io.KnownBytes.{Appends, IsAtEnd};
 ghost use Rattle.cache_base.specs.Causes.{HasCause, Rose};
 ghost use Rattle.cache_script.specs.Reader.{given_in, held_in, used_in};
-ghost use Rattle.cache_store.specs.Open.{IsOpen, open_of};
+ghost use Rattle.cache_store.specs.Open.{IsOpen, LeavesOpen};
 ghost use Rattle.cache_store.specs.Said.{IsCut};
-ghost use Rattle.cache_tool.specs.Ending.{RunsFor, status_in};
+ghost use Rattle.cache_store.specs.Session.{session};
 ghost use Rattle.cache_tool.specs.Script.{HasBadCommand, HasScript, bad_line};
-ghost use Rattle.cache_tool.specs.ScriptWent.{CameTo, RanFor, Turns};
-ghost use Rattle.cache_tool.specs.Sessions.{IsClosing};
+ghost use Rattle.cache_tool.specs.ScriptProgress.{PerformsCommands, PerformsNext, PerformsScript};
+ghost use Rattle.cache_tool.specs.Statuses.{IsClosing};
+ghost use Rattle.cache_tool.specs.Tally.{IsAccounted, failure, script_failure, tally, turn_failure};
+ghost use Rattle.cache_tool.specs.Verbs.{RunsScript};
+ghost use Rattle.cache_tool.specs.World.{progress, world};
 ghost use Rattle.disk_model.specs.Calls.{StopsAtFault};
 ghost use Rattle.disk_model.specs.Sound.{IsQuiet};
 
@@ -24,7 +27,7 @@ use std::alloc::Global;
 /// How the commands of a script came to their end.
 #[derive(Clone, Copy)]
 pub(crate) enum Ended {
-    /// The source ended behind the last command.
+    /// The source ended after the last command.
     Whole,
     /// The source failed.
     Failed,
@@ -40,7 +43,9 @@ pub(crate) fn run_script<D: Disk, S: Source, K: Sink>(
     sink: &mut K,
     disk: &mut D,
 ) -> Status
-    ensures runs { IsTrue D.tells → RunsFor now result (S.left source.old) (S.left source.new) (K.taken sink.old) (K.taken sink.new) (D.state disk.old) (D.state disk.new) }
+    ensures runs { let at = world S.Source K.Sink D.Disk in
+        let before = at source.old sink.old disk.old in
+        IsTrue D.tells → RunsScript now result before (at source.new sink.new disk.new) }
     ensures done { result ≡ Status.Done → HasScript (S.left source.old) }
     ensures read { result ≡ Status.Done → IsAtEnd (S.left source.new) }
     ensures bad { result ≡ Status.Script → HasBadCommand (S.left source.old) }
@@ -49,7 +54,8 @@ pub(crate) fn run_script<D: Disk, S: Source, K: Sink>(
     ensures stops { IsTrue D.tells → StopsAtFault (D.counts disk.old) (D.counts disk.new) }
     ensures source { result ≡ Status.Source → Rose (S.faults source.old) (S.faults source.new) }
     ensures sink { result ≡ Status.Sink → Rose (K.faults sink.old) (K.faults sink.new) }
-    ensures calm { (result ≡ Status.Done) ⊎ (result ≡ Status.Script) → (S.faults source.new ≡ S.faults source.old) × (K.faults sink.new ≡ K.faults sink.old) }
+    ensures calm { (result ≡ Status.Done) ⊎ (result ≡ Status.Script) →
+        (S.faults source.new ≡ S.faults source.old) × (K.faults sink.new ≡ K.faults sink.old) }
     ensures disk { HasCause (result ≡ Status.Disk) (D.faults disk.old) (D.faults disk.new) }
 {
     let mut store = match Store::open(alloc, disk, now) {
@@ -68,18 +74,19 @@ fn perform_script<D: Disk, S: Source, K: Sink>(
     sink: &mut K,
     disk: &mut D,
 ) -> Result<Status, StoreFault>
-    requires told { IsTrue D.tells → IsOpen (D.state disk.old) (open_of store.old) }
-    ensures ran { IsTrue D.tells → RanFor result (S.left source.old) (S.left source.new) (D.state disk.old) (D.state disk.new) (open_of store.old) (open_of store.new) (K.taken sink.old) (K.taken sink.new) }
-    ensures status { IfOk result (λ s. (s ≡ Status.Done) ⊎ ((s ≡ Status.Script) ⊎ (s ≡ Status.Source))) }
+    requires told { IsTrue D.tells → IsOpen (session D.Disk store.old disk.old) }
+    ensures performs { let at = progress S.Source K.Sink D.Disk in
+        let before = at store.old source.old sink.old disk.old in
+        IsTrue D.tells → PerformsScript result before (at store.new source.new sink.new disk.new) }
+    ensures status { IfOk result (λ s.
+        (s ≡ Status.Done) ⊎ ((s ≡ Status.Script) ⊎ (s ≡ Status.Source))) }
     ensures done { result ≡ Ok Status.Done → HasScript (S.left source.old) }
     ensures read { result ≡ Ok Status.Done → IsAtEnd (S.left source.new) }
     ensures bad { result ≡ Ok Status.Script → HasBadCommand (S.left source.old) }
-    ensures open { IsClosing (status_in result) → IsTrue D.tells → IsOpen (D.state disk.new) (open_of store.new) }
-    ensures went_on { IsClosing (status_in result) → IsTrue D.tells → (D.counts disk.new).failed ≡ (D.counts disk.old).failed }
-    ensures stops { IsTrue D.tells → StopsAtFault (D.counts disk.old) (D.counts disk.new) }
-    ensures source { HasCause (result ≡ Ok Status.Source) (S.faults source.old) (S.faults source.new) }
-    ensures sink { HasCause (IsErrOf result StoreFault.Sink) (K.faults sink.old) (K.faults sink.new) }
-    ensures disk { HasCause (IsErrOf result StoreFault.Disk) (D.faults disk.old) (D.faults disk.new) }
+    ensures open { IsTrue D.tells → LeavesOpen result (session D.Disk store.new disk.new) }
+    ensures account { let at = tally S.Source K.Sink D.Disk in
+        let before = at source.old sink.old disk.old in
+        IsAccounted (script_failure result) before (at source.new sink.new disk.new) }
 {
     let mut reader = Reader::new(alloc)?;
     match perform_commands(alloc, &mut reader, store, source, sink, disk)? {
@@ -101,17 +108,16 @@ fn perform_commands<D: Disk, S: Source, K: Sink>(
     sink: &mut K,
     disk: &mut D,
 ) -> Result<Ended, StoreFault>
-    requires fresh { (held_in reader.old ≡ []) × (given_in reader.old ≡ 0) × (used_in reader.old ≡ 0) }
-    requires told { IsTrue D.tells → IsOpen (D.state disk.old) (open_of store.old) }
-    ensures comes { CameTo D.tells result (S.left source.old) (S.left source.new) (D.state disk.old) (D.state disk.new) (open_of store.old) (open_of store.new) (K.taken sink.old) (K.taken sink.new) }
-    ensures open { OnOk result (IsTrue D.tells → IsOpen (D.state disk.new) (open_of store.new)) }
-    ensures sink_open { result ≡ Err StoreFault.Sink → IsTrue D.tells → IsOpen (D.state disk.new) (open_of store.new) }
-    ensures went_on { OnOk result (IsTrue D.tells → (D.counts disk.new).failed ≡ (D.counts disk.old).failed) }
-    ensures sink_went_on { result ≡ Err StoreFault.Sink → IsTrue D.tells → (D.counts disk.new).failed ≡ (D.counts disk.old).failed }
-    ensures stops { IsTrue D.tells → StopsAtFault (D.counts disk.old) (D.counts disk.new) }
-    ensures source { HasCause (result ≡ Ok Ended.Failed) (S.faults source.old) (S.faults source.new) }
-    ensures sink { HasCause (IsErrOf result StoreFault.Sink) (K.faults sink.old) (K.faults sink.new) }
-    ensures disk { HasCause (IsErrOf result StoreFault.Disk) (D.faults disk.old) (D.faults disk.new) }
+    requires fresh { (held_in reader.old ≡ [])
+        × (given_in reader.old ≡ 0) × (used_in reader.old ≡ 0) }
+    requires told { IsTrue D.tells → IsOpen (session D.Disk store.old disk.old) }
+    ensures performs { let at = progress S.Source K.Sink D.Disk in
+        let before = at store.old source.old sink.old disk.old in
+        PerformsCommands D.tells result before (at store.new source.new sink.new disk.new) }
+    ensures open { IsTrue D.tells → LeavesOpen result (session D.Disk store.new disk.new) }
+    ensures account { let at = tally S.Source K.Sink D.Disk in
+        let before = at source.old sink.old disk.old in
+        IsAccounted (failure result) before (at source.new sink.new disk.new) }
 {
     'turns: loop {
         if let Some(ended) = perform_next(alloc, reader, store, source, sink, disk)? {
@@ -129,17 +135,16 @@ fn perform_next<D: Disk, S: Source, K: Sink>(
     sink: &mut K,
     disk: &mut D,
 ) -> Result<Option<Ended>, StoreFault>
-    requires told { IsTrue D.tells → IsOpen (D.state disk.old) (open_of store.old) }
-    ensures turns { Turns D.tells result reader.old reader.new (S.left source.old) (S.left source.new) (D.state disk.old) (D.state disk.new) (open_of store.old) (open_of store.new) (K.taken sink.old) (K.taken sink.new) }
+    requires told { IsTrue D.tells → IsOpen (session D.Disk store.old disk.old) }
+    ensures performs { let at = progress S.Source K.Sink D.Disk in
+        let before = at store.old source.old sink.old disk.old in
+        let now = at store.new source.new sink.new disk.new in
+        PerformsNext D.tells result reader.old reader.new before now }
     ensures further { result ≡ Ok None → given_in reader.old < given_in reader.new }
-    ensures open { OnOk result (IsTrue D.tells → IsOpen (D.state disk.new) (open_of store.new)) }
-    ensures sink_open { result ≡ Err StoreFault.Sink → IsTrue D.tells → IsOpen (D.state disk.new) (open_of store.new) }
-    ensures went_on { OnOk result (IsTrue D.tells → (D.counts disk.new).failed ≡ (D.counts disk.old).failed) }
-    ensures sink_went_on { result ≡ Err StoreFault.Sink → IsTrue D.tells → (D.counts disk.new).failed ≡ (D.counts disk.old).failed }
-    ensures stops { IsTrue D.tells → StopsAtFault (D.counts disk.old) (D.counts disk.new) }
-    ensures source { HasCause (result ≡ Ok (Some Ended.Failed)) (S.faults source.old) (S.faults source.new) }
-    ensures sink { HasCause (IsErrOf result StoreFault.Sink) (K.faults sink.old) (K.faults sink.new) }
-    ensures disk { HasCause (IsErrOf result StoreFault.Disk) (D.faults disk.old) (D.faults disk.new) }
+    ensures open { IsTrue D.tells → LeavesOpen result (session D.Disk store.new disk.new) }
+    ensures account { let at = tally S.Source K.Sink D.Disk in
+        let before = at source.old sink.old disk.old in
+        IsAccounted (turn_failure result) before (at source.new sink.new disk.new) }
 {
     match reader.next_command(source) {
         Ok(Some(command)) => {
@@ -168,7 +173,8 @@ fn say_bad<K: Sink>(alloc: Global, number: u64, sink: &mut K) -> Result<(), Stor
     ensures said { OnOk result (Appends (K.taken sink.old) (K.taken sink.new) (bad_line number)) }
     ensures cut { OnErr result (IsCut (K.taken sink.old) (K.taken sink.new) (bad_line number)) }
     ensures no_disk { result ≢ Err StoreFault.Disk }
-    ensures sink { HasCause (IsErrOf result StoreFault.Sink) (K.faults sink.old) (K.faults sink.new) }
+    ensures sink { let failed = IsErrOf result StoreFault.Sink in
+        HasCause failed (K.faults sink.old) (K.faults sink.new) }
 {
     let text = bad_text(alloc, number)?;
     write_whole(sink, text.as_slice())?;

@@ -1,10 +1,11 @@
 //! How a session ends.
 
-ghost use Rattle.std.specs.Prelude.{◌≡◌, ◌≢◌, ◌⊎◌, Err, IfOk, IsTrue};
+ghost use Rattle.std.specs.Prelude.{◌≡◌, ◌⊎◌, Err, IfOk, IsTrue};
 ghost use Rattle.cache_base.specs.Causes.{HasCause};
-ghost use Rattle.cache_store.specs.Open.{IsOpen, open_of};
-ghost use Rattle.cache_tool.specs.Ending.{Ends, status_in};
-ghost use Rattle.cache_tool.specs.Sessions.{IsClosing, status_of as status_of_outcome};
+ghost use Rattle.cache_store.specs.Open.{LeavesOpen};
+ghost use Rattle.cache_store.specs.Session.{session};
+ghost use Rattle.cache_tool.specs.Ending.{EndsSession};
+ghost use Rattle.cache_tool.specs.Statuses.{IsClosing, status_in, status_of as status_of_outcome};
 ghost use Rattle.disk_model.specs.Calls.{StopsAtFault};
 ghost use Rattle.disk_model.specs.Sound.{IsQuiet};
 
@@ -33,17 +34,20 @@ pub(crate) fn status_of_fault(fault: StoreFault) -> Status
     }
 }
 
-/// Ends a session by what its commands came to: the store is closed, but where the disk failed or memory ran out. A
-/// fault of the closing comes before what they came to.
+/// Ends a session by what its commands came to: the store is closed, unless the disk failed or memory ran out. A fault of
+/// the closing comes before what they came to.
 pub(crate) fn end<D: Disk>(store: Store, came: Result<Status, StoreFault>, disk: &mut D) -> Status
     requires closing { IfOk came IsClosing }
-    requires told { IsTrue D.tells → IsClosing (status_in came) → IsOpen (D.state disk.old) (open_of store) }
-    ensures ends { IsTrue D.tells → Ends result (D.state disk.old) (D.state disk.new) (open_of store) }
+    requires told { IsTrue D.tells → LeavesOpen came (session D.Disk store disk.old) }
+    ensures ends { IsTrue D.tells →
+        EndsSession result (session D.Disk store disk.old) (D.state disk.new) }
     ensures same { (result ≡ status_in came) ⊎ ((result ≡ Status.Disk) ⊎ (result ≡ Status.Memory)) }
-    ensures dropped { ¬ (IsClosing (status_in came)) → (result ≡ status_in came) × (disk.new ≡ disk.old) }
+    ensures dropped { ¬ (IsClosing (status_in came)) →
+        (result ≡ status_in came) × (disk.new ≡ disk.old) }
     ensures quiet { IsClosing result → IsTrue D.tells → IsQuiet (D.state disk.new) }
     ensures stops { IsTrue D.tells → StopsAtFault (D.counts disk.old) (D.counts disk.new) }
-    ensures cause { IsClosing (status_in came) → HasCause (result ≡ Status.Disk) (D.faults disk.old) (D.faults disk.new) }
+    ensures cause { IsClosing (status_in came) →
+        HasCause (result ≡ Status.Disk) (D.faults disk.old) (D.faults disk.new) }
 {
     let status = match came {
         Ok(status) => status,

@@ -5,7 +5,7 @@ ghost use Rattle.std.specs.Option.{option_map};
 ghost use Rattle.cache_tool.specs.Words.{alone as alone_of, asked_in, of_key as of_key_of};
 ghost use Rattle.cache_tool.specs.Asked.{asked, AskedIsGiven};
 
-use cache_base::Moment;
+use cache_base::{Moment, number};
 use cache_script::Command;
 
 /// What the words ask for, at a moment.

@@ -48,7 +48,7 @@ damaged_is_entry : (m : Said) (body : List ℕ) (ds : List Damage) → is_entry 
 damaged_is_entry m body [] = refl
 damaged_is_entry m body (d ∷ ds) = refl
 
--- a file of the key is an entry, be it damaged
+-- a file of the key is an entry, even if it is damaged
 meta_is_entry : (key : List ℕ) (o : Option (List ℕ)) (meta : Meta) → IsMetaFor key o meta → is_entry (read_for key o) ≡ true
 unfolding read
 meta_is_entry key None meta is = absurd is

@@ -53,7 +53,7 @@ doomed_stands s k d (m, (number, stands)) has = let at = doomed_in k.objects d h
         let there : standing s (place_of x.name x.doomed) ≡ Some (object_file (object m (number p))) = file_stands s k m number stands p x at in
         subst (λ (o : Option (List ℕ)). IsSome o) (sym (ap (λ n. standing s (place_of x.name n)) (sym is) ∙ there)) refl
 
--- the front of an array has no more numbers than it was cut to
+-- a prefix of an array has no more numbers than it was cut to
 pub few_numbers : (count : ℕ) (xs ys : List ℕ) → take count xs ≡ ys → count < SLOTS → length ys < SLOTS
 few_numbers count xs ys is few = let same = ap length is in let le = length-take count xs in omega (arith, few, same, le)
 

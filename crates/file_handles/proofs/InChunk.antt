@@ -25,7 +25,7 @@ rest_within (entry.Draft d) o is =
     let long = rest_long (held d.body) o.version.body is.1.body in omega (arith, long)
 rest_within (entry.Finished meta) o is = omega arith
 
--- so bytes that fit into that chunk fit behind it
+-- so bytes that fit into that chunk fit after it
 pub fits_held : (k : Kept) (m : Machine) (number : ℕ → ℕ) → HandlesStand k m number → (slot : ℕ) → slot < SLOTS → (p : ℕ) (x : Object) → HasAt k slot p x
     → (bytes : List ℕ) → FitsInChunk m slot bytes → length (rest_in x.entry) + length bytes < 262144
 fits_held k m number stand slot small p x has bytes fits =

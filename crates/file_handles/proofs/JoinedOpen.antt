@@ -234,7 +234,7 @@ module _ (s : State) (k : Kept) (slot : ℕ) (key : List ℕ) (small : slot < SL
               go (Damaged d) at loaded = absurd loaded
               go Nothing at loaded = absurd loaded
 
-          -- or not, for want of a place
+          -- or not, since no place is free
           no_place : (after : Kept) → CarriesOut (OpenKey slot key) None (cache_at k s) (cache_at after s)
           no_place after = carries_out (λ b m w is. record { safe = λ on. ((begun_in s k m (OpenKey slot key) w is).crash_kept on).safe; replies = tt; next = tt })
 

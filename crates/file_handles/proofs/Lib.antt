@@ -27,6 +27,7 @@ pub mod DoomedNumbers
 pub mod DoomedStands
 pub mod DoomedKeeps
 pub mod DoomedUser
+pub mod IndexLeft
 pub mod FirstFree
 pub mod FoundFile
 pub mod FoundLoad

@@ -55,13 +55,13 @@ module _ (size len from base r : ℕ) (at : from ≡ base + r) where
       ∙ take_twice len (size - r) (drop r (drop base xs))
       ∙ ap (take (min len (size - r))) (drop-drop r base xs ∙ ap (λ n. drop n xs) (sym at))
 
--- what lies in the front of a list
+-- what lies in a prefix of a list
 in_front : (n from front : ℕ) (xs : List ℕ) → from + n ≤ front → take n (drop from (take front xs)) ≡ take n (drop from xs)
 in_front n from front xs le =
     ap (λ k. take n (drop from (take k xs))) (let e : front ≡ from + (front - from) = omega (arith, le) in e)
     ∙ ap (take n) (drop-take from (front - from) xs) ∙ take-take n (front - from) (drop from xs) (omega (arith, le))
 
--- there is none where none is asked for, or behind the end
+-- there is none where none is asked for, or after the end
 pub no_part : (body : List ℕ) (from len : ℕ) → (len ≡ 0) ⊎ (length body ≤ from) → [] ≡ part_of_body body from len
 no_part body from len none = elim none [
   | inl zero ↦ ap (λ n. take n (drop from body)) (let e : 0 ≡ min len (262144 - from % 262144) = omega (arith, zero) in e)
@@ -72,7 +72,7 @@ no_part body from len none = elim none [
 abbrev pub stored_of : Entry → MachineObject → ℕ
 stored_of e o = length o.version.body - length (rest_in e)
 
--- behind that it is held
+-- after that it is held
 pub held_part : (e : Entry) (o : MachineObject) → IsEntryOf e o → (from len : ℕ) → from < length o.version.body → stored_of e o ≤ from
     → take len (drop (from % 262144) (rest_in e)) ≡ part_of_body o.version.body from len
 held_part (entry.Draft d) o is from len within past =

@@ -1,4 +1,4 @@
--- What a call does that performs a command.
+-- What a call promises that carries out a command.
 use Rattle.std.specs.Prelude.{IfSome, List, None, Option, Some, ℕ, ◌<◌, ◌^◌, ◌≡◌}
 use Rattle.cache_base.specs.Bytes.{AreBytes}
 use Rattle.cache_theory.specs.Command.{Command, Reply}
@@ -15,7 +15,7 @@ use Rattle.file_handles.specs.Cache.{Cache, cache_at}
 use Rattle.file_handles.specs.Kept.{Kept}
 use Rattle.file_handles.specs.Stands.{KeepsTo, Represents}
 
--- what a command comes to in a state of the machine: a reply is the machine's, and then its next
+-- the answer to a command in a state of the machine: a reply is the machine's, and then its next
 -- state is represented
 pub record Replies (c : Command) (m : Machine) (replied : Option Reply) (after : Cache)
     : Type 0 where

@@ -23,6 +23,10 @@ place_of name (Some number) = place.Doomed number
 abbrev pub object_place : Object → Place
 object_place x = place_of x.name x.doomed
 
+-- an object of these parts
+abbrev pub object_with : Name → Option ℕ → Entry → Object
+object_with name doomed e = record { name = name; doomed = doomed; entry = e }
+
 -- whether it is being written
 abbrev pub is_draft : Entry → Bool
 is_draft (entry.Draft d) = true

@@ -22,7 +22,7 @@ pub record Adds (slot : ℕ) (object : Object) (writes : Bool) (before after : K
   pub free : object_at before place ≡ None
   pub joins : JoinsAt slot place writes (with_object before place (Some object)) after
 
--- so it is after an Ok, and nothing else is answered than that memory ran out
+-- so it is after an Ok, and the only fault is that memory ran out
 pub record AddsTo (slot : ℕ) (object : Object) (writes : Bool)
     (answer : Result (Unit {0}) HandleFault) (before after : Kept) : Type 0 where
   pub added : OnOk answer (Adds slot object writes before after)

@@ -5,9 +5,11 @@ ghost use Rattle.cache_base.specs.declared.limits.TheConstants.{CHUNK, SLOTS};
 ghost use Rattle.cache_theory.specs.Command.Command.{Append};
 ghost use Rattle.cache_theory.specs.Machine.{Machine};
 ghost use Rattle.disk_model.specs.Account.{Accounts};
+ghost use Rattle.disk_model.specs.Told.{Told};
 ghost use Rattle.file_handles.specs.Answers.{OnRefused, done_or, ending};
 ghost use Rattle.file_handles.specs.Growing.{AnswersInChunk, FitsInChunk, grow_fault};
 ghost use Rattle.file_handles.specs.Held.{rest_in};
+ghost use Rattle.index_theory.specs.Leaves.{LeavesIndex};
 
 use crate::object::{Draft, Entry, Object};
 use crate::{HandleFault, Handles};
@@ -91,26 +93,19 @@ impl Handles {
         } = draft;
         let mut body = body;
         body.append(disk, &file, b)?;
-        let draft = Draft {
+        let entry = Entry::Draft(Draft {
             body,
             header,
             key,
             elements,
-        };
-        let entry = Entry::Draft(draft);
-        self.put(
-            place,
-            Object {
-                name,
-                doomed,
-                entry,
-            },
-        );
+        });
+        self.put_entry(place, name, doomed, entry);
         Ok(())
     }
 
-    /// Appends bytes to the body of the entry in a slot. Each chunk is written as soon as it is full; within a chunk no
-    /// call of the disk is made.
+    /// Appends bytes to the body of the entry in a slot. A chunk is written as soon as it is full; no other call of the
+    /// disk is made.
+    #[tactic(auto, using(crate::proofs::Refused::faulted_same))]
     pub fn append<D: Disk>(&mut self, disk: &mut D, slot: u8, b: &[u8]) -> Result<(), HandleFault>
         requires slot { slot < SLOTS }
         requires told { IsTrue D.tells → RepresentsSome (cache D.Disk self.old disk.old) }
@@ -121,6 +116,7 @@ impl Handles {
             FitsInChunk m slot b.now → disk.new ≡ disk.old }
         ensures within_reply { AnswersInChunk (kept self.old) slot b.now result }
         ensures unchanged { OnRefused result (λ _. disk.new ≡ disk.old) }
+        ensures index { Told D.Disk LeavesIndex disk.old disk.new }
         ensures account { Accounts D.Disk (ending result) disk.old disk.new }
     {
         let place = self.may_append(slot, b.len())?;

@@ -12,6 +12,7 @@ ghost use Rattle.file_handles.specs.Answers.{OnRefused, done_or, ending};
 ghost use Rattle.file_handles.specs.Closing.{dropped, is_some_draft, is_use_of, let_go_by};
 ghost use Rattle.file_handles.specs.Effects.{HasEffect, wrote_where};
 ghost use Rattle.file_handles.specs.Held.{is_draft, object_place};
+ghost use Rattle.index_theory.specs.Leaves.{LeavesIndex};
 
 use crate::object::{Entry, Object, Use};
 use crate::{Effect, HandleFault, Handles};
@@ -51,7 +52,7 @@ fn let_go<D: Disk>(disk: &mut D, object: &Object) -> Result<(), DiskFault>
     }
 }
 
-// Removes the file of an object that does not outlast the handles: a doomed one, or one that is not finished.
+// Removes the file of an object that does not outlast the handles: one that is doomed, or not finished.
 fn drop_file<D: Disk>(disk: &mut D, object: &Object) -> Result<(), DiskFault>
     requires { IsTrue D.tells → IsSome (standing (D.state disk.old) (object_place object.now)) }
     ensures state { Told D.Disk (λ s t. t ≡ if_done result (dropped object.now s) s)
@@ -100,6 +101,7 @@ impl Handles {
         ensures effect { IfOk result (λ effect. effect ≡ wrote_where
             (λ x. used.writes && is_draft x.entry) (object_kept_at (kept self.old) used.place)) }
         ensures refused { OnRefused result (λ _. ⊥) }
+        ensures index { Told D.Disk LeavesIndex disk.old disk.new }
         ensures account { Accounts D.Disk (ending result) disk.old disk.new }
     {
         if self.is_finished_by(used) {
@@ -116,6 +118,7 @@ impl Handles {
         requires told { IsTrue D.tells → MayGiveUp slot place (cache D.Disk self.old disk.old) }
         ensures gives_up { let at = cache D.Disk in IsTrue D.tells →
             GivesUp slot result (at self.old disk.old) (at self.new disk.new) }
+        ensures index { Told D.Disk LeavesIndex disk.old disk.new }
         ensures account { Accounts D.Disk (disk_ending result) disk.old disk.new }
     {
         self.slots[usize::from(slot)] = None;
@@ -128,8 +131,8 @@ impl Handles {
         }
     }
 
-    /// Closes a slot. The writer of an entry that is not finished finishes it first; the file of a doomed entry is removed
-    /// with its last slot.
+    /// Closes a slot. If it writes an entry that is not finished, the entry is finished first. The file of a doomed entry
+    /// is removed with its last slot.
     pub fn close<D: Disk>(
         &mut self,
         alloc: Global,
@@ -142,6 +145,7 @@ impl Handles {
             CarriesOut (Close slot) (done_or result) (at self.old disk.old) (at self.new disk.new) }
         ensures effect { IfOk result (HasEffect (kept self.old) (Close slot)) }
         ensures unchanged { OnRefused result (λ _. IsTrue D.tells → disk.new ≡ disk.old) }
+        ensures index { Told D.Disk LeavesIndex disk.old disk.new }
         ensures account { Accounts D.Disk (ending result) disk.old disk.new }
     {
         let used = self.use_of(slot)?;
@@ -155,6 +159,7 @@ impl Handles {
         requires told { IsTrue D.tells → RepresentsSome (cache D.Disk self disk.old) }
         ensures closes { IsTrue D.tells →
             ClosesAll result (cache D.Disk self disk.old) (D.state disk.new) }
+        ensures index { Told D.Disk LeavesIndex disk.old disk.new }
         ensures account { Accounts D.Disk (disk_ending result) disk.old disk.new }
     {
         for object in &self.objects {

@@ -14,6 +14,7 @@ ghost use Rattle.file_handles.specs.Creating.{MayHaveMade};
 ghost use Rattle.file_handles.specs.Dooming.{TakesFirstFree};
 ghost use Rattle.file_handles.specs.Effects.{HasEffect};
 ghost use Rattle.file_handles.specs.Held.{IsHeldAs};
+ghost use Rattle.index_theory.specs.Leaves.{LeavesIndex};
 
 use crate::object::{Draft, Entry, Object, Use};
 use crate::{Effect, HandleFault, Handles};
@@ -34,7 +35,7 @@ fn bytes_of(alloc: Global, b: &[u8]) -> Result<Bytes, NoMemory>
     Ok(bytes)
 }
 
-// A new draft of a key, whose name is given, with a new empty file.
+// A new draft of a key with this name, and its file, which is new and empty.
 fn drafted<D: Disk>(
     alloc: Global,
     disk: &mut D,
@@ -77,7 +78,7 @@ impl Handles {
     ghost use Rattle.file_handles.specs.Kept.{kept};
     ghost use Rattle.file_handles.specs.Stands.{RepresentsSome};
 
-    /// Makes a new entry of a key at this moment, of which the slot is the writer. What stood under the name is doomed.
+    /// Makes a new entry of a key at this moment, which the slot writes. What stood under the name is doomed.
     pub fn create<D: Disk>(
         &mut self,
         alloc: Global,
@@ -95,6 +96,7 @@ impl Handles {
         ensures bad_key { may_write_of key.now ≡ false → OnOk result ⊥ }
         ensures numbered { Told D.Disk TakesFirstFree disk.old disk.new }
         ensures unchanged { OnRefused result (λ _. disk.new ≡ disk.old) }
+        ensures index { Told D.Disk LeavesIndex disk.old disk.new }
         ensures account { Accounts D.Disk (ending result) disk.old disk.new }
     {
         if self.use_of(slot).is_ok() {

@@ -9,6 +9,7 @@ ghost use Rattle.entry_name.specs.EntryName.{file_name};
 ghost use Rattle.file_handles.specs.Answers.{OnRefused, done_or, ending};
 ghost use Rattle.file_handles.specs.Dooming.{TakesFirstFree, numbers_in};
 ghost use Rattle.file_handles.specs.Effects.{HasEffect};
+ghost use Rattle.index_theory.specs.Leaves.{LeavesIndex};
 
 use crate::find::look;
 use crate::object::Object;
@@ -21,7 +22,7 @@ use entry_key::may_write;
 use entry_name::name_of;
 use std::alloc::Global;
 
-// The numbers of the doomed files in use, as the prefix of an array, and how many they are.
+// The numbers of the doomed files in use: so many, as the prefix of an array.
 #[derive(Drop)]
 struct DoomedNumbers {
     numbers: [u32; SLOTS],
@@ -55,7 +56,7 @@ impl Handles {
     ghost use Rattle.file_handles.specs.Loading.{user_place};
     ghost use Rattle.file_handles.specs.Stands.{RepresentsSome};
 
-    // Dooms the undoomed object in use of a name, which is at this place: its file moves among the doomed.
+    // Dooms the undoomed object in use of a name, which is at this place. Its file moves among the doomed.
     fn doom_at<D: Disk>(
         &mut self,
         disk: &mut D,
@@ -69,6 +70,7 @@ impl Handles {
             DoomsUnder name.now.0 result (at self.old disk.old) (at self.new disk.new) }
         ensures numbered { Told D.Disk TakesFirstFree disk.old disk.new }
         ensures refused { OnRefused result (λ _. ⊥) }
+        ensures index { Told D.Disk LeavesIndex disk.old disk.new }
         ensures account { Accounts D.Disk (ending result) disk.old disk.new }
     {
         let doomed = doomed_numbers(&self.objects);
@@ -78,14 +80,7 @@ impl Handles {
         let object = self.take(place);
         let number = move_to_doomed(disk, name, &doomed.numbers[..doomed.count])?;
         let Object { name, entry, .. } = object;
-        self.put(
-            place,
-            Object {
-                name,
-                doomed: Some(number),
-                entry,
-            },
-        );
+        self.put_entry(place, name, Some(number), entry);
         Ok(())
     }
 
@@ -105,6 +100,7 @@ impl Handles {
         ensures some { IfOk result (λ doomed.
             doomed ≡ is_some (user_place (kept self.old) name.now)) }
         ensures refused { OnRefused result (λ _. ⊥) }
+        ensures index { Told D.Disk LeavesIndex disk.old disk.new }
         ensures account { Accounts D.Disk (ending result) disk.old disk.new }
     {
         match self.user(name) {
@@ -116,7 +112,7 @@ impl Handles {
         }
     }
 
-    // The name of a key of which an entry is in use, or a file stands.
+    // The name of a key, if an entry of it is in use or its file stands.
     fn may_doom<D: Disk>(
         &self,
         alloc: Global,
@@ -141,7 +137,7 @@ impl Handles {
         Ok(name)
     }
 
-    /// Dooms the entry of a key: where a slot has it, its file moves among the doomed, and else it is removed.
+    /// Dooms the entry of a key. Its file moves among the doomed where a slot has it, and otherwise is removed.
     pub fn doom<D: Disk>(
         &mut self,
         alloc: Global,
@@ -155,6 +151,7 @@ impl Handles {
         ensures effect { IfOk result (HasEffect (kept self.old) (Doom key.now)) }
         ensures numbered { Told D.Disk TakesFirstFree disk.old disk.new }
         ensures unchanged { OnRefused result (λ _. Told D.Disk (λ s t. t ≡ s) disk.old disk.new) }
+        ensures index { Told D.Disk LeavesIndex disk.old disk.new }
         ensures account { Accounts D.Disk (ending result) disk.old disk.new }
     {
         let name = self.may_doom(alloc, disk, key)?;

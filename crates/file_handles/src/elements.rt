@@ -7,6 +7,7 @@ ghost use Rattle.cache_theory.specs.Command.Command.{ElementOf, SetElement, Unse
 ghost use Rattle.cache_theory.specs.Command.Reply.{Refused};
 ghost use Rattle.cache_theory.specs.Step.{element_reply};
 ghost use Rattle.disk_model.specs.Account.{Accounts};
+ghost use Rattle.disk_model.specs.Told.{Told};
 ghost use Rattle.entry_metadata.specs.Metadata.{block_length};
 ghost use Rattle.entry_parts.specs.Elements.{elements_bytes};
 ghost use Rattle.entry_parts.specs.Setting.{has_zero as has_zero_in, with_element};
@@ -14,6 +15,7 @@ ghost use Rattle.file_handles.specs.Answers.{OnRefused, done_or, done_or_none, e
 ghost use Rattle.file_handles.specs.Effects.{HasEffect, wrote_where};
 ghost use Rattle.file_handles.specs.Held.{body_len_in, elements_in, is_draft, key_in};
 ghost use Rattle.file_handles.specs.Setting.{HasRoom, are_small, changed_by, small_len, with_change};
+ghost use Rattle.index_theory.specs.Leaves.{LeavesIndex};
 
 use crate::object::{Draft, Entry, Object};
 use crate::{Effect, HandleFault, Handles};
@@ -38,7 +40,7 @@ fn has_zero(b: &[u8]) -> bool
     b.contains(&0)
 }
 
-// The length of the elements without the first of the name, where there is one.
+// The length of the elements without the first of the name, if there is one.
 fn len_without(elements: &Elements, name: &[u8]) -> usize
     ensures { (value : List ℕ) → length (elements_bytes (with_element name.now value elements.now))
         ≡ result + length name.now + length value + 2 }
@@ -49,7 +51,7 @@ fn len_without(elements: &Elements, name: &[u8]) -> usize
     }
 }
 
-// The length of the elements with one set, where it is at most `ELEMENTS_MAX`.
+// The length of the elements with this one set, if it is at most `ELEMENTS_MAX`.
 fn len_with(elements: &Elements, name: &[u8], value: &[u8]) -> Option<usize>
     ensures { result ≡ small_len
         (length (elements_bytes (with_element name.now value.now elements.now))) }
@@ -78,7 +80,7 @@ fn block_with(entry: &Entry, elements: usize) -> usize
     4 + 2 * hashes + 32 + key + 1 + elements
 }
 
-// Whether the entry may have its elements with this one set.
+// Whether the entry has room for its elements with this one set.
 fn may_have(entry: &Entry, elements: &Elements, name: &[u8], value: &[u8]) -> bool
     ensures { result ≡ are_small entry.now (with_element name.now value.now elements.now) }
 {
@@ -154,7 +156,7 @@ fn changed_meta(meta: Meta, change: Change<'_>) -> Result<Meta, NoMemory>
     })
 }
 
-// What an index must learn where the elements of an entry changed.
+// What an index must learn after the elements of an entry changed.
 fn rewrote(object: &Object) -> Effect
     ensures { result ≡ wrote_where (λ x. not (is_draft x.entry)) (Some object.now) }
 {
@@ -212,7 +214,7 @@ impl Handles {
         }
     }
 
-    // Changes the elements of the object at a place. The metadata of a finished entry are written anew.
+    // Changes the elements of the object at a place. The metadata of a finished entry are rewritten.
     fn change_at<D: Disk>(
         &mut self,
         alloc: Global,
@@ -250,19 +252,12 @@ impl Handles {
                 Entry::Finished(meta)
             }
         };
-        self.put(
-            place,
-            Object {
-                name,
-                doomed,
-                entry,
-            },
-        );
+        self.put_entry(place, name, doomed, entry);
         Ok(effect)
     }
 
-    /// Sets the value of the first element of the name in its place, or adds the element at the end. The metadata of a
-    /// finished entry are written anew.
+    /// Sets the value of the first element of the name, or adds the element at the end. The metadata of a finished
+    /// entry are rewritten.
     pub fn set_element<D: Disk>(
         &mut self,
         alloc: Global,
@@ -279,14 +274,15 @@ impl Handles {
         ensures effect { IfOk result
             (HasEffect (kept self.old) (SetElement slot name.now value.now)) }
         ensures unchanged { OnRefused result (λ _. disk.new ≡ disk.old) }
+        ensures index { Told D.Disk LeavesIndex disk.old disk.new }
         ensures account { Accounts D.Disk (ending result) disk.old disk.new }
     {
         let place = self.may_set(slot, name, value)?;
         self.change_at(alloc, disk, place, Change::Set { name, value })
     }
 
-    /// Removes the first element of the name, or answers none where there is none. The metadata of a finished entry are
-    /// written anew.
+    /// Removes the first element of the name, or answers none if there is none. The metadata of a finished entry are
+    /// rewritten.
     pub fn unset_element<D: Disk>(
         &mut self,
         alloc: Global,
@@ -303,6 +299,7 @@ impl Handles {
             IfSome some (HasEffect (kept self.old) (UnsetElement slot name.now))) }
         ensures unchanged { OnRefused result (λ _. disk.new ≡ disk.old) }
         ensures none_there { IfOk result (λ effect. IfNone effect (disk.new ≡ disk.old)) }
+        ensures index { Told D.Disk LeavesIndex disk.old disk.new }
         ensures account { Accounts D.Disk (ending result) disk.old disk.new }
     {
         let place = self.may_change(slot)?;

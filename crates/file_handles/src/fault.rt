@@ -1,4 +1,4 @@
-//! What a call answers.
+//! What the calls of the handles answer.
 
 ghost use Rattle.std.specs.Prelude.{◌≡◌};
 ghost use Rattle.file_handles.specs.Answers.{fault_of};
@@ -53,6 +53,6 @@ pub enum Effect {
     Same,
     /// No finished entry stands under the name any more.
     Gone(Name),
-    /// An entry was finished under the name, or its metadata were written anew.
+    /// An entry was finished under the name, or its metadata were rewritten.
     Wrote(Name),
 }

@@ -22,7 +22,7 @@ use entry_metadata::Meta;
 use entry_name::name_of;
 use std::alloc::Global;
 
-/// The metadata of the file of a key, be it damaged.
+/// The metadata of the file of a key, even if its body is damaged.
 pub(crate) fn look<D: Disk>(
     alloc: Global,
     disk: &mut D,
@@ -94,8 +94,8 @@ impl Handles {
         }
     }
 
-    /// The metadata of the finished entry of a key, every chunk of which is checked against its hash. Its file stands under
-    /// its name.
+    /// The metadata of the finished entry of a key. Every chunk is checked against its hash. The file stands under its
+    /// name.
     pub fn find<D: Disk>(
         &mut self,
         alloc: Global,

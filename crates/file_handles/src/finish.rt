@@ -1,12 +1,14 @@
-//! Finishes an entry: its file becomes whole.
+//! Finishes the entry of a slot: its file becomes whole.
 
 ghost use Rattle.std.specs.Prelude.{◌≡◌, ◌<◌, IfErr, IfOk, IsSomeAnd, IsTrue, None, OnOk, true};
 ghost use Rattle.cache_base.specs.declared.limits.TheConstants.{SLOTS};
 ghost use Rattle.cache_theory.specs.Command.Command.{Finish};
 ghost use Rattle.disk_model.specs.Account.{Accounts};
+ghost use Rattle.disk_model.specs.Told.{Told};
 ghost use Rattle.file_handles.specs.Answers.{OnRefused, done_or, ending};
 ghost use Rattle.file_handles.specs.Effects.{HasEffect, wrote_effect, wrote_where};
 ghost use Rattle.file_handles.specs.Held.{is_draft};
+ghost use Rattle.index_theory.specs.Leaves.{LeavesIndex};
 
 use crate::object::{Draft, Entry, Object};
 use crate::{Effect, HandleFault, Handles};
@@ -16,7 +18,7 @@ use disk_model::Disk;
 use std::alloc::Global;
 
 impl Object {
-    /// What an index must learn where its file was written whole.
+    /// What an index must learn after its file was written whole.
     pub(crate) fn wrote(&self) -> Effect
         ensures { result ≡ wrote_effect self.now.name self.now.doomed }
     {
@@ -91,18 +93,12 @@ impl Handles {
         } = draft;
         let meta = body.finish(alloc, disk, &file, header, key, elements)?;
         let entry = Entry::Finished(meta);
-        self.put(
-            place,
-            Object {
-                name,
-                doomed,
-                entry,
-            },
-        );
+        self.put_entry(place, name, doomed, entry);
         Ok(effect)
     }
 
     /// Finishes the entry of a slot. Its file becomes whole by one call of the disk.
+    #[tactic(auto, using(crate::proofs::Refused::faulted_index, crate::proofs::Refused::faulted_same, crate::proofs::Refused::refused_same))]
     pub fn finish<D: Disk>(
         &mut self,
         alloc: Global,
@@ -116,6 +112,7 @@ impl Handles {
             (at self.old disk.old) (at self.new disk.new) }
         ensures effect { IfOk result (HasEffect (kept self.old) (Finish slot)) }
         ensures unchanged { OnRefused result (λ _. disk.new ≡ disk.old) }
+        ensures index { Told D.Disk LeavesIndex disk.old disk.new }
         ensures account { Accounts D.Disk (ending result) disk.old disk.new }
     {
         let place = self.may_finish(slot)?;

@@ -5,7 +5,7 @@ ghost use Rattle.std.specs.List.{position};
 ghost use Rattle.cache_base.specs.declared.limits.TheConstants.{SLOTS};
 ghost use Rattle.file_handles.specs.Finding.{is_free, is_user};
 
-use crate::object::{Object, Use};
+use crate::object::{Entry, Object, Use};
 use cache_base::{Buffer, Name, NoMemory, SLOTS};
 use cache_theory::{Refusal, opens_proper};
 use std::alloc::Global;
@@ -21,10 +21,11 @@ pub struct Handles {
 
 impl Handles {
     ghost use Rattle.file_handles.specs.Carries.{Begins};
+    ghost use Rattle.file_handles.specs.Held.{object_with};
     ghost use Rattle.file_handles.specs.Kept.{kept, object_at as object_kept_at, use_at, used as used_or, with_object, writing as writing_or};
     ghost use Rattle.file_handles.specs.Loading.{user_place};
 
-    /// No entry is in use. The memory for a chunk is taken here.
+    /// Handles with no entry in use. The memory for a chunk is taken here.
     pub fn new(alloc: Global) -> Result<Handles, NoMemory>
         ensures { IfOk result (λ handles. Begins (kept handles)) }
     {
@@ -36,7 +37,7 @@ impl Handles {
         })
     }
 
-    /// What a slot has.
+    /// The use of a slot.
     pub(crate) fn use_of(&self, slot: u8) -> Result<Use, Refusal>
         requires { slot < SLOTS }
         ensures { result ≡ used_or (use_at (kept self.now) slot) }
@@ -47,7 +48,7 @@ impl Handles {
         }
     }
 
-    /// What a slot has that writes.
+    /// The use of a slot, if it writes.
     pub(crate) fn writing(&self, slot: u8) -> Result<Use, Refusal>
         requires { slot < SLOTS }
         ensures { result ≡ writing_or (use_at (kept self.now) slot) }
@@ -60,7 +61,7 @@ impl Handles {
         }
     }
 
-    /// The object at a place. That there is none is answered as for a slot that is not in use.
+    /// The object at a place. A place without one is answered as a slot that is not in use.
     pub(crate) fn object_at(&self, place: usize) -> Result<&Object, Refusal>
         requires { place < SLOTS }
         ensures found { IfOk result (λ object.
@@ -101,6 +102,22 @@ impl Handles {
         ensures { kept self.new ≡ with_object (kept self.old) place (Some object) }
     {
         self.objects[place] = Some(object);
+    }
+
+    /// Puts an object of these parts at a place.
+    pub(crate) fn put_entry(&mut self, place: usize, name: Name, doomed: Option<u32>, entry: Entry)
+        requires { place < SLOTS }
+        ensures { kept self.new
+            ≡ with_object (kept self.old) place (Some (object_with name doomed entry)) }
+    {
+        self.put(
+            place,
+            Object {
+                name,
+                doomed,
+                entry,
+            },
+        );
     }
 
     /// The first place that no object has.

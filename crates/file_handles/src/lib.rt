@@ -1,6 +1,6 @@
-//! The entries that are in use. Up to 64 slots each have an entry: one that its writer makes, or one that was opened and
-//! is read; several slots may share one. An entry that is doomed while it is in use works on among the doomed files until
-//! its last slot is closed.
+//! The entries that are in use. Each of 64 slots may have an entry: one that it writes, or one that was opened and is
+//! read. Several slots may share one. An entry that is doomed while it is in use stays usable, with its file among the
+//! doomed files, until its last slot is closed.
 #![tactic(auto)]
 
 mod append;

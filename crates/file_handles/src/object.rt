@@ -36,12 +36,12 @@ pub(crate) enum Entry {
 #[derive(Drop)]
 pub(crate) struct Object {
     pub(crate) name: Name,
-    /// The number of its file, where it is doomed.
+    /// The number of its file, if it is doomed.
     pub(crate) doomed: Option<u32>,
     pub(crate) entry: Entry,
 }
 
-/// What a slot has: the place of its object, and whether it is the object's writer.
+/// The use that a slot makes of an object: its place, and whether the slot writes it.
 #[derive(Clone, Copy)]
 pub(crate) struct Use {
     pub(crate) place: usize,

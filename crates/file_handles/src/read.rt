@@ -55,7 +55,7 @@ fn part(b: &[u8], from: usize, len: u64) -> &[u8]
     }
 }
 
-// Reads the chunk of a part of a body into the buffer, if it is among the `stored` bytes of the body that are on the disk.
+// Reads the chunk of a part of a body into the buffer, if it is among the `stored` bytes that are on the disk.
 fn fetch<D: Disk>(
     disk: &mut D,
     place: &Place,
@@ -116,8 +116,8 @@ impl Handles {
         Ok(self.object_at(user.place)?.body_len())
     }
 
-    /// The bytes of the body of the entry in a slot from an offset on, at most `len`, up to the end of their chunk or of
-    /// the body. There are none exactly where `len` is 0 or `from` is at or after the end of the body.
+    /// At most `len` bytes of the body of the entry in a slot, from an offset up to the end of its chunk or of the body.
+    /// There are none exactly where `len` is 0 or the offset is at or after the end of the body.
     pub fn read_part<D: Disk>(
         &mut self,
         disk: &mut D,

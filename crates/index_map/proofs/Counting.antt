@@ -14,8 +14,7 @@ use Rattle.index_record.specs.declared.record.IndexRecord.{IndexRecord}
 use Rattle.record_list.specs.Change.{change, record_eq}
 use Rattle.record_list.specs.Lists.{record_at, same_name}
 use Rattle.index_map.specs.Known.{changed}
-use Rattle.index_map.specs.Slots.{IsTable, base_in, change_in, change_of, changed_of, current_in, kilobytes_of, one_if, records_of}
-use Rattle.index_map.specs.declared.slot.Slot.{Slot}
+use Rattle.index_map.specs.Slots.{IsTable, base_in, change_in, change_of, changed_of, current_in, kilobytes_of, one_if, records_of, Slot}
 use Rattle.index_map.proofs.Lookups.{same_name_equiv}
 use Rattle.index_map.proofs.Shown.{base_at, base_of, current_at, current_of, own_base, own_current}
 use Rattle.index_map.proofs.Tables.{sum_values}

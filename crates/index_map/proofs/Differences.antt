@@ -12,8 +12,7 @@ use Rattle.record_list.specs.Lists.{HasNames, IsByName, same_name}
 use Rattle.record_list.specs.Stored.{AreClean}
 use Rattle.record_list.proofs.SortedLaws.{by_name_keeps}
 use Rattle.index_map.specs.Known.{changed}
-use Rattle.index_map.specs.Slots.{IsSlotOf, IsTable, base_in, change_in, change_of, current_in}
-use Rattle.index_map.specs.declared.slot.Slot.{Slot}
+use Rattle.index_map.specs.Slots.{IsSlotOf, IsTable, base_in, change_in, change_of, current_in, Slot}
 use Rattle.index_map.proofs.Counting.{changed_counted, changes_counted}
 use Rattle.index_map.proofs.Lookups.{all_moved, names-part, record_at-part, slot_at}
 use Rattle.index_map.proofs.Shown.{base_at, base_of, clean_changes, current_at, current_of, own_change}

@@ -1,9 +1,11 @@
 pub mod Counting
 pub mod Differences
 pub mod ListSteps
+pub mod Held
 pub mod Lookups
 pub mod Puts
 pub mod Shown
+pub mod Sorted
 pub mod Steps
 pub mod Sums
 pub mod Tables

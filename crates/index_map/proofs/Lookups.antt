@@ -16,7 +16,7 @@ use Rattle.cache_base.specs.declared.name.Name.{Name}
 use Rattle.index_record.specs.declared.record.IndexRecord.{IndexRecord}
 use Rattle.record_list.specs.Lists.{HasNames, names_of, record_at, same_name}
 use Rattle.record_list.proofs.NameLaws.{same_back, same_is}
-use Rattle.index_map.specs.declared.slot.Slot.{Slot}
+use Rattle.index_map.specs.Slots.{Slot}
 
 pub same_name_equiv : IsEquivalence same_name
 same_name_equiv = on_equiv (λ (n : Name). n.0) nat_list_eq_equiv

@@ -10,9 +10,8 @@ use Rattle.record_list.specs.Lists.{same_name}
 use Rattle.record_list.proofs.NameLaws.{same_is}
 use Rattle.indexmap.specs.IndexMap.{insert_entry, swap_remove_entry}
 use Rattle.index_map.specs.Known.{IsPlain}
-use Rattle.index_map.specs.Slots.{IsSlotOf, IsTable, changed_of, counts_of, kilobytes_of, records_of, rewritten, seen_only, written}
+use Rattle.index_map.specs.Slots.{IsSlotOf, IsTable, changed_of, counts_of, kilobytes_of, records_of, rewritten, seen_only, written, Slot}
 use Rattle.index_map.specs.declared.counts.Counts.{Counts}
-use Rattle.index_map.specs.declared.slot.Slot.{Slot}
 use Rattle.index_map.proofs.Sums.{AreThere, Exchanged, IsWith, IsWithout, counts_after, empty, there, with_empty}
 use Rattle.index_map.proofs.Tables.{all_put, all_rewritten, all_taken, sum_put, sum_taken}
 

@@ -14,8 +14,7 @@ use Rattle.record_list.specs.Lists.{record_at, same_name}
 use Rattle.record_list.specs.Stored.{AreClean}
 use Rattle.record_list.proofs.NameLaws.{same_is}
 use Rattle.index_map.specs.Known.{Begins, IsKnown, IsPlain, Sets}
-use Rattle.index_map.specs.Slots.{IsSlotOf, IsTable, Puts, base_slot, change_in, change_of, is_used, rewritten, seen_of, seen_only, shown, with_record, written}
-use Rattle.index_map.specs.declared.slot.Slot.{Slot}
+use Rattle.index_map.specs.Slots.{IsSlotOf, IsTable, Puts, base_slot, change_in, change_of, is_used, rewritten, seen_of, seen_only, shown, written, Slot}
 use Rattle.index_map.proofs.Lookups.{Own, all-part, names-part, record_at-part}
 
 -- ---- the parts of a slot
@@ -138,31 +137,25 @@ puts_sets old new has_base name slot r was is puts current seen base = record {
 
 -- ---- the map begins
 
-begun_current : (seen : Bool) (r b : Option IndexRecord) → option_and_then current_of (with_record seen r (option_map base_slot b)) ≡ r
-begun_current seen None None = refl
-begun_current seen None (Some b) = refl
-begun_current seen (Some r) b = refl
+begun_current : (seen : Bool) (b : Option IndexRecord) → option_and_then current_of (option_map (base_slot seen) b) ≡ b
+begun_current seen None = refl
+begun_current seen (Some b) = refl
 
-begun_seen : (seen : Bool) (r b : Option IndexRecord) → option_and_then seen_of (with_record seen r (option_map base_slot b)) ≡ cond seen r None
-begun_seen true None None = refl
-begun_seen true None (Some b) = refl
-begun_seen false None None = refl
-begun_seen false None (Some b) = refl
-begun_seen seen (Some r) b = refl
+begun_seen : (seen : Bool) (b : Option IndexRecord) → option_and_then seen_of (option_map (base_slot seen) b) ≡ cond seen b None
+begun_seen true None = refl
+begun_seen false None = refl
+begun_seen seen (Some b) = refl
 
-begun_base : (seen : Bool) (r b : Option IndexRecord) → option_and_then base_of (with_record seen r (option_map base_slot b)) ≡ b
-begun_base seen None None = refl
-begun_base seen None (Some b) = refl
-begun_base seen (Some r) None = refl
-begun_base seen (Some r) (Some b) = refl
+begun_base : (seen : Bool) (b : Option IndexRecord) → option_and_then base_of (option_map (base_slot seen) b) ≡ b
+begun_base seen None = refl
+begun_base seen (Some b) = refl
 
-pub begins : (base now : List IndexRecord) (seen : Bool) (table : List (Name × Slot)) → IsTable table
-    → ((q : Name) → lookup (same_name q) table ≡ with_record seen (record_at now q) (option_map base_slot (record_at base q)))
-    → Begins base now seen (shown table true)
-begins base now seen table is slots = record {
-  records = λ q. current_at table is q ∙ ap (option_and_then current_of) (slots q) ∙ begun_current seen (record_at now q) (record_at base q);
-  seen = λ q. seen_at table is q ∙ ap (option_and_then seen_of) (slots q) ∙ begun_seen seen (record_at now q) (record_at base q);
-  base = λ q. base_at table is q ∙ ap (option_and_then base_of) (slots q) ∙ begun_base seen (record_at now q) (record_at base q);
+pub begins : (base : List IndexRecord) (seen : Bool) (table : List (Name × Slot)) → IsTable table
+    → ((q : Name) → lookup (same_name q) table ≡ option_map (base_slot seen) (record_at base q)) → Begins base base seen (shown table true)
+begins base seen table is slots = record {
+  records = λ q. current_at table is q ∙ ap (option_and_then current_of) (slots q) ∙ begun_current seen (record_at base q);
+  seen = λ q. seen_at table is q ∙ ap (option_and_then seen_of) (slots q) ∙ begun_seen seen (record_at base q);
+  base = λ q. base_at table is q ∙ ap (option_and_then base_of) (slots q) ∙ begun_base seen (record_at base q);
   has_base = refl;
 }
 

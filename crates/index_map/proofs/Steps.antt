@@ -9,10 +9,13 @@ use Rattle.std.proofs.lemmas.Map.Keys.{IsDistinct-head, IsDistinct-tail}
 use Rattle.indexmap.proofs.MapLemmas.{distinct-take}
 use Rattle.cache_base.specs.declared.name.Name.{Name}
 use Rattle.index_record.specs.declared.record.IndexRecord.{IndexRecord}
+use Rattle.record_list.specs.Change.{journal_or, kept}
 use Rattle.record_list.specs.Lists.{HasNames, names_of, record_at, same_name}
 use Rattle.record_list.proofs.NameLaws.{same_is}
-use Rattle.index_map.specs.Slots.{IsTable, IsSlotOf, base_slot, record_slot, with_record}
-use Rattle.index_map.specs.declared.slot.Slot.{Slot}
+use Rattle.index_map.specs.Known.{Applies, IsPlain, Known, Sets}
+use Rattle.index_map.specs.Slots.{IsTable, IsSlotOf, base_slot, facts_of, record_of, slot_of, Slot}
+use Rattle.index_map.specs.declared.slot.Facts.{Facts}
+use Rattle.index_map.specs.declared.slot.Held.{Held}
 use Rattle.index_map.proofs.Lookups.{same_name_equiv, slot_at}
 use Rattle.index_map.proofs.Shown.{base_of}
 
@@ -20,12 +23,12 @@ last_apart : (name : Name) (xs : List IndexRecord) (y : IndexRecord) → AllByRe
 last_apart name [] y h = h.0
 last_apart name (x ∷ xs) y h = last_apart name xs y h.1
 
-not_both : (x y q : Name) → same_name x y ≡ false → same_name x q ≡ true → same_name y q ≡ true → ⊥
+pub not_both : (x y q : Name) → same_name x y ≡ false → same_name x q ≡ true → same_name y q ≡ true → ⊥
 not_both x y q apart a b =
     let same : same_name x y ≡ true = ap (same_name x) (same_is y q b) ∙ a in
     cc
 
-crossed : {X : Type 0} (a b : Bool) (x y r : X) → (a ≡ true → b ≡ true → ⊥) → cond a x (cond b y r) ≡ cond b y (cond a x r)
+pub crossed : {X : Type 0} (a b : Bool) (x y r : X) → (a ≡ true → b ≡ true → ⊥) → cond a x (cond b y r) ≡ cond b y (cond a x r)
 crossed true true x y r apart = absurd (apart refl refl)
 crossed true false x y r apart = refl
 crossed false true x y r apart = refl
@@ -47,40 +50,60 @@ record_at-more rs i d q names low =
 
 -- ---- records of the base
 
-map_under : (b : Bool) (r : IndexRecord) (o : Option IndexRecord) → cond b (Some (base_slot r)) (option_map base_slot o) ≡ option_map base_slot (cond b (Some r) o)
-map_under true r o = refl
-map_under false r o = refl
+map_under : (seen b : Bool) (r : IndexRecord) (o : Option IndexRecord) → cond b (Some (base_slot seen r)) (option_map (base_slot seen) o) ≡ option_map (base_slot seen) (cond b (Some r) o)
+map_under seen true r o = refl
+map_under seen false r o = refl
 
-pub base_step : (rs : List IndexRecord) (i : ℕ) (d : IndexRecord) (q : Name) (before after : Option Slot) → HasNames rs → i < length rs
-    → before ≡ option_map base_slot (record_at (take i rs) q) → after ≡ cond (same_name (get_or rs i d).name q) (Some (base_slot (get_or rs i d))) before
-    → after ≡ option_map base_slot (record_at (take (i + 1) rs) q)
-base_step rs i d q before after names low was is =
-    is ∙ ap (λ o. cond (same_name (get_or rs i d).name q) (Some (base_slot (get_or rs i d))) o) was
-    ∙ map_under (same_name (get_or rs i d).name q) (get_or rs i d) (record_at (take i rs) q)
-    ∙ ap (option_map base_slot) (sym (record_at-more rs i d q names low))
+pub base_step : (seen : Bool) (rs : List IndexRecord) (i : ℕ) (d : IndexRecord) (q : Name) (before after : Option Slot) → HasNames rs → i < length rs
+    → before ≡ option_map (base_slot seen) (record_at (take i rs) q) → after ≡ cond (same_name (get_or rs i d).name q) (Some (base_slot seen (get_or rs i d))) before
+    → after ≡ option_map (base_slot seen) (record_at (take (i + 1) rs) q)
+base_step seen rs i d q before after names low was is =
+    is ∙ ap (λ o. cond (same_name (get_or rs i d).name q) (Some (base_slot seen (get_or rs i d))) o) was
+    ∙ map_under seen (same_name (get_or rs i d).name q) (get_or rs i d) (record_at (take i rs) q)
+    ∙ ap (option_map (base_slot seen)) (sym (record_at-more rs i d q names low))
 
--- ---- records now
+-- what is held of a record is the record
+pub named_fits : (r : IndexRecord) (facts : Facts) → facts ≡ facts_of r → IsPlain r → (record_of r.name facts).name ≡ r.name × IsPlain (record_of r.name facts)
+named_fits r facts is plain = (refl, subst (λ f. IsPlain (record_of r.name f)) (sym is) plain)
 
--- the base of a name stays
-base_stays : (seen : Bool) (r : Option IndexRecord) (old : Option Slot) → option_and_then base_of (with_record seen r old) ≡ option_and_then base_of old
-base_stays seen None old = refl
-base_stays seen (Some r) old = refl
+abbrev based_held : Bool → Facts → Held
+based_held seen facts = record { current = Some facts; base = Some facts; seen = seen }
 
-module _ (seen : Bool) (rs : List IndexRecord) (i : ℕ) (d : IndexRecord) (names : HasNames rs) (low : i < length rs) (first before after : Name → Option Slot)
-    (was : (q : Name) → before q ≡ with_record seen (record_at (take i rs) q) (first q))
-    (is : (q : Name) → after q ≡ cond (same_name (get_or rs i d).name q) (Some (record_slot (get_or rs i d) seen (before (get_or rs i d).name))) (before q)) where
-  pub record_step : (q : Name) → after q ≡ with_record seen (record_at (take (i + 1) rs) q) (first q)
-  record_step q = is q ∙ go (same_name (get_or rs i d).name q) refl ∙ ap (λ o. with_record seen o (first q)) (sym (record_at-more rs i d q names low))
-    where
-      go : (b : Bool) → same_name (get_or rs i d).name q ≡ b
-          → cond b (Some (record_slot (get_or rs i d) seen (before (get_or rs i d).name))) (before q) ≡ with_record seen (cond b (Some (get_or rs i d)) (record_at (take i rs) q)) (first q)
-      go false h = was q
-      go true h =
-          let name = (get_or rs i d).name in
-          let base : option_and_then base_of (before name) ≡ option_and_then base_of (first q) =
-          ap (option_and_then base_of) (was name) ∙ base_stays seen (record_at (take i rs) name) (first name)
-          ∙ ap (λ n. option_and_then base_of (first n)) (same_is name q h) in
-          λ j. Some (record { current = Some (get_or rs i d); seen = seen; base = base j })
+pub based_fits : (r : IndexRecord) (seen : Bool) (facts : Facts) → facts ≡ facts_of r → IsPlain r → IsSlotOf r.name (slot_of r.name (based_held seen facts))
+based_fits r seen facts is plain = record { current = named_fits r facts is plain; base = refl }
+
+pub based_under : (r : IndexRecord) (seen : Bool) (facts : Facts) → facts ≡ facts_of r → (q : Name) (before : Option Slot)
+    → cond (same_name r.name q) (Some (slot_of r.name (based_held seen facts))) before ≡ cond (same_name r.name q) (Some (base_slot seen r)) before
+based_under r seen facts is q before = ap (λ f. cond (same_name r.name q) (Some (slot_of r.name (based_held seen f))) before) is
+
+-- ---- changes of a journal
+
+kept_under : (b : Bool) (r : IndexRecord) (said old : Option IndexRecord) → cond b (kept r) (journal_or said old) ≡ journal_or (cond b (Some r) said) old
+kept_under true r said old = refl
+kept_under false r said old = refl
+
+-- one change more
+change_step : (rs : List IndexRecord) (i : ℕ) (d : IndexRecord) (q : Name) (first before after : Option IndexRecord) → HasNames rs → i < length rs
+    → before ≡ journal_or (record_at (take i rs) q) first → after ≡ cond (same_name (get_or rs i d).name q) (kept (get_or rs i d)) before
+    → after ≡ journal_or (record_at (take (i + 1) rs) q) first
+change_step rs i d q first before after names low was is =
+    is ∙ ap (λ o. cond (same_name (get_or rs i d).name q) (kept (get_or rs i d)) o) was
+    ∙ kept_under (same_name (get_or rs i d).name q) (get_or rs i d) (record_at (take i rs) q) first
+    ∙ ap (λ o. journal_or o first) (sym (record_at-more rs i d q names low))
+
+pub applies_more : (rs : List IndexRecord) (i : ℕ) (d : IndexRecord) (first before after : Known) → HasNames rs → i < length rs
+    → Applies (take i rs) first before → Sets before after (get_or rs i d).name (kept (get_or rs i d)) → Applies (take (i + 1) rs) first after
+applies_more rs i d first before after names low was sets = record {
+  records = λ q. change_step rs i d q (record_at first.records q) (record_at before.records q) (record_at after.records q) names low (was.records q) (sets.records q);
+  seen = λ q. change_step rs i d q (record_at first.seen q) (record_at before.seen q) (record_at after.seen q) names low (was.seen q) (sets.seen q);
+  base = record {
+    records = λ q. sets.base.records q ∙ was.base.records q;
+    has_base = sets.base.has_base ∙ was.base.has_base;
+  };
+}
+
+pub applies_none : (m : Known) → Applies [] m m
+applies_none m = record { records = λ q. refl; seen = λ q. refl; base = record { records = λ q. refl; has_base = refl } }
 
 -- ---- a slot for a record
 

@@ -9,8 +9,9 @@ use Rattle.std.proofs.lemmas.List.Elements.{All-cons, All-head, All-nil, All-tai
 use Rattle.std.proofs.lemmas.List.Sums.{sum_by-cons, sum_by-swap_remove}
 use Rattle.std.proofs.lemmas.Option.{slice_get-get_or, slice_get-map}
 use Rattle.cache_base.specs.declared.name.Name.{Name}
-use Rattle.index_map.specs.Slots.{is_used, rewritten}
-use Rattle.index_map.specs.declared.slot.Slot.{Slot}
+use Rattle.index_map.specs.Slots.{is_held, is_used, rewritten, slot_of, slots_of, Slot}
+use Rattle.index_map.specs.declared.slot.Held.{Held}
+use Rattle.index_map.proofs.Held.{held_used}
 use Rattle.indexmap.specs.IndexMap.{insert_entry, swap_remove_entry}
 use Rattle.indexmap.proofs.MapLemmas.{Found-position, Missing-position, swap_remove_entry-found, swap_remove_entry-missing}
 
@@ -76,19 +77,24 @@ all_taken {K} {V} t P es d all = go (position t (keys_of es)) refl
 
 -- ---- all slots are rewritten
 
-kept_cons : (b : Bool) (name : Name) (slot : Slot) (rest : List (Name × Slot))
-    → cond b ((name, slot) ∷ rest) rest ≡ cons_option (option_map (λ s. (name, s)) (cond b (Some slot) None)) rest
-kept_cons true name slot rest = refl
-kept_cons false name slot rest = refl
-
-pub retained : {F : Type 0} (T : F → Name → Slot → Bool → Slot → F → Type 0) (w : Slot → Slot) (f : F)
-    → ((k : Name) (v : Slot) (b : Bool) (x : Slot) (g : F) → T f k v b x g → (x ≡ w v) × (b ≡ is_used (w v)) × (g ≡ f))
-    → (es kept : List (Name × Slot)) → RetainsPairs T f es kept → kept ≡ rewritten w es
-retained T w f says [] kept h = h
-retained T w f says (e ∷ es) kept h =
+-- what is left of a table whose held slots are rewritten, in terms of its slots
+pub retained : {F : Type 0} (T : F → Name → Held → Bool → Held → F → Type 0) (w : Held → Held) (v : Slot → Slot) (f : F)
+    → ((k : Name) (h : Held) → slot_of k (w h) ≡ v (slot_of k h))
+    → ((k : Name) (h : Held) (b : Bool) (x : Held) (g : F) → T f k h b x g → (x ≡ w h) × (b ≡ is_held (w h)) × (g ≡ f))
+    → (es kept : List (Name × Held)) → RetainsPairs T f es kept → slots_of kept ≡ rewritten v (slots_of es)
+retained T w v f same says [] kept h = ap slots_of h
+retained T w v f same says (e ∷ es) kept h =
     let s = says e.0 e.1 h.0 h.1 h.2 h.4 in
-    let rest = retained T w f says es h.3 (subst (λ g. RetainsPairs T g es h.3) s.2 h.5) in
-    h.6 ∙ (λ j. cond (s.1 j) ((e.0, s.0 j) ∷ rest j) (rest j)) ∙ kept_cons (is_used (w e.1)) e.0 (w e.1) (rewritten w es)
+    let rest = retained T w v f same says es h.3 (subst (λ g. RetainsPairs T g es h.3) s.2 h.5) in
+    let used : is_held (w e.1) ≡ is_used (v (slot_of e.0 e.1)) = held_used e.0 (w e.1) ∙ ap is_used (same e.0 e.1) in
+    ap slots_of (h.6 ∙ (λ j. cond (s.1 j) ((e.0, s.0 j) ∷ h.3) h.3))
+    ∙ ap (λ b. slots_of (cond b ((e.0, w e.1) ∷ h.3) h.3)) used
+    ∙ go (is_used (v (slot_of e.0 e.1))) (same e.0 e.1) rest
+  where
+    go : (b : Bool) → slot_of e.0 (w e.1) ≡ v (slot_of e.0 e.1) → slots_of h.3 ≡ rewritten v (slots_of es)
+        → slots_of (cond b ((e.0, w e.1) ∷ h.3) h.3) ≡ cons_option (option_map (λ slot. (e.0, slot)) (cond b (Some (v (slot_of e.0 e.1))) None)) (rewritten v (slots_of es))
+    go true one rest = λ j. (e.0, one j) ∷ rest j
+    go false one rest = rest
 
 pub all_rewritten : (P : Name × Slot → Type 0) (w : Slot → Slot) → ((n : Name) (s : Slot) → P (n, s) → P (n, w s))
     → (es : List (Name × Slot)) → All P es → All P (rewritten w es)

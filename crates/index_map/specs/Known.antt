@@ -4,7 +4,7 @@ use Rattle.std.specs.Prelude.{Bool, List, None, Option, Some, [], count_by, fals
 use Rattle.cache_base.specs.declared.name.Name.{Name}
 use Rattle.index_record.specs.Record.{has_bit, is_removed}
 use Rattle.index_record.specs.declared.record.IndexRecord.{IndexRecord}
-use Rattle.record_list.specs.Change.{HasNoRemoved, change}
+use Rattle.record_list.specs.Change.{HasNoRemoved, IsApplied, applied, change}
 use Rattle.record_list.specs.Lists.{HasNames, record_at, same_name}
 use Rattle.record_list.specs.Stored.{AreClean}
 
@@ -55,6 +55,16 @@ pub record Begins (old_base now : List IndexRecord) (all_seen : Bool) (m : Known
   pub seen : (name : Name) → record_at m.seen name ≡ (if all_seen then record_at now name else None)
   pub base : (name : Name) → record_at m.base name ≡ record_at old_base name
   pub has_base : m.has_base ≡ true
+
+-- the map begins with a journal applied to the base, all of its records seen
+abbrev pub BeginsAfter : List IndexRecord → List IndexRecord → Known → Type 0
+BeginsAfter base changes m = (now : List IndexRecord) × (IsApplied base changes now × Begins base now true m)
+
+-- the changes of a journal are made to the records now, and these names are seen; the base stays
+pub record Applies (changes : List IndexRecord) (old new : Known) : Type 0 where
+  pub records : (name : Name) → record_at new.records name ≡ applied old.records changes name
+  pub seen : (name : Name) → record_at new.seen name ≡ applied old.seen changes name
+  pub base : SameBase old new
 
 -- a map without records and without a base
 abbrev pub no_records : Known

@@ -1,16 +1,42 @@
--- The table behind a map: a slot for each name.
+-- The table behind a map: a slot for each name, held without the name.
 use Rattle.std.specs.List.{IsDistinct, filter_map}
 use Rattle.std.specs.Map.{keys_of, lookup, values_of}
 use Rattle.std.specs.Option.{option_eq, option_map, option_map_or}
-use Rattle.std.specs.Prelude.{All, Bool, IfSome, List, None, Option, Some, false, if◌then◌else◌, is_some, not, option_and_then, sum_by, ℕ, ◌||◌, ◌≡◌}
+use Rattle.std.specs.Prelude.{All, Bool, IfSome, List, None, Option, Some, [], if◌then◌else◌, is_some, map, not, option_and_then, sum_by, ℕ, ◌||◌, ◌≡◌}
 use Rattle.cache_base.specs.declared.name.Name.{Name}
 use Rattle.index_record.specs.Record.{removed_record, size_kb}
 use Rattle.index_record.specs.declared.record.IndexRecord.{IndexRecord}
 use Rattle.record_list.specs.Change.{record_eq}
 use Rattle.record_list.specs.Lists.{same_name}
 use Rattle.index_map.specs.Known.{IsPlain, Known}
-use Rattle.index_map.specs.declared.slot.Slot.{Slot}
+use Rattle.index_map.specs.declared.slot.Facts.{Facts}
+use Rattle.index_map.specs.declared.slot.Held.{Held}
 use Rattle.index_map.specs.declared.counts.Counts.{Counts}
+
+-- what is known under a name: the record now, whether it was seen, and the record of the base
+pub record Slot : Type 0 where
+  pub current : Option IndexRecord
+  pub seen : Bool
+  pub base : Option IndexRecord
+
+-- a record without its name, and with a name again
+abbrev pub facts_of : IndexRecord → Facts
+facts_of r = record { origin = r.origin; frecency = r.frecency; flags = r.flags; on_start = r.on_start; on_stop = r.on_stop; content = r.content }
+
+abbrev pub record_of : Name → Facts → IndexRecord
+record_of name f = record { name = name; frecency = f.frecency; origin = f.origin; on_start = f.on_start; on_stop = f.on_stop; content = f.content; flags = f.flags }
+
+-- the slot that is held under a name
+abbrev pub slot_of : Name → Held → Slot
+slot_of name held = record { current = option_map (record_of name) held.current; seen = held.seen; base = option_map (record_of name) held.base }
+
+-- the slots of a table
+abbrev pub slots_of : List (Name × Held) → List (Name × Slot)
+slots_of table = map (λ e. (e.0, slot_of e.0 e.1)) table
+
+-- a held slot under a name that none has: what it adds to the counts is the same under each
+abbrev pub bare : Held → Slot
+bare held = slot_of (record { 0 = [] }) held
 
 -- the record of a slot that was seen
 abbrev pub seen_of : Slot → Option IndexRecord
@@ -95,6 +121,16 @@ written slot = record slot { base = slot.current }
 abbrev pub is_used : Slot → Bool
 is_used slot = is_some slot.current || is_some slot.base
 
+-- the same of what is held
+abbrev pub seen_held : Held → Held
+seen_held held = record held { current = if held.seen then held.current else None }
+
+abbrev pub written_held : Held → Held
+written_held held = record held { base = held.current }
+
+abbrev pub is_held : Held → Bool
+is_held held = is_some held.current || is_some held.base
+
 -- the slots, rewritten, that hold a record then
 abbrev pub kept_slot : (Slot → Slot) → Slot → Option Slot
 kept_slot change slot = if is_used (change slot) then Some (change slot) else None
@@ -107,11 +143,6 @@ rewritten change table = filter_map (λ e. option_map (λ slot. (e.0, slot)) (ke
 abbrev pub record_slot : IndexRecord → Bool → Option Slot → Slot
 record_slot r seen old = record { current = Some r; seen = seen; base = option_and_then (λ slot. slot.base) old }
 
--- the slot of a record of the base
-abbrev pub base_slot : IndexRecord → Slot
-base_slot r = record { current = None; seen = false; base = Some r }
-
--- the slot of a name, after the record of this name, if there is one, is put
-abbrev pub with_record : Bool → Option IndexRecord → Option Slot → Option Slot
-with_record seen None old = old
-with_record seen (Some r) old = Some (record_slot r seen old)
+-- the slot of a record that is in the base and now
+abbrev pub base_slot : Bool → IndexRecord → Slot
+base_slot seen r = record { current = Some r; seen = seen; base = Some r }

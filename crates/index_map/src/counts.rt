@@ -1,10 +1,10 @@
 //! The counts that a table keeps.
 
-ghost use Rattle.std.specs.Prelude.{◌≡◌, ◌+◌, ◌-◌, ◌<◌, ◌≤◌, ◌^◌, length};
+ghost use Rattle.std.specs.Prelude.{◌≡◌, ◌+◌, ◌-◌, ◌<◌, ◌≤◌, ◌^◌, length, map};
 ghost use Rattle.index_map.specs.Slots as spec;
 
-use crate::slot::{Slot, differs};
-use index_record::size_kb;
+use crate::slot::{Held, differs};
+use index_record::SIZE_MAX;
 
 /// The number of records, and the sum of the sizes of their files.
 #[derive(Clone, Copy, Debug, PartialEq, Eq)]
@@ -35,24 +35,24 @@ impl Counts {
     };
 }
 
-fn kilobytes(slot: &Slot) -> u32
-    ensures value { result ≡ spec.kilobytes_of slot.now }
+fn kilobytes(slot: &Held) -> u32
+    ensures value { result ≡ spec.kilobytes_of (spec.bare slot.now) }
     ensures bound { result < 2 ^ 24 }
 {
     match slot.current {
-        Some(record) => size_kb(&record),
+        Some(facts) => facts.flags % (SIZE_MAX + 1),
         None => 0,
     }
 }
 
 /// The counts with one slot more.
-pub(crate) fn with(counts: &Counts, slot: &Slot) -> Counts
+pub(crate) fn with(counts: &Counts, slot: &Held) -> Counts
     requires records { counts.now.records < 2 ^ 63 }
     requires kilobytes { counts.now.kilobytes < 2 ^ 127 }
     requires changed { counts.now.changed < 2 ^ 63 }
-    ensures records { result.records ≡ counts.now.records + spec.records_of slot.now }
-    ensures kilobytes { result.kilobytes ≡ counts.now.kilobytes + spec.kilobytes_of slot.now }
-    ensures changed { result.changed ≡ counts.now.changed + spec.changed_of slot.now }
+    ensures records { result.records ≡ counts.now.records + spec.records_of (spec.bare slot.now) }
+    ensures kilobytes { result.kilobytes ≡ counts.now.kilobytes + spec.kilobytes_of (spec.bare slot.now) }
+    ensures changed { result.changed ≡ counts.now.changed + spec.changed_of (spec.bare slot.now) }
 {
     Counts {
         records: counts.records + u64::from(slot.current.is_some()),
@@ -62,13 +62,13 @@ pub(crate) fn with(counts: &Counts, slot: &Slot) -> Counts
 }
 
 /// The counts with one slot less.
-pub(crate) fn without(counts: &Counts, slot: &Slot) -> Counts
-    requires records { spec.records_of slot.now ≤ counts.now.records }
-    requires kilobytes { spec.kilobytes_of slot.now ≤ counts.now.kilobytes }
-    requires changed { spec.changed_of slot.now ≤ counts.now.changed }
-    ensures records { result.records ≡ counts.now.records - spec.records_of slot.now }
-    ensures kilobytes { result.kilobytes ≡ counts.now.kilobytes - spec.kilobytes_of slot.now }
-    ensures changed { result.changed ≡ counts.now.changed - spec.changed_of slot.now }
+pub(crate) fn without(counts: &Counts, slot: &Held) -> Counts
+    requires records { spec.records_of (spec.bare slot.now) ≤ counts.now.records }
+    requires kilobytes { spec.kilobytes_of (spec.bare slot.now) ≤ counts.now.kilobytes }
+    requires changed { spec.changed_of (spec.bare slot.now) ≤ counts.now.changed }
+    ensures records { result.records ≡ counts.now.records - spec.records_of (spec.bare slot.now) }
+    ensures kilobytes { result.kilobytes ≡ counts.now.kilobytes - spec.kilobytes_of (spec.bare slot.now) }
+    ensures changed { result.changed ≡ counts.now.changed - spec.changed_of (spec.bare slot.now) }
 {
     Counts {
         records: counts.records - u64::from(slot.current.is_some()),
@@ -78,9 +78,9 @@ pub(crate) fn without(counts: &Counts, slot: &Slot) -> Counts
 }
 
 /// The counts of these slots.
-pub(crate) fn count(slots: &[Slot]) -> Counts
+pub(crate) fn count(slots: &[Held]) -> Counts
     requires { length slots.now < 2 ^ 63 }
-    ensures { result ≡ spec.counts_of slots.now }
+    ensures { result ≡ spec.counts_of (map spec.bare slots.now) }
 {
     let mut counts = Counts::NONE;
     for slot in slots {

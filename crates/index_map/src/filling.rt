@@ -1,4 +1,4 @@
-//! Records that are put into a table.
+//! Puts records into a table.
 
 ghost use Rattle.std.specs.Prelude.{◌≡◌, IfOk, OnErr, OnOk, Some};
 ghost use Rattle.std.specs.Map.{lookup};
@@ -9,7 +9,7 @@ ghost use Rattle.index_map.specs.Known.{ArePlain, IsPlain};
 ghost use Rattle.index_map.specs.Slots as spec;
 
 use crate::reading::base_at;
-use crate::slot::Slot;
+use crate::slot::{Held, facts_of};
 use crate::table::Table;
 use cache_base::NoMemory;
 use index_record::IndexRecord;
@@ -25,47 +25,36 @@ pub(crate) fn put_record(table: &mut Table, r: &IndexRecord, seen: bool) -> Resu
     ensures table { spec.IsTable table.new }
 {
     let base = base_at(table, &r.name);
-    let slot = Slot {
-        current: Some(*r),
-        seen,
+    let slot = Held {
+        current: Some(facts_of(r)),
         base,
+        seen,
     };
     table.put(r.name, slot)
 }
 
-/// The table of a base, without records now.
-pub(crate) fn base_table(alloc: Global, base: &[IndexRecord]) -> Result<Table, NoMemory>
-    requires { HasNames base.now }
-    ensures slots { IfOk result (λ table. (q : AName) → lookup (same_name q) table ≡ option_map spec.base_slot (record_at base.now q)) }
+/// The table of a base whose records are the records now, all of them seen or none, with room for so many names.
+pub(crate) fn base_table(
+    alloc: Global,
+    base: &[IndexRecord],
+    room: usize,
+    seen: bool,
+) -> Result<Table, NoMemory>
+    requires names { HasNames base.now }
+    requires plain { ArePlain base.now }
+    ensures slots { IfOk result (λ table. (q : AName) →
+        lookup (same_name q) table ≡ option_map (spec.base_slot seen) (record_at base.now q)) }
     ensures table { IfOk result spec.IsTable }
 {
-    let mut table = Table::new(alloc);
+    let mut table = Table::with_room(alloc, room)?;
     for r in base {
-        let slot = Slot {
-            current: None,
-            seen: false,
-            base: Some(*r),
+        let facts = Some(facts_of(r));
+        let slot = Held {
+            current: facts,
+            base: facts,
+            seen,
         };
         table.put(r.name, slot)?;
     }
     Ok(table)
-}
-
-/// Puts these records.
-pub(crate) fn put_records(
-    table: &mut Table,
-    records: &[IndexRecord],
-    seen: bool,
-) -> Result<(), NoMemory>
-    requires table { spec.IsTable table.old }
-    requires names { HasNames records.now }
-    requires plain { ArePlain records.now }
-    ensures table { OnOk result (spec.IsTable table.new) }
-    ensures slots { OnOk result ((q : AName) → lookup (same_name q) table.new
-        ≡ spec.with_record seen (record_at records.now q) (lookup (same_name q) table.old)) }
-{
-    for r in records {
-        put_record(table, r, seen)?;
-    }
-    Ok(())
 }

@@ -2,11 +2,14 @@
 
 ghost use Rattle.std.specs.Prelude.{◌≡◌, ◌++◌, IfOk, OnOk, option_to_list};
 ghost use Rattle.std.specs.List.{filter_map};
+ghost use Rattle.std.specs.Map.{values_of};
+ghost use Rattle.record_list.specs.Lists.{HasNames, IsByName};
 ghost use Rattle.index_map.specs.Slots as spec;
 
-use crate::slot::{Slot, change};
-use cache_base::NoMemory;
-use index_record::IndexRecord;
+use crate::slot::{Held, change, named};
+use cache_base::{Name, NoMemory};
+use index_record::{IndexRecord, Records};
+use indexmap::IndexMap;
 use std::alloc::Global;
 
 fn push_if(list: &mut Vec<IndexRecord>, found: Option<IndexRecord>) -> Result<(), NoMemory>
@@ -20,23 +23,40 @@ fn push_if(list: &mut Vec<IndexRecord>, found: Option<IndexRecord>) -> Result<()
 }
 
 /// The records now, in the order of the slots.
-pub(crate) fn current_records(alloc: Global, slots: &[Slot]) -> Result<Vec<IndexRecord>, NoMemory>
-    ensures { IfOk result (λ list. list.items ≡ spec.current_in slots.now) }
+pub(crate) fn current_records(
+    alloc: Global,
+    slots: &IndexMap<Name, Held>,
+) -> Result<Vec<IndexRecord>, NoMemory>
+    ensures { IfOk result (λ list.
+        list.items ≡ spec.current_in (values_of (spec.slots_of slots.now.entries))) }
 {
-    let mut list = Vec::new(alloc);
-    for slot in slots {
-        push_if(&mut list, slot.current)?;
+    let mut list = Vec::with_capacity(alloc, slots.len())?;
+    for (name, slot) in slots {
+        push_if(&mut list, named(name, slot.current))?;
     }
     Ok(list)
 }
 
 /// What a journal has to say, in the order of the slots.
-pub(crate) fn changes(alloc: Global, slots: &[Slot]) -> Result<Vec<IndexRecord>, NoMemory>
-    ensures { IfOk result (λ list. list.items ≡ filter_map spec.change_in slots.now) }
+pub(crate) fn changes(
+    alloc: Global,
+    slots: &IndexMap<Name, Held>,
+) -> Result<Vec<IndexRecord>, NoMemory>
+    ensures { IfOk result (λ list.
+        list.items ≡ filter_map spec.change_in (values_of (spec.slots_of slots.now.entries))) }
 {
     let mut list = Vec::new(alloc);
-    for slot in slots {
-        push_if(&mut list, change(slot))?;
+    for (name, slot) in slots {
+        push_if(&mut list, change(name, slot))?;
     }
     Ok(list)
+}
+
+/// The records in name order, in the memory that holds them.
+pub(crate) fn by_name(mut records: Vec<IndexRecord>) -> Records
+    requires { HasNames records.items }
+    ensures { IsByName records.items result }
+{
+    records.sort_unstable_by_key(|record| record.name);
+    Records::from_vec(records)
 }

@@ -1,21 +1,19 @@
 //! The records of the index in memory.
 
 ghost use Rattle.std.specs.Prelude.{◌≡◌, IfOk, None, OnErr, OnOk, Some, length, sum_by, true};
-ghost use Rattle.std.specs.Option.{option_copied};
 ghost use Rattle.index_record.specs.Record.{size_kb as size_kb_of};
-ghost use Rattle.record_list.specs.Change.{IsDiff};
+ghost use Rattle.record_list.specs.Change.{IsDiff, kept};
 ghost use Rattle.record_list.specs.Lists.{HasNames, IsByName, record_at};
-ghost use Rattle.record_list.specs.Stored.{AreClean};
+ghost use Rattle.record_list.specs.Stored.{AreClean, IsClean};
 
 use crate::counts::Totals;
-use crate::filling::{base_table, put_record, put_records};
-use crate::listing::{changes, current_records};
+use crate::filling::{base_table, put_record};
+use crate::listing::by_name;
 use crate::reading::{base_at, seen_at};
-use crate::slot::Slot;
+use crate::slot::Held;
 use crate::table::Table;
 use cache_base::{Name, NoMemory};
-use index_record::{IndexRecord, Records};
-use record_list::by_name;
+use index_record::{IndexRecord, Records, is_removed};
 use std::alloc::Global;
 use std::marker::Model;
 
@@ -51,25 +49,70 @@ impl RecordMap {
         }
     }
 
-    /// The map of these records, all of them seen or none, over this base.
-    pub fn with_base(
-        alloc: Global,
-        base: &Records,
-        now: &Records,
-        seen: bool,
-    ) -> Result<RecordMap, NoMemory>
-        requires base_names { HasNames base.now }
-        requires names { HasNames now.now }
-        requires plain { spec.ArePlain now.now }
-        ensures { IfOk result (spec.Begins base.now now.now seen) }
+    // The map of a base, with room for so many names more.
+    fn over(alloc: Global, base: &Records, more: usize, seen: bool) -> Result<RecordMap, NoMemory>
+        requires names { HasNames base.now }
+        requires plain { spec.ArePlain base.now }
+        ensures { IfOk result (spec.Begins base.now base.now seen) }
     {
-        let mut table = base_table(alloc, base.as_slice())?;
-        put_records(&mut table, now.as_slice(), seen)?;
+        let base = base.as_slice();
+        let room = base.len().saturating_add(more);
         Ok(RecordMap {
-            table,
+            table: base_table(alloc, base, room, seen)?,
             has_base: true,
             alloc,
         })
+    }
+
+    /// The map of the records of a base, all of them seen or none.
+    pub fn with_base(alloc: Global, base: &Records, seen: bool) -> Result<RecordMap, NoMemory>
+        requires names { HasNames base.now }
+        requires plain { spec.ArePlain base.now }
+        ensures { IfOk result (spec.Begins base.now base.now seen) }
+    {
+        RecordMap::over(alloc, base, 0, seen)
+    }
+
+    /// The map of the records of a base after the changes of a journal, all of them seen, over this base.
+    pub fn with_journal(
+        alloc: Global,
+        base: &Records,
+        changes: &Records,
+    ) -> Result<RecordMap, NoMemory>
+        requires base_names { HasNames base.now }
+        requires plain { spec.ArePlain base.now }
+        requires names { HasNames changes.now }
+        requires clean { AreClean changes.now }
+        ensures { IfOk result (spec.BeginsAfter base.now changes.now) }
+    {
+        let changes = changes.as_slice();
+        let mut map = RecordMap::over(alloc, base, changes.len(), true)?;
+        map.apply(changes)?;
+        Ok(map)
+    }
+
+    // Makes the changes of a journal.
+    fn apply(&mut self, changes: &[IndexRecord]) -> Result<(), NoMemory>
+        requires names { HasNames changes.now }
+        requires clean { AreClean changes.now }
+        ensures { OnOk result (spec.Applies changes.now self.old self.new) }
+    {
+        for change in changes {
+            self.apply_one(change)?;
+        }
+        Ok(())
+    }
+
+    // Makes one change of a journal.
+    fn apply_one(&mut self, change: &IndexRecord) -> Result<(), NoMemory>
+        requires { IsClean change.now }
+        ensures { OnOk result (spec.Sets self.old self.new change.now.name (kept change.now)) }
+    {
+        if is_removed(change) {
+            self.remove(&change.name);
+            return Ok(());
+        }
+        self.set(*change)
     }
 
     /// Puts a record, in place of the one of its name if there is one, and marks it as seen. After `NoMemory` the map is
@@ -89,10 +132,10 @@ impl RecordMap {
         match base_at(&self.table, name) {
             None => self.table.take(name),
             Some(base) => {
-                let slot = Slot {
+                let slot = Held {
                     current: None,
-                    seen: true,
                     base: Some(base),
+                    seen: true,
                 };
                 // A name that has a slot needs no memory.
                 self.table.put(*name, slot).unwrap();
@@ -101,8 +144,8 @@ impl RecordMap {
     }
 
     /// The record of a name, if it was seen.
-    pub fn get(&self, name: &Name) -> Option<&IndexRecord>
-        ensures record { option_copied result ≡ record_at self.now.seen name.now }
+    pub fn get(&self, name: &Name) -> Option<IndexRecord>
+        ensures record { result ≡ record_at self.now.seen name.now }
         ensures known { spec.IsKnown self.now }
     {
         seen_at(&self.table, name)
@@ -150,16 +193,15 @@ impl RecordMap {
         self.has_base = true;
     }
 
-    /// The records now, by rising name.
+    /// The records now, in name order.
     pub fn records(&self) -> Result<Records, NoMemory>
         ensures by_name { IfOk result (IsByName self.now.records) }
         ensures known { spec.IsKnown self.now }
     {
-        let records = current_records(self.alloc, self.table.slots())?;
-        by_name(self.alloc, records)
+        Ok(by_name(self.table.records(self.alloc)?))
     }
 
-    /// What a journal has to say: by rising name, for each name whose record now differs from the base's, the record now,
+    /// What a journal has to say: in name order, for each name whose record now differs from the base's, the record now,
     /// or a removed record where there is none.
     pub fn diff(&self) -> Result<Records, NoMemory>
         ensures diff { IfOk result (IsDiff self.now.base self.now.records) }
@@ -167,7 +209,6 @@ impl RecordMap {
         ensures count { IfOk result (λ records. length records ≡ spec.changed self.now.base self.now.records) }
         ensures known { spec.IsKnown self.now }
     {
-        let records = changes(self.alloc, self.table.slots())?;
-        by_name(self.alloc, records)
+        Ok(by_name(self.table.changes(self.alloc)?))
     }
 }

@@ -2,17 +2,19 @@
 
 ghost use Rattle.std.specs.Prelude.{◌≡◌, option_and_then};
 ghost use Rattle.std.specs.Map.{lookup};
-ghost use Rattle.std.specs.Option.{option_copied};
+ghost use Rattle.std.specs.Option.{option_map};
 ghost use Rattle.record_list.specs.Lists.{same_name};
 ghost use Rattle.index_map.specs.Slots as spec;
 
+use crate::slot::{Facts, named};
 use crate::table::Table;
 use cache_base::Name;
 use index_record::IndexRecord;
 
 /// The record of a name in the base.
-pub(crate) fn base_at(table: &Table, name: &Name) -> Option<IndexRecord>
-    ensures base { result ≡ option_and_then (λ slot. slot.base) (lookup (same_name name.now) table.now) }
+pub(crate) fn base_at(table: &Table, name: &Name) -> Option<Facts>
+    ensures base { option_map (spec.record_of name.now) result
+        ≡ option_and_then (λ slot. slot.base) (lookup (same_name name.now) table.now) }
     ensures table { spec.IsTable table.now }
 {
     match table.get(name) {
@@ -22,14 +24,14 @@ pub(crate) fn base_at(table: &Table, name: &Name) -> Option<IndexRecord>
 }
 
 /// The record of a name now, if it was seen.
-pub(crate) fn seen_at<'a>(table: &'a Table, name: &Name) -> Option<&'a IndexRecord>
-    ensures record { option_copied result ≡ option_and_then spec.seen_of (lookup (same_name name.now) table.now) }
+pub(crate) fn seen_at(table: &Table, name: &Name) -> Option<IndexRecord>
+    ensures record { result ≡ option_and_then spec.seen_of (lookup (same_name name.now) table.now) }
     ensures table { spec.IsTable table.now }
 {
     match table.get(name) {
         Some(slot) => {
             if slot.seen {
-                slot.current.as_ref()
+                named(name, slot.current)
             } else {
                 None
             }

@@ -1,59 +1,118 @@
 //! What is known under one name.
 
 ghost use Rattle.std.specs.Prelude.{◌≡◌};
+ghost use Rattle.std.specs.Option.{option_map};
 ghost use Rattle.index_map.specs.Slots as spec;
 
+use cache_base::Name;
 use index_record::{IndexRecord, removed};
 
-/// What is known under one name. A slot in a table holds a record now, one of the base, or both.
-#[derive(Clone, Copy)]
-pub(crate) struct Slot {
-    /// The record now.
-    pub current: Option<IndexRecord>,
-    /// Whether the record now was seen.
-    pub seen: bool,
-    /// The record in the base.
-    pub base: Option<IndexRecord>,
+/// A record without its name. The widest fields come first, so that there are no gaps.
+#[derive(Clone, Copy, PartialEq, Eq)]
+pub(crate) struct Facts {
+    pub origin: u64,
+    pub frecency: u32,
+    pub flags: u32,
+    pub on_start: u16,
+    pub on_stop: u16,
+    pub content: u8,
 }
 
-impl Slot {
+/// What is known under one name, which is that of both records. A slot in a table holds a record now, one of the base,
+/// or both.
+#[derive(Clone, Copy)]
+pub(crate) struct Held {
+    /// The record now.
+    pub current: Option<Facts>,
+    /// The record in the base.
+    pub base: Option<Facts>,
+    /// Whether the record now was seen.
+    pub seen: bool,
+}
+
+impl Held {
     /// The slot that holds no record.
-    pub const EMPTY: Slot = Slot {
+    pub const EMPTY: Held = Held {
         current: None,
-        seen: false,
         base: None,
+        seen: false,
     };
 }
 
+/// A record without its name.
+pub(crate) fn facts_of(r: &IndexRecord) -> Facts
+    ensures { result ≡ spec.facts_of r.now }
+{
+    Facts {
+        origin: r.origin,
+        frecency: r.frecency,
+        flags: r.flags,
+        on_start: r.on_start,
+        on_stop: r.on_stop,
+        content: r.content,
+    }
+}
+
+/// The record of a name.
+pub(crate) fn record_of(name: &Name, facts: &Facts) -> IndexRecord
+    ensures { result ≡ spec.record_of name.now facts.now }
+{
+    IndexRecord {
+        name: *name,
+        frecency: facts.frecency,
+        origin: facts.origin,
+        on_start: facts.on_start,
+        on_stop: facts.on_stop,
+        content: facts.content,
+        flags: facts.flags,
+    }
+}
+
+/// The record of a name, if there is one.
+pub(crate) fn named(name: &Name, facts: Option<Facts>) -> Option<IndexRecord>
+    ensures { result ≡ option_map (spec.record_of name.now) facts }
+{
+    match facts {
+        Some(facts) => Some(record_of(name, &facts)),
+        None => None,
+    }
+}
+
 /// Whether the record now differs from the base's.
-pub(crate) fn differs(slot: &Slot) -> bool
-    ensures { result ≡ spec.differs slot.now }
+pub(crate) fn differs(slot: &Held) -> bool
+    ensures { result ≡ spec.differs (spec.bare slot.now) }
 {
     slot.base != slot.current
 }
 
-/// What a journal has to say of the slot.
-pub(crate) fn change(slot: &Slot) -> Option<IndexRecord>
-    ensures { result ≡ spec.change_in slot.now }
+/// What a journal has to say of the slot of a name.
+pub(crate) fn change(name: &Name, slot: &Held) -> Option<IndexRecord>
+    ensures { result ≡ spec.change_in (spec.slot_of name.now slot.now) }
 {
     match (slot.base, slot.current) {
-        (None, current) => current,
-        (Some(base), None) => Some(removed(&base.name)),
-        (Some(base), Some(current)) => { if base == current { None } else { Some(current) } }
+        (None, current) => named(name, current),
+        (Some(_), None) => Some(removed(name)),
+        (Some(base), Some(current)) => {
+            if base == current {
+                None
+            } else {
+                Some(record_of(name, &current))
+            }
+        }
     }
 }
 
 /// Whether the slot holds a record.
-pub(crate) fn is_used(slot: &Slot) -> bool
-    ensures { result ≡ spec.is_used slot.now }
+pub(crate) fn is_used(slot: &Held) -> bool
+    ensures { result ≡ spec.is_held slot.now }
 {
     slot.current.is_some() || slot.base.is_some()
 }
 
 /// Takes an unseen record out, and says whether the slot holds a record then.
-pub(crate) fn keep_seen(slot: &mut Slot) -> bool
-    ensures slot { slot.new ≡ spec.seen_only slot.old }
-    ensures used { result ≡ spec.is_used slot.new }
+pub(crate) fn keep_seen(slot: &mut Held) -> bool
+    ensures slot { slot.new ≡ spec.seen_held slot.old }
+    ensures used { result ≡ spec.is_held slot.new }
 {
     if !slot.seen {
         slot.current = None;
@@ -62,9 +121,9 @@ pub(crate) fn keep_seen(slot: &mut Slot) -> bool
 }
 
 /// Makes the record now the base's, and says whether the slot holds a record then.
-pub(crate) fn settle(slot: &mut Slot) -> bool
-    ensures slot { slot.new ≡ spec.written slot.old }
-    ensures used { result ≡ spec.is_used slot.new }
+pub(crate) fn settle(slot: &mut Held) -> bool
+    ensures slot { slot.new ≡ spec.written_held slot.old }
+    ensures used { result ≡ spec.is_held slot.new }
 {
     slot.base = slot.current;
     is_used(slot)

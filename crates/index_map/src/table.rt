@@ -1,13 +1,16 @@
 //! The table behind a map: a slot for each name, and the counts of the slots.
 
-ghost use Rattle.std.specs.Prelude.{◌≡◌, [], ◌<◌, ◌^◌, OnOk, OnErr, None, Some, length};
-ghost use Rattle.std.specs.Option.{option_copied};
+ghost use Rattle.std.specs.Prelude.{◌≡◌, [], IfOk, OnOk, OnErr, None, Some};
+ghost use Rattle.std.specs.List.{filter_map};
+ghost use Rattle.std.specs.Option.{option_copied, option_map};
 ghost use Rattle.std.specs.Map.{lookup, values_of};
 ghost use Rattle.record_list.specs.Lists.{same_name};
 
 use crate::counts::{Counts, count, with, without};
-use crate::slot::{Slot, keep_seen, settle};
+use crate::listing::{changes, current_records};
+use crate::slot::{Held, keep_seen, settle};
 use cache_base::{Name, NoMemory};
+use index_record::IndexRecord;
 use indexmap::IndexMap;
 use std::alloc::Global;
 use std::marker::Model;
@@ -15,7 +18,7 @@ use std::marker::Model;
 /// A slot for each name that has a record now or in the base.
 #[derive(Drop)]
 pub(crate) struct Table {
-    slots: IndexMap<Name, Slot>,
+    slots: IndexMap<Name, Held>,
     counts: Counts,
 }
 
@@ -23,14 +26,14 @@ impl Model for Table {
     ghost use Rattle.std.specs.Map.{values_of};
     ghost use Rattle.std.specs.Prelude.{◌≡◌, List};
     ghost use Rattle.cache_base.specs.declared.name.Name.{Name as AName};
-    ghost use Rattle.index_map.specs.Slots.{IsTable, counts_of};
-    ghost use Rattle.index_map.specs.declared.slot.Slot.{Slot as ASlot};
+    ghost use Rattle.index_map.specs.Slots.{IsTable, Slot, counts_of, slots_of};
 
-    ghost Value = { List (AName × ASlot) };
+    ghost Value = { List (AName × Slot) };
 
-    ghost view = { λ t. t.slots.entries };
+    ghost view = { λ t. slots_of t.slots.entries };
 
-    ghost invariant = { λ t. IsTable t.slots.entries × (t.counts ≡ counts_of (values_of t.slots.entries)) };
+    ghost invariant = { λ t. IsTable (slots_of t.slots.entries)
+        × (t.counts ≡ counts_of (values_of (slots_of t.slots.entries))) };
 }
 
 impl Table {
@@ -47,9 +50,21 @@ impl Table {
         }
     }
 
+    /// The table with no slot, and with room for so many.
+    pub fn with_room(alloc: Global, slots: usize) -> Result<Table, NoMemory>
+        ensures slots { IfOk result (λ table. table ≡ []) }
+        ensures table { IfOk result spec.IsTable }
+    {
+        Ok(Table {
+            slots: IndexMap::with_capacity(alloc, slots)?,
+            counts: Counts::NONE,
+        })
+    }
+
     /// The slot of a name.
-    pub fn get(&self, name: &Name) -> Option<&Slot>
-        ensures slot { option_copied result ≡ lookup (same_name name.now) self.now }
+    pub fn get(&self, name: &Name) -> Option<&Held>
+        ensures slot { option_map (spec.slot_of name.now) (option_copied result)
+            ≡ lookup (same_name name.now) self.now }
         ensures table { spec.IsTable self.now }
     {
         self.slots.get(name)
@@ -63,20 +78,29 @@ impl Table {
         self.counts
     }
 
-    /// Lends the slots.
-    pub fn slots(&self) -> &[Slot]
-        ensures slots { result.now ≡ values_of self.now }
-        ensures few { length result.now < 2 ^ 63 }
+    /// The records now, in the order of the slots.
+    pub fn records(&self, alloc: Global) -> Result<Vec<IndexRecord>, NoMemory>
+        ensures records { IfOk result (λ list. list.items ≡ spec.current_in (values_of self.now)) }
         ensures table { spec.IsTable self.now }
     {
-        self.slots.values().as_slice()
+        current_records(alloc, &self.slots)
+    }
+
+    /// What a journal has to say, in the order of the slots.
+    pub fn changes(&self, alloc: Global) -> Result<Vec<IndexRecord>, NoMemory>
+        ensures changes { IfOk result (λ list.
+            list.items ≡ filter_map spec.change_in (values_of self.now)) }
+        ensures table { spec.IsTable self.now }
+    {
+        changes(alloc, &self.slots)
     }
 
     /// Puts a slot under its name, in place of the one that stands there. After `NoMemory`, which comes only where none
     /// stands there, the table is as before.
-    pub fn put(&mut self, name: Name, slot: Slot) -> Result<(), NoMemory>
-        requires { spec.IsSlotOf name slot }
-        ensures ok { OnOk result (spec.Puts self.old self.new name (Some slot)) }
+    pub fn put(&mut self, name: Name, slot: Held) -> Result<(), NoMemory>
+        requires { spec.IsSlotOf name (spec.slot_of name slot) }
+        ensures ok { OnOk result
+            (spec.Puts self.old self.new name (Some (spec.slot_of name slot))) }
         ensures err { OnErr result (self.new ≡ self.old) }
         ensures absent { OnErr result (lookup (same_name name) self.old ≡ None) }
         ensures was_table { spec.IsTable self.old }
@@ -84,7 +108,7 @@ impl Table {
     {
         // A map has fewer than 2^63 entries: the counts fit their types.
         let _len = self.slots.len();
-        let old = self.slots.insert(name, slot)?.unwrap_or(Slot::EMPTY);
+        let old = self.slots.insert(name, slot)?.unwrap_or(Held::EMPTY);
         let counts = with(&self.counts, &slot);
         self.counts = without(&counts, &old);
         Ok(())

@@ -1,5 +1,6 @@
 ghost use Rattle.std.specs.Prelude.{◌≡◌, IfOk};
 ghost use Rattle.record_list.specs.Lists.{HasNames};
+ghost use Rattle.record_list.specs.Stored.{AreClean};
 ghost use Rattle.index_map.specs.Known.{ArePlain, IsPlain};
 
 use crate::{RecordMap, Totals};
@@ -34,6 +35,7 @@ fn record(name: Name, kb: u16) -> IndexRecord
 fn pair(alloc: Global, one: u16, two: u16) -> Result<Records, NoMemory>
     ensures names { IfOk result HasNames }
     ensures plain { IfOk result ArePlain }
+    ensures clean { IfOk result AreClean }
 {
     let mut list = Records::new(alloc);
     list.push(record(TWO, two))?;
@@ -42,10 +44,15 @@ fn pair(alloc: Global, one: u16, two: u16) -> Result<Records, NoMemory>
 }
 
 // A map over a base with files of 1 and 2 KB, with the same records but for the second's size.
-fn two_records(alloc: Global, two: u16, seen: bool) -> Result<RecordMap, NoMemory> {
+fn two_records(alloc: Global, two: u16) -> Result<RecordMap, NoMemory> {
     let base = pair(alloc, 1, 2)?;
-    let now = pair(alloc, 1, two)?;
-    RecordMap::with_base(alloc, &base, &now, seen)
+    let changes = pair(alloc, 1, two)?;
+    RecordMap::with_journal(alloc, &base, &changes)
+}
+
+// A map over a base with files of 1 and 2 KB.
+fn over_base(alloc: Global, seen: bool) -> Result<RecordMap, NoMemory> {
+    RecordMap::with_base(alloc, &pair(alloc, 1, 2)?, seen)
 }
 
 #[derive(Clone, Copy)]
@@ -88,7 +95,7 @@ fn diff_is(map: &RecordMap, expected: &[IndexRecord]) -> Result<bool, NoMemory> 
 }
 
 fn is_seen(map: &RecordMap, expected: &IndexRecord) -> bool {
-    map.get(&expected.name) == Some(expected)
+    map.get(&expected.name) == Some(*expected)
 }
 
 #[test]
@@ -131,7 +138,7 @@ fn records_are_removed(rt: HostRuntime) -> Result<(), Fail> {
 
 #[test]
 fn only_what_was_seen_is_given(rt: HostRuntime) -> Result<(), Fail> {
-    let mut map = two_records(rt.alloc(), 2, false)?;
+    let mut map = over_base(rt.alloc(), false)?;
     assert!(rt; map.has_base());
     assert_eq!(rt; numbers(&map), (2, 3, 0));
     assert!(rt; !is_seen(&map, &record(ONE, 1)));
@@ -143,7 +150,7 @@ fn only_what_was_seen_is_given(rt: HostRuntime) -> Result<(), Fail> {
 
 #[test]
 fn what_was_not_seen_is_dropped(rt: HostRuntime) -> Result<(), Fail> {
-    let mut map = two_records(rt.alloc(), 2, false)?;
+    let mut map = over_base(rt.alloc(), false)?;
     take_all(&mut map, &[Step::Set(TWO, 2), Step::DropUnseen])?;
     assert_eq!(rt; numbers(&map), (1, 2, 1));
     assert_eq!(rt; records_are(&map, &[record(TWO, 2)]), Ok(true));
@@ -153,7 +160,7 @@ fn what_was_not_seen_is_dropped(rt: HostRuntime) -> Result<(), Fail> {
 
 #[test]
 fn a_difference_has_each_changed_name(rt: HostRuntime) -> Result<(), Fail> {
-    let mut map = two_records(rt.alloc(), 9, true)?;
+    let mut map = two_records(rt.alloc(), 9)?;
     assert!(rt; is_seen(&map, &record(ONE, 1)));
     take_all(&mut map, &[Step::Set(THREE, 4), Step::Remove(ONE)])?;
     assert_eq!(rt; numbers(&map), (2, 13, 3));
@@ -162,9 +169,32 @@ fn a_difference_has_each_changed_name(rt: HostRuntime) -> Result<(), Fail> {
     Ok(())
 }
 
+// A journal by which the first name is gone.
+fn one_gone(alloc: Global) -> Result<Records, NoMemory>
+    ensures names { IfOk result HasNames }
+    ensures clean { IfOk result AreClean }
+{
+    let mut list = Records::new(alloc);
+    list.push(removed(&ONE))?;
+    Ok(list)
+}
+
+#[test]
+fn a_journal_changes_the_base(rt: HostRuntime) -> Result<(), Fail> {
+    let base = pair(rt.alloc(), 1, 2)?;
+    let changes = one_gone(rt.alloc())?;
+    let map = RecordMap::with_journal(rt.alloc(), &base, &changes)?;
+    assert!(rt; map.has_base());
+    assert_eq!(rt; numbers(&map), (1, 2, 1));
+    assert!(rt; map.get(&ONE).is_none());
+    assert!(rt; is_seen(&map, &record(TWO, 2)));
+    assert_eq!(rt; diff_is(&map, &[removed(&ONE)]), Ok(true));
+    Ok(())
+}
+
 #[test]
 fn what_is_as_in_the_base_is_not_changed(rt: HostRuntime) -> Result<(), Fail> {
-    let mut map = two_records(rt.alloc(), 9, true)?;
+    let mut map = two_records(rt.alloc(), 9)?;
     let steps = [
         Step::Set(THREE, 4),
         Step::Remove(ONE),
@@ -180,7 +210,7 @@ fn what_is_as_in_the_base_is_not_changed(rt: HostRuntime) -> Result<(), Fail> {
 
 #[test]
 fn what_was_written_is_the_base(rt: HostRuntime) -> Result<(), Fail> {
-    let mut map = two_records(rt.alloc(), 2, true)?;
+    let mut map = over_base(rt.alloc(), true)?;
     let steps = [Step::Remove(ONE), Step::Set(THREE, 4), Step::MarkWritten];
     take_all(&mut map, &steps)?;
     assert_eq!(rt; numbers(&map), (2, 6, 0));

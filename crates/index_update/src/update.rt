@@ -1,19 +1,20 @@
 //! The names that an update has still to read.
 
 ghost use Rattle.std.specs.List.{list_any};
-ghost use Rattle.std.specs.Prelude.{◌≡◌, ◌≢◌, ◌↔◌, ◌*◌, [], IfOk, IsErrOf, IsTrue, OnErr, OnOk, drop, length, take};
+ghost use Rattle.std.specs.Prelude.{◌≡◌, ◌≢◌, ◌↔◌, [], IfOk, IsErrOf, IsTrue, OnErr, OnOk, drop, length, take};
 ghost use Rattle.cache_base.specs.Causes.{HasCause};
 ghost use Rattle.cache_base.specs.Names.{AreRising};
+ghost use Rattle.disk_model.specs.Account.{ending};
 ghost use Rattle.disk_model.specs.Calls.{counted};
 ghost use Rattle.disk_model.specs.Listing.{AreEntries};
 ghost use Rattle.disk_model.specs.declared.disk.DiskFault.TheVariants.{Failed};
-ghost use Rattle.entry_file.specs.Looks.{Looks};
 ghost use Rattle.index_map.specs.Known.{SameBase};
 ghost use Rattle.record_list.specs.Lists.{same_name};
 ghost use Rattle.index_theory.specs.Ever.{entries_on};
-ghost use Rattle.index_update.specs.Reads.{ReadsIn, ReadsSome};
+ghost use Rattle.index_update.specs.Reads.{ReadsSome};
 ghost use Rattle.index_update.specs.Rest.{without};
-ghost use Rattle.index_update.specs.Tells.{ComesToTell, GoesOnTelling};
+ghost use Rattle.index_update.specs.Slices.{LooksAtNames, ReadsSlice};
+ghost use Rattle.index_update.specs.Tells.{GoesOnTelling};
 
 use crate::entry_records::read_each;
 use crate::names::{first_of, set_of, take_off};
@@ -91,22 +92,16 @@ impl Update {
     ) -> Result<(), DiskFault>
         ensures rest { OnOk result (self.new ≡ drop n self.old) }
         ensures kept { OnErr result (self.new ≡ self.old) }
-        ensures seen { let es = entries_on (D.state disk.old) in
-            OnOk result (IsTrue D.tells → ReadsIn es (take n self.old) map.old.seen map.new.seen) }
-        ensures records { let es = entries_on (D.state disk.old) in OnOk result (IsTrue D.tells →
-            self.new ≢ [] → ReadsIn es (take n self.old) map.old.records map.new.records) }
+        ensures slice { let es = entries_on (D.state disk.old) in OnOk result (IsTrue D.tells →
+            ReadsSlice es (take n self.old) self.old self.new map.old map.new) }
         ensures ended { OnOk result (self.new ≡ [] → map.new.records ≡ map.new.seen) }
         ensures some { let es = entries_on (D.state disk.old) in
             OnErr result (IsTrue D.tells → ReadsSome es (take n self.old) map.old map.new) }
         ensures base { SameBase map.old map.new }
         ensures tells { let es = entries_on (D.state disk.old) in IsTrue D.tells →
             GoesOnTelling es map.old self.old map.new self.new }
-        ensures tells_all { let es = entries_on (D.state disk.old) in OnOk result (IsTrue D.tells →
-            self.new ≡ [] → ComesToTell es map.old self.old map.new) }
-        ensures state { IsTrue D.tells → D.state disk.new ≡ D.state disk.old }
-        ensures looks { IsTrue D.tells →
-            Looks (4 * length (take n self.old)) (D.counts disk.old) (D.counts disk.new) }
-        ensures cause { HasCause (IsErrOf result DiskFault.Failed) (D.faults disk.old) (D.faults disk.new) }
+        ensures looks { let names = length (take n self.old) in
+            LooksAtNames D.Disk (ending result) names disk.old disk.new }
     {
         let first = first_of(self.alloc, &self.names, n)?;
         read_each(self.alloc, disk, first.as_slice(), map)?;
@@ -127,24 +122,18 @@ impl Update {
         // The rest, and the records.
         ensures rest { OnOk result (self.new ≡ drop n self.old) }
         ensures kept { OnErr result (self.new ≡ self.old) }
-        ensures seen { let es = entries_on (D.state disk.old) in
-            OnOk result (IsTrue D.tells → ReadsIn es (take n self.old) map.old.seen map.new.seen) }
-        ensures records { let es = entries_on (D.state disk.old) in OnOk result (IsTrue D.tells →
-            self.new ≢ [] → ReadsIn es (take n self.old) map.old.records map.new.records) }
+        ensures slice { let es = entries_on (D.state disk.old) in OnOk result (IsTrue D.tells →
+            ReadsSlice es (take n self.old) self.old self.new map.old map.new) }
         ensures ended { OnOk result (self.new ≡ [] → map.new.records ≡ map.new.seen) }
         ensures some { let es = entries_on (D.state disk.old) in
             OnErr result (IsTrue D.tells → ReadsSome es (take n self.old) map.old map.new) }
         ensures base { SameBase map.old map.new }
-        // The records that were seen go on to tell what stands outside the rest, and with an empty rest all do.
+        // The records that were seen go on to tell what stands outside the rest.
         ensures tells { let es = entries_on (D.state disk.old) in IsTrue D.tells →
             GoesOnTelling es map.old self.old map.new self.new }
-        ensures tells_all { let es = entries_on (D.state disk.old) in OnOk result (IsTrue D.tells →
-            self.new ≡ [] → ComesToTell es map.old self.old map.new) }
         // The disk.
-        ensures state { IsTrue D.tells → D.state disk.new ≡ D.state disk.old }
-        ensures looks { IsTrue D.tells →
-            Looks (4 * length (take n self.old)) (D.counts disk.old) (D.counts disk.new) }
-        ensures cause { HasCause (IsErrOf result DiskFault.Failed) (D.faults disk.old) (D.faults disk.new) }
+        ensures looks { let names = length (take n self.old) in
+            LooksAtNames D.Disk (ending result) names disk.old disk.new }
     {
         self.read_first(disk, n as usize, map)
     }
@@ -154,22 +143,17 @@ impl Update {
         // The rest, and the records.
         ensures rest { OnOk result (self.new ≡ []) }
         ensures kept { OnErr result (self.new ≡ self.old) }
-        ensures seen { let es = entries_on (D.state disk.old) in
-            OnOk result (IsTrue D.tells → ReadsIn es self.old map.old.seen map.new.seen) }
+        ensures slice { let es = entries_on (D.state disk.old) in OnOk result (IsTrue D.tells →
+            ReadsSlice es self.old self.old self.new map.old map.new) }
         ensures ended { OnOk result (map.new.records ≡ map.new.seen) }
         ensures some { let es = entries_on (D.state disk.old) in
             OnErr result (IsTrue D.tells → ReadsSome es self.old map.old map.new) }
         ensures base { SameBase map.old map.new }
-        // The records that were seen go on to tell what stands outside the rest, and in the end all do.
+        // The records that were seen go on to tell what stands outside the rest.
         ensures tells { let es = entries_on (D.state disk.old) in IsTrue D.tells →
             GoesOnTelling es map.old self.old map.new self.new }
-        ensures tells_all { let es = entries_on (D.state disk.old) in OnOk result (IsTrue D.tells →
-            ComesToTell es map.old self.old map.new) }
         // The disk.
-        ensures state { IsTrue D.tells → D.state disk.new ≡ D.state disk.old }
-        ensures looks { IsTrue D.tells →
-            Looks (4 * length self.old) (D.counts disk.old) (D.counts disk.new) }
-        ensures cause { HasCause (IsErrOf result DiskFault.Failed) (D.faults disk.old) (D.faults disk.new) }
+        ensures looks { LooksAtNames D.Disk (ending result) (length self.old) disk.old disk.new }
     {
         let n = self.names.len();
         self.read_first(disk, n, map)

@@ -4,7 +4,7 @@ use Rattle.cache_base.specs.declared.name.Name.{Name}
 use Rattle.disk_model.specs.Image.{Files}
 use Rattle.disk_model.specs.State.{State, standing}
 use Rattle.disk_model.specs.declared.place.Place.TheVariants.{Index, Log, Tmp}
-use Rattle.index_map.specs.Known.{Begins, Known, no_records}
+use Rattle.index_map.specs.Known.{Begins, BeginsAfter, Known, no_records}
 use Rattle.index_record.specs.declared.record.IndexRecord.{IndexRecord}
 use Rattle.index_theory.specs.Ever.{entries}
 use Rattle.index_theory.specs.Honest.{Honest, index_records, journal_records}
@@ -15,13 +15,12 @@ use Rattle.index_theory.specs.declared.kinds.Start.{Start}
 use Rattle.index_theory.specs.Start.{start_of}
 use Rattle.index_theory.specs.declared.kinds.Start.TheVariants.{Ready, Update, Build}
 use Rattle.index_theory.specs.Scan.{TellsScan}
-use Rattle.record_list.specs.Change.{IsApplied}
 use Rattle.record_list.specs.Lists.{record_at}
 
 -- the map of the records at the start, by those of the index and of its journal: the journal applied to the index, all
 -- seen; or those of the index, unseen; or none, without a base
 abbrev pub StartsWith : Start → List IndexRecord → List IndexRecord → Known → Type 0
-StartsWith Ready base changes map = (now : List IndexRecord) × (IsApplied base changes now × Begins base now true map)
+StartsWith Ready base changes map = BeginsAfter base changes map
 StartsWith Update base changes map = Begins base base false map
 StartsWith Build base changes map = map ≡ no_records
 

@@ -1,10 +1,8 @@
 //! Opens the index.
 
-ghost use Rattle.std.specs.Prelude.{◌≡◌, ℕ, IfOk, IsErrOf, IsTrue, List, OnOk, Option, is_some};
-ghost use Rattle.cache_base.specs.Causes.{HasCause};
+ghost use Rattle.std.specs.Prelude.{◌≡◌, ℕ, IfOk, IsTrue, List, OnOk, Option, is_some};
 ghost use Rattle.disk_model.specs.Calls.{if_done};
 ghost use Rattle.disk_model.specs.State.{standing};
-ghost use Rattle.disk_model.specs.declared.disk.DiskFault.TheVariants.{Failed};
 ghost use Rattle.disk_model.specs.declared.place.Place.TheVariants.{Index, Log, Tmp};
 ghost use Rattle.index_theory.specs.Apart.{IsApart};
 ghost use Rattle.disk_model.specs.Told.{Told};
@@ -65,11 +63,8 @@ fn begin_map(
 {
     match start {
         Start::Build => Ok(RecordMap::new(alloc)),
-        Start::Update => RecordMap::with_base(alloc, &index.records, &index.records, false),
-        Start::Ready => {
-            let now = index_journal::apply(alloc, &index.records, &log.records)?;
-            RecordMap::with_base(alloc, &index.records, &now, true)
-        }
+        Start::Update => RecordMap::with_base(alloc, &index.records, false),
+        Start::Ready => RecordMap::with_journal(alloc, &index.records, &log.records),
     }
 }
 

@@ -1,9 +1,7 @@
 //! What the files of the index say: their kinds and their records.
 
-ghost use Rattle.std.specs.Prelude.{◌≡◌, IfOk, IsErrOf, IsTrue, Some, if◌then◌else◌};
-ghost use Rattle.cache_base.specs.Causes.{HasCause};
+ghost use Rattle.std.specs.Prelude.{◌≡◌, IfOk, IsTrue, Some, if◌then◌else◌};
 ghost use Rattle.disk_model.specs.State.{standing};
-ghost use Rattle.disk_model.specs.declared.disk.DiskFault.TheVariants.{Failed};
 ghost use Rattle.disk_model.specs.declared.place.Place.TheVariants.{Index, Log};
 ghost use Rattle.index_theory.specs.declared.kinds.IndexKind.TheVariants.{Clean, Dirty};
 ghost use Rattle.record_list.specs.Change.{HasNoRemoved};

@@ -1,27 +1,12 @@
 use super::*;
 use std::test::Fail;
 
-// Runs the words of a line over these bytes, and gives the status and what is printed.
-fn ends(
-    alloc: Global,
-    disk: &mut MemDisk,
-    line: &str,
-    input: &[u8],
-) -> Result<(Status, Bytes), Fail> {
-    let words = words_of(alloc, line)?;
-    let mut source = MemSource::new(alloc, bytes(alloc, input)?);
-    let mut sink = MemSink::new(alloc);
-    let status = run(alloc, &words, &mut source, &mut sink, disk);
-    Ok((status, bytes(alloc, sink.bytes())?))
-}
-
 // Whether a `get` of the key prints this.
 fn prints(alloc: Global, disk: &mut MemDisk, key: &str, text: &[u8]) -> Result<bool, Fail> {
-    let words = words_for(alloc, "get", key)?;
-    let mut source = MemSource::new(alloc, bytes(alloc, b"")?);
-    let mut sink = MemSink::new(alloc);
-    run(alloc, &words, &mut source, &mut sink, disk);
-    Ok(sink.bytes() == text)
+    let mut line = String::from_str(alloc, "1000 get ")?;
+    line.push_str(key)?;
+    let (_, printed) = ends(alloc, disk, line.as_str(), b"")?;
+    Ok(printed.as_slice() == text)
 }
 
 // The image with the names after so many name steps and these contents of the keys' files.
@@ -55,7 +40,7 @@ fn a_body_that_imitates_an_entry_is_none(rt: HostRuntime) -> Result<(), Fail> {
     let alloc = rt.alloc();
     let mut disk = MemDisk::new(alloc);
     let inner = vec![in alloc; b'i'; 262_080]?;
-    ends(alloc, &mut disk, "1000 put :https://example.com/", &inner)?;
+    ends(alloc, &mut disk, PUT, &inner)?;
     let file = disk.file(&place_of(KEY)).ok_or("no file")?;
     assert_eq!(rt; file.len(), 262_144);
     let mut body = bytes(alloc, file)?;
@@ -75,22 +60,18 @@ fn a_body_that_imitates_an_entry_is_none(rt: HostRuntime) -> Result<(), Fail> {
     Ok(())
 }
 
-const FOUND: &[u8] = b"found 1 1000 1000 1000 4294967295 0 0 5\n\nhello\n";
-
 // Before the sync an image may have the entry or not; after it none has.
 #[test]
 fn a_doomed_entry_may_stay_until_the_sync(rt: HostRuntime) -> Result<(), Fail> {
     let alloc = rt.alloc();
-    let mut disk = MemDisk::new(alloc);
-    disk.put_file(place_of(KEY), bytes(alloc, FILE)?)?;
+    let mut disk = disk_with(alloc, KEY, FILE)?;
     let (status, _) = ends(alloc, &mut disk, "1000 doom :https://example.com/", b"")?;
     assert_eq!(rt; status, Status::Done);
     let calls = disk.calls();
     assert!(rt; image_of(alloc, &disk, 0, &[])?.is_some());
     assert!(rt; image_of(alloc, &disk, 0, &[(KEY, Some(FILE))])?.is_none());
 
-    let mut disk = MemDisk::new(alloc);
-    disk.put_file(place_of(KEY), bytes(alloc, FILE)?)?;
+    let mut disk = disk_with(alloc, KEY, FILE)?;
     disk.stop_after(calls.saturating_sub(1));
     let (status, text) = ends(alloc, &mut disk, "1000 doom :https://example.com/", b"")?;
     assert_eq!(rt; status, Status::Disk);
@@ -120,8 +101,6 @@ fn three_entries(alloc: Global) -> Result<MemDisk, Fail> {
 const OLD: &[u8] = b"found 1 1000 1000 1000 4294967295 0 0 3\n\nold\n";
 
 const NEW: &[u8] = b"found 1 1001 1001 1001 4294967295 0 0 3\n\nnew\n";
-
-const ABSENT: &[u8] = b"absent\n";
 
 // The second entry is written anew and flushed, and the machine stops after each number of calls. Whether in an image
 // the others are found as they were, and the second as it was, as it is now, or not at all: as it is now, where the flush

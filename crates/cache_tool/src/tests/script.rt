@@ -1,18 +1,15 @@
 use super::*;
 use std::test::Fail;
 
-// Runs a script on a disk: the status, and whether just this text is printed.
+// Whether a script ends so on a disk, and just this text is printed.
 fn runs(
     alloc: Global,
     disk: &mut MemDisk,
     script: &[u8],
+    status: Status,
     text: &[u8],
-) -> Result<(Status, bool), Fail> {
-    let words = words_of(alloc, "1000 run")?;
-    let mut source = MemSource::new(alloc, bytes(alloc, script)?);
-    let mut sink = MemSink::new(alloc);
-    let status = run(alloc, &words, &mut source, &mut sink, disk);
-    Ok((status, sink.bytes() == text))
+) -> Result<bool, Fail> {
+    comes_so(alloc, disk, &("1000 run", script, status, text))
 }
 
 // A reader reads on in an entry that was doomed and made anew.
@@ -54,8 +51,8 @@ fn scripts_are_answered(rt: HostRuntime) -> Result<(), Fail> {
         REFUSALS,
     ] {
         let mut disk = MemDisk::new(alloc);
-        let came = runs(alloc, &mut disk, script, text)?;
-        assert_eq!(rt; came, (Status::Done, true), "to {script:?}");
+        let so = runs(alloc, &mut disk, script, Status::Done, text)?;
+        assert!(rt; so, "to {script:?}");
         assert!(rt; disk.file(&Place::Doomed(0)).is_none());
         assert_eq!(rt; disk.name_steps(), 0);
     }
@@ -74,14 +71,14 @@ fn a_bad_command_ends_the_script(rt: HostRuntime) -> Result<(), Fail> {
         ),
     ] {
         let mut disk = MemDisk::new(alloc);
-        let came = runs(alloc, &mut disk, script, text)?;
-        assert_eq!(rt; came, (Status::Script, true), "to {script:?}");
+        let so = runs(alloc, &mut disk, script, Status::Script, text)?;
+        assert!(rt; so, "to {script:?}");
     }
     let mut disk = MemDisk::new(alloc);
     let script =
         b"create 0 :https://example.com/\nappend 0 5\nhello\nclose 0\ncreate 1 :x\nappend 1 1\nab\n";
-    let came = runs(alloc, &mut disk, script, b"ok\nok\nok\nok\nscript 5\n")?;
-    assert_eq!(rt; came, (Status::Script, true));
+    let text = b"ok\nok\nok\nok\nscript 5\n";
+    assert!(rt; runs(alloc, &mut disk, script, Status::Script, text)?);
     assert_eq!(rt; disk.file(&place_of(KEY)).ok_or("no file")?, FILE);
     assert!(rt; disk.file(&place_of(":x")).is_none());
     Ok(())
@@ -117,8 +114,8 @@ fn malformed_lines_are_named(rt: HostRuntime) -> Result<(), Fail> {
         b"get\n",
     ] {
         let mut disk = MemDisk::new(alloc);
-        let came = runs(alloc, &mut disk, script, b"script 1\n")?;
-        assert_eq!(rt; came, (Status::Script, true), "to {script:?}");
+        let so = runs(alloc, &mut disk, script, Status::Script, b"script 1\n")?;
+        assert!(rt; so, "to {script:?}");
     }
     Ok(())
 }
@@ -135,8 +132,8 @@ fn long_lines_are_bad(rt: HostRuntime) -> Result<(), Fail> {
         script.extend(&vec![in alloc; b'x'; len]?)?;
         script.push(b'\n')?;
         let mut disk = MemDisk::new(alloc);
-        let came = runs(alloc, &mut disk, script.as_slice(), text)?;
-        assert_eq!(rt; came, (status, true), "with {len} bytes");
+        let so = runs(alloc, &mut disk, script.as_slice(), status, text)?;
+        assert!(rt; so, "with {len} bytes");
     }
     Ok(())
 }
@@ -150,7 +147,7 @@ fn a_failing_source_ends_the_script(rt: HostRuntime) -> Result<(), Fail> {
     let mut source = MemSource::with_plan(script, one_number(alloc, 3)?, 6);
     let mut sink = MemSink::new(alloc);
     let mut disk = MemDisk::new(alloc);
-    let status = run(alloc, &words, &mut source, &mut sink, &mut disk);
+    let status = call(alloc, &mut disk, &words, &mut source, &mut sink);
     assert_eq!(rt; status, Status::Source);
     assert_eq!(rt; sink.bytes(), b"ok\nok\n".as_slice());
     Ok(())
@@ -165,7 +162,7 @@ fn a_failing_sink_ends_the_script(rt: HostRuntime) -> Result<(), Fail> {
     let mut source = MemSource::new(alloc, script);
     let mut sink = MemSink::with_plan(alloc, one_number(alloc, 2)?);
     let mut disk = MemDisk::new(alloc);
-    let status = run(alloc, &words, &mut source, &mut sink, &mut disk);
+    let status = call(alloc, &mut disk, &words, &mut source, &mut sink);
     assert_eq!(rt; status, Status::Sink);
     assert_eq!(rt; sink.bytes(), b"ok\n".as_slice());
     assert!(rt; disk.file(&place_of(":x")).is_some());

@@ -1,7 +1,7 @@
 use super::*;
 use std::test::Fail;
 
-// A reader reads on after its entry was doomed and written anew.
+// A reader reads on after its entry was doomed and written again.
 #[test]
 fn a_reader_outlives_its_entry(rt: HostRuntime) -> Result<(), Fail> {
     let mut disk = disk_in(&rt)?;

@@ -2,7 +2,7 @@ use Rattle.std.proofs.Common.{length, ◌-◌, ◌≡◌, ◌≤◌, take}
 use Rattle.std.specs.Io.KnownBytes.{Consumes}
 use Rattle.cache_tool.proofs.piece.fill.Given as goal
 
--- the front of the piece is what came from the source, and no read failed
+-- the beginning of the piece is what came from the source, and no read failed
 abbrev pub invariant-reads : goal.invariant-reads
 invariant-reads g l = record {
   within : l.count ≤ length l.piece;

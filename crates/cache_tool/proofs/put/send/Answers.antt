@@ -1,10 +1,11 @@
-use Rattle.cache_store.proofs.StandsAs.{stands_as}
-use Rattle.cache_tool.specs.PutReply.{said_in}
-use Rattle.cache_tool.proofs.PutSent.{sends_of}
+use Rattle.cache_store.proofs.Represented.{represents}
+use Rattle.cache_tool.specs.HeldReply.{said_in}
+use Rattle.cache_tool.proofs.PutReplies.{sends_of}
 use Rattle.cache_tool.proofs.put.send.Goals as goal
 
 pub returns-clause-sends : goal.returns-clause-sends
-returns-clause-sends g c =
-    λ told m w stands.
-    let performs = c.command.ensures.performs told in
-    sends_of _ m w _ _ _ (said_in c.clear.new.self) (said_in c.command.new.sink) c.clear.ensures (performs.answers m (stands_as stands)) (performs.crash m w stands)
+returns-clause-sends g c = λ told. record {
+  each = λ h keeps.
+      let performs = c.command.ensures.performs told in
+      sends_of _ h _ _ (said_in c.clear.new.self) (said_in c.command.new.sink) c.clear.ensures (performs.answers h.machine (represents keeps)) (performs.crash h keeps);
+}

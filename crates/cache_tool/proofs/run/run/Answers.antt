@@ -1,7 +1,7 @@
 -- Where nothing fails, a script that the source spells is performed.
 use Rattle.std.proofs.Common.{◌≡◌, ◌∙◌, Some, ap, subst, sym}
 use Rattle.std.specs.Option.{option_map}
-use Rattle.cache_tool.proofs.RunSpelled.{nothing_failed, script_is_not_bad}
+use Rattle.cache_tool.proofs.RunComplete.{nothing_failed, script_is_not_bad}
 use Rattle.cache_tool.proofs.run.run.Goals as goal
 use Rattle.cache_tool.specs.Asked.{asked}
 use Rattle.cache_tool.specs.Script.{IsScript}

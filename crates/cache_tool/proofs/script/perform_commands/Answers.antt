@@ -1,19 +1,18 @@
 use Rattle.std.proofs.Common.{refl}
-use Rattle.cache_store.specs.Open.{open_of}
-use Rattle.cache_tool.proofs.ScriptGoes.{starts}
+use Rattle.cache_tool.specs.World.{progress}
+use Rattle.cache_tool.proofs.ScriptTurns.{starts}
 use Rattle.cache_tool.proofs.script.perform_commands.Goals as goal
 
 pub turns-init : goal.turns-init
 turns-init g c = record {
-  goes = starts g.D.Disk.tells c.args.reader.now (g.S.Source.left c.args.source.now) (g.D.Disk.state c.args.disk.now) (open_of c.args.store.now) (g.K.Sink.taken c.args.sink.now)
-      c.requires.fresh.0 c.requires.fresh.1 c.requires.fresh.2;
+  goes = starts g.D.Disk.tells c.args.reader.now _ c.requires.fresh.0 c.requires.fresh.1 c.requires.fresh.2;
   open_still = c.requires.told;
-  went_on = λ told. refl;
   source = refl;
   sink = refl;
-  disk = refl;
+  calm = record { faults = refl; no_change = λ told. refl };
 }
 
-pub returns-in-Some-clause-comes : goal.returns-in-Some-clause-comes
-returns-in-Some-clause-comes g c =
-    rw c.in-Some.is at (c.in_ok-ended.ensures.turns.on (g.S.Source.left c.args.source.now) (g.D.Disk.state c.args.disk.now) (open_of c.args.store.now) (g.K.Sink.taken c.args.sink.now) c.turns.invariant.goes)
+pub returns-in-Some-clause-performs : goal.returns-in-Some-clause-performs
+returns-in-Some-clause-performs g c =
+    rw c.in-Some.is at
+    (c.in_ok-ended.ensures.performs.on (progress g.S.Source g.K.Sink g.D.Disk c.args.store.now c.args.source.now c.args.sink.now c.args.disk.now) c.turns.invariant.goes)

@@ -1,20 +1,22 @@
 use Rattle.std.proofs.Common.{◌≡◌, ◌-◌, IsTrue}
 use Rattle.cache_base.specs.declared.limits.TheConstants.{SCRIPT_MAX}
 use Rattle.cache_script.specs.Reader.{given_in}
-use Rattle.cache_store.specs.Open.{IsOpen, open_of}
-use Rattle.cache_tool.specs.ScriptWent.{GoesOn}
+use Rattle.cache_store.specs.Open.{IsOpen}
+use Rattle.cache_store.specs.Session.{session}
+use Rattle.cache_tool.specs.ScriptProgress.{HasPerformed}
+use Rattle.cache_tool.specs.World.{progress}
+use Rattle.disk_model.specs.Account.{IsCalm}
 use Rattle.cache_tool.proofs.script.perform_commands.Given as goal
 
 -- all that was read was performed, and nothing has failed
 abbrev pub invariant-turns : goal.invariant-turns
 invariant-turns g l = record {
-  goes : GoesOn g.D.Disk.tells l.reader (g.S.Source.left l.fn.source) (g.S.Source.left l.source) (g.D.Disk.state l.fn.disk) (g.D.Disk.state l.disk) (open_of l.fn.store) (open_of l.store)
-      (g.K.Sink.taken l.fn.sink) (g.K.Sink.taken l.sink);
-  open_still : IsTrue g.D.Disk.tells → IsOpen (g.D.Disk.state l.disk) (open_of l.store);
-  went_on : IsTrue g.D.Disk.tells → (g.D.Disk.counts l.disk).failed ≡ (g.D.Disk.counts l.fn.disk).failed;
+  goes : let at = progress g.S.Source g.K.Sink g.D.Disk in
+      HasPerformed g.D.Disk.tells l.reader (at l.fn.store l.fn.source l.fn.sink l.fn.disk) (at l.store l.source l.sink l.disk);
+  open_still : IsTrue g.D.Disk.tells → IsOpen (session g.D.Disk l.store l.disk);
   source : g.S.Source.faults l.source ≡ g.S.Source.faults l.fn.source;
   sink : g.K.Sink.faults l.sink ≡ g.K.Sink.faults l.fn.sink;
-  disk : g.D.Disk.faults l.disk ≡ g.D.Disk.faults l.fn.disk;
+  calm : IsCalm g.D.Disk l.fn.disk l.disk;
 }
 
 -- each turn that goes on gives a command more

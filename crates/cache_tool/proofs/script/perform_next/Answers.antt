@@ -1,31 +1,36 @@
 use Rattle.std.proofs.Common.{Err, ap}
 use Rattle.cache_script.specs.Command.{command_of}
-use Rattle.cache_tool.proofs.ScriptGoes.{gives_none, gives_one, turn_bad, turn_err, turn_failed, turn_on, turn_whole}
+use Rattle.cache_tool.specs.World.{progress, supply}
+use Rattle.cache_tool.proofs.ScriptTurns.{gives_none, gives_one, turn_bad, turn_err, turn_failed, turn_on, turn_whole}
 use Rattle.cache_tool.proofs.script.perform_next.Goals as goal
 
-pub returns-in_err-command-in-Ok-Some-clause-turns : goal.returns-in_err-command-in-Ok-Some-clause-turns
-returns-in_err-command-in-Ok-Some-clause-turns g c =
+pub returns-in_err-command-in-Ok-Some-clause-performs : goal.returns-in_err-command-in-Ok-Some-clause-performs
+returns-in_err-command-in-Ok-Some-clause-performs g c =
     let gives = gives_one c.args.reader.now c.next_command.follows.lender-at-none (g.S.Source.left c.args.source.now) (g.S.Source.left c.next_command.new.source) c.next_command.result c.in-Ok-Some.field-0 c.in-Ok-Some.command
     c.in-Ok-Some.is c.in-Ok-Some.field-0-is c.next_command.follows.holds-at-none in
-    turn_err g.D.Disk.tells c.args.reader.now c.next_command.follows.lender-at-none _ _ _ _ _ _ _ _ (command_of c.in-Ok-Some.command) c.in_err-command-in-Ok-Some.field-0.0 c.from_residual.result c.from_residual.ensures.1
+    turn_err g.D.Disk.tells c.args.reader.now c.next_command.follows.lender-at-none _ _ (command_of c.in-Ok-Some.command) c.in_err-command-in-Ok-Some.field-0.0 c.from_residual.result c.from_residual.ensures.1
     gives c.in_err-command-in-Ok-Some.ensures.performs
 
-pub returns-in_ok-command-in-Ok-Some-clause-turns : goal.returns-in_ok-command-in-Ok-Some-clause-turns
-returns-in_ok-command-in-Ok-Some-clause-turns g c =
+pub returns-in_ok-command-in-Ok-Some-clause-performs : goal.returns-in_ok-command-in-Ok-Some-clause-performs
+returns-in_ok-command-in-Ok-Some-clause-performs g c =
     let gives = gives_one c.args.reader.now c.next_command.follows.lender-at-none (g.S.Source.left c.args.source.now) (g.S.Source.left c.next_command.new.source) c.next_command.result c.in-Ok-Some.field-0 c.in-Ok-Some.command
     c.in-Ok-Some.is c.in-Ok-Some.field-0-is c.next_command.follows.holds-at-none in
-    turn_on g.D.Disk.tells c.args.reader.now c.next_command.follows.lender-at-none _ _ _ _ _ _ _ _ (command_of c.in-Ok-Some.command) c.in_ok-command-in-Ok-Some.field-0 gives c.in_ok-command-in-Ok-Some.ensures.performs
+    turn_on g.D.Disk.tells c.args.reader.now c.next_command.follows.lender-at-none _ _ (command_of c.in-Ok-Some.command) c.in_ok-command-in-Ok-Some.field-0 gives c.in_ok-command-in-Ok-Some.ensures.performs
 
-pub returns-in-Ok-None-clause-turns : goal.returns-in-Ok-None-clause-turns
-returns-in-Ok-None-clause-turns g c =
-    turn_whole g.D.Disk.tells c.args.reader.now c.next_command.follows.lender-at-none (g.S.Source.left c.args.source.now) (g.S.Source.left c.next_command.new.source) _ _ _
+pub returns-in-Ok-None-clause-performs : goal.returns-in-Ok-None-clause-performs
+returns-in-Ok-None-clause-performs g c =
+    turn_whole g.D.Disk.tells c.args.reader.now c.next_command.follows.lender-at-none (progress g.S.Source g.K.Sink g.D.Disk c.args.store.now c.args.source.now c.args.sink.now c.args.disk.now)
+    (supply g.S.Source c.next_command.new.source)
     (gives_none c.args.reader.now c.next_command.follows.lender-at-none _ _ c.next_command.result c.in-Ok-None.field-0 c.in-Ok-None.is c.in-Ok-None.field-0-is c.next_command.follows.holds-at-none)
 
-pub returns-in-Err-Source-clause-turns : goal.returns-in-Err-Source-clause-turns
-returns-in-Err-Source-clause-turns g c =
-    turn_failed g.D.Disk.tells c.args.reader.now c.next_command.follows.lender-at-none _ _ _ _ _ (c.in-Err-Source.ensures.failed (ap Err c.in-Err-Source.field-0-is))
+pub returns-in-Err-Source-clause-performs : goal.returns-in-Err-Source-clause-performs
+returns-in-Err-Source-clause-performs g c =
+    turn_failed g.D.Disk.tells c.args.reader.now c.next_command.follows.lender-at-none (progress g.S.Source g.K.Sink g.D.Disk c.args.store.now c.args.source.now c.args.sink.now c.args.disk.now)
+    (supply g.S.Source c.next_command.new.source) (c.in-Err-Source.ensures.failed (ap Err c.in-Err-Source.field-0-is))
 
-pub returns-in-Err-Script-clause-turns : goal.returns-in-Err-Script-clause-turns
-returns-in-Err-Script-clause-turns g c =
+pub returns-in-Err-Script-clause-performs : goal.returns-in-Err-Script-clause-performs
+returns-in-Err-Script-clause-performs g c =
     let bad = rw c.in-Err-Script.field-0-is at c.in-Err-Script.ensures.bad in
-    rw c.in-Err-Script.field-0-is (turn_bad g.D.Disk.tells c.args.reader.now c.next_command.follows.lender-at-none _ _ _ _ _ c.in-Err-Script.number bad.0 bad.1)
+    rw c.in-Err-Script.field-0-is
+    (turn_bad g.D.Disk.tells c.args.reader.now c.next_command.follows.lender-at-none (progress g.S.Source g.K.Sink g.D.Disk c.args.store.now c.args.source.now c.args.sink.now c.args.disk.now)
+    (supply g.S.Source c.next_command.new.source) c.in-Err-Script.number bad.0 bad.1)

@@ -5,7 +5,7 @@ use Rattle.file_handles.proofs.DoomedNumbers.{numbers_more, numbers_same}
 use Rattle.file_handles.proofs.doom.doomed_numbers.Goals as goal
 use Rattle.file_handles.proofs.doom.doomed_numbers.Goals.{in-Some+in-Some-doomed+then-count-lt-SLOTS, in-Some+in-Some-doomed+else-count-lt-SLOTS, in-Some+in_default-doomed, in_default}
 
--- the front of an array is as before where array and count are
+-- the prefix of an array is as before where array and count are
 same_front : (numbers numbers' : List ℕ) (count count' : ℕ) → count' ≡ count → numbers' ≡ numbers → take count' numbers' ≡ take count numbers
 same_front numbers numbers' count count' e f = ap (λ n. take n numbers') e ∙ ap (take count) f
 

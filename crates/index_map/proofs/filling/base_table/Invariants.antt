@@ -7,4 +7,4 @@ use Rattle.index_map.specs.Slots.{IsTable, base_slot}
 use Rattle.index_map.proofs.filling.base_table.Given as goal
 
 abbrev pub invariant-loop-r : goal.invariant-loop-r
-invariant-loop-r l = IsTable l.table × ((q : Name) → lookup (same_name q) l.table ≡ option_map base_slot (record_at (take l.r-index l.base) q))
+invariant-loop-r l = IsTable l.table × ((q : Name) → lookup (same_name q) l.table ≡ option_map (base_slot l.seen) (record_at (take l.r-index l.base) q))

@@ -1,6 +1,9 @@
-use Rattle.std.proofs.Common.{◌≡◌, take}
-use Rattle.index_map.specs.Slots.{current_in}
+use Rattle.std.proofs.Common.{◌≡◌, ◌++◌}
+use Rattle.std.specs.List.{filter_map}
+use Rattle.std.specs.Map.{values_of}
+use Rattle.index_map.specs.Slots.{slots_of}
+use Rattle.index_map.proofs.Shown.{current_of}
 use Rattle.index_map.proofs.listing.current_records.Given as goal
 
-abbrev pub invariant-loop-slot : goal.invariant-loop-slot
-invariant-loop-slot l = l.list.items ≡ current_in (take l.slot-index l.slots)
+abbrev pub invariant-loop-name : goal.invariant-loop-name
+invariant-loop-name l = l.list.items ++ filter_map current_of (values_of (slots_of l.name-iterator)) ≡ filter_map current_of (values_of (slots_of l.slots.entries))

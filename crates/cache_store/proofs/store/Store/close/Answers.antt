@@ -2,10 +2,10 @@ use Rattle.std.proofs.Common.{◌≡◌, rules}
 use Rattle.cache_theory.proofs.Crashes.{safe_is_crash_safe}
 use Rattle.disk_model.specs.Calls.{if_ok}
 use Rattle.disk_model.specs.State.{settled}
-use Rattle.cache_store.proofs.Closed.{crash_from, settled_shut, sync_safe}
+use Rattle.cache_store.proofs.Closed.{crash_from, left_then, settled_shut, sync_safe}
+use Rattle.file_handles.proofs.IndexLeft.{synced_left, then_left}
 use Rattle.cache_store.proofs.store.Store.close.Goals as goal
 
--- the states before and after the sync are named by what was called, so that a call between would leave these proofs as they are
 pub returns-in_err-closed-clause-crash : goal.returns-in_err-closed-clause-crash
 returns-in_err-closed-clause-crash g c = λ told h is. crash_from (g.D.Disk.state c.close_all-closed.new.disk) _ h.marks (search rules) ((c.close_all-closed.ensures.closes told).crash h is.stands)
 
@@ -29,3 +29,20 @@ returns-clause-closes g c = λ told.
 
 pub returns-clause-crash : goal.returns-clause-crash
 returns-clause-crash g c = λ told h is. safe_is_crash_safe _ h.marks ((returns-clause-closes g c told).crash h is)
+
+pub returns-in_err-closed-clause-index : goal.returns-in_err-closed-clause-index
+returns-in_err-closed-clause-index g c = λ told. left_then (g.D.Disk.state c.args.disk.now) (g.D.Disk.state c.close_all-closed.new.disk) _ (c.close_all-closed.ensures.index told) (search rules)
+
+pub returns-in_err-sync-clause-index : goal.returns-in_err-sync-clause-index
+returns-in_err-sync-clause-index g c = λ told.
+    let s = g.D.Disk.state c.close_all-closed.new.disk in
+    let t = g.D.Disk.state c.sync.new.self in
+    let synced : t ≡ if_ok c.sync.result (settled s) s = search rules in
+    then_left (g.D.Disk.state c.args.disk.now) s t (c.close_all-closed.ensures.index told) (synced_left c.sync.result s t (g.met.D.Disk.sound c.close_all-closed.new.disk told) synced)
+
+pub returns-clause-index : goal.returns-clause-index
+returns-clause-index g c = λ told.
+    let s = g.D.Disk.state c.close_all-closed.new.disk in
+    let t = g.D.Disk.state c.sync.new.self in
+    let synced : t ≡ if_ok c.sync.result (settled s) s = search rules in
+    then_left (g.D.Disk.state c.args.disk.now) s t (c.close_all-closed.ensures.index told) (synced_left c.sync.result s t (g.met.D.Disk.sound c.close_all-closed.new.disk told) synced)

@@ -3,6 +3,7 @@ use Rattle.cache_store.specs.Session.{open_of}
 use Rattle.cache_store.proofs.Closed.{sync_safe}
 use Rattle.cache_store.proofs.Opened.{cleared_safe, keeps_found, opened_safe, opened_stands, opens_open}
 use Rattle.cache_store.proofs.Shelves.{shelf_exists}
+use Rattle.file_handles.proofs.IndexLeft.{cleared_left, synced_left, then_left}
 use Rattle.cache_store.proofs.store.Store.open.Goals as goal
 
 pub returns-in_err-handles-clause-safe : goal.returns-in_err-handles-clause-safe
@@ -72,3 +73,16 @@ returns-in_err-sync-clause-shelf g c = λ told. shelf_exists _ (g.met.D.Disk.fin
 
 pub returns-clause-shelf : goal.returns-clause-shelf
 returns-clause-shelf g c = λ told. shelf_exists _ (g.met.D.Disk.finite c.args.disk.now told)
+
+pub returns-in_err-clear-clause-index : goal.returns-in_err-clear-clause-index
+returns-in_err-clear-clause-index g c = λ told. cleared_left _ _ (c.clear.ensures.removes told)
+
+pub returns-in_err-sync-clause-index : goal.returns-in_err-sync-clause-index
+returns-in_err-sync-clause-index g c = λ told.
+    then_left (g.D.Disk.state c.args.disk.now) (g.D.Disk.state c.clear.new.disk) (g.D.Disk.state c.sync.new.self) (cleared_left _ _ (c.clear.ensures.removes told))
+    (synced_left c.sync.result _ _ (g.met.D.Disk.sound c.clear.new.disk told) (c.sync.ensures.state told))
+
+pub returns-clause-index : goal.returns-clause-index
+returns-clause-index g c = λ told.
+    then_left (g.D.Disk.state c.args.disk.now) (g.D.Disk.state c.clear.new.disk) (g.D.Disk.state c.sync.new.self) (cleared_left _ _ (c.clear.ensures.removes told))
+    (synced_left c.sync.result _ _ (g.met.D.Disk.sound c.clear.new.disk told) (c.sync.ensures.state told))

@@ -12,6 +12,7 @@ use Rattle.file_handles.proofs.InChunk.{appends_done, fits_held}
 use Rattle.file_handles.proofs.Places.{filed_somehow}
 use Rattle.file_handles.proofs.WriterCommands.{append_makes}
 use Rattle.file_handles.proofs.Refused.{refused_answer}
+use Rattle.file_handles.proofs.IndexLeft.{change_left}
 use Rattle.file_handles.proofs.handles.Handles.append.Goals as goal
 
 pub append_at-requires-clause-told : goal.append_at-requires-clause-told
@@ -52,3 +53,9 @@ returns-clause-within_reply g c = λ m number proper stand fits.
 pub returns-in_err-place-clause-carried : goal.returns-in_err-place-clause-carried
 returns-in_err-place-clause-carried g c = λ told.
     refused_answer c.from_residual.result (g.D.Disk.state c.args.disk.now) (kept c.args.self.now) (Append c.args.slot c.args.b.now) c.in_err-place.field-0.0 c.from_residual.ensures.1 (c.in_err-place.ensures.refused c.args.b.now refl)
+
+pub returns-clause-index : goal.returns-clause-index
+returns-clause-index g c told =
+    let there = the_object _ _ c.in_ok-place.ensures.object in
+    change_left (g.D.Disk.state c.args.disk.now) (g.D.Disk.state c.append_at.new.disk) (kept c.args.self.now) (kept c.append_at.new.self) c.in_ok-place.place there.0 (appended c.args.b.now) c.append_at.result
+    (g.met.D.Disk.sound c.args.disk.now told) there.1.0 (filed_somehow _ _ _ (c.requires.told told)) (c.append_at.ensures.changes told)

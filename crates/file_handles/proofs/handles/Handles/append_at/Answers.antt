@@ -25,8 +25,8 @@ returns-clause-changes g c tells =
     let b = c.args.b.now in
     let s = g.D.Disk.state c.args.disk.now in
     let t = g.D.Disk.state c.append.new.disk in
-    changes_done c.args.place (appended b) (Ok tt) s t (kept c.args.self.now) (kept c.put.new.self) x c.take-object.ensures.found
+    changes_done c.args.place (appended b) (Ok tt) s t (kept c.args.self.now) (kept c.put_entry.new.self) x c.take-object.ensures.found
     (grown_writes x c.in-Draft.draft c.in-Draft.is b s t c.file_place-file.result c.file_place-file.ensures (c.in_ok-append.ensures.writes tells))
     _
     (grown_becomes x c.in-Draft.draft c.in-Draft.is b s t c.file_place-file.result c.file_place-file.ensures _ refl refl refl c.in_ok-append.ensures.body (c.in_ok-append.ensures.stands tells))
-    (put_back (kept c.args.self.now) (kept c.take-object.new.self) (kept c.put.new.self) c.args.place (Some _) c.take-object.ensures.kept c.put.ensures)
+    (put_back (kept c.args.self.now) (kept c.take-object.new.self) (kept c.put_entry.new.self) c.args.place (Some _) c.take-object.ensures.kept c.put_entry.ensures)

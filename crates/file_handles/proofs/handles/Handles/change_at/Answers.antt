@@ -65,7 +65,7 @@ pub returns-clause-changes : goal.returns-clause-changes
 returns-clause-changes g c told =
     let s = g.D.Disk.state c.args.disk.now in
     let k = kept c.args.self.now in
-    let after = kept c.put.new.self in
+    let after = kept c.put_entry.new.self in
     let x = c.take-object.result in
     elim c.match-entry.branch [
       | in-Draft+in_ok-changed_draft-in-Draft w ↦
@@ -74,7 +74,7 @@ returns-clause-changes g c told =
           record { body = new.others.0; header = new.others.1.0; key = new.others.1.1; elements = new.elements } in
           let t_is : g.D.Disk.state c.match-entry.disk ≡ s = ap g.D.Disk.state w.disk-is in
           let y : Object = record { name = x.name; doomed = x.doomed; entry = Draft w.in_ok-changed_draft-in-Draft.field-0 } in
-          let put = put_back k (kept c.take-object.new.self) after c.args.place _ c.take-object.ensures.kept c.put.ensures ∙ ap (λ (e : Entry). with_object k c.args.place (Some (record { name = x.name; doomed = x.doomed; entry = e }))) w.entry-is in
+          let put = put_back k (kept c.take-object.new.self) after c.args.place _ c.take-object.ensures.kept c.put_entry.ensures ∙ ap (λ (e : Entry). with_object k c.args.place (Some (record { name = x.name; doomed = x.doomed; entry = e }))) w.entry-is in
           subst (λ (u : State). ChangesThere c.args.place (with_version (with_change c.args.change)) (Ok c.rewrote-effect.result) (cache_at k s) (cache_at after u)) (sym t_is)
           (changes_done c.args.place (with_version (with_change c.args.change)) (Ok c.rewrote-effect.result) s s k after x c.take-object.ensures.found (λ o filed. not_written _ _ s)
           y (λ o filed. draft_becomes (changed_by c.args.change) x o s filed w.in-Draft.draft w.in_ok-changed_draft-in-Draft.field-0 w.in-Draft.is with) put)
@@ -85,7 +85,7 @@ returns-clause-changes g c told =
           let t : State = g.D.Disk.state w.rewrite_meta.new.disk in
           let t_is : g.D.Disk.state c.match-entry.disk ≡ t = ap g.D.Disk.state w.disk-is in
           let y : Object = record { name = x.name; doomed = x.doomed; entry = Finished w.in_ok-meta-in-Finished.meta } in
-          let put = put_back k (kept c.take-object.new.self) after c.args.place _ c.take-object.ensures.kept c.put.ensures ∙ ap (λ (e : Entry). with_object k c.args.place (Some (record { name = x.name; doomed = x.doomed; entry = e }))) w.entry-is in
+          let put = put_back k (kept c.take-object.new.self) after c.args.place _ c.take-object.ensures.kept c.put_entry.ensures ∙ ap (λ (e : Entry). with_object k c.args.place (Some (record { name = x.name; doomed = x.doomed; entry = e }))) w.entry-is in
           subst (λ (u : State). ChangesThere c.args.place (with_version (with_change c.args.change)) (Ok c.rewrote-effect.result) (cache_at k s) (cache_at after u)) (sym t_is)
           (changes_done c.args.place (with_version (with_change c.args.change)) (Ok c.rewrote-effect.result) s t k after x c.take-object.ensures.found
           (λ o filed. meta_writes (changed_by c.args.change) x o s filed w.in-Finished.meta w.in_ok-meta-in-Finished.meta w.in-Finished.is with t c.file_place-file.result c.file_place-file.ensures (w.rewrite_meta.ensures.writes told))

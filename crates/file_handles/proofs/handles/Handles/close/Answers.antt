@@ -7,6 +7,7 @@ use Rattle.file_handles.proofs.EffectLaws.{closed_effect}
 use Rattle.file_handles.proofs.ElementSlots.{use_found}
 use Rattle.file_handles.proofs.Histories.{history_of}
 use Rattle.file_handles.proofs.Where.{carries_out}
+use Rattle.file_handles.proofs.IndexLeft.{then_left}
 use Rattle.file_handles.proofs.handles.Handles.close.Goals as goal
 
 pub returns-in_err-used-clause-carried : goal.returns-in_err-used-clause-carried
@@ -38,3 +39,11 @@ pub returns-clause-effect : goal.returns-clause-effect
 returns-clause-effect g c = λ m number stand.
     let used = use_found _ _ (sym c.use_of.ensures ∙ c.in_ok-used.was) in
     closed_effect (kept c.args.self.now) m number stand c.args.slot c.requires.slot c.in_ok-used.used used c.in_ok-effect.effect c.in_ok-effect.ensures.effect
+
+pub returns-in_err-give_up-clause-index : goal.returns-in_err-give_up-clause-index
+returns-in_err-give_up-clause-index g c told =
+    then_left (g.D.Disk.state c.args.disk.now) (g.D.Disk.state c.finish_first.new.disk) (g.D.Disk.state c.give_up.new.disk) (c.finish_first.ensures.index told) (c.give_up.ensures.index told)
+
+pub returns-clause-index : goal.returns-clause-index
+returns-clause-index g c told =
+    then_left (g.D.Disk.state c.args.disk.now) (g.D.Disk.state c.finish_first.new.disk) (g.D.Disk.state c.give_up.new.disk) (c.finish_first.ensures.index told) (c.give_up.ensures.index told)

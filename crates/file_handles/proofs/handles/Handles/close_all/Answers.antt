@@ -1,9 +1,11 @@
-use Rattle.std.proofs.Common.{◌<◌, ◌≤◌, length, sym, ap, subst, ◌∙◌, arith}
+use Rattle.std.proofs.Common.{◌<◌, ◌≤◌, length, Ok, sym, ap, subst, ◌∙◌, arith}
 use Rattle.std.proofs.lemmas.Result.{IfOk-from_err}
 use Rattle.disk_model.specs.Account.{IsCalm}
+use Rattle.index_theory.specs.Leaves.{LeavesIndex}
 use Rattle.file_handles.specs.Kept.{kept}
 use Rattle.file_handles.proofs.Accounting.{calm_then}
 use Rattle.file_handles.proofs.ClosedAll.{IsDroppedTo, all_closed, all_failed, item_at, next_somehow, none_dropped, one_dropped}
+use Rattle.file_handles.proofs.IndexLeft.{dropped_left, then_left}
 use Rattle.file_handles.proofs.handles.Handles.close_all.Goals.{in-Some+in_ok-drop_file, in_default}
 use Rattle.file_handles.proofs.handles.Handles.close_all.Goals as goal
 
@@ -35,12 +37,15 @@ loop-object-preserved g c =
         long = before.long;
         to = λ told. one_dropped k i w.in-Some.object s t (g.D.Disk.state c.match-object.disk) (item_at k i c.object-item.result _ within w.in-Some.is)
             (ap g.D.Disk.state w.disk-is ∙ w.in_ok-drop_file.ensures.state told) (before.to told);
+        left = λ told. then_left s t (g.D.Disk.state c.match-object.disk) (before.left told)
+            (dropped_left {T = Unit {0}} (Ok tt) t (g.D.Disk.state c.match-object.disk) w.in-Some.object (ap g.D.Disk.state w.disk-is ∙ w.in_ok-drop_file.ensures.state told));
         calm = subst (IsCalm g.D.Disk c.args.disk.now) (sym w.disk-is) (calm_then g.D.Disk _ _ _ before.calm w.in_ok-drop_file.ensures.account);
       }
       | in_default w ↦ record {
         long = before.long;
         to = λ told. none_dropped k i s (g.D.Disk.state c.match-object.disk) (item_at k i c.object-item.result _ within w.in_default.is)
             (subst (λ d. IsDroppedTo k i s (g.D.Disk.state d)) (sym w.disk-is) (before.to told));
+        left = λ told. subst (λ d. LeavesIndex s (g.D.Disk.state d)) (sym w.disk-is) (before.left told);
         calm = subst (IsCalm g.D.Disk c.args.disk.now) (sym w.disk-is) before.calm;
       }
     ]
@@ -49,3 +54,11 @@ pub returns-clause-closes : goal.returns-clause-closes
 returns-clause-closes g c told =
     let all : length c.args.self.objects ≤ c.loop-object.object-index = let l = c.loop-object.invariant.long in let a = c.loop-object-test.false in omega (arith, l, a) in
     all_closed (g.D.Disk.state c.args.disk.now) (g.D.Disk.state c.loop-object.disk) (kept c.args.self) c.loop-object.object-index all (c.loop-object.invariant.to told)
+
+pub returns-in_err-drop_file-clause-index : goal.returns-in_err-drop_file-clause-index
+returns-in_err-drop_file-clause-index g c told =
+    then_left (g.D.Disk.state c.args.disk.now) (g.D.Disk.state c.loop-object.disk) (g.D.Disk.state c.drop_file.new.disk) (c.loop-object.invariant.left told)
+    (dropped_left c.drop_file.result _ _ c.in-Some.object (c.drop_file.ensures.state told))
+
+pub returns-clause-index : goal.returns-clause-index
+returns-clause-index g c told = c.loop-object.invariant.left told

@@ -8,6 +8,7 @@ use Rattle.file_handles.proofs.CreatedCommand.{added_leaves, bad_key_leaves, doo
 use Rattle.file_handles.proofs.DoomedCommand.{failed_on_leaves}
 use Rattle.file_handles.proofs.JoinedOpen.{used_none}
 use Rattle.file_handles.proofs.Where.{carries_out_at}
+use Rattle.file_handles.proofs.IndexLeft.{made_left, then_left}
 use Rattle.file_handles.proofs.handles.Handles.create.Goals as goal
 
 pub returns-then-is_ok-clause-carried : goal.returns-then-is_ok-clause-carried
@@ -88,3 +89,18 @@ returns-clause-carried g c = λ tells. carries_out_at (λ b m w moment stand.
     added_leaves s k c.args.slot c.args.key.now c.name_of-name.result may m w stand (g.D.Disk.state c.doom_user.new.disk) (g.D.Disk.state c.drafted.new.disk) (kept c.doom_user.new.self)
     (g.met.D.Disk.sound c.doom_user.new.disk tells) but (kept c.add.new.self) c.in_ok-object.object (all_below 256 c.args.key.now (λ i. omega (arith, c.type_inv.key i))) (c.in_ok-object.ensures.state tells).made
     (subst (λ n. IsHeldAs c.in_ok-object.object (fresh n c.args.key.now)) (sym moment) c.in_ok-object.ensures.draft.1) c.in_ok-add.ensures.added (omega arith) (λ p lt. omega arith))
+
+pub returns-in_err-object-clause-index : goal.returns-in_err-object-clause-index
+returns-in_err-object-clause-index g c told =
+    then_left (g.D.Disk.state c.args.disk.now) (g.D.Disk.state c.doom_user.new.disk) (g.D.Disk.state c.drafted.new.disk) (c.doom_user.ensures.index told)
+    (made_left c.drafted.result _ _ c.name_of-name.result (g.met.D.Disk.sound c.doom_user.new.disk told) (c.drafted.ensures.state told))
+
+pub returns-in_err-add-clause-index : goal.returns-in_err-add-clause-index
+returns-in_err-add-clause-index g c told =
+    then_left (g.D.Disk.state c.args.disk.now) (g.D.Disk.state c.doom_user.new.disk) (g.D.Disk.state c.drafted.new.disk) (c.doom_user.ensures.index told)
+    (made_left c.drafted.result _ _ c.name_of-name.result (g.met.D.Disk.sound c.doom_user.new.disk told) (c.drafted.ensures.state told))
+
+pub returns-clause-index : goal.returns-clause-index
+returns-clause-index g c told =
+    then_left (g.D.Disk.state c.args.disk.now) (g.D.Disk.state c.doom_user.new.disk) (g.D.Disk.state c.drafted.new.disk) (c.doom_user.ensures.index told)
+    (made_left c.drafted.result _ _ c.name_of-name.result (g.met.D.Disk.sound c.doom_user.new.disk told) (c.drafted.ensures.state told))

@@ -13,6 +13,7 @@ use Rattle.file_handles.proofs.Begun.{begun_in}
 use Rattle.file_handles.proofs.DoomedCommand.{bare_stands, doom_touches, doomed_leaves, failed_on_leaves, no_refusal, none_if, refused_on_leaves, remove_fails, removed_leaves, some_if}
 use Rattle.file_handles.proofs.Histories.{history_of}
 use Rattle.file_handles.proofs.Where.{carries_out}
+use Rattle.file_handles.proofs.IndexLeft.{removed_left, same_left, then_left}
 use Rattle.file_handles.proofs.handles.Handles.doom.Goals as goal
 
 pub returns-in_err-name-clause-carried : goal.returns-in_err-name-clause-carried
@@ -81,3 +82,26 @@ returns-else-not-branch-clause-carried g c = λ tells. carries_out (λ b m w sta
     let some = some_if (position (is_user name) k.objects) c.in_ok-doom_user.field-0 c.in_ok-doom_user.ensures.some c.if-not-branch.false in
     let doomed = (c.in_ok-doom_user.ensures.dooms tells some).leaves b (history_of m (begun m (Doom key) w)) (doom_touches key name.0 m w named fine) (begun_in s k m (Doom key) w there) in
     doomed_leaves (g.D.Disk.state c.doom_user.new.disk) (kept c.doom_user.new.self) key name.0 m w named fine doomed.next)
+
+pub returns-in_err-name-clause-index : goal.returns-in_err-name-clause-index
+returns-in_err-name-clause-index g c told = same_left (c.may_doom.ensures.looks.state told)
+
+pub returns-in_err-doom_user-clause-index : goal.returns-in_err-doom_user-clause-index
+returns-in_err-doom_user-clause-index g c told =
+    then_left (g.D.Disk.state c.args.disk.now) (g.D.Disk.state c.may_doom.new.disk) (g.D.Disk.state c.doom_user.new.disk) (same_left (c.may_doom.ensures.looks.state told)) (c.doom_user.ensures.index told)
+
+pub returns-else-not-branch-clause-index : goal.returns-else-not-branch-clause-index
+returns-else-not-branch-clause-index g c told =
+    then_left (g.D.Disk.state c.args.disk.now) (g.D.Disk.state c.may_doom.new.disk) (g.D.Disk.state c.doom_user.new.disk) (same_left (c.may_doom.ensures.looks.state told)) (c.doom_user.ensures.index told)
+
+pub returns-in_err-remove-clause-index : goal.returns-in_err-remove-clause-index
+returns-in_err-remove-clause-index g c told =
+    then_left (g.D.Disk.state c.args.disk.now) (g.D.Disk.state c.doom_user.new.disk) (g.D.Disk.state c.remove.new.self)
+    (then_left _ (g.D.Disk.state c.may_doom.new.disk) _ (same_left (c.may_doom.ensures.looks.state told)) (c.doom_user.ensures.index told))
+    (removed_left c.remove.result _ _ c.in_ok-name.name (c.remove.ensures.state told))
+
+pub returns-in_ok-remove-clause-index : goal.returns-in_ok-remove-clause-index
+returns-in_ok-remove-clause-index g c told =
+    then_left (g.D.Disk.state c.args.disk.now) (g.D.Disk.state c.doom_user.new.disk) (g.D.Disk.state c.remove.new.self)
+    (then_left _ (g.D.Disk.state c.may_doom.new.disk) _ (same_left (c.may_doom.ensures.looks.state told)) (c.doom_user.ensures.index told))
+    (removed_left c.remove.result _ _ c.in_ok-name.name (c.remove.ensures.state told))

@@ -12,6 +12,7 @@ use Rattle.file_handles.proofs.DoomedUser.{dooms_not, dooms_there, least_free, u
 use Rattle.file_handles.proofs.FirstFree.{few_numbers, takes_first}
 use Rattle.file_handles.proofs.Histories.{history_of}
 use Rattle.file_handles.proofs.User.{user_is_there}
+use Rattle.file_handles.proofs.IndexLeft.{doomed_left}
 use Rattle.file_handles.proofs.handles.Handles.doom_at.Goals as goal
 
 pub take-object-requires-clause-there : goal.take-object-requires-clause-there
@@ -36,9 +37,9 @@ returns-clause-dooms g c = λ tells. record {
       let s = g.D.Disk.state c.args.disk.now in
       let k = kept c.args.self.now in
       let free = subst (λ xs. IsLeastFree xs c.in_ok-number.number) c.doomed_numbers-doomed.ensures.numbers c.in_ok-number.ensures.number in
-      let done = dooms_there s (g.D.Disk.state c.doom.new.disk) k (kept c.take-object.new.self) (kept c.put.new.self) c.args.name.now c.args.place c.take-object.result c.in_ok-number.number
+      let done = dooms_there s (g.D.Disk.state c.doom.new.disk) k (kept c.take-object.new.self) (kept c.put_entry.new.self) c.args.name.now c.args.place c.take-object.result c.in_ok-number.number
       (g.met.D.Disk.sound c.args.disk.now tells) c.requires.user c.take-object.ensures.found free
-      (c.in_ok-number.ensures.state c.in_ok-number.number c.in_ok-number.ensures.number tells) c.take-object.ensures.kept c.put.ensures h.machine h.marks touched stand in
+      (c.in_ok-number.ensures.state c.in_ok-number.number c.in_ok-number.ensures.number tells) c.take-object.ensures.kept c.put_entry.ensures h.machine h.marks touched stand in
       record { safe = done.0; next = done.1 };
 }
 
@@ -62,3 +63,11 @@ returns-clause-numbered g c = λ tells.
     (subst (λ xs. IsLeastFree xs n) c.doomed_numbers-doomed.ensures.numbers c.in_ok-number.ensures.number)
     (few_numbers _ _ _ c.doomed_numbers-doomed.ensures.numbers few)
     (g.D.Disk.state c.doom.new.disk) (Ok n) (c.in_ok-number.ensures.state n c.in_ok-number.ensures.number tells)
+
+pub returns-in_err-number-clause-index : goal.returns-in_err-number-clause-index
+returns-in_err-number-clause-index g c told =
+    doomed_left c.doom.result (g.D.Disk.state c.args.disk.now) (g.D.Disk.state c.doom.new.disk) c.args.name.now _ (g.met.D.Disk.sound c.args.disk.now told) (λ n least. c.doom.ensures.state n least told)
+
+pub returns-clause-index : goal.returns-clause-index
+returns-clause-index g c told =
+    doomed_left c.doom.result (g.D.Disk.state c.args.disk.now) (g.D.Disk.state c.doom.new.disk) c.args.name.now _ (g.met.D.Disk.sound c.args.disk.now told) (λ n least. c.doom.ensures.state n least told)

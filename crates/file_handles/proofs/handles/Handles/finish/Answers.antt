@@ -9,6 +9,7 @@ use Rattle.file_handles.proofs.ElementChecks.{both_right, the_object}
 use Rattle.file_handles.proofs.Places.{filed_somehow}
 use Rattle.file_handles.proofs.WriterCommands.{finish_makes}
 use Rattle.file_handles.proofs.Refused.{refused_answer}
+use Rattle.file_handles.proofs.IndexLeft.{change_left}
 use Rattle.file_handles.proofs.handles.Handles.finish.Goals as goal
 
 pub finish_at-requires-clause-told : goal.finish_at-requires-clause-told
@@ -37,3 +38,9 @@ returns-clause-effect g c =
 pub returns-in_err-place-clause-carried : goal.returns-in_err-place-clause-carried
 returns-in_err-place-clause-carried g c = λ told.
     refused_answer c.from_residual.result (g.D.Disk.state c.args.disk.now) (kept c.args.self.now) (Finish c.args.slot) c.in_err-place.field-0.0 c.from_residual.ensures.1 c.in_err-place.ensures.refused
+
+pub returns-clause-index : goal.returns-clause-index
+returns-clause-index g c told =
+    let there = the_object _ _ c.in_ok-place.ensures.object in
+    change_left (g.D.Disk.state c.args.disk.now) (g.D.Disk.state c.finish_at.new.disk) (kept c.args.self.now) (kept c.finish_at.new.self) c.in_ok-place.place there.0 (completed) c.finish_at.result
+    (g.met.D.Disk.sound c.args.disk.now told) there.1.0 (filed_somehow _ _ _ (c.requires.told told)) (c.finish_at.ensures.changes told)

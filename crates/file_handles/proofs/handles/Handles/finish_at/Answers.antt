@@ -23,8 +23,8 @@ returns-clause-changes g c tells =
     let x = c.take-object.result in
     let s = g.D.Disk.state c.args.disk.now in
     let t = g.D.Disk.state c.finish.new.disk in
-    changes_done c.args.place completed (Ok c.wrote-effect.result) s t (kept c.args.self.now) (kept c.put.new.self) x c.take-object.ensures.found
+    changes_done c.args.place completed (Ok c.wrote-effect.result) s t (kept c.args.self.now) (kept c.put_entry.new.self) x c.take-object.ensures.found
     (completed_writes x c.in-Draft.draft c.in-Draft.is s t c.file_place-file.result c.file_place-file.ensures (c.in_ok-meta.ensures.writes tells))
     _
     (completed_becomes x c.in-Draft.draft c.in-Draft.is s t c.file_place-file.result c.file_place-file.ensures c.in_ok-meta.meta c.in_ok-meta.ensures.meta (c.in_ok-meta.ensures.stands tells))
-    (put_back (kept c.args.self.now) (kept c.take-object.new.self) (kept c.put.new.self) c.args.place (Some _) c.take-object.ensures.kept c.put.ensures)
+    (put_back (kept c.args.self.now) (kept c.take-object.new.self) (kept c.put_entry.new.self) c.args.place (Some _) c.take-object.ensures.kept c.put_entry.ensures)

@@ -3,7 +3,10 @@ use Rattle.cache_theory.specs.Command.Command.{Close}
 use Rattle.file_handles.specs.Kept.{kept}
 use Rattle.file_handles.proofs.Begun.{begun_in}
 use Rattle.file_handles.proofs.ClosedSlot.{draft_there, finished_in, finished_may, finished_safe, may_give_up, told_then, unchanged_in}
+use Rattle.file_handles.proofs.ElementChecks.{the_object}
 use Rattle.file_handles.proofs.Places.{filed_somehow}
+use Rattle.file_handles.proofs.IndexLeft.{change_left}
+use Rattle.file_handles.specs.Changes.{completed}
 use Rattle.file_handles.proofs.handles.Handles.finish_first.Goals as goal
 
 pub finish_at-requires-clause-draft : goal.finish_at-requires-clause-draft
@@ -50,3 +53,9 @@ pub returns-else-is_finished_by-clause-there : goal.returns-else-is_finished_by-
 returns-else-is_finished_by-clause-there g c told =
     let stands = c.requires.told told in
     may_give_up (g.D.Disk.state c.args.disk.now) (kept c.args.self.now) c.args.slot c.requires.slot c.args.used c.requires.used stands.0 stands.1.0 stands.1.1
+
+pub returns-then-is_finished_by-clause-index : goal.returns-then-is_finished_by-clause-index
+returns-then-is_finished_by-clause-index g c told =
+    let there = the_object _ _ (draft_there c.args.used.writes _ (sym c.is_finished_by.ensures ∙ c.if-is_finished_by.true)) in
+    change_left (g.D.Disk.state c.args.disk.now) (g.D.Disk.state c.finish_at.new.disk) (kept c.args.self.now) (kept c.finish_at.new.self) c.args.used.place there.0 (completed) c.finish_at.result
+    (g.met.D.Disk.sound c.args.disk.now told) there.1.0 (filed_somehow _ _ _ (c.requires.told told)) (c.finish_at.ensures.changes told)

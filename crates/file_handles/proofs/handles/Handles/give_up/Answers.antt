@@ -2,6 +2,7 @@ use Rattle.std.proofs.Common.{None, sym, ◌∙◌, length-set}
 use Rattle.file_handles.specs.Kept.{kept}
 use Rattle.file_handles.proofs.ElementChecks.{not_there}
 use Rattle.file_handles.proofs.ReleasedSlot.{last_given_or, safe_may_go, shared_given}
+use Rattle.file_handles.proofs.IndexLeft.{let_go_left}
 use Rattle.file_handles.proofs.handles.Handles.give_up.Goals as goal
 
 pub returns-then-is_used-clause-gives_up : goal.returns-then-is_used-clause-gives_up
@@ -26,3 +27,6 @@ returns-in-Some-clause-gives_up g c tells = record {
         (kept c.take_any.new.self) c.let_go.result (sym c.is_used.ensures.used ∙ c.if-is_used.false) (sym c.take_any.ensures.found ∙ c.in-Some.is) (c.let_go.ensures.state tells) c.take_any.ensures.kept;
   };
 }
+
+pub returns-in-Some-clause-index : goal.returns-in-Some-clause-index
+returns-in-Some-clause-index g c told = let_go_left c.let_go.result _ _ c.in-Some.object (c.let_go.ensures.state told)

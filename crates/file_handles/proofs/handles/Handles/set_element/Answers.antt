@@ -14,6 +14,7 @@ use Rattle.file_handles.proofs.ElementChecks.{both_right, the_object}
 use Rattle.file_handles.proofs.ElementCommands.{set_leaves}
 use Rattle.file_handles.proofs.Places.{filed_somehow}
 use Rattle.file_handles.proofs.Refused.{refused_answer}
+use Rattle.file_handles.proofs.IndexLeft.{change_left}
 use Rattle.file_handles.proofs.handles.Handles.set_element.Goals as goal
 
 pub change_at-requires-clause-told : goal.change_at-requires-clause-told
@@ -50,3 +51,9 @@ returns-clause-effect g c =
 pub returns-in_err-place-clause-carried : goal.returns-in_err-place-clause-carried
 returns-in_err-place-clause-carried g c = λ told.
     refused_answer c.from_residual.result (g.D.Disk.state c.args.disk.now) (kept c.args.self.now) (SetElement c.args.slot c.args.name.now c.args.value.now) c.in_err-place.field-0.0 c.from_residual.ensures.1 c.in_err-place.ensures.refused
+
+pub returns-clause-index : goal.returns-clause-index
+returns-clause-index g c told =
+    let there = the_object _ _ c.in_ok-place.ensures.object in
+    change_left (g.D.Disk.state c.args.disk.now) (g.D.Disk.state c.change_at.new.disk) (kept c.args.self.now) (kept c.change_at.new.self) c.in_ok-place.place there.0 (_) c.change_at.result
+    (g.met.D.Disk.sound c.args.disk.now told) there.1.0 (filed_somehow _ _ _ (c.requires.told told)) (c.change_at.ensures.changes told)

@@ -15,6 +15,7 @@ use Rattle.file_handles.proofs.ElementEntries.{room_without}
 use Rattle.file_handles.proofs.ElementReads.{mapped_none, mapped_some, unset_none_leaves}
 use Rattle.file_handles.proofs.Places.{filed_somehow}
 use Rattle.file_handles.proofs.Refused.{refused_answer_or_none}
+use Rattle.file_handles.proofs.IndexLeft.{change_left}
 use Rattle.file_handles.proofs.handles.Handles.unset_element.Goals as goal
 
 pub returns-then-is_none-clause-carried : goal.returns-then-is_none-clause-carried
@@ -74,3 +75,13 @@ returns-clause-effect g c = λ m number stand.
 pub returns-in_err-place-clause-carried : goal.returns-in_err-place-clause-carried
 returns-in_err-place-clause-carried g c = λ told.
     refused_answer_or_none c.from_residual.result (g.D.Disk.state c.args.disk.now) (kept c.args.self.now) (UnsetElement c.args.slot c.args.name.now) c.in_err-place.field-0.0 c.from_residual.ensures.1 (c.in_err-place.ensures.refused c.args.name.now)
+
+pub returns-in_err-effect-clause-index : goal.returns-in_err-effect-clause-index
+returns-in_err-effect-clause-index g c told =
+    change_left (g.D.Disk.state c.args.disk.now) (g.D.Disk.state c.change_at.new.disk) (kept c.args.self.now) (kept c.change_at.new.self) c.in_ok-place.place c.in_ok-object_at.field-0.now (_) c.change_at.result
+    (g.met.D.Disk.sound c.args.disk.now told) c.in_ok-object_at.ensures.found (filed_somehow _ _ _ (c.requires.told told)) (c.change_at.ensures.changes told)
+
+pub returns-clause-index : goal.returns-clause-index
+returns-clause-index g c told =
+    change_left (g.D.Disk.state c.args.disk.now) (g.D.Disk.state c.change_at.new.disk) (kept c.args.self.now) (kept c.change_at.new.self) c.in_ok-place.place c.in_ok-object_at.field-0.now (_) c.change_at.result
+    (g.met.D.Disk.sound c.args.disk.now told) c.in_ok-object_at.ensures.found (filed_somehow _ _ _ (c.requires.told told)) (c.change_at.ensures.changes told)

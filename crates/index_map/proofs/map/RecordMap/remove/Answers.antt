@@ -1,7 +1,7 @@
 use Rattle.std.proofs.Common.{Some, None, refl, subst, true}
 use Rattle.std.specs.Prelude.{OnOk}
 use Rattle.index_map.specs.Known.{Sets}
-use Rattle.index_map.specs.Slots.{Puts, shown}
+use Rattle.index_map.specs.Slots.{Puts, record_of, shown}
 use Rattle.index_map.proofs.Shown.{puts_sets}
 use Rattle.index_map.proofs.Steps.{base_fits}
 use Rattle.index_map.proofs.map.RecordMap.remove.Goals as goal
@@ -9,7 +9,7 @@ use Rattle.index_map.proofs.map.RecordMap.remove.Goals as goal
 pub put-requires : goal.put-requires
 put-requires c = record {
   current = tt;
-  base = base_fits c.self.inside.table c.args.name.now (Some c.in-Some.base) c.in-Some.ensures.table c.in-Some.ensures.base;
+  base = base_fits c.self.inside.table c.args.name.now (Some (record_of c.args.name.now c.in-Some.base)) c.in-Some.ensures.table c.in-Some.ensures.base;
 }
 
 pub returns-in-None : goal.returns-in-None
@@ -24,7 +24,7 @@ returns-in-Some c =
     let new = c.put.new.self in
     let has_base = c.self.inside.has_base in
     let name = c.args.name.now in
-    let slot = Some (record { current = None; seen = true; base = Some c.in-Some.base }) in
+    let slot = Some (record { current = None; seen = true; base = Some (record_of name c.in-Some.base) }) in
     let puts = subst (λ r. OnOk r (Puts old new name slot)) c.unwrap.ensures c.put.ensures.ok in
     subst (λ m. Sets m (shown new has_base) name None) c.self.view_is
     (puts_sets old new has_base name slot None c.put.ensures.was_table c.put.ensures.table puts refl refl c.in-Some.ensures.base)

@@ -1,0 +1,164 @@
+-- What is performed of a script, turn by turn.
+use Rattle.std.proofs.Common.{◌≡◌, ℕ, ◌+◌, List, [], ◌∷◌, ◌++◌, take, Option, None, Some, Result, Ok, Err, IsErrAnd, refl, sym, ap, subst, ◌∙◌, arith, append_assoc, append-nil, length-append}
+use Rattle.std.specs.Io.KnownBytes.{Appends}
+use Rattle.std.specs.Prelude.{Bool, IsTrue}
+use Rattle.std.proofs.KnownBytes.{Appends-nil, Appends-trans}
+use Rattle.cache_script.specs.Command.{command_of}
+use Rattle.cache_script.specs.Reader.{BreaksOff, Ends, Gives, IsBadScript, Leaves, given_in, held_in, rest_of, used_in}
+use Rattle.cache_script.specs.declared.command.Command.{Command as Given}
+use Rattle.cache_script.specs.declared.reader.Reader.{Reader}
+use Rattle.cache_script.specs.declared.reader.ScriptFault.{ScriptFault}
+use Rattle.cache_store.specs.Open.{KeepsTo}
+use Rattle.cache_store.specs.Performing.{PerformsFor}
+use Rattle.cache_store.specs.declared.fault.Outcome.{Outcome}
+use Rattle.cache_store.specs.declared.fault.StoreFault.{StoreFault}
+use Rattle.cache_store.proofs.Represented.{represents}
+use Rattle.cache_theory.specs.Command.{Command}
+use Rattle.cache_theory.specs.History.{History, acked}
+use Rattle.cache_theory.specs.Machine.{Machine}
+use Rattle.cache_theory.specs.Step.{after, step}
+use Rattle.cache_theory.specs.Text.{replies_text, reply_text}
+use Rattle.cache_tool.specs.ScriptProgress.{EndsScript, FailsAfter, HasPerformed, PerformsAll, PerformsNext, all_answered}
+use Rattle.cache_tool.specs.World.{Progress, Supply}
+use Rattle.cache_tool.specs.declared.script.Ended.{Ended}
+use Rattle.cache_tool.specs.declared.script.Ended.TheVariants as ended
+use Rattle.cache_tool.proofs.Moments.{with_source}
+use Rattle.cache_tool.proofs.ScriptBytes.{more_length, nothing_read, read_bad, read_front, read_on, read_taken, read_whole}
+
+-- the machine after some commands and one more
+pub after_more : (m : Machine) (cs : List Command) (c : Command) → after m (cs ++ c ∷ []) ≡ (step (after m cs) c).next
+after_more m [] c = refl
+after_more m (d ∷ cs) c = after_more (step m d).next cs c
+
+-- and so the history
+answered_more : (cs : List Command) (c : Command) (h : History) → all_answered (cs ++ c ∷ []) h ≡ acked c (all_answered cs h)
+answered_more [] c h = refl
+answered_more (d ∷ cs) c h = answered_more cs c (acked d h)
+
+-- the replies to some commands and to more
+pub replies_text_joined : (m : Machine) (cs ds : List Command) → replies_text m (cs ++ ds) ≡ replies_text m cs ++ replies_text (after m cs) ds
+replies_text_joined m [] ds = refl
+replies_text_joined m (c ∷ cs) ds =
+    ap (λ text. reply_text (step m c).reply ++ text) (replies_text_joined (step m c).next cs ds)
+    ∙ sym (append_assoc (reply_text (step m c).reply) (replies_text (step m c).next cs) (replies_text (after (step m c).next cs) ds))
+
+replies_text_more : (m : Machine) (cs : List Command) (c : Command) → replies_text m (cs ++ c ∷ []) ≡ replies_text m cs ++ reply_text (step (after m cs) c).reply
+replies_text_more m cs c = replies_text_joined m cs (c ∷ []) ∙ ap (λ l. replies_text m cs ++ l) (append-nil (reply_text (step (after m cs) c).reply))
+
+module _ (before : Progress) where
+  -- nothing was performed
+  none_performed : PerformsAll [] before before
+  none_performed = record { each = λ h keeps. record { stands = keeps; out = Appends-nil before.taken } }
+
+  -- one command more was performed
+  one_performed : (mid now : Progress) (cs : List Command) (c : Command) (o : Outcome) → PerformsAll cs before mid
+      → PerformsFor c (Ok o) mid.session now.session mid.taken now.taken → PerformsAll (cs ++ c ∷ []) before now
+  one_performed mid now cs c o performs next = record {
+    each = λ h keeps.
+        let so_far = performs.each h keeps in
+        let said = next.answers (after h.machine cs) (represents so_far.stands) in
+        let kept = next.crash (all_answered cs h) so_far.stands in
+        record {
+          stands = subst (λ x. KeepsTo now.session x) (sym (answered_more cs c h)) kept.next;
+          out =
+              subst (Appends before.taken now.taken) (sym (replies_text_more h.machine cs c))
+              (Appends-trans before.taken mid.taken now.taken (replies_text h.machine cs) (reply_text (step (after h.machine cs) c).reply) so_far.out said.printed);
+        };
+  }
+
+  -- it failed
+  one_failed : (mid now : Progress) (cs : List Command) (c : Command) (f : StoreFault) → PerformsAll cs before mid
+      → PerformsFor c (Err f) mid.session now.session mid.taken now.taken → FailsAfter cs c f before now
+  one_failed mid now cs c f performs next = record {
+    each = λ h keeps.
+        let so_far = performs.each h keeps in
+        let said = next.answers (after h.machine cs) (represents so_far.stands) in
+        let kept = next.crash (all_answered cs h) so_far.stands in
+        record {
+          safe = kept.safe;
+          cut = said.cut.0;
+          short = said.cut.1.0;
+          out = Appends-trans before.taken mid.taken now.taken (replies_text h.machine cs) (take said.cut.0 (reply_text (step (after h.machine cs) c).reply)) so_far.out said.cut.1.1;
+          effect = kept.unanswered;
+        };
+  }
+
+-- ---- one turn
+
+-- what a call of the reader leaves
+pub gives_one : (r q : Reader) (left now : Option (List ℕ)) (answer : Result (Option Given) ScriptFault) (o : Option Given) (c : Given) → answer ≡ Ok o → o ≡ Some c → Leaves r q left now answer
+    → Gives r q left now (command_of c)
+gives_one r q left now answer o c is some leaves = subst (λ a. Leaves r q left now a) (is ∙ ap Ok some) leaves
+
+pub gives_none : (r q : Reader) (left now : Option (List ℕ)) (answer : Result (Option Given) ScriptFault) (o : Option Given) → answer ≡ Ok o → o ≡ None → Leaves r q left now answer
+    → Ends r q left now
+gives_none r q left now answer o is none leaves = subst (λ a. Leaves r q left now a) (is ∙ ap Ok none) leaves
+
+pub starts : (tells : Bool) (r : Reader) (before : Progress) → held_in r ≡ [] → given_in r ≡ 0 → used_in r ≡ 0 → HasPerformed tells r before before
+starts tells r before held given used = record {
+  commands = [];
+  read = nothing_read before.source.left (held_in r) held;
+  given = given;
+  used = used;
+  performs = λ told. none_performed before;
+}
+
+module _ (tells : Bool) (r q : Reader) (mid now : Progress) where
+  -- a command was performed
+  pub turn_on : (c : Command) (outcome : Outcome) → Gives r q mid.source.left now.source.left c
+      → (IsTrue tells → PerformsFor c (Ok outcome) mid.session now.session mid.taken now.taken) → PerformsNext tells (Ok None) r q mid now
+  turn_on c outcome gives performs = record {
+    on = λ before goes. record {
+      commands = goes.commands ++ c ∷ [];
+      read = read_on r q before.source.left mid.source.left now.source.left goes.commands c goes.read goes.used gives;
+      given = omega (arith, goes.given, gives.given, length-append goes.commands (c ∷ []));
+      used = gives.used ∙ omega (arith, goes.used, more_length goes.commands c);
+      performs = λ told. one_performed before mid now goes.commands c outcome (goes.performs told) (performs told);
+    };
+  }
+
+  -- a command failed
+  turn_off : (c : Command) (f : StoreFault) → Gives r q mid.source.left now.source.left c
+      → (IsTrue tells → PerformsFor c (Err f) mid.session now.session mid.taken now.taken) → PerformsNext tells (Err f) r q mid now
+  turn_off c f gives performs = record {
+    on = λ before goes. record {
+      commands = goes.commands;
+      last = c;
+      front =
+          read_front before.source.left now.source.left (goes.commands ++ c ∷ []) (held_in q)
+          (read_on r q before.source.left mid.source.left now.source.left goes.commands c goes.read goes.used gives);
+      fails = λ told. one_failed before mid now goes.commands c f (goes.performs told) (performs told);
+    };
+  }
+
+  -- which is the answer
+  pub turn_err : (c : Command) (f : StoreFault) (final : Result (Option Ended) StoreFault) → IsErrAnd final (λ e. e ≡ f) → Gives r q mid.source.left now.source.left c
+      → (IsTrue tells → PerformsFor c (Err f) mid.session now.session mid.taken now.taken) → PerformsNext tells final r q mid now
+  turn_err c f (Ok e) is gives performs = absurd is
+  turn_err c f (Err e) is gives performs = subst (λ x. PerformsNext tells (Err x) r q mid now) (sym is) (turn_off c f gives performs)
+
+module _ (tells : Bool) (r q : Reader) (mid : Progress) (source : Supply) where
+  -- there was none
+  stopped : (e : Ended) → ((before : Progress) → (goes : HasPerformed tells r before mid) → EndsScript e before.source.left source.left goes.commands)
+      → PerformsNext tells (Ok (Some e)) r q mid (with_source mid source)
+  stopped e ends = record {
+    on = λ before goes. record {
+      commands = goes.commands;
+      ends = ends before goes;
+      performs = λ told. record {
+        each = λ h keeps. let so_far = (goes.performs told).each h keeps in record { stands = so_far.stands; out = so_far.out };
+      };
+    };
+  }
+
+  pub turn_whole : Ends r q mid.source.left source.left → PerformsNext tells (Ok (Some ended.Whole)) r q mid (with_source mid source)
+  turn_whole ends = stopped ended.Whole (λ before goes. (ends.after, read_whole before.source.left mid.source.left goes.commands (held_in r) goes.read ends.before))
+
+  pub turn_failed : BreaksOff r mid.source.left source.left → PerformsNext tells (Ok (Some ended.Failed)) r q mid (with_source mid source)
+  turn_failed fails = stopped ended.Failed (λ before goes. read_taken r before.source.left mid.source.left source.left goes.commands goes.read fails)
+
+  pub turn_bad : (n : ℕ) → n ≡ given_in r + 1 → IsBadScript (used_in r) (rest_of r mid.source.left) → PerformsNext tells (Ok (Some (ended.Bad n))) r q mid (with_source mid source)
+  turn_bad n number bad = stopped (ended.Bad n) (λ before goes. (
+    number ∙ ap (λ k. k + 1) goes.given,
+    read_bad before.source.left mid.source.left goes.commands (held_in r) (used_in r) goes.read goes.used bad,
+  ))

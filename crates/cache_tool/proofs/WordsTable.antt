@@ -1,0 +1,76 @@
+-- Words are read exactly where they are those of the table.
+use Rattle.std.proofs.Common.{◌≡◌, ◌⊎◌, inl, inr, ℕ, ◌<◌, ◌^◌, List, [], ◌∷◌, Bool, true, false, cond, Option, None, Some, IfSome, decimal, nat_eq, refl, sym, ap, ◌∙◌}
+use Rattle.std.specs.Cmp.Lexicographic.{pointwise}
+use Rattle.std.specs.Option.{option_and_then}
+use Rattle.std.specs.Prelude.{codes}
+use Rattle.std.proofs.lemmas.Slice.Eq.{bytes_eq-Decides}
+use Rattle.cache_base.specs.Numbers.{number_in}
+use Rattle.cache_base.proofs.NumberLaws.{number_read, number_spelled}
+use Rattle.cache_theory.specs.Command.Command.{Doom, Flush, Get}
+use Rattle.cache_tool.specs.Words.{AreOfOne, AreWords, Asked, WordsAreOfTable, alone, asked_by, of_key, verbs}
+
+-- one test of a chain
+tested : (verb name : List ℕ) (x asked : Asked) (rest : Option Asked) → cond (pointwise nat_eq verb name) (Some x) rest ≡ Some asked
+    → ((verb ≡ name) × (asked ≡ x)) ⊎ (rest ≡ Some asked)
+tested verb name x asked rest = go (pointwise nat_eq verb name) (bytes_eq-Decides verb name).0
+  where
+    go : (b : Bool) → (b ≡ true → verb ≡ name) → cond b (Some x) rest ≡ Some asked → ((verb ≡ name) × (asked ≡ x)) ⊎ (rest ≡ Some asked)
+    go true is e = inl (is refl, cc)
+    go false is e = inr e
+
+alone_is : (now : ℕ) (verb : List ℕ) (asked : Asked) → alone now verb ≡ Some asked → AreOfOne (verb ∷ []) now asked verbs
+alone_is now verb asked e = elim (tested verb (codes "run") (Asked.Run now) asked _ e) [
+  | inl run ↦ inl (ap (λ w. w ∷ []) run.0, run.1)
+  | inr more ↦ elim (tested verb (codes "flush") (Asked.One now Flush) asked None more) [
+    | inl flush ↦ inr (inr (inr (inr (inl (ap (λ w. w ∷ []) flush.0, flush.1)))))
+    | inr none ↦ absurd (cc)
+  ]
+]
+
+of_key_is : (now : ℕ) (verb key : List ℕ) (asked : Asked) → of_key now verb key ≡ Some asked → AreOfOne (verb ∷ (key ∷ [])) now asked verbs
+of_key_is now verb key asked e = elim (tested verb (codes "put") (Asked.Put now key) asked _ e) [
+  | inl put ↦ inr (inl (key, (ap (λ w. w ∷ (key ∷ [])) put.0, put.1)))
+  | inr more ↦ elim (tested verb (codes "get") (Asked.One now (Get key)) asked _ more) [
+    | inl get ↦ inr (inr (inl (key, (ap (λ w. w ∷ (key ∷ [])) get.0, get.1))))
+    | inr others ↦ elim (tested verb (codes "doom") (Asked.One now (Doom key)) asked None others) [
+      | inl doom ↦ inr (inr (inr (inl (key, (ap (λ w. w ∷ (key ∷ [])) doom.0, doom.1)))))
+      | inr none ↦ absurd (cc)
+    ]
+  ]
+]
+
+-- what follows a number
+module _ (word : List ℕ) (rest : List (List ℕ)) (asked : Asked) (asks : ℕ → Option Asked) (is : (now : ℕ) → asks now ≡ Some asked → AreOfOne rest now asked verbs) where
+  numbered : option_and_then asks (number_in word) ≡ Some asked → AreWords (word ∷ rest) asked
+  numbered = go (number_in word) (number_spelled word)
+    where
+      go : (r : Option ℕ) → IfSome r (λ n. (word ≡ decimal n) × (n < 2 ^ 32)) → option_and_then asks r ≡ Some asked → AreWords (word ∷ rest) asked
+      go None spelled e = absurd (cc)
+      go (Some n) spelled e = record { now = n; small = spelled.1; rest = rest; words_are = ap (λ w. w ∷ rest) spelled.0; of_table = is n e }
+
+read_is : (words : List (List ℕ)) (asked : Asked) → asked_by words ≡ Some asked → AreWords words asked
+read_is [] asked e = absurd (cc)
+read_is (now ∷ []) asked e = absurd (cc)
+read_is (now ∷ (verb ∷ [])) asked e = numbered now (verb ∷ []) asked (λ n. alone n verb) (λ n is. alone_is n verb asked is) e
+read_is (now ∷ (verb ∷ (key ∷ []))) asked e = numbered now (verb ∷ (key ∷ [])) asked (λ n. of_key n verb key) (λ n is. of_key_is n verb key asked is) e
+read_is (now ∷ (verb ∷ (key ∷ (x ∷ more)))) asked e = absurd (cc)
+
+-- and the words of the table are read
+table_read : (now : ℕ) → now < 2 ^ 32 → (rest : List (List ℕ)) (asked : Asked) → AreOfOne rest now asked verbs → asked_by (decimal now ∷ rest) ≡ Some asked
+table_read now small rest asked (inl run) =
+    ap (λ r. asked_by (decimal now ∷ r)) run.0 ∙ ap (option_and_then (λ n. alone n (codes "run"))) (number_read now small) ∙ ap Some (sym run.1)
+table_read now small rest asked (inr (inl put)) =
+    ap (λ r. asked_by (decimal now ∷ r)) put.1.0 ∙ ap (option_and_then (λ n. of_key n (codes "put") put.0)) (number_read now small) ∙ ap Some (sym put.1.1)
+table_read now small rest asked (inr (inr (inl get))) =
+    ap (λ r. asked_by (decimal now ∷ r)) get.1.0 ∙ ap (option_and_then (λ n. of_key n (codes "get") get.0)) (number_read now small) ∙ ap Some (sym get.1.1)
+table_read now small rest asked (inr (inr (inr (inl doom)))) =
+    ap (λ r. asked_by (decimal now ∷ r)) doom.1.0 ∙ ap (option_and_then (λ n. of_key n (codes "doom") doom.0)) (number_read now small) ∙ ap Some (sym doom.1.1)
+table_read now small rest asked (inr (inr (inr (inr (inl flush))))) =
+    ap (λ r. asked_by (decimal now ∷ r)) flush.0 ∙ ap (option_and_then (λ n. alone n (codes "flush"))) (number_read now small) ∙ ap Some (sym flush.1)
+table_read now small rest asked (inr (inr (inr (inr (inr none))))) = absurd none
+
+pub words_are_of_table : WordsAreOfTable
+words_are_of_table = λ words asked. (
+  λ read. read_is words asked read,
+  λ are. ap asked_by are.words_are ∙ table_read are.now are.small are.rest asked are.of_table,
+)

@@ -1,0 +1,105 @@
+-- What the verbs come to, for every machine at an opening on what stands.
+use Rattle.std.specs.Io.KnownBytes.{Appends, Keeps}
+use Rattle.std.specs.Prelude.{IfSome, IsSome, List, [], length, min, take, ℕ, ◌+◌, ◌++◌, ◌∷◌, ◌≡◌}
+use Rattle.cache_base.specs.declared.status.Status.{Status}
+use Rattle.cache_base.specs.declared.status.Status.TheVariants as status
+use Rattle.cache_store.specs.Answering.{outcome_of}
+use Rattle.cache_store.specs.Open.{IsShut}
+use Rattle.cache_store.specs.Said.{IsCut}
+use Rattle.cache_store.specs.Saying.{IsPart}
+use Rattle.cache_theory.specs.Command.{Command}
+use Rattle.cache_theory.specs.Crash.{IsCrashSafe}
+use Rattle.cache_theory.specs.Machine.{Machine, opened}
+use Rattle.cache_theory.specs.Session.{BeginsWith, IsAcked, marks_between}
+use Rattle.cache_theory.specs.Step.{after}
+use Rattle.cache_theory.specs.Table.{Table}
+use Rattle.cache_theory.specs.Text.{CommandsIn, ScriptSpells, replies_text, reply_text}
+use Rattle.cache_tool.specs.Put.{ArePut}
+use Rattle.cache_tool.specs.Replies.{last_reply}
+use Rattle.cache_tool.specs.Script.{AreTaken, bad_line, performed}
+use Rattle.cache_tool.specs.Statuses.{IsAnswer, IsClosing, status_of}
+use Rattle.cache_tool.specs.World.{Output, World, output_of}
+use Rattle.disk_model.specs.Sound.{IsQuiet}
+use Rattle.disk_model.specs.State.{State}
+use Rattle.file_handles.specs.Carries.{IsShelf}
+
+-- Commands are performed one after the other, from the first on.
+
+-- how far: those that were performed, how many are acknowledged, and how many may have begun
+pub record Reach : Type 0 where
+  pub done : List Command
+  pub acked : ℕ
+  pub begun : ℕ
+
+-- all of them at once, with one answer to the last; and one by one, each with an answer of its own
+abbrev pub all_begun_none_acked : List Command → Reach
+all_begun_none_acked cs = record { done = cs; acked = 0; begun = length cs }
+
+abbrev pub one_begun_after : ℕ → Status → List Command → Reach
+one_begun_after acked ended cs = record {
+  done = take (performed ended acked (length cs)) cs;
+  acked = acked;
+  begun = min (acked + 1) (length cs);
+}
+
+-- what they leave on a disk that held s and holds t
+pub record LeavesDisk (m : Machine) (cs : List Command) (r : Reach) (ended : Status) (s t : State)
+    : Type 0 where
+  -- where the store was closed nothing is pending, no doomed file stands, and the entries are those of the machine
+  pub shut : IsClosing ended → IsShut t (after m r.done)
+  -- with nothing pending at the call, a crash leaves no image but those that the marks allow
+  pub crash : IsQuiet s → IsCrashSafe t (marks_between m cs r.acked r.begun)
+
+-- These commands were performed for words other than `run`, and the last reply is what is printed. None is acknowledged,
+-- and all may have begun.
+pub record PrintsLast (m : Machine) (cs : List Command) (ended : Status) (before now : Output)
+    : Type 0 where
+  -- with an answer the status and the text are those of the last reply
+  pub answer : IsAnswer ended → ended ≡ status_of (outcome_of (last_reply m cs))
+  pub printed : IsAnswer ended → Appends before.taken now.taken (reply_text (last_reply m cs))
+  -- otherwise it is cut, or nothing is printed
+  pub part : IsPart before.taken now.taken (reply_text (last_reply m cs))
+  pub cut : ended ≡ status.Sink → IsCut before.taken now.taken (reply_text (last_reply m cs))
+  pub silent : ended ≡ status.Source → Keeps before.taken now.taken
+  pub leaves : LeavesDisk m cs (all_begun_none_acked cs) ended before.disk now.disk
+
+-- `get`, `doom` and `flush`: the command is performed, and its reply is printed
+abbrev pub AnswersCommand : ℕ → Command → Status → Output → Output → Type 0
+AnswersCommand moment c ended before now =
+    (shelf : Table (List ℕ)) (rest : List (List ℕ)) → IsShelf before.disk shelf
+    → PrintsLast (opened moment shelf rest) (c ∷ []) ended before now
+
+-- `put`, of a source that tells its bytes: the entry gets them as its body
+abbrev pub StoresEntry : ℕ → List ℕ → Status → World → World → Type 0
+StoresEntry moment key ended before now =
+    IsSome before.source.left
+    → (shelf : Table (List ℕ)) (rest : List (List ℕ)) → IsShelf before.disk shelf
+    → (cs : List Command) × (ArePut (opened moment shelf rest) key before.source now.source ended cs
+    × PrintsLast (opened moment shelf rest) cs ended (output_of before) (output_of now))
+
+-- These are the commands of a script, and of their replies this is printed. What is printed tells how many are
+-- acknowledged, and one more may have begun.
+pub record PrintsReplies (m : Machine) (bytes : List ℕ) (cs : List Command) (ended : Status)
+    (before now : World) : Type 0 where
+  pub out : List ℕ
+  pub printed : Appends before.taken now.taken out
+  pub acked : ℕ
+  pub is_acked : IsAcked m cs out acked
+  -- in any case a prefix of the replies, and of the line that names a bad command where there is one
+  pub front : BeginsWith (replies_text m cs ++ bad_line (length cs + 1)) out
+  pub no_line : ScriptSpells bytes cs → BeginsWith (replies_text m cs) out
+  -- all of them, by the status
+  pub done : ended ≡ status.Done → out ≡ replies_text m cs
+  pub script : ended ≡ status.Script → out ≡ replies_text m cs ++ bad_line (length cs + 1)
+  -- with a source that failed the replies to the commands that it gave whole
+  pub source : ended ≡ status.Source
+      → (out ≡ replies_text m (take acked cs))
+      × AreTaken before.source.left now.source.left (take acked cs)
+  pub leaves : LeavesDisk m cs (one_begun_after acked ended cs) ended before.disk now.disk
+
+-- `run`, of a source that tells its bytes: the commands that these spell are performed
+abbrev pub RunsScript : ℕ → Status → World → World → Type 0
+RunsScript moment ended before now = IfSome before.source.left (λ bytes.
+    (shelf : Table (List ℕ)) (rest : List (List ℕ)) (cs : List Command)
+    → IsShelf before.disk shelf → CommandsIn bytes cs
+    → PrintsReplies (opened moment shelf rest) bytes cs ended before now)

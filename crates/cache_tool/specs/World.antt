@@ -1,0 +1,53 @@
+-- What the program has of the outside at a moment.
+use Rattle.std.specs.Prelude.{List, Option, ℕ}
+use Rattle.cache_io.specs.declared.sink.Sink.{Ghosts as OfSink}
+use Rattle.cache_io.specs.declared.source.Source.{Ghosts as OfSource}
+use Rattle.cache_store.specs.Session.{Session, open_of}
+use Rattle.cache_store.specs.declared.store.Store.{Store}
+use Rattle.disk_model.specs.State.{State}
+use Rattle.disk_model.specs.declared.disk.Disk.{Ghosts as OfDisk}
+
+-- what a source has left, and how often it has failed
+pub record Supply : Type 0 where
+  pub left : Option (List ℕ)
+  pub faults : ℕ
+
+abbrev pub supply : {A : _} → OfSource A → A → Supply
+supply S source = record { left = S.left source; faults = S.faults source }
+
+-- what a sink took, and what a disk holds
+pub record Output : Type 0 where
+  pub taken : Option (List ℕ)
+  pub disk : State
+
+abbrev pub output : {A B : _} → OfSink A → OfDisk B → A → B → Output
+output K D sink disk = record { taken = K.taken sink; disk = D.state disk }
+
+-- a source, a sink and a disk
+pub record World : Type 0 where
+  pub source : Supply
+  pub taken : Option (List ℕ)
+  pub disk : State
+
+abbrev pub world : {A B C : _} → OfSource A → OfSink B → OfDisk C → A → B → C → World
+world S K D source sink disk =
+    record { source = supply S source; taken = K.taken sink; disk = D.state disk }
+
+abbrev pub output_of : World → Output
+output_of w = record { taken = w.taken; disk = w.disk }
+
+-- the same in a session: a store is open over the disk
+pub record Progress : Type 0 where
+  pub source : Supply
+  pub taken : Option (List ℕ)
+  pub session : Session
+
+abbrev pub progress : {A B C : _} → OfSource A → OfSink B → OfDisk C → Store → A → B → C → Progress
+progress S K D store source sink disk = record {
+  source = supply S source;
+  taken = K.taken sink;
+  session = record { open_store = open_of store; disk = D.state disk };
+}
+
+abbrev pub world_of : Progress → World
+world_of p = record { source = p.source; taken = p.taken; disk = p.session.disk }

@@ -1,0 +1,105 @@
+-- The changes of the files of entries leave the index alone.
+use Rattle.std.proofs.Common.{◌≡◌, ⊎_elim, ℕ, List, [], ◌∷◌, Option, Some, None, Result, Ok, Err, not, ◌&&◌, refl, sym, subst}
+use Rattle.std.specs.Prelude.{is_none}
+use Rattle.std.proofs.lemmas.Bool.{cond_both}
+use Rattle.cache_base.specs.declared.name.Name.{Name}
+use Rattle.cache_theory.specs.Machine.{Object as MachineObject}
+use Rattle.disk_model.specs.Calls.{if_done, if_ok}
+use Rattle.disk_model.specs.Sound.{IsSound}
+use Rattle.disk_model.specs.State.{File, State, content_of, created, names_now, removed, renamed, settled}
+use Rattle.disk_model.specs.declared.disk.DiskFault.{DiskFault}
+use Rattle.disk_model.specs.declared.disk.DiskFault.TheVariants.{Failed, Memory}
+use Rattle.disk_model.specs.declared.place.Place.TheVariants.{Doomed, Entry}
+use Rattle.doom_area.specs.DoomArea.{IsLeastFree, RemovesDoomed, removed_each}
+use Rattle.index_theory.specs.Apart.{IsOfIndex}
+use Rattle.index_theory.specs.Leaves.{LeavesIndex}
+use Rattle.index_theory.proofs.LeavesLaws.{both_leave_index, create_leaves_index, nothing_leaves_index, remove_leaves_index, rename_leaves_index, sync_leaves_index, writes_leave_index}
+use Rattle.file_handles.specs.Cache.{cache_at}
+use Rattle.file_handles.specs.Changes.{ChangesThere, IsFiledAt}
+use Rattle.file_handles.specs.Closing.{dropped, let_go_by, without_doomed}
+use Rattle.file_handles.specs.Creating.{MayHaveMade}
+use Rattle.file_handles.specs.Held.{is_draft, object_place, place_of}
+use Rattle.file_handles.specs.Kept.{Kept, object_at}
+use Rattle.file_handles.specs.declared.fault.HandleFault.{HandleFault}
+use Rattle.file_handles.specs.declared.object.Object.{Object}
+use Rattle.file_handles.proofs.Changed.{writes_weaker}
+use Rattle.file_handles.proofs.DoomedUser.{least_free}
+
+-- where nothing changed
+pub same_left : {s t : State} → t ≡ s → LeavesIndex s t
+same_left {s} {t} same = subst (LeavesIndex s) (sym same) (nothing_leaves_index s)
+
+-- a change that may have failed
+pub done_left : {T : Type 0} (r : Result T DiskFault) (s t u : State) → LeavesIndex s t → u ≡ if_done r t s → LeavesIndex s u
+done_left (Ok value) s t u left is = subst (LeavesIndex s) (sym is) left
+done_left (Err Failed) s t u left is = subst (LeavesIndex s) (sym is) left
+done_left (Err Memory) s t u left is = same_left is
+
+-- one call after the other
+pub then_left : (s t u : State) → LeavesIndex s t → LeavesIndex t u → LeavesIndex s u
+then_left s t u one two = both_leave_index s t u one two
+
+-- no place of an object is the index's
+no_index : (name : Name) (number : Option ℕ) → IsOfIndex (place_of name number) → ⊥
+no_index name None of = of
+no_index name (Some n) of = of
+
+-- An object that is changed: its file alone is written to.
+
+named_file : (files : ℕ → File) (name : Option ℕ) (c : List ℕ) → content_of files name ≡ Some c → (file : ℕ) × (name ≡ Some file)
+named_file files None c is = absurd (let never : None ≡ Some c = is in cc)
+named_file files (Some file) c is = (file, refl)
+
+pub change_left : {T : Type 0} (s t : State) (k after : Kept) (p : ℕ) (x : Object) (change : MachineObject → MachineObject) (r : Result T HandleFault) → IsSound s → object_at k p ≡ Some x
+    → IsFiledAt (cache_at k s) p → ChangesThere p change r (cache_at k s) (cache_at after t) → LeavesIndex s t
+change_left s t k after p x change r sound at filed changes =
+    let o = filed x at in
+    let there = named_file s.files (names_now s (object_place x)) _ o.1.file in
+    writes_leave_index s t (object_place x) there.0 (no_index x.name x.doomed) sound there.1
+    (writes_weaker s t there.0 _ (λ c. Unit {0}) (λ c is. tt) ((changes x at).changes.writes o.0 o.1 there.0 there.1))
+
+-- An entry that is made, or doomed.
+
+made_by : (s t : State) (name : Name) → IsSound s → t ≡ created (Entry name) s → LeavesIndex s t
+made_by s t name sound is = subst (LeavesIndex s) (sym is) (create_leaves_index s (Entry name) (λ of. of) sound)
+
+pub made_left : {T : Type 0} (r : Result T HandleFault) (s t : State) (name : Name) → IsSound s → MayHaveMade (Entry name) r s t → LeavesIndex s t
+made_left (Ok value) s t name sound may = made_by s t name sound may.made
+made_left (Err fault) s t name sound may = ⊎_elim (made_by s t name sound) (λ same. same_left same) may.either
+
+pub doomed_left : (r : Result ℕ DiskFault) (s t : State) (name : Name) (numbers : List ℕ) → IsSound s
+    → ((n : ℕ) → IsLeastFree numbers n → t ≡ if_done r (renamed (Entry name) (Doomed n) s) s) → LeavesIndex s t
+doomed_left r s t name numbers sound moved =
+    let l = least_free numbers in
+    done_left r s (renamed (Entry name) (Doomed l.0) s) t (rename_leaves_index s (Entry name) (Doomed l.0) (λ of. of) (λ of. of) (λ of. of) sound) (moved l.0 l.1)
+
+pub removed_left : {T : Type 0} (r : Result T DiskFault) (s t : State) (name : Name) → t ≡ if_done r (removed (Entry name) s) s → LeavesIndex s t
+removed_left r s t name is = done_left r s (removed (Entry name) s) t (remove_leaves_index s (Entry name) (λ of. of)) is
+
+-- An object that is given up.
+
+pub let_go_left : {T : Type 0} (r : Result T DiskFault) (s t : State) (x : Object) → t ≡ if_done r (let_go_by x s) s → LeavesIndex s t
+let_go_left r s t x is = done_left r s (let_go_by x s) t (go x.doomed) is
+  where
+    go : (n : Option ℕ) → LeavesIndex s (without_doomed n s)
+    go None = nothing_leaves_index s
+    go (Some n) = remove_leaves_index s (Doomed n) (λ of. of)
+
+pub dropped_left : {T : Type 0} (r : Result T DiskFault) (s t : State) (x : Object) → t ≡ if_done r (dropped x s) s → LeavesIndex s t
+dropped_left r s t x is = done_left r s (dropped x s) t
+    (cond_both (is_none x.doomed && not (is_draft x.entry)) s (removed (object_place x) s) (LeavesIndex s) (λ stays. nothing_leaves_index s)
+    (λ goes. remove_leaves_index s (object_place x) (no_index x.name x.doomed)))
+    is
+
+-- The doomed files that an earlier run left, and a sync.
+
+each_left : (numbers : List ℕ) (s : State) → LeavesIndex s (removed_each numbers s)
+each_left [] s = nothing_leaves_index s
+each_left (n ∷ numbers) s = both_leave_index s (removed (Doomed n) s) (removed_each numbers (removed (Doomed n) s)) (remove_leaves_index s (Doomed n) (λ of. of)) (each_left numbers (removed (Doomed n) s))
+
+pub cleared_left : (s t : State) → RemovesDoomed s t → LeavesIndex s t
+cleared_left s t removes = subst (LeavesIndex s) (sym removes.1) (each_left removes.0 s)
+
+pub synced_left : {T : Type 0} (r : Result T DiskFault) (s t : State) → IsSound s → t ≡ if_ok r (settled s) s → LeavesIndex s t
+synced_left (Ok value) s t sound is = subst (LeavesIndex s) (sym is) (sync_leaves_index s sound)
+synced_left (Err fault) s t sound is = same_left is
