@@ -15,7 +15,10 @@ use Rattle.disk_model.specs.declared.place.Place.TheVariants.{Doomed}
 use Rattle.disk_model.proofs.Standing.{settled_same}
 use Rattle.file_handles.specs.Closing.{IsClosed}
 use Rattle.index_theory.specs.Leaves.{LeavesIndex}
-use Rattle.cache_store.specs.Open.{IsShut}
+use Rattle.cache_store.specs.Open.{Closes, IsShut, KeepsTo}
+use Rattle.cache_store.specs.Session.{Session}
+use Rattle.cache_store.specs.declared.fault.StoreFault.{StoreFault}
+use Rattle.cache_theory.specs.History.{History}
 
 -- a result that is an error says nothing of an answer
 pub on_ok_err : {T E : Type 0} (r : Result T E) (P : E → Type 0) (Q : Type 0) → IsErrAnd r P → OnOk r Q
@@ -29,6 +32,14 @@ settled_quiet s = record { steps = refl; writes = λ file. refl }
 pub sync_safe : {T : Type 0} (r : Result T DiskFault) (s t : State) (w : Marks) → t ≡ if_ok r (settled s) s → IsSafe s w → IsSafe t w
 sync_safe (Ok x) s t w is safe = subst (λ u. IsSafe u w) (sym is) (sync_keeps s w safe)
 sync_safe (Err f) s t w is safe = subst (λ u. IsSafe u w) (sym is) safe
+
+-- a closing that failed
+pub closes_failed : (answer : Result (Unit {0}) StoreFault) (P : StoreFault → Type 0) (before : Session) (s t : State) → IsErrAnd answer P → t ≡ s
+    → ((h : History) → KeepsTo before h → IsSafe s h.marks) → Closes answer before t
+closes_failed answer P before s t failed same safe = record {
+  shut = λ m is. on_ok_err answer P _ failed;
+  crash = λ h is. subst (λ u. IsSafe u h.marks) (sym same) (safe h is);
+}
 
 -- where a state is safe, a crash in the same state is
 pub crash_from : (s t : State) (w : Marks) → t ≡ s → IsSafe s w → IsCrashSafe t w
