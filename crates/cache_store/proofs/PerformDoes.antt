@@ -1,6 +1,6 @@
 -- What a command does before its reply is out.
-use Rattle.std.proofs.Common.{Bool, ◌≡◌, ◌≢◌, ◌∙◌, ℕ, ◌<◌, ◌^◌, List, [], Option, Some, None, Result, Ok, Err, IsErrAnd, refl, sym, subst}
-use Rattle.std.specs.Prelude.{IfErr, IfSome, OnOk}
+use Rattle.std.proofs.Common.{Bool, ◌≡◌, ◌≢◌, ◌∙◌, ℕ, ◌<◌, ◌^◌, List, [], Option, Some, None, Result, Ok, Err, refl, sym, subst}
+use Rattle.std.specs.Prelude.{IfErr, IfOk, IfSome, OnErr, OnOk}
 use Rattle.cache_theory.specs.Checks.{checks}
 use Rattle.cache_theory.specs.Command.{Command, Reply}
 use Rattle.cache_theory.specs.Command.Command.{At, Create, Flush}
@@ -12,19 +12,17 @@ use Rattle.cache_theory.specs.Proper.{IsProper}
 use Rattle.cache_theory.specs.Step.{effect, step}
 use Rattle.cache_theory.proofs.Proper.{stays_proper}
 use Rattle.cache_theory.proofs.DiskChanges.{sync_keeps}
-use Rattle.disk_model.specs.Calls.{if_ok}
 use Rattle.disk_model.specs.Sound.{IsSound}
 use Rattle.disk_model.specs.State.{State, settled}
-use Rattle.disk_model.specs.declared.disk.DiskFault.{DiskFault}
-use Rattle.disk_model.specs.declared.disk.DiskFault.TheVariants.{Failed, Memory}
 use Rattle.file_handles.specs.Answers.{done_or}
 use Rattle.file_handles.specs.Carries.{CarriesOut, CarriesOutAt}
 use Rattle.file_handles.specs.Stands.{KeepsWhere as CacheKeepsWhere, RepresentsSome}
 use Rattle.file_handles.specs.declared.fault.HandleFault.{HandleFault}
 use Rattle.file_handles.proofs.Begun.{begun_in}
+use Rattle.file_handles.proofs.IndexLeft.{same_left, synced_left}
 use Rattle.file_handles.proofs.Where.{LeavesWhere, carried_out, carried_out_at}
+use Rattle.index_theory.specs.Leaves.{LeavesIndex}
 use Rattle.cache_store.specs.Answering.{AnswersFor}
-use Rattle.cache_store.specs.Faults.{of_disk}
 use Rattle.cache_store.specs.Open.{IsOpen, KeepsWhere}
 use Rattle.cache_store.specs.Performing.{Does, DoesFor}
 use Rattle.cache_store.specs.Replied.{replied}
@@ -34,7 +32,6 @@ use Rattle.cache_store.specs.declared.answered.Answered.{Answered}
 use Rattle.cache_store.specs.declared.answered.Answered.TheVariants as answered
 use Rattle.cache_store.specs.declared.fault.StoreFault.{StoreFault}
 use Rattle.cache_store.specs.declared.fault.StoreFault.TheVariants as fault
-use Rattle.cache_store.proofs.Closed.{sync_safe}
 use Rattle.cache_store.proofs.PerformStands.{at_moment, moment_in, settled_in}
 use Rattle.cache_store.proofs.PerformSteps.{IsReading, KeepsMoment, reading_acked, reading_next, step_moment}
 use Rattle.cache_store.proofs.Represented.{represented}
@@ -131,36 +128,40 @@ at_does now before reply small none b h is =
       effect = tt;
     }
 
--- the disk is synced
-pub flush_does : (before : Session) (t : State) (sound : IsSound before.disk) (reply : Saying) → reply.held ≡ [] → t ≡ settled before.disk
-    → DoesFor Flush (Ok answered.Done) before (record { open_store = before.open_store; disk = t }) reply.taken reply
+-- the disk is synced, or the sync failed
+pub flush_does : (answer : Result Answered StoreFault) (before : Session) (t : State) (sound : IsSound before.disk) (reply : Saying) → reply.held ≡ [] → OnOk answer (t ≡ settled before.disk) → OnErr answer (t ≡ before.disk)
+    → IfOk answer (λ a. a ≡ answered.Done) → answer ≢ Err fault.Sink → DoesFor Flush answer before (record { open_store = before.open_store; disk = t }) reply.taken reply
 unfolding checks effect
-flush_does before t sound reply none is b h stands =
-    subst (λ (u : State). Does b Flush h (Ok answered.Done) (record { open_store = before.open_store; disk = u }) reply.taken reply) (sym is) (record {
+flush_does (Ok a) before t sound reply none synced same done no_sink b h stands =
+    subst (λ (x : Answered). Does b Flush h (Ok x) (record { open_store = before.open_store; disk = t }) reply.taken reply) (sym done)
+    (subst (λ (u : State). Does b Flush h (Ok answered.Done) (record { open_store = before.open_store; disk = u }) reply.taken reply) (sym synced) (record {
       safe = λ on. sync_keeps before.disk (begun Flush h).marks ((begun_in before.disk before.open_store.handles h.machine Flush h.marks stands.stands).crash_kept on).safe;
       answers = unsaid_answers (Ok answered.Done) tt Done refl reply none;
       next = record { stands = settled_in (cache_of before) sound h stands.stands; same_moment = stands.same_moment };
       effect = tt;
-    })
-
-err_unsaid : (answer : Result Answered StoreFault) (d : DiskFault) → IsErrAnd answer (λ e. e ≡ of_disk d) → (f : StoreFault) × ((answer ≡ Err f) × IsUnsaid (Err f))
-err_unsaid (Ok x) d is = absurd is
-err_unsaid (Err f) Failed is = (f, (refl, subst (λ (e : StoreFault). IsUnsaid (Err e)) (sym is) tt))
-err_unsaid (Err f) Memory is = (f, (refl, subst (λ (e : StoreFault). IsUnsaid (Err e)) (sym is) tt))
-
--- or the sync failed
-pub flush_fails : (r : Result (Unit {0}) DiskFault) (d : DiskFault) (answer : Result Answered StoreFault) (before : Session) (t : State) (reply : Saying) → reply.held ≡ [] → t ≡ if_ok r (settled before.disk) before.disk
-    → IsErrAnd answer (λ e. e ≡ of_disk d) → DoesFor Flush answer before (record { open_store = before.open_store; disk = t }) reply.taken reply
-flush_fails r d answer before t reply none is failed b h stands =
-    let failure = err_unsaid answer d failed in
-    let f = failure.0 in
-    let after : Session = record { open_store = before.open_store; disk = t } in
-    subst (λ (a : Result Answered StoreFault). Does b Flush h a after reply.taken reply) (sym failure.1.0) (record {
-      safe = λ on. sync_safe r before.disk t (begun Flush h).marks is ((begun_in before.disk before.open_store.handles h.machine Flush h.marks stands.stands).crash_kept on).safe;
-      answers = unsaid_answers (Err f) failure.1.1 (step h.machine Flush).reply tt reply none;
+    }))
+flush_does (Err f) before t sound reply none synced same done no_sink b h stands =
+    let unsaid = unsaid_by (Err f) (λ e. cc) no_sink in
+    subst (λ (u : State). Does b Flush h (Err f) (record { open_store = before.open_store; disk = u }) reply.taken reply) (sym same) (record {
+      safe = λ on. ((begun_in before.disk before.open_store.handles h.machine Flush h.marks stands.stands).crash_kept on).safe;
+      answers = unsaid_answers (Err f) unsaid (step h.machine Flush).reply tt reply none;
       next = tt;
-      effect = unsaid_effect (Err f) failure.1.1 (KeepsWhere b after (acked Flush h));
+      effect = unsaid_effect (Err f) unsaid (KeepsWhere b before (acked Flush h));
     })
+
+-- so the index is left alone
+pub flush_left : (answer : Result Answered StoreFault) (s t : State) → IsSound s → OnOk answer (t ≡ settled s) → OnErr answer (t ≡ s) → LeavesIndex s t
+flush_left (Ok a) s t sound synced same = synced_left {T = Unit {0}} (Ok tt) s t sound synced
+flush_left (Err f) s t sound synced same = same_left same
+
+-- where the disk tells, what holds then
+pub on_told : {T E : Type 0} (P Q : Type 0) (answer : Result T E) → P → OnOk answer (P → Q) → OnOk answer Q
+on_told P Q (Ok x) p then = then p
+on_told P Q (Err f) p then = tt
+
+pub err_told : {T E : Type 0} (P Q : Type 0) (answer : Result T E) → P → OnErr answer (P → Q) → OnErr answer Q
+err_told P Q (Ok x) p then = tt
+err_told P Q (Err f) p then = then p
 
 -- a command by another name
 pub as_command : (c d : Command) (answer : Result Answered StoreFault) (before after : Session) (out : Option (List ℕ)) (now : Saying) → c ≡ d

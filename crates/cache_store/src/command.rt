@@ -14,6 +14,7 @@ ghost use Rattle.cache_theory.specs.Command.Command.{ElementOf, UnsetElement};
 ghost use Rattle.cache_theory.specs.Given.{IsGiven};
 ghost use Rattle.cache_theory.specs.Text.{with_bytes};
 ghost use Rattle.disk_model.specs.Account.{Accounts};
+ghost use Rattle.disk_model.specs.State.{settled};
 ghost use Rattle.disk_model.specs.Told.{Told};
 ghost use Rattle.index_theory.specs.Leaves.{LeavesIndex};
 
@@ -81,6 +82,21 @@ fn say_rest<K: Sink>(
             reply.put(sink, b"\n")?;
             Ok(Outcome::Refused)
         }
+    }
+}
+
+// Syncs the disk.
+fn flush<D: Disk>(disk: &mut D) -> Result<Answered, StoreFault>
+    ensures synced { OnOk result (Told D.Disk (λ s t. t ≡ settled s) disk.old disk.new) }
+    ensures same { OnErr result (Told D.Disk (λ s t. t ≡ s) disk.old disk.new) }
+    ensures done { IfOk result (λ a. a ≡ Answered.Done) }
+    ensures plain { IfOk result IsPlain }
+    ensures no_sink { result ≢ Err StoreFault.Sink }
+    ensures account { Accounts D.Disk (ending result) disk.old disk.new }
+{
+    match disk.sync() {
+        Ok(()) => Ok(Answered::Done),
+        Err(fault) => Err(StoreFault::from(fault)),
     }
 }
 
@@ -198,10 +214,7 @@ impl Store {
             Command::Close { slot } => answer_of(self.handles.close(alloc, disk, slot)),
             Command::Doom { key } => answer_of(self.handles.doom(alloc, disk, key)),
             Command::Get { key } => self.say_get(alloc, disk, key, sink),
-            Command::Flush => {
-                disk.sync()?;
-                Ok(Answered::Done)
-            }
+            Command::Flush => flush(disk),
         }
     }
 

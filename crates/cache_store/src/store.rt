@@ -72,7 +72,8 @@ impl Store {
         ensures account { Accounts D.Disk (ending result) disk.old disk.new }
     {
         let Store { handles, .. } = self;
-        handles.close_all(disk)?;
+        let closed = handles.close_all(disk);
+        closed?;
         disk.sync()?;
         Ok(())
     }

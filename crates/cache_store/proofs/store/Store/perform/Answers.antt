@@ -4,9 +4,9 @@ use Rattle.cache_theory.specs.Command.Command.{At, ElementOf, Flush, Get, ReadPa
 use Rattle.cache_theory.specs.Given.{IsGiven}
 use Rattle.cache_store.specs.Said.{saying}
 use Rattle.cache_store.specs.Session.{session}
-use Rattle.cache_store.proofs.PerformDoes.{as_command, at_does, carried_does, flush_does, flush_fails, handled_at_does, handled_does, reading_does}
+use Rattle.cache_store.proofs.PerformDoes.{as_command, at_does, carried_does, err_told, flush_does, flush_left, handled_at_does, handled_does, on_told, reading_does}
 use Rattle.cache_store.proofs.Unsaid.{unsaid_by}
-use Rattle.file_handles.proofs.IndexLeft.{same_left, synced_left}
+use Rattle.file_handles.proofs.IndexLeft.{same_left}
 use Rattle.cache_store.proofs.store.Store.perform.Goals as goal
 
 pub returns-in-At-clause-does : goal.returns-in-At-clause-does
@@ -62,17 +62,11 @@ returns-in-Get-clause-does g c = λ told.
     as_command _ (Get c.in-Get.key.now) _ _ _ _ _ (ap command_of c.in-Get.is)
     (reading_does (Get c.in-Get.key.now) c.say_get.result _ _ _ _ tt (c.say_get.ensures.looks.state told) c.say_get.ensures.open (c.say_get.ensures.answers told))
 
-pub returns-in_err-sync-in-Flush-clause-does : goal.returns-in_err-sync-in-Flush-clause-does
-returns-in_err-sync-in-Flush-clause-does g c = λ told.
+pub returns-in-Flush-clause-does : goal.returns-in-Flush-clause-does
+returns-in-Flush-clause-does g c = λ told.
     as_command _ Flush _ _ _ _ _ (ap command_of c.in-Flush.is)
-    (flush_fails c.sync.result c.in_err-sync-in-Flush.field-0.0 c.from_residual.result (session g.D.Disk c.args.self.now c.args.disk.now) (g.D.Disk.state c.sync.new.self) (saying g.K.Sink c.args.self.now.reply c.args.sink.now) c.requires.empty
-    (c.sync.ensures.state told) c.from_residual.ensures.1)
-
-pub returns-in_ok-sync-in-Flush-clause-does : goal.returns-in_ok-sync-in-Flush-clause-does
-returns-in_ok-sync-in-Flush-clause-does g c = λ told.
-    as_command _ Flush _ _ _ _ _ (ap command_of c.in-Flush.is)
-    (flush_does (session g.D.Disk c.args.self.now c.args.disk.now) (g.D.Disk.state c.sync.new.self) (g.met.D.Disk.sound c.args.disk.now told) (saying g.K.Sink c.args.self.now.reply c.args.sink.now) c.requires.empty
-    (c.in_ok-sync-in-Flush.ensures.state told))
+    (flush_does c.flush.result (session g.D.Disk c.args.self.now c.args.disk.now) (g.D.Disk.state c.flush.new.disk) (g.met.D.Disk.sound c.args.disk.now told) (saying g.K.Sink c.args.self.now.reply c.args.sink.now) c.requires.empty
+    (on_told _ _ c.flush.result told c.flush.ensures.synced) (err_told _ _ c.flush.result told c.flush.ensures.same) c.flush.ensures.done c.flush.ensures.no_sink)
 
 pub returns-in-ReadPart-clause-index : goal.returns-in-ReadPart-clause-index
 returns-in-ReadPart-clause-index g c = λ told. same_left (c.say_read.ensures.looks.state told)
@@ -80,8 +74,7 @@ returns-in-ReadPart-clause-index g c = λ told. same_left (c.say_read.ensures.lo
 pub returns-in-Get-clause-index : goal.returns-in-Get-clause-index
 returns-in-Get-clause-index g c = λ told. same_left (c.say_get.ensures.looks.state told)
 
-pub returns-in_err-sync-in-Flush-clause-index : goal.returns-in_err-sync-in-Flush-clause-index
-returns-in_err-sync-in-Flush-clause-index g c = λ told. synced_left c.sync.result _ _ (g.met.D.Disk.sound c.args.disk.now told) (c.sync.ensures.state told)
-
-pub returns-in_ok-sync-in-Flush-clause-index : goal.returns-in_ok-sync-in-Flush-clause-index
-returns-in_ok-sync-in-Flush-clause-index g c = λ told. synced_left c.sync.result _ _ (g.met.D.Disk.sound c.args.disk.now told) (c.sync.ensures.state told)
+pub returns-in-Flush-clause-index : goal.returns-in-Flush-clause-index
+returns-in-Flush-clause-index g c = λ told.
+    flush_left c.flush.result (g.D.Disk.state c.args.disk.now) (g.D.Disk.state c.flush.new.disk) (g.met.D.Disk.sound c.args.disk.now told)
+    (on_told _ _ c.flush.result told c.flush.ensures.synced) (err_told _ _ c.flush.result told c.flush.ensures.same)
