@@ -23,7 +23,8 @@ fn a_doomed_entry_is_gone(rt: HostRuntime) -> Result<(), Fail> {
 #[test]
 fn unfit_files_stay_and_doomed_files_go(rt: HostRuntime) -> Result<(), Fail> {
     let alloc = rt.alloc();
-    let mut disk = disk_with(alloc, KEY, b"hello")?;
+    let mut disk = MemDisk::new(alloc);
+    disk.put_file(place_of(KEY), bytes(alloc, b"hello")?)?;
     disk.put_file(Place::Doomed(0), bytes(alloc, FILE)?)?;
     disk.put_file(Place::Doomed(4_294_967_295), bytes(alloc, b"")?)?;
     let rows = [
