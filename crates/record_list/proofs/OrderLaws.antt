@@ -1,10 +1,11 @@
 -- Lists that are sorted by name, and names none of which stands twice.
-use Rattle.std.proofs.Common.{◌≡◌, ℕ, ◌+◌, ◌<◌, List, [], ◌∷◌, length, get_or, Bool, true, false, not, ◌&&◌, ◌||◌, refl, sym, ap, ◌∙◌, arith}
+use Rattle.std.proofs.Common.{◌≡◌, ℕ, ◌+◌, ◌<◌, List, [], ◌∷◌, length, get_or, take, Bool, true, false, not, ◌&&◌, ◌||◌, refl, sym, ap, ◌∙◌, arith}
 use Rattle.std.specs.Prelude.{map}
 use Rattle.std.specs.Cmp.{IsTotalOrder}
+use Rattle.std.specs.Cmp.Lexicographic.{slice_cmp}
 use Rattle.std.specs.List.{AllByRecursion, IsAllAdjacentAnswer, IsDistinct, list_any}
 use Rattle.std.specs.List.Sorted.{IsPermutation, IsSorted, IsSortedByKey}
-use Rattle.std.specs.Ordering.{is_lt}
+use Rattle.std.specs.Ordering.{is_lt, nat_cmp}
 use Rattle.std.specs.declared.cmp.Ordering.{Ordering}
 use Rattle.std.specs.declared.cmp.Ordering.TheVariants.{Less, Equal, Greater}
 use Rattle.std.proofs.lemmas.Bool.{and_parts}
@@ -14,7 +15,9 @@ use Rattle.std.proofs.lemmas.List.Sorted.{IsPermutation-sym}
 use Rattle.std.proofs.lemmas.Map.Keys.{IsDistinct-IsPermutation, apart_from_distinct, sorted_from_all_adjacent}
 use Rattle.cache_base.specs.Names.{AreRising, name_cmp}
 use Rattle.cache_base.specs.declared.name.Name.{Name}
-use Rattle.record_list.specs.Lists.{same_name}
+use Rattle.index_record.specs.Record.{record_in}
+use Rattle.index_record.specs.declared.record.IndexRecord.{IndexRecord}
+use Rattle.record_list.specs.Lists.{names_of, same_name}
 use Rattle.record_list.specs.Stored.{are_distinct}
 use Rattle.record_list.proofs.NameLaws.{above_below, rising_distinct, same_back, same_itself, tied_same}
 
@@ -103,3 +106,18 @@ distinct_answer names sorted moved up false answer = go (are_distinct names) ref
         let test : is_lt (name_cmp a b) ≡ true = ap is_lt less in
         let failed : false ≡ is_lt (name_cmp a b) = answer.2 no_name in
         absurd (cc)
+
+-- the records of groups rise where the first 20 bytes of each are below those of the next
+module _ (groups : List (List ℕ)) where
+  name_at : (k : ℕ) → k < length groups → get_or (names_of (map record_in groups)) k no_name ≡ (record_in (get_or groups k [])).name
+  name_at k lt =
+      let len : length (map record_in groups) ≡ length groups = length-map groups record_in in
+      get_or-map (λ (r : IndexRecord). r.name) (map record_in groups) k (record_in []) no_name (omega (arith, len))
+      ∙ ap (λ (r : IndexRecord). r.name) (get_or-map record_in groups k [] (record_in []) lt)
+
+  pub groups_rise : (r : Bool) → IsAllAdjacentAnswer (λ a b t. t ≡ is_lt (slice_cmp nat_cmp (take 20 a) (take 20 b))) groups r → r ≡ true → AreRising (names_of (map record_in groups))
+  groups_rise true answer is =
+      let len : length (names_of (map record_in groups)) ≡ length groups = length-map (map record_in groups) (λ (r : IndexRecord). r.name) ∙ length-map groups record_in in
+      sorted_from_all_adjacent name_cmp_total (names_of (map record_in groups)) no_name
+      (λ k h. rw (name_at k (omega (arith, len, h)), name_at (k + 1) (omega (arith, len, h))) (below_from_test _ (answer k [] (omega (arith, len, h)))))
+  groups_rise false answer is = absurd (cc)

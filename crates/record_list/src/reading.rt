@@ -1,10 +1,10 @@
 //! Reading records from a file.
 
-ghost use Rattle.std.specs.Prelude.{◌≡◌, ◌≤◌, ◌||◌, IfErr, IfOk, None, OnOk, filter, length, map, not};
+ghost use Rattle.std.specs.Prelude.{◌≡◌, ◌≤◌, ◌||◌, IfErr, IfOk, None, OnOk, filter, length, map, not, true};
 ghost use Rattle.cache_base.specs.Bytes.{be32_at};
 ghost use Rattle.index_record.specs.Record.{cleared, is_removed as is_removed_of, record_in};
 ghost use Rattle.record_list.specs.Change.{HasNoRemoved};
-ghost use Rattle.record_list.specs.Lists.{HasNames, names_of};
+ghost use Rattle.record_list.specs.Lists.{AreRising, HasNames, names_of};
 ghost use Rattle.record_list.specs.Stored.{AreClean, IsFirstFault, are_distinct, present, read_as, records_fault, stored_in};
 
 use crate::RecordsFault;
@@ -30,12 +30,29 @@ fn names_in(alloc: Global, groups: &[[u8; 41]]) -> Result<Vec<Name>, NoMemory>
     Ok(names)
 }
 
+// Whether the names rise from each group to the next, as they do in a file that this crate printed. Then none stands twice.
+fn rise(groups: &[[u8; 41]]) -> bool
+    ensures { result ≡ true → AreRising (map record_in groups.now) }
+{
+    groups.is_sorted_by(|a, b| a[..20].cmp(&b[..20]).is_lt())
+}
+
 // Whether no name stands twice.
 fn all_distinct(mut names: Vec<Name>) -> bool
     ensures { result ≡ are_distinct names.items }
 {
     names.sort_unstable();
     names.is_sorted_by(|a, b| a.cmp(b).is_lt())
+}
+
+// Whether no name stands twice in the groups. Where the names rise nothing is copied and sorted.
+fn has_distinct_names(alloc: Global, groups: &[[u8; 41]]) -> Result<bool, NoMemory>
+    ensures { IfOk result (λ answer. answer ≡ are_distinct (names_of (map record_in groups.now))) }
+{
+    if rise(groups) {
+        return Ok(true);
+    }
+    Ok(all_distinct(names_in(alloc, groups)?))
 }
 
 // The records in these groups, or those that are not removed.
@@ -68,7 +85,8 @@ fn check(alloc: Global, part: &[u8]) -> Result<&[[u8; 41]], RecordsFault>
     if number_at_front(hash) != jenkins_hash::hash(body) {
         return Err(RecordsFault::Hash);
     }
-    if !all_distinct(names_in(alloc, groups)?) {
+    let distinct = has_distinct_names(alloc, groups)?;
+    if !distinct {
         return Err(RecordsFault::Repeated);
     }
     Ok(groups)

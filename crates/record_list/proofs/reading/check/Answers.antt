@@ -17,18 +17,18 @@ returns-then-number_at_front-hash-clause-fault c =
     c.number_at_front.result c.hash.result (c.number_at_front.ensures ∙ ap (λ xs. be32_at xs 0) c.split_at.ensures.back) c.hash.ensures
     c.if-number_at_front-hash.true
 
-pub returns-then-not-all_distinct-clause-fault : goal.returns-then-not-all_distinct-clause-fault
-returns-then-not-all_distinct-clause-fault c =
+pub returns-then-not-distinct-clause-fault : goal.returns-then-not-distinct-clause-fault
+returns-then-not-distinct-clause-fault c =
     fault.repeated c.args.part.now _ _ _ c.split_at.ensures.front c.as_chunks.ensures.back_len c.is_empty.ensures c.if-not-is_empty.false
     c.number_at_front.result c.hash.result (c.number_at_front.ensures ∙ ap (λ xs. be32_at xs 0) c.split_at.ensures.back) c.hash.ensures
-    c.if-number_at_front-hash.false c.in_ok-names_in.field-0.items
-    (c.in_ok-names_in.ensures ∙ ap (λ gs. names_of (map record_in gs)) c.as_chunks.ensures.front ∙ ap (λ ys. names_of (map record_in (first_chunks 41 (length ys / 41) ys))) c.split_at.ensures.front)
-    (sym c.all_distinct.ensures ∙ c.if-not-all_distinct.true)
+    c.if-number_at_front-hash.false _
+    (ap (λ gs. names_of (map record_in gs)) c.as_chunks.ensures.front ∙ ap (λ ys. names_of (map record_in (first_chunks 41 (length ys / 41) ys))) c.split_at.ensures.front)
+    (sym c.in_ok-distinct.ensures ∙ c.if-not-distinct.true)
 
 pub returns-clause-passes : goal.returns-clause-passes
 returns-clause-passes c =
     fault.no_fault c.args.part.now _ _ _ c.split_at.ensures.front c.as_chunks.ensures.back_len c.is_empty.ensures c.if-not-is_empty.false
     c.number_at_front.result c.hash.result (c.number_at_front.ensures ∙ ap (λ xs. be32_at xs 0) c.split_at.ensures.back) c.hash.ensures
-    c.if-number_at_front-hash.false c.in_ok-names_in.field-0.items
-    (c.in_ok-names_in.ensures ∙ ap (λ gs. names_of (map record_in gs)) c.as_chunks.ensures.front ∙ ap (λ ys. names_of (map record_in (first_chunks 41 (length ys / 41) ys))) c.split_at.ensures.front)
-    (sym c.all_distinct.ensures ∙ c.if-not-all_distinct.false)
+    c.if-number_at_front-hash.false _
+    (ap (λ gs. names_of (map record_in gs)) c.as_chunks.ensures.front ∙ ap (λ ys. names_of (map record_in (first_chunks 41 (length ys / 41) ys))) c.split_at.ensures.front)
+    (sym c.in_ok-distinct.ensures ∙ c.if-not-distinct.false)
