@@ -1,9 +1,9 @@
 -- The account of calls in sequence, and of one whose answer is handed on.
-use Rattle.std.proofs.Common.{◌≡◌, ◌∙◌, Result, Ok, Err, IsErrAnd, IsTrue, refl, sym, subst, arith}
+use Rattle.std.proofs.Common.{◌≡◌, ◌⊎◌, ◌∙◌, Result, Ok, Err, IsErrAnd, IsTrue, refl, sym, subst, arith}
 use Rattle.std.specs.Prelude.{IsErrOf}
 use Rattle.cache_base.specs.Causes.{HasCause}
-use Rattle.disk_model.specs.Account.{Accounts, Ending, IsCalm, Looks}
-use Rattle.disk_model.specs.Calls.{StopsAtFault}
+use Rattle.disk_model.specs.Account.{Accounts, Ending, IsCalm, Looks, ending as disk_ending, fault_ending as disk_fault_ending}
+use Rattle.disk_model.specs.Calls.{LastFails, StopsAtFault}
 use Rattle.disk_model.specs.declared.disk.Disk.{Ghosts}
 use Rattle.disk_model.specs.declared.disk.DiskFault.{DiskFault}
 use Rattle.disk_model.specs.declared.disk.DiskFault.TheVariants as disk
@@ -13,6 +13,13 @@ use Rattle.file_handles.specs.declared.fault.HandleFault.{HandleFault}
 -- one call more, after calls none of which failed
 pub calm_then : {Self : _} (D : Ghosts Self) (a b c : Self) → IsCalm D a b → Accounts D Ending.NoneFailed b c → IsCalm D a c
 calm_then D a b c calm last = record { faults = last.cause.kept (λ failed. cc) ∙ calm.faults; no_change = λ told. last.went_on refl told ∙ calm.no_change told }
+
+pub accounts_then : {Self : _} (D : Ghosts Self) (e : Ending) (a b c : Self) → Accounts D Ending.NoneFailed a b → Accounts D e b c → Accounts D e a c
+accounts_then D e a b c first last = record {
+  cause = subst (λ n. HasCause (e ≡ Ending.OneFailed) n (D.faults c)) (first.cause.kept (λ failed. cc)) last.cause;
+  went_on = λ none told. last.went_on none told ∙ first.went_on refl told;
+  stops = λ told. subst (λ failed. ((D.counts c).failed ≡ failed) ⊎ LastFails (D.counts c)) (first.went_on refl told) (last.stops told);
+}
 
 -- a call that makes none of the disk
 pub looks_nowhere : {Self : _} (D : Ghosts Self) (answer : Ending) (disk : Self) → answer ≡ Ending.NoneFailed → Looks D answer disk disk
@@ -43,3 +50,13 @@ account_handed_on {X = X} D r f (Err e) before now at is cause stops = subst (λ
       went_on = λ none. absurd cc;
       stops = stops;
     }
+
+-- the same after calls none of which failed
+pub account_then_handed_on : {T X : Type 0} {Self : _} (D : Ghosts Self) (r : Result X DiskFault) (f : DiskFault) (out : Result T HandleFault) (a b c : Self) → r ≡ Err f → IsErrAnd out (λ e. e ≡ fault_of f)
+    → Accounts D Ending.NoneFailed a b → Accounts D (disk_ending r) b c → Accounts D (ending out) a c
+account_then_handed_on D r f (Ok value) a b c at is first last = absurd is
+account_then_handed_on D r f (Err e) a b c at is first last = subst (λ e. Accounts D (fault_ending e) a c) (sym is) (go f (subst (λ r. Accounts D (disk_ending r) b c) at last))
+  where
+    go : (f : DiskFault) → Accounts D (disk_fault_ending f) b c → Accounts D (fault_ending (fault_of f)) a c
+    go disk.Failed last = accounts_then D Ending.OneFailed a b c first last
+    go disk.Memory last = accounts_then D Ending.OutOfMemory a b c first last

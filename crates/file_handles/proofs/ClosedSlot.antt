@@ -26,7 +26,7 @@ use Rattle.file_handles.specs.Closing.{GivesUp, MayGiveUp, is_some_draft}
 use Rattle.file_handles.specs.Held.{IsEntryOf, is_draft, object_place}
 use Rattle.file_handles.specs.Kept.{Kept, object_at, use_at, used, with_object}
 use Rattle.file_handles.specs.Refuses.{Refuses}
-use Rattle.file_handles.specs.Stands.{KeepsWhere, RepresentsSome, Stands}
+use Rattle.file_handles.specs.Stands.{HandlesStand, KeepsWhere, RepresentsSome, Stands}
 use Rattle.file_handles.specs.declared.fault.HandleFault.{HandleFault}
 use Rattle.file_handles.specs.declared.fault.HandleFault.TheVariants as fault
 use Rattle.file_handles.specs.declared.object.Entry.{Entry}
@@ -86,62 +86,64 @@ draft_is : (x : Entry) (o : MachineObject) → IsEntryOf x o → not o.finished 
 draft_is (entry.Draft d) o is = ap not is.0
 draft_is (entry.Finished meta) o is = ap not is.0
 
+-- What the machine has in a slot that is in use, and whether closing it finishes its object.
+
+module _ (k : Kept) (slot : ℕ) (small : slot < SLOTS) (u : Use) (at : use_at k slot ≡ Some u) (m : Machine) (number : ℕ → ℕ) (stand : HandlesStand k m number) where
+  pub object_there : (x : Object) × (object_at k u.place ≡ Some x)
+  object_there = some_object (object_at k u.place) (stand.used slot u at)
+
+  pub has_slot : is_slot m slot ≡ true
+  has_slot = slot_is k m number stand slot small u at
+
+  pub numbered : number_of m slot ≡ number u.place
+  numbered = slot_number k m number stand slot small u at
+
+  pub finishes : (is_writer m slot && not (object_of m slot).finished) ≡ (u.writes && is_some_draft (object_at k u.place))
+  finishes =
+      let x = object_there in
+      let held = (stand.objects u.place x.0 x.1).as_held.held_entry in
+      (λ i. slot_writes k m number stand slot small u at i && not (object m (numbered i)).finished)
+      ∙ ap (λ b. u.writes && b) (draft_is x.0.entry (object m (number u.place)) held ∙ ap is_some_draft (sym x.1))
+
+  pub close_passes : first_failing (checks m (Close slot)) ≡ None
+  unfolding checks
+  close_passes = cond-true (is_slot m slot) None (Some NoSlot) has_slot
+
+  pub close_step : step m (Close slot) ≡ answer (released (finished_by m slot) slot) Done
+  unfolding effect
+  close_step = ap (stepped m (Close slot)) close_passes
+
 module _ (s : State) (k : Kept) (slot : ℕ) (small : slot < SLOTS) (u : Use) (at : use_at k slot ≡ Some u) where
-  module _ (m : Machine) (number : ℕ → ℕ) (stands : Stands (standing s) k m number) where
-    object_there : (x : Object) × (object_at k u.place ≡ Some x)
-    object_there = some_object (object_at k u.place) (stands.handles.used slot u at)
-
-    has_slot : is_slot m slot ≡ true
-    has_slot = slot_is k m number stands.handles slot small u at
-
-    numbered : number_of m slot ≡ number u.place
-    numbered = slot_number k m number stands.handles slot small u at
-
-    finishes : (is_writer m slot && not (object_of m slot).finished) ≡ (u.writes && is_some_draft (object_at k u.place))
-    finishes =
-        let x = object_there in
-        let held = (stands.handles.objects u.place x.0 x.1).as_held.held_entry in
-        (λ i. slot_writes k m number stands.handles slot small u at i && not (object m (numbered i)).finished)
-        ∙ ap (λ b. u.writes && b) (draft_is x.0.entry (object m (number u.place)) held ∙ ap is_some_draft (sym x.1))
-
-    pub close_passes : first_failing (checks m (Close slot)) ≡ None
-    unfolding checks
-    close_passes = cond-true (is_slot m slot) None (Some NoSlot) has_slot
-
-    pub close_step : step m (Close slot) ≡ answer (released (finished_by m slot) slot) Done
-    unfolding effect
-    close_step = ap (stepped m (Close slot)) close_passes
-
-    -- an object that is not finished by the slot has its file
-    pub may_give_up : MayGiveUp slot u.place (cache_at k s)
-    may_give_up =
-        let x = object_there in
-        record {
-          placed = ap (option_map (λ (v : Use). v.place)) at;
-          there = subst (λ o. IsSomeAnd o (λ x. IsSome (standing s (object_place x)))) (sym x.1) (subst IsSome (sym (file_stands s k m number stands u.place x.0 x.1)) refl);
-        }
+  -- an object that is not finished by the slot has its file
+  pub may_give_up : (m : Machine) (number : ℕ → ℕ) → Stands (standing s) k m number → MayGiveUp slot u.place (cache_at k s)
+  may_give_up m number stands =
+      let x = object_there k slot small u at m number stands.handles in
+      record {
+        placed = ap (option_map (λ (v : Use). v.place)) at;
+        there = subst (λ o. IsSomeAnd o (λ x. IsSome (standing s (object_place x)))) (sym x.1) (subst IsSome (sym (file_stands s k m number stands u.place x.0 x.1)) refl);
+      }
 
   -- Nothing is to be finished.
   module _ (not_finishes : (u.writes && is_some_draft (object_at k u.place)) ≡ false) {b : Bool} (m : Machine) (w : Marks) (is : KeepsWhere b (cache_at k s) (history_of m w)) where
     pub unchanged_in : KeepsWhere b (cache_at k s) (history_of (finished_by m slot) (begun m (Close slot) w))
     unchanged_in =
-        let same : finished_by m slot ≡ m = ap (λ (b : Bool). if b then stored m (number_of m slot) (completed (object_of m slot)) else m) (finishes m is.number is.stands ∙ not_finishes) in
+        let same : finished_by m slot ≡ m = ap (λ (b : Bool). if b then stored m (number_of m slot) (completed (object_of m slot)) else m) (finishes k slot small u at m is.number is.stands.handles ∙ not_finishes) in
         subst (λ (n : Machine). KeepsWhere b (cache_at k s) (history_of n (begun m (Close slot) w))) (sym same) (begun_in s k m (Close slot) w is)
 
   -- The object is finished.
   module _ (to_finish : (u.writes && is_some_draft (object_at k u.place)) ≡ true) {T : Type 0} (r : Result T HandleFault) (t : State) (after : Kept) (changes : ChangesThere u.place completed r (cache_at k s) (cache_at after t)) where
     module _ {b : Bool} (m : Machine) (w : Marks) (is : KeepsWhere b (cache_at k s) (history_of m (begun m (Close slot) w))) where
       writes : (is_writer m slot && not (object_of m slot).finished) ≡ true
-      writes = finishes m is.number is.stands ∙ to_finish
+      writes = finishes k slot small u at m is.number is.stands.handles ∙ to_finish
 
       unfinished : (object_of m slot).finished ≡ false
       unfinished = not-true (object_of m slot).finished (and_parts (is_writer m slot) (not (object_of m slot).finished) writes).1
 
       may_here : MayStand m (number_of m slot) (completed (object_of m slot))
-      may_here = may_finish m slot is.stands.proper (has_slot m is.number is.stands) unfinished
+      may_here = may_finish m slot is.stands.proper (has_slot k slot small u at m is.number is.stands.handles) unfinished
 
       may : MayStand m (is.number u.place) (completed (object m (is.number u.place)))
-      may = subst (λ j. MayStand m j (completed (object m j))) (numbered m is.number is.stands) may_here
+      may = subst (λ j. MayStand m j (completed (object m j))) (numbered k slot small u at m is.number is.stands.handles) may_here
 
       finished_is : finished_by m slot ≡ stored m (number_of m slot) (completed (object_of m slot))
       finished_is = ap (λ (b : Bool). if b then stored m (number_of m slot) (completed (object_of m slot)) else m) writes
@@ -156,15 +158,15 @@ module _ (s : State) (k : Kept) (slot : ℕ) (small : slot < SLOTS) (u : Use) (a
       out : MayGoOut (begun m (Close slot) w) (is.number u.place) (completed (object m (is.number u.place)))
       out =
           let writes_it : rewritten m (Close slot) ≡ Some (number_of m slot) = ap (λ (b : Bool). if b then Some (number_of m slot) else None) writes in
-          subst (λ j. MayGoOut (begun m (Close slot) w) j (completed (object m j))) (numbered m is.number is.stands)
-          (goes_out m (Close slot) w (close_passes m is.number is.stands) (number_of m slot) (completed (object_of m slot)) writes_it refl becomes refl refl)
+          subst (λ j. MayGoOut (begun m (Close slot) w) j (completed (object m j))) (numbered k slot small u at m is.number is.stands.handles)
+          (goes_out m (Close slot) w (close_passes k slot small u at m is.number is.stands.handles) (number_of m slot) (completed (object_of m slot)) writes_it refl becomes refl refl)
 
-      there : ChangesAt u.place completed r (cache_at k s) (cache_at after t) (object_there m is.number is.stands).0
-      there = let x = object_there m is.number is.stands in changes x.0 x.1
+      there : ChangesAt u.place completed r (cache_at k s) (cache_at after t) (object_there k slot small u at m is.number is.stands.handles).0
+      there = let x = object_there k slot small u at m is.number is.stands.handles in changes x.0 x.1
 
       pub finished_safe : IsTrue b → IsSafe t (begun m (Close slot) w)
       finished_safe =
-          let x = object_there m is.number is.stands in
+          let x = object_there k slot small u at m is.number is.stands.handles in
           changed_safe s t k m (begun m (Close slot) w) is u.place x.0 completed there.changed x.1 there.changes may out
 
       finished_when : IsSound s → IsOkAnd there.changed (λ y. after ≡ with_object k u.place (Some y)) → KeepsWhere b (cache_at after t) (history_of (finished_by m slot) (begun m (Close slot) w))
@@ -173,10 +175,10 @@ module _ (s : State) (k : Kept) (slot : ℕ) (small : slot < SLOTS) (u : Use) (a
           go : (changed : Result Object HandleFault) → there.changed ≡ changed → IsOkAnd changed (λ y. after ≡ with_object k u.place (Some y)) → KeepsWhere b (cache_at after t) (history_of (finished_by m slot) (begun m (Close slot) w))
           go (Err f) e put = absurd put
           go (Ok y) e put =
-              let x = object_there m is.number is.stands in
+              let x = object_there k slot small u at m is.number is.stands.handles in
               let stands : KeepsWhere b (cache_at (with_object k u.place (Some y)) t) (history_of (stored m (is.number u.place) (completed (object m (is.number u.place)))) (begun m (Close slot) w)) =
               changed_in_safe s t k m (begun m (Close slot) w) is u.place x.0 y completed there.changed sound x.1 there.changes e may finished_safe in
-              let same : stored m (is.number u.place) (completed (object m (is.number u.place))) ≡ finished_by m slot = ap (λ j. stored m j (completed (object m j))) (sym (numbered m is.number is.stands)) ∙ sym finished_is in
+              let same : stored m (is.number u.place) (completed (object m (is.number u.place))) ≡ finished_by m slot = ap (λ j. stored m j (completed (object m j))) (sym (numbered k slot small u at m is.number is.stands.handles)) ∙ sym finished_is in
               subst (λ (l : Kept). KeepsWhere b (cache_at l t) (history_of (finished_by m slot) (begun m (Close slot) w))) (sym put)
               (subst (λ (n : Machine). KeepsWhere b (cache_at (with_object k u.place (Some y)) t) (history_of n (begun m (Close slot) w))) same stands)
 
@@ -203,16 +205,16 @@ module _ (s : State) (k : Kept) (slot : ℕ) (small : slot < SLOTS) (u : Use) (a
         }
 
     pub finished_may : RepresentsSome (cache_at k s) → OnOk r (MayGiveUp slot u.place (cache_at after t))
-    finished_may (m, (number, stands)) = go r (let x = object_there m number stands in changes x.0 x.1).put_back
+    finished_may (m, (number, stands)) = go r (let x = object_there k slot small u at m number stands.handles in changes x.0 x.1).put_back
       where
-        go : (r' : Result T HandleFault) → OnOk r' (IsOkAnd (let x = object_there m number stands in changes x.0 x.1).changed (λ y. after ≡ with_object k u.place (Some y))) → OnOk r' (MayGiveUp slot u.place (cache_at after t))
-        go (Ok value) put = let x = object_there m number stands in still_there m number stands x.0 x.1 (changes x.0 x.1) (changes x.0 x.1).changed refl put
+        go : (r' : Result T HandleFault) → OnOk r' (IsOkAnd (let x = object_there k slot small u at m number stands.handles in changes x.0 x.1).changed (λ y. after ≡ with_object k u.place (Some y))) → OnOk r' (MayGiveUp slot u.place (cache_at after t))
+        go (Ok value) put = let x = object_there k slot small u at m number stands.handles in still_there m number stands x.0 x.1 (changes x.0 x.1) (changes x.0 x.1).changed refl put
         go (Err f) put = tt
 
   -- The slot is given up then.
   module _ (t : State) (mid after : Kept) {b : Bool} (m : Machine) (w : Marks) (is : KeepsWhere b (cache_at k s) (history_of m w)) (stands : KeepsWhere b (cache_at mid t) (history_of (finished_by m slot) (begun m (Close slot) w))) (v : State) where
     reads : (object_of (finished_by m slot) slot).finished ≡ false → is_writer (finished_by m slot) slot ≡ false
-    reads = finished_reads m slot is.stands.proper (has_slot m is.number is.stands)
+    reads = finished_reads m slot is.stands.proper (has_slot k slot small u at m is.number is.stands.handles)
 
     pub closed_safe : (r : Result (Unit {0}) DiskFault) → GivesUp slot r (cache_at mid t) (cache_at after v) → IsTrue b → IsSafe v (begun m (Close slot) w)
     closed_safe r gives = (gives.leaves b (history_of (finished_by m slot) (begun m (Close slot) w)) reads stands).safe
@@ -222,8 +224,8 @@ module _ (s : State) (k : Kept) (slot : ℕ) (small : slot < SLOTS) (u : Use) (a
         let given = gives.leaves b (history_of (finished_by m slot) (begun m (Close slot) w)) reads stands in
         record {
           safe = given.safe;
-          replies = ap (λ (a : Answer). a.reply) (sym (close_step m is.number is.stands));
-          next = subst (λ (n : Machine). KeepsWhere b (cache_at after v) (history_of n (begun m (Close slot) w))) (ap (λ (a : Answer). a.next) (sym (close_step m is.number is.stands))) given.next;
+          replies = ap (λ (a : Answer). a.reply) (sym (close_step k slot small u at m is.number is.stands.handles));
+          next = subst (λ (n : Machine). KeepsWhere b (cache_at after v) (history_of n (begun m (Close slot) w))) (ap (λ (a : Answer). a.next) (sym (close_step k slot small u at m is.number is.stands.handles))) given.next;
         }
 
 -- what holds of an Ok where the disk tells

@@ -12,19 +12,33 @@ use Rattle.entry_file.specs.Version.{file_of, version_meta}
 use Rattle.entry_metadata.specs.Meta.{meta_of}
 use Rattle.entry_metadata.specs.declared.meta.Meta.{Meta}
 use Rattle.file_handles.specs.Changes.{Becomes, IsFiledAs, IsMomentOf, completed}
-use Rattle.file_handles.specs.Held.{IsEntryOf, object_place}
+use Rattle.file_handles.specs.Held.{IsEntryOf, IsHeldAs, object_place, object_with}
 use Rattle.file_handles.specs.declared.object.Draft.{Draft}
 use Rattle.file_handles.specs.declared.object.Entry.TheVariants as entry
 use Rattle.file_handles.specs.declared.object.Object.{Object}
 use Rattle.file_handles.proofs.Changed.{writes_weaker}
 
 module _ (x : Object) (d : Draft) (is : x.entry ≡ entry.Draft d) where
+  draft_of : (o : MachineObject) → IsHeldAs x o → IsEntryOf (entry.Draft d) o
+  draft_of o held = subst (λ z. IsEntryOf z o) is held.held_entry
+
   was_draft : (o : MachineObject) (s : State) → IsFiledAs x o s → IsEntryOf (entry.Draft d) o
-  was_draft o s filed = subst (λ z. IsEntryOf z o) is filed.as_held.held_entry
+  was_draft o s filed = draft_of o filed.as_held
 
   -- it is finished to its version so far
   version_is : (o : MachineObject) → IsEntryOf (entry.Draft d) o → finished d.header d.key d.elements o.version.body ≡ o.version
   version_is o was = λ i. finished (was.1.header i) (was.1.key i) (was.1.elements i) o.version.body
+
+  -- it is held as the finished object
+  pub completed_held : (meta : Meta) → ((body : List ℕ) → HasBody (held d.body) body → meta_of meta ≡ version_meta (finished d.header d.key d.elements body)) → (o : MachineObject) → IsHeldAs x o
+      → IsHeldAs (object_with x.name x.doomed (entry.Finished meta)) (completed o)
+  completed_held meta metas o as_held =
+      let was = draft_of o as_held in
+      record {
+        named = as_held.named;
+        doomed = as_held.doomed;
+        held_entry = (refl, metas o.version.body was.1.body ∙ ap version_meta (version_is o was));
+      }
 
   module _ (s t : State) (place : Place) (at : place ≡ object_place x) where
     stood : (o : MachineObject) → IsFiledAs x o s → standing s place ≡ Some (unfinished_file o.version.body)
@@ -48,11 +62,7 @@ module _ (x : Object) (d : Draft) (is : x.entry ≡ entry.Draft d) where
           same_place = refl;
           same_name = refl;
           same_number = refl;
-          as_held = record {
-            named = filed.as_held.named;
-            doomed = filed.as_held.doomed;
-            held_entry = (refl, metas o.version.body was.1.body ∙ ap version_meta (version_is o was));
-          };
+          as_held = completed_held meta metas o filed.as_held;
           file =
               ap (standing t) (sym at)
               ∙ stands o.version.body was.1.body (stood o filed)

@@ -7,7 +7,7 @@ use Rattle.std.specs.Cmp.Lexicographic.{bytes_decides}
 use Rattle.cache_base.specs.Checks.{first_failing}
 use Rattle.cache_theory.specs.Checks.{checks}
 use Rattle.cache_theory.specs.Command.{Command}
-use Rattle.cache_theory.specs.Command.Command.{At, Create, OpenKey, Append, Finish, SetElement, UnsetElement, ElementOf, ReadPart, Close, Doom, Get, Flush}
+use Rattle.cache_theory.specs.Command.Command.{Flush}
 use Rattle.cache_theory.specs.Command.Reply.{Done, Refused}
 use Rattle.cache_theory.specs.Crash.{IsSafe}
 use Rattle.cache_theory.specs.Machine.{Machine}
@@ -25,18 +25,7 @@ use Rattle.file_handles.proofs.Where.{LeavesWhere}
 acked_refused : (m : Machine) (c : Command) (w : Marks) (r : Refusal) → first_failing (checks m c) ≡ Some r → acked m c w ≡ w
 unfolding checks
 acked_refused m Flush w r e = absurd (cc)
-acked_refused m (At now) w r e = ap (λ o. begun_by o m (At now) w) e
-acked_refused m (Create s key) w r e = ap (λ o. begun_by o m (Create s key) w) e
-acked_refused m (OpenKey s key) w r e = ap (λ o. begun_by o m (OpenKey s key) w) e
-acked_refused m (Append s bytes) w r e = ap (λ o. begun_by o m (Append s bytes) w) e
-acked_refused m (Finish s) w r e = ap (λ o. begun_by o m (Finish s) w) e
-acked_refused m (SetElement s name value) w r e = ap (λ o. begun_by o m (SetElement s name value) w) e
-acked_refused m (UnsetElement s name) w r e = ap (λ o. begun_by o m (UnsetElement s name) w) e
-acked_refused m (ElementOf s name) w r e = ap (λ o. begun_by o m (ElementOf s name) w) e
-acked_refused m (ReadPart s from len) w r e = ap (λ o. begun_by o m (ReadPart s from len) w) e
-acked_refused m (Close s) w r e = ap (λ o. begun_by o m (Close s) w) e
-acked_refused m (Doom key) w r e = ap (λ o. begun_by o m (Doom key) w) e
-acked_refused m (Get key) w r e = ap (λ o. begun_by o m (Get key) w) e
+acked_refused m c w r e = ap (λ o. begun_by o m c w) e
 
 -- a refusal in this state of the machine
 pub refused_in : {b : Bool} (s : State) (k : Kept) (c : Command) (r : Refusal) (m : Machine) (w : Marks) → KeepsWhere b (cache_at k s) (history_of m w) → first_failing (checks m c) ≡ Some r → LeavesWhere b c (history_of m w) (Some (Refused r)) (cache_at k s)

@@ -1,101 +1,165 @@
--- What an index learns of a command, by the machine's object of the slot.
-use Rattle.std.proofs.Common.{◌≡◌, ℕ, ◌<◌, List, [], ◌∷◌, Bool, true, false, not, ◌&&◌, Option, Some, None, Result, Ok, Err, is_some, refl, sym, ap, subst, ◌∙◌}
-use Rattle.std.specs.Prelude.{IfOk, if◌then◌else◌, option_map}
+-- What an index learns of a command, by the object of the slot that is held.
+use Rattle.std.proofs.Common.{◌≡◌, ℕ, ◌<◌, ◌+◌, List, ◌++◌, length, length-append, Bool, true, false, not, ◌&&◌, Option, Some, None, is_some, refl, sym, ap, subst, ◌∙◌, arith}
+use Rattle.std.specs.Prelude.{if◌then◌else◌}
+use Rattle.std.proofs.lemmas.Bool.{and_parts, not-true}
+use Rattle.cache_base.specs.Bytes.{be32}
 use Rattle.cache_base.specs.declared.limits.TheConstants.{SLOTS}
 use Rattle.cache_base.specs.declared.name.Name.{Name}
 use Rattle.cache_theory.specs.Command.{Command}
 use Rattle.cache_theory.specs.Command.Command.{Close}
-use Rattle.cache_theory.specs.Machine.{Machine, Object as MachineObject, number_of, object, object_of}
-use Rattle.cache_theory.specs.Marks.{name_of_some, rewritten, undoomed_name}
-use Rattle.entry_parts.specs.Elements.{element}
+use Rattle.cache_theory.specs.Machine.{Machine, Object as MachineObject, is_writer, number_of, object, object_of}
+use Rattle.cache_theory.specs.Marks.{rewritten}
+use Rattle.cache_theory.specs.Proper.{IsObject}
+use Rattle.cache_theory.specs.Step.{Answer, finished_by, step, stepped, stored}
+use Rattle.cache_theory.proofs.Changes.{object_is}
+use Rattle.cache_theory.proofs.Objects.{nth, nth-set_same}
+use Rattle.cache_theory.proofs.Versions.{object_finished}
+use Rattle.entry_file.specs.EntryFile.{Fits, file_meta}
+use Rattle.entry_file.specs.Version.{IsVersion, Version, file_of, version_meta}
+use Rattle.entry_file.proofs.EntryLaws.{fits-Fits, fits_meta}
+use Rattle.entry_metadata.specs.Metadata.{block_bytes}
 use Rattle.entry_name.specs.EntryName.{file_name}
-use Rattle.file_handles.specs.Effects.{IsEffectOf, gone_by, gone_in, wrote_effect, wrote_where, written_in}
-use Rattle.file_handles.specs.Held.{IsHeldAs, elements_in, is_draft}
+use Rattle.entry_parts.specs.Elements.{element}
+use Rattle.index_record.specs.Filling.{record_of_meta}
+use Rattle.index_theory.specs.Scan.{record_of}
+use Rattle.file_handles.specs.Changes.{completed}
+use Rattle.file_handles.specs.Closing.{is_some_draft}
+use Rattle.file_handles.specs.Effects.{HasEffect, IsLearntOf, file_len, learnt, learnt_at, learnt_of, learnt_of_held, learnt_under, name_of, object_name}
+use Rattle.file_handles.specs.Held.{IsHeldAs, elements_in, object_with}
 use Rattle.file_handles.specs.Kept.{Kept, object_at, use_at}
 use Rattle.file_handles.specs.Refuses.{HasAt}
 use Rattle.file_handles.specs.Stands.{HandlesStand}
 use Rattle.file_handles.specs.declared.fault.Effect.{Effect}
 use Rattle.file_handles.specs.declared.fault.Effect.TheVariants as effect
+use Rattle.file_handles.specs.declared.object.Entry.{Entry}
+use Rattle.file_handles.specs.declared.object.Entry.TheVariants as entry
 use Rattle.file_handles.specs.declared.object.Object.{Object}
 use Rattle.file_handles.specs.declared.object.Use.{Use}
-use Rattle.file_handles.proofs.ElementEntries.{finished_is}
+use Rattle.file_handles.proofs.Carried.{MakesChange}
+use Rattle.file_handles.proofs.ClosedSlot.{close_step, finishes, has_slot, numbered, object_there}
+use Rattle.file_handles.proofs.ElementChecks.{if_object}
 use Rattle.file_handles.proofs.ElementReads.{there_elements}
-use Rattle.file_handles.proofs.ElementSlots.{has_object, slot_writes, there_held, there_object}
+use Rattle.file_handles.proofs.ElementSlots.{there_held, there_number, there_object}
+use Rattle.file_handles.proofs.Released.{released_objects}
 
--- a file written whole is that of the object's name, where the object is not doomed
-wrote_is : (x : Object) (o : MachineObject) → IsHeldAs x o → written_in (wrote_effect x.name x.doomed) ≡ undoomed_name o
-wrote_is x o held = go x.doomed refl
+-- The record of the file of a version.
+
+module _ (v : Version) where
+  file_length : length (file_of v) ≡ file_len (version_meta v)
+  unfolding file_of
+  file_length =
+      let whole = length-append v.body (block_bytes (version_meta v) ++ be32 (length v.body)) in
+      let tail = length-append (block_bytes (version_meta v)) (be32 (length v.body)) in
+      omega (arith, whole, tail)
+
+  joined : IsVersion v → Fits (file_name v.key) (file_of v) (version_meta v)
+  unfolding file_of
+  joined is = record { meta = is.meta; named = refl; body = v.body; ends = refl; bytes = refl }
+
+  record_is : IsVersion v → record_of (name_of v.key) (file_of v) ≡ Some (record_of_meta (name_of v.key) (version_meta v) (file_len (version_meta v)))
+  record_is is =
+      ap (λ (b : Bool). if b then Some (record_of_meta (name_of v.key) (file_meta (file_of v)) (length (file_of v))) else None) (fits-Fits (file_name v.key) (file_of v) (version_meta v) (joined is))
+      ∙ (λ i. Some (record_of_meta (name_of v.key) (fits_meta (file_name v.key) (file_of v) (version_meta v) (joined is) i) (file_length i)))
+
+-- What is learnt of an object, by what is held of it.
+
+learnt_if : MachineObject → Bool → Effect
+learnt_if o b = if b then learnt_under (object_name o) (record_of (object_name o) (file_of o.version)) else effect.Same
+
+pub and_false : (b : Bool) → (b && false) ≡ false
+and_false true = refl
+and_false false = refl
+
+pub and_true : (b : Bool) → (b && true) ≡ b
+and_true true = refl
+and_true false = refl
+
+pub learnt_unfinished : (o : MachineObject) → o.finished ≡ false → learnt_of o ≡ effect.Same
+unfolding learnt_if
+learnt_unfinished o un = ap (λ b. learnt_if o (b && not o.doomed)) un
+
+learnt_doomed : (o : MachineObject) → o.doomed ≡ true → learnt_of o ≡ effect.Same
+unfolding learnt_if
+learnt_doomed o doomed = ap (λ b. learnt_if o (o.finished && not b)) doomed ∙ ap (learnt_if o) (and_false o.finished)
+
+learnt_whole : (o : MachineObject) → o.finished ≡ true → o.doomed ≡ false → IsVersion o.version
+    → learnt_of o ≡ effect.Wrote (record_of_meta (object_name o) (version_meta o.version) (file_len (version_meta o.version)))
+unfolding learnt_if
+learnt_whole o done undoomed is = (λ i. learnt_if o (done i && not (undoomed i))) ∙ ap (learnt_under (object_name o)) (record_is o.version is)
+
+pub held_is_learnt : (name : Name) (doomed : Option ℕ) (e : Entry) (o : MachineObject) → IsHeldAs (object_with name doomed e) o → IsObject o → learnt_of_held name doomed e ≡ learnt_of o
+held_is_learnt name (Some number) e o held is = sym (learnt_doomed o (sym held.doomed))
+held_is_learnt name None (entry.Draft d) o held is = sym (learnt_unfinished o held.held_entry.0)
+held_is_learnt name None (entry.Finished meta) o held is =
+    (λ i. effect.Wrote (record_of_meta (record { 0 = held.named i }) (held.held_entry.1 i) (file_len (held.held_entry.1 i))))
+    ∙ sym (learnt_whole o held.held_entry.0 (sym held.doomed) (is.version held.held_entry.0))
+
+-- What is learnt of a number whose object is this one, where that is finished.
+pub at_finished : (m : Machine) (i : ℕ) (o : MachineObject) → object m i ≡ o → learnt_at m (if o.finished then Some i else None) ≡ learnt_of o
+at_finished m i o there = go o.finished refl
   where
-    go : (d : Option ℕ) → x.doomed ≡ d → written_in (wrote_effect x.name d) ≡ undoomed_name o
-    go None e = ap (λ n. n ∷ []) held.named ∙ sym (ap (λ b. if b then [] else file_name o.version.key ∷ []) (sym held.doomed ∙ ap is_some e))
-    go (Some n) e = sym (ap (λ b. if b then [] else file_name o.version.key ∷ []) (sym held.doomed ∙ ap is_some e))
+    go : (b : Bool) → o.finished ≡ b → learnt_at m (if b then Some i else None) ≡ learnt_of o
+    go true e = ap learnt_of there
+    go false e = sym (learnt_unfinished o e)
 
-gone_none : (name : Name) (d : Option ℕ) → gone_in (wrote_effect name d) ≡ []
-gone_none name None = refl
-gone_none name (Some n) = refl
+-- The effect of a command that changes the object of a slot.
 
--- by the test of the object
-where_gone : (x : Object) (b : Bool) → gone_in (if b then wrote_effect x.name x.doomed else effect.Same) ≡ []
-where_gone x true = gone_none x.name x.doomed
-where_gone x false = refl
+module _ (k : Kept) (c : Command) (slot : ℕ) (small : slot < SLOTS) (p : ℕ) (x : Object) (has : HasAt k slot p x) (change : MachineObject → MachineObject) (Writes : MachineObject → Type 0)
+    (makes : MakesChange k c slot change Writes) where
+  pub change_effect : (e : Effect) → ((m : Machine) → learnt m c ≡ learnt_at (step m c).next (rewritten m c))
+      → ((m : Machine) (number : ℕ → ℕ) → HandlesStand k m number → rewritten m c ≡ (if (change (object_of m slot)).finished then Some (number_of m slot) else None))
+      → IsLearntOf change (object_at k p) e → HasEffect k c e
+  change_effect e by_step writes is m number proper stand =
+      let fine = makes.passes m number proper stand in
+      let i : ℕ = number_of m slot in
+      let o : MachineObject = change (object_of m slot) in
+      let held : IsHeldAs x (object_of m slot) = subst (λ (o : MachineObject). IsHeldAs x o) (sym (there_object k m number stand slot small p x has)) (there_held k m number stand slot small p x has) in
+      let within : i < length m.objects = subst (λ j. j < length m.objects) (sym (there_number k m number stand slot small p x has)) (stand.objects p x has.found).in_use.number in
+      let there : object (step m c).next i ≡ o =
+      ap (λ (a : Answer). object a.next i) (ap (stepped m c) fine ∙ makes.effects m number stand fine)
+      ∙ nth-set_same m.objects i i o within refl
+      in
+      if_object (object_at k p) x (λ x. (o : MachineObject) → IsHeldAs x o → IsObject (change o) → e ≡ learnt_of (change o)) has.found is (object_of m slot) held (makes.objects m proper fine)
+      ∙ sym (by_step m ∙ ap (learnt_at (step m c).next) (writes m number stand) ∙ at_finished (step m c).next i o there)
 
-where_written : (m : Machine) (i : ℕ) (x : Object) (r : Option ℕ) (b : Bool) → IsHeldAs x (object m i) → r ≡ (if b then Some i else None)
-    → written_in (if b then wrote_effect x.name x.doomed else effect.Same) ≡ name_of_some m r
-where_written m i x r true held is = wrote_is x (object m i) held ∙ sym (ap (name_of_some m) is)
-where_written m i x r false held is = sym (ap (name_of_some m) is)
+-- The file of an object is rewritten when an element is removed that is there.
+pub unsets_rewrite : (k : Kept) (slot : ℕ) → slot < SLOTS → (p : ℕ) (x : Object) → HasAt k slot p x → (name value : List ℕ) → element name (elements_in x.entry) ≡ Some value
+    → (m : Machine) (number : ℕ → ℕ) → HandlesStand k m number
+    → (if (object_of m slot).finished && is_some (element name (object_of m slot).version.elements) then Some (number_of m slot) else None) ≡ (if (object_of m slot).finished then Some (number_of m slot) else None)
+unsets_rewrite k slot small p x has name value some m number stand =
+    ap (λ es. if (object_of m slot).finished && is_some (element name es) then Some (number_of m slot) else None) (there_elements k slot small p x has m number stand)
+    ∙ ap (λ o. if (object_of m slot).finished && is_some o then Some (number_of m slot) else None) some
+    ∙ ap (λ (b : Bool). if b then Some (number_of m slot) else None) (and_true (object_of m slot).finished)
 
--- the effect of a command on the object of a slot, which rewrites its file where the test holds
-pub effect_is : (k : Kept) (m : Machine) (number : ℕ → ℕ) → HandlesStand k m number → (slot : ℕ) → slot < SLOTS → (p : ℕ) (x : Object) → HasAt k slot p x
-    → (c : Command) (test : Object → Bool) (e : Effect) → gone_by c ≡ [] → rewritten m c ≡ (if test x then Some (number_of m slot) else None) → e ≡ wrote_where test (Some x) → IsEffectOf m c e
-effect_is k m number stand slot small p x has c test e none is same =
-    let held = subst (λ (o : MachineObject). IsHeldAs x o) (sym (there_object k m number stand slot small p x has)) (there_held k m number stand slot small p x has) in
-    record {
-      gone = ap gone_in same ∙ where_gone x (test x) ∙ sym none;
-      written = ap written_in same ∙ where_written m (number_of m slot) x (rewritten m c) (test x) held is;
-    }
+-- The effect of giving up a slot, which finishes the object that the slot writes.
 
--- what holds of a value for another reason
-pub by_value : {T E : Type 0} {P Q : T → Type 0} (r : Result T E) → IfOk r P → ((x : T) → P x → Q x) → IfOk r Q
-by_value (Ok x) h f = f x h
-by_value (Err e) h f = tt
+module _ (k : Kept) (slot : ℕ) (small : slot < SLOTS) (u : Use) (at : use_at k slot ≡ Some u) where
+  rewrites : (m : Machine) (number : ℕ → ℕ) → HandlesStand k m number
+      → rewritten m (Close slot) ≡ (if u.writes && is_some_draft (object_at k u.place) then Some (number_of m slot) else None)
+  rewrites m number stand = ap (λ (b : Bool). if b then Some (number_of m slot) else None) (finishes k slot small u at m number stand)
 
--- which objects have their files rewritten by a change of elements, and by the giving up of a slot
-module _ (k : Kept) (m : Machine) (number : ℕ → ℕ) (stand : HandlesStand k m number) (slot : ℕ) (small : slot < SLOTS) (p : ℕ) (x : Object) (has : HasAt k slot p x) where
-  finished_of : (object_of m slot).finished ≡ not (is_draft x.entry)
-  finished_of =
-      ap (λ (o : MachineObject). o.finished) (there_object k m number stand slot small p x has)
-      ∙ finished_is x.entry (object m (number p)) (there_held k m number stand slot small p x has).held_entry
+  pub kept_effect : (u.writes && is_some_draft (object_at k u.place)) ≡ false → HasEffect k (Close slot) effect.Same
+  kept_effect not_finishes m number proper stand =
+      sym (ap (learnt_at (step m (Close slot)).next) (rewrites m number stand ∙ ap (λ (b : Bool). if b then Some (number_of m slot) else None) not_finishes))
 
-  pub sets_rewrite : (if (object_of m slot).finished then Some (number_of m slot) else None) ≡ (if not (is_draft x.entry) then Some (number_of m slot) else None)
-  sets_rewrite = ap (λ b. if b then Some (number_of m slot) else None) finished_of
-
-  pub unsets_rewrite : (name value : List ℕ) → element name (elements_in x.entry) ≡ Some value
-      → (if (object_of m slot).finished && is_some (element name (object_of m slot).version.elements) then Some (number_of m slot) else None) ≡ (if not (is_draft x.entry) then Some (number_of m slot) else None)
-  unsets_rewrite name value some =
-      let there : is_some (element name (object_of m slot).version.elements) ≡ true =
-      ap (λ es. is_some (element name es)) (there_elements k slot small p x has m number stand) ∙ ap is_some some in
-      ap (λ b. if (object_of m slot).finished && b then Some (number_of m slot) else None) there
-      ∙ ap (λ b. if b then Some (number_of m slot) else None) (and_true (object_of m slot).finished ∙ finished_of)
-    where
-      and_true : (b : Bool) → (b && true) ≡ b
-      and_true true = refl
-      and_true false = refl
-
-not_not : (b : Bool) → not (not b) ≡ b
-not_not true = refl
-not_not false = refl
-
-pub closed_effect : (k : Kept) (m : Machine) (number : ℕ → ℕ) → HandlesStand k m number → (slot : ℕ) → slot < SLOTS → (u : Use) → use_at k slot ≡ Some u
-    → (e : Effect) → e ≡ wrote_where (λ x. u.writes && is_draft x.entry) (object_at k u.place) → IsEffectOf m (Close slot) e
-closed_effect k m number stand slot small u at e is = go (object_at k u.place) refl
-  where
-    go : (o : Option Object) → object_at k u.place ≡ o → IsEffectOf m (Close slot) e
-    go None none = absurd (has_object k m number stand slot small u at none)
-    go (Some x) found =
-        let has : HasAt k slot u.place x = record { ranged = u.ranged; place = ap (option_map (λ (v : Use). v.place)) at; found = found } in
-        effect_is k m number stand slot small u.place x has (Close slot) (λ x. u.writes && is_draft x.entry) e refl
-        (λ i. if slot_writes k m number stand slot small u at i && unfinished_of has i then Some (number_of m slot) else None)
-        (is ∙ ap (wrote_where (λ x. u.writes && is_draft x.entry)) found)
-      where
-        unfinished_of : (has : HasAt k slot u.place x) → not (object_of m slot).finished ≡ is_draft x.entry
-        unfinished_of has = ap not (finished_of k m number stand slot small u.place x has) ∙ not_not (is_draft x.entry)
+  pub finished_effect : (u.writes && is_some_draft (object_at k u.place)) ≡ true → (e : Effect) → IsLearntOf completed (object_at k u.place) e → HasEffect k (Close slot) e
+  finished_effect to_finish e is m number proper stand =
+      let i : ℕ = number_of m slot in
+      let o : MachineObject = object_of m slot in
+      let x = object_there k slot small u at m number stand in
+      let writes : (is_writer m slot && not o.finished) ≡ true = finishes k slot small u at m number stand ∙ to_finish in
+      let un : o.finished ≡ false = not-true o.finished (and_parts (is_writer m slot) (not o.finished) writes).1 in
+      let here : i ≡ number u.place = numbered k slot small u at m number stand in
+      let held : IsHeldAs x.0 o = subst (λ j. IsHeldAs x.0 (object m j)) (sym here) (stand.objects u.place x.0 x.1).as_held in
+      let within : i < length m.objects = subst (λ j. j < length m.objects) (sym here) (stand.objects u.place x.0 x.1).in_use.number in
+      let new : IsObject (completed o) = object_finished o un (object_is m slot proper (has_slot k slot small u at m number stand)) in
+      let there : object (step m (Close slot)).next i ≡ completed o =
+      ap (λ (a : Answer). object a.next i) (close_step k slot small u at m number stand)
+      ∙ ap (λ objects. nth objects i) (released_objects (finished_by m slot) slot)
+      ∙ ap (λ (b : Bool). object (if b then stored m i (completed o) else m) i) writes
+      ∙ nth-set_same m.objects i i (completed o) within refl
+      in
+      if_object (object_at k u.place) x.0 (λ x. (o : MachineObject) → IsHeldAs x o → IsObject (completed o) → e ≡ learnt_of (completed o)) x.1 is o held new
+      ∙ sym (
+      ap (learnt_at (step m (Close slot)).next) (rewrites m number stand ∙ ap (λ (b : Bool). if b then Some i else None) to_finish)
+      ∙ ap learnt_of there)

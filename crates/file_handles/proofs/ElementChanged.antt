@@ -6,7 +6,7 @@ use Rattle.cache_theory.proofs.EntryFiles.{finished_file_is, unfinished_file_is}
 use Rattle.disk_model.specs.State.{State, standing}
 use Rattle.disk_model.specs.Writes.{WritesAt}
 use Rattle.disk_model.specs.declared.place.Place.{Place}
-use Rattle.entry_file.specs.Held.{held}
+use Rattle.entry_file.specs.Held.{held as held_of}
 use Rattle.entry_file.specs.NewEntry.{HasBody}
 use Rattle.entry_file.specs.Rewriting.{StoresBody, rewritten}
 use Rattle.entry_file.specs.Version.{Version, file_of, version_meta}
@@ -17,7 +17,7 @@ use Rattle.entry_metadata.specs.Metadata.{Meta as Said}
 use Rattle.entry_metadata.specs.declared.meta.Meta.{Meta}
 use Rattle.entry_parts.specs.Elements.{Element}
 use Rattle.file_handles.specs.Changes.{Becomes, IsFiledAs, IsMomentOf, with_version}
-use Rattle.file_handles.specs.Held.{IsEntryOf, object_place}
+use Rattle.file_handles.specs.Held.{IsEntryOf, IsHeldAs, object_place, object_with}
 use Rattle.file_handles.specs.declared.object.Draft.{Draft as DraftOf}
 use Rattle.file_handles.specs.declared.object.Entry.{Entry}
 use Rattle.file_handles.specs.declared.object.Entry.TheVariants.{Draft, Finished}
@@ -49,6 +49,43 @@ module _ (es : List Element → List Element) where
   abbrev pub with_elements : MachineObject → MachineObject
   with_elements o = with_version with_es o
 
+  -- the object is held as it is with other elements
+  pub meta_held : (x : Object) (o : MachineObject) → IsHeldAs x o → (old new : Meta) → x.entry ≡ Finished old → IsMetaWith es old new → IsHeldAs (object_with x.name x.doomed (Finished new)) (with_elements o)
+  meta_held x o held old new is with =
+      let was : IsEntryOf (Finished old) o = subst (λ (e : Entry). IsEntryOf e o) is held.held_entry in
+      let old_is = was.1 in
+      record {
+        named = held.named;
+        doomed = held.doomed;
+        held_entry = (
+          was.0,
+          λ i. record {
+            header = (with.header ∙ ap (λ (m : Said). m.header) old_is) i;
+            key = (with.key ∙ ap (λ (m : Said). m.key) old_is) i;
+            elements = (with.elements ∙ ap (λ (m : Said). es m.elements) old_is) i;
+            hashes = (with.hashes ∙ ap (λ (m : Said). m.hashes) old_is) i;
+            offset = (with.offset ∙ ap (λ (m : Said). m.offset) old_is) i;
+          },
+        );
+      }
+
+  pub draft_held : (x : Object) (o : MachineObject) → IsHeldAs x o → (old new : DraftOf) → x.entry ≡ Draft old → IsDraftWith es old new → IsHeldAs (object_with x.name x.doomed (Draft new)) (with_elements o)
+  draft_held x o held old new is with =
+      let was : IsEntryOf (Draft old) o = subst (λ (e : Entry). IsEntryOf e o) is held.held_entry in
+      record {
+        named = held.named;
+        doomed = held.doomed;
+        held_entry = (
+          was.0,
+          record {
+            body = subst (λ (b : NewEntry). HasBody (held_of b) o.version.body) (sym with.body) was.1.body;
+            header = with.header ∙ was.1.header;
+            key = with.key ∙ was.1.key;
+            elements = with.elements ∙ ap es was.1.elements;
+          },
+        );
+      }
+
   -- what becomes of an object with another entry
   entry_becomes : (x : Object) (o : MachineObject) (s t : State) (e : Entry) → IsFiledAs x o s → IsEntryOf e (with_elements o) → standing t (object_place x) ≡ Some (object_file (with_elements o))
       → Becomes x (record { name = x.name; doomed = x.doomed; entry = e }) (with_elements o) t
@@ -66,15 +103,7 @@ module _ (es : List Element → List Element) where
     entry_is = subst (λ (e : Entry). IsEntryOf e o) is filed.as_held.held_entry
 
     pub meta_is : meta_of new ≡ version_meta (with_es o.version)
-    meta_is =
-        let old_is = entry_is.1 in
-        λ i. record {
-          header = (with.header ∙ ap (λ (m : Said). m.header) old_is) i;
-          key = (with.key ∙ ap (λ (m : Said). m.key) old_is) i;
-          elements = (with.elements ∙ ap (λ (m : Said). es m.elements) old_is) i;
-          hashes = (with.hashes ∙ ap (λ (m : Said). m.hashes) old_is) i;
-          offset = (with.offset ∙ ap (λ (m : Said). m.offset) old_is) i;
-        }
+    meta_is = (meta_held x o filed.as_held old new is with).held_entry.1
 
     pub stands_whole : standing s (object_place x) ≡ Some (file_of o.version)
     stands_whole = filed.file ∙ ap Some (finished_file_is o entry_is.0)
@@ -107,7 +136,5 @@ module _ (es : List Element → List Element) where
       → Becomes x (record { name = x.name; doomed = x.doomed; entry = Draft new }) (with_elements o) s
   draft_becomes x o s filed old new is with =
       let was = subst (λ (e : Entry). IsEntryOf e o) is filed.as_held.held_entry in
-      let body = subst (λ (b : NewEntry). HasBody (held b) o.version.body) (sym with.body) was.1.body in
-      entry_becomes x o s s (Draft new) filed
-      (was.0, record { body = body; header = with.header ∙ was.1.header; key = with.key ∙ was.1.key; elements = with.elements ∙ ap es was.1.elements })
+      entry_becomes x o s s (Draft new) filed (draft_held x o filed.as_held old new is with).held_entry
       (filed.file ∙ ap Some (unfinished_file_is o was.0 ∙ sym (unfinished_file_is (with_elements o) was.0)))

@@ -34,7 +34,7 @@ use Rattle.file_handles.proofs.ElementMarks.{goes_out}
 use Rattle.file_handles.proofs.ElementReads.{there_elements}
 
 -- the file of an unfinished object stays as it is
-abbrev IsFinished : MachineObject → Type 0
+abbrev pub IsFinished : MachineObject → Type 0
 IsFinished o = o.finished ≡ true
 
 writes_finished : (s t : State) (x : Object) → (is_draft x.entry ≡ true → t ≡ s) → (o : MachineObject) → IsHeldAs x o → IsFinished o ⊎ (t ≡ s)
@@ -43,7 +43,7 @@ writes_finished s t x quiet o held = elim (cases_Bool (is_draft x.entry)) [
   | inr finished ↦ inl (finished_is x.entry o held.held_entry ∙ ap not finished)
 ]
 
-set_makes : (k : Kept) (slot : ℕ) (name value : List ℕ) → AreBytes name → AreBytes value → Passes k (SetElement slot name value)
+pub set_makes : (k : Kept) (slot : ℕ) (name value : List ℕ) → AreBytes name → AreBytes value → Passes k (SetElement slot name value)
     → MakesChange k (SetElement slot name value) slot (with_elements (with_element name value)) IsFinished
 unfolding checks effect
 set_makes k slot name value name_bytes value_bytes passes = record {
@@ -61,6 +61,28 @@ set_makes k slot name value name_bytes value_bytes passes = record {
       (ap (λ (b : Bool). if b then Some (number_of m slot) else None) done) refl becomes refl refl;
 }
 
+module _ (k : Kept) (slot : ℕ) (small : slot < SLOTS) (p : ℕ) (x : Object) (has : HasAt k slot p x) (name value : List ℕ) (some : element name (elements_in x.entry) ≡ Some value) (passes : Passes k (UnsetElement slot name)) where
+  element_there : (m : Machine) (number : ℕ → ℕ) → HandlesStand k m number → element name (object_of m slot).version.elements ≡ Some value
+  element_there m number stand = ap (element name) (there_elements k slot small p x has m number stand) ∙ some
+
+  pub unset_makes : MakesChange k (UnsetElement slot name) slot (with_elements (without_element name)) IsFinished
+  unfolding checks effect
+  unset_makes = record {
+    passes = passes;
+    acks = λ m w. refl;
+    effects = λ m number stand fine.
+        ap (λ (o : Option (List ℕ)). cond (is_none o) (answer m NoneThere) (answer (changed m slot (λ v. record v { elements = without_element name v.elements })) Done)) (element_there m number stand);
+    objects = λ m proper fine.
+        let all = all_hold (checks m (UnsetElement slot name)) fine in
+        object_without (object_of m slot) name (object_is m slot proper all.0);
+    key = λ o. refl;
+    doomed = λ o. refl;
+    unfinished = λ o un. un;
+    out = λ m w number stand fine done becomes.
+        goes_out m (UnsetElement slot name) w fine (number_of m slot) (with_elements (without_element name) (object_of m slot))
+        (λ i. if done i && is_some (element_there m number stand i) then Some (number_of m slot) else None) refl becomes refl refl;
+  }
+
 module _ (s t : State) (sound : IsSound s) (k after : Kept) (slot : ℕ) (small : slot < SLOTS) (p : ℕ) (x : Object) (has : HasAt k slot p x) (name : List ℕ) {T : Type 0} (r : Result T HandleFault)
     (quiet : IfSome (object_at k p) (λ z. is_draft z.entry ≡ true → t ≡ s)) (none : OnRefused r (λ _. ⊥)) where
   writes : (o : MachineObject) → IsHeldAs x o → IsFinished o ⊎ (t ≡ s)
@@ -73,30 +95,8 @@ module _ (s t : State) (sound : IsSound s) (k after : Kept) (slot : ℕ) (small 
       change_carried s t sound k after (SetElement slot name value) slot small p x has (with_elements (with_element name value)) IsFinished (set_makes k slot name value name_bytes value_bytes passes) r (there x has.found) writes none
 
   -- and one that removes an element
-  module _ (value : List ℕ) (some : element name (elements_in x.entry) ≡ Some value) (passes : Passes k (UnsetElement slot name)) where
-    element_there : (m : Machine) (number : ℕ → ℕ) → HandlesStand k m number → element name (object_of m slot).version.elements ≡ Some value
-    element_there m number stand = ap (element name) (there_elements k slot small p x has m number stand) ∙ some
-
-    unset_makes : MakesChange k (UnsetElement slot name) slot (with_elements (without_element name)) IsFinished
-    unfolding checks effect
-    unset_makes = record {
-      passes = passes;
-      acks = λ m w. refl;
-      effects = λ m number stand fine.
-          ap (λ (o : Option (List ℕ)). cond (is_none o) (answer m NoneThere) (answer (changed m slot (λ v. record v { elements = without_element name v.elements })) Done)) (element_there m number stand);
-      objects = λ m proper fine.
-          let all = all_hold (checks m (UnsetElement slot name)) fine in
-          object_without (object_of m slot) name (object_is m slot proper all.0);
-      key = λ o. refl;
-      doomed = λ o. refl;
-      unfinished = λ o un. un;
-      out = λ m w number stand fine done becomes.
-          goes_out m (UnsetElement slot name) w fine (number_of m slot) (with_elements (without_element name) (object_of m slot))
-          (λ i. if done i && is_some (element_there m number stand i) then Some (number_of m slot) else None) refl becomes refl refl;
-    }
-
-    pub unset_leaves : ChangesThere p (with_elements (without_element name)) r (cache_at k s) (cache_at after t) → CarriesOut (UnsetElement slot name) (done_or r) (cache_at k s) (cache_at after t)
-    unset_leaves there = change_carried s t sound k after (UnsetElement slot name) slot small p x has (with_elements (without_element name)) IsFinished unset_makes r (there x has.found) writes none
+  pub unset_leaves : (value : List ℕ) → element name (elements_in x.entry) ≡ Some value → Passes k (UnsetElement slot name) → ChangesThere p (with_elements (without_element name)) r (cache_at k s) (cache_at after t) → CarriesOut (UnsetElement slot name) (done_or r) (cache_at k s) (cache_at after t)
+  unset_leaves value some passes there = change_carried s t sound k after (UnsetElement slot name) slot small p x has (with_elements (without_element name)) IsFinished (unset_makes k slot small p x has name value some passes) r (there x has.found) writes none
 
 -- a fault that is handed on
 pub fault_reply : {T : Type 0} (r : Result (Option T) HandleFault) (f : HandleFault) → IsErrAnd r (λ e. e ≡ f) → done_or_none r ≡ reply_in f

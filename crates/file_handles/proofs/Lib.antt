@@ -20,7 +20,6 @@ pub mod Carried
 pub mod WriterCommands
 pub mod ElementChanged
 pub mod ElementReads
-pub mod EffectLaws
 pub mod ElementCommands
 pub mod User
 pub mod DoomedNumbers
@@ -50,6 +49,8 @@ pub mod Released
 pub mod ReleasedFiles
 pub mod ReleasedSlot
 pub mod ClosedSlot
+pub mod EffectLaws
+pub mod LearntLaws
 pub mod ClosedAll
 pub mod Parts
 pub mod PartsSlots

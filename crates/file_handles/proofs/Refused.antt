@@ -3,7 +3,7 @@ use Rattle.std.proofs.Common.{◌≡◌, inl, inr, Option, Some, None, Result, O
 use Rattle.cache_base.specs.Checks.{first_failing}
 use Rattle.cache_theory.specs.Checks.{checks}
 use Rattle.cache_theory.specs.Command.{Command}
-use Rattle.cache_theory.specs.Command.Command.{At, Create, OpenKey, Append, Finish, SetElement, UnsetElement, ElementOf, ReadPart, Close, Doom, Get, Flush}
+use Rattle.cache_theory.specs.Command.Command.{Flush}
 use Rattle.cache_theory.specs.Command.Reply.{Refused}
 use Rattle.cache_theory.specs.Crash.{IsAsMarked, IsSafe, MayBeFiled}
 use Rattle.cache_theory.specs.Ever.{entry_place}
@@ -36,18 +36,7 @@ begun_refused m c w r e = ap (λ o. begun_by o m c w) e
 acked_refused : (m : Machine) (c : Command) (w : Marks) (r : Refusal) → first_failing (checks m c) ≡ Some r → acked m c w ≡ w
 unfolding checks
 acked_refused m Flush w r e = absurd (cc)
-acked_refused m (At now) w r e = begun_refused m (At now) w r e
-acked_refused m (Create s key) w r e = begun_refused m (Create s key) w r e
-acked_refused m (OpenKey s key) w r e = begun_refused m (OpenKey s key) w r e
-acked_refused m (Append s bytes) w r e = begun_refused m (Append s bytes) w r e
-acked_refused m (Finish s) w r e = begun_refused m (Finish s) w r e
-acked_refused m (SetElement s name value) w r e = begun_refused m (SetElement s name value) w r e
-acked_refused m (UnsetElement s name) w r e = begun_refused m (UnsetElement s name) w r e
-acked_refused m (ElementOf s name) w r e = begun_refused m (ElementOf s name) w r e
-acked_refused m (ReadPart s from len) w r e = begun_refused m (ReadPart s from len) w r e
-acked_refused m (Close s) w r e = begun_refused m (Close s) w r e
-acked_refused m (Doom key) w r e = begun_refused m (Doom key) w r e
-acked_refused m (Get key) w r e = begun_refused m (Get key) w r e
+acked_refused m c w r e = begun_refused m c w r e
 
 -- so it is carried out, whatever the state of the machine and the marks
 pub refused_where : (s : State) (k : Kept) (c : Command) (r : Refusal) → Refuses k c r → CarriesOutWhere c (Some (Refused r)) (cache_at k s) (cache_at k s)

@@ -46,6 +46,9 @@ by_release m s P kept gone =
 pub released_slots : (m : Machine) (s : ℕ) → (released m s).slots ≡ with_slot s None m.slots
 released_slots m s = by_release m s (λ t. t.slots ≡ with_slot s None m.slots) refl refl
 
+pub released_shelf : (m : Machine) (s : ℕ) → (released m s).shelf ≡ m.shelf
+released_shelf m s = by_release m s (λ t. t.shelf ≡ m.shelf) refl refl
+
 pub released_objects : (m : Machine) (s : ℕ) → (released m s).objects ≡ m.objects
 released_objects m s = by_release m s (λ t. t.objects ≡ m.objects) refl refl
 

@@ -1,51 +1,94 @@
 -- What an index must learn of a command.
-use Rattle.std.specs.Prelude.{Bool, List, None, Option, Some, [], if◌then◌else◌, ℕ, ◌∷◌, ◌≡◌}
+use Rattle.std.specs.Prelude.{IfSome, List, None, Option, Some, if◌then◌else◌, length, not, ℕ, ◌&&◌, ◌+◌, ◌≡◌}
+use Rattle.cache_base.specs.Checks.{first_failing}
 use Rattle.cache_base.specs.declared.name.Name.{Name}
+use Rattle.cache_theory.specs.Checks.{checks}
 use Rattle.cache_theory.specs.Command.{Command}
 use Rattle.cache_theory.specs.Command.Command.{Create, Doom}
-use Rattle.cache_theory.specs.Machine.{Machine}
-use Rattle.cache_theory.specs.Marks.{name_of_some, rewritten}
+use Rattle.cache_theory.specs.Machine.{Machine, Object as MachineObject, object}
+use Rattle.cache_theory.specs.Marks.{rewritten}
+use Rattle.cache_theory.specs.Proper.{IsObject, IsProper}
+use Rattle.cache_theory.specs.Step.{step}
+use Rattle.cache_theory.specs.Table.{get}
+use Rattle.entry_file.specs.Version.{file_of}
+use Rattle.entry_metadata.specs.Meta.{meta_of}
+use Rattle.entry_metadata.specs.Metadata.{Meta, block_bytes}
 use Rattle.entry_name.specs.EntryName.{file_name}
+use Rattle.index_record.specs.Filling.{record_of_meta}
+use Rattle.index_record.specs.declared.record.IndexRecord.{IndexRecord}
+use Rattle.index_theory.specs.Scan.{record_of, scanned}
+use Rattle.record_list.specs.Lists.{same_name}
+use Rattle.file_handles.specs.Held.{IsHeldAs}
 use Rattle.file_handles.specs.Kept.{Kept}
 use Rattle.file_handles.specs.Stands.{HandlesStand}
 use Rattle.file_handles.specs.declared.fault.Effect.{Effect}
 use Rattle.file_handles.specs.declared.fault.Effect.TheVariants as effect
+use Rattle.file_handles.specs.declared.object.Entry.{Entry}
+use Rattle.file_handles.specs.declared.object.Entry.TheVariants as entry
 use Rattle.file_handles.specs.declared.object.Object.{Object}
 
--- a file of this object was written whole: an index must learn of it unless it is doomed
-abbrev pub wrote_effect : Name → Option ℕ → Effect
-wrote_effect name None = effect.Wrote name
-wrote_effect name (Some number) = effect.Same
+-- the name of a key, and of an object
+abbrev pub name_of : List ℕ → Name
+name_of key = record { 0 = file_name key }
 
--- where the object is such a one, and its file is written whole
-abbrev pub wrote_where : (Object → Bool) → Option Object → Effect
-wrote_where test None = effect.Same
-wrote_where test (Some x) = if test x then wrote_effect x.name x.doomed else effect.Same
+abbrev pub object_name : MachineObject → Name
+object_name o = name_of o.version.key
 
--- the name that an effect calls gone, and the one that it calls written
-abbrev pub gone_in : Effect → List (List ℕ)
-gone_in (effect.Gone name) = name.0 ∷ []
-gone_in (effect.Wrote name) = []
-gone_in effect.Same = []
+-- what is learnt of a name, by the record that a scan finds there, if there is one
+abbrev pub learnt_under : Name → Option IndexRecord → Effect
+learnt_under name None = effect.Gone name
+learnt_under name (Some r) = effect.Wrote r
 
-abbrev pub written_in : Effect → List (List ℕ)
-written_in (effect.Gone name) = []
-written_in (effect.Wrote name) = name.0 ∷ []
-written_in effect.Same = []
+-- what is learnt of an object that was written: the record of its file, where it is finished and
+-- not doomed
+abbrev pub learnt_of : MachineObject → Effect
+learnt_of o =
+    if o.finished && not o.doomed
+    then learnt_under (object_name o) (record_of (object_name o) (file_of o.version))
+    else effect.Same
 
--- the name under which a command leaves no finished entry
-abbrev pub gone_by : Command → List (List ℕ)
-gone_by (Create s key) = file_name key ∷ []
-gone_by (Doom key) = file_name key ∷ []
-gone_by _ = []
+-- the same of the object of a number, if there is one
+abbrev pub learnt_at : Machine → Option ℕ → Effect
+learnt_at m None = effect.Same
+learnt_at m (Some i) = learnt_of (object m i)
 
--- the effect says of a command of the machine what the index must learn: under which name no
--- finished entry stands any more, and under which name the file of an entry that is not doomed was
--- finished or had its metadata rewritten
-pub record IsEffectOf (m : Machine) (c : Command) (e : Effect) : Type 0 where
-  pub gone : gone_in e ≡ gone_by c
-  pub written : written_in e ≡ name_of_some m (rewritten m c)
+-- what an index must learn of a command whose checks hold: that under a name no finished entry
+-- stands any more, or the record of the file that was finished or had its metadata rewritten
+abbrev pub learnt : Machine → Command → Effect
+learnt m (Create s key) = effect.Gone (name_of key)
+learnt m (Doom key) = effect.Gone (name_of key)
+learnt m c = learnt_at (step m c).next (rewritten m c)
 
--- so it does for every machine that the handles stand for
+-- so it is for every machine that the handles stand for
 abbrev pub HasEffect : Kept → Command → Effect → Type 0
-HasEffect k c e = (m : Machine) (number : ℕ → ℕ) → HandlesStand k m number → IsEffectOf m c e
+HasEffect k c e =
+    (m : Machine) (number : ℕ → ℕ) → IsProper m → HandlesStand k m number → e ≡ learnt m c
+
+-- it is what is learnt of an object that is held, whichever of the machine's that is, once it is
+-- changed so
+abbrev pub IsLearntOf : (MachineObject → MachineObject) → Option Object → Effect → Type 0
+IsLearntOf change held e = IfSome held (λ x.
+    (o : MachineObject) → IsHeldAs x o → IsObject (change o) → e ≡ learnt_of (change o))
+
+-- the length of the file with these metadata
+abbrev pub file_len : Meta → ℕ
+file_len m = m.offset + length (block_bytes m) + 4
+
+-- what is learnt of an object that was written, by what is held of it
+abbrev pub learnt_of_held : Name → Option ℕ → Entry → Effect
+learnt_of_held name (Some number) e = effect.Same
+learnt_of_held name None (entry.Draft d) = effect.Same
+learnt_of_held name None (entry.Finished meta) =
+    effect.Wrote (record_of_meta name (meta_of meta) (file_len (meta_of meta)))
+
+-- what is said of a name once this is learnt
+abbrev pub once : Effect → (Name → Option IndexRecord) → Name → Option IndexRecord
+once effect.Same said name = said name
+once (effect.Gone gone) said name = if same_name gone name then None else said name
+once (effect.Wrote r) said name = if same_name r.name name then Some r else said name
+
+-- a command whose checks hold changes the scan of the shelf by what is learnt of it
+abbrev pub LearntIsScanned : Type 0
+LearntIsScanned = (m : Machine) (c : Command)
+    → IsProper m → first_failing (checks m c) ≡ None → (name : Name)
+    → scanned (get (step m c).next.shelf) name ≡ once (learnt m c) (scanned (get m.shelf)) name

@@ -10,8 +10,8 @@ ghost use Rattle.disk_model.specs.State.{standing};
 ghost use Rattle.disk_model.specs.Told.{Told};
 ghost use Rattle.file_handles.specs.Answers.{OnRefused, done_or, ending};
 ghost use Rattle.file_handles.specs.Closing.{dropped, is_some_draft, is_use_of, let_go_by};
-ghost use Rattle.file_handles.specs.Effects.{HasEffect, wrote_where};
-ghost use Rattle.file_handles.specs.Held.{is_draft, object_place};
+ghost use Rattle.file_handles.specs.Effects.{HasEffect};
+ghost use Rattle.file_handles.specs.Held.{object_place};
 ghost use Rattle.index_theory.specs.Leaves.{LeavesIndex};
 
 use crate::object::{Entry, Object, Use};
@@ -98,8 +98,7 @@ impl Handles {
             FinishesFirst slot result (at self.old disk.old) (at self.new disk.new) }
         ensures there { OnOk result (IsTrue D.tells →
             MayGiveUp slot used.place (cache D.Disk self.new disk.new)) }
-        ensures effect { IfOk result (λ effect. effect ≡ wrote_where
-            (λ x. used.writes && is_draft x.entry) (object_kept_at (kept self.old) used.place)) }
+        ensures effect { IfOk result (HasEffect (kept self.old) (Close slot)) }
         ensures refused { OnRefused result (λ _. ⊥) }
         ensures index { Told D.Disk LeavesIndex disk.old disk.new }
         ensures account { Accounts D.Disk (ending result) disk.old disk.new }

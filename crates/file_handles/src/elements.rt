@@ -1,6 +1,6 @@
 //! Reads and changes the elements of an entry in use.
 
-ghost use Rattle.std.specs.Prelude.{ℕ, List, None, Some, true, ◌+◌, ◌≡◌, ◌<◌, ◌≤◌, not, IfErr, IfNone, IfOk, IfSome, IsSomeAnd, IsTrue, OnOk, length, option_map};
+ghost use Rattle.std.specs.Prelude.{ℕ, List, None, Some, true, ◌+◌, ◌≡◌, ◌<◌, ◌≤◌, IfErr, IfNone, IfOk, IfSome, IsSomeAnd, IsTrue, OnOk, length, option_map};
 ghost use Rattle.cache_base.specs.Limits.{chunks as chunks_of};
 ghost use Rattle.cache_base.specs.declared.limits.TheConstants.{ELEMENTS_MAX, SLOTS};
 ghost use Rattle.cache_theory.specs.Command.Command.{ElementOf, SetElement, UnsetElement};
@@ -12,11 +12,12 @@ ghost use Rattle.entry_metadata.specs.Metadata.{block_length};
 ghost use Rattle.entry_parts.specs.Elements.{elements_bytes};
 ghost use Rattle.entry_parts.specs.Setting.{has_zero as has_zero_in, with_element};
 ghost use Rattle.file_handles.specs.Answers.{OnRefused, done_or, done_or_none, ending};
-ghost use Rattle.file_handles.specs.Effects.{HasEffect, wrote_where};
+ghost use Rattle.file_handles.specs.Effects.{HasEffect, IsLearntOf};
 ghost use Rattle.file_handles.specs.Held.{body_len_in, elements_in, is_draft, key_in};
 ghost use Rattle.file_handles.specs.Setting.{HasRoom, are_small, changed_by, small_len, with_change};
 ghost use Rattle.index_theory.specs.Leaves.{LeavesIndex};
 
+use crate::finish::learnt_of;
 use crate::object::{Draft, Entry, Object};
 use crate::{Effect, HandleFault, Handles};
 use cache_base::{BLOCK_MAX, ELEMENTS_MAX, NoMemory, chunks};
@@ -156,16 +157,6 @@ fn changed_meta(meta: Meta, change: Change<'_>) -> Result<Meta, NoMemory>
     })
 }
 
-// What an index must learn after the elements of an entry changed.
-fn rewrote(object: &Object) -> Effect
-    ensures { result ≡ wrote_where (λ x. not (is_draft x.entry)) (Some object.now) }
-{
-    match object.entry {
-        Entry::Draft(_) => Effect::Same,
-        Entry::Finished(_) => object.wrote(),
-    }
-}
-
 impl Handles {
     ghost use Rattle.file_handles.specs.Cache.{cache};
     ghost use Rattle.file_handles.specs.Carries.{Answers, CarriesOut};
@@ -231,14 +222,13 @@ impl Handles {
             (at self.old disk.old) (at self.new disk.new) }
         ensures quiet { IsTrue D.tells → IfSome (object_kept_at (kept self.old) place)
             (λ x. is_draft x.entry ≡ true → D.state disk.new ≡ D.state disk.old) }
-        ensures effect { IfOk result (λ effect. effect ≡ wrote_where
-            (λ x. not (is_draft x.entry)) (object_kept_at (kept self.old) place)) }
+        ensures effect { IfOk result (IsLearntOf
+            (with_version (with_change change.entry)) (object_kept_at (kept self.old) place)) }
         ensures refused { OnRefused result (λ _. ⊥) }
         ensures account { Accounts D.Disk (ending result) disk.old disk.new }
     {
         let object = self.take(place);
         let file = object.file_place();
-        let effect = rewrote(&object);
         let Object {
             name,
             doomed,
@@ -252,6 +242,7 @@ impl Handles {
                 Entry::Finished(meta)
             }
         };
+        let effect = learnt_of(&name, doomed, &entry);
         self.put_entry(place, name, doomed, entry);
         Ok(effect)
     }

@@ -7,6 +7,7 @@ ghost use Rattle.file_handles.specs.declared.fault.HandleFault.TheVariants.{Memo
 use cache_base::{Name, NoMemory};
 use cache_theory::Refusal;
 use disk_model::DiskFault;
+use index_record::IndexRecord;
 
 /// Why a call did nothing, or failed.
 #[derive(Clone, Copy, Debug, PartialEq, Eq)]
@@ -53,6 +54,6 @@ pub enum Effect {
     Same,
     /// No finished entry stands under the name any more.
     Gone(Name),
-    /// An entry was finished under the name, or its metadata were rewritten.
-    Wrote(Name),
+    /// An entry was finished, or its metadata were rewritten: this is the record of its file.
+    Wrote(IndexRecord),
 }

@@ -5,27 +5,38 @@ ghost use Rattle.cache_base.specs.declared.limits.TheConstants.{SLOTS};
 ghost use Rattle.cache_theory.specs.Command.Command.{Finish};
 ghost use Rattle.disk_model.specs.Account.{Accounts};
 ghost use Rattle.disk_model.specs.Told.{Told};
+ghost use Rattle.entry_metadata.specs.Meta.{meta_of};
 ghost use Rattle.file_handles.specs.Answers.{OnRefused, done_or, ending};
-ghost use Rattle.file_handles.specs.Effects.{HasEffect, wrote_effect, wrote_where};
+ghost use Rattle.file_handles.specs.Effects.{HasEffect, IsLearntOf, file_len as file_len_of, learnt_of_held};
 ghost use Rattle.file_handles.specs.Held.{is_draft};
 ghost use Rattle.index_theory.specs.Leaves.{LeavesIndex};
 
 use crate::object::{Draft, Entry, Object};
 use crate::{Effect, HandleFault, Handles};
-use cache_base::BODY_MAX;
+use cache_base::{BODY_MAX, Name};
 use cache_theory::Refusal;
 use disk_model::Disk;
+use entry_metadata::{Meta, block_len};
+use index_record::of_meta;
 use std::alloc::Global;
 
-impl Object {
-    /// What an index must learn after its file was written whole.
-    pub(crate) fn wrote(&self) -> Effect
-        ensures { result ≡ wrote_effect self.now.name self.now.doomed }
-    {
-        match self.doomed {
-            Some(_) => Effect::Same,
-            None => Effect::Wrote(self.name),
-        }
+// The length of the file with these metadata.
+fn file_len(meta: &Meta) -> u64
+    ensures { result ≡ file_len_of (meta_of meta.now) }
+{
+    u64::from(meta.offset) + block_len(meta) as u64 + 4
+}
+
+/// What an index must learn of an entry that was written: the record of its file, if it is finished and not doomed.
+pub(crate) fn learnt_of(name: &Name, doomed: Option<u32>, entry: &Entry) -> Effect
+    ensures { result ≡ learnt_of_held name.now doomed entry.now }
+{
+    match doomed {
+        Some(_) => Effect::Same,
+        None => match entry {
+            Entry::Draft(_) => Effect::Same,
+            Entry::Finished(meta) => Effect::Wrote(of_meta(name, meta, file_len(meta))),
+        },
     }
 }
 
@@ -65,14 +76,13 @@ impl Handles {
         requires told { IsTrue D.tells → IsFiledAt (cache D.Disk self.old disk.old) place }
         ensures changes { let at = cache D.Disk in IsTrue D.tells →
             ChangesThere place completed result (at self.old disk.old) (at self.new disk.new) }
-        ensures effect { IfOk result (λ effect.
-            effect ≡ wrote_where (λ x. true) (object_kept_at (kept self.old) place)) }
+        ensures effect { IfOk result
+            (IsLearntOf completed (object_kept_at (kept self.old) place)) }
         ensures refused { OnRefused result (λ _. ⊥) }
         ensures account { Accounts D.Disk (ending result) disk.old disk.new }
     {
         let object = self.take(place);
         let file = object.file_place();
-        let effect = object.wrote();
         let Object {
             name,
             doomed,
@@ -93,6 +103,7 @@ impl Handles {
         } = draft;
         let meta = body.finish(alloc, disk, &file, header, key, elements)?;
         let entry = Entry::Finished(meta);
+        let effect = learnt_of(&name, doomed, &entry);
         self.put_entry(place, name, doomed, entry);
         Ok(effect)
     }

@@ -12,6 +12,7 @@ mod fault;
 mod find;
 mod finish;
 mod handles;
+mod laws;
 mod object;
 mod open;
 mod read;
@@ -19,6 +20,7 @@ mod read;
 pub use cache_theory::Refusal;
 pub use fault::{Effect, HandleFault};
 pub use handles::Handles;
+pub use laws::learnt_is_scanned;
 
 #[cfg(test)]
 mod tests;

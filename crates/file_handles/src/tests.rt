@@ -6,8 +6,9 @@ mod refusals;
 mod sessions;
 
 use crate::{Effect, HandleFault, Handles, Refusal};
-use cache_base::NoMemory;
+use cache_base::{Moment, NoMemory};
 use entry_name::name_of;
+use index_record::{INITIALIZED, IndexRecord, NO_TIME};
 use real_disk::RealDisk;
 use std::alloc::AllocError;
 use std::fs;
@@ -32,8 +33,21 @@ fn gone() -> Result<Effect, HandleFault> {
     Ok(Effect::Gone(name_of(X)))
 }
 
-fn wrote() -> Result<Effect, HandleFault> {
-    Ok(Effect::Wrote(name_of(X)))
+// The record of the entry, made at this moment: its key has no origin, and so the hash of none.
+fn wrote_with(now: Moment, content: u8, size_kb: u32) -> Result<Effect, HandleFault> {
+    Ok(Effect::Wrote(IndexRecord {
+        name: name_of(X),
+        frecency: now,
+        origin: 0xDA39_A3EE_5E6B_4B0D,
+        on_start: NO_TIME,
+        on_stop: NO_TIME,
+        content,
+        flags: INITIALIZED | size_kb,
+    }))
+}
+
+fn wrote(now: Moment) -> Result<Effect, HandleFault> {
+    wrote_with(now, 0, 1)
 }
 
 fn refused<T>(refusal: Refusal) -> Result<T, HandleFault> {

@@ -61,7 +61,7 @@ fn an_unused_entry_is_removed(rt: HostRuntime) -> Result<(), Fail> {
     let mut disk = disk_in(&rt)?;
     let mut handles = handles_of(&rt)?;
     assert_eq!(rt; handles.create(rt.alloc(), &mut disk, 0, X, 5), gone());
-    assert_eq!(rt; handles.close(rt.alloc(), &mut disk, 0), wrote());
+    assert_eq!(rt; handles.close(rt.alloc(), &mut disk, 0), wrote(5));
     assert_eq!(rt; handles.doom(rt.alloc(), &mut disk, X), gone());
     assert!(rt; is_missing(&rt, X_PATH));
     assert!(rt; is_missing(&rt, "cache/doomed/0"));

@@ -11,11 +11,14 @@ fn elements_are_set(rt: HostRuntime) -> Result<(), Fail> {
         handles.set_element(rt.alloc(), &mut disk, 0, b"ctid", b"5"),
         Ok(Effect::Same)
     );
-    assert_eq!(rt; handles.finish(rt.alloc(), &mut disk, 0), wrote());
+    assert_eq!(rt;
+        handles.finish(rt.alloc(), &mut disk, 0),
+        wrote_with(5, 5, 1)
+    );
     assert!(rt; has_len(&rt, X_PATH, 59));
     assert_eq!(rt;
         handles.set_element(rt.alloc(), &mut disk, 0, b"a", b"bc"),
-        wrote()
+        wrote_with(5, 5, 1)
     );
     assert!(rt; has_len(&rt, X_PATH, 64));
     assert_eq!(rt; handles.element(0, b"ctid"), Ok(Some(b"5".as_slice())));
@@ -26,7 +29,7 @@ fn elements_are_set(rt: HostRuntime) -> Result<(), Fail> {
     );
     assert_eq!(rt;
         handles.unset_element(rt.alloc(), &mut disk, 0, b"ctid"),
-        wrote().map(Some)
+        wrote(5).map(Some)
     );
     assert!(rt; has_len(&rt, X_PATH, 57));
     Ok(())
@@ -39,10 +42,10 @@ fn elements_are_read_anew(rt: HostRuntime) -> Result<(), Fail> {
     let mut handles = handles_of(&rt)?;
     assert_eq!(rt; handles.create(rt.alloc(), &mut disk, 0, X, 5), gone());
     assert_eq!(rt; handles.append(&mut disk, 0, b"body"), Ok(()));
-    assert_eq!(rt; handles.finish(rt.alloc(), &mut disk, 0), wrote());
+    assert_eq!(rt; handles.finish(rt.alloc(), &mut disk, 0), wrote(5));
     assert_eq!(rt;
         handles.set_element(rt.alloc(), &mut disk, 0, b"name", b"value"),
-        wrote()
+        wrote(5)
     );
     assert_eq!(rt; handles.close_all(&mut disk), Ok(()));
     let mut later = handles_of(&rt)?;

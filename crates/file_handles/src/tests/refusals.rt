@@ -59,7 +59,7 @@ fn readers_do_not_write(rt: HostRuntime) -> Result<(), Fail> {
         refused(Refusal::NotWriter)
     );
     assert!(rt; handles.find(rt.alloc(), &mut disk, X).is_err());
-    assert_eq!(rt; handles.finish(rt.alloc(), &mut disk, 0), wrote());
+    assert_eq!(rt; handles.finish(rt.alloc(), &mut disk, 0), wrote(5));
     assert_eq!(rt;
         handles.append(&mut disk, 0, b"x"),
         refused(Refusal::Finished)
@@ -74,7 +74,7 @@ fn readers_do_not_write(rt: HostRuntime) -> Result<(), Fail> {
     );
     assert_eq!(rt;
         handles.set_element(rt.alloc(), &mut disk, 1, b"x", b"y"),
-        wrote()
+        wrote(5)
     );
     Ok(())
 }
@@ -86,7 +86,7 @@ fn damage_is_seen(rt: HostRuntime) -> Result<(), Fail> {
     let mut handles = handles_of(&rt)?;
     assert_eq!(rt; handles.create(rt.alloc(), &mut disk, 0, X, 5), gone());
     assert_eq!(rt; handles.append(&mut disk, 0, b"hello"), Ok(()));
-    assert_eq!(rt; handles.close(rt.alloc(), &mut disk, 0), wrote());
+    assert_eq!(rt; handles.close(rt.alloc(), &mut disk, 0), wrote(5));
     let mut bytes = fs::read(&rt, X_PATH)?;
     if let Some(first) = bytes.first_mut() {
         *first = b'j';

@@ -8,14 +8,14 @@ fn a_reader_outlives_its_entry(rt: HostRuntime) -> Result<(), Fail> {
     let mut handles = handles_of(&rt)?;
     assert_eq!(rt; handles.create(rt.alloc(), &mut disk, 0, X, 1000), gone());
     assert_eq!(rt; handles.append(&mut disk, 0, b"old"), Ok(()));
-    assert_eq!(rt; handles.close(rt.alloc(), &mut disk, 0), wrote());
+    assert_eq!(rt; handles.close(rt.alloc(), &mut disk, 0), wrote(1000));
     assert_eq!(rt; handles.open(rt.alloc(), &mut disk, 1, X), Ok(()));
     assert_eq!(rt; handles.doom(rt.alloc(), &mut disk, X), gone());
     assert!(rt; is_missing(&rt, X_PATH));
     assert_eq!(rt; handles.create(rt.alloc(), &mut disk, 2, X, 1000), gone());
     assert_eq!(rt; handles.append(&mut disk, 2, b"new"), Ok(()));
     assert!(rt; reads(&mut handles, &mut disk, 1, 0, 10, b"old"));
-    assert_eq!(rt; handles.close(rt.alloc(), &mut disk, 2), wrote());
+    assert_eq!(rt; handles.close(rt.alloc(), &mut disk, 2), wrote(1000));
     assert_eq!(rt; handles.close(rt.alloc(), &mut disk, 1), Ok(Effect::Same));
     assert!(rt; is_missing(&rt, "cache/doomed/0"));
     assert!(rt; has_len(&rt, X_PATH, 57));
@@ -29,7 +29,7 @@ fn a_finished_entry_is_found(rt: HostRuntime) -> Result<(), Fail> {
     let mut handles = handles_of(&rt)?;
     assert_eq!(rt; handles.create(rt.alloc(), &mut disk, 9, X, 1000), gone());
     assert_eq!(rt; handles.append(&mut disk, 9, b"old"), Ok(()));
-    assert_eq!(rt; handles.finish(rt.alloc(), &mut disk, 9), wrote());
+    assert_eq!(rt; handles.finish(rt.alloc(), &mut disk, 9), wrote(1000));
     assert_eq!(rt; handles.body_len(9), Ok(3));
     let found = handles
         .find(rt.alloc(), &mut disk, X)
@@ -55,7 +55,10 @@ fn a_draft_is_read(rt: HostRuntime) -> Result<(), Fail> {
     assert!(rt; reads(&mut handles, &mut disk, 63, 262_144, 9, b"tail"));
     assert!(rt; reads(&mut handles, &mut disk, 63, 262_146, 1, b"i"));
     assert!(rt; reads(&mut handles, &mut disk, 63, 262_148, 1, b""));
-    assert_eq!(rt; handles.close(rt.alloc(), &mut disk, 0), wrote());
+    assert_eq!(rt;
+        handles.close(rt.alloc(), &mut disk, 0),
+        wrote_with(5, 0, 257)
+    );
     assert!(rt; reads(&mut handles, &mut disk, 63, 262_143, 2, b"\x07"));
     assert!(rt; reads(&mut handles, &mut disk, 63, 262_145, 9, b"ail"));
     Ok(())

@@ -1,9 +1,9 @@
 use Rattle.std.proofs.Common.{sym, ◌∙◌}
 use Rattle.file_handles.specs.Answers.{fault_of}
 use Rattle.file_handles.specs.Kept.{kept}
+use Rattle.file_handles.proofs.Accounting.{account_then_handed_on}
 use Rattle.file_handles.proofs.ClosedSlot.{closed_leaves, closed_safe, faulted_leaves, unused_leaves}
 use Rattle.file_handles.proofs.DoomedCommand.{no_refusal}
-use Rattle.file_handles.proofs.EffectLaws.{closed_effect}
 use Rattle.file_handles.proofs.ElementSlots.{use_found}
 use Rattle.file_handles.proofs.Histories.{history_of}
 use Rattle.file_handles.proofs.Where.{carries_out}
@@ -35,11 +35,6 @@ returns-clause-carried g c told = carries_out (λ b m w is.
     closed_leaves (g.D.Disk.state c.args.disk.now) (kept c.args.self.now) c.args.slot c.requires.slot c.in_ok-used.used used (g.D.Disk.state c.finish_first.new.disk)
     (kept c.finish_first.new.self) (kept c.give_up.new.self) m w is stands (g.D.Disk.state c.give_up.new.disk) (c.in_ok-give_up.ensures.gives_up told))
 
-pub returns-clause-effect : goal.returns-clause-effect
-returns-clause-effect g c = λ m number stand.
-    let used = use_found _ _ (sym c.use_of.ensures ∙ c.in_ok-used.was) in
-    closed_effect (kept c.args.self.now) m number stand c.args.slot c.requires.slot c.in_ok-used.used used c.in_ok-effect.effect c.in_ok-effect.ensures.effect
-
 pub returns-in_err-give_up-clause-index : goal.returns-in_err-give_up-clause-index
 returns-in_err-give_up-clause-index g c told =
     then_left (g.D.Disk.state c.args.disk.now) (g.D.Disk.state c.finish_first.new.disk) (g.D.Disk.state c.give_up.new.disk) (c.finish_first.ensures.index told) (c.give_up.ensures.index told)
@@ -47,3 +42,8 @@ returns-in_err-give_up-clause-index g c told =
 pub returns-clause-index : goal.returns-clause-index
 returns-clause-index g c told =
     then_left (g.D.Disk.state c.args.disk.now) (g.D.Disk.state c.finish_first.new.disk) (g.D.Disk.state c.give_up.new.disk) (c.finish_first.ensures.index told) (c.give_up.ensures.index told)
+
+pub returns-in_err-give_up-clause-account : goal.returns-in_err-give_up-clause-account
+returns-in_err-give_up-clause-account g c =
+    account_then_handed_on g.D.Disk c.give_up.result c.in_err-give_up.field-0.0 c.from_residual-in_err-give_up.result c.args.disk.now c.finish_first.new.disk c.give_up.new.disk c.in_err-give_up.was
+    c.from_residual-in_err-give_up.ensures.1 c.in_ok-effect.ensures.account c.give_up.ensures.account

@@ -1,9 +1,10 @@
-use Rattle.std.proofs.Common.{◌∙◌, inl, refl, sym, subst, arith}
+use Rattle.std.proofs.Common.{◌∙◌, inl, refl, sym, ap, subst, arith}
 use Rattle.cache_base.proofs.ByteLaws.{all_below}
 use Rattle.cache_theory.specs.Command.Command.{Create}
 use Rattle.cache_theory.specs.Step.{fresh}
 use Rattle.file_handles.specs.Held.{IsHeldAs}
 use Rattle.file_handles.specs.Kept.{kept, use_at}
+use Rattle.file_handles.specs.declared.fault.Effect.TheVariants.{Gone}
 use Rattle.file_handles.proofs.CreatedCommand.{added_leaves, bad_key_leaves, doom_done, doom_fails, draft_safe, may_create_by, taken_leaves}
 use Rattle.file_handles.proofs.DoomedCommand.{failed_on_leaves}
 use Rattle.file_handles.proofs.JoinedOpen.{used_none}
@@ -104,3 +105,6 @@ pub returns-clause-index : goal.returns-clause-index
 returns-clause-index g c told =
     then_left (g.D.Disk.state c.args.disk.now) (g.D.Disk.state c.doom_user.new.disk) (g.D.Disk.state c.drafted.new.disk) (c.doom_user.ensures.index told)
     (made_left c.drafted.result _ _ c.name_of-name.result (g.met.D.Disk.sound c.doom_user.new.disk told) (c.drafted.ensures.state told))
+
+pub returns-clause-effect : goal.returns-clause-effect
+returns-clause-effect g c = λ m number proper stand. ap (λ n. Gone (record { 0 = n })) c.name_of-name.ensures

@@ -8,6 +8,7 @@ use Rattle.file_handles.specs.Answers.{fault_of}
 use Rattle.file_handles.specs.Cache.{cache_at}
 use Rattle.file_handles.specs.Finding.{is_user}
 use Rattle.file_handles.specs.Kept.{kept}
+use Rattle.file_handles.specs.declared.fault.Effect.TheVariants.{Gone}
 use Rattle.file_handles.specs.Stands.{KeepsWhere}
 use Rattle.file_handles.proofs.Begun.{begun_in}
 use Rattle.file_handles.proofs.DoomedCommand.{bare_stands, doom_touches, doomed_leaves, failed_on_leaves, no_refusal, none_if, refused_on_leaves, remove_fails, removed_leaves, some_if}
@@ -105,3 +106,9 @@ returns-in_ok-remove-clause-index g c told =
     then_left (g.D.Disk.state c.args.disk.now) (g.D.Disk.state c.doom_user.new.disk) (g.D.Disk.state c.remove.new.self)
     (then_left _ (g.D.Disk.state c.may_doom.new.disk) _ (same_left (c.may_doom.ensures.looks.state told)) (c.doom_user.ensures.index told))
     (removed_left c.remove.result _ _ c.in_ok-name.name (c.remove.ensures.state told))
+
+pub returns-in_ok-remove-clause-effect : goal.returns-in_ok-remove-clause-effect
+returns-in_ok-remove-clause-effect g c = λ m number proper stand. ap (λ n. Gone (record { 0 = n })) c.in_ok-name.ensures.named
+
+pub returns-else-not-branch-clause-effect : goal.returns-else-not-branch-clause-effect
+returns-else-not-branch-clause-effect g c = λ m number proper stand. ap (λ n. Gone (record { 0 = n })) c.in_ok-name.ensures.named

@@ -1,10 +1,13 @@
-use Rattle.std.proofs.Common.{inl, refl, true, ap, ◌∙◌}
+use Rattle.std.proofs.Common.{◌≡◌, inl, refl, true}
+use Rattle.std.proofs.lemmas.Result.{IfOk-weaker}
 use Rattle.cache_theory.specs.Command.Command.{Finish}
 use Rattle.file_handles.specs.Changes.{completed}
-use Rattle.file_handles.specs.Kept.{kept}
+use Rattle.file_handles.specs.Effects.{HasEffect, IsLearntOf}
+use Rattle.file_handles.specs.Held.{is_draft}
+use Rattle.file_handles.specs.Kept.{kept, object_at}
+use Rattle.file_handles.specs.Refuses.{HasAt}
 use Rattle.file_handles.proofs.Carried.{change_carried}
-use Rattle.file_handles.specs.Effects.{wrote_where}
-use Rattle.file_handles.proofs.EffectLaws.{by_value, effect_is}
+use Rattle.file_handles.proofs.EffectLaws.{change_effect}
 use Rattle.file_handles.proofs.ElementChecks.{both_right, the_object}
 use Rattle.file_handles.proofs.Places.{filed_somehow}
 use Rattle.file_handles.proofs.WriterCommands.{finish_makes}
@@ -30,10 +33,12 @@ returns-clause-carried g c told =
 
 pub returns-clause-effect : goal.returns-clause-effect
 returns-clause-effect g c =
-    by_value c.finish_at.result c.finish_at.ensures.effect (λ e same m number stand.
-    let there = the_object _ _ c.in_ok-place.ensures.object in
-    effect_is (kept c.args.self.now) m number stand c.args.slot c.requires.slot c.in_ok-place.place there.0 there.1.1.0 (Finish c.args.slot) (λ x. true) e refl refl
-    (same ∙ ap (wrote_where (λ x. true)) there.1.0))
+    let k = kept c.args.self.now in
+    let there = the_object (object_at k c.in_ok-place.place) (λ x. HasAt k c.args.slot c.in_ok-place.place x × (is_draft x.entry ≡ true)) c.in_ok-place.ensures.object in
+    IfOk-weaker c.finish_at.result (IsLearntOf completed (object_at k c.in_ok-place.place)) (HasEffect k (Finish c.args.slot)) (λ e is.
+    change_effect k (Finish c.args.slot) c.args.slot c.requires.slot c.in_ok-place.place there.0 there.1.1.0 completed (λ o. Unit {0})
+    (finish_makes k c.args.slot c.in_ok-place.ensures.passes) e (λ m. refl) (λ m number stand. refl) is)
+    c.finish_at.ensures.effect
 
 pub returns-in_err-place-clause-carried : goal.returns-in_err-place-clause-carried
 returns-in_err-place-clause-carried g c = λ told.

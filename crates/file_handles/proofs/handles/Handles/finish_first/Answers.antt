@@ -1,8 +1,11 @@
 use Rattle.std.proofs.Common.{sym, ◌∙◌}
+use Rattle.std.proofs.lemmas.Result.{IfOk-weaker}
 use Rattle.cache_theory.specs.Command.Command.{Close}
-use Rattle.file_handles.specs.Kept.{kept}
+use Rattle.file_handles.specs.Effects.{HasEffect, IsLearntOf}
+use Rattle.file_handles.specs.Kept.{kept, object_at}
 use Rattle.file_handles.proofs.Begun.{begun_in}
 use Rattle.file_handles.proofs.ClosedSlot.{draft_there, finished_in, finished_may, finished_safe, may_give_up, told_then, unchanged_in}
+use Rattle.file_handles.proofs.EffectLaws.{finished_effect, kept_effect}
 use Rattle.file_handles.proofs.ElementChecks.{the_object}
 use Rattle.file_handles.proofs.Places.{filed_somehow}
 use Rattle.file_handles.proofs.IndexLeft.{change_left}
@@ -36,6 +39,17 @@ returns-then-is_finished_by-clause-there g c =
     told_then c.finish_at.result _ _ (λ told.
     finished_may (g.D.Disk.state c.args.disk.now) (kept c.args.self.now) c.args.slot c.requires.slot c.args.used c.requires.used (sym c.is_finished_by.ensures ∙ c.if-is_finished_by.true) c.finish_at.result
     (g.D.Disk.state c.finish_at.new.disk) (kept c.finish_at.new.self) (c.finish_at.ensures.changes told) (c.requires.told told))
+
+pub returns-then-is_finished_by-clause-effect : goal.returns-then-is_finished_by-clause-effect
+returns-then-is_finished_by-clause-effect g c =
+    let k = kept c.args.self.now in
+    IfOk-weaker c.finish_at.result (IsLearntOf completed (object_at k c.args.used.place)) (HasEffect k (Close c.args.slot)) (λ e is.
+    finished_effect k c.args.slot c.requires.slot c.args.used c.requires.used (sym c.is_finished_by.ensures ∙ c.if-is_finished_by.true) e is)
+    c.finish_at.ensures.effect
+
+pub returns-else-is_finished_by-clause-effect : goal.returns-else-is_finished_by-clause-effect
+returns-else-is_finished_by-clause-effect g c =
+    kept_effect (kept c.args.self.now) c.args.slot c.requires.slot c.args.used c.requires.used (sym c.is_finished_by.ensures ∙ c.if-is_finished_by.false)
 
 pub returns-else-is_finished_by-clause-finishes : goal.returns-else-is_finished_by-clause-finishes
 returns-else-is_finished_by-clause-finishes g c told = record {

@@ -1,17 +1,19 @@
-use Rattle.std.proofs.Common.{arith, not, refl, ap, ◌∙◌}
+use Rattle.std.proofs.Common.{arith, refl}
+use Rattle.std.proofs.lemmas.Result.{IfOk-weaker}
 use Rattle.cache_theory.specs.Command.Command.{SetElement}
 use Rattle.cache_base.specs.Bytes.{AreBytes}
 use Rattle.cache_base.proofs.ByteLaws.{all_below}
 use Rattle.cache_theory.specs.Command.Command.{SetElement}
 use Rattle.file_handles.specs.Kept.{kept, object_at}
 use Rattle.entry_parts.specs.Setting.{with_element}
-use Rattle.file_handles.specs.Effects.{wrote_where}
-use Rattle.file_handles.specs.Held.{elements_in, is_draft}
+use Rattle.file_handles.specs.Effects.{HasEffect, IsLearntOf}
+use Rattle.file_handles.specs.Held.{elements_in}
 use Rattle.file_handles.specs.Refuses.{HasAt}
 use Rattle.file_handles.specs.Setting.{HasRoom}
-use Rattle.file_handles.proofs.EffectLaws.{by_value, effect_is, sets_rewrite}
+use Rattle.file_handles.proofs.EffectLaws.{change_effect}
+use Rattle.file_handles.proofs.ElementChanged.{with_elements}
 use Rattle.file_handles.proofs.ElementChecks.{both_right, the_object}
-use Rattle.file_handles.proofs.ElementCommands.{set_leaves}
+use Rattle.file_handles.proofs.ElementCommands.{IsFinished, set_leaves, set_makes}
 use Rattle.file_handles.proofs.Places.{filed_somehow}
 use Rattle.file_handles.proofs.Refused.{refused_answer}
 use Rattle.file_handles.proofs.IndexLeft.{change_left}
@@ -42,11 +44,13 @@ returns-clause-effect g c =
     let k = kept c.args.self.now in
     let name = c.args.name.now in
     let value = c.args.value.now in
+    let name_bytes : AreBytes name = all_below 256 name (λ i. omega (arith, c.type_inv.name i)) in
+    let value_bytes : AreBytes value = all_below 256 value (λ i. omega (arith, c.type_inv.value i)) in
     let there = the_object (object_at k c.in_ok-place.place) (λ x. HasAt k c.args.slot c.in_ok-place.place x × HasRoom x.entry (with_element name value (elements_in x.entry))) c.in_ok-place.ensures.object in
-    by_value c.change_at.result c.change_at.ensures.effect (λ e same m number stand.
-    effect_is k m number stand c.args.slot c.requires.slot c.in_ok-place.place there.0 there.1.1.0 (SetElement c.args.slot name value) (λ x. not (is_draft x.entry)) e refl
-    (sets_rewrite k m number stand c.args.slot c.requires.slot c.in_ok-place.place there.0 there.1.1.0)
-    (same ∙ ap (wrote_where (λ x. not (is_draft x.entry))) there.1.0))
+    IfOk-weaker c.change_at.result (IsLearntOf (with_elements (with_element name value)) (object_at k c.in_ok-place.place)) (HasEffect k (SetElement c.args.slot name value)) (λ e is.
+    change_effect k (SetElement c.args.slot name value) c.args.slot c.requires.slot c.in_ok-place.place there.0 there.1.1.0 (with_elements (with_element name value)) IsFinished
+    (set_makes k c.args.slot name value name_bytes value_bytes c.in_ok-place.ensures.passes) e (λ m. refl) (λ m number stand. refl) is)
+    c.change_at.ensures.effect
 
 pub returns-in_err-place-clause-carried : goal.returns-in_err-place-clause-carried
 returns-in_err-place-clause-carried g c = λ told.

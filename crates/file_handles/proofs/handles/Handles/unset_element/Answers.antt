@@ -1,16 +1,16 @@
-use Rattle.std.proofs.Common.{Ok, not, refl, sym, ap, subst, ◌∙◌}
+use Rattle.std.proofs.Common.{Ok, refl, sym, ap, subst, ◌∙◌}
 use Rattle.cache_theory.specs.Command.Command.{UnsetElement}
 use Rattle.entry_parts.specs.Elements.{element}
+use Rattle.entry_parts.specs.Setting.{without_element}
 use Rattle.file_handles.specs.Answers.{done_or}
 use Rattle.file_handles.specs.Cache.{cache_at}
 use Rattle.file_handles.specs.Carries.{CarriesOut}
-use Rattle.file_handles.specs.Effects.{wrote_where}
-use Rattle.file_handles.specs.Held.{is_draft}
 use Rattle.file_handles.specs.Kept.{kept, object_at}
 use Rattle.file_handles.specs.Refuses.{HasAt}
-use Rattle.file_handles.proofs.EffectLaws.{effect_is, unsets_rewrite}
+use Rattle.file_handles.proofs.EffectLaws.{change_effect, unsets_rewrite}
+use Rattle.file_handles.proofs.ElementChanged.{with_elements}
 use Rattle.file_handles.proofs.ElementChecks.{at_object, if_object, some_object}
-use Rattle.file_handles.proofs.ElementCommands.{fault_reply, unset_leaves}
+use Rattle.file_handles.proofs.ElementCommands.{IsFinished, fault_reply, unset_leaves, unset_makes}
 use Rattle.file_handles.proofs.ElementEntries.{room_without}
 use Rattle.file_handles.proofs.ElementReads.{mapped_none, mapped_some, unset_none_leaves}
 use Rattle.file_handles.proofs.Places.{filed_somehow}
@@ -62,15 +62,15 @@ returns-clause-carried g c told =
     some.0 some.1 (c.in_ok-place.ensures.passes name) (c.in_ok-effect.ensures.changes told)
 
 pub returns-clause-effect : goal.returns-clause-effect
-returns-clause-effect g c = λ m number stand.
+returns-clause-effect g c =
     let k = kept c.args.self.now in
     let name = c.args.name.now in
     let x = c.in_ok-object_at.field-0.now in
     let has = at_object _ x (HasAt k c.args.slot c.in_ok-place.place) c.in_ok-object_at.ensures.found c.in_ok-place.ensures.object in
     let some = mapped_some _ c.get.result _ (c.get.ensures ∙ ap (element name) c.elements.ensures) c.if-is_none.ensures in
-    effect_is k m number stand c.args.slot c.requires.slot c.in_ok-place.place x has (UnsetElement c.args.slot name) (λ x. not (is_draft x.entry)) c.in_ok-effect.effect refl
-    (unsets_rewrite k m number stand c.args.slot c.requires.slot c.in_ok-place.place x has name some.0 some.1)
-    (c.in_ok-effect.ensures.effect ∙ ap (wrote_where (λ x. not (is_draft x.entry))) c.in_ok-object_at.ensures.found)
+    change_effect k (UnsetElement c.args.slot name) c.args.slot c.requires.slot c.in_ok-place.place x has (with_elements (without_element name)) IsFinished
+    (unset_makes k c.args.slot c.requires.slot c.in_ok-place.place x has name some.0 some.1 (c.in_ok-place.ensures.passes name)) c.in_ok-effect.effect (λ m. refl)
+    (unsets_rewrite k c.args.slot c.requires.slot c.in_ok-place.place x has name some.0 some.1) c.in_ok-effect.ensures.effect
 
 pub returns-in_err-place-clause-carried : goal.returns-in_err-place-clause-carried
 returns-in_err-place-clause-carried g c = λ told.
