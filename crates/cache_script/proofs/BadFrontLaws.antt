@@ -5,7 +5,7 @@ use Rattle.std.proofs.lemmas.List.{append_assoc, append-nil, take-append-le, tak
 use Rattle.cache_base.specs.Bytes.{AreBytes}
 use Rattle.cache_base.specs.declared.limits.TheConstants.{LINE_MAX, PIECE_MAX, SCRIPT_MAX}
 use Rattle.cache_theory.specs.Command.{Command}
-use Rattle.cache_theory.specs.Command.Command.{At, Create, OpenKey, Append, Finish, SetElement, UnsetElement, ElementOf, ReadPart, Close, Doom, Get, Flush}
+use Rattle.cache_theory.specs.Command.Command.{Append, SetElement}
 use Rattle.cache_theory.specs.Text.{IsCommand, IsOneLine, NoMore, command_words, command_data, command_bytes, line, spaced}
 use Rattle.cache_script.specs.Front.{Begins, HasLine, HasLineOf, HasNoCommand, IsBadFront, IsPart, IsSearched}
 use Rattle.cache_script.specs.Front.IsBadFront.{BadLine, LongLine, NoNewline, TooLong, CutAtLimit}
@@ -62,17 +62,7 @@ ends : (c : Command) → (front : List ℕ) × (command_bytes c ≡ front ++ 10 
 unfolding command_bytes
 ends (Append s bytes) = (line (command_words (Append s bytes)) ++ bytes, sym (append_assoc (line (command_words (Append s bytes))) bytes (10 ∷ [])))
 ends (SetElement s name value) = (line (command_words (SetElement s name value)) ++ value, sym (append_assoc (line (command_words (SetElement s name value))) value (10 ∷ [])))
-ends (At now) = (spaced (command_words (At now)), append-nil (line (command_words (At now))))
-ends (Create s key) = (spaced (command_words (Create s key)), append-nil (line (command_words (Create s key))))
-ends (OpenKey s key) = (spaced (command_words (OpenKey s key)), append-nil (line (command_words (OpenKey s key))))
-ends (Finish s) = (spaced (command_words (Finish s)), append-nil (line (command_words (Finish s))))
-ends (UnsetElement s name) = (spaced (command_words (UnsetElement s name)), append-nil (line (command_words (UnsetElement s name))))
-ends (ElementOf s name) = (spaced (command_words (ElementOf s name)), append-nil (line (command_words (ElementOf s name))))
-ends (ReadPart s from len) = (spaced (command_words (ReadPart s from len)), append-nil (line (command_words (ReadPart s from len))))
-ends (Close s) = (spaced (command_words (Close s)), append-nil (line (command_words (Close s))))
-ends (Doom key) = (spaced (command_words (Doom key)), append-nil (line (command_words (Doom key))))
-ends (Get key) = (spaced (command_words (Get key)), append-nil (line (command_words (Get key))))
-ends Flush = (spaced (command_words Flush), append-nil (line (command_words Flush)))
+ends c = (spaced (command_words c), append-nil (line (command_words c)))
 
 last_is_newline : (c : Command) → get_or (command_bytes c) (length (command_bytes c) - 1) 0 ≡ 10
 last_is_newline c =

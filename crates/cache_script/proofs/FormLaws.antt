@@ -6,7 +6,7 @@ use Rattle.std.proofs.lemmas.Bool.Decides.{nat_tests}
 use Rattle.std.proofs.lemmas.Slice.Eq.{bytes_eq-Decides}
 use Rattle.cache_base.specs.Bytes.{AreBytes}
 use Rattle.cache_base.specs.declared.limits.TheConstants.{ELEMENTS_MAX, PIECE_MAX, SLOTS}
-use Rattle.cache_theory.specs.Command.Command.{At, Finish, ReadPart, Close}
+use Rattle.cache_theory.specs.Command.Command.{At, Finish, ReadPart, Close, StepUpdate}
 use Rattle.cache_theory.specs.Command.{Command}
 use Rattle.cache_theory.specs.Text.{FieldsFit, IsOneLine, command_words, spaced}
 use Rattle.cache_script.specs.Lines.{Form, Tells, cut, number_below, slot_in, read_in, set_in, slot_form, verb_form, form_in}
@@ -124,21 +124,30 @@ verb_spelled verb rest line =
     (λ n h. (same (codes "at") is ∙ ap (λ r. verb_text (codes "at") r) h.0, (h.1, refl))) (number_spelled rest))
     (verb_case verb (codes "doom") _ _ P (λ is. (same (codes "doom") is, (line, refl)))
     (verb_case verb (codes "get") _ _ P (λ is. (same (codes "get") is, (line, refl)))
+    (verb_case verb (codes "has") _ _ P (λ is. (same (codes "has") is, (line, refl)))
+    (verb_case verb (codes "step") _ _ P
+    (λ is. mapped (λ n. Form.WholeLine (StepUpdate n)) (number_in rest)
+    (λ n. (rest ≡ decimal n) × (n < 2 ^ 32)) P
+    (λ n h. (same (codes "step") is ∙ ap (λ r. verb_text (codes "step") r) h.0, (h.1, refl)))
+    (number_spelled rest))
     (verb_case verb (codes "finish") _ _ P
     (λ is. mapped (λ s. Form.WholeLine (Finish s)) (slot_in rest) (IsBelow SLOTS rest) P
     (λ s h. (same (codes "finish") is ∙ ap (λ r. verb_text (codes "finish") r) h.0, (h.1, refl))) (below_spelled SLOTS rest))
     (verb_case verb (codes "close") _ _ P
     (λ is. mapped (λ s. Form.WholeLine (Close s)) (slot_in rest) (IsBelow SLOTS rest) P
     (λ s h. (same (codes "close") is ∙ ap (λ r. verb_text (codes "close") r) h.0, (h.1, refl))) (below_spelled SLOTS rest))
-    (more_spelled verb rest line)))))
+    (more_spelled verb rest line)))))))
 
 pub form_spelled : (text : List ℕ) → IsLine text → IfSome (form_in text) (Tells text)
 unfolding form_in
 form_spelled text line =
     verb_case text (codes "flush") _ _ (Tells text) (λ is. (is, (tt, refl)))
+    (verb_case text (codes "list") _ _ (Tells text) (λ is. (is, (tt, refl)))
+    (verb_case text (codes "state") _ _ (Tells text) (λ is. (is, (tt, refl)))
+    (verb_case text (codes "rebuild") _ _ (Tells text) (λ is. (is, (tt, refl)))
     (chained (λ (parts : List ℕ × List ℕ). verb_form parts.0 parts.1) (cut 32 text) (Lacks 32 text) (IsCut 32 text) (Tells text)
     (λ parts h. subst (λ (t : List ℕ). IfSome (verb_form parts.0 parts.1) (Tells t)) (sym h.0)
-    (verb_spelled parts.0 parts.1 (line_behind 32 parts.0 parts.1 (subst IsLine h.0 line)))) (cut_is 32 text))
+    (verb_spelled parts.0 parts.1 (line_behind 32 parts.0 parts.1 (subst IsLine h.0 line)))) (cut_is 32 text)))))
 
 none_or_some : {X : Type 0} {x : X} → None ≡ Some x → ⊥
 none_or_some e = cc

@@ -5,7 +5,7 @@ use Rattle.std.proofs.lemmas.Bool.Decides.{Decides-eqb}
 use Rattle.std.proofs.lemmas.List.{append_assoc, take_at}
 use Rattle.cache_base.specs.declared.limits.TheConstants.{SLOTS}
 use Rattle.cache_theory.specs.Command.{Command}
-use Rattle.cache_theory.specs.Command.Command.{At, Create, OpenKey, Append, Finish, SetElement, UnsetElement, ElementOf, ReadPart, Close, Doom, Get, Flush}
+use Rattle.cache_theory.specs.Command.Command.{At, Create, OpenKey, Append, Finish, SetElement, UnsetElement, ElementOf, ReadPart, Close, Doom, Get, HasEntry, ListRecords, Flush, StepUpdate, UpdateState, Rebuild}
 use Rattle.cache_theory.specs.Text.{FieldsFit, IsOneLine, command_words, command_data, command_bytes, spaced, NoneBeginsAnother}
 use Rattle.cache_script.specs.Lines.{Form, form_of, cut, form_in}
 use Rattle.cache_script.proofs.CutLaws.{Lacks, cut_at}
@@ -55,7 +55,15 @@ one_line (ReadPart s from len) fits =
 one_line (Close s) fits = one_line_pair (codes "close") (decimal s) (lacks_by 10 (codes "close") refl) (one_line_number s (omega arith))
 one_line (Doom key) fits = one_line_pair (codes "doom") key (lacks_by 10 (codes "doom") refl) fits.1
 one_line (Get key) fits = one_line_pair (codes "get") key (lacks_by 10 (codes "get") refl) fits.1
+one_line (HasEntry key) fits =
+    one_line_pair (codes "has") key (lacks_by 10 (codes "has") refl) fits.1
+one_line ListRecords fits = lacks_by 10 (codes "list") refl
 one_line Flush fits = lacks_by 10 (codes "flush") refl
+one_line (StepUpdate n) fits =
+    one_line_pair (codes "step") (decimal n) (lacks_by 10 (codes "step") refl)
+    (one_line_number n fits)
+one_line UpdateState fits = lacks_by 10 (codes "state") refl
+one_line Rebuild fits = lacks_by 10 (codes "rebuild") refl
 
 -- ---- and so it is what stands before the first newline
 
@@ -95,17 +103,7 @@ taken_back bytes after = ap (take (length bytes)) (append_assoc bytes (10 ∷ []
 pub completed_is : (c : Command) (after : List ℕ) → completed (form_of c) (command_data c ++ after) ≡ c
 completed_is (Append s bytes) after = ap (λ b. Append s b) (taken_back bytes after)
 completed_is (SetElement s name value) after = ap (λ v. SetElement s name v) (taken_back value after)
-completed_is (At now) after = refl
-completed_is (Create s key) after = refl
-completed_is (OpenKey s key) after = refl
-completed_is (Finish s) after = refl
-completed_is (UnsetElement s name) after = refl
-completed_is (ElementOf s name) after = refl
-completed_is (ReadPart s from len) after = refl
-completed_is (Close s) after = refl
-completed_is (Doom key) after = refl
-completed_is (Get key) after = refl
-completed_is Flush after = refl
+completed_is c after = refl
 
 -- the command with a line that is read so is known from what stands behind the line
 pub command_is : (c : Command) (form : Form) (text rest after : List ℕ) → LineOf c text rest after → form_in text ≡ Some form → c ≡ completed form rest

@@ -8,7 +8,7 @@ use Rattle.cache_base.proofs.ByteLaws.{bytes_take}
 use Rattle.cache_base.specs.Bytes.{AreBytes}
 use Rattle.cache_base.specs.declared.limits.TheConstants.{LINE_MAX, PIECE_MAX}
 use Rattle.cache_theory.specs.Command.{Command}
-use Rattle.cache_theory.specs.Command.Command.{At, Create, OpenKey, Append, Finish, SetElement, UnsetElement, ElementOf, ReadPart, Close, Doom, Get, Flush}
+use Rattle.cache_theory.specs.Command.Command.{Append, SetElement}
 use Rattle.cache_theory.specs.Text.{FieldsFit, IsCommand, command_words, command_data, command_bytes, spaced}
 use Rattle.cache_script.specs.Front.{Begins, HasNoCommand, cut_by}
 use Rattle.cache_script.specs.Lines.{Form, FormFits, Tells, form_of, form_words, cut, data_len, form_in}
@@ -68,17 +68,7 @@ no_command_line bytes none = λ c after is e. none_or_some none (ap (cut 10) e �
 pub length_data : (c : Command) → length (command_data c) ≡ data_len (form_of c)
 length_data (Append s bytes) = length-append bytes (10 ∷ [])
 length_data (SetElement s name value) = length-append value (10 ∷ [])
-length_data (At now) = refl
-length_data (Create s key) = refl
-length_data (OpenKey s key) = refl
-length_data (Finish s) = refl
-length_data (UnsetElement s name) = refl
-length_data (ElementOf s name) = refl
-length_data (ReadPart s from len) = refl
-length_data (Close s) = refl
-length_data (Doom key) = refl
-length_data (Get key) = refl
-length_data Flush = refl
+length_data c = refl
 
 -- the last byte behind the line is a newline
 newline_behind : (bytes after : List ℕ) → get_or ((bytes ++ 10 ∷ []) ++ after) (length bytes + 1 - 1) 0 ≡ 10
@@ -87,17 +77,7 @@ newline_behind bytes after = ap (λ l. get_or l (length bytes + 1 - 1) 0) (appen
 data_ends : (c : Command) (after : List ℕ) → 0 < data_len (form_of c) → get_or (command_data c ++ after) (data_len (form_of c) - 1) 0 ≡ 10
 data_ends (Append s bytes) after some = newline_behind bytes after
 data_ends (SetElement s name value) after some = newline_behind value after
-data_ends (At now) after some = absurd (omega arith)
-data_ends (Create s key) after some = absurd (omega arith)
-data_ends (OpenKey s key) after some = absurd (omega arith)
-data_ends (Finish s) after some = absurd (omega arith)
-data_ends (UnsetElement s name) after some = absurd (omega arith)
-data_ends (ElementOf s name) after some = absurd (omega arith)
-data_ends (ReadPart s from len) after some = absurd (omega arith)
-data_ends (Close s) after some = absurd (omega arith)
-data_ends (Doom key) after some = absurd (omega arith)
-data_ends (Get key) after some = absurd (omega arith)
-data_ends Flush after some = absurd (omega arith)
+data_ends c after some = absurd (omega arith)
 
 -- the form of the line is the command's
 form_same : (c : Command) (form : Form) (text rest after : List ℕ) → LineOf c text rest after → form_in text ≡ Some form → form_of c ≡ form

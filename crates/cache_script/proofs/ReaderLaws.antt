@@ -4,7 +4,7 @@ use Rattle.std.proofs.lemmas.List.{append_assoc, length-append}
 use Rattle.std.specs.Io.KnownBytes.{Consumes, IsAtEnd, prepend_known}
 use Rattle.cache_base.specs.declared.limits.TheConstants.{SCRIPT_MAX}
 use Rattle.cache_theory.specs.Command.{Command}
-use Rattle.cache_theory.specs.Command.Command.{At, Create, OpenKey, Append, Finish, SetElement, UnsetElement, ElementOf, ReadPart, Close, Doom, Get, Flush}
+use Rattle.cache_theory.specs.Command.Command.{At, Create, OpenKey, Append, Finish, SetElement, UnsetElement, ElementOf, ReadPart, Close, Doom, Get, HasEntry, StepUpdate}
 use Rattle.cache_theory.specs.Given.{IsGiven}
 use Rattle.cache_theory.specs.Text.{FieldsFit, command_bytes}
 use Rattle.cache_script.specs.Front.{Begins, HasNoCommand, IsBadFront, IsPart}
@@ -45,7 +45,9 @@ is_given (ReadPart s from len) fits = fits.0
 is_given (Close s) fits = fits
 is_given (Doom key) fits = fits.0
 is_given (Get key) fits = fits.0
-is_given Flush fits = fits
+is_given (HasEntry key) fits = fits.0
+is_given (StepUpdate n) fits = fits
+is_given c fits = tt
 
 pub bad_is_no_part : (used : ℕ) (held there : List ℕ) → there ≡ held → IsBadFront used held → ¬ (IsPart used there)
 bad_is_no_part used held there same bad = λ part. part.good (subst (IsBadFront used) (sym same) bad)

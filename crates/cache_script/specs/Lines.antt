@@ -5,7 +5,7 @@ use Rattle.std.specs.Option.{option_map, option_and_then}
 use Rattle.cache_base.specs.Bytes.{AreBytes}
 use Rattle.cache_base.specs.declared.limits.TheConstants.{ELEMENTS_MAX, PIECE_MAX, SLOTS}
 use Rattle.cache_theory.specs.Command.{Command}
-use Rattle.cache_theory.specs.Command.Command.{At, Create, OpenKey, Append, Finish, SetElement, UnsetElement, ElementOf, ReadPart, Close, Doom, Get, Flush}
+use Rattle.cache_theory.specs.Command.Command.{At, Create, OpenKey, Append, Finish, SetElement, UnsetElement, ElementOf, ReadPart, Close, Doom, Get, HasEntry, ListRecords, Flush, StepUpdate, UpdateState, Rebuild}
 use Rattle.cache_theory.specs.Text.{FieldsFit, IsOneLine, command_data, command_words, spaced}
 use Rattle.cache_script.specs.Command.{command_of}
 use Rattle.cache_base.specs.Numbers.{number_in}
@@ -22,17 +22,7 @@ pub data Form : Type 0 where
 abbrev pub form_of : Command → Form
 form_of (Append s bytes) = Form.AppendLine s (length bytes)
 form_of (SetElement s name value) = Form.SetLine s (length value) name
-form_of (At now) = Form.WholeLine (At now)
-form_of (Create s key) = Form.WholeLine (Create s key)
-form_of (OpenKey s key) = Form.WholeLine (OpenKey s key)
-form_of (Finish s) = Form.WholeLine (Finish s)
-form_of (UnsetElement s name) = Form.WholeLine (UnsetElement s name)
-form_of (ElementOf s name) = Form.WholeLine (ElementOf s name)
-form_of (ReadPart s from len) = Form.WholeLine (ReadPart s from len)
-form_of (Close s) = Form.WholeLine (Close s)
-form_of (Doom key) = Form.WholeLine (Doom key)
-form_of (Get key) = Form.WholeLine (Get key)
-form_of Flush = Form.WholeLine Flush
+form_of c = Form.WholeLine c
 
 -- the same of a line of the code
 abbrev pub line_form : Line → Form
@@ -77,6 +67,9 @@ verb_form verb rest =
     if pointwise nat_eq verb (codes "at") then option_map (λ n. Form.WholeLine (At n)) (number_in rest)
     else if pointwise nat_eq verb (codes "doom") then Some (Form.WholeLine (Doom rest))
     else if pointwise nat_eq verb (codes "get") then Some (Form.WholeLine (Get rest))
+    else if pointwise nat_eq verb (codes "has") then Some (Form.WholeLine (HasEntry rest))
+    else if pointwise nat_eq verb (codes "step")
+    then option_map (λ n. Form.WholeLine (StepUpdate n)) (number_in rest)
     else if pointwise nat_eq verb (codes "finish") then option_map (λ s. Form.WholeLine (Finish s)) (slot_in rest)
     else if pointwise nat_eq verb (codes "close") then option_map (λ s. Form.WholeLine (Close s)) (slot_in rest)
     else option_and_then (λ parts. option_and_then (λ s. slot_form verb s parts.1) (slot_in parts.0)) (cut 32 rest)
@@ -85,6 +78,9 @@ verb_form verb rest =
 unfoldable pub form_in : List ℕ → Option Form
 form_in text =
     if pointwise nat_eq text (codes "flush") then Some (Form.WholeLine Flush)
+    else if pointwise nat_eq text (codes "list") then Some (Form.WholeLine ListRecords)
+    else if pointwise nat_eq text (codes "state") then Some (Form.WholeLine UpdateState)
+    else if pointwise nat_eq text (codes "rebuild") then Some (Form.WholeLine Rebuild)
     else option_and_then (λ parts. verb_form parts.0 parts.1) (cut 32 text)
 
 -- the words of such a line

@@ -62,6 +62,20 @@ pub enum Command<'a> {
     Get {
         key: &'a [u8],
     },
+    /// Whether there is an entry of the key.
+    Has {
+        key: &'a [u8],
+    },
+    /// The records of all entries.
+    List,
     /// All that was done is brought to the disk.
     Flush,
+    /// The update of the index reads so many names more.
+    Step {
+        n: u32,
+    },
+    /// How far the update of the index is.
+    State,
+    /// The index is written anew from all files.
+    Rebuild,
 }

@@ -1,4 +1,5 @@
-//! The text of a script: its commands one after another, read from a source, and what is printed of a refusal.
+//! The text of a script: its commands one after another, read from a source, and what is printed of a refusal
+//! and of a record.
 #![tactic(auto)]
 
 mod command;
@@ -8,12 +9,14 @@ mod laws;
 mod lines;
 mod reader;
 mod reading;
+mod records;
 mod refusals;
 mod window;
 
 pub use command::Command;
 pub use laws::{bytes_have_commands, commands_are_one, none_begins_another};
 pub use reader::{Reader, ScriptFault};
+pub use records::record_text;
 pub use refusals::refusal_text;
 
 #[cfg(test)]

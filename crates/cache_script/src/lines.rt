@@ -105,6 +105,13 @@ fn verb_line<'a>(verb: &[u8], rest: &'a [u8]) -> Option<Line<'a>>
     if verb == b"get".as_slice() {
         return Some(Line::Whole(Command::Get { key: rest }));
     }
+    if verb == b"has".as_slice() {
+        return Some(Line::Whole(Command::Has { key: rest }));
+    }
+    if verb == b"step".as_slice() {
+        let n = number(rest)?;
+        return Some(Line::Whole(Command::Step { n }));
+    }
     if verb == b"finish".as_slice() {
         let slot = slot(rest)?;
         return Some(Line::Whole(Command::Finish { slot }));
@@ -123,6 +130,15 @@ fn text_line(text: &[u8]) -> Option<Line<'_>>
 {
     if text == b"flush".as_slice() {
         return Some(Line::Whole(Command::Flush));
+    }
+    if text == b"list".as_slice() {
+        return Some(Line::Whole(Command::List));
+    }
+    if text == b"state".as_slice() {
+        return Some(Line::Whole(Command::State));
+    }
+    if text == b"rebuild".as_slice() {
+        return Some(Line::Whole(Command::Rebuild));
     }
     let (verb, rest) = cut(text, b' ')?;
     verb_line(verb, rest)

@@ -1,11 +1,12 @@
 ghost use Rattle.std.specs.Prelude.{◌<◌};
 
 use crate::front::{Front, front_of};
-use crate::{Command, Reader, ScriptFault, refusal_text};
-use cache_base::{Bytes, NoMemory, Numbers, SCRIPT_MAX};
+use crate::{Command, Reader, ScriptFault, record_text, refusal_text};
+use cache_base::{Bytes, Name, NoMemory, Numbers, SCRIPT_MAX};
 use cache_io::{MemSource, Source};
 use cache_theory::Refusal;
 use chunk_store::Damage;
+use index_record::IndexRecord;
 use std::alloc::Global;
 use std::process::Abort;
 use std::test::Fail;
@@ -89,8 +90,23 @@ fn lines_of_the_table_are_commands(rt: HostRuntime) -> Result<(), Fail> {
 }
 
 #[test]
+fn lines_of_the_index_are_commands(rt: HostRuntime) -> Result<(), Fail> {
+    let scripts: [&[u8]; 7] = [
+        b"has :x\n",
+        b"has \n",
+        b"list\n",
+        b"step 0\n",
+        b"step 4294967295\n",
+        b"state\n",
+        b"rebuild\n",
+    ];
+    all_count(&rt, rt.alloc(), &scripts, Ok(1))?;
+    Ok(())
+}
+
+#[test]
 fn other_lines_are_bad(rt: HostRuntime) -> Result<(), Fail> {
-    let scripts: [&[u8]; 24] = [
+    let scripts: [&[u8]; 23] = [
         b"\n",
         b"fly\n",
         b"Flush\n",
@@ -114,7 +130,21 @@ fn other_lines_are_bad(rt: HostRuntime) -> Result<(), Fail> {
         b"get\n",
         b"read 0 0\n",
         b"read 0 0 4294967296\n",
-        b"has :x\n",
+    ];
+    all_count(&rt, rt.alloc(), &scripts, Err(ScriptFault::Script(1)))?;
+    Ok(())
+}
+
+#[test]
+fn other_lines_of_the_index_are_bad(rt: HostRuntime) -> Result<(), Fail> {
+    let scripts: [&[u8]; 7] = [
+        b"has\n",
+        b"list \n",
+        b"step\n",
+        b"step 007\n",
+        b"step 4294967296\n",
+        b"state 1\n",
+        b"rebuilt\n",
     ];
     all_count(&rt, rt.alloc(), &scripts, Err(ScriptFault::Script(1)))?;
     Ok(())
@@ -342,6 +372,28 @@ fn commands_have_their_fields(rt: HostRuntime) -> Result<(), Fail> {
     Ok(())
 }
 
+#[test]
+fn commands_of_the_index_have_their_fields(rt: HostRuntime) -> Result<(), Fail> {
+    let mut source = source_of(rt.alloc(), b"has a key\nlist\nstep 5\nstate\nrebuild\n", 4)?;
+    let mut reader = Reader::new(rt.alloc())?;
+    let key = b"a key".as_slice();
+    assert_eq!(rt;
+        reader.next_command(&mut source),
+        Ok(Some(Command::Has { key }))
+    );
+    assert_eq!(rt; reader.next_command(&mut source), Ok(Some(Command::List)));
+    assert_eq!(rt;
+        reader.next_command(&mut source),
+        Ok(Some(Command::Step { n: 5 }))
+    );
+    assert_eq!(rt; reader.next_command(&mut source), Ok(Some(Command::State)));
+    assert_eq!(rt;
+        reader.next_command(&mut source),
+        Ok(Some(Command::Rebuild))
+    );
+    Ok(())
+}
+
 fn texts_are(rt: &impl Abort, alloc: Global, table: &[(Refusal, &str)]) -> Result<(), NoMemory> {
     for (refusal, text) in table {
         assert_eq!(rt; refusal_text(alloc, refusal)?.as_str(), *text);
@@ -369,5 +421,30 @@ fn refusals_have_their_texts(rt: HostRuntime) -> Result<(), Fail> {
         (Refusal::BadElement, "bad element"),
     ];
     texts_are(&rt, rt.alloc(), &table)?;
+    Ok(())
+}
+
+// The SHA-1 of `abc`.
+const NAME: Name = Name([
+    0xA9, 0x99, 0x3E, 0x36, 0x47, 0x06, 0x81, 0x6A, 0xBA, 0x3E, 0x25, 0x71, 0x78, 0x50, 0xC2, 0x6C,
+    0x9C, 0xD0, 0xD8, 0x9D,
+]);
+
+#[test]
+fn records_have_their_text(rt: HostRuntime) -> Result<(), Fail> {
+    let record = IndexRecord {
+        name: NAME,
+        frecency: 1000,
+        origin: 0xDA39A3EE5E6B4B0D,
+        on_start: 65_535,
+        on_stop: 65_535,
+        content: 0,
+        flags: 0x80000001,
+    };
+    let text = record_text(rt.alloc(), &record)?;
+    assert_eq!(rt;
+        text.as_str(),
+        "A9993E364706816ABA3E25717850C26C9CD0D89D 1000 DA39A3EE5E6B4B0D 65535 65535 0 80000001"
+    );
     Ok(())
 }

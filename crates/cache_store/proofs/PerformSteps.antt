@@ -5,7 +5,7 @@ use Rattle.std.proofs.lemmas.Bool.{cond_both}
 use Rattle.cache_base.specs.Checks.{first_failing}
 use Rattle.cache_theory.specs.Checks.{checks}
 use Rattle.cache_theory.specs.Command.{Command}
-use Rattle.cache_theory.specs.Command.Command.{At, Create, OpenKey, Append, Finish, SetElement, UnsetElement, ElementOf, ReadPart, Close, Doom, Get, Flush}
+use Rattle.cache_theory.specs.Command.Command.{At, OpenKey, Finish, UnsetElement, ElementOf, ReadPart, Close, Get, HasEntry, Flush, UpdateState}
 use Rattle.cache_theory.specs.Command.Reply.{Done, NoneThere}
 use Rattle.cache_theory.specs.Machine.{Machine, has_slots, is_writer, number_of, object_of, on_shelf, used_by}
 use Rattle.cache_theory.specs.Marks.{Marks, acked, begun}
@@ -18,52 +18,27 @@ use Rattle.entry_name.specs.EntryName.{file_name}
 use Rattle.entry_parts.specs.Elements.{element}
 use Rattle.entry_parts.specs.Setting.{without_element}
 
--- a command that only reads
+-- a command that only reads, be it entries or the index
 abbrev pub IsReading : Command → Type 0
-IsReading (At now) = ⊥
-IsReading (Create s key) = ⊥
-IsReading (OpenKey s key) = ⊥
-IsReading (Append s bytes) = ⊥
-IsReading (Finish s) = ⊥
-IsReading (SetElement s name value) = ⊥
-IsReading (UnsetElement s name) = ⊥
 IsReading (ElementOf s name) = ⊤
 IsReading (ReadPart s from len) = ⊤
-IsReading (Close s) = ⊥
-IsReading (Doom key) = ⊥
 IsReading (Get key) = ⊤
-IsReading Flush = ⊥
+IsReading (HasEntry key) = ⊤
+IsReading UpdateState = ⊤
+IsReading _ = ⊥
 
 reading_effect : (m : Machine) (c : Command) → IsReading c → (effect m c).next ≡ m
 unfolding effect
-reading_effect m (At now) is = absurd is
-reading_effect m (Create s key) is = absurd is
-reading_effect m (OpenKey s key) is = absurd is
-reading_effect m (Append s bytes) is = absurd is
-reading_effect m (Finish s) is = absurd is
-reading_effect m (SetElement s name value) is = absurd is
-reading_effect m (UnsetElement s name) is = absurd is
 reading_effect m (ElementOf s name) is = refl
 reading_effect m (ReadPart s from len) is = refl
-reading_effect m (Close s) is = absurd is
-reading_effect m (Doom key) is = absurd is
 reading_effect m (Get key) is = refl
-reading_effect m Flush is = absurd is
+reading_effect m (HasEntry key) is = refl
+reading_effect m UpdateState is = refl
+reading_effect m c is = absurd is
 
 pub reading_acked : (m : Machine) (c : Command) (w : Marks) → IsReading c → acked m c w ≡ begun m c w
-reading_acked m (At now) w is = absurd is
-reading_acked m (Create s key) w is = absurd is
-reading_acked m (OpenKey s key) w is = absurd is
-reading_acked m (Append s bytes) w is = absurd is
-reading_acked m (Finish s) w is = absurd is
-reading_acked m (SetElement s name value) w is = absurd is
-reading_acked m (UnsetElement s name) w is = absurd is
-reading_acked m (ElementOf s name) w is = refl
-reading_acked m (ReadPart s from len) w is = refl
-reading_acked m (Close s) w is = absurd is
-reading_acked m (Doom key) w is = absurd is
-reading_acked m (Get key) w is = refl
 reading_acked m Flush w is = absurd is
+reading_acked m c w is = refl
 
 -- what holds of the machine after the effect, and before, holds after the step
 stepped_next : (m : Machine) (c : Command) (P : Machine → Type 0) → P m → P (effect m c).next → (o : Option Refusal) → P (stepped m c o).next
@@ -79,18 +54,7 @@ reading_next m c is = stepped_next m c (λ n. n ≡ m) refl (reading_effect m c 
 -- a command that does not set it
 abbrev pub KeepsMoment : Command → Type 0
 KeepsMoment (At now) = ⊥
-KeepsMoment (Create s key) = ⊤
-KeepsMoment (OpenKey s key) = ⊤
-KeepsMoment (Append s bytes) = ⊤
-KeepsMoment (Finish s) = ⊤
-KeepsMoment (SetElement s name value) = ⊤
-KeepsMoment (UnsetElement s name) = ⊤
-KeepsMoment (ElementOf s name) = ⊤
-KeepsMoment (ReadPart s from len) = ⊤
-KeepsMoment (Close s) = ⊤
-KeepsMoment (Doom key) = ⊤
-KeepsMoment (Get key) = ⊤
-KeepsMoment Flush = ⊤
+KeepsMoment _ = ⊤
 
 joined_moment : (m : Machine) (s : ℕ) (o : Option ℕ) (r : Reading) → (joined m s o r).moment ≡ m.moment
 joined_moment m s (Some i) r = refl
@@ -112,21 +76,14 @@ released_moment m s =
 effect_moment : (m : Machine) (c : Command) → KeepsMoment c → (effect m c).next.moment ≡ m.moment
 unfolding effect
 effect_moment m (At now) keeps = absurd keeps
-effect_moment m (Create s key) keeps = refl
 effect_moment m (OpenKey s key) keeps = joined_moment m s (used_by m key) (on_shelf m key)
-effect_moment m (Append s bytes) keeps = refl
 effect_moment m (Finish s) keeps = finished_moment m s
-effect_moment m (SetElement s name value) keeps = refl
 effect_moment m (UnsetElement s name) keeps =
     cond_both (is_none (element name (object_of m s).version.elements)) (answer m NoneThere)
     (answer (changed m s (λ v. record v { elements = without_element name v.elements })) Done)
     (λ (a : Answer). a.next.moment ≡ m.moment) (λ is. refl) (λ not_so. refl)
-effect_moment m (ElementOf s name) keeps = refl
-effect_moment m (ReadPart s from len) keeps = refl
 effect_moment m (Close s) keeps = released_moment (finished_by m s) s ∙ finished_moment m s
-effect_moment m (Doom key) keeps = refl
-effect_moment m (Get key) keeps = refl
-effect_moment m Flush keeps = refl
+effect_moment m c keeps = refl
 
 pub step_moment : (m : Machine) (c : Command) → KeepsMoment c → (step m c).next.moment ≡ m.moment
 step_moment m c keeps = stepped_next m c (λ n. n.moment ≡ m.moment) refl (effect_moment m c keeps) (first_failing (checks m c))

@@ -3,7 +3,7 @@ use Rattle.std.proofs.Common.{true, false, ◌≡◌, ◌∙◌, ℕ, List, Opti
 use Rattle.std.specs.Prelude.{IfOk, OnErr, OnOk}
 use Rattle.cache_theory.specs.Checks.{checks}
 use Rattle.cache_theory.specs.Command.{Command}
-use Rattle.cache_theory.specs.Command.Command.{At, Create, OpenKey, Append, Finish, SetElement, UnsetElement, ElementOf, ReadPart, Close, Doom, Get, Flush}
+use Rattle.cache_theory.specs.Command.Command.{Flush}
 use Rattle.cache_theory.specs.Crash.{IsSafe}
 use Rattle.cache_theory.specs.History.{History, acked, begun, settled_at, unanswered}
 use Rattle.cache_theory.specs.Step.{effect, step}
@@ -11,7 +11,7 @@ use Rattle.cache_theory.specs.Text.{reply_text}
 use Rattle.file_handles.proofs.Begun.{begun_in}
 use Rattle.file_handles.proofs.Where.{marked_in}
 use Rattle.cache_store.specs.Answering.{CutsRest, SendsRest, outcome_in, rest_of}
-use Rattle.cache_store.specs.Open.{KeepsTo, Represents}
+use Rattle.cache_store.specs.Open.{KeepsTo, Represents, Tells}
 use Rattle.cache_store.specs.Performing.{DoesFor, PerformsFor}
 use Rattle.cache_store.specs.Said.{Saying}
 use Rattle.cache_store.specs.Session.{Open, Session}
@@ -23,18 +23,6 @@ use Rattle.cache_store.proofs.Represented.{keeps_bare, keeps_marked, keeps_to, r
 -- a command that had its effect, and is not acknowledged
 begun_stands : (c : Command) (h : History) (before after : Session) → KeepsTo before h → IsSafe after.disk (begun c h).marks → KeepsTo after (acked c h) → KeepsTo after (unanswered c h)
 unfolding checks effect
-begun_stands (At now) h before after is safe stands = stands
-begun_stands (Create slot key) h before after is safe stands = stands
-begun_stands (OpenKey slot key) h before after is safe stands = stands
-begun_stands (Append slot bytes) h before after is safe stands = stands
-begun_stands (Finish slot) h before after is safe stands = stands
-begun_stands (SetElement slot name value) h before after is safe stands = stands
-begun_stands (UnsetElement slot name) h before after is safe stands = stands
-begun_stands (ElementOf slot name) h before after is safe stands = stands
-begun_stands (ReadPart slot from len) h before after is safe stands = stands
-begun_stands (Close slot) h before after is safe stands = stands
-begun_stands (Doom key) h before after is safe stands = stands
-begun_stands (Get key) h before after is safe stands = stands
 begun_stands Flush h before after is safe stands =
     let was = begun_in before.disk before.open_store.handles h.machine Flush h.marks (marked_in is.stands) in
     let kept = stands.stands.crash_kept in
@@ -50,8 +38,9 @@ begun_stands Flush h before after is safe stands =
           young = (was.crash_kept refl).young;
         };
       };
-      same_moment = stands.same_moment;
+      matches = stands.matches;
     }
+begun_stands c h before after is safe stands = stands
 
 -- a command that failed
 pub fails_performs : (c : Command) (f : StoreFault) (final : Result Outcome StoreFault) (before after : Session) (taken : Option (List ℕ)) (now : Saying) → IsErrAnd final (λ e. e ≡ f)
@@ -60,7 +49,14 @@ fails_performs c f (Ok o) before after taken now is does = absurd is
 fails_performs c f (Err e) before after taken now is does = record {
   answers = λ m stand.
       let done = does false (settled_at m) (keeps_bare stand) in
-      record { printed = tt; outcome = tt; next = tt; cut = done.answers.cut; effect = λ same. represented (done.effect (sym is ∙ same)) };
+      record {
+        printed = λ may. tt;
+        outcome = tt;
+        next = tt;
+        cut = λ may. (done.answers may).cut;
+        effect = λ same. represented (done.effect (sym is ∙ same));
+        tells = λ same. done.tells (sym is ∙ same);
+      };
   crash = λ h stands.
       let done = does true h (keeps_marked stands) in
       record {
@@ -71,6 +67,10 @@ fails_performs c f (Err e) before after taken now is does = record {
       };
 }
 
+-- what holds of an open store holds of the same by another name
+as_open : (P : Session → Type 0) (mid : Session) (last : Open) → last ≡ mid.open_store → P mid → P (record { open_store = last; disk = mid.disk })
+as_open P mid last same = subst (λ (k : Open). P (record { open_store = k; disk = mid.disk })) (sym same)
+
 -- one whose reply goes out, or is cut there
 pub does_performs : (c : Command) (a : Answered) (final : Result Outcome StoreFault) (before mid : Session) (last : Open) (taken : Option (List ℕ)) (between : Saying) (now : Option (List ℕ))
     → OnOk final (SendsRest (rest_of a) between now) → OnErr final (CutsRest (rest_of a) between now) → IfOk final (λ o. o ≡ outcome_in a) → last ≡ mid.open_store
@@ -78,18 +78,20 @@ pub does_performs : (c : Command) (a : Answered) (final : Result Outcome StoreFa
 does_performs c a (Ok o) before mid last taken between now printed cut outcome same does = record {
   answers = λ m stand.
       let done = does false (settled_at m) (keeps_bare stand) in
+      let next = (step m c).next in
       record {
-        printed = printed (reply_text (step m c).reply) taken done.answers.says;
-        outcome = outcome ∙ done.answers.outcome;
-        next = subst (λ (k : Open). Represents (record { open_store = k; disk = mid.disk }) (step m c).next) (sym same) (represented done.next);
-        cut = tt;
+        printed = λ may. printed (reply_text (step m c).reply) taken (done.answers may).says;
+        outcome = outcome ∙ done.outcome;
+        next = as_open (λ now. Represents now next) mid last same (represented done.next);
+        cut = λ may. tt;
         effect = tt;
+        tells = λ had comes. as_open (λ now. Tells now next) mid last same (done.tells tt comes);
       };
   crash = λ h stands.
       let done = does true h (keeps_marked stands) in
       record {
         safe = done.safe refl;
-        next = subst (λ (k : Open). KeepsTo (record { open_store = k; disk = mid.disk }) (acked c h)) (sym same) (keeps_to done.next);
+        next = as_open (λ now. KeepsTo now (acked c h)) mid last same (keeps_to done.next);
         effect = tt;
         unanswered = tt;
       };
@@ -97,17 +99,19 @@ does_performs c a (Ok o) before mid last taken between now printed cut outcome s
 does_performs c a (Err f) before mid last taken between now printed cut outcome same does = record {
   answers = λ m stand.
       let done = does false (settled_at m) (keeps_bare stand) in
+      let next = (step m c).next in
       record {
-        printed = tt;
+        printed = λ may. tt;
         outcome = tt;
         next = tt;
-        cut = cut (reply_text (step m c).reply) taken done.answers.says;
-        effect = λ sink. subst (λ (k : Open). Represents (record { open_store = k; disk = mid.disk }) (step m c).next) (sym same) (represented done.next);
+        cut = λ may. cut (reply_text (step m c).reply) taken (done.answers may).says;
+        effect = λ sink. as_open (λ now. Represents now next) mid last same (represented done.next);
+        tells = λ had comes. as_open (λ now. Tells now next) mid last same (done.tells tt comes);
       };
   crash = λ h stands.
       let done = does true h (keeps_marked stands) in
       let after : Session = record { open_store = last; disk = mid.disk } in
-      let next : KeepsTo after (acked c h) = subst (λ (k : Open). KeepsTo (record { open_store = k; disk = mid.disk }) (acked c h)) (sym same) (keeps_to done.next) in
+      let next : KeepsTo after (acked c h) = as_open (λ now. KeepsTo now (acked c h)) mid last same (keeps_to done.next) in
       record {
         safe = done.safe refl;
         next = tt;

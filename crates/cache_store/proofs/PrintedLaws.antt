@@ -26,15 +26,11 @@ prints_outcome c answered.Done (Ok o) before mid now same empty plain prints is 
   refused = λ e. absurd (let never : outcome.Ok ≡ outcome.Refused = sym is ∙ e in cc);
   done = λ e p. goes_out answered.Done before mid now (same (λ n. cc)) (empty (λ n. cc)) prints;
 }
-prints_outcome c answered.NoneThere (Ok o) before mid now same empty plain prints is = record {
-  refused = λ e. absurd (let never : outcome.Ok ≡ outcome.Refused = sym is ∙ e in cc);
-  done = λ e p. absurd (plain p);
-}
-prints_outcome c answered.All (Ok o) before mid now same empty plain prints is = record {
-  refused = λ e. absurd (let never : outcome.Ok ≡ outcome.Refused = sym is ∙ e in cc);
-  done = λ e p. absurd (plain p);
-}
 prints_outcome c (answered.Refused refusal) (Ok o) before mid now same empty plain prints is = record {
   refused = λ e. (refusal, goes_out (answered.Refused refusal) before mid now (same (λ n. cc)) (empty (λ n. cc)) prints);
   done = λ e p. absurd (let never : outcome.Refused ≡ outcome.Ok = sym is ∙ e in cc);
+}
+prints_outcome c a (Ok o) before mid now same empty plain prints is = record {
+  refused = λ e. absurd (let never : outcome.Ok ≡ outcome.Refused = sym is ∙ e in cc);
+  done = λ e p. absurd (plain p);
 }

@@ -8,10 +8,10 @@ use Rattle.cache_store.specs.declared.fault.Outcome.{Outcome}
 use Rattle.cache_store.specs.declared.fault.Outcome.TheVariants as outcome
 use Rattle.cache_store.specs.declared.fault.StoreFault.{StoreFault}
 use Rattle.cache_theory.specs.Command.{Command, Reply}
-use Rattle.cache_theory.specs.Command.Reply.{Done, Refused, NoneThere, Value, Part, Found}
+use Rattle.cache_theory.specs.Command.Reply.{Refused}
 use Rattle.cache_theory.specs.Machine.{Machine}
 use Rattle.cache_theory.specs.Step.{step}
-use Rattle.cache_theory.specs.Text.{refusal_words, reply_text, line}
+use Rattle.cache_theory.specs.Text.{refusal_words, reply_text, line, with_number}
 use Rattle.disk_model.specs.State.{State}
 use Rattle.file_handles.specs.Cache.{Cache, cache_at}
 use Rattle.file_handles.specs.Kept.{Kept}
@@ -22,22 +22,26 @@ abbrev pub rest_of : Answered → List ℕ
 rest_of answered.Done = line (codes "ok" ∷ [])
 rest_of answered.All = []
 rest_of answered.NoneThere = line (codes "none" ∷ [])
+rest_of answered.Yes = line (codes "yes" ∷ [])
+rest_of answered.No = line (codes "no" ∷ [])
+rest_of answered.Unknown = line (codes "unknown" ∷ [])
+rest_of answered.Ready = line (codes "ready" ∷ [])
+rest_of (answered.Updating names) = with_number (codes "updating") names
+rest_of (answered.Rebuilt records) = with_number (codes "rebuilt") records
 rest_of (answered.Refused r) = line (refusal_words r)
 
 -- whether a reply is a refusal
 abbrev pub outcome_of : Reply → Outcome
-outcome_of Done = outcome.Ok
 outcome_of (Refused r) = outcome.Refused
-outcome_of NoneThere = outcome.Ok
-outcome_of (Value value) = outcome.Ok
-outcome_of (Part bytes) = outcome.Ok
-outcome_of (Found v) = outcome.Ok
+outcome_of _ = outcome.Ok
 
 abbrev pub outcome_in : Answered → Outcome
-outcome_in answered.Done = outcome.Ok
-outcome_in answered.All = outcome.Ok
-outcome_in answered.NoneThere = outcome.Ok
 outcome_in (answered.Refused r) = outcome.Refused
+outcome_in _ = outcome.Ok
+
+-- the outcome is the machine's, in whatever state it is
+abbrev pub HasOutcome : Command → Answered → Type 0
+HasOutcome c a = (m : Machine) → outcome_in a ≡ outcome_of (step m c).reply
 
 -- a part of the text was said, and the rest of the answer completes it
 pub record SaysOf (text rest : List ℕ) (before : Option (List ℕ)) (now : Saying) : Type 0 where

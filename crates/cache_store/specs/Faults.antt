@@ -1,5 +1,5 @@
 -- Faults of the disk and of the sink, as the store's.
-use Rattle.std.specs.Prelude.{Err, Ok, Result}
+use Rattle.std.specs.Prelude.{Err, Ok, Result, ◌≡◌, ◌⊎◌}
 use Rattle.cache_io.specs.declared.sink.SinkFault.{SinkFault}
 use Rattle.cache_io.specs.declared.sink.SinkFault.TheVariants as sink
 use Rattle.cache_store.specs.declared.fault.StoreFault.{StoreFault}
@@ -25,3 +25,8 @@ fault_ending Sink = Ending.NoneFailed
 abbrev pub ending : {T : Type 0} → Result T StoreFault → Ending
 ending (Ok value) = Ending.NoneFailed
 ending (Err fault) = fault_ending fault
+
+-- the ending is that of a call before, or memory ran out after it
+abbrev pub EndsAs : Ending → Ending → Type 0
+EndsAs before now =
+    (now ≡ before) ⊎ ((before ≡ Ending.NoneFailed) × (now ≡ Ending.OutOfMemory))

@@ -1,10 +1,14 @@
 pub mod Answering
 pub mod EntryText
 pub mod Faults
+pub mod IndexCalls
+pub mod Kept
+pub mod Learnt
 pub mod Open
 pub mod Performing
 pub mod Prefix
 pub mod Printed
+pub mod Records
 pub mod Replied
 pub mod Said
 pub mod Saying

@@ -1,6 +1,10 @@
 -- What a store that is open stands for, and what opening and closing it promise.
-use Rattle.std.specs.Prelude.{Bool, List, OnOk, Result, ℕ, ◌≡◌}
+use Rattle.std.specs.Prelude.{Bool, List, OnOk, Result, [], ℕ, ◌≡◌, ◌≢◌}
+use Rattle.cache_base.specs.Names.{AreRising}
+use Rattle.cache_base.specs.declared.name.Name.{Name}
 use Rattle.cache_store.specs.Faults.{ending}
+use Rattle.cache_store.specs.Kept.{Matches}
+use Rattle.cache_store.specs.Records.{RecordsTell}
 use Rattle.cache_store.specs.Session.{Session, cache_of}
 use Rattle.cache_store.specs.declared.fault.StoreFault.{StoreFault}
 use Rattle.cache_theory.specs.Crash.{IsCrashSafe, IsSafe}
@@ -11,17 +15,22 @@ use Rattle.cache_theory.specs.Marks.{marks_of}
 use Rattle.cache_theory.specs.Table.{Table}
 use Rattle.disk_model.specs.Account.{Ending}
 use Rattle.disk_model.specs.Image.{Files, IsImage}
+use Rattle.disk_model.specs.Listing.{AreEntries}
 use Rattle.disk_model.specs.Sound.{IsQuiet}
 use Rattle.disk_model.specs.State.{State, standing}
 use Rattle.entry_file.specs.EntryFile.{found}
 use Rattle.file_handles.specs.Carries.{IsShelf}
 use Rattle.file_handles.specs.Closing.{IsClosed}
 use Rattle.file_handles.specs.Stands.{KeepsTo as CacheKeepsTo, KeepsWhere as CacheKeepsWhere, Represents as CacheRepresents}
+use Rattle.index_theory.specs.Honest.{Honest, LeavesHonest}
+use Rattle.index_theory.specs.Start.{start_of}
+use Rattle.index_theory.specs.declared.kinds.Start.TheVariants.{Ready}
+use Rattle.index_update.specs.Rest.{name_bytes}
 
 -- the store and the disk stand for this machine
 pub record Represents (now : Session) (m : Machine) : Type 0 where
   pub stands : CacheRepresents (cache_of now) m
-  pub same_moment : m.moment ≡ now.open_store.moment
+  pub matches : Matches now m
 
 -- there is such a machine
 abbrev pub IsOpen : Session → Type 0
@@ -34,34 +43,63 @@ LeavesOpen answer after = ending answer ≡ Ending.NoneFailed → IsOpen after
 -- they stand for the machine of a history, and the disk keeps what its marks ask for
 pub record KeepsTo (now : Session) (h : History) : Type 0 where
   pub stands : CacheKeepsTo (cache_of now) h
-  pub same_moment : h.machine.moment ≡ now.open_store.moment
+  pub matches : Matches now h.machine
 
 -- so they do, and where a crash is spoken of the disk keeps what the marks ask for
 pub record KeepsWhere (crash : Bool) (now : Session) (h : History) : Type 0 where
   pub stands : CacheKeepsWhere crash (cache_of now) h
-  pub same_moment : h.machine.moment ≡ now.open_store.moment
+  pub matches : Matches now h.machine
+
+-- the records in memory are right for the machine
+abbrev pub Tells : Session → Machine → Type 0
+Tells now m = RecordsTell now.open_store.index m
+
+-- ---- the opening
 
 -- the entry files that stand are those of some shelf
 abbrev pub HasShelf : State → Type 0
 HasShelf s = (shelf : Table (List ℕ)) × IsShelf s shelf
 
+-- what the update has to read at an opening: nothing where the index is trusted, and else all entries, in name order
+pub record IsRest (s : State) (rest : List Name) : Type 0 where
+  pub ready : start_of (standing s) ≡ Ready → rest ≡ []
+  pub unready : start_of (standing s) ≢ Ready → AreEntries s rest
+  pub rising : AreRising rest
+
+-- the machine at an opening on what stands
+pub record StartsOn (now : ℕ) (s : State) (m : Machine) : Type 0 where
+  pub shelf : Table (List ℕ)
+  pub rest : List Name
+  pub is_shelf : IsShelf s shelf
+  pub is_rest : IsRest s rest
+  pub is_opened : m ≡ opened now shelf (name_bytes rest)
+
 -- with nothing pending at the call, at every exit a crash loses nothing of what stood
 abbrev pub OpensSafely : ℕ → State → State → Type 0
-OpensSafely now s t =
-    (shelf : Table (List ℕ)) (rest : List (List ℕ)) → IsQuiet s → IsShelf s shelf
-    → IsSafe t (marks_of (opened now shelf rest))
+OpensSafely now s t = (m : Machine) → StartsOn now s m → IsQuiet s → IsSafe t (marks_of m)
 
--- and in each image every key is found as it was
+-- in each image every key is found as it was
 abbrev pub KeepsFound : State → State → Type 0
 KeepsFound s t =
     IsQuiet s → (image : Files) → IsImage t image → (key : List ℕ)
     → found (entries image) key ≡ found (entries (standing s)) key
 
--- after an Ok the store stands for the machine at an opening, as after an acknowledged flush
-abbrev pub Opens : ℕ → State → Session → Type 0
-Opens now s after =
-    (shelf : Table (List ℕ)) (rest : List (List ℕ)) → IsShelf s shelf
-    → KeepsTo after (settled_at (opened now shelf rest))
+-- and each image is honest, where the directory was
+abbrev pub OpensHonestly : State → State → Type 0
+OpensHonestly s t = IsQuiet s → Honest (standing s) → LeavesHonest t
+
+-- after an Ok the store stands for the machine at an opening, as after an acknowledged flush, and its records are right
+-- where the directory was honest
+pub record Opens (now : ℕ) (s : State) (after : Session) : Type 0 where
+  pub keeps : (m : Machine) → StartsOn now s m → KeepsTo after (settled_at m)
+  pub tells : (m : Machine) → StartsOn now s m → Honest (standing s) → Tells after m
+
+-- ---- the closing
+
+-- the directory is honest, and where the update has ended its index is trusted
+pub record IsHonest (s : State) (m : Machine) : Type 0 where
+  pub honest : Honest (standing s)
+  pub trusted : m.rest ≡ [] → start_of (standing s) ≡ Ready
 
 -- nothing is pending, the entries are those of the shelf, and no doomed file stands
 pub record IsShut (t : State) (m : Machine) : Type 0 where
@@ -76,3 +114,8 @@ ClosesSafely before t = (h : History) → KeepsTo before h → IsCrashSafe t h.m
 pub record Closes (answer : Result (Unit {0}) StoreFault) (before : Session) (t : State) : Type 0 where
   pub shut : (m : Machine) → Represents before m → OnOk answer (IsShut t m)
   pub crash : (h : History) → KeepsTo before h → IsSafe t h.marks
+
+-- where the records were right each image is honest, and after an Ok the directory is
+pub record ClosesHonestly (answer : Result (Unit {0}) StoreFault) (before : Session) (t : State) : Type 0 where
+  pub images : (m : Machine) → Represents before m → Tells before m → LeavesHonest t
+  pub honest : (m : Machine) → Represents before m → Tells before m → OnOk answer (IsHonest t m)

@@ -1,15 +1,17 @@
 -- What one command does.
-use Rattle.std.specs.Prelude.{Bool, Err, IfErr, IfOk, IsTrue, List, Ok, OnErr, OnOk, Option, Result, ℕ, ⊤, ◌≡◌}
+use Rattle.std.specs.Prelude.{Bool, Err, IfErr, IfOk, IfSome, IsTrue, List, Ok, OnErr, OnOk, Option, Result, false, true, ℕ, ⊤, ◌≡◌, ◌⊎◌}
 use Rattle.std.specs.Io.KnownBytes.{Appends}
-use Rattle.cache_store.specs.Answering.{AnswersTo, outcome_of}
-use Rattle.cache_store.specs.Open.{KeepsTo, KeepsWhere, Represents}
+use Rattle.cache_store.specs.Answering.{AnswersTo, outcome_in, outcome_of}
+use Rattle.cache_store.specs.Open.{KeepsTo, KeepsWhere, Represents, Tells}
+use Rattle.cache_store.specs.Replied.{replied}
 use Rattle.cache_store.specs.Said.{IsCut, Saying}
 use Rattle.cache_store.specs.Session.{Session}
 use Rattle.cache_store.specs.declared.answered.Answered.{Answered}
 use Rattle.cache_store.specs.declared.fault.Outcome.{Outcome}
 use Rattle.cache_store.specs.declared.fault.StoreFault.{StoreFault}
 use Rattle.cache_store.specs.declared.fault.StoreFault.TheVariants as fault
-use Rattle.cache_theory.specs.Command.{Command}
+use Rattle.cache_theory.specs.Command.{Command, Reply}
+use Rattle.cache_theory.specs.Command.Command.{HasEntry, ListRecords, Rebuild}
 use Rattle.cache_theory.specs.Crash.{IsCrashSafe, IsSafe}
 use Rattle.cache_theory.specs.History.{History, acked, begun, unanswered as left_unanswered}
 use Rattle.cache_theory.specs.Machine.{Machine}
@@ -17,16 +19,37 @@ use Rattle.cache_theory.specs.Step.{step}
 use Rattle.cache_theory.specs.Text.{reply_text}
 use Rattle.disk_model.specs.State.{State}
 
+-- the reply goes by the records in memory
+abbrev pub goes_by_records : Command → Bool
+goes_by_records (HasEntry key) = true
+goes_by_records ListRecords = true
+goes_by_records _ = false
+
+-- the reply is the machine's: it does not go by the records, or they are right
+abbrev pub MayTell : Command → Session → Machine → Type 0
+MayTell c now m = IsTrue (goes_by_records c) → Tells now m
+
+-- the records are right afterwards: they were so before, or they are read anew
+abbrev pub ComesToTell : Command → Session → Machine → Type 0
+ComesToTell c now m = Tells now m ⊎ (c ≡ Rebuild)
+
+-- the command has had its effect: there is an outcome, or the sink failed
+abbrev pub HadEffect : {T : Type 0} → Result T StoreFault → Type 0
+HadEffect (Ok outcome) = ⊤
+HadEffect (Err f) = f ≡ fault.Sink
+
 -- for a machine: what the whole command comes to
 pub record Performs (c : Command) (m : Machine) (answer : Result Outcome StoreFault)
-    (after : Session) (before now : Option (List ℕ)) : Type 0 where
+    (before after : Session) (taken now : Option (List ℕ)) : Type 0 where
   -- with an answer the reply is out, it is the machine's, and the store stands for the machine's next state
-  pub printed : OnOk answer (Appends before now (reply_text (step m c).reply))
+  pub printed : MayTell c before m → OnOk answer (Appends taken now (reply_text (step m c).reply))
   pub outcome : IfOk answer (λ o. o ≡ outcome_of (step m c).reply)
   pub next : OnOk answer (Represents after (step m c).next)
   -- otherwise a part of it is, and where the sink failed the command has had its effect
-  pub cut : OnErr answer (IsCut before now (reply_text (step m c).reply))
+  pub cut : MayTell c before m → OnErr answer (IsCut taken now (reply_text (step m c).reply))
   pub effect : IfErr answer (λ f. f ≡ fault.Sink → Represents after (step m c).next)
+  -- the records go on to be right
+  pub tells : HadEffect answer → ComesToTell c before m → Tells after (step m c).next
 
 -- for a history: what the disk keeps
 pub record Keeps (c : Command) (h : History) (answer : Result Outcome StoreFault)
@@ -42,13 +65,8 @@ pub record Keeps (c : Command) (h : History) (answer : Result Outcome StoreFault
 -- whatever machine the store stands for, and whatever history the disk keeps to
 pub record PerformsFor (c : Command) (answer : Result Outcome StoreFault) (before after : Session)
     (taken now : Option (List ℕ)) : Type 0 where
-  pub answers : (m : Machine) → Represents before m → Performs c m answer after taken now
+  pub answers : (m : Machine) → Represents before m → Performs c m answer before after taken now
   pub crash : (h : History) → KeepsTo before h → Keeps c h answer after
-
--- the command has had its effect: there is an outcome, or the sink failed
-abbrev pub HadEffect : {T : Type 0} → Result T StoreFault → Type 0
-HadEffect (Ok outcome) = ⊤
-HadEffect (Err f) = f ≡ fault.Sink
 
 -- whatever the history, a crash loses no more than the marks of the begun command allow, and once it has had its effect
 -- no more than those of the acknowledged one
@@ -57,15 +75,34 @@ PerformsSafely c answer before t =
     (h : History) → KeepsTo before h
     → IsCrashSafe t (begun c h).marks × (HadEffect answer → IsCrashSafe t (acked c h).marks)
 
+-- the reply of which nothing is said yet is the machine's
+pub record IsReply (c : Command) (before : Session) (m : Machine) (r : Reply) : Type 0 where
+  pub reply : MayTell c before m → r ≡ (step m c).reply
+  pub outcome : outcome_of r ≡ outcome_of (step m c).reply
+
+-- for a history: what a command does of whose reply nothing is said yet, with and without a crash
+pub record Achieves (crash : Bool) (c : Command) (h : History) (answer : Result Answered StoreFault)
+    (before after : Session) : Type 0 where
+  pub safe : IsTrue crash → IsSafe after.disk (begun c h).marks
+  pub replies : IfSome (replied answer) (IsReply c before h.machine)
+  pub next : OnOk answer (KeepsWhere crash after (acked c h))
+  pub tells : OnOk answer (ComesToTell c before h.machine → Tells after (step h.machine c).next)
+
+abbrev pub AchievesFor : Command → Result Answered StoreFault → Session → Session → Type 0
+AchievesFor c answer before after =
+    (crash : Bool) (h : History) → KeepsWhere crash before h → Achieves crash c h answer before after
+
 -- for a history: what the command does before its reply is out whole, with and without a crash
 pub record Does (crash : Bool) (c : Command) (h : History) (answer : Result Answered StoreFault)
-    (after : Session) (before : Option (List ℕ)) (now : Saying) : Type 0 where
+    (before after : Session) (taken : Option (List ℕ)) (now : Saying) : Type 0 where
   pub safe : IsTrue crash → IsSafe after.disk (begun c h).marks
-  pub answers : AnswersTo (step h.machine c).reply answer before now
+  pub answers : MayTell c before h.machine → AnswersTo (step h.machine c).reply answer taken now
+  pub outcome : IfOk answer (λ a. outcome_in a ≡ outcome_of (step h.machine c).reply)
   pub next : OnOk answer (KeepsWhere crash after (acked c h))
   pub effect : IfErr answer (λ f. f ≡ fault.Sink → KeepsWhere crash after (acked c h))
+  pub tells : HadEffect answer → ComesToTell c before h.machine → Tells after (step h.machine c).next
 
 abbrev pub DoesFor : Command → Result Answered StoreFault → Session → Session
     → Option (List ℕ) → Saying → Type 0
 DoesFor c answer before after taken now =
-    (crash : Bool) (h : History) → KeepsWhere crash before h → Does crash c h answer after taken now
+    (crash : Bool) (h : History) → KeepsWhere crash before h → Does crash c h answer before after taken now

@@ -1,18 +1,21 @@
 -- A store that is open, over its disk.
 use Rattle.std.specs.Prelude.{ℕ}
+use Rattle.cache_store.specs.declared.memory_index.MemoryIndex.{MemoryIndex}
 use Rattle.cache_store.specs.declared.store.Store.{Store}
 use Rattle.disk_model.specs.State.{State}
 use Rattle.disk_model.specs.declared.disk.Disk.{Ghosts}
 use Rattle.file_handles.specs.Cache.{Cache}
 use Rattle.file_handles.specs.Kept.{Kept, kept}
 
--- what a store keeps: the handles and the moment
+-- what a store keeps: the handles, the moment, and the index in memory
 pub record Open : Type 0 where
   pub handles : Kept
   pub moment : ℕ
+  pub index : MemoryIndex
 
 abbrev pub open_of : Store → Open
-open_of store = record { handles = kept store.handles; moment = store.moment }
+open_of store =
+    record { handles = kept store.handles; moment = store.moment; index = store.index }
 
 -- a store that is open, and the disk under it
 pub record Session : Type 0 where

@@ -1,12 +1,8 @@
--- Lines of replies.
+-- The line of numbers of an entry.
 use Rattle.std.specs.Prelude.{List, [], codes, decimal, length, ℕ, ◌++◌, ◌∷◌}
 use Rattle.cache_theory.specs.Text.{line}
 use Rattle.entry_metadata.specs.Metadata.{Meta}
 use Rattle.entry_parts.specs.Elements.{elements_bytes}
-
--- a word, and the number of bytes that follow
-abbrev pub counted_line : List ℕ → ℕ → List ℕ
-counted_line word n = line (word ∷ decimal n ∷ [])
 
 -- the numbers of an entry
 unfoldable pub found_line : Meta → List ℕ

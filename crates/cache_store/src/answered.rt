@@ -18,6 +18,18 @@ pub(crate) enum Answered {
     All,
     /// There is nothing, and it says `none`.
     NoneThere,
+    /// There is an entry, and it says `yes`.
+    Yes,
+    /// There is none, and it says `no`.
+    No,
+    /// The update of the index has still to read the name, and it says `unknown`.
+    Unknown,
+    /// The update of the index has ended, and it says `ready`.
+    Ready,
+    /// The update has still to read so many names, and it says `updating` and their number.
+    Updating(u64),
+    /// The index was written anew with so many records, and it says `rebuilt` and their number.
+    Rebuilt(u64),
     /// It is refused, and says why.
     Refused(Refusal),
 }

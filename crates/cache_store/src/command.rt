@@ -1,24 +1,25 @@
 //! Performs one command, and writes its reply.
 
-ghost use Rattle.std.specs.Prelude.{◌≡◌, ◌≢◌, ◌<◌, [], Err, Ok, true, IfOk, IsErrOf, IsTrue, OnErr, OnOk, codes};
+ghost use Rattle.std.specs.Prelude.{◌≡◌, ◌≢◌, ◌<◌, [], Err, Ok, true, IfOk, IfSome, IsErrOf, IsTrue, OnErr, OnOk, codes};
 ghost use Rattle.cache_base.specs.Causes.{HasCause};
 ghost use Rattle.cache_base.specs.declared.limits.TheConstants.{SLOTS};
 ghost use Rattle.cache_script.specs.Command.{command_of};
 ghost use Rattle.cache_store.specs.Answering.{outcome_in, rest_of};
 ghost use Rattle.cache_store.specs.Faults.{ending};
+ghost use Rattle.cache_store.specs.IndexCalls.{IsFresh, IsWritten, LooksAtNames, WritesIndex, names_read};
 ghost use Rattle.cache_store.specs.Printed.{HasBadKey, IsPlain, Prints, is_plain};
-ghost use Rattle.cache_store.specs.Replied.{replied};
 ghost use Rattle.cache_store.specs.Said.{saying};
 ghost use Rattle.cache_store.specs.Saying.{CutsIn, SaysMore};
-ghost use Rattle.cache_theory.specs.Command.Command.{ElementOf, UnsetElement};
+ghost use Rattle.cache_theory.specs.Command.Command.{ElementOf, Flush, Rebuild};
 ghost use Rattle.cache_theory.specs.Given.{IsGiven};
 ghost use Rattle.cache_theory.specs.Text.{with_bytes};
 ghost use Rattle.disk_model.specs.Account.{Accounts};
-ghost use Rattle.disk_model.specs.State.{settled};
 ghost use Rattle.disk_model.specs.Told.{Told};
+ghost use Rattle.index_theory.specs.Honest.{LeavesHonest};
 ghost use Rattle.index_theory.specs.Leaves.{LeavesIndex};
+ghost use Rattle.index_theory.specs.Unclean.{IsUnclean};
 
-use crate::answered::{Answered, answer_of, fault_answer};
+use crate::answered::{Answered, answer_of};
 use crate::pending::Pending;
 use crate::replies::counted;
 use crate::store::Store;
@@ -50,6 +51,21 @@ fn say_value<K: Sink>(
     Ok(())
 }
 
+// Says a line that is no refusal.
+fn say_ok<K: Sink>(reply: &mut Pending, sink: &mut K, line: &[u8]) -> Result<Outcome, StoreFault>
+    ensures says { let at = saying K.Sink in
+        OnOk result (SaysMore (at reply.old sink.old) (at reply.new sink.new) line.now) }
+    ensures cut { let at = saying K.Sink in
+        OnErr result (CutsIn (at reply.old sink.old) (K.taken sink.new) line.now) }
+    ensures outcome { IfOk result (λ o. o ≡ Outcome.Ok) }
+    ensures no_disk { result ≢ Err StoreFault.Disk }
+    ensures sink { let failed = IsErrOf result StoreFault.Sink in
+        HasCause failed (K.faults sink.old) (K.faults sink.new) }
+{
+    reply.put(sink, line)?;
+    Ok(Outcome::Ok)
+}
+
 // Says what is left to say.
 fn say_rest<K: Sink>(
     alloc: Global,
@@ -68,13 +84,19 @@ fn say_rest<K: Sink>(
 {
     match answered {
         Answered::All => Ok(Outcome::Ok),
-        Answered::Done => {
-            reply.put(sink, b"ok\n")?;
-            Ok(Outcome::Ok)
+        Answered::Done => say_ok(reply, sink, b"ok\n"),
+        Answered::NoneThere => say_ok(reply, sink, b"none\n"),
+        Answered::Yes => say_ok(reply, sink, b"yes\n"),
+        Answered::No => say_ok(reply, sink, b"no\n"),
+        Answered::Unknown => say_ok(reply, sink, b"unknown\n"),
+        Answered::Ready => say_ok(reply, sink, b"ready\n"),
+        Answered::Updating(names) => {
+            let line = counted(alloc, b"updating", names)?;
+            say_ok(reply, sink, line.as_slice())
         }
-        Answered::NoneThere => {
-            reply.put(sink, b"none\n")?;
-            Ok(Outcome::Ok)
+        Answered::Rebuilt(records) => {
+            let line = counted(alloc, b"rebuilt", records)?;
+            say_ok(reply, sink, line.as_slice())
         }
         Answered::Refused(refusal) => {
             let text = refusal_text(alloc, &refusal)?;
@@ -85,30 +107,12 @@ fn say_rest<K: Sink>(
     }
 }
 
-// Syncs the disk.
-fn flush<D: Disk>(disk: &mut D) -> Result<Answered, StoreFault>
-    ensures synced { OnOk result (Told D.Disk (λ s t. t ≡ settled s) disk.old disk.new) }
-    ensures same { OnErr result (Told D.Disk (λ s t. t ≡ s) disk.old disk.new) }
-    ensures done { IfOk result (λ a. a ≡ Answered.Done) }
-    ensures plain { IfOk result IsPlain }
-    ensures no_sink { result ≢ Err StoreFault.Sink }
-    ensures account { Accounts D.Disk (ending result) disk.old disk.new }
-{
-    match disk.sync() {
-        Ok(()) => Ok(Answered::Done),
-        Err(fault) => Err(StoreFault::from(fault)),
-    }
-}
-
 impl Store {
     ghost use Rattle.cache_store.specs.Answering.{AnswersOver, CutsRest, SendsRest};
     ghost use Rattle.cache_store.specs.Open.{IsOpen, LeavesOpen};
     ghost use Rattle.cache_store.specs.Performing.{DoesFor, PerformsFor, PerformsSafely};
     ghost use Rattle.cache_store.specs.Session.{open_of, session};
-    ghost use Rattle.file_handles.specs.Cache.{cache};
-    ghost use Rattle.file_handles.specs.Carries.{CarriesOut};
     ghost use Rattle.file_handles.specs.Kept.{kept};
-    ghost use Rattle.file_handles.specs.Stands.{RepresentsSome};
 
     // Says the value of an element.
     fn say_element<K: Sink>(
@@ -140,33 +144,6 @@ impl Store {
         }
     }
 
-    // Removes an element. What is left of the reply is not said yet.
-    fn unset<D: Disk>(
-        &mut self,
-        alloc: Global,
-        disk: &mut D,
-        slot: u8,
-        name: &[u8],
-    ) -> Result<Answered, StoreFault>
-        requires slot { slot < SLOTS }
-        requires told { IsTrue D.tells → RepresentsSome (cache D.Disk self.old.handles disk.old) }
-        ensures carried { let at = cache D.Disk in IsTrue D.tells →
-            CarriesOut (UnsetElement slot name.now) (replied result)
-            (at self.old.handles disk.old) (at self.new.handles disk.new) }
-        ensures not_said { result ≢ Ok Answered.All }
-        ensures no_sink { result ≢ Err StoreFault.Sink }
-        ensures moment { self.new.moment ≡ self.old.moment }
-        ensures held { self.new.reply.held ≡ self.old.reply.held }
-        ensures index { Told D.Disk LeavesIndex disk.old disk.new }
-        ensures account { Accounts D.Disk (ending result) disk.old disk.new }
-    {
-        match self.handles.unset_element(alloc, disk, slot, name) {
-            Ok(Some(_)) => Ok(Answered::Done),
-            Ok(None) => Ok(Answered::NoneThere),
-            Err(fault) => fault_answer(fault),
-        }
-    }
-
     // Does what the command says, with nothing said before.
     fn perform<D: Disk, K: Sink>(
         &mut self,
@@ -186,7 +163,13 @@ impl Store {
         ensures unsaid { IfOk result (λ a. a ≢ Answered.All → sink.new ≡ sink.old) }
         ensures still_empty { IfOk result (λ a.
             a ≢ Answered.All → self.new.reply.held ≡ []) }
-        ensures index { Told D.Disk LeavesIndex disk.old disk.new }
+        ensures index { (WritesIndex (command_of c.now) → ⊥) → Told D.Disk LeavesIndex disk.old disk.new }
+        ensures unclean { IsTrue D.tells → IsUnclean (D.state disk.new) }
+        ensures looks { IfSome (names_read (command_of c.now) self.old.index.update)
+            (λ names. LooksAtNames D.Disk names disk.old disk.new) }
+        ensures flushed { command_of c.now ≡ Flush → OnOk result
+            (self.new.index.update ≡ [] → IsFresh self.new.index.map) }
+        ensures rebuilt { command_of c.now ≡ Rebuild → OnOk result (IsWritten self.new.index.map) }
         ensures account { Accounts D.Disk (ending result) disk.old disk.new }
         ensures sink { let failed = IsErrOf result StoreFault.Sink in
             HasCause failed (K.faults sink.old) (K.faults sink.new) }
@@ -198,23 +181,42 @@ impl Store {
             }
             Command::Create { slot, key } => {
                 let now = self.moment;
-                answer_of(self.handles.create(alloc, disk, slot, key, now))
+                let answer = self.handles.create(alloc, disk, slot, key, now);
+                self.index.learn_of(answer)
             }
             Command::OpenKey { slot, key } => answer_of(self.handles.open(alloc, disk, slot, key)),
             Command::Append { slot, bytes } => answer_of(self.handles.append(disk, slot, bytes)),
-            Command::Finish { slot } => answer_of(self.handles.finish(alloc, disk, slot)),
-            Command::SetElement { slot, name, value } => {
-                answer_of(self.handles.set_element(alloc, disk, slot, name, value))
+            Command::Finish { slot } => {
+                let answer = self.handles.finish(alloc, disk, slot);
+                self.index.learn_of(answer)
             }
-            Command::UnsetElement { slot, name } => self.unset(alloc, disk, slot, name),
+            Command::SetElement { slot, name, value } => {
+                let answer = self.handles.set_element(alloc, disk, slot, name, value);
+                self.index.learn_of(answer)
+            }
+            Command::UnsetElement { slot, name } => {
+                let answer = self.handles.unset_element(alloc, disk, slot, name);
+                self.index.learn_of_some(answer)
+            }
             Command::Element { slot, name } => self.say_element(alloc, slot, name, sink),
             Command::ReadPart { slot, from, len } => {
                 self.say_read(alloc, disk, slot, from, len, sink)
             }
-            Command::Close { slot } => answer_of(self.handles.close(alloc, disk, slot)),
-            Command::Doom { key } => answer_of(self.handles.doom(alloc, disk, key)),
+            Command::Close { slot } => {
+                let answer = self.handles.close(alloc, disk, slot);
+                self.index.learn_of(answer)
+            }
+            Command::Doom { key } => {
+                let answer = self.handles.doom(alloc, disk, key);
+                self.index.learn_of(answer)
+            }
             Command::Get { key } => self.say_get(alloc, disk, key, sink),
-            Command::Flush => flush(disk),
+            Command::Has { key } => Ok(self.index.has(key)),
+            Command::List => self.say_list(alloc, disk, sink),
+            Command::Flush => self.flush(alloc, disk),
+            Command::Step { n } => self.step(disk, n),
+            Command::State => Ok(self.index.state()),
+            Command::Rebuild => self.rebuild(alloc, disk),
         }
     }
 
@@ -241,6 +243,9 @@ impl Store {
     }
 
     /// Performs a command and writes its reply, which is out when the call returns.
+    ///
+    /// The replies to `has` and `list` are the machine's where the records are right: where the directory was honest at
+    /// the opening, or a `rebuild` has answered.
     pub fn command<D: Disk, K: Sink>(
         &mut self,
         alloc: Global,
@@ -250,16 +255,30 @@ impl Store {
     ) -> Result<Outcome, StoreFault>
         requires given { IsGiven (command_of c.now) }
         requires told { IsTrue D.tells → IsOpen (session D.Disk self.old disk.old) }
+        // What it comes to, by the machine.
         ensures performs { let at = session D.Disk in IsTrue D.tells →
             PerformsFor (command_of c.now) result (at self.old disk.old) (at self.new disk.new)
             (K.taken sink.old) (K.taken sink.new) }
         ensures prints { IfOk result (λ o.
             Prints (command_of c.now) o (K.taken sink.old) (K.taken sink.new)) }
         ensures bad_key { HasBadKey (command_of c.now) → result ≢ Ok Outcome.Ok }
+        ensures open { IsTrue D.tells → LeavesOpen result (session D.Disk self.new disk.new) }
+
+        // What a crash leaves, at every exit.
         ensures crash { let before = session D.Disk self.old disk.old in IsTrue D.tells →
             PerformsSafely (command_of c.now) result before (D.state disk.new) }
-        ensures open { IsTrue D.tells → LeavesOpen result (session D.Disk self.new disk.new) }
-        ensures index { Told D.Disk LeavesIndex disk.old disk.new }
+        ensures honest { IsTrue D.tells → LeavesHonest (D.state disk.new) }
+
+        // The files of the index: `flush` and `rebuild` alone write them. Where the update has ended, a `flush` leaves an
+        // index with all records but for few; and a `rebuild` leaves one with all.
+        ensures index { (WritesIndex (command_of c.now) → ⊥) → Told D.Disk LeavesIndex disk.old disk.new }
+        ensures flushed { command_of c.now ≡ Flush → OnOk result
+            (self.new.index.update ≡ [] → IsFresh self.new.index.map) }
+        ensures rebuilt { command_of c.now ≡ Rebuild → OnOk result (IsWritten self.new.index.map) }
+
+        // Calls and faults. A command that goes by the index looks at an entry for no name but those that it reads.
+        ensures looks { IfSome (names_read (command_of c.now) self.old.index.update)
+            (λ names. LooksAtNames D.Disk names disk.old disk.new) }
         ensures account { Accounts D.Disk (ending result) disk.old disk.new }
         ensures sink { let failed = IsErrOf result StoreFault.Sink in
             HasCause failed (K.faults sink.old) (K.faults sink.new) }

@@ -1,7 +1,8 @@
 //! The text of replies.
 
 ghost use Rattle.std.specs.Prelude.{◌≡◌, ◌++◌, ◌∷◌, IfOk, OnOk, decimal};
-ghost use Rattle.cache_store.specs.Texts.{counted_line, fields, found_line};
+ghost use Rattle.cache_store.specs.Texts.{fields, found_line};
+ghost use Rattle.cache_theory.specs.Text.{with_number};
 ghost use Rattle.entry_metadata.specs.Meta.{meta_of};
 
 use cache_base::{Bytes, NoMemory};
@@ -25,9 +26,9 @@ fn extend_fields(alloc: Global, to: &mut Bytes, numbers: &[u64]) -> Result<(), N
     Ok(())
 }
 
-/// A word, a number of bytes that follow, and a newline.
+/// A word, a number, and a newline.
 pub(crate) fn counted(alloc: Global, word: &[u8], count: u64) -> Result<Bytes, NoMemory>
-    ensures { IfOk result (λ line. line ≡ counted_line word.now count) }
+    ensures { IfOk result (λ line. line ≡ with_number word.now count) }
 {
     let mut line = Bytes::new(alloc);
     line.extend(word)?;

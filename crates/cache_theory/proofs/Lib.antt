@@ -24,7 +24,10 @@ pub mod Reading
 pub mod Changes
 pub mod EntryFiles
 pub mod HeldDoomed
+pub mod Rested
 pub mod Proper
+pub mod Waiting
+pub mod Refiling
 pub mod Acked
 pub mod WordedFronts
 pub mod WordedFlush

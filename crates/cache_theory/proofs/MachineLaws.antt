@@ -4,7 +4,7 @@ use Rattle.std.specs.Prelude.{Option, None, Some, is_none}
 use Rattle.cache_base.specs.Checks.{first_failing}
 use Rattle.cache_theory.specs.Checks.{checks, with_value}
 use Rattle.cache_theory.specs.Command.{Command}
-use Rattle.cache_theory.specs.Command.Command.{At, Create, OpenKey, Append, Finish, SetElement, UnsetElement, ElementOf, ReadPart, Close, Doom, Get, Flush}
+use Rattle.cache_theory.specs.Command.Command.{Create, OpenKey, Append, Finish, SetElement, UnsetElement, Close, Doom}
 use Rattle.cache_theory.specs.Command.Reply.{Done, NoneThere}
 use Rattle.cache_theory.specs.Machine.{Machine, Object, has_slots, is_writer, number_of, object_of, on_shelf, used_by}
 use Rattle.cache_theory.specs.Step.{Answer, after, answer, changed, effect, finished_by, joined, released, step, stepped, stored, with_slot}
@@ -59,7 +59,6 @@ joined_table m s None Nothing h = h
 
 effect_table : (m : Machine) (c : Command) → IsTable m.shelf → IsTable (effect m c).next.shelf
 unfolding effect
-effect_table m (At now) h = h
 effect_table m (Create s key) h = remove_is_table m.shelf (file_name key) h
 effect_table m (OpenKey s key) h = joined_table m s (used_by m key) (on_shelf m key) h
 effect_table m (Append s bytes) h = changed_table m s (λ v. record v { body = v.body ++ bytes }) h
@@ -68,12 +67,9 @@ effect_table m (SetElement s name value) h = changed_table m s (with_value name 
 effect_table m (UnsetElement s name) h =
     let unset : Version → Version = λ v. record v { elements = without_element name v.elements } in
     unset_table m (is_none (element name (object_of m s).version.elements)) (answer (changed m s unset) Done) h (changed_table m s unset h)
-effect_table m (ElementOf s name) h = h
-effect_table m (ReadPart s from len) h = h
 effect_table m (Close s) h = released_table (finished_by m s) s (finished_table m s h)
 effect_table m (Doom key) h = remove_is_table m.shelf (file_name key) h
-effect_table m (Get key) h = h
-effect_table m Flush h = h
+effect_table m c h = h
 
 stepped_table : (m : Machine) (c : Command) (r : Option Refusal) → IsTable m.shelf → IsTable (stepped m c r).next.shelf
 stepped_table m c None h = effect_table m c h

@@ -1,12 +1,12 @@
 -- Every command leaves a proper machine proper.
-use Rattle.std.proofs.Common.{◌≡◌, ◌++◌, true, Option, Some, None, refl}
+use Rattle.std.proofs.Common.{◌≡◌, [], ◌++◌, drop, true, Option, Some, None, refl}
 use Rattle.std.specs.Prelude.{is_none}
 use Rattle.std.proofs.lemmas.Bool.{cond_both, not-true}
 use Rattle.cache_base.specs.Checks.{first_failing}
 use Rattle.cache_base.proofs.CheckLaws.{AllHold, all_hold}
 use Rattle.cache_theory.specs.Checks.{checks, with_value}
 use Rattle.cache_theory.specs.Command.{Command}
-use Rattle.cache_theory.specs.Command.Command.{At, Create, OpenKey, Append, Finish, SetElement, UnsetElement, ElementOf, ReadPart, Close, Doom, Get, Flush}
+use Rattle.cache_theory.specs.Command.Command.{At, Create, OpenKey, Append, Finish, SetElement, UnsetElement, Close, Doom, ListRecords, StepUpdate, Rebuild}
 use Rattle.cache_theory.specs.Command.Reply.{Done, NoneThere}
 use Rattle.cache_theory.specs.Given.{IsGiven}
 use Rattle.cache_theory.specs.Machine.{Machine, is_slot, object_of}
@@ -15,6 +15,7 @@ use Rattle.cache_theory.specs.Step.{answer, changed, effect, stepped}
 use Rattle.cache_theory.specs.declared.refusal.Refusal.{Refusal}
 use Rattle.cache_theory.proofs.Changes.{object_is, proper_changed, proper_closed, proper_created, proper_finished, proper_joined}
 use Rattle.cache_theory.proofs.Dooming.{proper_doomed_under}
+use Rattle.cache_theory.proofs.Rested.{proper_rested}
 use Rattle.cache_theory.proofs.Slotted.{proper_slotted, same_slots}
 use Rattle.cache_theory.proofs.Versions.{object_appended, object_with, object_without}
 use Rattle.entry_name.specs.EntryName.{file_name}
@@ -40,12 +41,12 @@ effect_proper m (UnsetElement s name) given proper hold =
     cond_both (is_none (element name (object_of m s).version.elements)) (answer m NoneThere) (answer (changed m s (λ v. record v { elements = without_element name v.elements })) Done) (λ a. IsProper a.next)
     (λ none. proper)
     (λ some. proper_changed m s (λ v. record v { elements = without_element name v.elements }) proper is refl (object_without (object_of m s) name (object_is m s proper is)))
-effect_proper m (ElementOf s name) given proper hold = proper
-effect_proper m (ReadPart s from len) given proper hold = proper
 effect_proper m (Close s) given proper hold = proper_closed m s proper hold.0
 effect_proper m (Doom key) given proper hold = proper_doomed_under m (file_name key) proper
-effect_proper m (Get key) given proper hold = proper
-effect_proper m Flush given proper hold = proper
+effect_proper m ListRecords given proper hold = proper_rested m [] proper
+effect_proper m (StepUpdate n) given proper hold = proper_rested m (drop n m.rest) proper
+effect_proper m Rebuild given proper hold = proper_rested m [] proper
+effect_proper m c given proper hold = proper
 
 pub stays_proper : StaysProper
 stays_proper m c given proper = go (first_failing (checks m c)) refl

@@ -3,7 +3,7 @@ use Rattle.std.specs.Prelude.{Bool, List, None, Option, Some, [], is_some, lengt
 use Rattle.cache_base.specs.Limits.{chunks}
 use Rattle.cache_base.specs.declared.limits.TheConstants.{BLOCK_MAX, BODY_MAX, ELEMENTS_MAX}
 use Rattle.cache_theory.specs.Command.{Command}
-use Rattle.cache_theory.specs.Command.Command.{At, Create, OpenKey, Append, Finish, SetElement, UnsetElement, ElementOf, ReadPart, Close, Doom, Get, Flush}
+use Rattle.cache_theory.specs.Command.Command.{Create, OpenKey, Append, Finish, SetElement, UnsetElement, ElementOf, ReadPart, Close, Doom, Get, HasEntry}
 use Rattle.cache_theory.specs.Machine.{Machine, is_entry, is_slot, is_writer, object, object_of, on_shelf, used_by}
 use Rattle.cache_theory.specs.declared.refusal.Refusal.{Refusal}
 use Rattle.cache_theory.specs.declared.refusal.Refusal.TheVariants as refused
@@ -78,7 +78,6 @@ small_parts v = (
 )
 
 unfoldable pub checks : Machine → Command → List Check
-checks m (At now) = []
 checks m (Create s key) = slot_free m s ∷ good_key key ∷ []
 checks m (OpenKey s key) = slot_free m s ∷ good_key key ∷ there m key ∷ unless_used (used_by m key) (undamaged (on_shelf m key)) ∷ []
 checks m (Append s bytes) = slot_used m s ∷ writer m s ∷ unfinished m s ∷ room_for m s (length bytes) ∷ []
@@ -90,4 +89,6 @@ checks m (ReadPart s from len) = slot_used m s ∷ []
 checks m (Close s) = slot_used m s ∷ []
 checks m (Doom key) = good_key key ∷ there m key ∷ []
 checks m (Get key) = good_key key ∷ not_writing m key ∷ there m key ∷ undamaged (on_shelf m key) ∷ []
-checks m Flush = []
+checks m (HasEntry key) = good_key key ∷ []
+-- the others are never refused
+checks m _ = []

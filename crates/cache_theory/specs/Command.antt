@@ -2,6 +2,7 @@
 use Rattle.std.specs.Prelude.{ℕ, List}
 use Rattle.cache_theory.specs.declared.refusal.Refusal.{Refusal}
 use Rattle.entry_file.specs.Version.{Version}
+use Rattle.index_record.specs.declared.record.IndexRecord.{IndexRecord}
 
 pub data Command : Type 0 where
   At : (now : ℕ) → Command
@@ -16,7 +17,12 @@ pub data Command : Type 0 where
   Close : (slot : ℕ) → Command
   Doom : (key : List ℕ) → Command
   Get : (key : List ℕ) → Command
+  HasEntry : (key : List ℕ) → Command
+  ListRecords : Command
   Flush : Command
+  StepUpdate : (n : ℕ) → Command
+  UpdateState : Command
+  Rebuild : Command
 
 pub data Reply : Type 0 where
   Done : Reply
@@ -29,3 +35,14 @@ pub data Reply : Type 0 where
   Part : (bytes : List ℕ) → Reply
   -- a whole entry
   Found : (version : Version) → Reply
+  -- whether there is an entry, which is unknown while the update of the index waits for the name
+  Yes : Reply
+  No : Reply
+  Unknown : Reply
+  -- the records of all entries
+  Records : (records : List IndexRecord) → Reply
+  -- the update of the index has ended, or it has still to read so many names
+  Ready : Reply
+  Updating : (names : ℕ) → Reply
+  -- the index is written anew, with so many records
+  Rebuilt : (records : ℕ) → Reply

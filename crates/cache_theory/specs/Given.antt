@@ -3,7 +3,7 @@ use Rattle.std.specs.Prelude.{⊤, ◌<◌, ◌^◌}
 use Rattle.cache_base.specs.Bytes.{AreBytes}
 use Rattle.cache_base.specs.declared.limits.TheConstants.{SLOTS}
 use Rattle.cache_theory.specs.Command.{Command}
-use Rattle.cache_theory.specs.Command.Command.{At, Create, OpenKey, Append, Finish, SetElement, UnsetElement, ElementOf, ReadPart, Close, Doom, Get, Flush}
+use Rattle.cache_theory.specs.Command.Command.{At, Create, OpenKey, Append, Finish, SetElement, UnsetElement, ElementOf, ReadPart, Close, Doom, Get, HasEntry, StepUpdate}
 
 -- numbers fit their types, slots are those that there are, and texts are bytes
 abbrev pub IsGiven : Command → Type 0
@@ -19,4 +19,7 @@ IsGiven (ReadPart s from len) = s < SLOTS
 IsGiven (Close s) = s < SLOTS
 IsGiven (Doom key) = AreBytes key
 IsGiven (Get key) = AreBytes key
-IsGiven Flush = ⊤
+IsGiven (HasEntry key) = AreBytes key
+IsGiven (StepUpdate n) = n < 2 ^ 32
+-- the others have no fields
+IsGiven _ = ⊤

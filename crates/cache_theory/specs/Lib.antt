@@ -8,6 +8,7 @@ pub mod Text
 pub mod Given
 pub mod Proper
 pub mod Marks
+pub mod Refiled
 pub mod History
 pub mod Ever
 pub mod Session

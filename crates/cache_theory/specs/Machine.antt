@@ -82,3 +82,7 @@ abbrev pub is_entry : Reading → Bool
 is_entry (Whole v) = true
 is_entry (Damaged d) = true
 is_entry Nothing = false
+
+-- whether the update of the index has still to read a name
+abbrev pub waits_for : Machine → List ℕ → Bool
+waits_for m name = list_any (bytes_eq name) m.rest

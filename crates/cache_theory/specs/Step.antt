@@ -4,19 +4,20 @@ use Rattle.std.specs.Str.{bytes_eq}
 use Rattle.cache_base.specs.Checks.{first_failing}
 use Rattle.cache_theory.specs.Checks.{checks, with_value}
 use Rattle.cache_theory.specs.Command.{Command, Reply}
-use Rattle.cache_theory.specs.Command.Command.{At, Create, OpenKey, Append, Finish, SetElement, UnsetElement, ElementOf, ReadPart, Close, Doom, Get, Flush}
-use Rattle.cache_theory.specs.Command.Reply.{Done, Refused, NoneThere, Value, Part, Found}
-use Rattle.cache_theory.specs.Machine.{Machine, Object, Slot, has_slots, is_writer, nobody, number_of, object_of, on_shelf, used_by}
+use Rattle.cache_theory.specs.Command.Command.{At, Create, OpenKey, Append, Finish, SetElement, UnsetElement, ElementOf, ReadPart, Close, Doom, Get, HasEntry, ListRecords, Flush, StepUpdate, UpdateState, Rebuild}
+use Rattle.cache_theory.specs.Command.Reply.{Done, Refused, NoneThere, Value, Part, Found, Yes, No, Unknown, Records, Ready, Updating, Rebuilt}
+use Rattle.cache_theory.specs.Machine.{Machine, Object, Slot, has_slots, is_writer, nobody, number_of, object_of, on_shelf, used_by, waits_for}
 use Rattle.cache_theory.specs.Table.{get, insert, remove}
 use Rattle.cache_theory.specs.declared.refusal.Refusal.{Refusal}
 use Rattle.cache_theory.specs.declared.refusal.Refusal.TheVariants as refused
-use Rattle.entry_file.specs.EntryFile.{Reading}
+use Rattle.entry_file.specs.EntryFile.{Reading, fits}
 use Rattle.entry_file.specs.EntryFile.Reading.{Whole, Damaged, Nothing}
 use Rattle.entry_file.specs.Version.{Version, file_of}
 use Rattle.entry_name.specs.EntryName.{file_name}
 use Rattle.entry_parts.specs.Elements.{element}
 use Rattle.entry_parts.specs.Setting.{without_element}
 use Rattle.entry_parts.specs.Header.{fresh_header}
+use Rattle.index_theory.specs.Scan.{scan}
 
 -- the names without one
 abbrev pub without : List ℕ → List (List ℕ) → List (List ℕ)
@@ -90,6 +91,14 @@ changed m s f = let o = object_of m s in stored m (number_of m s) (record o { ve
 abbrev pub finished_by : Machine → ℕ → Machine
 finished_by m s = let o = object_of m s in if is_writer m s && not o.finished then stored m (number_of m s) (record o { finished = true }) else m
 
+-- the update of the index has read the first names of its rest, so many or all
+abbrev pub update_stepped : Machine → ℕ → Machine
+update_stepped m n = record m { rest = drop n m.rest }
+
+-- it has read all of them, and so has ended
+abbrev pub update_ended : Machine → Machine
+update_ended m = record m { rest = [] }
+
 -- the machine after a command, and the reply
 pub record Answer : Type 0 where
   pub next : Machine
@@ -107,6 +116,23 @@ found_reply (Whole v) = Found v
 found_reply (Damaged d) = Refused (refused.Damaged d)
 found_reply Nothing = Refused refused.Absent
 
+-- whether a content stands there that fits under the name
+abbrev pub fits_there : List ℕ → Option (List ℕ) → Bool
+fits_there name None = false
+fits_there name (Some content) = fits name content
+
+-- whether there is an entry, which is unknown of a name that the update has still to read
+abbrev pub has_reply : Machine → List ℕ → Reply
+has_reply m name =
+    if waits_for m name then Unknown
+    else if fits_there name (get m.shelf name) then Yes
+    else No
+
+-- how far the update is, by the names that it has still to read
+abbrev pub state_reply : List (List ℕ) → Reply
+state_reply [] = Ready
+state_reply names = Updating (length names)
+
 -- what a command does whose checks hold
 unfoldable pub effect : Machine → Command → Answer
 effect m (At now) = answer (record m { moment = now }) Done
@@ -123,7 +149,12 @@ effect m (ReadPart s from len) = answer m (Part (take len (drop from (object_of 
 effect m (Close s) = answer (released (finished_by m s) s) Done
 effect m (Doom key) = answer (doomed_under m (file_name key)) Done
 effect m (Get key) = answer m (found_reply (on_shelf m key))
+effect m (HasEntry key) = answer m (has_reply m (file_name key))
+effect m ListRecords = answer (update_ended m) (Records (scan m.shelf))
 effect m Flush = answer m Done
+effect m (StepUpdate n) = answer (update_stepped m n) (state_reply (drop n m.rest))
+effect m UpdateState = answer m (state_reply m.rest)
+effect m Rebuild = answer (update_ended m) (Rebuilt (length (scan m.shelf)))
 
 -- one step: the first failing check is the reply, and then nothing changes
 abbrev pub stepped : Machine → Command → Option Refusal → Answer

@@ -1,11 +1,12 @@
 -- The text of commands and of replies.
 use Rattle.std.specs.List.{AllByRecursion, join_with_byte}
 use Rattle.std.specs.Prelude.{List, [], codes, decimal, flat_map, length, ℕ, ⊤, ◌+◌, ◌++◌, ◌<◌, ◌^◌, ◌∷◌, ◌≡◌, ◌≢◌, ◌≤◌}
-use Rattle.cache_base.specs.Bytes.{AreBytes, be16}
+use Rattle.std.specs.Int.{to_be_bytes, w64}
+use Rattle.cache_base.specs.Bytes.{AreBytes, be16, be32}
 use Rattle.cache_base.specs.declared.limits.TheConstants.{ELEMENTS_MAX, LINE_MAX, PIECE_MAX, SCRIPT_MAX, SLOTS}
 use Rattle.cache_theory.specs.Command.{Command, Reply}
-use Rattle.cache_theory.specs.Command.Command.{At, Create, OpenKey, Append, Finish, SetElement, UnsetElement, ElementOf, ReadPart, Close, Doom, Get, Flush}
-use Rattle.cache_theory.specs.Command.Reply.{Done, Refused, NoneThere, Value, Part, Found}
+use Rattle.cache_theory.specs.Command.Command.{At, Create, OpenKey, Append, Finish, SetElement, UnsetElement, ElementOf, ReadPart, Close, Doom, Get, HasEntry, ListRecords, Flush, StepUpdate, UpdateState, Rebuild}
+use Rattle.cache_theory.specs.Command.Reply.{Done, Refused, NoneThere, Value, Part, Found, Yes, No, Unknown, Records, Ready, Updating, Rebuilt}
 use Rattle.cache_theory.specs.Machine.{Machine}
 use Rattle.cache_theory.specs.Step.{replies}
 use Rattle.cache_theory.specs.declared.refusal.Refusal.{Refusal}
@@ -14,6 +15,7 @@ use Rattle.chunk_store.specs.declared.damage.Damage.{Damage}
 use Rattle.entry_file.specs.Version.{Version}
 use Rattle.entry_parts.specs.Elements.{elements_bytes}
 use Rattle.hex.specs.Hex.{encode_upper}
+use Rattle.index_record.specs.declared.record.IndexRecord.{IndexRecord}
 
 -- words with a space between each two
 abbrev pub spaced : List (List ℕ) → List ℕ
@@ -51,6 +53,22 @@ version_text v =
     ∷ decimal (length (elements_bytes v.elements)) ∷ decimal (length v.body) ∷ [])
     ++ (elements_bytes v.elements ++ 10 ∷ (v.body ++ 10 ∷ []))
 
+-- the words of a record
+abbrev pub record_words : IndexRecord → List (List ℕ)
+record_words r =
+    encode_upper r.name.0 ∷ decimal r.frecency ∷ encode_upper (to_be_bytes w64 r.origin)
+    ∷ decimal r.on_start ∷ decimal r.on_stop ∷ decimal r.content
+    ∷ encode_upper (be32 r.flags) ∷ []
+
+-- a word and a number
+abbrev pub with_number : List ℕ → ℕ → List ℕ
+with_number word n = line (word ∷ decimal n ∷ [])
+
+-- the number of some records, and a line of each
+abbrev pub records_text : List IndexRecord → List ℕ
+records_text records =
+    with_number (codes "records") (length records) ++ flat_map (λ r. line (record_words r)) records
+
 -- what a reply prints
 unfoldable pub reply_text : Reply → List ℕ
 reply_text Done = line (codes "ok" ∷ [])
@@ -59,6 +77,13 @@ reply_text NoneThere = line (codes "none" ∷ [])
 reply_text (Value value) = with_bytes (codes "value") value
 reply_text (Part bytes) = with_bytes (codes "data") bytes
 reply_text (Found v) = version_text v
+reply_text Yes = line (codes "yes" ∷ [])
+reply_text No = line (codes "no" ∷ [])
+reply_text Unknown = line (codes "unknown" ∷ [])
+reply_text (Records records) = records_text records
+reply_text Ready = line (codes "ready" ∷ [])
+reply_text (Updating names) = with_number (codes "updating") names
+reply_text (Rebuilt records) = with_number (codes "rebuilt") records
 
 -- what the replies to some commands print
 abbrev pub replies_text : Machine → List Command → List ℕ
@@ -78,7 +103,12 @@ command_words (ReadPart s from len) = codes "read" ∷ decimal s ∷ decimal fro
 command_words (Close s) = codes "close" ∷ decimal s ∷ []
 command_words (Doom key) = codes "doom" ∷ key ∷ []
 command_words (Get key) = codes "get" ∷ key ∷ []
+command_words (HasEntry key) = codes "has" ∷ key ∷ []
+command_words ListRecords = codes "list" ∷ []
 command_words Flush = codes "flush" ∷ []
+command_words (StepUpdate n) = codes "step" ∷ decimal n ∷ []
+command_words UpdateState = codes "state" ∷ []
+command_words Rebuild = codes "rebuild" ∷ []
 
 -- the bytes behind a command's line, with their newline
 abbrev pub command_data : Command → List ℕ
@@ -112,7 +142,10 @@ FieldsFit (ReadPart s from len) = (s < SLOTS) × (IsNumber from × IsNumber len)
 FieldsFit (Close s) = s < SLOTS
 FieldsFit (Doom key) = AreBytes key × IsOneLine key
 FieldsFit (Get key) = AreBytes key × IsOneLine key
-FieldsFit Flush = ⊤
+FieldsFit (HasEntry key) = AreBytes key × IsOneLine key
+FieldsFit (StepUpdate n) = IsNumber n
+-- the others have no fields
+FieldsFit _ = ⊤
 
 -- a command that a script may have
 pub record IsCommand (c : Command) : Type 0 where

@@ -1,14 +1,32 @@
 //! What follows from the definitions.
 
 ghost use Rattle.cache_theory.specs.Keeps.{BeginKeeps, CreateFilesOnce, CreateKeeps, QuietFilesOnce, QuietIsSafe, RemoveFilesOnce, RemoveKeeps, RenameFilesOnce, RenameKeeps, SafeIsCrashSafe, SyncFilesOnce, SyncKeeps, WholeIsFine, WriteFilesOnce, WriteKeeps};
-ghost use Rattle.cache_theory.specs.Laws.{ShelfStaysTable};
+ghost use Rattle.cache_theory.specs.Laws.{ChangesLeaveRest, EntriesHaveRecords, ShelfStaysTable};
 ghost use Rattle.cache_theory.specs.Proper.{OpensProper, StaysProper};
+ghost use Rattle.cache_theory.specs.Refiled.{EntriesAreRefiled};
 ghost use Rattle.cache_theory.specs.Session.{AckedIsOne, CutIsAcked, WholeIsAcked};
 ghost use Rattle.cache_theory.specs.Wording.{MarksAreWorded};
 
 /// The shelf stays a table, whatever commands come: names rise, and none stands twice.
 pub fn shelf_stays_table()
     ensures { ShelfStaysTable }
+{}
+
+/// A name that the update has still to read after a command had to be read before it as well, and
+/// what stands there is unchanged.
+pub fn changes_leave_rest()
+    ensures { ChangesLeaveRest }
+{}
+
+/// A command on entries changes what stands under one name at most, and no other name leaves the
+/// rest of the update.
+pub fn entries_are_refiled()
+    ensures { EntriesAreRefiled }
+{}
+
+/// A name has an entry exactly where the scan has a record of it.
+pub fn entries_have_records()
+    ensures { EntriesHaveRecords }
 {}
 
 /// The machine begins in a proper state.

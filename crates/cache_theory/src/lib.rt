@@ -7,7 +7,8 @@ mod laws;
 mod refusal;
 
 pub use laws::{
-    changes_file_once, changes_keep_safe, marks_are_worded, opens_proper, replies_tell_acked,
-    safe_is_crash_safe, shelf_stays_table, stays_proper,
+    changes_file_once, changes_keep_safe, changes_leave_rest, entries_are_refiled,
+    entries_have_records, marks_are_worded, opens_proper, replies_tell_acked, safe_is_crash_safe,
+    shelf_stays_table, stays_proper,
 };
 pub use refusal::Refusal;

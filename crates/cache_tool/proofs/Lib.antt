@@ -1,4 +1,6 @@
+pub mod Accounted
 pub mod Begun
+pub mod Handed
 pub mod Moments
 pub mod OneCommand
 pub mod PutBody
@@ -8,6 +10,7 @@ pub mod PutMachine
 pub mod PutPieces
 pub mod PutReplies
 pub mod PutWhole
+pub mod RightLaws
 pub mod RunComplete
 pub mod ScriptBytes
 pub mod ScriptEnds

@@ -7,8 +7,9 @@ use Rattle.std.proofs.lemmas.List.{take_all}
 use Rattle.cache_base.specs.declared.status.Status.{Status}
 use Rattle.cache_base.specs.declared.status.Status.TheVariants as status
 use Rattle.cache_store.specs.Answering.{outcome_of}
-use Rattle.cache_store.specs.Open.{IsShut}
-use Rattle.cache_store.specs.Performing.{Keeps, Performs}
+use Rattle.cache_store.specs.Faults.{ending}
+use Rattle.cache_store.specs.Open.{IsHonest, IsShut, KeepsTo, LeavesOpen, Opens, OpensHonestly, StartsOn, Tells}
+use Rattle.cache_store.specs.Performing.{ComesToTell, Keeps, MayTell, Performs}
 use Rattle.cache_store.specs.Said.{IsCut}
 use Rattle.cache_store.specs.Saying.{IsPart}
 use Rattle.cache_store.specs.Session.{Session}
@@ -19,19 +20,22 @@ use Rattle.cache_store.specs.declared.fault.StoreFault.TheVariants as fault
 use Rattle.cache_theory.specs.Command.{Command}
 use Rattle.cache_theory.specs.Command.Command.{Flush}
 use Rattle.cache_theory.specs.Crash.{IsSafe}
-use Rattle.cache_theory.specs.History.{acked, begun, settled_at, unanswered}
+use Rattle.cache_theory.specs.History.{History, acked, begun, settled_at, unanswered}
 use Rattle.cache_theory.specs.Machine.{Machine}
 use Rattle.cache_theory.specs.Marks.{marks_of}
 use Rattle.cache_theory.specs.Step.{step}
 use Rattle.cache_theory.specs.Text.{reply_text}
 use Rattle.cache_theory.proofs.Begins.{begin_keeps}
 use Rattle.cache_theory.proofs.Crashes.{safe_is_crash_safe}
-use Rattle.cache_tool.specs.Ending.{EndsSession}
+use Rattle.cache_tool.specs.Ending.{EndsSession, IsEnded}
+use Rattle.cache_tool.specs.Right.{ComesRight, MaySayOn}
 use Rattle.cache_tool.specs.Statuses.{IsAnswer, IsClosing, status_in, status_of}
 use Rattle.cache_tool.specs.Verbs.{PrintsLast}
 use Rattle.cache_tool.specs.World.{Output}
+use Rattle.cache_tool.proofs.RightLaws.{may_tell_one, one_is_right, opened_right, opened_says}
 use Rattle.disk_model.specs.Sound.{IsQuiet}
-use Rattle.disk_model.specs.State.{State}
+use Rattle.disk_model.specs.State.{State, standing}
+use Rattle.index_theory.specs.Honest.{Honest, LeavesHonest}
 
 -- ---- the statuses
 
@@ -91,46 +95,60 @@ begun_at_mark : (t : State) (m : Machine) (c : Command) → IsSafe t (acked c (s
 begun_at_mark t m Flush safe = begin_keeps t m Flush (marks_of m) safe
 begun_at_mark t m c safe = safe
 
-module _ (m : Machine) (c : Command) (before now : Output) (safe : IsQuiet before.disk → IsSafe now.disk (begun c (settled_at m)).marks) where
-  stopped : (ended : Status) → IsStop ended → IsPart before.taken now.taken (reply_text (step m c).reply) → PrintsLast m (c ∷ []) ended before now
+module _ (m : Machine) (c : Command) (before now : Output) (safe : IsQuiet before.disk → IsSafe now.disk (begun c (settled_at m)).marks) (images : IsQuiet before.disk → Honest (standing before.disk) → LeavesHonest now.disk) where
+  stopped : (ended : Status) → IsStop ended → (MaySayOn before.disk (c ∷ []) → IsPart before.taken now.taken (reply_text (step m c).reply)) → PrintsLast m (c ∷ []) ended before now
   stopped ended stop part = record {
     answer = λ is. absurd (stop_is_no_answer ended stop is);
-    printed = λ is. absurd (stop_is_no_answer ended stop is);
-    part = part;
-    cut = λ is. absurd (stop_is_no_sink ended stop is);
+    text = λ may. record {
+      printed = λ is. absurd (stop_is_no_answer ended stop is);
+      part = part may;
+      cut = λ is. absurd (stop_is_no_sink ended stop is);
+    };
     silent = λ is. absurd (stop_is_no_source ended stop is);
     leaves = record {
       shut = λ closing. absurd (stop_closes_not ended stop closing);
+      honest = λ closing right. absurd (stop_closes_not ended stop closing);
       crash = λ quiet. safe_is_crash_safe now.disk (begun c (settled_at m)).marks (safe quiet);
+      images = images;
     };
   }
 
-  sunk : (ended : Status) → ended ≡ status.Sink → IsCut before.taken now.taken (reply_text (step m c).reply) → IsShut now.disk (step m c).next → PrintsLast m (c ∷ []) ended before now
-  sunk ended sink cut shut = record {
-    answer = λ is. absurd (sink_is_no_answer ended sink is);
-    printed = λ is. absurd (sink_is_no_answer ended sink is);
-    part = cut_part before.taken now.taken (reply_text (step m c).reply) cut;
-    cut = λ is. cut;
-    silent = λ is. absurd (cc);
-    leaves = record {
-      shut = λ closing. shut;
-      crash = λ quiet. safe_is_crash_safe now.disk (begun c (settled_at m)).marks (safe quiet);
-    };
-  }
+  -- what stands where the store was closed
+  module _ (shut : IsShut now.disk (step m c).next) (honest : ComesRight before.disk (c ∷ []) → IsHonest now.disk (step m c).next) where
+    sunk : (ended : Status) → ended ≡ status.Sink → (MaySayOn before.disk (c ∷ []) → IsCut before.taken now.taken (reply_text (step m c).reply)) → PrintsLast m (c ∷ []) ended before now
+    sunk ended sink cut = record {
+      answer = λ is. absurd (sink_is_no_answer ended sink is);
+      text = λ may. record {
+        printed = λ is. absurd (sink_is_no_answer ended sink is);
+        part = cut_part before.taken now.taken (reply_text (step m c).reply) (cut may);
+        cut = λ is. cut may;
+      };
+      silent = λ is. absurd (cc);
+      leaves = record {
+        shut = λ closing. shut;
+        honest = λ closing right. honest right;
+        crash = λ quiet. safe_is_crash_safe now.disk (begun c (settled_at m)).marks (safe quiet);
+        images = images;
+      };
+    }
 
-  answered : (o : Outcome) (ended : Status) → ended ≡ status_of o → o ≡ outcome_of (step m c).reply → Appends before.taken now.taken (reply_text (step m c).reply) → IsShut now.disk (step m c).next
-      → PrintsLast m (c ∷ []) ended before now
-  answered o ended is replied printed shut = record {
-    answer = λ answer. is ∙ ap status_of replied;
-    printed = λ answer. printed;
-    part = all_part before.taken now.taken (reply_text (step m c).reply) printed;
-    cut = λ sink. absurd (sink_is_no_answer ended sink (outcome_is_answer o ended is));
-    silent = λ source. absurd (source_is_no_answer ended source (outcome_is_answer o ended is));
-    leaves = record {
-      shut = λ closing. shut;
-      crash = λ quiet. safe_is_crash_safe now.disk (begun c (settled_at m)).marks (safe quiet);
-    };
-  }
+    answered : (o : Outcome) (ended : Status) → ended ≡ status_of o → o ≡ outcome_of (step m c).reply → (MaySayOn before.disk (c ∷ []) → Appends before.taken now.taken (reply_text (step m c).reply))
+        → PrintsLast m (c ∷ []) ended before now
+    answered o ended is replied printed = record {
+      answer = λ answer. is ∙ ap status_of replied;
+      text = λ may. record {
+        printed = λ answer. printed may;
+        part = all_part before.taken now.taken (reply_text (step m c).reply) (printed may);
+        cut = λ sink. absurd (sink_is_no_answer ended sink (outcome_is_answer o ended is));
+      };
+      silent = λ source. absurd (source_is_no_answer ended source (outcome_is_answer o ended is));
+      leaves = record {
+        shut = λ closing. shut;
+        honest = λ closing right. honest right;
+        crash = λ quiet. safe_is_crash_safe now.disk (begun c (settled_at m)).marks (safe quiet);
+        images = images;
+      };
+    }
 
 -- ---- the store did not open
 
@@ -140,9 +158,10 @@ no_sink_stops answer fault.Disk ended failed no_sink is = inl is
 no_sink_stops answer fault.Sink ended failed no_sink is = absurd (no_sink failed)
 
 pub unopened_prints : {T : Type 0} (m : Machine) (c : Command) (before : Output) (t : State) (answer : Result T StoreFault) (f : StoreFault) (ended : Status)
-    → answer ≡ Err f → answer ≢ Err fault.Sink → ended ≡ status_in (Err f) → (IsQuiet before.disk → IsSafe t (marks_of m)) → PrintsLast m (c ∷ []) ended before (record before { disk = t })
-unopened_prints m c before t answer f ended failed no_sink is safe =
-    stopped m c before (record before { disk = t }) (λ quiet. begin_keeps t m c (marks_of m) (safe quiet)) ended (no_sink_stops answer f ended failed no_sink is) (none_part before.taken (reply_text (step m c).reply))
+    → answer ≡ Err f → answer ≢ Err fault.Sink → ended ≡ status_in (Err f) → (IsQuiet before.disk → IsSafe t (marks_of m)) → OpensHonestly before.disk t → PrintsLast m (c ∷ []) ended before (record before { disk = t })
+unopened_prints m c before t answer f ended failed no_sink is safe images =
+    stopped m c before (record before { disk = t }) (λ quiet. begin_keeps t m c (marks_of m) (safe quiet)) images ended (no_sink_stops answer f ended failed no_sink is)
+    (λ may. none_part before.taken (reply_text (step m c).reply))
 
 -- ---- it opened
 
@@ -150,34 +169,64 @@ unopened_prints m c before t answer f ended failed no_sink is safe =
 abbrev pub CameBy : Result Outcome StoreFault → Result Status StoreFault → Type 0
 CameBy answer came = MatchResult answer (λ o. IsOkAnd came (λ s. s ≡ status_of o)) (λ f. came ≡ Err f)
 
+pub came_open : (answer : Result Outcome StoreFault) (came : Result Status StoreFault) (now : Session) → CameBy answer came → LeavesOpen answer now → LeavesOpen came now
+came_open (Ok o) (Ok s) now by still = still
+came_open (Ok o) (Err f) now by still = absurd by
+came_open (Err f) came now by still = λ none. still (sym (ap (λ r. ending r) by) ∙ none)
+
 came_ok : (o : Outcome) (came : Result Status StoreFault) → IsOkAnd came (λ s. s ≡ status_of o) → status_in came ≡ status_of o
 came_ok o (Ok s) is = is
 came_ok o (Err f) is = absurd is
 
-module _ (m : Machine) (c : Command) (before now : Output) (last : Session) (ended : Status) (ends : EndsSession ended last now.disk) where
+module _ {moment : ℕ} (m : Machine) (c : Command) (before now : Output) (first last : Session) (ended : Status) (opens : Opens moment before.disk first) (is : StartsOn moment before.disk m) (ends : EndsSession ended last now.disk) where
+  -- the command's effect on the records, and on the disk where the store was closed after it
+  module _ (h : History) (keeps : KeepsTo last h) (tells : ComesToTell c first m → Tells last h.machine) where
+    closed : IsEnded ended h last now.disk
+    closed = ends.each h keeps
+
+    images : IsQuiet before.disk → Honest (standing before.disk) → LeavesHonest now.disk
+    images quiet honest = closed.images (tells (inl (opens.tells m is honest)))
+
+    honest : IsClosing ended → ComesRight before.disk (c ∷ []) → IsHonest now.disk h.machine
+    honest closing right = closed.honest closing (tells (one_is_right c first m (opened_right opens is (c ∷ []) right)))
+
+  -- the reply is the machine's
+  says : MaySayOn before.disk (c ∷ []) → MayTell c first m
+  says may = may_tell_one c first m (opened_says opens is (c ∷ []) may)
+
   -- it was performed, and the session was ended by what it came to
-  pub performed_prints : (answer : Result Outcome StoreFault) (came : Result Status StoreFault) → Performs c m answer last before.taken now.taken → Keeps c (settled_at m) answer last
+  pub performed_prints : (answer : Result Outcome StoreFault) (came : Result Status StoreFault) → Performs c m answer first last before.taken now.taken → Keeps c (settled_at m) answer last → LeavesHonest last.disk
       → CameBy answer came → (ended ≡ status_in came) ⊎ IsStop ended → ((IsClosing (status_in came) → ⊥) → (ended ≡ status_in came) × (now.disk ≡ last.disk))
       → PrintsLast m (c ∷ []) ended before now
-  performed_prints (Ok o) came says keeps by (inl is) dropped =
-      let as_outcome = is ∙ came_ok o came by in
-      let closed = ends.each (acked c (settled_at m)) keeps.next in
-      answered m c before now (λ quiet. begun_at_mark now.disk m c closed.safe) o ended as_outcome says.outcome says.printed (closed.shut (outcome_closes o ended as_outcome))
-  performed_prints (Ok o) came says keeps by (inr stop) dropped =
-      let closed = ends.each (acked c (settled_at m)) keeps.next in
-      stopped m c before now (λ quiet. begun_at_mark now.disk m c closed.safe) ended stop (all_part before.taken now.taken (reply_text (step m c).reply) says.printed)
-  performed_prints (Err fault.Sink) came says keeps by (inl is) dropped =
-      let sink = is ∙ ap status_in by in
-      let closed = ends.each (unanswered c (settled_at m)) (keeps.unanswered refl) in
-      sunk m c before now (λ quiet. closed.safe) ended sink says.cut (closed.shut (subst IsClosing (sym sink) tt))
-  performed_prints (Err fault.Sink) came says keeps by (inr stop) dropped =
-      let closed = ends.each (unanswered c (settled_at m)) (keeps.unanswered refl) in
-      stopped m c before now (λ quiet. closed.safe) ended stop (cut_part before.taken now.taken (reply_text (step m c).reply) says.cut)
-  performed_prints (Err fault.Disk) came says keeps by same dropped =
-      let kept = dropped (λ closing. subst (λ x. IsClosing (status_in x)) by closing) in
-      stopped m c before now (λ quiet. subst (λ x. IsSafe x (begun c (settled_at m)).marks) (sym kept.1) keeps.safe) ended (inl (kept.0 ∙ ap status_in by))
-      (cut_part before.taken now.taken (reply_text (step m c).reply) says.cut)
-  performed_prints (Err fault.Memory) came says keeps by same dropped =
-      let kept = dropped (λ closing. subst (λ x. IsClosing (status_in x)) by closing) in
-      stopped m c before now (λ quiet. subst (λ x. IsSafe x (begun c (settled_at m)).marks) (sym kept.1) keeps.safe) ended (inr (kept.0 ∙ ap status_in by))
-      (cut_part before.taken now.taken (reply_text (step m c).reply) says.cut)
+  performed_prints (Ok o) came performs keeps kept by (inl same) dropped =
+      let as_outcome = same ∙ came_ok o came by in
+      let h : History = acked c (settled_at m) in
+      let end = closed h keeps.next (performs.tells tt) in
+      let closing = outcome_closes o ended as_outcome in
+      answered m c before now (λ quiet. begun_at_mark now.disk m c end.safe) (images h keeps.next (performs.tells tt)) (end.shut closing) (honest h keeps.next (performs.tells tt) closing)
+      o ended as_outcome performs.outcome (λ may. performs.printed (says may))
+  performed_prints (Ok o) came performs keeps kept by (inr stop) dropped =
+      let h : History = acked c (settled_at m) in
+      let end = closed h keeps.next (performs.tells tt) in
+      stopped m c before now (λ quiet. begun_at_mark now.disk m c end.safe) (images h keeps.next (performs.tells tt)) ended stop
+      (λ may. all_part before.taken now.taken (reply_text (step m c).reply) (performs.printed (says may)))
+  performed_prints (Err fault.Sink) came performs keeps kept by (inl same) dropped =
+      let sink = same ∙ ap status_in by in
+      let h : History = unanswered c (settled_at m) in
+      let end = closed h (keeps.unanswered refl) (performs.tells refl) in
+      let closing : IsClosing ended = subst IsClosing (sym sink) tt in
+      sunk m c before now (λ quiet. end.safe) (images h (keeps.unanswered refl) (performs.tells refl)) (end.shut closing) (honest h (keeps.unanswered refl) (performs.tells refl) closing)
+      ended sink (λ may. performs.cut (says may))
+  performed_prints (Err fault.Sink) came performs keeps kept by (inr stop) dropped =
+      let h : History = unanswered c (settled_at m) in
+      let end = closed h (keeps.unanswered refl) (performs.tells refl) in
+      stopped m c before now (λ quiet. end.safe) (images h (keeps.unanswered refl) (performs.tells refl)) ended stop
+      (λ may. cut_part before.taken now.taken (reply_text (step m c).reply) (performs.cut (says may)))
+  performed_prints (Err fault.Disk) came performs keeps kept by same dropped =
+      let left = dropped (λ closing. subst (λ x. IsClosing (status_in x)) by closing) in
+      stopped m c before now (λ quiet. subst (λ x. IsSafe x (begun c (settled_at m)).marks) (sym left.1) keeps.safe) (λ quiet honest. subst LeavesHonest (sym left.1) kept) ended
+      (inl (left.0 ∙ ap status_in by)) (λ may. cut_part before.taken now.taken (reply_text (step m c).reply) (performs.cut (says may)))
+  performed_prints (Err fault.Memory) came performs keeps kept by same dropped =
+      let left = dropped (λ closing. subst (λ x. IsClosing (status_in x)) by closing) in
+      stopped m c before now (λ quiet. subst (λ x. IsSafe x (begun c (settled_at m)).marks) (sym left.1) keeps.safe) (λ quiet honest. subst LeavesHonest (sym left.1) kept) ended
+      (inr (left.0 ∙ ap status_in by)) (λ may. cut_part before.taken now.taken (reply_text (step m c).reply) (performs.cut (says may)))

@@ -19,10 +19,12 @@ use Rattle.cache_store.specs.declared.fault.StoreFault.{StoreFault}
 use Rattle.cache_tool.specs.declared.piece.Ended.{Ended}
 use Rattle.cache_tool.specs.declared.piece.Ended.TheVariants as ended
 use Rattle.cache_tool.specs.AnyDisk.{HoldsRefusal, IsRefusalLine, TakesAtMost, TakesTooMuch}
+use Rattle.cache_tool.specs.Right.{LeadTo}
 use Rattle.cache_tool.specs.Put.{GivesPart, GivesWhole, appends}
-use Rattle.cache_tool.specs.PutProgress.{AgreesWith, AppendsPiece, AppendsSoFar, AreDone, AreSent, BodyIsAppended, BodyIsSent, BodyOf, IsWriting, all_unanswered, piece_commands}
+use Rattle.cache_tool.specs.PutProgress.{AgreesWith, AppendsPiece, AppendsSoFar, AreSent, BodyIsAppended, BodyIsSent, BodyOf, IsWriting, all_unanswered, piece_commands}
 use Rattle.cache_tool.specs.Statuses.{status_of}
 use Rattle.cache_tool.specs.World.{Supply}
+use Rattle.cache_tool.proofs.RightLaws.{leads_none, leads_on}
 use Rattle.cache_tool.proofs.PutPieces.{leads_more, leads_step}
 use Rattle.cache_tool.proofs.PutCommands.{done-append, sent_more, sent_same, sent_then, unanswered-append, until_all}
 
@@ -34,19 +36,21 @@ so_far_none tells left now = record {
   read = Consumes-nil left;
   leads = λ rest. refl;
   room_is = omega arith;
-  sent = λ told h stands writes. record { stands = stands; done = tt; writes = writes };
+  sent = λ told h keeps writes. record { stands = leads_none now h keeps; done = tt; writes = writes };
 }
 
 -- commands that were performed where others were done
-body_more : (h : History) (cs ds : List Command) (body : List ℕ) (now : Session) (said : List ℕ) → AreDone h.machine cs
-    → AreSent ds (all_unanswered cs h) (Ok outcome.Ok) now said → IsWriting (after (after h.machine cs) ds) body → BodyIsSent body (cs ++ ds) h now
-body_more h cs ds body now said first ran writes =
+body_more : (h : History) (cs ds : List Command) (first body : List ℕ) (before mid now : Session) (said : List ℕ) → BodyIsSent first cs h before mid
+    → AreSent ds (all_unanswered cs h) (Ok outcome.Ok) mid now said → IsWriting (after (after h.machine cs) ds) body → BodyIsSent body (cs ++ ds) h before now
+body_more h cs ds first body before mid now said sent ran writes =
     let done = ran.done refl in
     let all = until_all (after h.machine cs) ds done in
     let same = unanswered-append cs ds h in
     record {
-      stands = subst (λ x. KeepsTo now x) (sym same) (subst (λ l. KeepsTo now (all_unanswered l (all_unanswered cs h))) all ran.stands);
-      done = done-append h.machine cs ds first done;
+      stands = subst (λ x. LeadTo (cs ++ ds) before h.machine now x) (sym same)
+          (leads_on cs ds before h.machine mid (all_unanswered cs h) now (all_unanswered ds (all_unanswered cs h)) sent.stands
+          (subst (λ l. LeadTo l mid (after h.machine cs) now (all_unanswered l (all_unanswered cs h))) all ran.stands));
+      done = done-append h.machine cs ds sent.done done;
       writes = subst (λ (x : History). IsWriting x.machine body) (sym same) writes;
     }
 
@@ -63,8 +67,8 @@ module _ (tells : Type 0) (room : ℕ) (left mid left_now : Option (List ℕ)) (
     room_is = let is = so.room_is in let joined = length-append so.body piece in omega (arith, is, joined, left_over);
     sent = λ told h stands writes.
         let done = so.sent told h stands writes in
-        let p = (appends_piece told).each (all_unanswered so.commands h) so.body done.stands done.writes so.room_is in
-        body_more h so.commands (piece_commands piece) (so.body ++ piece) now said done.done p.sent (p.writes refl);
+        let p = (appends_piece told).each (all_unanswered so.commands h) so.body done.stands.keeps done.writes so.room_is in
+        body_more h so.commands (piece_commands piece) so.body (so.body ++ piece) before between now said done p.sent (p.writes refl);
   }
 
 -- What the source has after a piece.
@@ -126,49 +130,49 @@ either_by ended.End from to body by = inl by
 either_by ended.Failed from to body by = inr by
 
 -- the commands of what is ahead, where no piece was refused only if nothing is
-sent_ahead : (h : History) (cs ds : List Command) (answer : Result Outcome StoreFault) (now : Session) (said : List ℕ) → (answer ≡ Ok outcome.Ok → ds ≡ [])
-    → AreSent cs h answer now said → AreSent (cs ++ ds) h answer now said
-sent_ahead h cs ds (Ok outcome.Ok) now said none ran = sent_same h cs (cs ++ ds) (Ok outcome.Ok) now said (sym (ap (λ l. cs ++ l) (none refl) ∙ append-nil cs)) ran
-sent_ahead h cs ds (Ok outcome.Refused) now said none ran = sent_more h cs ds (Ok outcome.Refused) now said (λ e. absurd (cc)) ran
-sent_ahead h cs ds (Err f) now said none ran = sent_more h cs ds (Err f) now said (λ e. absurd (cc)) ran
+sent_ahead : (h : History) (cs ds : List Command) (answer : Result Outcome StoreFault) (before now : Session) (said : List ℕ) → (answer ≡ Ok outcome.Ok → ds ≡ [])
+    → AreSent cs h answer before now said → AreSent (cs ++ ds) h answer before now said
+sent_ahead h cs ds (Ok outcome.Ok) before now said none ran = sent_same h cs (cs ++ ds) (Ok outcome.Ok) before now said (sym (ap (λ l. cs ++ l) (none refl) ∙ append-nil cs)) ran
+sent_ahead h cs ds (Ok outcome.Refused) before now said none ran = sent_more h cs ds (Ok outcome.Refused) before now said (λ e. absurd (cc)) ran
+sent_ahead h cs ds (Err f) before now said none ran = sent_more h cs ds (Err f) before now said (λ e. absurd (cc)) ran
 
 module _ (from to : Supply) {tells : Type 0} {room : ℕ} {mid : Option (List ℕ)} {before between now : Session} {piece said : List ℕ} {how : Ended} {answer : Result Outcome StoreFault}
     (so : AppendsSoFar tells room from.left mid before between) (next : Ahead from to how so.body piece) (fits : length piece ≤ PIECE_MAX)
     (told : tells) (appends_piece : AppendsPiece piece room answer between now said) (h : History) (stands : KeepsTo before h) (writes : IsWriting h.machine []) where
   -- the last piece
   last_went : (came : Result Status StoreFault) → BodyOf came from to (so.body ++ (piece ++ next.rest)) → AgreesWith came answer
-      → (answer ≡ Ok outcome.Ok → how ≢ ended.Full) → BodyIsAppended h from to came now said
+      → (answer ≡ Ok outcome.Ok → how ≢ ended.Full) → BodyIsAppended h from to came before now said
   last_went came body_of by none =
       let done = so.sent told h stands writes in
-      let p = appends_piece.each (all_unanswered so.commands h) so.body done.stands done.writes so.room_is in
+      let p = appends_piece.each (all_unanswered so.commands h) so.body done.stands.keeps done.writes so.room_is in
       record {
         body = so.body ++ (piece ++ next.rest);
         body_of = body_of;
         answer = answer;
-        sent = sent_same h _ _ answer now said (sym (leads_step so.body piece so.commands so.leads next.rest fits next.short))
-            (sent_then h so.commands (piece_commands piece ++ appends next.rest) answer now said done.done
-            (sent_ahead (all_unanswered so.commands h) (piece_commands piece) (appends next.rest) answer now said (λ e. ap appends (next.last (none e))) p.sent));
+        sent = sent_same h _ _ answer before now said (sym (leads_step so.body piece so.commands so.leads next.rest fits next.short))
+            (sent_then h so.commands (piece_commands piece ++ appends next.rest) answer before between now said done.done done.stands
+            (sent_ahead (all_unanswered so.commands h) (piece_commands piece) (appends next.rest) answer between now said (λ e. ap appends (next.last (none e))) p.sent));
         same = by;
       }
 
   -- with a fault of the disk, or out of memory
-  pub last_failed : (f : StoreFault) → answer ≡ Err f → BodyIsAppended h from to (Err f) now said
+  pub last_failed : (f : StoreFault) → answer ≡ Err f → BodyIsAppended h from to (Err f) before now said
   last_failed f is = last_went (Err f) (either_by how from to _ next.body_by) is (λ e. absurd (cc))
 
   -- with a source that failed
-  pub last_broken : (o : Outcome) → answer ≡ Ok o → how ≡ ended.Failed → BodyIsAppended h from to (Ok status.Source) now said
+  pub last_broken : (o : Outcome) → answer ≡ Ok o → how ≡ ended.Failed → BodyIsAppended h from to (Ok status.Source) before now said
   last_broken o is broken =
       last_went (Ok status.Source) (subst (λ x. BodyBy x from to (so.body ++ (piece ++ next.rest))) broken next.body_by) (o, is) (λ e full. absurd (cc))
 
   -- with a source that is at its end
-  pub last_ended : (o : Outcome) → answer ≡ Ok o → how ≡ ended.End → BodyIsAppended h from to (Ok (status_of o)) now said
+  pub last_ended : (o : Outcome) → answer ≡ Ok o → how ≡ ended.End → BodyIsAppended h from to (Ok (status_of o)) before now said
   last_ended outcome.Ok is end =
       last_went (Ok status.Done) (subst (λ x. BodyBy x from to (so.body ++ (piece ++ next.rest))) end next.body_by) is (λ e full. absurd (cc))
   last_ended outcome.Refused is end =
       last_went (Ok status.No) (subst (λ x. BodyBy x from to (so.body ++ (piece ++ next.rest))) end next.body_by) is (λ e full. absurd (cc))
 
   -- with a full piece that is refused
-  pub last_refused : answer ≡ Ok outcome.Refused → how ≡ ended.Full → BodyIsAppended h from to (Ok status.No) now said
+  pub last_refused : answer ≡ Ok outcome.Refused → how ≡ ended.Full → BodyIsAppended h from to (Ok status.No) before now said
   last_refused is full =
       last_went (Ok status.No) (subst (λ x. BodyBy x from to (so.body ++ (piece ++ next.rest))) full next.body_by) is (λ e. absurd (cc))
 

@@ -1,6 +1,7 @@
 -- Commands that are performed one after the other, up to the first that is refused.
 use Rattle.std.proofs.Common.{◌≡◌, ◌≢◌, inl, inr, ℕ, List, [], ◌∷◌, ◌++◌, Bool, true, false, cond, refl, sym, ap, subst, ◌∙◌}
 use Rattle.std.specs.Prelude.{Err, Ok, OnOk, Result, ◌⊎◌}
+use Rattle.std.proofs.lemmas.Result.{on_ok_weaker}
 use Rattle.cache_theory.specs.Command.{Command}
 use Rattle.cache_theory.specs.Crash.{IsSafe}
 use Rattle.cache_theory.specs.History.{History, unanswered}
@@ -16,7 +17,9 @@ use Rattle.cache_store.specs.declared.fault.Outcome.TheVariants as outcome
 use Rattle.cache_store.specs.declared.fault.StoreFault.{StoreFault}
 use Rattle.cache_tool.specs.PutProgress.{AreDone, AreSent, IsRefused, StopsWith, all_unanswered}
 use Rattle.cache_tool.specs.Replies.{is_done, last_reply, until_refused}
+use Rattle.cache_tool.specs.Right.{LeadTo}
 use Rattle.cache_tool.proofs.Begun.{all_begin_keep}
+use Rattle.cache_tool.proofs.RightLaws.{leads_none, leads_on}
 
 -- the history after commands one after the other
 pub unanswered-append : (cs ds : List Command) (h : History) → all_unanswered (cs ++ ds) h ≡ all_unanswered ds (all_unanswered cs h)
@@ -77,26 +80,26 @@ stops_before m (c ∷ cs) ds said (inl here) = inl here
 stops_before m (c ∷ cs) ds said (inr later) = inr (later.0, stops_before (step m c).next cs ds said later.1)
 
 -- the same commands by another name
-pub sent_same : (h : History) (cs ds : List Command) (answer : Result Outcome StoreFault) (now : Session) (said : List ℕ) → cs ≡ ds
-    → AreSent cs h answer now said → AreSent ds h answer now said
-sent_same h cs ds answer now said same ran = subst (λ l. AreSent l h answer now said) same ran
+pub sent_same : (h : History) (cs ds : List Command) (answer : Result Outcome StoreFault) (before now : Session) (said : List ℕ) → cs ≡ ds
+    → AreSent cs h answer before now said → AreSent ds h answer before now said
+sent_same h cs ds answer before now said same ran = subst (λ l. AreSent l h answer before now said) same ran
 
 -- no command
-pub sent_none : (h : History) (now : Session) (said : List ℕ) → KeepsTo now h → AreSent [] h (Ok outcome.Ok) now said
-sent_none h now said stands = record {
-  safe = stands.stands.crash_kept.safe;
-  stands = stands;
+pub sent_none : (h : History) (now : Session) (said : List ℕ) → KeepsTo now h → AreSent [] h (Ok outcome.Ok) now now said
+sent_none h now said keeps = record {
+  safe = keeps.stands.crash_kept.safe;
+  stands = leads_none now h keeps;
   done = λ e. tt;
   refused = λ e. absurd (cc);
 }
 
 -- one command
-pub sent_one_of : (h : History) (c : Command) (answer : Result Outcome StoreFault) (now : Session) (said : List ℕ) → IsSafe now.disk (begun h.machine c h.marks)
-    → OnOk answer (KeepsTo now (unanswered c h)) → (answer ≡ Ok outcome.Ok → is_done (step h.machine c).reply ≡ true)
-    → (answer ≡ Ok outcome.Refused → IsRefused h.machine c said) → AreSent (c ∷ []) h answer now said
-sent_one_of h c answer now said safe stands done refused = record {
+pub sent_one_of : (h : History) (c : Command) (answer : Result Outcome StoreFault) (before now : Session) (said : List ℕ) → IsSafe now.disk (begun h.machine c h.marks)
+    → OnOk answer (LeadTo (c ∷ []) before h.machine now (unanswered c h)) → (answer ≡ Ok outcome.Ok → is_done (step h.machine c).reply ≡ true)
+    → (answer ≡ Ok outcome.Refused → IsRefused h.machine c said) → AreSent (c ∷ []) h answer before now said
+sent_one_of h c answer before now said safe stands done refused = record {
   safe = subst (λ l. IsSafe now.disk (all_begun h.machine l h.marks)) (sym (until_one h.machine c)) safe;
-  stands = subst (λ l. OnOk answer (KeepsTo now (all_unanswered l h))) (sym (until_one h.machine c)) stands;
+  stands = subst (λ l. OnOk answer (LeadTo l before h.machine now (all_unanswered l h))) (sym (until_one h.machine c)) stands;
   done = λ e. (done e, tt);
   refused = λ e. inl (refused e);
 }
@@ -107,9 +110,9 @@ stopped_or_fault (Ok outcome.Ok) other = absurd (other refl)
 stopped_or_fault (Ok outcome.Refused) other = inl refl
 stopped_or_fault (Err f) other = inr (f, refl)
 
-pub sent_more : (h : History) (cs ds : List Command) (answer : Result Outcome StoreFault) (now : Session) (said : List ℕ) → answer ≢ Ok outcome.Ok
-    → AreSent cs h answer now said → AreSent (cs ++ ds) h answer now said
-sent_more h cs ds answer now said other ran = record {
+pub sent_more : (h : History) (cs ds : List Command) (answer : Result Outcome StoreFault) (before now : Session) (said : List ℕ) → answer ≢ Ok outcome.Ok
+    → AreSent cs h answer before now said → AreSent (cs ++ ds) h answer before now said
+sent_more h cs ds answer before now said other ran = record {
   safe = safe;
   stands = stands answer refl other;
   done = λ e. absurd (other e);
@@ -122,22 +125,28 @@ sent_more h cs ds answer now said other ran = record {
         subst (λ (x : History). IsSafe now.disk x.marks) (sym (ap (λ l. all_unanswered l h) front.1 ∙ unanswered-append (until_refused h.machine cs) front.0 h))
         (all_begin_keep now.disk (after h.machine (until_refused h.machine cs)) front.0 (all_begun h.machine (until_refused h.machine cs) h.marks) ran.safe)
 
-    stands : (a : Result Outcome StoreFault) → answer ≡ a → a ≢ Ok outcome.Ok → OnOk a (KeepsTo now (all_unanswered (until_refused h.machine (cs ++ ds)) h))
+    stands : (a : Result Outcome StoreFault) → answer ≡ a → a ≢ Ok outcome.Ok
+        → OnOk a (LeadTo (until_refused h.machine (cs ++ ds)) before h.machine now (all_unanswered (until_refused h.machine (cs ++ ds)) h))
     stands (Ok outcome.Ok) e not_ok = absurd (not_ok refl)
     stands (Ok outcome.Refused) e not_ok =
         let same = until_stopped h.machine cs ds said (ran.refused e) in
-        subst (λ l. KeepsTo now (all_unanswered l h)) (sym same) (subst (λ a. OnOk a (KeepsTo now (all_unanswered (until_refused h.machine cs) h))) e ran.stands)
+        subst (λ l. LeadTo l before h.machine now (all_unanswered l h)) (sym same)
+        (subst (λ a. OnOk a (LeadTo (until_refused h.machine cs) before h.machine now (all_unanswered (until_refused h.machine cs) h))) e ran.stands)
     stands (Err f) e not_ok = tt
 
 -- more commands after all were done
-pub sent_then : (h : History) (cs ds : List Command) (answer : Result Outcome StoreFault) (now : Session) (said : List ℕ) → AreDone h.machine cs
-    → AreSent ds (all_unanswered cs h) answer now said → AreSent (cs ++ ds) h answer now said
-sent_then h cs ds answer now said first second =
-    let same : all_unanswered (until_refused h.machine (cs ++ ds)) h ≡ all_unanswered (until_refused (after h.machine cs) ds) (all_unanswered cs h) =
-    ap (λ l. all_unanswered l h) (until_append h.machine cs ds first) ∙ unanswered-append cs (until_refused (after h.machine cs) ds) h in
+pub sent_then : (h : History) (cs ds : List Command) (answer : Result Outcome StoreFault) (before mid now : Session) (said : List ℕ) → AreDone h.machine cs → LeadTo cs before h.machine mid (all_unanswered cs h)
+    → AreSent ds (all_unanswered cs h) answer mid now said → AreSent (cs ++ ds) h answer before now said
+sent_then h cs ds answer before mid now said first led second =
+    let rest : List Command = until_refused (after h.machine cs) ds in
+    let all : until_refused h.machine (cs ++ ds) ≡ cs ++ rest = until_append h.machine cs ds first in
+    let same : all_unanswered (cs ++ rest) h ≡ all_unanswered rest (all_unanswered cs h) = unanswered-append cs rest h in
     record {
-      safe = subst (λ (x : History). IsSafe now.disk x.marks) (sym same) second.safe;
-      stands = subst (λ x. OnOk answer (KeepsTo now x)) (sym same) second.stands;
+      safe = subst (λ (x : History). IsSafe now.disk x.marks) (sym (ap (λ l. all_unanswered l h) all ∙ same)) second.safe;
+      stands = on_ok_weaker answer
+          (λ on. subst (λ l. LeadTo l before h.machine now (all_unanswered l h)) (sym all)
+          (subst (λ x. LeadTo (cs ++ rest) before h.machine now x) (sym same)
+          (leads_on cs rest before h.machine mid (all_unanswered cs h) now (all_unanswered rest (all_unanswered cs h)) led on))) second.stands;
       done = λ e. done-append h.machine cs ds first (second.done e);
       refused = λ e. stops-append h.machine cs ds said first (second.refused e);
     }

@@ -8,7 +8,7 @@ use Rattle.cache_base.specs.Causes.{HasCause, Rose}
 use Rattle.cache_base.specs.declared.status.Status.{Status}
 use Rattle.cache_base.specs.declared.status.Status.TheVariants as status
 use Rattle.cache_store.specs.Faults.{ending}
-use Rattle.cache_store.specs.Open.{IsShut}
+use Rattle.cache_store.specs.Open.{IsHonest, IsShut, Opens, OpensHonestly, StartsOn}
 use Rattle.cache_store.specs.Said.{IsCut}
 use Rattle.cache_store.specs.Saying.{IsPart}
 use Rattle.cache_store.specs.Session.{Session}
@@ -23,19 +23,23 @@ use Rattle.cache_theory.specs.Session.{marks_between}
 use Rattle.cache_theory.specs.Step.{after}
 use Rattle.cache_theory.proofs.Crashes.{safe_is_crash_safe}
 use Rattle.disk_model.specs.Calls.{Counts, LastFails, StopsAtFault}
+use Rattle.cache_tool.specs.AnyDisk.{HoldsRefusal, PutRefuses}
 use Rattle.cache_tool.specs.Ending.{EndsSession, IsEnded}
 use Rattle.cache_tool.specs.Put.{ArePut, put_commands}
 use Rattle.cache_tool.specs.Put.ArePut.{Broken, Whole}
 use Rattle.cache_tool.specs.PutProgress.{PutIsPerformed, all_unanswered}
+use Rattle.cache_tool.specs.Right.{ComesRight, LeadTo}
 use Rattle.cache_tool.specs.Statuses.{IsAnswer, IsClosing, status_in}
 use Rattle.cache_tool.specs.Verbs.{PrintsLast}
-use Rattle.cache_tool.specs.World.{Output, Supply}
+use Rattle.cache_tool.specs.World.{Output, Supply, World}
 use Rattle.cache_tool.proofs.Begun.{all_begin_keep}
 use Rattle.cache_tool.proofs.PutWhole.{fault_is_none, not_closing, some_body}
+use Rattle.cache_tool.proofs.RightLaws.{opened_right}
 use Rattle.cache_tool.proofs.StatusLaws.{EndsAs, answer_closes, closes_or_not, closing_same}
 use Rattle.disk_model.specs.Account.{Ending}
 use Rattle.disk_model.specs.Sound.{IsQuiet}
-use Rattle.disk_model.specs.State.{State}
+use Rattle.disk_model.specs.State.{State, standing}
+use Rattle.index_theory.specs.Honest.{Honest, LeavesHonest}
 
 -- what was printed, where an answer was to be
 pub record Printed (ended final : Status) (before now : Option (List ℕ)) (said : List ℕ) : Type 0 where
@@ -76,22 +80,26 @@ crash_safe t m cs safe = subst (IsCrashSafe t) (marks_begun m cs) (safe_is_crash
 
 -- the store did not open
 pub not_opened : (m : Machine) (key : List ℕ) (from to : Supply) (f : StoreFault) (before : Output) (t : State) → f ≢ fault.Sink → to.faults ≡ from.faults → IsSome from.left
-    → (IsQuiet before.disk → IsSafe t (marks_of m))
+    → (IsQuiet before.disk → IsSafe t (marks_of m)) → OpensHonestly before.disk t
     → (cs : List Command) × (ArePut m key from to (status_in (Err f)) cs × PrintsLast m cs (status_in (Err f)) before (record before { disk = t }))
-not_opened m key from to f before t other calm some safe =
+not_opened m key from to f before t other calm some safe images =
     let body = some_body from to calm some in (
       put_commands m key body.0,
       (
         Whole body.0 body.1 refl,
         record {
           answer = λ answer. absurd (fault_is_none f answer);
-          printed = λ answer. absurd (fault_is_none f answer);
-          part = none_printed before.taken _;
-          cut = λ sink. absurd (sink_is f other sink);
+          text = λ may. record {
+            printed = λ answer. absurd (fault_is_none f answer);
+            part = none_printed before.taken _;
+            cut = λ sink. absurd (sink_is f other sink);
+          };
           silent = λ source. Keeps-refl before.taken;
           leaves = record {
             shut = λ closing. absurd (not_closing f other closing);
+            honest = λ closing right. absurd (not_closing f other closing);
             crash = λ quiet. crash_safe t m (put_commands m key body.0) (all_begin_keep t m (put_commands m key body.0) (marks_of m) (safe quiet));
+            images = images;
           };
         },
       ),
@@ -102,54 +110,74 @@ not_opened m key from to f before t other calm some safe =
     sink_is fault.Disk o e = absurd (cc)
     sink_is fault.Sink o e = o refl
 
-module _ (m : Machine) (key : List ℕ) (from to : Supply) (came ended : Status) (before : Output) (last : Session) (t : State) (said : List ℕ)
-    (put : PutIsPerformed key (settled_at m) from to came last said) (ends : EndsSession ended last t) (same : EndsAs ended came) where
+module _ {moment : ℕ} (m : Machine) (key : List ℕ) (from to : Supply) (came ended : Status) (before : Output) (first last : Session) (t : State) (said : List ℕ)
+    (opens : Opens moment before.disk first) (is_start : StartsOn moment before.disk m) (put : PutIsPerformed key (settled_at m) from to came first last said) (ends : EndsSession ended last t) (same : EndsAs ended came) where
   -- the commands that were performed, where the store was closed
-  closed : IsClosing came → IsEnded ended (all_unanswered put.commands (settled_at m)) t
-  closed closing = ends.each (all_unanswered put.commands (settled_at m)) (put.stands closing)
+  led : IsClosing came → LeadTo put.commands first m last (all_unanswered put.commands (settled_at m))
+  led closing = put.stands closing
+
+  closed : IsClosing came → IsEnded ended (all_unanswered put.commands (settled_at m)) last t
+  closed closing = ends.each (all_unanswered put.commands (settled_at m)) (led closing).keeps
 
   shut : IsClosing ended → IsShut t (after m put.commands)
   shut closing = (closed (subst IsClosing (closing_same ended came same closing) closing)).shut closing
+
+  honest : IsClosing ended → ComesRight before.disk put.commands → IsHonest t (after m put.commands)
+  honest closing right =
+      let as_came : IsClosing came = subst IsClosing (closing_same ended came same closing) closing in
+      (closed as_came).honest closing ((led as_came).tells (opened_right opens is_start put.commands right))
+
+  images : IsClosing came → Honest (standing before.disk) → LeavesHonest t
+  images closing honest = (closed closing).images ((led closing).tells (inl (opens.tells m is_start honest)))
 
   -- an answer is printed
   pub answered : (final : Status) (taken : Option (List ℕ)) → IsAnswer ended → Printed ended final before.taken taken said
       → (cs : List Command) × (ArePut m key from to final cs × PrintsLast m cs final before (record { taken = taken; disk = t }))
   answered final taken answer printed =
       let is : ended ≡ came = closing_same ended came same (answer_closes ended answer) in
+      let closes : IsClosing came = subst IsClosing is (answer_closes ended answer) in
       let reply = put.last (subst IsAnswer is answer) in (
         put.commands,
         (
           are_put_at m key from to came final put.commands (λ a. subst IsAnswer is answer) put.are_put,
           record {
             answer = λ a. printed_same ended final a printed.same ∙ is ∙ reply.status;
-            printed = λ a. subst (Appends before.taken taken) reply.replied (printed.all a);
-            part = subst (IsPart before.taken taken) reply.replied printed.part;
-            cut = λ sink. subst (IsCut before.taken taken) reply.replied (printed.cut sink);
+            text = λ may. record {
+              printed = λ a. subst (Appends before.taken taken) reply.replied (printed.all a);
+              part = subst (IsPart before.taken taken) reply.replied printed.part;
+              cut = λ sink. subst (IsCut before.taken taken) reply.replied (printed.cut sink);
+            };
             silent = λ source. absurd (never_source ended final answer printed.same source);
             leaves = record {
               shut = λ closing. shut (answer_closes ended answer);
-              crash = λ quiet. crash_safe t m put.commands (closed (subst IsClosing is (answer_closes ended answer))).safe;
+              honest = λ closing right. honest (answer_closes ended answer) right;
+              crash = λ quiet. crash_safe t m put.commands (closed closes).safe;
+              images = λ quiet honest. images closes honest;
             };
           },
         ),
       )
 
   -- none is
-  pub not_answered : ¬ (IsAnswer ended) → ended ≢ status.Sink → (¬ (IsClosing came) → t ≡ last.disk)
+  pub not_answered : ¬ (IsAnswer ended) → ended ≢ status.Sink → LeavesHonest last.disk → (¬ (IsClosing came) → t ≡ last.disk)
       → (cs : List Command) × (ArePut m key from to ended cs × PrintsLast m cs ended before (record before { disk = t }))
-  not_answered other no_sink dropped = (
+  not_answered other no_sink kept dropped = (
     put.commands,
     (
       are_put_at m key from to came ended put.commands (λ a. absurd (other a)) put.are_put,
       record {
         answer = λ a. absurd (other a);
-        printed = λ a. absurd (other a);
-        part = none_printed before.taken _;
-        cut = λ sink. absurd (no_sink sink);
+        text = λ may. record {
+          printed = λ a. absurd (other a);
+          part = none_printed before.taken _;
+          cut = λ sink. absurd (no_sink sink);
+        };
         silent = λ source. Keeps-refl before.taken;
         leaves = record {
           shut = shut;
+          honest = honest;
           crash = λ quiet. crash_safe t m put.commands safe;
+          images = λ quiet honest. left_honest honest;
         };
       },
     ),
@@ -159,6 +187,12 @@ module _ (m : Machine) (key : List ℕ) (from to : Supply) (came ended : Status)
       safe = elim (closes_or_not came) [
         | inl closing ↦ (closed closing).safe
         | inr open_still ↦ subst (λ x. IsSafe x (all_begun m put.commands (marks_of m))) (sym (dropped open_still)) put.safe
+      ]
+
+      left_honest : Honest (standing before.disk) → LeavesHonest t
+      left_honest honest = elim (closes_or_not came) [
+        | inl closing ↦ images closing honest
+        | inr open_still ↦ subst LeavesHonest (sym (dropped open_still)) kept
       ]
 
 -- what a put comes to is never a fault of the sink
@@ -200,6 +234,24 @@ source_came (Ok s) ended (inl same) source = ap (λ x. Ok x) (sym same ∙ sourc
 source_came (Err fault.Memory) ended (inl same) source = absurd (let d : status.Memory ≡ status.Source = sym same ∙ source in cc)
 source_came (Err fault.Disk) ended (inl same) source = absurd (let d : status.Disk ≡ status.Source = sym same ∙ source in cc)
 source_came (Err fault.Sink) ended (inl same) source = absurd (let d : status.Sink ≡ status.Source = sym same ∙ source in cc)
+
+-- and so with a refusal
+no_came : (came : Result Status StoreFault) (ended : Status) → EndsAs ended (status_in came) → ended ≡ status.No → came ≡ Ok status.No
+no_came came ended (inr (inl disk)) no_is = absurd (let d : status.Disk ≡ status.No = sym disk ∙ no_is in cc)
+no_came came ended (inr (inr memory)) no_is = absurd (let d : status.Memory ≡ status.No = sym memory ∙ no_is in cc)
+no_came (Ok s) ended (inl same) no_is = ap (λ x. Ok x) (sym same ∙ no_is)
+no_came (Err fault.Memory) ended (inl same) no_is = absurd (let d : status.Memory ≡ status.No = sym same ∙ no_is in cc)
+no_came (Err fault.Disk) ended (inl same) no_is = absurd (let d : status.Disk ≡ status.No = sym same ∙ no_is in cc)
+no_came (Err fault.Sink) ended (inl same) no_is = absurd (let d : status.Sink ≡ status.No = sym same ∙ no_is in cc)
+
+-- the refusal that is held is what is printed
+printed_refusal : (said : List ℕ) (before now : World) → HoldsRefusal said before.source.left now.source.left → Appends before.taken now.taken said → PutRefuses before now
+printed_refusal said before now (inl line) all = inl (line.0, subst (Appends before.taken now.taken) line.1 all)
+printed_refusal said before now (inr long) all = inr long
+
+pub put_refuses : (came : Result Status StoreFault) (ended : Status) (said : List ℕ) (before now : World) → EndsAs ended (status_in came) → ended ≡ status.No
+    → (came ≡ Ok status.No → HoldsRefusal said before.source.left now.source.left) → Appends before.taken now.taken said → PutRefuses before now
+put_refuses came ended said before now same no_is holds all = printed_refusal said before now (holds (no_came came ended same no_is)) all
 
 -- the faults of the disk, over the opening, the commands and the closing
 only_closes : (s : Status) → IsAnswer s ⊎ (s ≡ status.Source) → IsClosing s

@@ -9,7 +9,7 @@ use Rattle.cache_base.proofs.CheckLaws.{all_hold}
 use Rattle.cache_theory.specs.Checks.{checks}
 use Rattle.cache_theory.specs.Command.{Command, Reply}
 use Rattle.cache_theory.specs.Command.Command.{Append, Close, Create}
-use Rattle.cache_theory.specs.Command.Reply.{Done, Refused, NoneThere, Value, Part, Found}
+use Rattle.cache_theory.specs.Command.Reply.{Done, Refused}
 use Rattle.cache_theory.specs.History.{History}
 use Rattle.cache_theory.specs.Machine.{Machine, Object, Slot, number_of, object, object_of}
 use Rattle.cache_theory.specs.Marks.{Marks, acked, begun}
@@ -23,30 +23,34 @@ use Rattle.entry_file.specs.Version.{Version}
 use Rattle.entry_name.specs.EntryName.{file_name}
 use Rattle.cache_store.specs.Answering.{outcome_of}
 use Rattle.cache_store.specs.Open.{KeepsTo}
+use Rattle.cache_store.specs.Performing.{goes_by_records}
 use Rattle.cache_store.specs.Session.{Session}
 use Rattle.cache_store.specs.declared.fault.Outcome.{Outcome}
 use Rattle.cache_store.specs.declared.fault.Outcome.TheVariants as outcome
 use Rattle.cache_store.specs.declared.fault.StoreFault.{StoreFault}
 use Rattle.cache_tool.specs.PutProgress.{AreSent, IsRefused, IsSent, IsWriting, PieceIsSent}
 use Rattle.cache_tool.specs.Replies.{is_done}
+use Rattle.cache_tool.specs.Right.{LeadTo}
 use Rattle.cache_tool.proofs.PutCommands.{sent_none, sent_one_of}
 
 -- a command whose reply is `ok` where no check fails, and which is acknowledged as it begins
 pub record IsPlain (c : Command) : Type 0 where
   pub done : (m : Machine) → (effect m c).reply ≡ Done
   pub marks : (m : Machine) (w : Marks) → acked m c w ≡ begun m c w
+  -- and which does not go by the records
+  pub bare : goes_by_records c ≡ false
 
 pub create_is_plain : (s : ℕ) (key : List ℕ) → IsPlain (Create s key)
 unfolding effect
-create_is_plain s key = record { done = λ m. refl; marks = λ m w. refl }
+create_is_plain s key = record { done = λ m. refl; marks = λ m w. refl; bare = refl }
 
 pub append_is_plain : (s : ℕ) (bytes : List ℕ) → IsPlain (Append s bytes)
 unfolding effect
-append_is_plain s bytes = record { done = λ m. refl; marks = λ m w. refl }
+append_is_plain s bytes = record { done = λ m. refl; marks = λ m w. refl; bare = refl }
 
 pub close_is_plain : (s : ℕ) → IsPlain (Close s)
 unfolding effect
-close_is_plain s = record { done = λ m. refl; marks = λ m w. refl }
+close_is_plain s = record { done = λ m. refl; marks = λ m w. refl; bare = refl }
 
 -- where the reply is `ok`, no check fails
 passes : (m : Machine) (c : Command) → is_done (step m c).reply ≡ true → first_failing (checks m c) ≡ None
@@ -74,12 +78,9 @@ not_done_by m c = go (step m c).reply
     go : (r : Reply) → outcome_of r ≡ outcome.Refused → is_done r ≡ false
     go Done is = absurd (cc)
     go (Refused f) is = refl
-    go NoneThere is = refl
-    go (Value value) is = refl
-    go (Part bytes) is = refl
-    go (Found v) is = refl
+    go r is = absurd (cc)
 
-module _ (c : Command) (h : History) (answer : Result Outcome StoreFault) (now : Session) (said : List ℕ) (plain : IsPlain c) (sends : IsSent c h answer now said) where
+module _ (c : Command) (h : History) (answer : Result Outcome StoreFault) (before now : Session) (said : List ℕ) (plain : IsPlain c) (sends : IsSent c h answer before now said) where
   -- the outcome is that of the machine's reply
   pub sent_outcome : (r : Outcome) → answer ≡ Ok r → r ≡ outcome_of (step h.machine c).reply
   sent_outcome r e = subst (λ a. IfOk a (λ x. x ≡ outcome_of (step h.machine c).reply)) e sends.outcome
@@ -90,11 +91,11 @@ module _ (c : Command) (h : History) (answer : Result Outcome StoreFault) (now :
   pub sent_refused : answer ≡ Ok outcome.Refused → IsRefused h.machine c said
   sent_refused e =
       let is : outcome_of (step h.machine c).reply ≡ outcome.Refused = sym (sent_outcome outcome.Refused e) in
-      record { not_done = not_done_by h.machine c is; refused = is; replied = subst (λ a. OnOk a (said ≡ reply_text (step h.machine c).reply)) e sends.replied }
+      record { not_done = not_done_by h.machine c is; refused = is; replied = subst (λ a. OnOk a (said ≡ reply_text (step h.machine c).reply)) e (sends.replied plain.bare) }
 
   -- and so the command was performed
-  pub sent_one : AreSent (c ∷ []) h answer now said
-  sent_one = sent_one_of h c answer now said sends.safe (subst (λ x. OnOk answer (KeepsTo now (record { machine = (step h.machine c).next; marks = x }))) (plain.marks h.machine h.marks) sends.next) sent_done sent_refused
+  pub sent_one : AreSent (c ∷ []) h answer before now said
+  sent_one = sent_one_of h c answer before now said sends.safe (subst (λ x. OnOk answer (LeadTo (c ∷ []) before h.machine now (record { machine = (step h.machine c).next; marks = x }))) (plain.marks h.machine h.marks) sends.next) sent_done sent_refused
 
 -- An entry is made.
 
@@ -167,26 +168,26 @@ module _ (m : Machine) (body bytes : List ℕ) (writes : IsWriting m body) where
 -- No piece, a piece, and a piece that is too long.
 
 pub piece_none : (h : History) (body : List ℕ) (now : Session) (said : List ℕ) → KeepsTo now h → IsWriting h.machine body
-    → PieceIsSent body [] h (Ok outcome.Ok) now said
+    → PieceIsSent body [] h (Ok outcome.Ok) now now said
 piece_none h body now said stands writes = record {
   sent = sent_none h now said stands;
   writes = λ e. subst (λ x. IsWriting h.machine x) (sym (append-nil body)) writes;
 }
 
-pub piece_sent : (h : History) (body : List ℕ) (x : ℕ) (xs : List ℕ) (answer : Result Outcome StoreFault) (now : Session) (said : List ℕ)
-    → IsWriting h.machine body → IsSent (Append 0 (x ∷ xs)) h answer now said → PieceIsSent body (x ∷ xs) h answer now said
-piece_sent h body x xs answer now said writes sends =
+pub piece_sent : (h : History) (body : List ℕ) (x : ℕ) (xs : List ℕ) (answer : Result Outcome StoreFault) (before now : Session) (said : List ℕ)
+    → IsWriting h.machine body → IsSent (Append 0 (x ∷ xs)) h answer before now said → PieceIsSent body (x ∷ xs) h answer before now said
+piece_sent h body x xs answer before now said writes sends =
     let plain = append_is_plain 0 (x ∷ xs) in
     record {
-      sent = sent_one (Append 0 (x ∷ xs)) h answer now said plain sends;
-      writes = λ e. append_writes h.machine body (x ∷ xs) writes (sent_done (Append 0 (x ∷ xs)) h answer now said plain sends e);
+      sent = sent_one (Append 0 (x ∷ xs)) h answer before now said plain sends;
+      writes = λ e. append_writes h.machine body (x ∷ xs) writes (sent_done (Append 0 (x ∷ xs)) h answer before now said plain sends e);
     }
 
 -- a piece with which the body is too long is refused
-pub piece_over : (h : History) (body bytes : List ℕ) (r : Outcome) (now : Session) (said : List ℕ)
-    → IsWriting h.machine body → BODY_MAX < length body + length bytes → IsSent (Append 0 bytes) h (Ok r) now said → r ≡ outcome.Refused
-piece_over h body bytes outcome.Refused now said writes long sends = refl
-piece_over h body bytes outcome.Ok now said writes long sends =
-    let done = sent_done (Append 0 bytes) h (Ok outcome.Ok) now said (append_is_plain 0 bytes) sends refl in
+pub piece_over : (h : History) (body bytes : List ℕ) (r : Outcome) (before now : Session) (said : List ℕ)
+    → IsWriting h.machine body → BODY_MAX < length body + length bytes → IsSent (Append 0 bytes) h (Ok r) before now said → r ≡ outcome.Refused
+piece_over h body bytes outcome.Refused before now said writes long sends = refl
+piece_over h body bytes outcome.Ok before now said writes long sends =
+    let done = sent_done (Append 0 bytes) h (Ok outcome.Ok) before now said (append_is_plain 0 bytes) sends refl in
     let within = append_within h.machine body bytes writes done in
     absurd (omega (arith, within, long))

@@ -1,60 +1,61 @@
 -- One command of a put, whose reply is held.
-use Rattle.std.proofs.Common.{◌≡◌, ◌≢◌, ℕ, ◌<◌, ◌+◌, List, [], ◌∷◌, ◌++◌, length, Some, refl, sym, ap, subst, ◌∙◌, arith}
-use Rattle.std.specs.Prelude.{Bool, Err, IsErrAnd, Ok, OnOk, Result, false, true, ◌==◌}
+use Rattle.std.proofs.Common.{◌≡◌, ◌≢◌, ℕ, ◌<◌, ◌+◌, List, [], ◌∷◌, ◌++◌, length, Some, refl, sym, ap, subst, ◌∙◌, arith, true≢false}
+use Rattle.std.specs.Prelude.{Bool, Err, Ok, OnOk, Result, false, true, ◌==◌}
 use Rattle.std.proofs.lemmas.Bool.{eqb-true}
 use Rattle.std.proofs.lemmas.List.{nil_from_length}
-use Rattle.std.proofs.lemmas.Result.{err_from_is_err_and}
 use Rattle.cache_base.specs.declared.limits.TheConstants.{BODY_MAX}
-use Rattle.cache_store.specs.Faults.{ending, fault_ending}
-use Rattle.cache_store.specs.Open.{IsOpen, KeepsTo, LeavesOpen}
-use Rattle.cache_store.specs.Performing.{Keeps, Performs}
+use Rattle.cache_store.specs.Open.{KeepsTo, Tells}
+use Rattle.cache_store.specs.Performing.{ComesToTell, HadEffect, Keeps, Performs}
 use Rattle.cache_store.specs.Session.{Session}
 use Rattle.cache_store.specs.declared.fault.Outcome.{Outcome}
 use Rattle.cache_store.specs.declared.fault.Outcome.TheVariants as outcome
 use Rattle.cache_store.specs.declared.fault.StoreFault.{StoreFault}
 use Rattle.cache_theory.specs.Command.{Command}
 use Rattle.cache_theory.specs.Command.Command.{Append}
-use Rattle.cache_theory.specs.History.{History}
+use Rattle.cache_theory.specs.History.{History, acked}
 use Rattle.cache_theory.specs.Step.{step}
 use Rattle.cache_theory.specs.Text.{reply_text}
 use Rattle.cache_tool.specs.PutProgress.{IsSent, IsWriting, PieceIsSent}
-use Rattle.disk_model.specs.Account.{Ending}
+use Rattle.cache_tool.specs.Right.{LeadTo}
 use Rattle.cache_tool.proofs.PutMachine.{piece_none, piece_over, piece_sent}
+use Rattle.cache_tool.proofs.RightLaws.{leads_one}
 
 -- what went out to a sink that held nothing is what it holds
-pub sends_of : (c : Command) (h : History) (answer : Result Outcome StoreFault) (now : Session) (before said : List ℕ) → before ≡ []
-    → Performs c h.machine answer now (Some before) (Some said) → Keeps c h answer now → IsSent c h answer now said
-sends_of c h answer now before said none p kept = record { safe = kept.safe; next = kept.next; outcome = p.outcome; replied = held answer p.printed }
+pub sends_of : (c : Command) (h : History) (answer : Result Outcome StoreFault) (first now : Session) (before said : List ℕ) → before ≡ []
+    → Performs c h.machine answer first now (Some before) (Some said) → Keeps c h answer now → IsSent c h answer first now said
+sends_of c h answer first now before said none p kept = record {
+  safe = kept.safe;
+  next = leads answer kept.next p.tells;
+  outcome = p.outcome;
+  replied = λ bare. held answer (p.printed (λ goes. absurd (true≢false (sym goes ∙ bare))));
+}
   where
+    leads : (a : Result Outcome StoreFault) → OnOk a (KeepsTo now (acked c h)) → (HadEffect a → ComesToTell c first h.machine → Tells now (step h.machine c).next)
+        → OnOk a (LeadTo (c ∷ []) first h.machine now (acked c h))
+    leads (Ok r) keeps tells = leads_one c first h.machine now (acked c h) keeps (tells tt)
+    leads (Err f) keeps tells = tt
+
     held : (a : Result Outcome StoreFault) → OnOk a (said ≡ before ++ reply_text (step h.machine c).reply) → OnOk a (said ≡ reply_text (step h.machine c).reply)
     held (Ok r) is = is ∙ ap (λ l. l ++ reply_text (step h.machine c).reply) none
     held (Err f) is = tt
 
 -- an empty piece
 pub empty_went : (h : History) (body piece : List ℕ) (now : Session) (said : List ℕ) → piece ≡ [] → KeepsTo now h → IsWriting h.machine body
-    → PieceIsSent body piece h (Ok outcome.Ok) now said
-empty_went h body piece now said empty stands writes = subst (λ p. PieceIsSent body p h (Ok outcome.Ok) now said) (sym empty) (piece_none h body now said stands writes)
+    → PieceIsSent body piece h (Ok outcome.Ok) now now said
+empty_went h body piece now said empty stands writes = subst (λ p. PieceIsSent body p h (Ok outcome.Ok) now now said) (sym empty) (piece_none h body now said stands writes)
 
 -- another one
-pub piece_went : (h : History) (body piece : List ℕ) (answer : Result Outcome StoreFault) (now : Session) (said : List ℕ) → piece ≢ []
-    → IsWriting h.machine body → IsSent (Append 0 piece) h answer now said → PieceIsSent body piece h answer now said
-piece_went h body [] answer now said some writes sends = absurd (some refl)
-piece_went h body (x ∷ xs) answer now said some writes sends = piece_sent h body x xs answer now said writes sends
+pub piece_went : (h : History) (body piece : List ℕ) (answer : Result Outcome StoreFault) (before now : Session) (said : List ℕ) → piece ≢ []
+    → IsWriting h.machine body → IsSent (Append 0 piece) h answer before now said → PieceIsSent body piece h answer before now said
+piece_went h body [] answer before now said some writes sends = absurd (some refl)
+piece_went h body (x ∷ xs) answer before now said some writes sends = piece_sent h body x xs answer before now said writes sends
 
 -- one for which there is no room
-pub over_went : (h : History) (body piece : List ℕ) (room : ℕ) (r : Outcome) (now : Session) (said : List ℕ) → piece ≢ [] → room < length piece
-    → room + length body ≡ BODY_MAX → IsWriting h.machine body → IsSent (Append 0 piece) h (Ok r) now said → PieceIsSent body piece h (Ok outcome.Refused) now said
-over_went h body piece room r now said some long is writes sends =
-    let refused = piece_over h body piece r now said writes (omega (arith, long, is)) sends in
-    subst (λ x. PieceIsSent body piece h (Ok x) now said) refused (piece_went h body piece (Ok r) now said some writes sends)
-
--- the error that a `?` hands on
-pub handed_on : {T : Type 0} (r : Result T StoreFault) (f : StoreFault) → IsErrAnd r (λ e. e ≡ f) → r ≡ Err f
-handed_on r f h = let e = err_from_is_err_and r h in e.1 ∙ ap (λ x. Err x) e.2
-
--- and what it says of the store
-pub handed_open : {T : Type 0} (r : Result T StoreFault) (f : StoreFault) (now : Session) → IsErrAnd r (λ e. e ≡ f) → (fault_ending f ≡ Ending.NoneFailed → IsOpen now) → LeavesOpen r now
-handed_open r f now h still none = still (sym (ap ending (handed_on r f h)) ∙ none)
+pub over_went : (h : History) (body piece : List ℕ) (room : ℕ) (r : Outcome) (before now : Session) (said : List ℕ) → piece ≢ [] → room < length piece
+    → room + length body ≡ BODY_MAX → IsWriting h.machine body → IsSent (Append 0 piece) h (Ok r) before now said → PieceIsSent body piece h (Ok outcome.Refused) before now said
+over_went h body piece room r before now said some long is writes sends =
+    let refused = piece_over h body piece r before now said writes (omega (arith, long, is)) sends in
+    subst (λ x. PieceIsSent body piece h (Ok x) before now said) refused (piece_went h body piece (Ok r) before now said some writes sends)
 
 -- whether a piece is empty
 pub is_empty_of : (piece : List ℕ) (b : Bool) → b ≡ (length piece == 0) → b ≡ true → piece ≡ []

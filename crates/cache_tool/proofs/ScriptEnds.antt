@@ -1,33 +1,35 @@
 -- What the verb `run` comes to, by what its commands and the end of the session came to.
-use Rattle.std.proofs.Common.{◌≡◌, ◌≢◌, ◌⊎◌, inl, inr, ℕ, ◌+◌, List, [], length, take, Option, None, Some, Result, Err, refl, sym, ap, subst, ◌∙◌}
+use Rattle.std.proofs.Common.{◌≡◌, ◌≢◌, ◌⊎◌, inl, inr, ⊎_elim, ℕ, ◌+◌, List, [], length, take, Option, None, Some, Result, Err, refl, sym, ap, subst, ◌∙◌}
 use Rattle.std.specs.Prelude.{min}
 use Rattle.std.proofs.KnownBytes.{Appends-nil}
 use Rattle.cache_base.specs.declared.status.Status.{Status}
 use Rattle.cache_base.specs.declared.status.Status.TheVariants as status
-use Rattle.cache_store.specs.Open.{IsShut, Opens, OpensSafely}
+use Rattle.cache_store.specs.Open.{IsHonest, IsShut, Opens, OpensHonestly, OpensSafely, Tells}
 use Rattle.cache_store.specs.Session.{Session}
 use Rattle.cache_store.specs.declared.fault.StoreFault.{StoreFault}
 use Rattle.cache_store.specs.declared.fault.StoreFault.TheVariants as fault
 use Rattle.cache_theory.specs.Command.{Command}
 use Rattle.cache_theory.specs.Crash.{IsSafe}
 use Rattle.cache_theory.specs.History.{History, settled_at}
-use Rattle.cache_theory.specs.Machine.{Machine, opened}
 use Rattle.cache_theory.specs.Marks.{marks_of}
 use Rattle.cache_theory.specs.Session.{marks_between}
 use Rattle.cache_theory.specs.Step.{after}
 use Rattle.cache_theory.specs.Text.{replies_text}
 use Rattle.cache_theory.proofs.Crashes.{safe_is_crash_safe}
-use Rattle.cache_tool.specs.Ending.{EndsSession}
+use Rattle.cache_tool.specs.Ending.{EndsSession, IsEnded}
+use Rattle.cache_tool.specs.Right.{AreRight, LeadTo}
 use Rattle.cache_tool.specs.Script.{bad_line, performed}
 use Rattle.cache_tool.specs.ScriptProgress.{LeavesScript, PerformsScript, history_from, marks_from}
 use Rattle.cache_tool.specs.Statuses.{IsClosing, status_in}
 use Rattle.cache_tool.specs.Verbs.{RunsScript}
 use Rattle.cache_tool.specs.World.{Progress, World, world_of}
 use Rattle.cache_tool.proofs.Moments.{with_left}
+use Rattle.cache_tool.proofs.RightLaws.{opened_right, opened_says}
 use Rattle.cache_tool.proofs.ScriptMarks.{more_begun, none_begun}
 use Rattle.cache_tool.proofs.ScriptReplies.{begins_more, front_acked}
 use Rattle.cache_tool.proofs.StatusLaws.{EndsAs, closes_or_not, closing_same}
 use Rattle.disk_model.specs.State.{State}
+use Rattle.index_theory.specs.Honest.{LeavesHonest}
 
 -- ---- the store did not open
 
@@ -36,34 +38,37 @@ abbrev told : World → Option (List ℕ) → World
 told w left = record w { source = record (w.source) { left = left } }
 
 runs_nothing : (moment : ℕ) (ended : Status) (left : Option (List ℕ)) (before : World) (t : State) → ended ≢ status.Done → ended ≢ status.Script → ended ≢ status.Source → ¬ (IsClosing ended)
-    → OpensSafely moment before.disk t → RunsScript moment ended (told before left) (record (told before left) { disk = t })
-runs_nothing moment ended None before t undone unnamed unfailed open_still safe = tt
-runs_nothing moment ended (Some bytes) before t undone unnamed unfailed open_still safe = λ shelf rest cs is found.
-    let m : Machine = opened moment shelf rest in
-    let front = front_acked m [] cs in
-    record {
-      out = [];
-      printed = Appends-nil before.taken;
-      acked = 0;
-      is_acked = front;
-      front = begins_more (replies_text m cs) (bad_line (length cs + 1)) [] (replies_text m cs, refl);
-      no_line = λ spells. (replies_text m cs, refl);
-      done = λ e. absurd (undone e);
-      script = λ e. absurd (unnamed e);
-      source = λ e. absurd (unfailed e);
-      leaves = record {
-        shut = λ closing. absurd (open_still closing);
-        crash = λ quiet. safe_is_crash_safe t (marks_between m cs 0 (min (0 + 1) (length cs))) (more_begun t m (marks_of m) cs 0 (min (0 + 1) (length cs)) (safe shelf rest quiet is));
-      };
-    }
+    → OpensSafely moment before.disk t → OpensHonestly before.disk t → RunsScript moment ended (told before left) (record (told before left) { disk = t })
+runs_nothing moment ended None before t undone unnamed unfailed open_still safe images = tt
+runs_nothing moment ended (Some bytes) before t undone unnamed unfailed open_still safe images = λ m cs is found. record {
+  acked = 0;
+  all = λ e. absurd (⊎_elim undone unnamed e);
+  replies = λ may. record {
+    out = [];
+    printed = Appends-nil before.taken;
+    is_acked = front_acked m [] cs;
+    front = begins_more (replies_text m cs) (bad_line (length cs + 1)) [] (replies_text m cs, refl);
+    no_line = λ spells. (replies_text m cs, refl);
+    done = λ e. absurd (undone e);
+    script = λ e. absurd (unnamed e);
+    source = λ e. absurd (unfailed e);
+  };
+  source = λ e. absurd (unfailed e);
+  leaves = record {
+    shut = λ closing. absurd (open_still closing);
+    honest = λ closing right. absurd (open_still closing);
+    crash = λ quiet. safe_is_crash_safe t (marks_between m cs 0 (min (0 + 1) (length cs))) (more_begun t m (marks_of m) cs 0 (min (0 + 1) (length cs)) (safe m is quiet));
+    images = images;
+  };
+}
 
-pub runs_unopened : (moment : ℕ) (ended : Status) (f : StoreFault) (before : World) (t : State) → ended ≡ status_in (Err f) → f ≢ fault.Sink → OpensSafely moment before.disk t
+pub runs_unopened : (moment : ℕ) (ended : Status) (f : StoreFault) (before : World) (t : State) → ended ≡ status_in (Err f) → f ≢ fault.Sink → OpensSafely moment before.disk t → OpensHonestly before.disk t
     → RunsScript moment ended before (record before { disk = t })
-runs_unopened moment ended f before t is no_sink safe = subst (λ e. RunsScript moment e before (record before { disk = t })) (sym is) (go f no_sink)
+runs_unopened moment ended f before t is no_sink safe images = subst (λ e. RunsScript moment e before (record before { disk = t })) (sym is) (go f no_sink)
   where
     go : (f : StoreFault) → f ≢ fault.Sink → RunsScript moment (status_in (Err f)) before (record before { disk = t })
-    go fault.Memory other = runs_nothing moment status.Memory before.source.left before t (λ e. cc) (λ e. cc) (λ e. cc) (λ x. x) safe
-    go fault.Disk other = runs_nothing moment status.Disk before.source.left before t (λ e. cc) (λ e. cc) (λ e. cc) (λ x. x) safe
+    go fault.Memory other = runs_nothing moment status.Memory before.source.left before t (λ e. cc) (λ e. cc) (λ e. cc) (λ x. x) safe images
+    go fault.Disk other = runs_nothing moment status.Disk before.source.left before t (λ e. cc) (λ e. cc) (λ e. cc) (λ x. x) safe images
     go fault.Sink other = absurd (other refl)
 
 -- ---- the session was ended
@@ -79,10 +84,20 @@ performed_by status.Disk a n = inl refl
 performed_by status.Memory a n = inl refl
 performed_by status.Words a n = inl refl
 
-module _ (h : History) (cs : List Command) (a : ℕ) (last : Session) (t : State) (ended came : Status) (leaves : LeavesScript h cs came a last) (ends : EndsSession ended last t) (same : EndsAs ended came)
+module _ (h : History) (cs : List Command) (a : ℕ) (first last : Session) (t : State) (ended came : Status) (leaves : LeavesScript h cs came a first last) (ends : EndsSession ended last t) (same : EndsAs ended came)
     (dropped : ¬ (IsClosing came) → t ≡ last.disk) where
+  -- so many were performed, where the store was closed
+  abbrev count : ℕ
+  count = performed came a (length cs)
+
+  led : IsClosing came → LeadTo (take count cs) first h.machine last (history_from h cs a count)
+  led closing = leaves.stands closing
+
+  closed : IsClosing came → IsEnded ended (history_from h cs a count) last t
+  closed closing = ends.each (history_from h cs a count) (led closing).keeps
+
   -- one more may have begun
-  next_begun : IsSafe t (marks_from h.machine h.marks cs a (performed came a (length cs))) → IsSafe t (marks_from h.machine h.marks cs a (min (a + 1) (length cs)))
+  next_begun : IsSafe t (marks_from h.machine h.marks cs a count) → IsSafe t (marks_from h.machine h.marks cs a (min (a + 1) (length cs)))
   next_begun safe = elim (performed_by came a (length cs)) [
     | inl all ↦ more_begun t h.machine h.marks cs a (min (a + 1) (length cs)) (subst (λ x. IsSafe t x) (ap (marks_from h.machine h.marks cs a) all ∙ none_begun h.machine h.marks cs a) safe)
     | inr next ↦ subst (λ n. IsSafe t (marks_from h.machine h.marks cs a n)) next safe
@@ -90,39 +105,62 @@ module _ (h : History) (cs : List Command) (a : ℕ) (last : Session) (t : State
 
   ended_safe : IsSafe t (marks_from h.machine h.marks cs a (min (a + 1) (length cs)))
   ended_safe = elim (closes_or_not came) [
-    | inl closing ↦ next_begun ((ends.each (history_from h cs a (performed came a (length cs))) (leaves.stands closing)).safe)
+    | inl closing ↦ next_begun (closed closing).safe
     | inr still ↦ subst (λ s. IsSafe s (marks_from h.machine h.marks cs a (min (a + 1) (length cs)))) (sym (dropped still)) leaves.safe
   ]
 
+  -- where the records were right each image is honest
+  ended_images : LeavesHonest last.disk → Tells first h.machine → LeavesHonest t
+  ended_images kept told = elim (closes_or_not came) [
+    | inl closing ↦ (closed closing).images ((led closing).tells (inl told))
+    | inr still ↦ subst LeavesHonest (sym (dropped still)) kept
+  ]
+
+  -- what stands then
   ended_shut : IsClosing ended → IsShut t (after h.machine (take (performed ended a (length cs)) cs))
   ended_shut closing =
       let is : ended ≡ came = closing_same ended came same closing in
-      subst (λ e. IsShut t (after h.machine (take (performed e a (length cs)) cs))) (sym is)
-      ((ends.each (history_from h cs a (performed came a (length cs))) (leaves.stands (subst IsClosing is closing))).shut closing)
+      subst (λ e. IsShut t (after h.machine (take (performed e a (length cs)) cs))) (sym is) ((closed (subst IsClosing is closing)).shut closing)
 
-pub runs_ended : (moment : ℕ) (ended : Status) (came : Result Status StoreFault) (s : State) (mid last : Progress) (t : State) → Opens moment s mid.session → PerformsScript came mid last
+  ended_honest : IsClosing ended → AreRight (take (performed ended a (length cs)) cs) first h.machine → IsHonest t (after h.machine (take (performed ended a (length cs)) cs))
+  ended_honest closing right =
+      let is : ended ≡ came = closing_same ended came same closing in
+      let told = (led (subst IsClosing is closing)).tells (subst (λ e. AreRight (take (performed e a (length cs)) cs) first h.machine) is right) in
+      subst (λ e. IsHonest t (after h.machine (take (performed e a (length cs)) cs))) (sym is) ((closed (subst IsClosing is closing)).honest closing told)
+
+pub runs_ended : (moment : ℕ) (ended : Status) (came : Result Status StoreFault) (s : State) (mid last : Progress) (t : State) → Opens moment s mid.session → PerformsScript came mid last → LeavesHonest last.session.disk
     → EndsSession ended last.session t → EndsAs ended (status_in came) → (¬ (IsClosing (status_in came)) → t ≡ last.session.disk)
     → RunsScript moment ended (record (world_of mid) { disk = s }) (record (world_of last) { disk = t })
-runs_ended moment ended came s mid last t opens performs ends same dropped = go mid.source.left performs
+runs_ended moment ended came s mid last t opens performs kept ends same dropped = go mid.source.left performs
   where
     go : (left : Option (List ℕ)) → PerformsScript came (with_left mid left) last → RunsScript moment ended (record (world_of (with_left mid left)) { disk = s }) (record (world_of last) { disk = t })
     go None performs = tt
-    go (Some bytes) performs = λ shelf rest cs is found.
-        let m : Machine = opened moment shelf rest in
-        let r = performs.each (settled_at m) cs (opens shelf rest is) found in
-        let safe = ended_safe (settled_at m) cs r.acked last.session t ended (status_in came) r.leaves ends same dropped in
+    go (Some bytes) performs = λ m cs is found.
+        let r = performs.each (settled_at m) cs (opens.keeps m is) found in
+        let closing : IsClosing ended → status_in came ≡ ended = λ closes. sym (closing_same ended (status_in came) same closes) in
         record {
-          out = r.tells.out;
-          printed = r.tells.printed;
           acked = r.acked;
-          is_acked = r.tells.is_acked;
-          front = r.tells.front;
-          no_line = r.tells.no_line;
-          done = λ e. r.tells.done (sym (closing_same ended (status_in came) same (subst IsClosing (sym e) tt)) ∙ e);
-          script = λ e. r.tells.script (sym (closing_same ended (status_in came) same (subst IsClosing (sym e) tt)) ∙ e);
-          source = λ e. r.tells.source (sym (closing_same ended (status_in came) same (subst IsClosing (sym e) tt)) ∙ e);
+          all = λ e. r.tells.all (⊎_elim (λ done. inl (closing (subst IsClosing (sym done) tt) ∙ done)) (λ script. inr (closing (subst IsClosing (sym script) tt) ∙ script)) e);
+          replies = λ may.
+              let said = r.tells.replies (opened_says opens is cs may) in
+              record {
+                out = said.out;
+                printed = said.printed;
+                is_acked = said.is_acked;
+                front = said.front;
+                no_line = said.no_line;
+                done = λ e. said.done (closing (subst IsClosing (sym e) tt) ∙ e);
+                script = λ e. said.script (closing (subst IsClosing (sym e) tt) ∙ e);
+                source = λ e. said.source (closing (subst IsClosing (sym e) tt) ∙ e);
+              };
+          source = λ e. r.tells.source (closing (subst IsClosing (sym e) tt) ∙ e);
           leaves = record {
-            shut = ended_shut (settled_at m) cs r.acked last.session t ended (status_in came) r.leaves ends same dropped;
-            crash = λ quiet. safe_is_crash_safe t (marks_between m cs r.acked (min (r.acked + 1) (length cs))) safe;
+            shut = ended_shut (settled_at m) cs r.acked mid.session last.session t ended (status_in came) r.leaves ends same dropped;
+            honest = λ closes right.
+                ended_honest (settled_at m) cs r.acked mid.session last.session t ended (status_in came) r.leaves ends same dropped closes
+                (opened_right opens is (take (performed ended r.acked (length cs)) cs) right);
+            crash = λ quiet. safe_is_crash_safe t (marks_between m cs r.acked (min (r.acked + 1) (length cs)))
+                (ended_safe (settled_at m) cs r.acked mid.session last.session t ended (status_in came) r.leaves ends same dropped);
+            images = λ quiet honest. ended_images (settled_at m) cs r.acked mid.session last.session t ended (status_in came) r.leaves ends same dropped kept (opens.tells m is honest);
           };
         }

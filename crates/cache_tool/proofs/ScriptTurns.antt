@@ -8,21 +8,23 @@ use Rattle.cache_script.specs.Reader.{BreaksOff, Ends, Gives, IsBadScript, Leave
 use Rattle.cache_script.specs.declared.command.Command.{Command as Given}
 use Rattle.cache_script.specs.declared.reader.Reader.{Reader}
 use Rattle.cache_script.specs.declared.reader.ScriptFault.{ScriptFault}
-use Rattle.cache_store.specs.Open.{KeepsTo}
-use Rattle.cache_store.specs.Performing.{PerformsFor}
+use Rattle.cache_store.specs.Open.{KeepsTo, Tells}
+use Rattle.cache_store.specs.Performing.{ComesToTell, MayTell, PerformsFor}
 use Rattle.cache_store.specs.declared.fault.Outcome.{Outcome}
 use Rattle.cache_store.specs.declared.fault.StoreFault.{StoreFault}
 use Rattle.cache_store.proofs.Represented.{represents}
 use Rattle.cache_theory.specs.Command.{Command}
-use Rattle.cache_theory.specs.History.{History, acked}
+use Rattle.cache_theory.specs.History.{History, acked, unanswered}
 use Rattle.cache_theory.specs.Machine.{Machine}
 use Rattle.cache_theory.specs.Step.{after, step}
 use Rattle.cache_theory.specs.Text.{replies_text, reply_text}
-use Rattle.cache_tool.specs.ScriptProgress.{EndsScript, FailsAfter, HasPerformed, PerformsAll, PerformsNext, all_answered}
+use Rattle.cache_tool.specs.Right.{LeadTo, MaySay}
+use Rattle.cache_tool.specs.ScriptProgress.{ArePerformed, EndsScript, FailsAfter, HasPerformed, PerformsAll, PerformsNext, all_answered}
 use Rattle.cache_tool.specs.World.{Progress, Supply}
 use Rattle.cache_tool.specs.declared.script.Ended.{Ended}
 use Rattle.cache_tool.specs.declared.script.Ended.TheVariants as ended
 use Rattle.cache_tool.proofs.Moments.{with_source}
+use Rattle.cache_tool.proofs.RightLaws.{leads_none, leads_on, leads_one, may_say_first, may_tell_last}
 use Rattle.cache_tool.proofs.ScriptBytes.{more_length, nothing_read, read_bad, read_front, read_on, read_taken, read_whole}
 
 -- the machine after some commands and one more
@@ -48,21 +50,39 @@ replies_text_more m cs c = replies_text_joined m cs (c ∷ []) ∙ ap (λ l. rep
 module _ (before : Progress) where
   -- nothing was performed
   none_performed : PerformsAll [] before before
-  none_performed = record { each = λ h keeps. record { stands = keeps; out = Appends-nil before.taken } }
+  none_performed = record { each = λ h keeps. record { stands = leads_none before.session h keeps; out = λ may. Appends-nil before.taken } }
+
+  module _ (mid now : Progress) (cs : List Command) (c : Command) (performs : PerformsAll cs before mid) (h : History) (keeps : KeepsTo before.session h) where
+    so_far : ArePerformed cs h before mid
+    so_far = performs.each h keeps
+
+    -- one more leads on to a history
+    one_leads : (g : History) → KeepsTo now.session g → (ComesToTell c mid.session (after h.machine cs) → Tells now.session g.machine) → LeadTo (cs ++ c ∷ []) before.session h.machine now.session g
+    one_leads g kept tells =
+        leads_on cs (c ∷ []) before.session h.machine mid.session (all_answered cs h) now.session g so_far.stands (leads_one c mid.session (after h.machine cs) now.session g kept tells)
+
+    -- and may say what the machine does
+    one_says : MaySay (cs ++ c ∷ []) before.session h.machine → MayTell c mid.session (after h.machine cs)
+    one_says may = may_tell_last cs c before.session h.machine mid.session (all_answered cs h) so_far.stands may
+
+    -- after the replies so far this went out
+    one_out : (text : List ℕ) → MaySay (cs ++ c ∷ []) before.session h.machine → Appends mid.taken now.taken text → Appends before.taken now.taken (replies_text h.machine cs ++ text)
+    one_out text may out =
+        Appends-trans before.taken mid.taken now.taken (replies_text h.machine cs) text (so_far.out (may_say_first cs (c ∷ []) before.session h.machine may)) out
 
   -- one command more was performed
   one_performed : (mid now : Progress) (cs : List Command) (c : Command) (o : Outcome) → PerformsAll cs before mid
       → PerformsFor c (Ok o) mid.session now.session mid.taken now.taken → PerformsAll (cs ++ c ∷ []) before now
   one_performed mid now cs c o performs next = record {
     each = λ h keeps.
-        let so_far = performs.each h keeps in
-        let said = next.answers (after h.machine cs) (represents so_far.stands) in
-        let kept = next.crash (all_answered cs h) so_far.stands in
+        let stands = (performs.each h keeps).stands.keeps in
+        let said = next.answers (after h.machine cs) (represents stands) in
+        let kept = next.crash (all_answered cs h) stands in
         record {
-          stands = subst (λ x. KeepsTo now.session x) (sym (answered_more cs c h)) kept.next;
-          out =
-              subst (Appends before.taken now.taken) (sym (replies_text_more h.machine cs c))
-              (Appends-trans before.taken mid.taken now.taken (replies_text h.machine cs) (reply_text (step (after h.machine cs) c).reply) so_far.out said.printed);
+          stands = subst (λ x. LeadTo (cs ++ c ∷ []) before.session h.machine now.session x) (sym (answered_more cs c h))
+              (one_leads mid now cs c performs h keeps (acked c (all_answered cs h)) kept.next (said.tells tt));
+          out = λ may. subst (Appends before.taken now.taken) (sym (replies_text_more h.machine cs c))
+              (one_out mid now cs c performs h keeps (reply_text (step (after h.machine cs) c).reply) may (said.printed (one_says mid now cs c performs h keeps may)));
         };
   }
 
@@ -71,15 +91,15 @@ module _ (before : Progress) where
       → PerformsFor c (Err f) mid.session now.session mid.taken now.taken → FailsAfter cs c f before now
   one_failed mid now cs c f performs next = record {
     each = λ h keeps.
-        let so_far = performs.each h keeps in
-        let said = next.answers (after h.machine cs) (represents so_far.stands) in
-        let kept = next.crash (all_answered cs h) so_far.stands in
+        let stands = (performs.each h keeps).stands.keeps in
+        let said = next.answers (after h.machine cs) (represents stands) in
+        let kept = next.crash (all_answered cs h) stands in
         record {
           safe = kept.safe;
-          cut = said.cut.0;
-          short = said.cut.1.0;
-          out = Appends-trans before.taken mid.taken now.taken (replies_text h.machine cs) (take said.cut.0 (reply_text (step (after h.machine cs) c).reply)) so_far.out said.cut.1.1;
-          effect = kept.unanswered;
+          cut = λ may.
+              let tail = said.cut (one_says mid now cs c performs h keeps may) in
+              record { cut = tail.0; short = tail.1.0; out = one_out mid now cs c performs h keeps (take tail.0 (reply_text (step (after h.machine cs) c).reply)) may tail.1.1 };
+          effect = λ sink. one_leads mid now cs c performs h keeps (unanswered c (all_answered cs h)) (kept.unanswered sink) (said.tells sink);
         };
   }
 

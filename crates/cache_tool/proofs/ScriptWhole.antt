@@ -19,6 +19,7 @@ use Rattle.cache_tool.specs.Statuses.{status_in}
 use Rattle.cache_tool.specs.World.{Progress}
 use Rattle.cache_tool.specs.declared.script.Ended.TheVariants as ended
 use Rattle.cache_tool.proofs.Moments.{with_left, with_taken}
+use Rattle.cache_tool.proofs.RightLaws.{leads_none}
 use Rattle.cache_tool.proofs.ScriptMarks.{keeps_cut, keeps_front}
 use Rattle.cache_tool.proofs.ScriptReplies.{tells_cut, tells_front, tells_line}
 
@@ -85,7 +86,7 @@ module _ (bytes : List ℕ) (h : History) (start : Progress) where
   ran_front now cs ds more came e are all unnamed taken same = subst (λ l. ScriptIsRun h bytes l came before now) (sym e) (record {
     acked = length ds;
     tells = tells_front h.machine bytes before now ds more came are.out all unnamed taken;
-    leaves = keeps_front h ds more came now.session are.stands same;
+    leaves = keeps_front h ds more came before.session now.session are.stands same;
   })
 
   -- all were performed, and a part of the line that names a bad one went out
@@ -96,18 +97,18 @@ module _ (bytes : List ℕ) (h : History) (start : Progress) where
     acked = length ds;
     tells =
         tells_line h.machine bytes before (with_taken mid taken) ds n came
-        (Appends-trans before.taken mid.taken taken (replies_text h.machine ds) (take n (bad_line (length ds + 1))) are.out part) all undone unfailed unspelled;
+        (λ may. Appends-trans before.taken mid.taken taken (replies_text h.machine ds) (take n (bad_line (length ds + 1))) (are.out may) part) all undone unfailed unspelled;
     leaves =
-        subst (λ l. LeavesScript h l came (length ds) mid.session) (append-nil ds)
-        (keeps_front h ds [] came mid.session are.stands (ap (λ l. performed came (length ds) (length l)) (append-nil ds) ∙ same));
+        subst (λ l. LeavesScript h l came (length ds) before.session mid.session) (append-nil ds)
+        (keeps_front h ds [] came before.session mid.session are.stands (ap (λ l. performed came (length ds) (length l)) (append-nil ds) ∙ same));
   })
 
   -- one more was begun
   ran_cut : (now : Progress) (cs ds more : List Command) (c : Command) (f : StoreFault) → cs ≡ (ds ++ c ∷ []) ++ more → IsCutOff ds c f h before now → ScriptIsRun h bytes cs (status_in (Err f)) before now
   ran_cut now cs ds more c f e cut = let whole : cs ≡ ds ++ c ∷ more = e ∙ append_assoc ds (c ∷ []) more in subst (λ l. ScriptIsRun h bytes l (status_in (Err f)) before now) (sym whole) (record {
     acked = length ds;
-    tells = tells_cut h.machine bytes before now ds more c cut.cut (status_in (Err f)) cut.short cut.out (not_done f) (not_script f) (not_source f);
-    leaves = keeps_cut h ds more c f now.session cut.safe cut.effect;
+    tells = tells_cut h.machine bytes before now ds more c (status_in (Err f)) cut.cut (not_done f) (not_script f) (not_source f);
+    leaves = keeps_cut h ds more c f before.session now.session cut.safe cut.effect;
   })
 
 -- ---- by how they ended
@@ -121,7 +122,7 @@ ran_nothing (Err f) before is = subst (λ x. PerformsScript (Err x) before befor
     go None = record { each = tt }
     go (Some bytes) = record {
       each = λ h cs keeps found.
-          ran_front bytes h before (with_left before (Some bytes)) cs [] cs status.Memory refl (record { stands = keeps; out = Appends-nil before.taken }) (λ e. absurd (cc e)) (λ e. absurd (cc e)) (λ e. absurd (cc e)) refl;
+          ran_front bytes h before (with_left before (Some bytes)) cs [] cs status.Memory refl (record { stands = leads_none before.session h keeps; out = λ may. Appends-nil before.taken }) (λ e. absurd (cc e)) (λ e. absurd (cc e)) (λ e. absurd (cc e)) refl;
     }
 
 module _ (before : Progress) where

@@ -6,7 +6,7 @@ use Rattle.std.specs.Prelude.{codes}
 use Rattle.std.proofs.lemmas.Slice.Eq.{bytes_eq-Decides}
 use Rattle.cache_base.specs.Numbers.{number_in}
 use Rattle.cache_base.proofs.NumberLaws.{number_read, number_spelled}
-use Rattle.cache_theory.specs.Command.Command.{Doom, Flush, Get}
+use Rattle.cache_theory.specs.Command.Command.{Doom, Flush, Get, ListRecords, Rebuild}
 use Rattle.cache_tool.specs.Words.{AreOfOne, AreWords, Asked, WordsAreOfTable, alone, asked_by, of_key, verbs}
 
 -- one test of a chain
@@ -21,9 +21,15 @@ tested verb name x asked rest = go (pointwise nat_eq verb name) (bytes_eq-Decide
 alone_is : (now : ℕ) (verb : List ℕ) (asked : Asked) → alone now verb ≡ Some asked → AreOfOne (verb ∷ []) now asked verbs
 alone_is now verb asked e = elim (tested verb (codes "run") (Asked.Run now) asked _ e) [
   | inl run ↦ inl (ap (λ w. w ∷ []) run.0, run.1)
-  | inr more ↦ elim (tested verb (codes "flush") (Asked.One now Flush) asked None more) [
+  | inr more ↦ elim (tested verb (codes "flush") (Asked.One now Flush) asked _ more) [
     | inl flush ↦ inr (inr (inr (inr (inl (ap (λ w. w ∷ []) flush.0, flush.1)))))
-    | inr none ↦ absurd (cc)
+    | inr others ↦ elim (tested verb (codes "list") (Asked.One now ListRecords) asked _ others) [
+      | inl list ↦ inr (inr (inr (inr (inr (inl (ap (λ w. w ∷ []) list.0, list.1))))))
+      | inr last ↦ elim (tested verb (codes "rebuild") (Asked.One now Rebuild) asked None last) [
+        | inl rebuild ↦ inr (inr (inr (inr (inr (inr (inl (ap (λ w. w ∷ []) rebuild.0, rebuild.1)))))))
+        | inr none ↦ absurd (cc)
+      ]
+    ]
   ]
 ]
 
@@ -67,7 +73,11 @@ table_read now small rest asked (inr (inr (inr (inl doom)))) =
     ap (λ r. asked_by (decimal now ∷ r)) doom.1.0 ∙ ap (option_and_then (λ n. of_key n (codes "doom") doom.0)) (number_read now small) ∙ ap Some (sym doom.1.1)
 table_read now small rest asked (inr (inr (inr (inr (inl flush))))) =
     ap (λ r. asked_by (decimal now ∷ r)) flush.0 ∙ ap (option_and_then (λ n. alone n (codes "flush"))) (number_read now small) ∙ ap Some (sym flush.1)
-table_read now small rest asked (inr (inr (inr (inr (inr none))))) = absurd none
+table_read now small rest asked (inr (inr (inr (inr (inr (inl list)))))) =
+    ap (λ r. asked_by (decimal now ∷ r)) list.0 ∙ ap (option_and_then (λ n. alone n (codes "list"))) (number_read now small) ∙ ap Some (sym list.1)
+table_read now small rest asked (inr (inr (inr (inr (inr (inr (inl rebuild))))))) =
+    ap (λ r. asked_by (decimal now ∷ r)) rebuild.0 ∙ ap (option_and_then (λ n. alone n (codes "rebuild"))) (number_read now small) ∙ ap Some (sym rebuild.1)
+table_read now small rest asked (inr (inr (inr (inr (inr (inr (inr none))))))) = absurd none
 
 pub words_are_of_table : WordsAreOfTable
 words_are_of_table = λ words asked. (

@@ -6,6 +6,7 @@ pub mod Pieces
 pub mod Put
 pub mod PutProgress
 pub mod Replies
+pub mod Right
 pub mod Script
 pub mod ScriptProgress
 pub mod Statuses

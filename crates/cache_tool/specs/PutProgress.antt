@@ -6,6 +6,7 @@ use Rattle.cache_base.specs.declared.status.Status.{Status}
 use Rattle.cache_base.specs.declared.status.Status.TheVariants as status
 use Rattle.cache_store.specs.Answering.{outcome_of}
 use Rattle.cache_store.specs.Open.{KeepsTo}
+use Rattle.cache_store.specs.Performing.{goes_by_records}
 use Rattle.cache_store.specs.Session.{Session}
 use Rattle.cache_store.specs.declared.fault.Outcome.{Outcome}
 use Rattle.cache_store.specs.declared.fault.Outcome.TheVariants as outcome
@@ -20,23 +21,24 @@ use Rattle.cache_theory.specs.Step.{after, step}
 use Rattle.cache_theory.specs.Text.{reply_text}
 use Rattle.cache_tool.specs.Put.{ArePut, GivesPart, GivesWhole, appends}
 use Rattle.cache_tool.specs.Replies.{is_done, last_reply, until_refused}
+use Rattle.cache_tool.specs.Right.{LeadTo}
 use Rattle.cache_tool.specs.Statuses.{IsAnswer, IsClosing, status_in, status_of}
 use Rattle.cache_tool.specs.World.{Supply}
 
 -- One command, whose reply is held.
 
 -- for a history
-pub record IsSent (c : Command) (h : History) (answer : Result Outcome StoreFault) (now : Session)
-    (said : List ℕ) : Type 0 where
+pub record IsSent (c : Command) (h : History) (answer : Result Outcome StoreFault)
+    (before now : Session) (said : List ℕ) : Type 0 where
   pub safe : IsSafe now.disk (begun c h).marks
-  pub next : OnOk answer (KeepsTo now (acked c h))
+  pub next : OnOk answer (LeadTo (c ∷ []) before h.machine now (acked c h))
   pub outcome : IfOk answer (λ r. r ≡ outcome_of (step h.machine c).reply)
-  pub replied : OnOk answer (said ≡ reply_text (step h.machine c).reply)
+  pub replied : goes_by_records c ≡ false → OnOk answer (said ≡ reply_text (step h.machine c).reply)
 
 -- whatever history the disk kept to
 pub record SendsCommand (c : Command) (answer : Result Outcome StoreFault) (before now : Session)
     (said : List ℕ) : Type 0 where
-  pub each : (h : History) → KeepsTo before h → IsSent c h answer now said
+  pub each : (h : History) → KeepsTo before h → IsSent c h answer before now said
 
 -- Commands one after the other.
 
@@ -64,9 +66,10 @@ StopsWith m (c ∷ cs) said =
 
 -- they were performed up to the first that is refused, or as far as a fault let them
 pub record AreSent (cs : List Command) (h : History) (answer : Result Outcome StoreFault)
-    (now : Session) (said : List ℕ) : Type 0 where
+    (before now : Session) (said : List ℕ) : Type 0 where
   pub safe : IsSafe now.disk (all_unanswered (until_refused h.machine cs) h).marks
-  pub stands : OnOk answer (KeepsTo now (all_unanswered (until_refused h.machine cs) h))
+  pub stands : let sent = until_refused h.machine cs in
+      OnOk answer (LeadTo sent before h.machine now (all_unanswered sent h))
   pub done : answer ≡ Ok outcome.Ok → AreDone h.machine cs
   pub refused : answer ≡ Ok outcome.Refused → StopsWith h.machine cs said
 
@@ -88,8 +91,8 @@ piece_commands (x ∷ xs) = Append 0 (x ∷ xs) ∷ []
 
 -- for a history: a piece was appended to this body, or was refused
 pub record PieceIsSent (body piece : List ℕ) (h : History) (answer : Result Outcome StoreFault)
-    (now : Session) (said : List ℕ) : Type 0 where
-  pub sent : AreSent (piece_commands piece) h answer now said
+    (before now : Session) (said : List ℕ) : Type 0 where
+  pub sent : AreSent (piece_commands piece) h answer before now said
   pub writes : answer ≡ Ok outcome.Ok
       → IsWriting (after h.machine (piece_commands piece)) (body ++ piece)
 
@@ -97,12 +100,12 @@ pub record PieceIsSent (body piece : List ℕ) (h : History) (answer : Result Ou
 pub record AppendsPiece (piece : List ℕ) (room : ℕ) (answer : Result Outcome StoreFault)
     (before now : Session) (said : List ℕ) : Type 0 where
   pub each : (h : History) (body : List ℕ) → KeepsTo before h → IsWriting h.machine body
-      → room + length body ≡ BODY_MAX → PieceIsSent body piece h answer now said
+      → room + length body ≡ BODY_MAX → PieceIsSent body piece h answer before now said
 
 -- for a history: so far these commands were done, which append this body
-pub record BodyIsSent (body : List ℕ) (cs : List Command) (h : History) (now : Session)
-    : Type 0 where
-  pub stands : KeepsTo now (all_unanswered cs h)
+pub record BodyIsSent (body : List ℕ) (cs : List Command) (h : History)
+    (before now : Session) : Type 0 where
+  pub stands : LeadTo cs before h.machine now (all_unanswered cs h)
   pub done : AreDone h.machine cs
   pub writes : IsWriting (after h.machine cs) body
 
@@ -115,7 +118,7 @@ pub record AppendsSoFar (tells : Type 0) (room : ℕ) (left left_now : Option (L
   pub leads : (rest : List ℕ) → appends (body ++ rest) ≡ commands ++ appends rest
   pub room_is : room + length body ≡ BODY_MAX
   pub sent : tells → (h : History) → KeepsTo before h → IsWriting h.machine []
-      → BodyIsSent body commands h now
+      → BodyIsSent body commands h before now
 
 -- The whole body.
 
@@ -145,18 +148,18 @@ AgreesWith (Err f) answer = answer ≡ Err f
 
 -- for a history: the body was appended to an entry without one
 pub record BodyIsAppended (h : History) (from to : Supply) (came : Result Status StoreFault)
-    (now : Session) (said : List ℕ) : Type 0 where
+    (before now : Session) (said : List ℕ) : Type 0 where
   pub body : List ℕ
   pub body_of : BodyOf came from to body
   pub answer : Result Outcome StoreFault
-  pub sent : AreSent (appends body) h answer now said
+  pub sent : AreSent (appends body) h answer before now said
   pub same : AgreesWith came answer
 
 -- whatever history the disk kept to, where the source tells its bytes
 pub record AppendsBody (from to : Supply) (came : Result Status StoreFault) (before now : Session)
     (said : List ℕ) : Type 0 where
   pub each : IsSome from.left → (h : History) → KeepsTo before h → IsWriting h.machine []
-      → BodyIsAppended h from to came now said
+      → BodyIsAppended h from to came before now said
 
 -- The whole put.
 
@@ -168,15 +171,16 @@ pub record IsLastReply (m : Machine) (cs : List Command) (ended : Status) (said 
 
 -- for a history
 pub record PutIsPerformed (key : List ℕ) (h : History) (from to : Supply) (ended : Status)
-    (now : Session) (said : List ℕ) : Type 0 where
+    (before now : Session) (said : List ℕ) : Type 0 where
   pub commands : List Command
   pub are_put : ArePut h.machine key from to ended commands
   pub safe : IsSafe now.disk (all_unanswered commands h).marks
-  pub stands : IsClosing ended → KeepsTo now (all_unanswered commands h)
+  pub stands : IsClosing ended
+      → LeadTo commands before h.machine now (all_unanswered commands h)
   pub last : IsAnswer ended → IsLastReply h.machine commands ended said
 
 -- whatever history the disk kept to, where the source tells its bytes
 pub record PerformsPut (key : List ℕ) (from to : Supply) (came : Result Status StoreFault)
     (before now : Session) (said : List ℕ) : Type 0 where
   pub each : IsSome from.left → (h : History) → KeepsTo before h
-      → PutIsPerformed key h from to (status_in came) now said
+      → PutIsPerformed key h from to (status_in came) before now said

@@ -1,7 +1,7 @@
 -- The replies of the machine to some commands.
 use Rattle.std.specs.Prelude.{Bool, List, [], false, if◌then◌else◌, true, ◌∷◌}
 use Rattle.cache_theory.specs.Command.{Command, Reply}
-use Rattle.cache_theory.specs.Command.Reply.{Done, Refused, NoneThere, Value, Part, Found}
+use Rattle.cache_theory.specs.Command.Reply.{Done}
 use Rattle.cache_theory.specs.Machine.{Machine}
 use Rattle.cache_theory.specs.Step.{step}
 
@@ -13,11 +13,7 @@ last_reply m (c ∷ (d ∷ cs)) = last_reply (step m c).next (d ∷ cs)
 
 abbrev pub is_done : Reply → Bool
 is_done Done = true
-is_done (Refused r) = false
-is_done NoneThere = false
-is_done (Value value) = false
-is_done (Part bytes) = false
-is_done (Found v) = false
+is_done _ = false
 
 -- the commands up to the first whose reply is not `ok`, itself included
 abbrev pub until_refused : Machine → List Command → List Command

@@ -1,7 +1,7 @@
 -- How far a script was performed.
 use Rattle.std.specs.Io.KnownBytes.{Appends, Consumes, IsAtEnd}
 use Rattle.std.specs.List.{AllByRecursion}
-use Rattle.std.specs.Prelude.{Bool, Err, IfSome, IsTrue, List, None, Ok, Option, Result, Some, [], drop, length, min, take, ℕ, ◌+◌, ◌++◌, ◌<◌, ◌∷◌, ◌≡◌, ◌≤◌}
+use Rattle.std.specs.Prelude.{Bool, Err, IfSome, IsTrue, List, None, Ok, Option, Result, Some, [], drop, length, min, take, ℕ, ◌+◌, ◌++◌, ◌<◌, ◌∷◌, ◌≡◌, ◌≤◌, ◌⊎◌}
 use Rattle.cache_base.specs.declared.limits.TheConstants.{SCRIPT_MAX}
 use Rattle.cache_base.specs.declared.status.Status.{Status}
 use Rattle.cache_base.specs.declared.status.Status.TheVariants as status
@@ -16,11 +16,12 @@ use Rattle.cache_theory.specs.Crash.{IsSafe}
 use Rattle.cache_theory.specs.History.{History, begun, unanswered}
 use Rattle.cache_theory.specs.Machine.{Machine}
 use Rattle.cache_theory.specs.Marks.{Marks, all_acked, all_begun}
-use Rattle.cache_theory.specs.Session.{BeginsWith, IsAcked}
 use Rattle.cache_theory.specs.Step.{after, step}
 use Rattle.cache_theory.specs.Text.{CommandsIn, IsCommand, ScriptSpells, SpellsFront, replies_text, reply_text, script_bytes}
-use Rattle.cache_tool.specs.Script.{AreTaken, bad_line, performed}
+use Rattle.cache_tool.specs.Right.{LeadTo, MaySay}
+use Rattle.cache_tool.specs.Script.{AreTaken, performed}
 use Rattle.cache_tool.specs.Statuses.{IsClosing, status_in}
+use Rattle.cache_tool.specs.Verbs.{TellsReplies}
 use Rattle.cache_tool.specs.World.{Progress}
 use Rattle.cache_tool.specs.declared.script.Ended.{Ended}
 use Rattle.cache_tool.specs.declared.script.Ended.TheVariants as ended
@@ -41,23 +42,30 @@ all_answered cs h = record { machine = after h.machine cs; marks = all_acked h.m
 
 -- for a history: they were performed, and their replies are out
 pub record ArePerformed (cs : List Command) (h : History) (before now : Progress) : Type 0 where
-  pub stands : KeepsTo now.session (all_answered cs h)
-  pub out : Appends before.taken now.taken (replies_text h.machine cs)
+  pub stands : LeadTo cs before.session h.machine now.session (all_answered cs h)
+  pub out : MaySay cs before.session h.machine
+      → Appends before.taken now.taken (replies_text h.machine cs)
 
 -- whatever history the disk kept to
 pub record PerformsAll (cs : List Command) (before now : Progress) : Type 0 where
   pub each : (h : History) → KeepsTo before.session h → ArePerformed cs h before now
 
--- one command more was begun, and failed
+-- one command more was begun, and failed: a part of its reply went out
+pub record IsCutIn (cs : List Command) (c : Command) (m : Machine) (before now : Progress)
+    : Type 0 where
+  pub cut : ℕ
+  pub short : cut < length (reply_text (step (after m cs) c).reply)
+  pub out : Appends before.taken now.taken
+      (replies_text m cs ++ take cut (reply_text (step (after m cs) c).reply))
+
 pub record IsCutOff (cs : List Command) (c : Command) (f : StoreFault) (h : History)
     (before now : Progress) : Type 0 where
   pub safe : IsSafe now.session.disk (begun c (all_answered cs h)).marks
-  pub cut : ℕ
-  pub short : cut < length (reply_text (step (after h.machine cs) c).reply)
-  pub out : Appends before.taken now.taken
-      (replies_text h.machine cs ++ take cut (reply_text (step (after h.machine cs) c).reply))
-  pub effect : f ≡ fault.Sink → KeepsTo now.session (unanswered c (all_answered cs h))
+  pub cut : MaySay (cs ++ c ∷ []) before.session h.machine → IsCutIn cs c h.machine before now
+  pub effect : f ≡ fault.Sink → LeadTo (cs ++ c ∷ []) before.session h.machine
+      now.session (unanswered c (all_answered cs h))
 
+-- whatever history the disk kept to
 pub record FailsAfter (cs : List Command) (c : Command) (f : StoreFault) (before now : Progress)
     : Type 0 where
   pub each : (h : History) → KeepsTo before.session h → IsCutOff cs c f h before now
@@ -116,15 +124,10 @@ pub record PerformsNext (tells : Bool) (answer : Result (Option Ended) StoreFaul
 -- what went out, which acknowledges `a` commands
 pub record TellsAcked (m : Machine) (bytes : List ℕ) (cs : List Command) (ended : Status)
     (before now : Progress) (a : ℕ) : Type 0 where
-  pub out : List ℕ
-  pub printed : Appends before.taken now.taken out
-  pub is_acked : IsAcked m cs out a
-  pub front : BeginsWith (replies_text m cs ++ bad_line (length cs + 1)) out
-  pub no_line : ScriptSpells bytes cs → BeginsWith (replies_text m cs) out
-  pub done : ended ≡ status.Done → out ≡ replies_text m cs
-  pub script : ended ≡ status.Script → out ≡ replies_text m cs ++ bad_line (length cs + 1)
-  pub source : ended ≡ status.Source
-      → (out ≡ replies_text m (take a cs)) × AreTaken before.source.left now.source.left (take a cs)
+  pub all : (ended ≡ status.Done) ⊎ (ended ≡ status.Script) → a ≡ length cs
+  pub replies : MaySay cs before.session m
+      → TellsReplies m bytes cs ended a before.taken now.taken
+  pub source : ended ≡ status.Source → AreTaken before.source.left now.source.left (take a cs)
 
 -- the marks where the first `a` commands are acknowledged, and those up to `b` have begun
 abbrev pub marks_from : Machine → Marks → List Command → ℕ → ℕ → Marks
@@ -139,16 +142,17 @@ history_from h cs a b = record {
 }
 
 -- what the store and the disk came to, where `a` commands are acknowledged
-pub record LeavesScript (h : History) (cs : List Command) (ended : Status) (a : ℕ) (now : Session)
-    : Type 0 where
+pub record LeavesScript (h : History) (cs : List Command) (ended : Status) (a : ℕ)
+    (before now : Session) : Type 0 where
   pub safe : IsSafe now.disk (marks_from h.machine h.marks cs a (min (a + 1) (length cs)))
-  pub stands : IsClosing ended → KeepsTo now (history_from h cs a (performed ended a (length cs)))
+  pub stands : IsClosing ended → let p = performed ended a (length cs) in
+      LeadTo (take p cs) before h.machine now (history_from h cs a p)
 
 pub record ScriptIsRun (h : History) (bytes : List ℕ) (cs : List Command) (ended : Status)
     (before now : Progress) : Type 0 where
   pub acked : ℕ
   pub tells : TellsAcked h.machine bytes cs ended before now acked
-  pub leaves : LeavesScript h cs ended acked now.session
+  pub leaves : LeavesScript h cs ended acked before.session now.session
 
 pub record PerformsScript (came : Result Status StoreFault) (before now : Progress) : Type 0 where
   pub each : IfSome before.source.left (λ bytes. (h : History) (cs : List Command)

@@ -1,27 +1,27 @@
 -- What the verbs come to, for every machine at an opening on what stands.
 use Rattle.std.specs.Io.KnownBytes.{Appends, Keeps}
-use Rattle.std.specs.Prelude.{IfSome, IsSome, List, [], length, min, take, ℕ, ◌+◌, ◌++◌, ◌∷◌, ◌≡◌}
+use Rattle.std.specs.Prelude.{IfSome, IsSome, List, Option, [], length, min, take, ℕ, ◌+◌, ◌++◌, ◌∷◌, ◌≡◌, ◌⊎◌}
 use Rattle.cache_base.specs.declared.status.Status.{Status}
 use Rattle.cache_base.specs.declared.status.Status.TheVariants as status
 use Rattle.cache_store.specs.Answering.{outcome_of}
-use Rattle.cache_store.specs.Open.{IsShut}
+use Rattle.cache_store.specs.Open.{IsHonest, IsShut, StartsOn}
 use Rattle.cache_store.specs.Said.{IsCut}
 use Rattle.cache_store.specs.Saying.{IsPart}
 use Rattle.cache_theory.specs.Command.{Command}
 use Rattle.cache_theory.specs.Crash.{IsCrashSafe}
-use Rattle.cache_theory.specs.Machine.{Machine, opened}
+use Rattle.cache_theory.specs.Machine.{Machine}
 use Rattle.cache_theory.specs.Session.{BeginsWith, IsAcked, marks_between}
 use Rattle.cache_theory.specs.Step.{after}
-use Rattle.cache_theory.specs.Table.{Table}
 use Rattle.cache_theory.specs.Text.{CommandsIn, ScriptSpells, replies_text, reply_text}
 use Rattle.cache_tool.specs.Put.{ArePut}
 use Rattle.cache_tool.specs.Replies.{last_reply}
+use Rattle.cache_tool.specs.Right.{ComesRight, MaySayOn}
 use Rattle.cache_tool.specs.Script.{AreTaken, bad_line, performed}
 use Rattle.cache_tool.specs.Statuses.{IsAnswer, IsClosing, status_of}
 use Rattle.cache_tool.specs.World.{Output, World, output_of}
 use Rattle.disk_model.specs.Sound.{IsQuiet}
-use Rattle.disk_model.specs.State.{State}
-use Rattle.file_handles.specs.Carries.{IsShelf}
+use Rattle.disk_model.specs.State.{State, standing}
+use Rattle.index_theory.specs.Honest.{Honest, LeavesHonest}
 
 -- Commands are performed one after the other, from the first on.
 
@@ -47,43 +47,49 @@ pub record LeavesDisk (m : Machine) (cs : List Command) (r : Reach) (ended : Sta
     : Type 0 where
   -- where the store was closed nothing is pending, no doomed file stands, and the entries are those of the machine
   pub shut : IsClosing ended → IsShut t (after m r.done)
+  -- then the directory is honest where it was so, or all entries were read anew, and where the update has ended its
+  -- index is trusted
+  pub honest : IsClosing ended → ComesRight s r.done → IsHonest t (after m r.done)
   -- with nothing pending at the call, a crash leaves no image but those that the marks allow
   pub crash : IsQuiet s → IsCrashSafe t (marks_between m cs r.acked r.begun)
+  -- and each is honest, where the directory was
+  pub images : IsQuiet s → Honest (standing s) → LeavesHonest t
+
+-- the text of the last reply is printed, or it is cut
+pub record PrintsText (text : List ℕ) (ended : Status) (before now : Output) : Type 0 where
+  pub printed : IsAnswer ended → Appends before.taken now.taken text
+  pub part : IsPart before.taken now.taken text
+  pub cut : ended ≡ status.Sink → IsCut before.taken now.taken text
 
 -- These commands were performed for words other than `run`, and the last reply is what is printed. None is acknowledged,
 -- and all may have begun.
 pub record PrintsLast (m : Machine) (cs : List Command) (ended : Status) (before now : Output)
     : Type 0 where
-  -- with an answer the status and the text are those of the last reply
+  -- with an answer the status is that of the last reply
   pub answer : IsAnswer ended → ended ≡ status_of (outcome_of (last_reply m cs))
-  pub printed : IsAnswer ended → Appends before.taken now.taken (reply_text (last_reply m cs))
-  -- otherwise it is cut, or nothing is printed
-  pub part : IsPart before.taken now.taken (reply_text (last_reply m cs))
-  pub cut : ended ≡ status.Sink → IsCut before.taken now.taken (reply_text (last_reply m cs))
+  -- what is printed is its text, unless it goes by records that are not right
+  pub text : MaySayOn before.disk cs → PrintsText (reply_text (last_reply m cs)) ended before now
   pub silent : ended ≡ status.Source → Keeps before.taken now.taken
   pub leaves : LeavesDisk m cs (all_begun_none_acked cs) ended before.disk now.disk
 
--- `get`, `doom` and `flush`: the command is performed, and its reply is printed
+-- words other than `run` and `put`: the command is performed, and its reply is printed
 abbrev pub AnswersCommand : ℕ → Command → Status → Output → Output → Type 0
 AnswersCommand moment c ended before now =
-    (shelf : Table (List ℕ)) (rest : List (List ℕ)) → IsShelf before.disk shelf
-    → PrintsLast (opened moment shelf rest) (c ∷ []) ended before now
+    (m : Machine) → StartsOn moment before.disk m → PrintsLast m (c ∷ []) ended before now
 
 -- `put`, of a source that tells its bytes: the entry gets them as its body
 abbrev pub StoresEntry : ℕ → List ℕ → Status → World → World → Type 0
 StoresEntry moment key ended before now =
     IsSome before.source.left
-    → (shelf : Table (List ℕ)) (rest : List (List ℕ)) → IsShelf before.disk shelf
-    → (cs : List Command) × (ArePut (opened moment shelf rest) key before.source now.source ended cs
-    × PrintsLast (opened moment shelf rest) cs ended (output_of before) (output_of now))
+    → (m : Machine) → StartsOn moment before.disk m
+    → (cs : List Command) × (ArePut m key before.source now.source ended cs
+    × PrintsLast m cs ended (output_of before) (output_of now))
 
--- These are the commands of a script, and of their replies this is printed. What is printed tells how many are
--- acknowledged, and one more may have begun.
-pub record PrintsReplies (m : Machine) (bytes : List ℕ) (cs : List Command) (ended : Status)
-    (before now : World) : Type 0 where
+-- what went out are the replies to commands, which acknowledge `acked` of them
+pub record TellsReplies (m : Machine) (bytes : List ℕ) (cs : List Command) (ended : Status)
+    (acked : ℕ) (before now : Option (List ℕ)) : Type 0 where
   pub out : List ℕ
-  pub printed : Appends before.taken now.taken out
-  pub acked : ℕ
+  pub printed : Appends before now out
   pub is_acked : IsAcked m cs out acked
   -- in any case a prefix of the replies, and of the line that names a bad command where there is one
   pub front : BeginsWith (replies_text m cs ++ bad_line (length cs + 1)) out
@@ -92,14 +98,25 @@ pub record PrintsReplies (m : Machine) (bytes : List ℕ) (cs : List Command) (e
   pub done : ended ≡ status.Done → out ≡ replies_text m cs
   pub script : ended ≡ status.Script → out ≡ replies_text m cs ++ bad_line (length cs + 1)
   -- with a source that failed the replies to the commands that it gave whole
+  pub source : ended ≡ status.Source → out ≡ replies_text m (take acked cs)
+
+-- these are the commands of a script, of which some are acknowledged, and one more may have begun
+pub record PrintsReplies (m : Machine) (bytes : List ℕ) (cs : List Command) (ended : Status)
+    (before now : World) : Type 0 where
+  pub acked : ℕ
+  -- all of them are, where none failed
+  pub all : (ended ≡ status.Done) ⊎ (ended ≡ status.Script) → acked ≡ length cs
+  -- what is printed are their replies, and tells how many are acknowledged, unless a reply goes by records that are not
+  -- right
+  pub replies : MaySayOn before.disk cs
+      → TellsReplies m bytes cs ended acked before.taken now.taken
+  -- a source that failed gave these commands whole
   pub source : ended ≡ status.Source
-      → (out ≡ replies_text m (take acked cs))
-      × AreTaken before.source.left now.source.left (take acked cs)
+      → AreTaken before.source.left now.source.left (take acked cs)
   pub leaves : LeavesDisk m cs (one_begun_after acked ended cs) ended before.disk now.disk
 
 -- `run`, of a source that tells its bytes: the commands that these spell are performed
 abbrev pub RunsScript : ℕ → Status → World → World → Type 0
 RunsScript moment ended before now = IfSome before.source.left (λ bytes.
-    (shelf : Table (List ℕ)) (rest : List (List ℕ)) (cs : List Command)
-    → IsShelf before.disk shelf → CommandsIn bytes cs
-    → PrintsReplies (opened moment shelf rest) bytes cs ended before now)
+    (m : Machine) (cs : List Command) → StartsOn moment before.disk m → CommandsIn bytes cs
+    → PrintsReplies m bytes cs ended before now)

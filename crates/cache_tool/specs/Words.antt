@@ -7,7 +7,7 @@ use Rattle.std.specs.declared.option.Option.{Option}
 use Rattle.std.specs.declared.string.String.{String}
 use Rattle.cache_base.specs.Numbers.{number_in}
 use Rattle.cache_theory.specs.Command.{Command}
-use Rattle.cache_theory.specs.Command.Command.{Doom, Flush, Get}
+use Rattle.cache_theory.specs.Command.Command.{Doom, Flush, Get, ListRecords, Rebuild}
 
 -- what the words ask for, at a moment
 pub data Asked : Type 0 where
@@ -32,7 +32,9 @@ verbs =
     ∷ (Verb.WithKey (codes "get") (λ now key. Asked.One now (Get key))
     ∷ (Verb.WithKey (codes "doom") (λ now key. Asked.One now (Doom key))
     ∷ (Verb.Alone (codes "flush") (λ now. Asked.One now Flush)
-    ∷ []))))
+    ∷ (Verb.Alone (codes "list") (λ now. Asked.One now ListRecords)
+    ∷ (Verb.Alone (codes "rebuild") (λ now. Asked.One now Rebuild)
+    ∷ []))))))
 
 -- these words are the verb with what follows it, and ask for this
 abbrev pub AreOfVerb : List (List ℕ) → ℕ → Asked → Verb → Type 0
@@ -61,6 +63,8 @@ abbrev pub alone : ℕ → List ℕ → Option Asked
 alone now verb =
     if pointwise nat_eq verb (codes "run") then Some (Asked.Run now)
     else if pointwise nat_eq verb (codes "flush") then Some (Asked.One now Flush)
+    else if pointwise nat_eq verb (codes "list") then Some (Asked.One now ListRecords)
+    else if pointwise nat_eq verb (codes "rebuild") then Some (Asked.One now Rebuild)
     else None
 
 -- a verb with a key
@@ -71,7 +75,7 @@ of_key now verb key =
     else if pointwise nat_eq verb (codes "doom") then Some (Asked.One now (Doom key))
     else None
 
--- the words NOW `run`, NOW `put` KEY, NOW `get` KEY, NOW `doom` KEY and NOW `flush`
+-- the words NOW and a verb that stands alone, and NOW, a verb and a key
 abbrev pub asked_by : List (List ℕ) → Option Asked
 asked_by (now ∷ (verb ∷ [])) = option_and_then (λ n. alone n verb) (number_in now)
 asked_by (now ∷ (verb ∷ (key ∷ []))) = option_and_then (λ n. of_key n verb key) (number_in now)

@@ -22,6 +22,7 @@ ghost use Rattle.disk_model.specs.Account.{Accounts};
 ghost use Rattle.disk_model.specs.Calls.{StopsAtFault};
 ghost use Rattle.disk_model.specs.Sound.{IsQuiet};
 ghost use Rattle.entry_key.specs.Writing.{may_write};
+ghost use Rattle.index_theory.specs.Honest.{LeavesHonest};
 
 use crate::last_reply::LastReply;
 use crate::piece::{Ended, fill};
@@ -53,6 +54,7 @@ fn send<D: Disk>(
         Prints (command_of c.now) o (Some []) (Some (said_in said.new))) }
     ensures bad_key { HasBadKey (command_of c.now) → result ≢ Ok Outcome.Ok }
     ensures open { IsTrue D.tells → LeavesOpen result (session D.Disk store.new disk.new) }
+    ensures honest { IsTrue D.tells → LeavesHonest (D.state disk.new) }
     ensures no_sink { result ≢ Err StoreFault.Sink }
     ensures account { Accounts D.Disk (ending result) disk.old disk.new }
 {
@@ -78,6 +80,7 @@ fn append_piece<D: Disk>(
     ensures refused { result ≡ Ok Outcome.Refused →
         IsRefusalLine (said_in said.new) ⊎ (room < length piece.now) }
     ensures open { IsTrue D.tells → LeavesOpen result (session D.Disk store.new disk.new) }
+    ensures honest { IsTrue D.tells → LeavesHonest (D.state disk.new) }
     ensures no_sink { result ≢ Err StoreFault.Sink }
     ensures account { Accounts D.Disk (ending result) disk.old disk.new }
 {
@@ -124,6 +127,7 @@ fn append_all<D: Disk, S: Source>(
     ensures refused { result ≡ Ok Status.No →
         HoldsRefusal (said_in said.new) (S.left source.old) (S.left source.new) }
     ensures open { IsTrue D.tells → LeavesOpen result (session D.Disk store.new disk.new) }
+    ensures honest { IsTrue D.tells → LeavesHonest (D.state disk.new) }
     ensures no_sink { result ≢ Err StoreFault.Sink }
     ensures account { Accounts D.Disk (ending result) disk.old disk.new }
 {
@@ -167,6 +171,7 @@ fn perform_put<D: Disk, S: Source>(
     ensures refused { result ≡ Ok Status.No →
         HoldsRefusal (said_in said.new) (S.left source.old) (S.left source.new) }
     ensures open { IsTrue D.tells → LeavesOpen result (session D.Disk store.new disk.new) }
+    ensures honest { IsTrue D.tells → LeavesHonest (D.state disk.new) }
     ensures no_sink { result ≢ Err StoreFault.Sink }
     ensures account { Accounts D.Disk (ending result) disk.old disk.new }
 {

@@ -26,10 +26,12 @@ use std::alloc::Global;
 
 /// Does what the words say. These are the words after the directory: `NOW run` performs the script that the source has,
 /// `NOW put KEY` makes an entry of the key whose body the source has, `NOW get KEY` prints an entry, `NOW doom KEY`
-/// removes one, and `NOW flush` syncs what was written. Each opens the store at the moment NOW and closes it.
+/// removes one, `NOW flush` syncs what was written, `NOW list` prints the records of all entries, and `NOW rebuild` reads
+/// all entries anew and writes the index. Each opens the store at the moment NOW and closes it.
 ///
 /// The clauses on contents hold where the disk and the source tell theirs. Those on a crash hold where nothing was
-/// pending at the call, and speak of every exit, whatever the status.
+/// pending at the call, and speak of every exit, whatever the status. The replies to `list` and `has` go by the records in
+/// memory: where one of them is among the commands, what is printed is the machine's where the directory was honest.
 pub fn run<D: Disk, S: Source, K: Sink>(
     alloc: Global,
     words: &[String],

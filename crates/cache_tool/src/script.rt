@@ -15,6 +15,7 @@ ghost use Rattle.cache_tool.specs.Verbs.{RunsScript};
 ghost use Rattle.cache_tool.specs.World.{progress, world};
 ghost use Rattle.disk_model.specs.Calls.{StopsAtFault};
 ghost use Rattle.disk_model.specs.Sound.{IsQuiet};
+ghost use Rattle.index_theory.specs.Honest.{LeavesHonest};
 
 use crate::session::{end, status_of_fault};
 use cache_base::{Bytes, Moment, NoMemory, Status};
@@ -84,6 +85,7 @@ fn perform_script<D: Disk, S: Source, K: Sink>(
     ensures read { result ≡ Ok Status.Done → IsAtEnd (S.left source.new) }
     ensures bad { result ≡ Ok Status.Script → HasBadCommand (S.left source.old) }
     ensures open { IsTrue D.tells → LeavesOpen result (session D.Disk store.new disk.new) }
+    ensures honest { IsTrue D.tells → LeavesHonest (D.state disk.new) }
     ensures account { let at = tally S.Source K.Sink D.Disk in
         let before = at source.old sink.old disk.old in
         IsAccounted (script_failure result) before (at source.new sink.new disk.new) }
@@ -115,6 +117,7 @@ fn perform_commands<D: Disk, S: Source, K: Sink>(
         let before = at store.old source.old sink.old disk.old in
         PerformsCommands D.tells result before (at store.new source.new sink.new disk.new) }
     ensures open { IsTrue D.tells → LeavesOpen result (session D.Disk store.new disk.new) }
+    ensures honest { IsTrue D.tells → LeavesHonest (D.state disk.new) }
     ensures account { let at = tally S.Source K.Sink D.Disk in
         let before = at source.old sink.old disk.old in
         IsAccounted (failure result) before (at source.new sink.new disk.new) }
@@ -142,6 +145,7 @@ fn perform_next<D: Disk, S: Source, K: Sink>(
         PerformsNext D.tells result reader.old reader.new before now }
     ensures further { result ≡ Ok None → given_in reader.old < given_in reader.new }
     ensures open { IsTrue D.tells → LeavesOpen result (session D.Disk store.new disk.new) }
+    ensures honest { IsTrue D.tells → LeavesHonest (D.state disk.new) }
     ensures account { let at = tally S.Source K.Sink D.Disk in
         let before = at source.old sink.old disk.old in
         IsAccounted (turn_failure result) before (at source.new sink.new disk.new) }

@@ -30,6 +30,10 @@ const FOUND: &[u8] = b"found 1 1000 1000 1000 4294967295 0 0 5\n\nhello\n";
 
 const ABSENT: &[u8] = b"absent\n";
 
+// How many calls an opening makes where no index stands: it lists the doomed files, looks for the three files of the
+// index, syncs, and lists the entries.
+const OPENING: u32 = 6;
+
 fn bytes(alloc: Global, of: &[u8]) -> Result<Bytes, NoMemory> {
     let mut list = Bytes::new(alloc);
     list.extend(of)?;

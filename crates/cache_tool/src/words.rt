@@ -15,7 +15,7 @@ pub(crate) enum Asked<'a> {
     Run { now: Moment },
     /// `NOW put KEY`
     Put { now: Moment, key: &'a [u8] },
-    /// `NOW get KEY`, `NOW doom KEY`, `NOW flush`
+    /// `NOW get KEY`, `NOW doom KEY`, `NOW flush`, `NOW list`, `NOW rebuild`
     One { now: Moment, command: Command<'a> },
 }
 
@@ -29,6 +29,14 @@ fn alone(now: Moment, verb: &str) -> Option<Asked<'_>>
         "flush" => Some(Asked::One {
             now,
             command: Command::Flush,
+        }),
+        "list" => Some(Asked::One {
+            now,
+            command: Command::List,
+        }),
+        "rebuild" => Some(Asked::One {
+            now,
+            command: Command::Rebuild,
         }),
         _ => None,
     }

@@ -9,7 +9,7 @@ use Rattle.cache_base.specs.declared.name.Name.{Name}
 use Rattle.cache_base.proofs.CheckLaws.{all_hold}
 use Rattle.cache_theory.specs.Checks.{checks, with_value}
 use Rattle.cache_theory.specs.Command.{Command}
-use Rattle.cache_theory.specs.Command.Command.{At, Create, OpenKey, Append, Finish, SetElement, UnsetElement, ElementOf, ReadPart, Close, Doom, Get, Flush}
+use Rattle.cache_theory.specs.Command.Command.{At, Create, OpenKey, Append, Finish, SetElement, UnsetElement, ElementOf, ReadPart, Close, Doom, Get, Flush, HasEntry, ListRecords, StepUpdate, UpdateState, Rebuild}
 use Rattle.cache_theory.specs.Command.Reply.{Done, NoneThere}
 use Rattle.cache_theory.specs.Machine.{Machine, Object as MachineObject, is_slot, is_writer, number_of, object, object_of, on_shelf, used_by}
 use Rattle.cache_theory.specs.Marks.{rewritten}
@@ -190,3 +190,8 @@ learnt_scanned m (Close s) proper fine q = by_effect m proper q (Close s) fine (
 learnt_scanned m (Doom key) proper fine q = gone m proper q (Doom key) key fine refl
 learnt_scanned m (Get key) proper fine q = by_effect m proper q (Get key) fine refl
 learnt_scanned m Flush proper fine q = by_effect m proper q Flush fine refl
+learnt_scanned m (HasEntry key) proper fine q = by_effect m proper q (HasEntry key) fine refl
+learnt_scanned m ListRecords proper fine q = by_effect m proper q ListRecords fine refl
+learnt_scanned m (StepUpdate n) proper fine q = by_effect m proper q (StepUpdate n) fine refl
+learnt_scanned m UpdateState proper fine q = by_effect m proper q UpdateState fine refl
+learnt_scanned m Rebuild proper fine q = by_effect m proper q Rebuild fine refl

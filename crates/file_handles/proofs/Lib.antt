@@ -51,6 +51,7 @@ pub mod ReleasedSlot
 pub mod ClosedSlot
 pub mod EffectLaws
 pub mod LearntLaws
+pub mod LearntRest
 pub mod ClosedAll
 pub mod Parts
 pub mod PartsSlots

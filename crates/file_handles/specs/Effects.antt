@@ -1,5 +1,5 @@
 -- What an index must learn of a command.
-use Rattle.std.specs.Prelude.{IfSome, List, None, Option, Some, if◌then◌else◌, length, not, ℕ, ◌&&◌, ◌+◌, ◌≡◌}
+use Rattle.std.specs.Prelude.{IfSome, List, None, Option, Some, false, if◌then◌else◌, length, not, ℕ, ⊤, ◌&&◌, ◌+◌, ◌≡◌}
 use Rattle.cache_base.specs.Checks.{first_failing}
 use Rattle.cache_base.specs.declared.name.Name.{Name}
 use Rattle.cache_theory.specs.Checks.{checks}
@@ -8,16 +8,19 @@ use Rattle.cache_theory.specs.Command.Command.{Create, Doom}
 use Rattle.cache_theory.specs.Machine.{Machine, Object as MachineObject, object}
 use Rattle.cache_theory.specs.Marks.{rewritten}
 use Rattle.cache_theory.specs.Proper.{IsObject, IsProper}
-use Rattle.cache_theory.specs.Step.{step}
+use Rattle.cache_theory.specs.Refiled.{IsOfEntries}
+use Rattle.cache_theory.specs.Step.{step, without}
 use Rattle.cache_theory.specs.Table.{get}
 use Rattle.entry_file.specs.Version.{file_of}
 use Rattle.entry_metadata.specs.Meta.{meta_of}
 use Rattle.entry_metadata.specs.Metadata.{Meta, block_bytes}
 use Rattle.entry_name.specs.EntryName.{file_name}
 use Rattle.index_record.specs.Filling.{record_of_meta}
+use Rattle.index_record.specs.Record.{is_removed}
 use Rattle.index_record.specs.declared.record.IndexRecord.{IndexRecord}
 use Rattle.index_theory.specs.Scan.{record_of, scanned}
 use Rattle.record_list.specs.Lists.{same_name}
+use Rattle.record_list.specs.Stored.{IsClean}
 use Rattle.file_handles.specs.Held.{IsHeldAs}
 use Rattle.file_handles.specs.Kept.{Kept}
 use Rattle.file_handles.specs.Stands.{HandlesStand}
@@ -92,3 +95,22 @@ abbrev pub LearntIsScanned : Type 0
 LearntIsScanned = (m : Machine) (c : Command)
     → IsProper m → first_failing (checks m c) ≡ None → (name : Name)
     → scanned (get (step m c).next.shelf) name ≡ once (learnt m c) (scanned (get m.shelf)) name
+
+-- the record that is learnt, if there is one, says neither that its name is gone nor that it is
+-- dirty or fresh
+abbrev pub IsPlainEffect : Effect → Type 0
+IsPlainEffect effect.Same = ⊤
+IsPlainEffect (effect.Gone name) = ⊤
+IsPlainEffect (effect.Wrote r) = (is_removed r ≡ false) × IsClean r
+
+-- the rest of the update once this is learnt
+abbrev pub rest_once : Effect → List (List ℕ) → List (List ℕ)
+rest_once effect.Same rest = rest
+rest_once (effect.Gone gone) rest = without gone.0 rest
+rest_once (effect.Wrote r) rest = without r.name.0 rest
+
+-- a command on entries whose checks hold takes that name off the rest of the update
+abbrev pub LearntLeavesRest : Type 0
+LearntLeavesRest = (m : Machine) (c : Command)
+    → IsOfEntries c → IsProper m → first_failing (checks m c) ≡ None
+    → (step m c).next.rest ≡ rest_once (learnt m c) m.rest

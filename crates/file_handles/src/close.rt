@@ -10,7 +10,7 @@ ghost use Rattle.disk_model.specs.State.{standing};
 ghost use Rattle.disk_model.specs.Told.{Told};
 ghost use Rattle.file_handles.specs.Answers.{OnRefused, done_or, ending};
 ghost use Rattle.file_handles.specs.Closing.{dropped, is_some_draft, is_use_of, let_go_by};
-ghost use Rattle.file_handles.specs.Effects.{HasEffect};
+ghost use Rattle.file_handles.specs.Effects.{HasEffect, IsPlainEffect};
 ghost use Rattle.file_handles.specs.Held.{object_place};
 ghost use Rattle.index_theory.specs.Leaves.{LeavesIndex};
 
@@ -99,6 +99,7 @@ impl Handles {
         ensures there { OnOk result (IsTrue D.tells →
             MayGiveUp slot used.place (cache D.Disk self.new disk.new)) }
         ensures effect { IfOk result (HasEffect (kept self.old) (Close slot)) }
+        ensures plain { IfOk result IsPlainEffect }
         ensures refused { OnRefused result (λ _. ⊥) }
         ensures index { Told D.Disk LeavesIndex disk.old disk.new }
         ensures account { Accounts D.Disk (ending result) disk.old disk.new }
@@ -143,6 +144,7 @@ impl Handles {
         ensures carried { let at = cache D.Disk in IsTrue D.tells →
             CarriesOut (Close slot) (done_or result) (at self.old disk.old) (at self.new disk.new) }
         ensures effect { IfOk result (HasEffect (kept self.old) (Close slot)) }
+        ensures plain { IfOk result IsPlainEffect }
         ensures unchanged { OnRefused result (λ _. IsTrue D.tells → disk.new ≡ disk.old) }
         ensures index { Told D.Disk LeavesIndex disk.old disk.new }
         ensures account { Accounts D.Disk (ending result) disk.old disk.new }

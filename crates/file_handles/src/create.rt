@@ -12,7 +12,7 @@ ghost use Rattle.entry_name.specs.EntryName.{file_name};
 ghost use Rattle.file_handles.specs.Answers.{OnRefused, done_or, ending};
 ghost use Rattle.file_handles.specs.Creating.{MayHaveMade};
 ghost use Rattle.file_handles.specs.Dooming.{TakesFirstFree};
-ghost use Rattle.file_handles.specs.Effects.{HasEffect};
+ghost use Rattle.file_handles.specs.Effects.{HasEffect, IsPlainEffect};
 ghost use Rattle.file_handles.specs.Held.{IsHeldAs};
 ghost use Rattle.index_theory.specs.Leaves.{LeavesIndex};
 
@@ -93,6 +93,7 @@ impl Handles {
             CarriesOutAt now (Create slot key.now) (done_or result)
             (at self.old disk.old) (at self.new disk.new) }
         ensures effect { IfOk result (HasEffect (kept self.old) (Create slot key.now)) }
+        ensures plain { IfOk result IsPlainEffect }
         ensures bad_key { may_write_of key.now ≡ false → OnOk result ⊥ }
         ensures numbered { Told D.Disk TakesFirstFree disk.old disk.new }
         ensures unchanged { OnRefused result (λ _. disk.new ≡ disk.old) }

@@ -8,7 +8,7 @@ ghost use Rattle.disk_model.specs.Told.{Told};
 ghost use Rattle.entry_name.specs.EntryName.{file_name};
 ghost use Rattle.file_handles.specs.Answers.{OnRefused, done_or, ending};
 ghost use Rattle.file_handles.specs.Dooming.{TakesFirstFree, numbers_in};
-ghost use Rattle.file_handles.specs.Effects.{HasEffect};
+ghost use Rattle.file_handles.specs.Effects.{HasEffect, IsPlainEffect};
 ghost use Rattle.index_theory.specs.Leaves.{LeavesIndex};
 
 use crate::find::look;
@@ -149,6 +149,7 @@ impl Handles {
             CarriesOut (Doom key.now) (done_or result)
             (at self.old disk.old) (at self.new disk.new) }
         ensures effect { IfOk result (HasEffect (kept self.old) (Doom key.now)) }
+        ensures plain { IfOk result IsPlainEffect }
         ensures numbered { Told D.Disk TakesFirstFree disk.old disk.new }
         ensures unchanged { OnRefused result (λ _. Told D.Disk (λ s t. t ≡ s) disk.old disk.new) }
         ensures index { Told D.Disk LeavesIndex disk.old disk.new }

@@ -12,7 +12,7 @@ ghost use Rattle.entry_metadata.specs.Metadata.{block_length};
 ghost use Rattle.entry_parts.specs.Elements.{elements_bytes};
 ghost use Rattle.entry_parts.specs.Setting.{has_zero as has_zero_in, with_element};
 ghost use Rattle.file_handles.specs.Answers.{OnRefused, done_or, done_or_none, ending};
-ghost use Rattle.file_handles.specs.Effects.{HasEffect, IsLearntOf};
+ghost use Rattle.file_handles.specs.Effects.{HasEffect, IsLearntOf, IsPlainEffect};
 ghost use Rattle.file_handles.specs.Held.{body_len_in, elements_in, is_draft, key_in};
 ghost use Rattle.file_handles.specs.Setting.{HasRoom, are_small, changed_by, small_len, with_change};
 ghost use Rattle.index_theory.specs.Leaves.{LeavesIndex};
@@ -224,6 +224,7 @@ impl Handles {
             (λ x. is_draft x.entry ≡ true → D.state disk.new ≡ D.state disk.old) }
         ensures effect { IfOk result (IsLearntOf
             (with_version (with_change change.entry)) (object_kept_at (kept self.old) place)) }
+        ensures plain { IfOk result IsPlainEffect }
         ensures refused { OnRefused result (λ _. ⊥) }
         ensures account { Accounts D.Disk (ending result) disk.old disk.new }
     {
@@ -264,6 +265,7 @@ impl Handles {
             (at self.old disk.old) (at self.new disk.new) }
         ensures effect { IfOk result
             (HasEffect (kept self.old) (SetElement slot name.now value.now)) }
+        ensures plain { IfOk result IsPlainEffect }
         ensures unchanged { OnRefused result (λ _. disk.new ≡ disk.old) }
         ensures index { Told D.Disk LeavesIndex disk.old disk.new }
         ensures account { Accounts D.Disk (ending result) disk.old disk.new }
@@ -288,6 +290,7 @@ impl Handles {
             (at self.old disk.old) (at self.new disk.new) }
         ensures effect { IfOk result (λ some.
             IfSome some (HasEffect (kept self.old) (UnsetElement slot name.now))) }
+        ensures plain { IfOk result (λ some. IfSome some IsPlainEffect) }
         ensures unchanged { OnRefused result (λ _. disk.new ≡ disk.old) }
         ensures none_there { IfOk result (λ effect. IfNone effect (disk.new ≡ disk.old)) }
         ensures index { Told D.Disk LeavesIndex disk.old disk.new }

@@ -7,7 +7,7 @@ ghost use Rattle.disk_model.specs.Account.{Accounts};
 ghost use Rattle.disk_model.specs.Told.{Told};
 ghost use Rattle.entry_metadata.specs.Meta.{meta_of};
 ghost use Rattle.file_handles.specs.Answers.{OnRefused, done_or, ending};
-ghost use Rattle.file_handles.specs.Effects.{HasEffect, IsLearntOf, file_len as file_len_of, learnt_of_held};
+ghost use Rattle.file_handles.specs.Effects.{HasEffect, IsLearntOf, IsPlainEffect, file_len as file_len_of, learnt_of_held};
 ghost use Rattle.file_handles.specs.Held.{is_draft};
 ghost use Rattle.index_theory.specs.Leaves.{LeavesIndex};
 
@@ -29,7 +29,8 @@ fn file_len(meta: &Meta) -> u64
 
 /// What an index must learn of an entry that was written: the record of its file, if it is finished and not doomed.
 pub(crate) fn learnt_of(name: &Name, doomed: Option<u32>, entry: &Entry) -> Effect
-    ensures { result ≡ learnt_of_held name.now doomed entry.now }
+    ensures held { result ≡ learnt_of_held name.now doomed entry.now }
+    ensures plain { IsPlainEffect result }
 {
     match doomed {
         Some(_) => Effect::Same,
@@ -78,6 +79,7 @@ impl Handles {
             ChangesThere place completed result (at self.old disk.old) (at self.new disk.new) }
         ensures effect { IfOk result
             (IsLearntOf completed (object_kept_at (kept self.old) place)) }
+        ensures plain { IfOk result IsPlainEffect }
         ensures refused { OnRefused result (λ _. ⊥) }
         ensures account { Accounts D.Disk (ending result) disk.old disk.new }
     {
@@ -122,6 +124,7 @@ impl Handles {
             CarriesOut (Finish slot) (done_or result)
             (at self.old disk.old) (at self.new disk.new) }
         ensures effect { IfOk result (HasEffect (kept self.old) (Finish slot)) }
+        ensures plain { IfOk result IsPlainEffect }
         ensures unchanged { OnRefused result (λ _. disk.new ≡ disk.old) }
         ensures index { Told D.Disk LeavesIndex disk.old disk.new }
         ensures account { Accounts D.Disk (ending result) disk.old disk.new }

@@ -1,8 +1,13 @@
 //! What follows from the definitions.
 
-ghost use Rattle.file_handles.specs.Effects.{LearntIsScanned};
+ghost use Rattle.file_handles.specs.Effects.{LearntIsScanned, LearntLeavesRest};
 
 /// What an index must learn of a command is how the scan of the shelf changes.
 pub fn learnt_is_scanned()
     ensures { LearntIsScanned }
+{}
+
+/// A command on entries takes the name that an index learns of off the rest of the update, and no other.
+pub fn learnt_leaves_rest()
+    ensures { LearntLeavesRest }
 {}

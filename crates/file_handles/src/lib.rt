@@ -20,7 +20,7 @@ mod read;
 pub use cache_theory::Refusal;
 pub use fault::{Effect, HandleFault};
 pub use handles::Handles;
-pub use laws::learnt_is_scanned;
+pub use laws::{learnt_is_scanned, learnt_leaves_rest};
 
 #[cfg(test)]
 mod tests;

@@ -1,9 +1,9 @@
 -- What a sync takes off, key by key.
-use Rattle.std.proofs.Common.{rules, ◌≡◌, sym, ap, subst, ◌∙◌, [], ◌∷◌, ◌++◌, Option, Some, None}
+use Rattle.std.proofs.Common.{rules, ◌≡◌, sym, ap, subst, ◌∙◌, [], ◌∷◌, ◌++◌, Option, Some, None, OnOk, Result, Ok, Err}
 use Rattle.std.specs.Option.{IfSome, IsSome}
-use Rattle.std.specs.List.{slice_get}
-use Rattle.std.specs.BTreeSet.{BTreeSet}
-use Rattle.std.proofs.lemmas.List.{append_assoc}
+use Rattle.std.specs.List.{All, slice_get}
+use Rattle.std.specs.BTreeSet.{BTreeSet, btree_set_len}
+use Rattle.std.proofs.lemmas.List.{append-nil, append_assoc, nil_from_length}
 use Rattle.std.proofs.lemmas.List.Elements.{All-append, All-cons, All-nil}
 use Rattle.real_disk.specs.Taken.{TakesOff}
 
@@ -26,3 +26,8 @@ module _ {K : Type 0} (P : K → Type 0) where
   pub takes_first : (before mid now : BTreeSet K) (first : K) (r : Option K) → TakesOff P before mid → slice_get mid.keys 0 ≡ Some first → P first → IsSome r → IfSome r (λ k. mid.keys ≡ k ∷ now.keys) → TakesOff P before now
   takes_first before mid now first (Some popped) t at holds there removal = takes_one before mid now first popped t at holds removal
   takes_first before mid now first None t at holds there removal = absurd (search rules)
+
+  -- all keys, where none is left
+  pub takes_all : {T E : Type 0} (r : Result T E) (before now : BTreeSet K) → TakesOff P before now → OnOk r (btree_set_len now ≡ 0) → OnOk r (All P before.keys)
+  takes_all (Ok value) before now t none = subst (All P) (sym (t.first ∙ ap (λ keys. t.taken ++ keys) (nil_from_length now.keys none) ∙ append-nil t.taken)) t.each
+  takes_all (Err fault) before now t none = tt

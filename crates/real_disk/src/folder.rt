@@ -4,21 +4,23 @@ ghost use Rattle.std.specs.Prelude.{◌≡◌, ◌≤◌, ◌⊎◌, IfOk, OnOk,
 ghost use Rattle.std.specs.BTreeSet.{btree_set_len, IsUnchanged};
 ghost use Rattle.real_disk.specs.Areas.{area_in};
 ghost use Rattle.real_disk.specs.Files.{IsNoted, NotesNew, PutsBack, KeepsNote, KeepsOthers, KeepsAllBut, KeepsAll, MovesNote, Owes};
-ghost use Rattle.real_disk.specs.Folders.{NoneLost, NoneLeft, HasNote};
+ghost use Rattle.real_disk.specs.Folders.{NoneLost, NoneLeft, HasNote, AllNoted};
+ghost use Rattle.real_disk.specs.Earlier.{HasLooked};
+ghost use Rattle.real_disk.specs.declared.earlier.Earlier.TheVariants.{Unsynced, Synced};
 
 use crate::contents::{after_change, read_from, write_end, write_over};
+use crate::earlier::Earlier;
 use crate::kept::Kept;
-use crate::listing::read_names;
-use crate::paths::{Area, area_of, path_of, path_of_area};
+use crate::paths::{Area, area_of};
+use crate::standing::sync_at;
 use crate::syncing::sync_each;
 use crate::tree::{Tree, file_len, read_and_write, read_only};
-use cache_base::{Name, number};
+use cache_base::Name;
 use disk_model::Place;
-use entry_name::read_text;
 use std::alloc::{AllocError, Global};
 use std::cmp::Ordering;
 use std::collections::BTreeSet;
-use std::fs::{self, OpenFile};
+use std::fs::OpenFile;
 use std::io::{self, ErrorKind};
 use std::rt::Files;
 
@@ -29,6 +31,8 @@ pub(crate) struct Folder<'a, R: Files + AllocGlobal> {
     // The places whose files were made or written since the last sync.
     files: BTreeSet<Place, Global>,
     kept: Kept<R::File>,
+    // What waits for a sync without a note.
+    earlier: Earlier,
 }
 
 impl<'a, R: Files + AllocGlobal> Folder<'a, R> {
@@ -37,6 +41,7 @@ impl<'a, R: Files + AllocGlobal> Folder<'a, R> {
             tree: Tree::new(rt, dir),
             files: BTreeSet::new(rt.alloc()),
             kept: Kept::none(),
+            earlier: Earlier::Unknown,
         }
     }
 }
@@ -50,6 +55,7 @@ impl<R: Files + AllocGlobal> Folder<'_, R> {
     pub(crate) fn size(&mut self, place: &Place) -> io::Result<Option<u64>>
         ensures files { self.new.files ≡ self.old.files }
         ensures folders { self.new.tree ≡ self.old.tree }
+        ensures earlier { self.new.earlier ≡ self.old.earlier }
     {
         let path = self.tree.path(place)?;
         let len = match file_len(self.tree.rt, path.as_str()) {
@@ -66,6 +72,7 @@ impl<R: Files + AllocGlobal> Folder<'_, R> {
     fn keep_to_read(&mut self, place: &Place, path: &str)
         ensures files { self.new.files ≡ self.old.files }
         ensures folders { self.new.tree ≡ self.old.tree }
+        ensures earlier { self.new.earlier ≡ self.old.earlier }
     {
         if self.kept.file_of(place).is_some() {
             return;
@@ -80,6 +87,7 @@ impl<R: Files + AllocGlobal> Folder<'_, R> {
         ensures len { IfOk result (λ n. n ≤ length buf.old) }
         ensures files { self.new.files ≡ self.old.files }
         ensures folders { self.new.tree ≡ self.old.tree }
+        ensures earlier { self.new.earlier ≡ self.old.earlier }
     {
         let (mut file, writable) = match self.kept.take(place) {
             Some(opened) => (opened.file, opened.writable),
@@ -104,7 +112,9 @@ impl<R: Files + AllocGlobal> Folder<'_, R> {
         ensures owed { Owes place.now self.old.files self.new.files self.new.tree.folders }
         ensures others { KeepsOthers place.now self.old.files self.new.files }
         ensures folders { NoneLost self.old.tree.folders self.new.tree.folders }
+        ensures looked { HasLooked self.old.earlier self.new.earlier }
     {
+        self.look();
         let path = self.tree.path(place)?;
         let area = area_of(place);
         self.kept.forget(place);
@@ -130,6 +140,7 @@ impl<R: Files + AllocGlobal> Folder<'_, R> {
         ensures folder { OnOk result (HasNote self.new.tree.folders area) }
         ensures others { KeepsOthers place.now self.old.files self.new.files }
         ensures folders { NoneLost self.old.tree.folders self.new.tree.folders }
+        ensures earlier { self.new.earlier ≡ self.old.earlier }
     {
         self.files.insert(*place)?;
         self.tree.make_file(area, path)
@@ -141,7 +152,9 @@ impl<R: Files + AllocGlobal> Folder<'_, R> {
         ensures kept { KeepsNote place.now self.old.files self.new.files }
         ensures others { KeepsOthers place.now self.old.files self.new.files }
         ensures folders { self.new.tree ≡ self.old.tree }
+        ensures looked { HasLooked self.old.earlier self.new.earlier }
     {
+        self.look();
         let mut file = self.open_to_write(place)?;
         let outcome = write_end(&mut file, from, bytes);
         self.kept.keep(place, file, true);
@@ -154,7 +167,9 @@ impl<R: Files + AllocGlobal> Folder<'_, R> {
         ensures kept { KeepsNote place.now self.old.files self.new.files }
         ensures others { KeepsOthers place.now self.old.files self.new.files }
         ensures folders { self.new.tree ≡ self.old.tree }
+        ensures looked { HasLooked self.old.earlier self.new.earlier }
     {
+        self.look();
         let mut file = self.open_to_write(place)?;
         let outcome = write_over(&mut file, from, bytes);
         self.kept.keep(place, file, true);
@@ -167,6 +182,7 @@ impl<R: Files + AllocGlobal> Folder<'_, R> {
         ensures kept { KeepsNote place.now self.old.files self.new.files }
         ensures others { KeepsOthers place.now self.old.files self.new.files }
         ensures folders { self.new.tree ≡ self.old.tree }
+        ensures earlier { self.new.earlier ≡ self.old.earlier }
     {
         let file = match self.kept.take_to_write(place) {
             Some(file) => file,
@@ -187,7 +203,9 @@ impl<R: Files + AllocGlobal> Folder<'_, R> {
         ensures kept { OnErr result (KeepsAll self.old.files self.new.files) }
         ensures others { KeepsAllBut from.now to.now self.old.files self.new.files }
         ensures folders { NoneLost self.old.tree.folders self.new.tree.folders }
+        ensures looked { HasLooked self.old.earlier self.new.earlier }
     {
+        self.look();
         let old = self.tree.path(from)?;
         let new = self.tree.path(to)?;
         let has_changed = self.files.contains(from);
@@ -208,7 +226,9 @@ impl<R: Files + AllocGlobal> Folder<'_, R> {
         ensures kept { OnErr result (KeepsAll self.old.files self.new.files) }
         ensures others { KeepsOthers place.now self.old.files self.new.files }
         ensures folders { NoneLost self.old.tree.folders self.new.tree.folders }
+        ensures looked { HasLooked self.old.earlier self.new.earlier }
     {
+        self.look();
         let path = self.tree.path(place)?;
         self.kept.forget(place);
         self.tree.remove_file(area_of(place), path.as_str())?;
@@ -216,31 +236,59 @@ impl<R: Files + AllocGlobal> Folder<'_, R> {
         Ok(())
     }
 
+    // Looks what an earlier process has left, unless that was done. Each call that changes something begins so.
+    fn look(&mut self)
+        ensures looked { HasLooked self.old.earlier self.new.earlier }
+        ensures files { self.new.files ≡ self.old.files }
+        ensures folders { self.new.tree ≡ self.old.tree }
+    {
+        self.earlier = self
+            .earlier
+            .after_look(self.tree.rt, self.tree.dir.as_str());
+    }
+}
+
+impl<R: Files + AllocGlobal + Clone + Drop> Folder<'_, R> {
     /// The files before the names that lead to them.
     pub(crate) fn sync(&mut self) -> io::Result<()>
         ensures files { OnOk result (btree_set_len self.new.files ≡ 0) }
         ensures names { OnOk result (NoneLeft self.new.tree.folders) }
         ensures order { (btree_set_len self.new.files ≡ 0) ⊎ (self.new.tree ≡ self.old.tree) }
+        ensures earlier { OnOk result (self.new.earlier ≡ Synced) }
+        ensures owed { OnErr result (HasLooked self.old.earlier self.new.earlier) }
     {
+        self.look();
         let rt = self.tree.rt;
         let dir = self.tree.dir.as_str();
         let kept = &self.kept;
         sync_each(&mut self.files, |place| sync_file(rt, dir, kept, place))?;
-        self.tree.sync()
+        self.sync_earlier()?;
+        self.tree.sync()?;
+        self.earlier = Earlier::Synced;
+        Ok(())
     }
-}
 
-impl<R: Files + AllocGlobal + Clone + Drop> Folder<'_, R> {
+    // Syncs the files of an earlier process, and notes its folders.
+    fn sync_earlier(&mut self) -> io::Result<()>
+        ensures noted { OnOk result (self.old.earlier ≡ Unsynced → AllNoted self.new.tree.folders) }
+        ensures files { self.new.files ≡ self.old.files }
+        ensures folders { NoneLost self.old.tree.folders self.new.tree.folders }
+        ensures earlier { self.new.earlier ≡ self.old.earlier }
+    {
+        if let Earlier::Unsynced = self.earlier {
+            self.tree.sync_standing()?;
+            self.tree.sync_above()?;
+            self.tree.folders.note_all()?;
+        }
+        Ok(())
+    }
+
     pub(crate) fn entries(&self) -> io::Result<BTreeSet<Name, Global>> {
-        let rt = self.tree.rt;
-        let path = path_of_area(rt, self.tree.dir.as_str(), &Area::Entries)?;
-        read_names(rt, path.as_str(), |text| read_text(text))
+        self.tree.entries()
     }
 
     pub(crate) fn doomed(&self) -> io::Result<BTreeSet<u32, Global>> {
-        let rt = self.tree.rt;
-        let path = path_of_area(rt, self.tree.dir.as_str(), &Area::Doomed)?;
-        read_names(rt, path.as_str(), |text| number(text.as_bytes()))
+        self.tree.doomed()
     }
 }
 
@@ -293,6 +341,6 @@ fn sync_file<R: Files + AllocGlobal>(
 ) -> io::Result<()> {
     match kept.file_of(place) {
         Some(file) => file.sync_all(),
-        None => fs::open(rt, path_of(rt, dir, place)?.as_str())?.sync_all(),
+        None => sync_at(rt, dir, place),
     }
 }

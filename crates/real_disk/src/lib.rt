@@ -1,11 +1,12 @@
 //! The disk over a folder of the machine. Each place is a file there, and a sync makes last what has changed: the
-//! files first, and then the folders that name them.
+//! files first, and then the folders that name them. The first one covers what an earlier process may have left.
 //!
 //! Nothing is told of contents. What is proved is that each failure is counted, that what changes is noted until it
 //! is synced, and that lists of names rise.
 #![tactic(auto)]
 
 mod contents;
+mod earlier;
 mod folder;
 mod kept;
 mod listing;
@@ -13,6 +14,7 @@ mod making;
 mod notes;
 mod paths;
 mod real_disk;
+mod standing;
 mod syncing;
 #[cfg(test)]
 mod tests;

@@ -1,7 +1,7 @@
 //! The folders in which names have changed since the last sync.
 
 ghost use Rattle.std.specs.Prelude.{OnOk};
-ghost use Rattle.real_disk.specs.Folders.{NoneLost, NoneLeft, HasNote};
+ghost use Rattle.real_disk.specs.Folders.{NoneLost, NoneLeft, HasNote, AllNoted};
 
 use crate::paths::{Area, path_of_area};
 use crate::syncing::sync_each;
@@ -35,6 +35,16 @@ impl FolderNotes {
         Ok(())
     }
 
+    /// Notes each folder of the cache.
+    pub(crate) fn note_all(&mut self) -> Result<(), AllocError>
+        ensures noted { OnOk result (AllNoted self.new) }
+        ensures kept { NoneLost self.old self.new }
+    {
+        self.note(Area::Top)?;
+        self.note(Area::Entries)?;
+        self.note(Area::Doomed)
+    }
+
     pub(crate) fn note_above(&mut self, alloc: Global, folder: &str) -> Result<(), AllocError>
         ensures kept { NoneLost self.old self.new }
     {
@@ -54,8 +64,8 @@ impl FolderNotes {
     }
 }
 
-// A folder is noted before a name in it is made, which may fail. Where it is missing there is no name to sync.
-fn sync_folder<R: Files>(rt: &R, path: &str) -> io::Result<()> {
+/// A folder is noted before a name in it is made, which may fail. Where it is missing there is no name to sync.
+pub(crate) fn sync_folder<R: Files>(rt: &R, path: &str) -> io::Result<()> {
     match fs::open(rt, path) {
         Ok(folder) => folder.sync_all(),
         Err(error) if error.kind() == ErrorKind::NotFound => Ok(()),

@@ -18,6 +18,9 @@ use std::rt::Files;
 /// 0600. Files with other names are left alone, and so is what is no regular file, as a folder or a link: it is not
 /// listed, and at a place each call that asks for its size, reads or writes fails.
 ///
+/// A process that was killed may have left changes that wait in the system's memory. So the first sync also covers
+/// every file that stands and every folder, unless the index tells that the cache was closed.
+///
 /// Each call that fails raises the count of faults by one. Where the system has no memory the call answers so, and
 /// no fault is counted. Contracts are told nothing of what the folder holds, but that after a sync no change waits.
 #[derive(Drop)]

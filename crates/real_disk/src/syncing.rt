@@ -3,6 +3,7 @@
 ghost use Rattle.std.specs.Prelude.{◌≡◌, OnOk, Ok};
 ghost use Rattle.std.specs.BTreeSet.{btree_set_len};
 ghost use Rattle.std.specs.Fn.{FnReturnsAt};
+ghost use Rattle.std.specs.List.{All};
 ghost use Rattle.real_disk.specs.Taken.{TakesOff};
 
 use std::alloc::Global;
@@ -23,4 +24,15 @@ pub(crate) fn sync_each<K: Ord + Drop, S: Fn(&K) -> io::Result<()>>(
         pending.pop_first();
     }
     Ok(())
+}
+
+/// Syncs each that is listed, and lets the list go.
+pub(crate) fn sync_listed<K: Ord + Drop, S: Fn(&K) -> io::Result<()>>(
+    mut listed: BTreeSet<K, Global>,
+    sync: S,
+) -> io::Result<()>
+    requires { S.IsAlwaysCallable sync }
+    ensures each { OnOk result (All (λ key. FnReturnsAt S.Fn sync key (Ok tt)) listed.keys) }
+{
+    sync_each(&mut listed, sync)
 }

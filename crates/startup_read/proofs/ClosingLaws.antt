@@ -29,8 +29,9 @@ use Rattle.index_theory.proofs.UncleanLaws.{sync_keeps_unclean, unclean_leaves_h
 use Rattle.record_list.specs.Change.{IsDiff}
 use Rattle.record_list.specs.Lists.{HasNames, names_of}
 use Rattle.record_list.proofs.NameLaws.{rising_distinct}
-use Rattle.startup_read.specs.Closing.{ClosesIndex, ClosingMoment, IsAmidClearing, IsAmidClosing, IsAmidLogging, IsAmidRefresh, IsTrusted, LeavesTrusted, PrintsChanges, Refreshes, after_refresh, closing_at, is_due}
+use Rattle.startup_read.specs.Closing.{ClosesIndex, ClosingMoment, IsAmidClearing, IsAmidClosing, IsAmidLogging, IsTrusted, LeavesTrusted, PrintsChanges, closing_at}
 use Rattle.startup_read.specs.Closing.ClosingMoment.{Begun, Cleared, Closed, Filled, Synced, Unlogged}
+use Rattle.startup_read.specs.Refreshing.{IsAmidRefresh, Refreshes, after_refresh, is_due}
 use Rattle.index_theory.specs.Base.{BaseStands}
 use Rattle.startup_read.specs.Kept.{KeepsIndex, written_map}
 use Rattle.startup_read.specs.Spares.{SparesEntries}

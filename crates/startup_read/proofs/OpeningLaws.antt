@@ -78,13 +78,13 @@ sound_marked s sound = either IsSound (is_clean (index_kind (standing s Index)))
     sound_wrote Index (Patch 8 (be32 1)) s has.0 has.1.0 (omega (arith, long, four)) sound)
     (λ e. sound)
 
-aside_stands : (s : State) (p : Place) → (p ≡ Log → ⊥) → (p ≡ Tmp → ⊥) → standing (set_aside s) p ≡ standing s p
+pub aside_stands : (s : State) (p : Place) → (p ≡ Log → ⊥) → (p ≡ Tmp → ⊥) → standing (set_aside s) p ≡ standing s p
 aside_stands s p log tmp = either (λ t. standing t p ≡ standing s p) (is_some (standing s Log)) (renamed Log Tmp s) s (λ e. moved_stands s Log Tmp p log tmp) (λ e. refl)
 
 aside_log : (s : State) → standing (set_aside s) Log ≡ None
 aside_log s = either (λ t. standing t Log ≡ None) (is_some (standing s Log)) (renamed Log Tmp s) s (λ e. refl) (λ e. none_there (standing s Log) e)
 
-marked_stands : (s : State) (p : Place) → IsSound s → (p ≡ Index → ⊥) → standing (marked s) p ≡ standing s p
+pub marked_stands : (s : State) (p : Place) → IsSound s → (p ≡ Index → ⊥) → standing (marked s) p ≡ standing s p
 marked_stands s p sound apart = either (λ t. standing t p ≡ standing s p) (is_clean (index_kind (standing s Index))) (flagged (be32 1) s) s
     (λ e. wrote_stands s Index p (Patch 8 (be32 1)) apart sound) (λ e. refl)
 
@@ -187,7 +187,7 @@ spares_marked : (s t : State) → IsSound t → IsApart t → SparesEntries s t 
 spares_marked s t sound apart spares = either (SparesEntries s) (is_clean (index_kind (standing t Index))) (flagged (be32 1) t) t
     (λ e. spares_then s t (flagged (be32 1) t) spares (write_leaves_entries t Index (Patch 8 (be32 1)) tt sound apart)) (λ e. spares)
 
-spares_cleared : (s t : State) → SparesEntries s t → SparesEntries s (cleared t)
+pub spares_cleared : (s t : State) → SparesEntries s t → SparesEntries s (cleared t)
 spares_cleared s t spares = either (SparesEntries s) (is_some (standing t Tmp)) (removed Tmp t) t
     (λ e. spares_then s t (removed Tmp t) spares (remove_leaves_entries t Tmp tt)) (λ e. spares)
 

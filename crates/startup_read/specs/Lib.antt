@@ -4,4 +4,5 @@ pub mod Starts
 pub mod Spares
 pub mod Opening
 pub mod Writing
+pub mod Refreshing
 pub mod Closing

@@ -16,8 +16,8 @@ ghost use Rattle.startup_read.specs.Kept.{KeepsIndex};
 ghost use Rattle.startup_read.specs.Spares.{SparesEntries};
 
 use crate::FLAG_AT;
-use crate::index_write::write_index;
-use cache_base::{Bytes, CHANGED_MAX, Moment, NoMemory};
+use crate::index_refresh::refresh_index;
+use cache_base::{Bytes, Moment, NoMemory};
 use disk_model::{Disk, DiskFault, Place};
 use index_map::RecordMap;
 use std::alloc::Global;
@@ -31,34 +31,6 @@ fn print_changes(alloc: Global, map: &RecordMap) -> Result<Bytes, NoMemory>
 {
     let changes = map.diff()?;
     index_journal::print(alloc, &changes)
-}
-
-fn is_due(map: &RecordMap) -> bool
-    ensures { result ≡ spec.is_due map.now }
-{
-    !map.has_base() || map.changed() >= CHANGED_MAX as u64
-}
-
-// Writes the whole index where that is due: where there is no base, or too many records differ from it.
-fn refresh<D: Disk>(
-    alloc: Global,
-    disk: &mut D,
-    map: &mut RecordMap,
-    now: Moment,
-) -> Result<(), DiskFault>
-    ensures map { OnOk result (map.new ≡ spec.after_refresh map.old) }
-    ensures written { OnOk result (Told D.Disk (spec.Refreshes map.old now) disk.old disk.new) }
-    ensures amid { Told D.Disk (spec.IsAmidRefresh map.old now) disk.old disk.new }
-    ensures keeps { OnOk result (Told D.Disk (spec.KeepsOver map.old map.new) disk.old disk.new) }
-    ensures based { OnOk result (map.new.has_base ≡ true) }
-    ensures account { Accounts D.Disk (ending result) disk.old disk.new }
-    ensures no_entry { LooksAtNoEntry D.Disk disk.old disk.new }
-{
-    if is_due(map) {
-        write_index(alloc, disk, map, now)
-    } else {
-        Ok(())
-    }
 }
 
 // Writes the journal, and syncs it.
@@ -113,7 +85,7 @@ fn close_ended<D: Disk>(
     ensures account { Accounts D.Disk (ending result) disk.old disk.new }
     ensures no_entry { LooksAtNoEntry D.Disk disk.old disk.new }
 {
-    refresh(alloc, disk, map, now)?;
+    refresh_index(alloc, disk, map, now)?;
     let bytes = print_changes(alloc, map)?;
     log_and_clear(disk, bytes.as_slice())
 }

@@ -4,7 +4,7 @@ ghost use Rattle.std.specs.Prelude.{◌≡◌, IfOk, None, OnErr, OnOk, true};
 ghost use Rattle.disk_model.specs.State.{standing};
 ghost use Rattle.disk_model.specs.declared.place.Place.TheVariants.{Log};
 ghost use Rattle.index_file.specs.Printed.{IsPrinted};
-ghost use Rattle.index_map.specs.Known.{IsKnown};
+ghost use Rattle.index_map.specs.Known.{IsKnown, changed};
 ghost use Rattle.index_theory.specs.Apart.{IsApart};
 ghost use Rattle.disk_model.specs.Told.{Told};
 ghost use Rattle.index_theory.specs.Unclean.{IsUnclean};
@@ -52,6 +52,7 @@ pub fn write_index<D: Disk>(
 ) -> Result<(), DiskFault>
     // The map.
     ensures map { OnOk result (map.new ≡ written_map map.old) }
+    ensures unchanged { OnOk result (changed map.new.base map.new.records ≡ 0) }
     ensures map_stays { OnErr result (map.new ≡ map.old) }
 
     // The changes, in their order, and what they leave.

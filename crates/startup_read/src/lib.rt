@@ -5,6 +5,7 @@
 
 mod index_close;
 mod index_open;
+mod index_refresh;
 mod index_write;
 mod laws;
 mod records;
@@ -13,6 +14,7 @@ mod whole_file;
 
 pub use index_close::close_index;
 pub use index_open::{Opened, open_index};
+pub use index_refresh::refresh_index;
 pub use index_write::write_index;
 pub use laws::{changes_keep_index, opening_ends_trust, records_at_start, spared_entries_stand};
 pub use start_table::{IndexKind, LogKind, Start, decide};

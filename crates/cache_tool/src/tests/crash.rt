@@ -9,12 +9,35 @@ fn prints(alloc: Global, disk: &mut MemDisk, key: &str, text: &[u8]) -> Result<b
     Ok(printed.as_slice() == text)
 }
 
-// The image with the names after so many name steps and these contents of the keys' files.
+// The files of the index, as they read or as they were synced.
+fn add_index(
+    alloc: Global,
+    disk: &MemDisk,
+    synced: bool,
+    files: &mut Vec<(Place, Bytes)>,
+) -> Result<(), Fail> {
+    for place in [Place::Index, Place::Log, Place::Tmp] {
+        let content = if synced {
+            disk.synced_file(&place)
+        } else {
+            disk.file(&place)
+        };
+        if let Some(content) = content {
+            files.push((place, bytes(alloc, content)?))?;
+        }
+    }
+    Ok(())
+}
+
+// What stands under a key in an image.
+type Content<'a> = (&'a str, Option<&'a [u8]>);
+
+// The image with all names as they are, or as they were synced, with these contents of the keys' files.
 fn image_of(
     alloc: Global,
     disk: &MemDisk,
-    names: usize,
-    contents: &[(&str, Option<&[u8]>)],
+    synced: bool,
+    contents: &[Content<'_>],
 ) -> Result<Option<MemDisk>, Fail> {
     let mut files = Vec::new(alloc);
     for (key, content) in contents {
@@ -22,7 +45,33 @@ fn image_of(
             files.push((place_of(key), bytes(alloc, content)?))?;
         }
     }
+    add_index(alloc, disk, synced, &mut files)?;
+    let names = if synced { 0 } else { disk.name_steps() };
     Ok(disk.image(names, files).ok())
+}
+
+// A disk on which this file stands, or none, and which stopped as soon as a run over these bytes had printed this text.
+fn stopped_when(
+    alloc: Global,
+    file: Option<&[u8]>,
+    line: &str,
+    input: &[u8],
+    printed: &[u8],
+) -> Result<MemDisk, Fail> {
+    let mut found = None;
+    for stop in 0..100u64 {
+        let mut disk = match file {
+            Some(file) => disk_with(alloc, KEY, file)?,
+            None => MemDisk::new(alloc),
+        };
+        disk.stop_after(stop);
+        let (status, text) = ends(alloc, &mut disk, line, input)?;
+        if status == Status::Disk && text.as_slice() == printed {
+            found = Some(disk);
+            break;
+        }
+    }
+    Ok(found.ok_or("no stop prints this")?)
 }
 
 // A script that makes an entry with a body of these bytes, and flushes before it is finished.
@@ -46,15 +95,11 @@ fn a_body_that_imitates_an_entry_is_none(rt: HostRuntime) -> Result<(), Fail> {
     let mut body = bytes(alloc, file)?;
     body.push(b'x')?;
 
-    let mut disk = MemDisk::new(alloc);
-    disk.stop_after(4);
     let script = script_with(alloc, body.as_slice())?;
-    let (status, text) = ends(alloc, &mut disk, "1000 run", script.as_slice())?;
-    assert_eq!(rt; status, Status::Disk);
-    assert_eq!(rt; text.as_slice(), b"ok\nok\n".as_slice());
+    let disk = stopped_when(alloc, None, "1000 run", script.as_slice(), b"ok\nok\n")?;
     let now = disk.file(&place_of(KEY));
     assert_eq!(rt; now.map(|file| file.len()), Some(262_148));
-    let image = image_of(alloc, &disk, disk.name_steps(), &[(KEY, now)])?;
+    let image = image_of(alloc, &disk, false, &[(KEY, now)])?;
     let mut after = image.ok_or("no image")?;
     assert!(rt; prints(alloc, &mut after, KEY, b"absent\n")?);
     Ok(())
@@ -67,24 +112,20 @@ fn a_doomed_entry_may_stay_until_the_sync(rt: HostRuntime) -> Result<(), Fail> {
     let mut disk = disk_with(alloc, KEY, FILE)?;
     let (status, _) = ends(alloc, &mut disk, "1000 doom :https://example.com/", b"")?;
     assert_eq!(rt; status, Status::Done);
-    let calls = disk.calls();
-    assert!(rt; image_of(alloc, &disk, 0, &[])?.is_some());
-    assert!(rt; image_of(alloc, &disk, 0, &[(KEY, Some(FILE))])?.is_none());
+    assert!(rt; image_of(alloc, &disk, false, &[])?.is_some());
+    assert!(rt; image_of(alloc, &disk, false, &[(KEY, Some(FILE))])?.is_none());
 
-    let mut disk = disk_with(alloc, KEY, FILE)?;
-    disk.stop_after(calls.saturating_sub(1));
-    let (status, text) = ends(alloc, &mut disk, "1000 doom :https://example.com/", b"")?;
-    assert_eq!(rt; status, Status::Disk);
-    assert_eq!(rt; text.as_slice(), b"ok\n".as_slice());
-    assert_eq!(rt; disk.name_steps(), 1);
-    let before = image_of(alloc, &disk, 0, &[(KEY, Some(FILE))])?;
+    let doom = "1000 doom :https://example.com/";
+    let disk = stopped_when(alloc, Some(FILE), doom, b"", b"ok\n")?;
+    assert!(rt; disk.name_steps() > 0);
+    let before = image_of(alloc, &disk, true, &[(KEY, Some(FILE))])?;
     let mut before = before.ok_or("no image")?;
     assert!(rt; prints(alloc, &mut before, KEY, FOUND)?);
-    let mut after = image_of(alloc, &disk, 1, &[])?.ok_or("no image")?;
+    let mut after = image_of(alloc, &disk, false, &[])?.ok_or("no image")?;
     assert!(rt; prints(alloc, &mut after, KEY, b"absent\n")?);
     let mut changed = bytes(alloc, b"jello")?;
     changed.extend(FILE.get(5..).ok_or("short")?)?;
-    let changed = image_of(alloc, &disk, 0, &[(KEY, Some(changed.as_slice()))])?;
+    let changed = image_of(alloc, &disk, true, &[(KEY, Some(changed.as_slice()))])?;
     assert!(rt; changed.is_none());
     Ok(())
 }
@@ -102,11 +143,20 @@ const OLD: &[u8] = b"found 1 1000 1000 1000 4294967295 0 0 3\n\nold\n";
 
 const NEW: &[u8] = b"found 1 1001 1001 1001 4294967295 0 0 3\n\nnew\n";
 
+// Whether a `list` prints the same before and after all entries are read anew.
+fn lists_what_stands(alloc: Global, disk: &mut MemDisk) -> Result<bool, Fail> {
+    let (_, before) = ends(alloc, disk, "1002 list", b"")?;
+    ends(alloc, disk, "1002 rebuild", b"")?;
+    let (_, after) = ends(alloc, disk, "1002 list", b"")?;
+    Ok(before.as_slice() == after.as_slice())
+}
+
 // The second entry is written anew and flushed, and the machine stops after each number of calls. Whether in an image
 // the others are found as they were, and the second as it was, as it is now, or not at all: as it is now, where the flush
 // was acknowledged.
 fn is_allowed(alloc: Global, image: &mut MemDisk, flushed: bool) -> Result<bool, Fail> {
     let others = prints(alloc, image, ":a", OLD)? && prints(alloc, image, ":c", OLD)?;
+    let others = others && lists_what_stands(alloc, image)?;
     if flushed {
         return Ok(others && prints(alloc, image, ":b", NEW)?);
     }
@@ -136,7 +186,7 @@ fn each_stop_leaves_what_is_allowed(rt: HostRuntime) -> Result<(), Fail> {
             (":b", disk.file(&b)),
             (":c", disk.file(&c)),
         ];
-        let image = image_of(alloc, &disk, disk.name_steps(), &now)?;
+        let image = image_of(alloc, &disk, false, &now)?;
         let mut image = image.ok_or("the disk as it reads is no image")?;
         assert!(rt;
             is_allowed(alloc, &mut image, flushed)?,
@@ -147,7 +197,7 @@ fn each_stop_leaves_what_is_allowed(rt: HostRuntime) -> Result<(), Fail> {
             (":b", disk.synced_file(&b)),
             (":c", disk.synced_file(&c)),
         ];
-        let image = image_of(alloc, &disk, 0, &synced)?;
+        let image = image_of(alloc, &disk, true, &synced)?;
         let mut image = image.ok_or("what was synced is no image")?;
         assert!(rt;
             is_allowed(alloc, &mut image, flushed)?,

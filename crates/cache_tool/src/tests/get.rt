@@ -116,18 +116,20 @@ fn the_entry_of_a_browser_is_found_whole(rt: HostRuntime) -> Result<(), Fail> {
     Ok(())
 }
 
-// The opening lists the doomed files and syncs. Then the calls look for the size, the last four bytes and the block; the body
-// is read to be checked, and then to be printed. A short reply goes out as one.
+// After the opening the calls look for the size, the last four bytes and the block; the body is read to be checked, and
+// then to be printed. A short reply goes out as one.
 #[test]
 fn each_failing_look_ends_the_run(rt: HostRuntime) -> Result<(), Fail> {
     let alloc = rt.alloc();
-    for number in [1, 2, 3, 4, 5, 6, 7] {
+    for number in 1..OPENING + 6 {
         let disk = disk_with(alloc, KEY, FILE)?;
         assert!(rt;
             fails_at(alloc, disk, GET, b"", number)?,
             "at call {number}"
         );
     }
+    let disk = disk_with(alloc, KEY, FILE)?;
+    assert!(rt; !fails_at(alloc, disk, GET, b"", OPENING + 6)?);
     Ok(())
 }
 

@@ -40,3 +40,22 @@ fn unfit_files_stay_and_doomed_files_go(rt: HostRuntime) -> Result<(), Fail> {
     assert!(rt; disk.file(&Place::Doomed(4_294_967_295)).is_none());
     Ok(())
 }
+
+#[test]
+fn records_are_counted(rt: HostRuntime) -> Result<(), Fail> {
+    let alloc = rt.alloc();
+    let mut disk = MemDisk::new(alloc);
+    let rows = [
+        (
+            "1000 list",
+            b"".as_slice(),
+            Status::Done,
+            b"records 0\n".as_slice(),
+        ),
+        ("1000 rebuild", b"", Status::Done, b"rebuilt 0\n"),
+        (PUT, b"hello", Status::Done, b"ok\n"),
+        ("1000 rebuild", b"", Status::Done, b"rebuilt 1\n"),
+    ];
+    assert_eq!(rt; rows_so(alloc, &mut disk, &rows)?, 4);
+    Ok(())
+}

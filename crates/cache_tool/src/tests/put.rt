@@ -11,13 +11,15 @@ fn a_put_writes_the_entry_file(rt: HostRuntime) -> Result<(), Fail> {
     Ok(())
 }
 
-const MALFORMED: [&str; 14] = [
+const MALFORMED: [&str; 16] = [
     "",
     "1000",
     "1000 put",
     "1000 doom",
     "1000 run x",
     "1000 flush x",
+    "1000 list x",
+    "1000 rebuild x",
     "x flush",
     "007 run",
     "x put :x",
@@ -139,12 +141,17 @@ fn a_failing_sink_leaves_the_entry(rt: HostRuntime) -> Result<(), Fail> {
     Ok(())
 }
 
-// The opening lists the doomed files and syncs, the entry is created and written, and the closing syncs. The reply goes out
-// after that.
+// Each call of the disk ends the run: those of the opening, those that make and write the entry, and those of the closing.
+// The reply goes out after that.
 #[test]
 fn each_failing_disk_call_ends_the_run(rt: HostRuntime) -> Result<(), Fail> {
     let alloc = rt.alloc();
-    for number in [1, 2, 3, 4, 5] {
+    let mut disk = MemDisk::new(alloc);
+    ends(alloc, &mut disk, PUT, b"hello")?;
+    for number in 1..100u32 {
+        if u64::from(number) > disk.calls() {
+            break;
+        }
         let disk = MemDisk::new(alloc);
         assert!(rt;
             fails_at(alloc, disk, PUT, b"hello", number)?,
@@ -168,7 +175,11 @@ fn left_at(alloc: Global, body: &[u8], number: u32) -> Result<(Status, Bytes), F
 fn a_stop_leaves_an_unfinished_file(rt: HostRuntime) -> Result<(), Fail> {
     let alloc = rt.alloc();
     let body = vec![in alloc; 7u8; 524_289]?;
-    for (number, size) in [(3, 0), (4, 262_148), (5, 524_292)] {
+    for (number, size) in [
+        (OPENING + 1, 0),
+        (OPENING + 2, 262_148),
+        (OPENING + 3, 524_292),
+    ] {
         let (status, left) = left_at(alloc, &body, number)?;
         let file = left.as_slice();
         assert_eq!(rt; status, Status::Disk, "at call {number}");

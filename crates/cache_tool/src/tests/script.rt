@@ -40,11 +40,27 @@ const REFUSALS: (&[u8], &[u8]) = (
     bad element\nok\nfinished\nfinished\n",
 );
 
+// What is there, by the records: an unfinished entry is not, nor a doomed one.
+const THERE: (&[u8], &[u8]) = (
+    b"has :x\ncreate 0 :x\nhas :x\nclose 0\nhas :x\nhas x\ndoom :x\nhas :x\n",
+    b"no\nok\nno\nok\nyes\nbad key\nok\nno\n",
+);
+
+const THREE_RECORDS: (&[u8], &[u8]) = (
+    b"create 0 :a\nclose 0\ncreate 0 :b\nclose 0\ncreate 0 :c\nclose 0\nrebuild\n",
+    b"ok\nok\nok\nok\nok\nok\nrebuilt 3\n",
+);
+
 #[test]
 fn scripts_are_answered(rt: HostRuntime) -> Result<(), Fail> {
     let alloc = rt.alloc();
     for (script, text) in [
         (b"".as_slice(), b"".as_slice()),
+        (b"list\n", b"records 0\n"),
+        (b"rebuild\n", b"rebuilt 0\n"),
+        (b"state\nstep 1\n", b"ready\nready\n"),
+        THERE,
+        THREE_RECORDS,
         A_READER_OUTLIVES_ITS_ENTRY,
         ELEMENTS,
         MOMENTS,
@@ -112,6 +128,12 @@ fn malformed_lines_are_named(rt: HostRuntime) -> Result<(), Fail> {
         b"close 0 \n",
         b"doom\n",
         b"get\n",
+        b"has\n",
+        b"list \n",
+        b"step\n",
+        b"step -1\n",
+        b"state \n",
+        b"rebuild \n",
     ] {
         let mut disk = MemDisk::new(alloc);
         let so = runs(alloc, &mut disk, script, Status::Script, b"script 1\n")?;

@@ -73,3 +73,14 @@ fn an_index_without_records_has_20_bytes(rt: HostRuntime) -> Result<(), Fail> {
     assert!(rt; is_absent(&disk, &Place::Tmp));
     Ok(())
 }
+
+#[test]
+fn an_index_is_written_only_where_that_is_due(rt: HostRuntime) -> Result<(), Fail> {
+    let mut disk = MemDisk::new(rt.alloc());
+    let mut map = RecordMap::new(rt.alloc());
+    map.set(record(EXAMPLE, 1000))?;
+    refresh_index(rt.alloc(), &mut disk, &mut map, 1000)?;
+    refresh_index(rt.alloc(), &mut disk, &mut map, 1001)?;
+    assert_eq!(rt; disk.file(&Place::Index).ok_or("no index")?, ONE_RECORD);
+    Ok(())
+}

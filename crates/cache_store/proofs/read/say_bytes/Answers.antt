@@ -3,7 +3,7 @@ use Rattle.std.specs.Prelude.{codes}
 use Rattle.cache_theory.specs.Machine.{object_of}
 use Rattle.cache_store.specs.Said.{saying}
 use Rattle.cache_store.specs.Saying.{CutsIn, SaysMore}
-use Rattle.cache_store.specs.Texts.{counted_line}
+use Rattle.cache_theory.specs.Text.{with_number}
 use Rattle.cache_store.proofs.SaidMore.{when_err}
 use Rattle.cache_store.proofs.SayingLaws.{cuts_first, cuts_front, cuts_then, says_then, stops_cut}
 use Rattle.cache_store.proofs.read.say_bytes.Goals as goal
@@ -17,8 +17,8 @@ returns-in_err-put-clause-cut g c =
     let out = g.K.Sink.taken c.put.new.sink in
     when_err c.from_residual-in_err-put.result _ (λ told m represents fits.
     let bytes : List ℕ = take c.args.len (drop c.args.from (object_of m c.args.slot).version.body) in
-    let line = counted_line (codes "data") (length bytes) in
-    cuts_front s0 out line (bytes ++ 10 ∷ []) (subst (λ (t : List ℕ). CutsIn s0 out t) (c.as_slice.ensures ∙ c.in_ok-head.ensures ∙ ap (λ n. counted_line (codes "data") n) fits) c.in_err-put.ensures.cut))
+    let line = with_number (codes "data") (length bytes) in
+    cuts_front s0 out line (bytes ++ 10 ∷ []) (subst (λ (t : List ℕ). CutsIn s0 out t) (c.as_slice.ensures ∙ c.in_ok-head.ensures ∙ ap (λ n. with_number (codes "data") n) fits) c.in_err-put.ensures.cut))
 
 pub returns-in_err-say_parts-clause-cut : goal.returns-in_err-say_parts-clause-cut
 returns-in_err-say_parts-clause-cut g c =
@@ -27,8 +27,8 @@ returns-in_err-say_parts-clause-cut g c =
     let out = g.K.Sink.taken c.say_parts.new.sink in
     when_err c.from_residual-in_err-say_parts.result _ (λ told m represents fits.
     let bytes : List ℕ = take c.args.len (drop c.args.from (object_of m c.args.slot).version.body) in
-    let line = counted_line (codes "data") (length bytes) in
-    cuts_then s0 s1 out line (bytes ++ 10 ∷ []) (subst (λ (t : List ℕ). SaysMore s0 s1 t) (c.as_slice.ensures ∙ c.in_ok-head.ensures ∙ ap (λ n. counted_line (codes "data") n) fits) c.in_ok-put.ensures.said)
+    let line = with_number (codes "data") (length bytes) in
+    cuts_then s0 s1 out line (bytes ++ 10 ∷ []) (subst (λ (t : List ℕ). SaysMore s0 s1 t) (c.as_slice.ensures ∙ c.in_ok-head.ensures ∙ ap (λ n. with_number (codes "data") n) fits) c.in_ok-put.ensures.said)
     (stops_cut s1 out bytes (10 ∷ []) (omega arith) (c.in_err-say_parts.ensures.stops told m represents)))
 
 pub returns-in_err-put-2-clause-cut : goal.returns-in_err-put-2-clause-cut
@@ -39,8 +39,8 @@ returns-in_err-put-2-clause-cut g c =
     let out = g.K.Sink.taken c.put-2.new.sink in
     when_err c.from_residual-in_err-put-2.result _ (λ told m represents fits.
     let bytes : List ℕ = take c.args.len (drop c.args.from (object_of m c.args.slot).version.body) in
-    let line = counted_line (codes "data") (length bytes) in
-    cuts_then s0 s1 out line (bytes ++ 10 ∷ []) (subst (λ (t : List ℕ). SaysMore s0 s1 t) (c.as_slice.ensures ∙ c.in_ok-head.ensures ∙ ap (λ n. counted_line (codes "data") n) fits) c.in_ok-put.ensures.said)
+    let line = with_number (codes "data") (length bytes) in
+    cuts_then s0 s1 out line (bytes ++ 10 ∷ []) (subst (λ (t : List ℕ). SaysMore s0 s1 t) (c.as_slice.ensures ∙ c.in_ok-head.ensures ∙ ap (λ n. with_number (codes "data") n) fits) c.in_ok-put.ensures.said)
     (cuts_then s1 s2 out bytes (10 ∷ []) (c.in_ok-say_parts.ensures.says told m represents) c.in_err-put-2.ensures.cut))
 
 pub returns-clause-says : goal.returns-clause-says
@@ -50,6 +50,6 @@ returns-clause-says g c told m represents fits =
     let s2 = saying g.K.Sink c.say_parts.new.reply c.say_parts.new.sink in
     let s3 = saying g.K.Sink c.put-2.new.self c.put-2.new.sink in
     let bytes : List ℕ = take c.args.len (drop c.args.from (object_of m c.args.slot).version.body) in
-    let line = counted_line (codes "data") (length bytes) in
-    says_then s0 s1 s3 line (bytes ++ 10 ∷ []) (subst (λ (t : List ℕ). SaysMore s0 s1 t) (c.as_slice.ensures ∙ c.in_ok-head.ensures ∙ ap (λ n. counted_line (codes "data") n) fits) c.in_ok-put.ensures.said)
+    let line = with_number (codes "data") (length bytes) in
+    says_then s0 s1 s3 line (bytes ++ 10 ∷ []) (subst (λ (t : List ℕ). SaysMore s0 s1 t) (c.as_slice.ensures ∙ c.in_ok-head.ensures ∙ ap (λ n. with_number (codes "data") n) fits) c.in_ok-put.ensures.said)
     (says_then s1 s2 s3 bytes (10 ∷ []) (c.in_ok-say_parts.ensures.says told m represents) c.in_ok-put-2.ensures.said)

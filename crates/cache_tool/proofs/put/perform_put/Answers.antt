@@ -10,7 +10,8 @@ use Rattle.cache_theory.specs.Command.Command.{Create}
 use Rattle.cache_theory.specs.History.{unanswered}
 use Rattle.cache_tool.specs.HeldReply.{said_in}
 use Rattle.cache_tool.specs.World.{supply}
-use Rattle.cache_tool.proofs.PutReplies.{handed_on, handed_open}
+use Rattle.cache_tool.proofs.Handed.{handed_on, handed_open}
+use Rattle.cache_tool.proofs.RightLaws.{open_leaves_honest}
 use Rattle.cache_tool.proofs.PutWhole.{appended_failed, appended_other, close_failed, close_went, create_failed, create_refused, created, nothing_went, other_outcome}
 use Rattle.cache_tool.proofs.put.perform_put.Goals as goal
 
@@ -28,23 +29,23 @@ pub returns-in_err-send-clause-performs : goal.returns-in_err-send-clause-perfor
 returns-in_err-send-clause-performs g c = λ told. record {
   each = λ some h stands.
       let failed = handed_on c.from_residual-in_err-send.result c.in_err-send.field-0.0 c.from_residual-in_err-send.ensures.1 in
-      rw failed (create_failed h c.args.key.now _ _ _ _ refl some c.in_err-send.field-0.0 (λ e. c.in_err-send.ensures.no_sink (ap (λ f. Err f) e)) ((c.in_err-send.ensures.sends told).each h stands));
+      rw failed (create_failed h c.args.key.now _ _ _ _ _ refl some c.in_err-send.field-0.0 (λ e. c.in_err-send.ensures.no_sink (ap (λ f. Err f) e)) ((c.in_err-send.ensures.sends told).each h stands));
 }
 
 pub returns-in-Refused-clause-performs : goal.returns-in-Refused-clause-performs
 returns-in-Refused-clause-performs g c = λ told. record {
-  each = λ some h stands. create_refused h c.args.key.now _ _ _ _ refl some (((rw c.in-Refused.is at c.in_ok-send.ensures.sends) told).each h stands);
+  each = λ some h stands. create_refused h c.args.key.now _ _ _ _ _ refl some (((rw c.in-Refused.is at c.in_ok-send.ensures.sends) told).each h stands);
 }
 
 pub returns-in_err-appended-clause-performs : goal.returns-in_err-appended-clause-performs
 returns-in_err-appended-clause-performs g c = λ told. record {
   each = λ some h stands.
-      let made = created h c.args.key.now (session g.D.Disk c.send.new.store c.send.new.disk) (said_in c.send.new.said)
+      let made = created h c.args.key.now (session g.D.Disk c.args.store.now c.args.disk.now) (session g.D.Disk c.send.new.store c.send.new.disk) (said_in c.send.new.said)
       (((rw (other_outcome c.in_ok-send.field-0 c.in_default.not-Refused) at c.in_ok-send.ensures.sends) told).each h stands) in
       let handed = handed_on c.from_residual-in_err-appended.result c.in_err-appended.field-0.0 c.from_residual-in_err-appended.ensures.1 in
-      rw handed (appended_failed h c.args.key.now (supply g.S.Source c.args.source.now) (supply g.S.Source c.append_all.new.source) (session g.D.Disk c.send.new.store c.send.new.disk) made c.in_err-appended.field-0.0
+      rw handed (appended_failed h c.args.key.now (supply g.S.Source c.args.source.now) (supply g.S.Source c.append_all.new.source) (session g.D.Disk c.args.store.now c.args.disk.now) (session g.D.Disk c.send.new.store c.send.new.disk) made c.in_err-appended.field-0.0
       (session g.D.Disk c.append_all.new.store c.append_all.new.disk) (said_in c.append_all.new.said) (λ e. c.in_err-appended.ensures.no_sink (ap (λ f. Err f) e))
-      ((c.in_err-appended.ensures.appends told).each some (unanswered (Create 0 c.args.key.now) h) made.stands made.writes));
+      ((c.in_err-appended.ensures.appends told).each some (unanswered (Create 0 c.args.key.now) h) made.stands.keeps made.writes));
 }
 
 pub returns-in_err-appended-clause-unread : goal.returns-in_err-appended-clause-unread
@@ -53,13 +54,13 @@ returns-in_err-appended-clause-unread g c = λ bad. absurd (c.in_ok-send.ensures
 pub returns-in_err-outcome-clause-performs : goal.returns-in_err-outcome-clause-performs
 returns-in_err-outcome-clause-performs g c = λ told. record {
   each = λ some h stands.
-      let made = created h c.args.key.now (session g.D.Disk c.send.new.store c.send.new.disk) (said_in c.send.new.said)
+      let made = created h c.args.key.now (session g.D.Disk c.args.store.now c.args.disk.now) (session g.D.Disk c.send.new.store c.send.new.disk) (said_in c.send.new.said)
       (((rw (other_outcome c.in_ok-send.field-0 c.in_default.not-Refused) at c.in_ok-send.ensures.sends) told).each h stands) in
       let handed = handed_on c.from_residual-in_err-outcome.result c.in_err-outcome.field-0.0 c.from_residual-in_err-outcome.ensures.1 in
       let whole = rw c.in-Done.is at c.in_ok-appended.ensures.appends in
-      rw handed (close_failed h c.args.key.now (supply g.S.Source c.args.source.now) (supply g.S.Source c.append_all.new.source) (session g.D.Disk c.send.new.store c.send.new.disk) made
+      rw handed (close_failed h c.args.key.now (supply g.S.Source c.args.source.now) (supply g.S.Source c.append_all.new.source) (session g.D.Disk c.args.store.now c.args.disk.now) (session g.D.Disk c.send.new.store c.send.new.disk) made
       (session g.D.Disk c.append_all.new.store c.append_all.new.disk) (said_in c.append_all.new.said)
-      ((whole told).each some (unanswered (Create 0 c.args.key.now) h) made.stands made.writes)
+      ((whole told).each some (unanswered (Create 0 c.args.key.now) h) made.stands.keeps made.writes)
       (session g.D.Disk c.send-in-Done.new.store c.send-in-Done.new.disk) (said_in c.send-in-Done.new.said)
       c.in_err-outcome.field-0.0 (λ e. c.in_err-outcome.ensures.no_sink (ap (λ f. Err f) e)) (c.in_err-outcome.ensures.sends told));
 }
@@ -70,12 +71,12 @@ returns-in_err-outcome-clause-unread g c = λ bad. absurd (c.in_ok-send.ensures.
 pub returns-in-Done-clause-performs : goal.returns-in-Done-clause-performs
 returns-in-Done-clause-performs g c = λ told. record {
   each = λ some h stands.
-      let made = created h c.args.key.now (session g.D.Disk c.send.new.store c.send.new.disk) (said_in c.send.new.said)
+      let made = created h c.args.key.now (session g.D.Disk c.args.store.now c.args.disk.now) (session g.D.Disk c.send.new.store c.send.new.disk) (said_in c.send.new.said)
       (((rw (other_outcome c.in_ok-send.field-0 c.in_default.not-Refused) at c.in_ok-send.ensures.sends) told).each h stands) in
       let whole = rw c.in-Done.is at c.in_ok-appended.ensures.appends in
-      rw c.status_of.ensures (close_went h c.args.key.now (supply g.S.Source c.args.source.now) (supply g.S.Source c.append_all.new.source) (session g.D.Disk c.send.new.store c.send.new.disk) made
+      rw c.status_of.ensures (close_went h c.args.key.now (supply g.S.Source c.args.source.now) (supply g.S.Source c.append_all.new.source) (session g.D.Disk c.args.store.now c.args.disk.now) (session g.D.Disk c.send.new.store c.send.new.disk) made
       (session g.D.Disk c.append_all.new.store c.append_all.new.disk) (said_in c.append_all.new.said)
-      ((whole told).each some (unanswered (Create 0 c.args.key.now) h) made.stands made.writes)
+      ((whole told).each some (unanswered (Create 0 c.args.key.now) h) made.stands.keeps made.writes)
       (session g.D.Disk c.send-in-Done.new.store c.send-in-Done.new.disk) (said_in c.send-in-Done.new.said)
       c.in_ok-outcome.outcome (c.in_ok-outcome.ensures.sends told));
 }
@@ -87,11 +88,11 @@ pub returns : goal.returns
 returns g c = record {
   performs = λ told. record {
     each = λ some h stands.
-        let made = created h c.args.key.now (session g.D.Disk c.send.new.store c.send.new.disk) (said_in c.send.new.said)
+        let made = created h c.args.key.now (session g.D.Disk c.args.store.now c.args.disk.now) (session g.D.Disk c.send.new.store c.send.new.disk) (said_in c.send.new.said)
         (((rw (other_outcome c.in_ok-send.field-0 c.in_default.not-Refused) at c.in_ok-send.ensures.sends) told).each h stands) in
-        appended_other h c.args.key.now (supply g.S.Source c.args.source.now) (supply g.S.Source c.append_all.new.source) (session g.D.Disk c.send.new.store c.send.new.disk) made c.in_ok-appended.appended
+        appended_other h c.args.key.now (supply g.S.Source c.args.source.now) (supply g.S.Source c.append_all.new.source) (session g.D.Disk c.args.store.now c.args.disk.now) (session g.D.Disk c.send.new.store c.send.new.disk) made c.in_ok-appended.appended
         (session g.D.Disk c.append_all.new.store c.append_all.new.disk) (said_in c.append_all.new.said) c.in_default-appended.not-Done
-        ((c.in_ok-appended.ensures.appends told).each some (unanswered (Create 0 c.args.key.now) h) made.stands made.writes);
+        ((c.in_ok-appended.ensures.appends told).each some (unanswered (Create 0 c.args.key.now) h) made.stands.keeps made.writes);
   };
   only = search rules;
   read = search rules;
@@ -102,9 +103,13 @@ returns g c = record {
   source = search rules;
   calm = search rules;
   «open» = search rules;
+  honest = search rules;
   no_sink = search rules;
   account = search rules;
 }
 
 pub returns-in_err-outcome-clause-open : goal.returns-in_err-outcome-clause-open
 returns-in_err-outcome-clause-open g c = λ told. handed_open c.from_residual-in_err-outcome.result c.in_err-outcome.field-0.0 (session g.D.Disk c.send-in-Done.new.store c.send-in-Done.new.disk) c.from_residual-in_err-outcome.ensures.1 (c.in_err-outcome.ensures.open told)
+
+pub returns-in_err-piece-clause-honest : goal.returns-in_err-piece-clause-honest
+returns-in_err-piece-clause-honest g c = λ told. open_leaves_honest (session g.D.Disk c.args.store.now c.args.disk.now) (c.requires.told told)

@@ -1,46 +1,45 @@
-use Rattle.std.proofs.Common.{inl, inr, refl, ap, rules}
+use Rattle.std.proofs.Common.{inl, inr, refl, ap}
 use Rattle.std.specs.Prelude.{Err}
 use Rattle.cache_store.specs.Session.{session}
 use Rattle.cache_theory.specs.History.{settled_at}
-use Rattle.cache_theory.specs.Machine.{opened}
 use Rattle.cache_tool.specs.HeldReply.{said_in}
 use Rattle.cache_tool.specs.Statuses.{status_in}
-use Rattle.cache_tool.specs.World.{output, supply}
-use Rattle.cache_tool.proofs.PutEnds.{answered, disk_cause, ended_no_sink, never_others, never_sink, not_answered, not_opened, put_stops, source_came}
+use Rattle.cache_tool.specs.World.{output, supply, world}
+use Rattle.cache_tool.proofs.PutEnds.{answered, disk_cause, ended_no_sink, never_others, never_sink, not_answered, not_opened, put_refuses, put_stops, source_came}
 use Rattle.cache_tool.proofs.StatusLaws.{no_answer}
 use Rattle.cache_tool.proofs.put.put.Goals as goal
 
 pub returns-in-Err-clause-stores : goal.returns-in-Err-clause-stores
-returns-in-Err-clause-stores g c = λ told some shelf rest is.
+returns-in-Err-clause-stores g c = λ told some m is.
     rw c.status_of_fault.ensures
-    (not_opened (opened c.args.now shelf rest) c.args.key.now (supply g.S.Source c.args.source.now) (supply g.S.Source c.args.source.now) c.in-Err.fault
+    (not_opened m c.args.key.now (supply g.S.Source c.args.source.now) (supply g.S.Source c.args.source.now) c.in-Err.fault
     (output g.K.Sink g.D.Disk c.args.sink.now c.args.disk.now) (g.D.Disk.state c.open.new.disk) (λ e. c.in-Err.ensures.no_sink (ap (λ f. Err f) e)) refl some
-    (λ quiet. c.in-Err.ensures.safe told shelf rest quiet is))
+    (c.in-Err.ensures.safe told m is) (c.in-Err.ensures.honest told))
 
 pub returns-in-Done-clause-stores : goal.returns-in-Done-clause-stores
-returns-in-Done-clause-stores g c = λ told some shelf rest is.
-    answered (opened c.args.now shelf rest) c.args.key.now (supply g.S.Source c.args.source.now) (supply g.S.Source c.perform_put-came.new.source) (status_in c.perform_put-came.result) c.end.result (output g.K.Sink g.D.Disk c.args.sink.now c.args.disk.now)
-    (session g.D.Disk c.perform_put-came.new.store c.perform_put-came.new.disk) (g.D.Disk.state c.end.new.disk) (said_in c.perform_put-came.new.said)
-    ((c.perform_put-came.ensures.performs told).each some (settled_at (opened c.args.now shelf rest)) (c.in-Ok.ensures.opens told shelf rest is)) (c.end.ensures.ends told) c.end.ensures.same
+returns-in-Done-clause-stores g c = λ told some m is.
+    answered m c.args.key.now (supply g.S.Source c.args.source.now) (supply g.S.Source c.perform_put-came.new.source) (status_in c.perform_put-came.result) c.end.result (output g.K.Sink g.D.Disk c.args.sink.now c.args.disk.now)
+    (session g.D.Disk c.in-Ok.store c.open.new.disk) (session g.D.Disk c.perform_put-came.new.store c.perform_put-came.new.disk) (g.D.Disk.state c.end.new.disk) (said_in c.perform_put-came.new.said)
+    (c.in-Ok.ensures.opens told) is ((c.perform_put-came.ensures.performs told).each some (settled_at m) ((c.in-Ok.ensures.opens told).keeps m is)) (c.end.ensures.ends told) c.end.ensures.same
     c.print_reply.result (g.K.Sink.taken c.print_reply.new.sink) (inl c.in-Done.is)
     (record { same = rw c.in-Done.is c.print_reply.ensures.same; all = c.print_reply.ensures.all; part = c.print_reply.ensures.part; cut = c.print_reply.ensures.cut })
 
 pub returns-in-No-clause-stores : goal.returns-in-No-clause-stores
-returns-in-No-clause-stores g c = λ told some shelf rest is.
-    answered (opened c.args.now shelf rest) c.args.key.now (supply g.S.Source c.args.source.now) (supply g.S.Source c.perform_put-came.new.source) (status_in c.perform_put-came.result) c.end.result (output g.K.Sink g.D.Disk c.args.sink.now c.args.disk.now)
-    (session g.D.Disk c.perform_put-came.new.store c.perform_put-came.new.disk) (g.D.Disk.state c.end.new.disk) (said_in c.perform_put-came.new.said)
-    ((c.perform_put-came.ensures.performs told).each some (settled_at (opened c.args.now shelf rest)) (c.in-Ok.ensures.opens told shelf rest is)) (c.end.ensures.ends told) c.end.ensures.same
+returns-in-No-clause-stores g c = λ told some m is.
+    answered m c.args.key.now (supply g.S.Source c.args.source.now) (supply g.S.Source c.perform_put-came.new.source) (status_in c.perform_put-came.result) c.end.result (output g.K.Sink g.D.Disk c.args.sink.now c.args.disk.now)
+    (session g.D.Disk c.in-Ok.store c.open.new.disk) (session g.D.Disk c.perform_put-came.new.store c.perform_put-came.new.disk) (g.D.Disk.state c.end.new.disk) (said_in c.perform_put-came.new.said)
+    (c.in-Ok.ensures.opens told) is ((c.perform_put-came.ensures.performs told).each some (settled_at m) ((c.in-Ok.ensures.opens told).keeps m is)) (c.end.ensures.ends told) c.end.ensures.same
     c.print_reply-in-No.result (g.K.Sink.taken c.print_reply-in-No.new.sink) (inr c.in-No.is)
     (record { same = rw c.in-No.is c.print_reply-in-No.ensures.same; all = c.print_reply-in-No.ensures.all; part = c.print_reply-in-No.ensures.part; cut = c.print_reply-in-No.ensures.cut })
 
 pub returns : goal.returns
 returns g c = record {
-  stores = λ told some shelf rest is.
-      not_answered (opened c.args.now shelf rest) c.args.key.now (supply g.S.Source c.args.source.now) (supply g.S.Source c.perform_put-came.new.source) (status_in c.perform_put-came.result) c.end.result (output g.K.Sink g.D.Disk c.args.sink.now c.args.disk.now)
-      (session g.D.Disk c.perform_put-came.new.store c.perform_put-came.new.disk) (g.D.Disk.state c.end.new.disk) (said_in c.perform_put-came.new.said)
-      ((c.perform_put-came.ensures.performs told).each some (settled_at (opened c.args.now shelf rest)) (c.in-Ok.ensures.opens told shelf rest is)) (c.end.ensures.ends told) c.end.ensures.same
+  stores = λ told some m is.
+      not_answered m c.args.key.now (supply g.S.Source c.args.source.now) (supply g.S.Source c.perform_put-came.new.source) (status_in c.perform_put-came.result) c.end.result (output g.K.Sink g.D.Disk c.args.sink.now c.args.disk.now)
+      (session g.D.Disk c.in-Ok.store c.open.new.disk) (session g.D.Disk c.perform_put-came.new.store c.perform_put-came.new.disk) (g.D.Disk.state c.end.new.disk) (said_in c.perform_put-came.new.said)
+      (c.in-Ok.ensures.opens told) is ((c.perform_put-came.ensures.performs told).each some (settled_at m) ((c.in-Ok.ensures.opens told).keeps m is)) (c.end.ensures.ends told) c.end.ensures.same
       (no_answer c.end.result c.in_default.not-Done c.in_default.not-No) (ended_no_sink c.end.result (status_in c.perform_put-came.result) (never_sink c.perform_put-came.result c.perform_put-came.ensures.only c.perform_put-came.ensures.no_sink) c.end.ensures.same)
-      (λ dropped. ap g.D.Disk.state (c.end.ensures.dropped dropped).1);
+      (c.perform_put-came.ensures.honest told) (λ dropped. ap g.D.Disk.state (c.end.ensures.dropped dropped).1);
   read = λ done. absurd (c.in_default.not-Done done);
   unread = c.perform_put-came.ensures.unread;
   taken = c.perform_put-came.ensures.taken;
@@ -59,3 +58,9 @@ returns g c = record {
       c.perform_put-came.ensures.only c.perform_put-came.ensures.no_sink (c.in-Ok.ensures.account.cause.kept (λ h. cc)) c.perform_put-came.ensures.account.cause c.end.ensures.cause
       (λ dropped. ((c.end.ensures.dropped dropped).0, ap g.D.Disk.faults (c.end.ensures.dropped dropped).1));
 }
+
+pub returns-in-No-clause-refused : goal.returns-in-No-clause-refused
+returns-in-No-clause-refused g c = λ is.
+    let at = world g.S.Source g.K.Sink g.D.Disk in
+    put_refuses c.perform_put-came.result c.end.result (said_in c.perform_put-came.new.said) (at c.args.source.now c.args.sink.now c.args.disk.now)
+    (at c.perform_put-came.new.source c.print_reply-in-No.new.sink c.end.new.disk) c.end.ensures.same c.in-No.is c.perform_put-came.ensures.refused (c.print_reply-in-No.ensures.all (inr is))

@@ -7,5 +7,5 @@ pub returns-clause-sends : goal.returns-clause-sends
 returns-clause-sends g c = λ told. record {
   each = λ h keeps.
       let performs = c.command.ensures.performs told in
-      sends_of _ h _ _ (said_in c.clear.new.self) (said_in c.command.new.sink) c.clear.ensures (performs.answers h.machine (represents keeps)) (performs.crash h keeps);
+      sends_of _ h _ _ _ (said_in c.clear.new.self) (said_in c.command.new.sink) c.clear.ensures (performs.answers h.machine (represents keeps)) (performs.crash h keeps);
 }

@@ -1,6 +1,11 @@
 use Rattle.std.proofs.Common.{Err, ap}
 use Rattle.cache_script.specs.Command.{command_of}
+use Rattle.cache_store.specs.Session.{session}
+use Rattle.cache_tool.specs.Tally.{tally}
 use Rattle.cache_tool.specs.World.{progress, supply}
+use Rattle.cache_tool.proofs.Accounted.{command_accounted}
+use Rattle.cache_tool.proofs.Handed.{handed_open}
+use Rattle.cache_tool.proofs.RightLaws.{open_leaves_honest}
 use Rattle.cache_tool.proofs.ScriptTurns.{gives_none, gives_one, turn_bad, turn_err, turn_failed, turn_on, turn_whole}
 use Rattle.cache_tool.proofs.script.perform_next.Goals as goal
 
@@ -34,3 +39,23 @@ returns-in-Err-Script-clause-performs g c =
     rw c.in-Err-Script.field-0-is
     (turn_bad g.D.Disk.tells c.args.reader.now c.next_command.follows.lender-at-none (progress g.S.Source g.K.Sink g.D.Disk c.args.store.now c.args.source.now c.args.sink.now c.args.disk.now)
     (supply g.S.Source c.next_command.new.source) c.in-Err-Script.number bad.0 bad.1)
+
+pub returns-in_err-command-in-Ok-Some-clause-open : goal.returns-in_err-command-in-Ok-Some-clause-open
+returns-in_err-command-in-Ok-Some-clause-open g c = λ told.
+    handed_open c.from_residual.result c.in_err-command-in-Ok-Some.field-0.0 (session g.D.Disk c.command.new.self c.command.new.disk) c.from_residual.ensures.1 (c.in_err-command-in-Ok-Some.ensures.open told)
+
+pub returns-in_err-command-in-Ok-Some-clause-account : goal.returns-in_err-command-in-Ok-Some-clause-account
+returns-in_err-command-in-Ok-Some-clause-account g c =
+    let at = tally g.S.Source g.K.Sink g.D.Disk in
+    let command = c.in_err-command-in-Ok-Some.ensures in
+    command_accounted c.from_residual.result c.in_err-command-in-Ok-Some.field-0.0 (at c.args.source.now c.args.sink.now c.args.disk.now) (at c.next_command.new.source c.command.new.sink c.command.new.disk)
+    c.from_residual.ensures.1 (c.in-Ok-Some.ensures.cause.kept (λ failed. cc)) command.sink command.account.cause command.account.went_on command.account.stops
+
+pub returns-in-Ok-None-clause-honest : goal.returns-in-Ok-None-clause-honest
+returns-in-Ok-None-clause-honest g c = λ told. open_leaves_honest (session g.D.Disk c.args.store.now c.args.disk.now) (c.requires.told told)
+
+pub returns-in-Err-Source-clause-honest : goal.returns-in-Err-Source-clause-honest
+returns-in-Err-Source-clause-honest g c = λ told. open_leaves_honest (session g.D.Disk c.args.store.now c.args.disk.now) (c.requires.told told)
+
+pub returns-in-Err-Script-clause-honest : goal.returns-in-Err-Script-clause-honest
+returns-in-Err-Script-clause-honest g c = λ told. open_leaves_honest (session g.D.Disk c.args.store.now c.args.disk.now) (c.requires.told told)

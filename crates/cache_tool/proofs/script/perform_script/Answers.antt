@@ -1,4 +1,6 @@
+use Rattle.cache_store.specs.Session.{session}
 use Rattle.cache_tool.specs.World.{progress}
+use Rattle.cache_tool.proofs.RightLaws.{open_leaves_honest}
 use Rattle.cache_tool.proofs.ScriptWhole.{ran_bad, ran_bad_cut, ran_broke, ran_failed, ran_nothing, ran_whole}
 use Rattle.cache_tool.proofs.script.perform_script.Goals as goal
 
@@ -25,3 +27,6 @@ pub returns-clause-performs : goal.returns-clause-performs
 returns-clause-performs g c = λ told.
     let mid = c.perform_commands.new in
     ran_bad _ (progress g.S.Source g.K.Sink g.D.Disk mid.store mid.source mid.sink mid.disk) _ c.in-Bad.number (rw told at (rw c.in-Bad.is at c.in_ok-perform_commands.ensures.performs)) c.in_ok-say_bad-in-Bad.ensures.said
+
+pub returns-in_err-reader-clause-honest : goal.returns-in_err-reader-clause-honest
+returns-in_err-reader-clause-honest g c = λ told. open_leaves_honest (session g.D.Disk c.args.store.now c.args.disk.now) (c.requires.told told)

@@ -1,10 +1,16 @@
 -- What the store's closing ensures is what the end of a session ensures.
 use Rattle.std.proofs.Common.{◌≡◌, ◌≢◌, Err, Result, subst}
 use Rattle.cache_base.specs.declared.status.Status.{Status}
+use Rattle.cache_base.specs.declared.status.Status.TheVariants as status
+use Rattle.cache_store.specs.Open.{KeepsTo}
+use Rattle.cache_store.specs.Session.{Session}
 use Rattle.cache_store.specs.declared.fault.StoreFault.{StoreFault}
 use Rattle.cache_store.specs.declared.fault.StoreFault.TheVariants as fault
 use Rattle.cache_store.proofs.Represented.{represents}
+use Rattle.cache_theory.specs.History.{History}
+use Rattle.cache_tool.specs.Ending.{IsEnded}
 use Rattle.cache_tool.specs.Statuses.{IsClosing, status_in}
+use Rattle.cache_tool.proofs.RightLaws.{open_leaves_honest}
 use Rattle.cache_tool.proofs.session.end.Goals as goal
 
 -- a store that failed to close was not closed
@@ -13,19 +19,44 @@ not_closed answer fault.Memory ended failed not_sink is closing = subst IsClosin
 not_closed answer fault.Disk ended failed not_sink is closing = subst IsClosing is closing
 not_closed answer fault.Sink ended failed not_sink is closing = not_sink failed
 
+-- a store that is only dropped
+dropped : (ended : Status) → ¬ (IsClosing ended) → (now : Session) (h : History) → KeepsTo now h → IsEnded ended h now now.disk
+dropped ended still now h keeps = record {
+  safe = keeps.stands.crash_kept.safe;
+  shut = λ closing. absurd (still closing);
+  images = λ right. open_leaves_honest now (h.machine, represents keeps);
+  honest = λ closing right. absurd (still closing);
+}
+
+pub returns-in-Err-Disk-clause-ends : goal.returns-in-Err-Disk-clause-ends
+returns-in-Err-Disk-clause-ends g c = λ tells. record { each = λ h keeps. dropped status.Disk (λ x. x) _ h keeps }
+
+pub returns-in-Err-Memory-clause-ends : goal.returns-in-Err-Memory-clause-ends
+returns-in-Err-Memory-clause-ends g c = λ tells. record { each = λ h keeps. dropped status.Memory (λ x. x) _ h keeps }
+
 pub returns-in-Ok-close-clause-ends : goal.returns-in-Ok-close-clause-ends
 returns-in-Ok-close-clause-ends g c = λ tells. record {
   each = λ h keeps.
       let closed = c.in-Ok-close.ensures.closes tells in
-      record { safe = closed.crash h keeps; shut = λ closing. closed.shut h.machine (represents keeps) };
+      let honest = c.in-Ok-close.ensures.honest tells in
+      record {
+        safe = closed.crash h keeps;
+        shut = λ closing. closed.shut h.machine (represents keeps);
+        images = λ right. honest.images h.machine (represents keeps) right;
+        honest = λ closing right. honest.honest h.machine (represents keeps) right;
+      };
 }
 
 pub returns-in-Err-clause-ends : goal.returns-in-Err-clause-ends
 returns-in-Err-clause-ends g c = λ tells. record {
   each = λ h keeps.
       let closed = c.in-Err.ensures.closes tells in
+      let honest = c.in-Err.ensures.honest tells in
+      let still = not_closed c.close.result c.in-Err.fault c.status_of_fault.result c.in-Err.is c.close.ensures.no_sink c.status_of_fault.ensures in
       record {
         safe = closed.crash h keeps;
-        shut = λ closing. absurd (not_closed c.close.result c.in-Err.fault c.status_of_fault.result c.in-Err.is c.close.ensures.no_sink c.status_of_fault.ensures closing);
+        shut = λ closing. absurd (still closing);
+        images = λ right. honest.images h.machine (represents keeps) right;
+        honest = λ closing right. absurd (still closing);
       };
 }

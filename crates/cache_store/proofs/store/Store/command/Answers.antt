@@ -1,5 +1,6 @@
 use Rattle.std.proofs.Common.{ap}
 use Rattle.cache_script.specs.Command.{command_of}
+use Rattle.index_theory.proofs.UncleanLaws.{unclean_leaves_honest}
 use Rattle.cache_store.specs.Said.{saying}
 use Rattle.cache_store.specs.Session.{open_of, session}
 use Rattle.cache_store.proofs.PerformSafe.{performs_open, performs_safely}
@@ -33,3 +34,9 @@ pub returns-clause-prints : goal.returns-clause-prints
 returns-clause-prints g c =
     prints_outcome (command_of c.args.c.now) c.in_ok-answered.answered c.finish_reply.result _ _ _ (λ n. ap g.K.Sink.taken (c.in_ok-answered.ensures.unsaid n)) c.in_ok-answered.ensures.still_empty
     c.in_ok-answered.ensures.plain c.finish_reply.ensures.printed c.finish_reply.ensures.outcome
+
+pub returns-in_err-answered-clause-honest : goal.returns-in_err-answered-clause-honest
+returns-in_err-answered-clause-honest g c = λ told. unclean_leaves_honest (g.D.Disk.state c.perform.new.disk) (c.in_err-answered.ensures.unclean told)
+
+pub returns-clause-honest : goal.returns-clause-honest
+returns-clause-honest g c = λ told. unclean_leaves_honest (g.D.Disk.state c.perform.new.disk) (c.in_ok-answered.ensures.unclean told)

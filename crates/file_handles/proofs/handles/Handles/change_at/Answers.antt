@@ -100,7 +100,7 @@ returns-clause-effect g c =
     let x = c.take-object.result in
     let change = with_version (with_change c.args.change) in
     subst (λ (o : Option Object). IsLearntOf change o c.learnt_of-effect.result) (sym c.take-object.ensures.found) (λ o held new.
-    c.learnt_of-effect.ensures
+    c.learnt_of-effect.ensures.held
     ∙ elim c.match-entry.branch [
       | in-Draft+in_ok-changed_draft-in-Draft w ↦
           let after = w.in_ok-changed_draft-in-Draft.ensures in

@@ -1,0 +1,58 @@
+-- The texts of some items, which are said one after the other.
+use Rattle.std.proofs.Common.{◌≡◌, ◌<◌, ◌∙◌, ◌++◌, ℕ, arith, length, List, [], ◌∷◌, Option, refl, sym, ap, subst, append_assoc}
+use Rattle.std.specs.Prelude.{flat_map}
+use Rattle.std.proofs.lemmas.List.{append-nil}
+use Rattle.cache_store.specs.Said.{Said, Saying}
+use Rattle.cache_store.specs.Saying.{CutsIn, SaysMore}
+use Rattle.cache_store.proofs.SayingLaws.{cuts_front, cuts_line, cuts_then, says_then}
+
+-- the texts of the first items were said, and those of the others complete the whole
+pub record SaysFront {X : Type 0} (text : X → List ℕ) (xs left : List X) (was now : Saying) : Type 0 where
+  pub front : List ℕ
+  pub says : SaysMore was now front
+  pub whole : front ++ flat_map text left ≡ flat_map text xs
+
+module _ {X : Type 0} (text : X → List ℕ) (xs left more : List X) (x : X) (was now : Saying) (front : SaysFront text xs left was now) (first : left ≡ x ∷ more) where
+  with_next : (front.front ++ text x) ++ flat_map text more ≡ flat_map text xs
+  with_next = append_assoc front.front (text x) (flat_map text more) ∙ ap (λ ys. front.front ++ flat_map text ys) (sym first) ∙ front.whole
+
+  -- the next one too
+  pub says_next : (later : Saying) → SaysMore now later (text x) → SaysFront text xs more was later
+  says_next later says = record { front = front.front ++ text x; says = says_then was now later front.front (text x) front.says says; whole = with_next }
+
+  -- or it was cut
+  pub cuts_next : (out : Option (List ℕ)) → CutsIn now out (text x) → CutsIn was out (flat_map text xs)
+  cuts_next out cuts =
+      subst (λ (t : List ℕ). CutsIn was out t) with_next
+      (cuts_front was out (front.front ++ text x) (flat_map text more) (cuts_then was now out front.front (text x) front.says cuts))
+
+-- none was said yet
+pub says_begin : {X : Type 0} (text : X → List ℕ) (xs : List X) (was : Saying) → SaysFront text xs xs was was
+says_begin text xs was = record { front = []; says = λ before said is. subst (Said before was) (sym (append-nil said)) is; whole = refl }
+
+-- and all
+pub says_all : {X : Type 0} (text : X → List ℕ) (xs left : List X) (was now : Saying) → left ≡ [] → SaysFront text xs left was now → SaysMore was now (flat_map text xs)
+says_all text xs left was now none front =
+    subst (λ (t : List ℕ). SaysMore was now t) (sym (append-nil front.front) ∙ ap (λ ys. front.front ++ flat_map text ys) (sym none) ∙ front.whole) front.says
+
+-- an item whose text is a line, which is said in two pieces
+module _ {X : Type 0} (text : X → List ℕ) (xs left more : List X) (x : X) (was now : Saying) (front : SaysFront text xs left was now) (first : left ≡ x ∷ more)
+    (words : List ℕ) (line_is : text x ≡ words ++ 10 ∷ []) where
+  pub cuts_words : (out : Option (List ℕ)) → CutsIn now out words → CutsIn was out (flat_map text xs)
+  cuts_words out cuts = cuts_next text xs left more x was now front first out (subst (λ (t : List ℕ). CutsIn now out t) (sym line_is) (cuts_front now out words (10 ∷ []) cuts))
+
+  module _ (mid : Saying) (says : SaysMore now mid words) where
+    pub cuts_newline : (out : Option (List ℕ)) → CutsIn mid out (10 ∷ []) → CutsIn was out (flat_map text xs)
+    cuts_newline out cuts =
+        cuts_next text xs left more x was now front first out (subst (λ (t : List ℕ). CutsIn now out t) (sym line_is) (cuts_then now mid out words (10 ∷ []) says cuts))
+
+    pub says_line : (later : Saying) → SaysMore mid later (10 ∷ []) → SaysFront text xs more was later
+    says_line later ends =
+        says_next text xs left more x was now front first later (subst (λ (t : List ℕ). SaysMore now later t) (sym line_is) (says_then now mid later words (10 ∷ []) says ends))
+
+-- where some are left, nothing more went out
+pub cuts_before : {X : Type 0} (text words : X → List ℕ) (xs left : List X) (was now : Saying) → ((x : X) → text x ≡ words x ++ 10 ∷ []) → 0 < length left → SaysFront text xs left was now
+    → CutsIn was now.taken (flat_map text xs)
+cuts_before text words xs [] was now is_line some front = absurd (omega (arith, some))
+cuts_before text words xs (x ∷ more) was now is_line some front =
+    cuts_next text xs (x ∷ more) more x was now front refl now.taken (subst (λ (t : List ℕ). CutsIn now now.taken t) (sym (is_line x)) (cuts_line now (words x)))

@@ -1,0 +1,12 @@
+use Rattle.std.proofs.Common.{◌≡◌, drop}
+use Rattle.cache_store.specs.Said.{saying}
+use Rattle.cache_store.proofs.SaidFront.{SaysFront}
+use Rattle.cache_theory.specs.Text.{line, record_words}
+use Rattle.cache_store.proofs.index_commands.say_lines.Given as goal
+
+-- the lines so far were said, and the sink did not fail
+abbrev pub invariant-loop-record : goal.invariant-loop-record
+invariant-loop-record g l = record {
+  says : SaysFront (λ r. line (record_words r)) l.fn.records (drop l.record-index l.records) (saying g.K.Sink l.fn.reply l.fn.sink) (saying g.K.Sink l.reply l.sink);
+  sink : g.K.Sink.faults l.sink ≡ g.K.Sink.faults l.fn.sink;
+}

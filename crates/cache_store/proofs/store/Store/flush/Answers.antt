@@ -1,0 +1,24 @@
+use Rattle.file_handles.specs.Kept.{kept}
+use Rattle.cache_store.specs.Session.{session}
+use Rattle.cache_store.proofs.IndexAchieves.{fails_sparing, spared_in_same}
+use Rattle.cache_store.proofs.IndexWrites.{flush_achieves, synced_unclean}
+use Rattle.cache_store.proofs.store.Store.flush.Goals as goal
+
+pub returns-in_err-refresh-clause-does : goal.returns-in_err-refresh-clause-does
+returns-in_err-refresh-clause-does g c = λ told.
+    fails_sparing _ c.from_residual.result _ (session g.D.Disk c.args.self.now c.args.disk.now) _ c.from_residual.ensures.1 (c.in_err-refresh.ensures.entries told)
+
+pub returns-in_err-sync-clause-does : goal.returns-in_err-sync-clause-does
+returns-in_err-sync-clause-does g c = λ told.
+    fails_sparing _ c.from_residual-in_err-sync.result _ (session g.D.Disk c.args.self.now c.args.disk.now) _ c.from_residual-in_err-sync.ensures.1
+    (spared_in_same _ _ _ (c.in_ok-refresh.ensures.entries told) (c.in_err-sync.ensures.state told))
+
+pub returns-clause-does : goal.returns-clause-does
+returns-clause-does g c = λ told.
+    flush_achieves (kept c.args.self.now.handles) c.args.self.now.moment (g.D.Disk.state c.args.disk.now) (g.D.Disk.state c.refresh.new.disk) c.args.self.now.index c.refresh.new.index
+    (c.in_ok-refresh.ensures.entries told) (c.in_ok-refresh.ensures.holds told) (record { records = c.in_ok-refresh.ensures.records; seen = c.in_ok-refresh.ensures.seen }) c.in_ok-refresh.ensures.update
+    (g.met.D.Disk.sound c.refresh.new.disk told) (g.D.Disk.state c.sync.new.self) (c.in_ok-sync.ensures.state told)
+
+pub returns-clause-unclean : goal.returns-clause-unclean
+returns-clause-unclean g c = λ told.
+    synced_unclean _ _ _ (c.in_ok-sync.ensures.state told) (c.in_ok-refresh.ensures.unclean told) c.args.self.now.index.map (c.requires.told told).1.matches.holds

@@ -1,0 +1,53 @@
+use Rattle.std.proofs.Common.{◌∙◌, List, subst, sym}
+use Rattle.cache_theory.specs.Text.{records_text}
+use Rattle.file_handles.specs.Kept.{kept}
+use Rattle.index_record.specs.declared.record.IndexRecord.{IndexRecord}
+use Rattle.cache_store.specs.Said.{saying}
+use Rattle.cache_store.specs.Saying.{CutsIn, SaysMore}
+use Rattle.cache_store.proofs.ListDoes.{list_does, list_fails, list_stops, list_unsaid, no_sink}
+use Rattle.cache_store.proofs.store.Store.say_list.Goals as goal
+
+pub returns-in_err-finish-clause-does : goal.returns-in_err-finish-clause-does
+returns-in_err-finish-clause-does g c = λ told.
+    list_fails c.from_residual.result _ c.from_residual.ensures.1 (λ f is sink. no_sink _ (sym is ∙ sink)) (kept c.args.self.now.handles) c.args.self.now.moment
+    (g.D.Disk.state c.args.disk.now) (g.D.Disk.state c.finish.new.disk) c.args.self.now.index c.finish.new.self (saying g.K.Sink c.args.self.now.reply c.args.sink.now) (c.in_err-finish.ensures.looks.state told)
+
+pub returns-in_err-records-clause-does : goal.returns-in_err-records-clause-does
+returns-in_err-records-clause-does g c = λ told.
+    list_unsaid (kept c.args.self.now.handles) c.args.self.now.moment (g.D.Disk.state c.args.disk.now) (g.D.Disk.state c.finish.new.disk) c.args.self.now.index c.finish.new.self
+    (record {
+      same = c.in_ok-finish.ensures.looks.state told;
+      ended = c.in_ok-finish.ensures.rest;
+      base = c.in_ok-finish.ensures.base;
+      tells = c.in_ok-finish.ensures.tells told;
+    })
+    c.from_residual-in_err-records.result _ (saying g.K.Sink c.args.self.now.reply c.args.sink.now) c.from_residual-in_err-records.ensures.1
+
+pub returns-in_err-say_records-clause-does : goal.returns-in_err-say_records-clause-does
+returns-in_err-say_records-clause-does g c = λ told.
+    let s0 = saying g.K.Sink c.args.self.now.reply c.args.sink.now in
+    let s1 = saying g.K.Sink c.say_records.new.reply c.say_records.new.sink in
+    list_stops (kept c.args.self.now.handles) c.args.self.now.moment (g.D.Disk.state c.args.disk.now) (g.D.Disk.state c.finish.new.disk) c.args.self.now.index c.finish.new.self
+    (record {
+      same = c.in_ok-finish.ensures.looks.state told;
+      ended = c.in_ok-finish.ensures.rest;
+      base = c.in_ok-finish.ensures.base;
+      tells = c.in_ok-finish.ensures.tells told;
+    })
+    c.in_ok-records.records c.in_ok-records.ensures.known c.in_ok-records.ensures.by_name s0 s1 c.requires.empty
+    c.from_residual-in_err-say_records.result _ c.from_residual-in_err-say_records.ensures.1
+    (subst (λ (rs : List IndexRecord). CutsIn s0 s1.taken (records_text rs)) c.as_slice.ensures c.in_err-say_records.ensures.cut)
+
+pub returns-clause-does : goal.returns-clause-does
+returns-clause-does g c = λ told.
+    let s0 = saying g.K.Sink c.args.self.now.reply c.args.sink.now in
+    let s1 = saying g.K.Sink c.say_records.new.reply c.say_records.new.sink in
+    list_does (kept c.args.self.now.handles) c.args.self.now.moment (g.D.Disk.state c.args.disk.now) (g.D.Disk.state c.finish.new.disk) c.args.self.now.index c.finish.new.self
+    (record {
+      same = c.in_ok-finish.ensures.looks.state told;
+      ended = c.in_ok-finish.ensures.rest;
+      base = c.in_ok-finish.ensures.base;
+      tells = c.in_ok-finish.ensures.tells told;
+    })
+    c.in_ok-records.records c.in_ok-records.ensures.known c.in_ok-records.ensures.by_name s0 s1 c.requires.empty
+    (subst (λ (rs : List IndexRecord). SaysMore s0 s1 (records_text rs)) c.as_slice.ensures c.in_ok-say_records.ensures.says)

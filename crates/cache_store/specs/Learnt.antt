@@ -1,0 +1,32 @@
+-- What is learnt of a call of the handles.
+use Rattle.std.specs.Prelude.{Err, None, Ok, OnOk, Option, Result, Some, ⊤, ◌≡◌, ◌≢◌}
+use Rattle.cache_store.specs.Records.{Learns}
+use Rattle.cache_store.specs.Replied.{replied}
+use Rattle.cache_store.specs.declared.answered.Answered.{Answered}
+use Rattle.cache_store.specs.declared.answered.Answered.TheVariants as answered
+use Rattle.cache_store.specs.declared.fault.StoreFault.{StoreFault}
+use Rattle.cache_store.specs.declared.fault.StoreFault.TheVariants as fault
+use Rattle.cache_store.specs.declared.memory_index.MemoryIndex.{MemoryIndex}
+use Rattle.cache_theory.specs.Command.{Reply}
+use Rattle.file_handles.specs.Effects.{IsPlainEffect}
+use Rattle.file_handles.specs.declared.fault.Effect.{Effect}
+use Rattle.file_handles.specs.declared.fault.Effect.TheVariants as effect
+use Rattle.file_handles.specs.declared.fault.HandleFault.{HandleFault}
+
+-- what is to be learnt of a call, which is nothing where it did nothing
+abbrev pub effect_of : Result Effect HandleFault → Effect
+effect_of (Ok e) = e
+effect_of (Err f) = effect.Same
+
+abbrev pub effect_of_some : Result (Option Effect) HandleFault → Effect
+effect_of_some (Ok (Some e)) = e
+effect_of_some (Ok None) = effect.Same
+effect_of_some (Err f) = effect.Same
+
+-- the call is answered by the reply, and this is learnt; or memory ran out, or the disk failed
+pub record IsLearnt (reply : Option Reply) (e : Effect) (answer : Result Answered StoreFault)
+    (old new : MemoryIndex) : Type 0 where
+  pub is_reply : OnOk answer (replied answer ≡ reply)
+  pub learns : OnOk answer (Learns e old new)
+  pub not_said : answer ≢ Ok answered.All
+  pub no_sink : answer ≢ Err fault.Sink

@@ -1,0 +1,55 @@
+-- What the records in memory say of the entries.
+use Rattle.std.specs.Prelude.{List, None, Some, [], ℕ, ◌≡◌}
+use Rattle.cache_base.specs.declared.name.Name.{Name}
+use Rattle.cache_store.specs.Replied.{reply_of}
+use Rattle.cache_store.specs.declared.answered.Answered.{Answered}
+use Rattle.cache_store.specs.declared.memory_index.MemoryIndex.{MemoryIndex}
+use Rattle.cache_theory.specs.Command.Command.{HasEntry}
+use Rattle.cache_theory.specs.Machine.{Machine}
+use Rattle.cache_theory.specs.Step.{step}
+use Rattle.cache_theory.specs.Table.{get}
+use Rattle.file_handles.specs.Effects.{once, rest_once}
+use Rattle.file_handles.specs.declared.fault.Effect.{Effect}
+use Rattle.index_map.specs.Known.{Known, SameBase}
+use Rattle.index_theory.specs.Ever.{Entries}
+use Rattle.index_theory.specs.Scan.{scanned}
+use Rattle.index_update.specs.Rest.{name_bytes, without}
+use Rattle.index_update.specs.Tells.{TellsAll, TellsSeen}
+use Rattle.record_list.specs.Lists.{record_at}
+
+-- the record that was seen of each name outside the rest is that of the entry, and none where no entry fits; once the
+-- update has ended so is each record
+pub record TellsOf (es : Entries) (index : MemoryIndex) : Type 0 where
+  pub seen : TellsSeen es index.map (name_bytes index.update)
+  pub all : index.update ≡ [] → TellsAll es index.map
+
+-- no record was seen
+abbrev pub SeesNone : Known → Type 0
+SeesNone map = (name : Name) → record_at map.seen name ≡ None
+
+-- the scan changes by what is learnt
+abbrev pub ScanChanges : Effect → Entries → Entries → Type 0
+ScanChanges e before now = (name : Name) → scanned now name ≡ once e (scanned before) name
+
+-- a name is off the rest of these names, whose record was set before in this map
+pub record TakenOff (name : Name) (map : Known) (names : List Name) (new : MemoryIndex) : Type 0 where
+  pub rest : new.update ≡ without name names
+  pub base : SameBase map new.map
+  pub tells : (es : Entries) → TellsSeen es map (name_bytes (without name names)) → (names ≡ [] → TellsAll es map)
+      → TellsOf es new
+
+-- this is learnt: the name leaves the rest, and the records go on to tell of the entries
+pub record Learns (e : Effect) (old new : MemoryIndex) : Type 0 where
+  pub rest : name_bytes new.update ≡ rest_once e (name_bytes old.update)
+  pub base : SameBase old.map new.map
+  pub tells : (before now : Entries) → ScanChanges e before now → TellsOf before old → TellsOf now new
+
+-- the records are those of the machine's shelf
+pub record RecordsTell (index : MemoryIndex) (m : Machine) : Type 0 where
+  pub rest : m.rest ≡ name_bytes index.update
+  pub tells : TellsOf (get m.shelf) index
+
+-- whether there is an entry, as the machine has it where the records tell
+abbrev pub AnswersHas : List ℕ → MemoryIndex → Answered → Type 0
+AnswersHas key index a =
+    (m : Machine) → RecordsTell index m → reply_of a ≡ Some (step m (HasEntry key)).reply

@@ -1,0 +1,194 @@
+//! Performs the commands that go by the index.
+
+ghost use Rattle.std.specs.Prelude.{◌≡◌, ◌≢◌, [], Err, IfOk, IsErrOf, IsTrue, Ok, OnErr, OnOk, flat_map, length, take};
+ghost use Rattle.cache_base.specs.Causes.{HasCause};
+ghost use Rattle.cache_store.specs.Answering.{HasOutcome};
+ghost use Rattle.cache_store.specs.Faults.{ending};
+ghost use Rattle.cache_store.specs.IndexCalls.{IsFresh, IsWritten, LooksAtNames};
+ghost use Rattle.cache_store.specs.Kept.{HoldsIndex};
+ghost use Rattle.cache_store.specs.Said.{saying};
+ghost use Rattle.cache_store.specs.Saying.{CutsIn, SaysMore};
+ghost use Rattle.cache_theory.specs.Command.Command.{Flush, ListRecords, Rebuild, StepUpdate};
+ghost use Rattle.cache_theory.specs.Text.{line, record_words, records_text};
+ghost use Rattle.disk_model.specs.Account.{Accounts, Looks, LooksAtNoEntry, ending as disk_ending};
+ghost use Rattle.disk_model.specs.Told.{Told};
+ghost use Rattle.index_theory.specs.Apart.{IsApart};
+ghost use Rattle.index_theory.specs.Unclean.{IsUnclean};
+ghost use Rattle.startup_read.specs.Spares.{SparesEntries};
+
+use crate::StoreFault;
+use crate::answered::Answered;
+use crate::memory_index::{MemoryIndex, scan};
+use crate::pending::Pending;
+use crate::replies::counted;
+use crate::store::Store;
+use cache_base::Moment;
+use cache_io::Sink;
+use cache_script::record_text;
+use disk_model::{Disk, DiskFault};
+use index_record::IndexRecord;
+use startup_read::{refresh_index, write_index};
+use std::alloc::Global;
+
+// Where the update has ended, writes the index if that is due.
+fn refresh<D: Disk>(
+    alloc: Global,
+    disk: &mut D,
+    index: &mut MemoryIndex,
+    now: Moment,
+) -> Result<(), DiskFault>
+    // The index in memory.
+    ensures update { index.new.update ≡ index.old.update }
+    ensures records { index.new.map.records ≡ index.old.map.records }
+    ensures seen { index.new.map.seen ≡ index.old.map.seen }
+    ensures fresh { OnOk result (index.new.update ≡ [] → IsFresh index.new.map) }
+
+    // The disk.
+    ensures holds { let was = index.old.map in let map = index.new.map in
+        OnOk result (Told D.Disk (λ s t. HoldsIndex s was → HoldsIndex t map) disk.old disk.new) }
+    ensures entries { Told D.Disk (λ s t. IsApart s → SparesEntries s t) disk.old disk.new }
+    ensures unclean { Told D.Disk (λ s t. IsApart s → IsUnclean s → IsUnclean t) disk.old disk.new }
+    ensures account { Accounts D.Disk (disk_ending result) disk.old disk.new }
+    ensures no_entry { LooksAtNoEntry D.Disk disk.old disk.new }
+{
+    if index.update.ended() {
+        refresh_index(alloc, disk, &mut index.map, now)
+    } else {
+        Ok(())
+    }
+}
+
+// Says a line of each record.
+fn say_lines<K: Sink>(
+    alloc: Global,
+    records: &[IndexRecord],
+    reply: &mut Pending,
+    sink: &mut K,
+) -> Result<(), StoreFault>
+    ensures says { let at = saying K.Sink in let text = flat_map (λ r. line (record_words r)) records.now in
+        OnOk result (SaysMore (at reply.old sink.old) (at reply.new sink.new) text) }
+    ensures cut { let at = saying K.Sink in let text = flat_map (λ r. line (record_words r)) records.now in
+        OnErr result (CutsIn (at reply.old sink.old) (K.taken sink.new) text) }
+    ensures no_disk { result ≢ Err StoreFault.Disk }
+    ensures sink { let failed = IsErrOf result StoreFault.Sink in
+        HasCause failed (K.faults sink.old) (K.faults sink.new) }
+{
+    for record in records {
+        let text = record_text(alloc, record)?;
+        reply.put(sink, text.as_bytes())?;
+        reply.put(sink, b"\n")?;
+    }
+    Ok(())
+}
+
+// Says the number of the records, and a line of each.
+fn say_records<K: Sink>(
+    alloc: Global,
+    records: &[IndexRecord],
+    reply: &mut Pending,
+    sink: &mut K,
+) -> Result<(), StoreFault>
+    ensures says { let at = saying K.Sink in let text = records_text records.now in
+        OnOk result (SaysMore (at reply.old sink.old) (at reply.new sink.new) text) }
+    ensures cut { let at = saying K.Sink in let text = records_text records.now in
+        OnErr result (CutsIn (at reply.old sink.old) (K.taken sink.new) text) }
+    ensures no_disk { result ≢ Err StoreFault.Disk }
+    ensures sink { let failed = IsErrOf result StoreFault.Sink in
+        HasCause failed (K.faults sink.old) (K.faults sink.new) }
+{
+    let head = counted(alloc, b"records", records.len() as u64)?;
+    reply.put(sink, head.as_slice())?;
+    say_lines(alloc, records, reply, sink)
+}
+
+impl Store {
+    ghost use Rattle.cache_store.specs.Open.{IsOpen};
+    ghost use Rattle.cache_store.specs.Performing.{AchievesFor, DoesFor};
+    ghost use Rattle.cache_store.specs.Session.{session};
+
+    /// Ends the update, and says the records of all entries in name order.
+    pub(crate) fn say_list<D: Disk, K: Sink>(
+        &mut self,
+        alloc: Global,
+        disk: &mut D,
+        sink: &mut K,
+    ) -> Result<Answered, StoreFault>
+        requires empty { self.old.reply.held ≡ [] }
+        requires told { IsTrue D.tells → IsOpen (session D.Disk self.old disk.old) }
+        ensures does { let at = session D.Disk in IsTrue D.tells →
+            DoesFor ListRecords result (at self.old disk.old) (at self.new disk.new)
+            (K.taken sink.old) (saying K.Sink self.new.reply sink.new) }
+        ensures all { IfOk result (λ a. a ≡ Answered.All) }
+        ensures looks { Looks D.Disk (ending result) disk.old disk.new }
+        ensures names { LooksAtNames D.Disk (length self.old.index.update) disk.old disk.new }
+        ensures sink { let failed = IsErrOf result StoreFault.Sink in
+            HasCause failed (K.faults sink.old) (K.faults sink.new) }
+    {
+        self.index.finish(disk)?;
+        let records = self.index.map.records()?;
+        say_records(alloc, records.as_slice(), &mut self.reply, sink)?;
+        Ok(Answered::All)
+    }
+
+    /// Lets the update read the files of n names more.
+    pub(crate) fn step<D: Disk>(&mut self, disk: &mut D, n: u32) -> Result<Answered, StoreFault>
+        requires told { IsTrue D.tells → IsOpen (session D.Disk self.old disk.old) }
+        ensures does { let at = session D.Disk in IsTrue D.tells →
+            AchievesFor (StepUpdate n) result (at self.old disk.old) (at self.new disk.new) }
+        ensures not_said { result ≢ Ok Answered.All }
+        ensures no_sink { result ≢ Err StoreFault.Sink }
+        ensures held { self.new.reply.held ≡ self.old.reply.held }
+        ensures looks { Looks D.Disk (ending result) disk.old disk.new }
+        ensures names { let names = length (take n self.old.index.update) in
+            LooksAtNames D.Disk names disk.old disk.new }
+    {
+        self.index.step(disk, n)?;
+        Ok(self.index.state())
+    }
+
+    /// Syncs the disk. Where the update has ended and no index was written yet, or too many records differ from it, the
+    /// index is written before.
+    pub(crate) fn flush<D: Disk>(
+        &mut self,
+        alloc: Global,
+        disk: &mut D,
+    ) -> Result<Answered, StoreFault>
+        requires told { IsTrue D.tells → IsOpen (session D.Disk self.old disk.old) }
+        ensures does { let at = session D.Disk in IsTrue D.tells →
+            AchievesFor Flush result (at self.old disk.old) (at self.new disk.new) }
+        ensures done { IfOk result (λ a. a ≡ Answered.Done) }
+        ensures no_sink { result ≢ Err StoreFault.Sink }
+        ensures held { self.new.reply.held ≡ self.old.reply.held }
+        ensures fresh { OnOk result (self.new.index.update ≡ [] → IsFresh self.new.index.map) }
+        ensures unclean { IsTrue D.tells → IsUnclean (D.state disk.new) }
+        ensures account { Accounts D.Disk (ending result) disk.old disk.new }
+        ensures no_entry { LooksAtNoEntry D.Disk disk.old disk.new }
+    {
+        refresh(alloc, disk, &mut self.index, self.moment)?;
+        disk.sync()?;
+        Ok(Answered::Done)
+    }
+
+    /// Reads the files of all entries anew, and writes the index with their records. A read that fails changes nothing.
+    pub(crate) fn rebuild<D: Disk>(
+        &mut self,
+        alloc: Global,
+        disk: &mut D,
+    ) -> Result<Answered, StoreFault>
+        requires told { IsTrue D.tells → IsOpen (session D.Disk self.old disk.old) }
+        ensures does { let at = session D.Disk in IsTrue D.tells →
+            AchievesFor Rebuild result (at self.old disk.old) (at self.new disk.new) }
+        ensures outcome { IfOk result (HasOutcome Rebuild) }
+        ensures not_said { result ≢ Ok Answered.All }
+        ensures no_sink { result ≢ Err StoreFault.Sink }
+        ensures held { self.new.reply.held ≡ self.old.reply.held }
+        ensures written { OnOk result (IsWritten self.new.index.map) }
+        ensures unclean { IsTrue D.tells → IsUnclean (D.state disk.new) }
+        ensures account { Accounts D.Disk (ending result) disk.old disk.new }
+    {
+        self.index = scan(alloc, disk)?;
+        write_index(alloc, disk, &mut self.index.map, self.moment)?;
+        disk.sync()?;
+        Ok(Answered::Rebuilt(self.index.map.totals().count))
+    }
+}

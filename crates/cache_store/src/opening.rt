@@ -1,0 +1,74 @@
+//! Opens the index, and begins its update.
+
+ghost use Rattle.std.specs.Prelude.{◌≡◌, IfOk, IsTrue, None, OnOk};
+ghost use Rattle.cache_base.specs.Names.{AreRising};
+ghost use Rattle.cache_store.specs.Kept.{HoldsIndex};
+ghost use Rattle.cache_store.specs.Open.{IsRest};
+ghost use Rattle.cache_store.specs.Records.{SeesNone, TellsOf};
+ghost use Rattle.disk_model.specs.Account.{Accounts, Looks, LooksAtNoEntry, ending};
+ghost use Rattle.disk_model.specs.Listing.{AreEntries};
+ghost use Rattle.disk_model.specs.State.{standing};
+ghost use Rattle.disk_model.specs.Told.{Told};
+ghost use Rattle.index_map.specs.Known.{SameBase};
+ghost use Rattle.index_theory.specs.Apart.{IsApart};
+ghost use Rattle.index_theory.specs.Ever.{entries_on};
+ghost use Rattle.index_theory.specs.Honest.{Honest};
+ghost use Rattle.startup_read.specs.Opening.{IsAmidOpening, OpensHonest, opened as opened_index};
+ghost use Rattle.startup_read.specs.Spares.{SparesEntries};
+
+use crate::memory_index::MemoryIndex;
+use disk_model::{Disk, DiskFault};
+use index_map::RecordMap;
+use index_update::Update;
+use startup_read::{Opened, Start, open_index};
+use std::alloc::Global;
+
+// Lists the names of all entries, which have still to be read.
+fn begin_update<D: Disk>(
+    alloc: Global,
+    disk: &mut D,
+    map: RecordMap,
+) -> Result<MemoryIndex, DiskFault>
+    ensures rest { IfOk result (λ index. IsTrue D.tells →
+        AreEntries (D.state disk.old) index.update) }
+    ensures rising { IfOk result (λ index. AreRising index.update) }
+    ensures base { IfOk result (λ index. SameBase map index.map) }
+    ensures tells { let es = entries_on (D.state disk.old) in
+        IfOk result (λ index. IsTrue D.tells → SeesNone map → TellsOf es index) }
+    ensures looks { Looks D.Disk (ending result) disk.old disk.new }
+    ensures no_entry { LooksAtNoEntry D.Disk disk.old disk.new }
+{
+    let mut index = MemoryIndex {
+        map,
+        update: Update::begin(alloc, disk)?,
+    };
+    index.settle();
+    Ok(index)
+}
+
+/// Opens the index. Where it is not trusted the names of all entries are listed, and their files are read later.
+pub(crate) fn begin_index<D: Disk>(alloc: Global, disk: &mut D) -> Result<MemoryIndex, DiskFault>
+    // The index in memory.
+    ensures rest { IfOk result (λ index. IsTrue D.tells → IsRest (D.state disk.old) index.update) }
+    ensures tells { let es = entries_on (D.state disk.old) in
+        IfOk result (λ index. IsTrue D.tells → Honest (standing (D.state disk.old)) → TellsOf es index) }
+    ensures holds { IfOk result (λ index. IsTrue D.tells → HoldsIndex (D.state disk.new) index.map) }
+
+    // The disk.
+    ensures opened { OnOk result (Told D.Disk (λ s t. t ≡ opened_index s) disk.old disk.new) }
+    ensures amid { Told D.Disk IsAmidOpening disk.old disk.new }
+    ensures entries { Told D.Disk (λ s t. IsApart s → SparesEntries s t) disk.old disk.new }
+    ensures honest { Told D.Disk OpensHonest disk.old disk.new }
+    ensures account { Accounts D.Disk (ending result) disk.old disk.new }
+    ensures no_entry { LooksAtNoEntry D.Disk disk.old disk.new }
+{
+    let Opened { start, map } = open_index(alloc, disk)?;
+    match start {
+        Start::Ready => Ok(MemoryIndex {
+            map,
+            update: Update::none(alloc),
+        }),
+        Start::Update => begin_update(alloc, disk, map),
+        Start::Build => begin_update(alloc, disk, map),
+    }
+}

@@ -1,0 +1,81 @@
+-- What some commands say by the records in memory, and where these come to be right.
+use Rattle.std.proofs.Common.{◌≡◌, inl, inr, ℕ, List, [], ◌∷◌, ◌++◌, false, IsTrue, refl, sym, subst, ◌∙◌, append_assoc, true≢false}
+use Rattle.std.specs.List.{list_any}
+use Rattle.std.proofs.lemmas.Bool.{or_cases, or_left, or_right}
+use Rattle.std.proofs.lemmas.List.Folds.{list_any-append}
+use Rattle.cache_store.specs.Open.{IsOpen, KeepsTo, Opens, StartsOn, Tells}
+use Rattle.cache_store.specs.Performing.{ComesToTell, MayTell, goes_by_records}
+use Rattle.cache_store.specs.Session.{Session}
+use Rattle.cache_theory.specs.Command.{Command}
+use Rattle.cache_theory.specs.Command.Command.{Rebuild}
+use Rattle.cache_theory.specs.History.{History}
+use Rattle.cache_theory.specs.Machine.{Machine}
+use Rattle.cache_tool.specs.Right.{AreRight, ComesRight, LeadTo, MaySay, MaySayOn, has_rebuild, is_rebuild}
+use Rattle.disk_model.specs.State.{State}
+use Rattle.index_theory.specs.Honest.{LeavesHonest}
+use Rattle.index_theory.proofs.UncleanLaws.{unclean_leaves_honest}
+
+-- a store that is open leaves no image whose index is trusted
+pub open_leaves_honest : (now : Session) → IsOpen now → LeavesHonest now.disk
+open_leaves_honest now open_still = unclean_leaves_honest now.disk open_still.1.matches.holds.unclean
+
+-- ---- what may be said
+
+-- of all commands, and so of the first
+pub may_say_first : (cs ds : List Command) (before : Session) (m : Machine) → MaySay (cs ++ ds) before m → MaySay cs before m
+may_say_first cs ds before m may = λ goes. may (list_any-append goes_by_records cs ds ∙ or_left (list_any goes_by_records cs) (list_any goes_by_records ds) goes)
+
+pub may_say_next : (cs : List Command) (c : Command) (ds : List Command) (before : Session) (m : Machine) → MaySay (cs ++ c ∷ ds) before m → MaySay (cs ++ c ∷ []) before m
+may_say_next cs c ds before m may = may_say_first (cs ++ c ∷ []) ds before m (subst (λ l. MaySay l before m) (sym (append_assoc cs (c ∷ []) ds)) may)
+
+-- and of the last, after the first
+pub may_tell_last : (cs : List Command) (c : Command) (before : Session) (m : Machine) (now : Session) (h : History) → LeadTo cs before m now h → MaySay (cs ++ c ∷ []) before m → MayTell c now h.machine
+may_tell_last cs c before m now h leads may = λ goes.
+    leads.tells (inl (may (list_any-append goes_by_records cs (c ∷ []) ∙ or_right (list_any goes_by_records cs) (list_any goes_by_records (c ∷ [])) (or_left (goes_by_records c) false goes))))
+
+pub may_tell_one : (c : Command) (before : Session) (m : Machine) → MaySay (c ∷ []) before m → MayTell c before m
+may_tell_one c before m may = λ goes. may (or_left (goes_by_records c) false goes)
+
+-- ---- where the records come to be right
+
+rebuild_is : (c : Command) → IsTrue (has_rebuild (c ∷ [])) → c ≡ Rebuild
+rebuild_is Rebuild is = refl
+rebuild_is c is = absurd (true≢false (sym is))
+
+pub one_is_right : (c : Command) (before : Session) (m : Machine) → AreRight (c ∷ []) before m → ComesToTell c before m
+one_is_right c before m (inl told) = inl told
+one_is_right c before m (inr rebuilt) = inr (rebuild_is c rebuilt)
+
+-- no command
+pub leads_none : (now : Session) (h : History) → KeepsTo now h → LeadTo [] now h.machine now h
+leads_none now h keeps = record { keeps = keeps; tells = tells }
+  where
+    tells : AreRight [] now h.machine → Tells now h.machine
+    tells (inl told) = told
+    tells (inr none) = absurd (true≢false (sym none))
+
+-- one
+pub leads_one : (c : Command) (before : Session) (m : Machine) (now : Session) (h : History) → KeepsTo now h → (ComesToTell c before m → Tells now h.machine) → LeadTo (c ∷ []) before m now h
+leads_one c before m now h keeps tells = record { keeps = keeps; tells = λ right. tells (one_is_right c before m right) }
+
+-- some, and then more
+pub leads_on : (cs ds : List Command) (before : Session) (m : Machine) (mid : Session) (g : History) (now : Session) (h : History) → LeadTo cs before m mid g → LeadTo ds mid g.machine now h → LeadTo (cs ++ ds) before m now h
+leads_on cs ds before m mid g now h first second = record { keeps = second.keeps; tells = tells }
+  where
+    tells : AreRight (cs ++ ds) before m → Tells now h.machine
+    tells (inl told) = second.tells (inl (first.tells (inl told)))
+    tells (inr rebuilt) = elim (or_cases (has_rebuild cs) (has_rebuild ds) (sym (list_any-append is_rebuild cs ds) ∙ rebuilt)) [
+      | inl here ↦ second.tells (inl (first.tells (inr here)))
+      | inr later ↦ second.tells (inr later)
+    ]
+
+-- ---- after an opening
+
+module _ {moment : ℕ} {s : State} {now : Session} {m : Machine} (opens : Opens moment s now) (is : StartsOn moment s m) (cs : List Command) where
+  -- the records are right where the directory was honest
+  pub opened_says : MaySayOn s cs → MaySay cs now m
+  opened_says may = λ goes. opens.tells m is (may goes)
+
+  pub opened_right : ComesRight s cs → AreRight cs now m
+  opened_right (inl honest) = inl (opens.tells m is honest)
+  opened_right (inr rebuilt) = inr rebuilt

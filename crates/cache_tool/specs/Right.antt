@@ -1,0 +1,46 @@
+-- Where the records in memory are right, and what is said where they are.
+use Rattle.std.specs.List.{list_any}
+use Rattle.std.specs.Prelude.{Bool, IsTrue, List, false, true, ◌⊎◌}
+use Rattle.cache_store.specs.Open.{KeepsTo, Tells}
+use Rattle.cache_store.specs.Performing.{goes_by_records}
+use Rattle.cache_store.specs.Session.{Session}
+use Rattle.cache_theory.specs.Command.{Command}
+use Rattle.cache_theory.specs.Command.Command.{Rebuild}
+use Rattle.cache_theory.specs.History.{History}
+use Rattle.cache_theory.specs.Machine.{Machine}
+use Rattle.disk_model.specs.State.{State, standing}
+use Rattle.index_theory.specs.Honest.{Honest}
+
+-- one of the commands reads all entries anew
+abbrev pub is_rebuild : Command → Bool
+is_rebuild Rebuild = true
+is_rebuild _ = false
+
+abbrev pub has_rebuild : List Command → Bool
+has_rebuild cs = list_any is_rebuild cs
+
+-- Of commands after an opening.
+
+-- all replies are the machine's: none goes by the records, or the directory was honest
+abbrev pub MaySayOn : State → List Command → Type 0
+MaySayOn s cs = IsTrue (list_any goes_by_records cs) → Honest (standing s)
+
+-- the records are right after them: the directory was honest, or all entries were read anew
+abbrev pub ComesRight : State → List Command → Type 0
+ComesRight s cs = Honest (standing s) ⊎ IsTrue (has_rebuild cs)
+
+-- Of commands in a session that stood for this machine before them.
+
+-- all replies are the machine's: none goes by the records, or these were right
+abbrev pub MaySay : List Command → Session → Machine → Type 0
+MaySay cs before m = IsTrue (list_any goes_by_records cs) → Tells before m
+
+-- the records are right after them: they were so before, or all entries were read anew
+abbrev pub AreRight : List Command → Session → Machine → Type 0
+AreRight cs before m = Tells before m ⊎ IsTrue (has_rebuild cs)
+
+-- they lead to this history, to which the store and the disk keep
+pub record LeadTo (cs : List Command) (before : Session) (m : Machine) (now : Session) (h : History)
+    : Type 0 where
+  pub keeps : KeepsTo now h
+  pub tells : AreRight cs before m → Tells now h.machine
