@@ -1,4 +1,6 @@
 /* What the plain programs share: numbers, the SHA-1 that names a file, and Bob Jenkins' lookup2, written plainly. */
+#pragma once
+
 #include <inttypes.h>
 #include <stdint.h>
 #include <stdio.h>

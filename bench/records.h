@@ -1,4 +1,6 @@
 /* What the plain programs on the index share: a record, a table of records by name, and the line that tells a record. */
+#pragma once
+
 #include "plain.h"
 #include <unistd.h>
 

@@ -1,10 +1,14 @@
+pub mod BasedIndex
 pub mod BegunIndex
 pub mod Closed
+pub mod ClosedInUse
+pub mod CountedChanges
 pub mod GetAnswers
 pub mod GetChunks
 pub mod HasEntry
 pub mod IndexAchieves
 pub mod IndexWrites
+pub mod InUseLaws
 pub mod LearntAchieves
 pub mod ListDoes
 pub mod OneLearnt
@@ -12,6 +16,7 @@ pub mod Opened
 pub mod OpenedIndex
 pub mod PartRead
 pub mod PartWhole
+pub mod PastHeader
 pub mod PerformDoes
 pub mod PerformSafe
 pub mod PerformStands
@@ -28,6 +33,8 @@ pub mod ScanAlike
 pub mod ScanBegins
 pub mod Shelves
 pub mod Spared
+pub mod SparedIndex
 pub mod StartAlong
+pub mod TakenMore
 pub mod TellsAlike
 pub mod Unsaid

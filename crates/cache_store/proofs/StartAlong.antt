@@ -1,11 +1,12 @@
 -- What an opening goes by is the same where the same files stand.
-use Rattle.std.proofs.Common.{◌≡◌, List, ap, subst, sym, ◌∙◌}
+use Rattle.std.proofs.Common.{◌≡◌, List, Option, ap, subst, sym, ◌∙◌}
 use Rattle.std.specs.Prelude.{IsSome, is_some, ℕ}
 use Rattle.cache_base.specs.declared.name.Name.{Name}
 use Rattle.disk_model.specs.Listing.{AreEntries}
 use Rattle.disk_model.specs.State.{State, standing}
 use Rattle.disk_model.specs.declared.place.Place.{Place}
 use Rattle.disk_model.specs.declared.place.Place.TheVariants.{Index, Log, Tmp}
+use Rattle.index_map.specs.Known.{Known}
 use Rattle.index_theory.specs.Apart.{IsOfIndex}
 use Rattle.index_theory.specs.Ever.{entries_on}
 use Rattle.index_theory.specs.Honest.{Honest, index_records, journal_records}
@@ -13,6 +14,7 @@ use Rattle.index_theory.specs.IndexKind.{index_kind}
 use Rattle.index_theory.specs.LogKind.{log_kind}
 use Rattle.index_theory.specs.Start.{decide, start_of}
 use Rattle.index_theory.proofs.StartLaws.{agrees_along}
+use Rattle.cache_store.specs.InUse.{HoldsBase, OpensInUse, past_header}
 use Rattle.cache_store.specs.Open.{IsRest}
 
 -- the same entries are listed
@@ -22,6 +24,14 @@ listed_along s t same names all name = (λ has. subst IsSome (same name.0) ((all
 module _ (s t : State) (index : (p : Place) → IsOfIndex p → standing t p ≡ standing s p) where
   pub start_along : start_of (standing t) ≡ start_of (standing s)
   start_along = λ i. decide (index_kind (index Index tt i)) (log_kind (index Log tt i)) (is_some (index Tmp tt i))
+
+  pub in_use_along : (map : Known) (u : State) → OpensInUse t map u → OpensInUse s map u
+  in_use_along map u opens found =
+      let was = opens (λ build. found (sym start_along ∙ build)) in
+      record {
+        base = subst (λ (file : Option (List ℕ)). HoldsBase (index_records file) map) (index Index tt) was.base;
+        past = was.past ∙ ap past_header (index Index tt);
+      }
 
   module _ (same : (name : List ℕ) → entries_on t name ≡ entries_on s name) where
     pub honest_along : Honest (standing s) → Honest (standing t)

@@ -1,5 +1,5 @@
 -- What is learnt of a call of the handles.
-use Rattle.std.specs.Prelude.{Err, None, Ok, OnOk, Option, Result, Some, ⊤, ◌≡◌, ◌≢◌}
+use Rattle.std.specs.Prelude.{Err, None, Ok, OnOk, Option, Result, Some, ◌≡◌, ◌≢◌}
 use Rattle.cache_store.specs.Records.{Learns}
 use Rattle.cache_store.specs.Replied.{replied}
 use Rattle.cache_store.specs.declared.answered.Answered.{Answered}
@@ -8,7 +8,6 @@ use Rattle.cache_store.specs.declared.fault.StoreFault.{StoreFault}
 use Rattle.cache_store.specs.declared.fault.StoreFault.TheVariants as fault
 use Rattle.cache_store.specs.declared.memory_index.MemoryIndex.{MemoryIndex}
 use Rattle.cache_theory.specs.Command.{Reply}
-use Rattle.file_handles.specs.Effects.{IsPlainEffect}
 use Rattle.file_handles.specs.declared.fault.Effect.{Effect}
 use Rattle.file_handles.specs.declared.fault.Effect.TheVariants as effect
 use Rattle.file_handles.specs.declared.fault.HandleFault.{HandleFault}

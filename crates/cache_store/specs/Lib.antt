@@ -2,6 +2,7 @@ pub mod Answering
 pub mod EntryText
 pub mod Faults
 pub mod IndexCalls
+pub mod InUse
 pub mod Kept
 pub mod Learnt
 pub mod Open

@@ -7,6 +7,10 @@ use Rattle.cache_store.specs.Said.{IsCut, Said, Saying}
 abbrev pub IsPart : Option (List ℕ) → Option (List ℕ) → List ℕ → Type 0
 IsPart before now text = (n : ℕ) × ((n ≤ length text) × Appends before now (take n text))
 
+-- the sink took more bytes, or none
+abbrev pub TakesMore : Option (List ℕ) → Option (List ℕ) → Type 0
+TakesMore before now = (out : List ℕ) × Appends before now out
+
 -- after what was said, this was said too
 abbrev pub SaysMore : Saying → Saying → List ℕ → Type 0
 SaysMore was now more =

@@ -7,14 +7,17 @@ ghost use Rattle.cache_script.specs.Command.{command_of};
 ghost use Rattle.cache_store.specs.Answering.{outcome_in, rest_of};
 ghost use Rattle.cache_store.specs.Faults.{ending};
 ghost use Rattle.cache_store.specs.IndexCalls.{IsFresh, IsWritten, LooksAtNames, WritesIndex, names_read};
+ghost use Rattle.cache_store.specs.InUse.{SparesIndex};
 ghost use Rattle.cache_store.specs.Printed.{HasBadKey, IsPlain, Prints, is_plain};
 ghost use Rattle.cache_store.specs.Said.{saying};
-ghost use Rattle.cache_store.specs.Saying.{CutsIn, SaysMore};
+ghost use Rattle.cache_store.specs.Saying.{CutsIn, SaysMore, TakesMore};
 ghost use Rattle.cache_theory.specs.Command.Command.{ElementOf, Flush, Rebuild};
 ghost use Rattle.cache_theory.specs.Given.{IsGiven};
 ghost use Rattle.cache_theory.specs.Text.{with_bytes};
 ghost use Rattle.disk_model.specs.Account.{Accounts};
+ghost use Rattle.disk_model.specs.Sound.{IsQuiet};
 ghost use Rattle.disk_model.specs.Told.{Told};
+ghost use Rattle.index_map.specs.Known.{SameBase};
 ghost use Rattle.index_theory.specs.Honest.{LeavesHonest};
 ghost use Rattle.index_theory.specs.Leaves.{LeavesIndex};
 ghost use Rattle.index_theory.specs.Unclean.{IsUnclean};
@@ -110,7 +113,7 @@ fn say_rest<K: Sink>(
 impl Store {
     ghost use Rattle.cache_store.specs.Answering.{AnswersOver, CutsRest, SendsRest};
     ghost use Rattle.cache_store.specs.Open.{IsOpen, LeavesOpen};
-    ghost use Rattle.cache_store.specs.Performing.{DoesFor, PerformsFor, PerformsSafely};
+    ghost use Rattle.cache_store.specs.Performing.{DoesFor, HadEffect, PerformsFor, PerformsSafely};
     ghost use Rattle.cache_store.specs.Session.{open_of, session};
     ghost use Rattle.file_handles.specs.Kept.{kept};
 
@@ -163,7 +166,12 @@ impl Store {
         ensures unsaid { IfOk result (λ a. a ≢ Answered.All → sink.new ≡ sink.old) }
         ensures still_empty { IfOk result (λ a.
             a ≢ Answered.All → self.new.reply.held ≡ []) }
-        ensures index { (WritesIndex (command_of c.now) → ⊥) → Told D.Disk LeavesIndex disk.old disk.new }
+        ensures grows { IsTrue D.tells → TakesMore (K.taken sink.old) (K.taken sink.new) }
+        ensures index { SparesIndex (command_of c.now) self.old.index → Told D.Disk LeavesIndex disk.old disk.new }
+        ensures base { SparesIndex (command_of c.now) self.old.index → HadEffect result →
+            SameBase self.old.index.map self.new.index.map }
+        ensures quiet { WritesIndex (command_of c.now) → HadEffect result →
+            IsTrue D.tells → IsQuiet (D.state disk.new) }
         ensures unclean { IsTrue D.tells → IsUnclean (D.state disk.new) }
         ensures looks { IfSome (names_read (command_of c.now) self.old.index.update)
             (λ names. LooksAtNames D.Disk names disk.old disk.new) }
@@ -262,6 +270,7 @@ impl Store {
         ensures prints { IfOk result (λ o.
             Prints (command_of c.now) o (K.taken sink.old) (K.taken sink.new)) }
         ensures bad_key { HasBadKey (command_of c.now) → result ≢ Ok Outcome.Ok }
+        ensures grows { IsTrue D.tells → TakesMore (K.taken sink.old) (K.taken sink.new) }
         ensures open { IsTrue D.tells → LeavesOpen result (session D.Disk self.new disk.new) }
 
         // What a crash leaves, at every exit.
@@ -269,9 +278,14 @@ impl Store {
             PerformsSafely (command_of c.now) result before (D.state disk.new) }
         ensures honest { IsTrue D.tells → LeavesHonest (D.state disk.new) }
 
-        // The files of the index: `flush` and `rebuild` alone write them. Where the update has ended, a `flush` leaves an
-        // index with all records but for few; and a `rebuild` leaves one with all.
-        ensures index { (WritesIndex (command_of c.now) → ⊥) → Told D.Disk LeavesIndex disk.old disk.new }
+        // The files of the index: they are left alone and the base in memory stays, but by a `rebuild`, and by a `flush`
+        // where the update has ended and not few records differ. Where it has ended, a `flush` leaves an index with all
+        // records but for few; and a `rebuild` leaves one with all. After both nothing is pending.
+        ensures index { SparesIndex (command_of c.now) self.old.index → Told D.Disk LeavesIndex disk.old disk.new }
+        ensures base { SparesIndex (command_of c.now) self.old.index → HadEffect result →
+            SameBase self.old.index.map self.new.index.map }
+        ensures quiet { WritesIndex (command_of c.now) → HadEffect result →
+            IsTrue D.tells → IsQuiet (D.state disk.new) }
         ensures flushed { command_of c.now ≡ Flush → OnOk result
             (self.new.index.update ≡ [] → IsFresh self.new.index.map) }
         ensures rebuilt { command_of c.now ≡ Rebuild → OnOk result (IsWritten self.new.index.map) }

@@ -5,14 +5,18 @@ ghost use Rattle.cache_base.specs.Causes.{HasCause};
 ghost use Rattle.cache_store.specs.Answering.{HasOutcome};
 ghost use Rattle.cache_store.specs.Faults.{ending};
 ghost use Rattle.cache_store.specs.IndexCalls.{IsFresh, IsWritten, LooksAtNames};
+ghost use Rattle.cache_store.specs.InUse.{SparesIndex};
 ghost use Rattle.cache_store.specs.Kept.{HoldsIndex};
 ghost use Rattle.cache_store.specs.Said.{saying};
-ghost use Rattle.cache_store.specs.Saying.{CutsIn, SaysMore};
+ghost use Rattle.cache_store.specs.Saying.{CutsIn, SaysMore, TakesMore};
 ghost use Rattle.cache_theory.specs.Command.Command.{Flush, ListRecords, Rebuild, StepUpdate};
 ghost use Rattle.cache_theory.specs.Text.{line, record_words, records_text};
 ghost use Rattle.disk_model.specs.Account.{Accounts, Looks, LooksAtNoEntry, ending as disk_ending};
+ghost use Rattle.disk_model.specs.Sound.{IsQuiet};
 ghost use Rattle.disk_model.specs.Told.{Told};
 ghost use Rattle.index_theory.specs.Apart.{IsApart};
+ghost use Rattle.index_theory.specs.Leaves.{LeavesIndex};
+ghost use Rattle.index_map.specs.Known.{SameBase};
 ghost use Rattle.index_theory.specs.Unclean.{IsUnclean};
 ghost use Rattle.startup_read.specs.Spares.{SparesEntries};
 
@@ -42,8 +46,10 @@ fn refresh<D: Disk>(
     ensures records { index.new.map.records ≡ index.old.map.records }
     ensures seen { index.new.map.seen ≡ index.old.map.seen }
     ensures fresh { OnOk result (index.new.update ≡ [] → IsFresh index.new.map) }
+    ensures same { SparesIndex Flush index.old → index.new ≡ index.old }
 
     // The disk.
+    ensures unwritten { SparesIndex Flush index.old → Told D.Disk (λ s t. t ≡ s) disk.old disk.new }
     ensures holds { let was = index.old.map in let map = index.new.map in
         OnOk result (Told D.Disk (λ s t. HoldsIndex s was → HoldsIndex t map) disk.old disk.new) }
     ensures entries { Told D.Disk (λ s t. IsApart s → SparesEntries s t) disk.old disk.new }
@@ -118,6 +124,8 @@ impl Store {
         ensures does { let at = session D.Disk in IsTrue D.tells →
             DoesFor ListRecords result (at self.old disk.old) (at self.new disk.new)
             (K.taken sink.old) (saying K.Sink self.new.reply sink.new) }
+        ensures grows { TakesMore (K.taken sink.old) (K.taken sink.new) }
+        ensures base { SameBase self.old.index.map self.new.index.map }
         ensures all { IfOk result (λ a. a ≡ Answered.All) }
         ensures looks { Looks D.Disk (ending result) disk.old disk.new }
         ensures names { LooksAtNames D.Disk (length self.old.index.update) disk.old disk.new }
@@ -135,6 +143,7 @@ impl Store {
         requires told { IsTrue D.tells → IsOpen (session D.Disk self.old disk.old) }
         ensures does { let at = session D.Disk in IsTrue D.tells →
             AchievesFor (StepUpdate n) result (at self.old disk.old) (at self.new disk.new) }
+        ensures base { SameBase self.old.index.map self.new.index.map }
         ensures not_said { result ≢ Ok Answered.All }
         ensures no_sink { result ≢ Err StoreFault.Sink }
         ensures held { self.new.reply.held ≡ self.old.reply.held }
@@ -160,6 +169,9 @@ impl Store {
         ensures no_sink { result ≢ Err StoreFault.Sink }
         ensures held { self.new.reply.held ≡ self.old.reply.held }
         ensures fresh { OnOk result (self.new.index.update ≡ [] → IsFresh self.new.index.map) }
+        ensures same { SparesIndex Flush self.old.index → self.new.index ≡ self.old.index }
+        ensures index { SparesIndex Flush self.old.index → Told D.Disk LeavesIndex disk.old disk.new }
+        ensures quiet { OnOk result (IsTrue D.tells → IsQuiet (D.state disk.new)) }
         ensures unclean { IsTrue D.tells → IsUnclean (D.state disk.new) }
         ensures account { Accounts D.Disk (ending result) disk.old disk.new }
         ensures no_entry { LooksAtNoEntry D.Disk disk.old disk.new }
@@ -183,6 +195,7 @@ impl Store {
         ensures no_sink { result ≢ Err StoreFault.Sink }
         ensures held { self.new.reply.held ≡ self.old.reply.held }
         ensures written { OnOk result (IsWritten self.new.index.map) }
+        ensures quiet { OnOk result (IsTrue D.tells → IsQuiet (D.state disk.new)) }
         ensures unclean { IsTrue D.tells → IsUnclean (D.state disk.new) }
         ensures account { Accounts D.Disk (ending result) disk.old disk.new }
     {

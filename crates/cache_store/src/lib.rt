@@ -7,6 +7,7 @@ mod command;
 mod fault;
 mod get;
 mod index_commands;
+mod laws;
 mod learning;
 mod memory_index;
 mod opening;
@@ -16,6 +17,7 @@ mod replies;
 mod store;
 
 pub use fault::{Outcome, StoreFault};
+pub use laws::few_leave_index;
 pub use store::Store;
 
 #[cfg(test)]

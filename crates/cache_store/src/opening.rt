@@ -2,6 +2,7 @@
 
 ghost use Rattle.std.specs.Prelude.{◌≡◌, IfOk, IsTrue, None, OnOk};
 ghost use Rattle.cache_base.specs.Names.{AreRising};
+ghost use Rattle.cache_store.specs.InUse.{OpensInUse};
 ghost use Rattle.cache_store.specs.Kept.{HoldsIndex};
 ghost use Rattle.cache_store.specs.Open.{IsRest};
 ghost use Rattle.cache_store.specs.Records.{SeesNone, TellsOf};
@@ -53,6 +54,8 @@ pub(crate) fn begin_index<D: Disk>(alloc: Global, disk: &mut D) -> Result<Memory
     ensures tells { let es = entries_on (D.state disk.old) in
         IfOk result (λ index. IsTrue D.tells → Honest (standing (D.state disk.old)) → TellsOf es index) }
     ensures holds { IfOk result (λ index. IsTrue D.tells → HoldsIndex (D.state disk.new) index.map) }
+    ensures based { IfOk result (λ index. IsTrue D.tells →
+        OpensInUse (D.state disk.old) index.map (D.state disk.new)) }
 
     // The disk.
     ensures opened { OnOk result (Told D.Disk (λ s t. t ≡ opened_index s) disk.old disk.new) }

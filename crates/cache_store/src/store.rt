@@ -32,6 +32,7 @@ pub struct Store {
 
 impl Store {
     ghost use Rattle.cache_store.specs.Faults.{ending};
+    ghost use Rattle.cache_store.specs.InUse.{ClosesInUse, OpensInUse};
     ghost use Rattle.cache_store.specs.Open.{Closes, ClosesHonestly, ClosesSafely, HasShelf, IsOpen, KeepsFound, Opens, OpensHonestly, OpensSafely};
     ghost use Rattle.cache_store.specs.Session.{session};
 
@@ -45,6 +46,8 @@ impl Store {
         ensures open { IfOk result (λ store. IsTrue D.tells →
             IsOpen (session D.Disk store disk.new)) }
         ensures shelf { IsTrue D.tells → HasShelf (D.state disk.old) }
+        ensures based { IfOk result (λ store. IsTrue D.tells →
+            OpensInUse (D.state disk.old) store.index.map (D.state disk.new)) }
 
         // What a crash leaves, at every exit.
         ensures safe { Told D.Disk (OpensSafely now) disk.old disk.new }
@@ -79,6 +82,7 @@ impl Store {
         ensures closes { IsTrue D.tells →
             Closes result (session D.Disk self disk.old) (D.state disk.new) }
         ensures quiet { OnOk result (IsTrue D.tells → IsQuiet (D.state disk.new)) }
+        ensures journal { OnOk result (Told D.Disk (ClosesInUse self.index) disk.old disk.new) }
 
         // What a crash leaves, at every exit.
         ensures crash { IsTrue D.tells →
@@ -86,8 +90,9 @@ impl Store {
         ensures honest { IsTrue D.tells →
             ClosesHonestly result (session D.Disk self disk.old) (D.state disk.new) }
 
-        // Calls and faults.
+        // Calls and faults. No entry is looked at.
         ensures no_sink { result ≢ Err StoreFault.Sink }
+        ensures no_entry { LooksAtNoEntry D.Disk disk.old disk.new }
         ensures account { Accounts D.Disk (ending result) disk.old disk.new }
     {
         let Store {

@@ -1,5 +1,7 @@
 pub mod Accounted
 pub mod Begun
+pub mod EntryLooks
+pub mod Growing
 pub mod Handed
 pub mod Moments
 pub mod OneCommand
@@ -19,4 +21,5 @@ pub mod ScriptReplies
 pub mod ScriptTurns
 pub mod ScriptWhole
 pub mod StatusLaws
+pub mod StayingLaws
 pub mod WordsTable

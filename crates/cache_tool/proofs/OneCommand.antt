@@ -8,8 +8,9 @@ use Rattle.cache_base.specs.declared.status.Status.{Status}
 use Rattle.cache_base.specs.declared.status.Status.TheVariants as status
 use Rattle.cache_store.specs.Answering.{outcome_of}
 use Rattle.cache_store.specs.Faults.{ending}
-use Rattle.cache_store.specs.Open.{IsHonest, IsShut, KeepsTo, LeavesOpen, Opens, OpensHonestly, StartsOn, Tells}
-use Rattle.cache_store.specs.Performing.{ComesToTell, Keeps, MayTell, Performs}
+use Rattle.cache_store.specs.InUse.{HasShortJournal, OpensInUse}
+use Rattle.cache_store.specs.Open.{IsHonest, IsShut, LeavesOpen, Opens, OpensHonestly, StartsOn}
+use Rattle.cache_store.specs.Performing.{HadEffect, Keeps, MayTell, Performs}
 use Rattle.cache_store.specs.Said.{IsCut}
 use Rattle.cache_store.specs.Saying.{IsPart}
 use Rattle.cache_store.specs.Session.{Session}
@@ -28,11 +29,12 @@ use Rattle.cache_theory.specs.Text.{reply_text}
 use Rattle.cache_theory.proofs.Begins.{begin_keeps}
 use Rattle.cache_theory.proofs.Crashes.{safe_is_crash_safe}
 use Rattle.cache_tool.specs.Ending.{EndsSession, IsEnded}
-use Rattle.cache_tool.specs.Right.{ComesRight, MaySayOn}
+use Rattle.cache_tool.specs.Right.{ComesRight, LeadTo, MaySayOn}
 use Rattle.cache_tool.specs.Statuses.{IsAnswer, IsClosing, status_in, status_of}
 use Rattle.cache_tool.specs.Verbs.{PrintsLast}
 use Rattle.cache_tool.specs.World.{Output}
-use Rattle.cache_tool.proofs.RightLaws.{may_tell_one, one_is_right, opened_right, opened_says}
+use Rattle.cache_tool.proofs.RightLaws.{leads_one, may_tell_one, opened_right, opened_says}
+use Rattle.cache_tool.proofs.StayingLaws.{StaysOnce, StaysWhole, stays_whole}
 use Rattle.disk_model.specs.Sound.{IsQuiet}
 use Rattle.disk_model.specs.State.{State, standing}
 use Rattle.index_theory.specs.Honest.{Honest, LeavesHonest}
@@ -110,13 +112,16 @@ module _ (m : Machine) (c : Command) (before now : Output) (safe : IsQuiet befor
       honest = λ closing right. absurd (stop_closes_not ended stop closing);
       crash = λ quiet. safe_is_crash_safe now.disk (begun c (settled_at m)).marks (safe quiet);
       images = images;
+      journal = λ closing over. absurd (stop_closes_not ended stop closing);
+      in_use = λ closing. absurd (stop_closes_not ended stop closing);
     };
   }
 
   -- what stands where the store was closed
-  module _ (shut : IsShut now.disk (step m c).next) (honest : ComesRight before.disk (c ∷ []) → IsHonest now.disk (step m c).next) where
-    sunk : (ended : Status) → ended ≡ status.Sink → (MaySayOn before.disk (c ∷ []) → IsCut before.taken now.taken (reply_text (step m c).reply)) → PrintsLast m (c ∷ []) ended before now
-    sunk ended sink cut = record {
+  module _ (ended : Status) (shut : IsShut now.disk (step m c).next) (honest : ComesRight before.disk (c ∷ []) → IsHonest now.disk (step m c).next)
+      (journal : (step m c).next.rest ≡ [] → HasShortJournal (standing now.disk)) (in_use : StaysWhole ended m (c ∷ []) before.disk now.disk) where
+    sunk : ended ≡ status.Sink → (MaySayOn before.disk (c ∷ []) → IsCut before.taken now.taken (reply_text (step m c).reply)) → PrintsLast m (c ∷ []) ended before now
+    sunk sink cut = record {
       answer = λ is. absurd (sink_is_no_answer ended sink is);
       text = λ may. record {
         printed = λ is. absurd (sink_is_no_answer ended sink is);
@@ -129,12 +134,14 @@ module _ (m : Machine) (c : Command) (before now : Output) (safe : IsQuiet befor
         honest = λ closing right. honest right;
         crash = λ quiet. safe_is_crash_safe now.disk (begun c (settled_at m)).marks (safe quiet);
         images = images;
+        journal = λ closing over. journal over;
+        in_use = in_use;
       };
     }
 
-    answered : (o : Outcome) (ended : Status) → ended ≡ status_of o → o ≡ outcome_of (step m c).reply → (MaySayOn before.disk (c ∷ []) → Appends before.taken now.taken (reply_text (step m c).reply))
+    answered : (o : Outcome) → ended ≡ status_of o → o ≡ outcome_of (step m c).reply → (MaySayOn before.disk (c ∷ []) → Appends before.taken now.taken (reply_text (step m c).reply))
         → PrintsLast m (c ∷ []) ended before now
-    answered o ended is replied printed = record {
+    answered o is replied printed = record {
       answer = λ answer. is ∙ ap status_of replied;
       text = λ may. record {
         printed = λ answer. printed may;
@@ -147,6 +154,8 @@ module _ (m : Machine) (c : Command) (before now : Output) (safe : IsQuiet befor
         honest = λ closing right. honest right;
         crash = λ quiet. safe_is_crash_safe now.disk (begun c (settled_at m)).marks (safe quiet);
         images = images;
+        journal = λ closing over. journal over;
+        in_use = in_use;
       };
     }
 
@@ -178,55 +187,62 @@ came_ok : (o : Outcome) (came : Result Status StoreFault) → IsOkAnd came (λ s
 came_ok o (Ok s) is = is
 came_ok o (Err f) is = absurd is
 
-module _ {moment : ℕ} (m : Machine) (c : Command) (before now : Output) (first last : Session) (ended : Status) (opens : Opens moment before.disk first) (is : StartsOn moment before.disk m) (ends : EndsSession ended last now.disk) where
+module _ {moment : ℕ} (m : Machine) (c : Command) (before now : Output) (first last : Session) (ended : Status) (opens : Opens moment before.disk first) (is : StartsOn moment before.disk m)
+    (based : OpensInUse before.disk first.open_store.index.map first.disk) (ends : EndsSession ended last now.disk) where
   -- the command's effect on the records, and on the disk where the store was closed after it
-  module _ (h : History) (keeps : KeepsTo last h) (tells : ComesToTell c first m → Tells last h.machine) where
+  module _ (h : History) (leads : LeadTo (c ∷ []) first m last h) where
     closed : IsEnded ended h last now.disk
-    closed = ends.each h keeps
+    closed = ends.each h leads.keeps
 
     images : IsQuiet before.disk → Honest (standing before.disk) → LeavesHonest now.disk
-    images quiet honest = closed.images (tells (inl (opens.tells m is honest)))
+    images quiet honest = closed.images (leads.tells (inl (opens.tells m is honest)))
 
     honest : IsClosing ended → ComesRight before.disk (c ∷ []) → IsHonest now.disk h.machine
-    honest closing right = closed.honest closing (tells (one_is_right c first m (opened_right opens is (c ∷ []) right)))
+    honest closing right = closed.honest closing (leads.tells (opened_right opens is (c ∷ []) right))
+
+    in_use : h.machine ≡ (step m c).next → StaysWhole ended m (c ∷ []) before.disk now.disk
+    in_use same = stays_whole before.disk now.disk m first last (c ∷ []) h ended opens is based leads closed same
 
   -- the reply is the machine's
   says : MaySayOn before.disk (c ∷ []) → MayTell c first m
   says may = may_tell_one c first m (opened_says opens is (c ∷ []) may)
 
   -- it was performed, and the session was ended by what it came to
-  pub performed_prints : (answer : Result Outcome StoreFault) (came : Result Status StoreFault) → Performs c m answer first last before.taken now.taken → Keeps c (settled_at m) answer last → LeavesHonest last.disk
+  pub performed_prints : (answer : Result Outcome StoreFault) (came : Result Status StoreFault) → Performs c m answer first last before.taken now.taken → Keeps c (settled_at m) answer last
+      → (HadEffect answer → StaysOnce c first m last) → LeavesHonest last.disk
       → CameBy answer came → (ended ≡ status_in came) ⊎ IsStop ended → ((IsClosing (status_in came) → ⊥) → (ended ≡ status_in came) × (now.disk ≡ last.disk))
       → PrintsLast m (c ∷ []) ended before now
-  performed_prints (Ok o) came performs keeps kept by (inl same) dropped =
+  performed_prints (Ok o) came performs keeps stays kept by (inl same) dropped =
       let as_outcome = same ∙ came_ok o came by in
       let h : History = acked c (settled_at m) in
-      let end = closed h keeps.next (performs.tells tt) in
+      let leads = leads_one c first m last h keeps.next (performs.tells tt) (stays tt) in
+      let end = closed h leads in
       let closing = outcome_closes o ended as_outcome in
-      answered m c before now (λ quiet. begun_at_mark now.disk m c end.safe) (images h keeps.next (performs.tells tt)) (end.shut closing) (honest h keeps.next (performs.tells tt) closing)
-      o ended as_outcome performs.outcome (λ may. performs.printed (says may))
-  performed_prints (Ok o) came performs keeps kept by (inr stop) dropped =
+      answered m c before now (λ quiet. begun_at_mark now.disk m c end.safe) (images h leads) ended (end.shut closing) (honest h leads closing) (end.journal closing) (in_use h leads refl)
+      o as_outcome performs.outcome (λ may. performs.printed (says may))
+  performed_prints (Ok o) came performs keeps stays kept by (inr stop) dropped =
       let h : History = acked c (settled_at m) in
-      let end = closed h keeps.next (performs.tells tt) in
-      stopped m c before now (λ quiet. begun_at_mark now.disk m c end.safe) (images h keeps.next (performs.tells tt)) ended stop
+      let leads = leads_one c first m last h keeps.next (performs.tells tt) (stays tt) in
+      stopped m c before now (λ quiet. begun_at_mark now.disk m c (closed h leads).safe) (images h leads) ended stop
       (λ may. all_part before.taken now.taken (reply_text (step m c).reply) (performs.printed (says may)))
-  performed_prints (Err fault.Sink) came performs keeps kept by (inl same) dropped =
+  performed_prints (Err fault.Sink) came performs keeps stays kept by (inl same) dropped =
       let sink = same ∙ ap status_in by in
       let h : History = unanswered c (settled_at m) in
-      let end = closed h (keeps.unanswered refl) (performs.tells refl) in
+      let leads = leads_one c first m last h (keeps.unanswered refl) (performs.tells refl) (stays refl) in
+      let end = closed h leads in
       let closing : IsClosing ended = subst IsClosing (sym sink) tt in
-      sunk m c before now (λ quiet. end.safe) (images h (keeps.unanswered refl) (performs.tells refl)) (end.shut closing) (honest h (keeps.unanswered refl) (performs.tells refl) closing)
-      ended sink (λ may. performs.cut (says may))
-  performed_prints (Err fault.Sink) came performs keeps kept by (inr stop) dropped =
+      sunk m c before now (λ quiet. end.safe) (images h leads) ended (end.shut closing) (honest h leads closing) (end.journal closing) (in_use h leads refl)
+      sink (λ may. performs.cut (says may))
+  performed_prints (Err fault.Sink) came performs keeps stays kept by (inr stop) dropped =
       let h : History = unanswered c (settled_at m) in
-      let end = closed h (keeps.unanswered refl) (performs.tells refl) in
-      stopped m c before now (λ quiet. end.safe) (images h (keeps.unanswered refl) (performs.tells refl)) ended stop
+      let leads = leads_one c first m last h (keeps.unanswered refl) (performs.tells refl) (stays refl) in
+      stopped m c before now (λ quiet. (closed h leads).safe) (images h leads) ended stop
       (λ may. cut_part before.taken now.taken (reply_text (step m c).reply) (performs.cut (says may)))
-  performed_prints (Err fault.Disk) came performs keeps kept by same dropped =
+  performed_prints (Err fault.Disk) came performs keeps stays kept by same dropped =
       let left = dropped (λ closing. subst (λ x. IsClosing (status_in x)) by closing) in
       stopped m c before now (λ quiet. subst (λ x. IsSafe x (begun c (settled_at m)).marks) (sym left.1) keeps.safe) (λ quiet honest. subst LeavesHonest (sym left.1) kept) ended
       (inl (left.0 ∙ ap status_in by)) (λ may. cut_part before.taken now.taken (reply_text (step m c).reply) (performs.cut (says may)))
-  performed_prints (Err fault.Memory) came performs keeps kept by same dropped =
+  performed_prints (Err fault.Memory) came performs keeps stays kept by same dropped =
       let left = dropped (λ closing. subst (λ x. IsClosing (status_in x)) by closing) in
       stopped m c before now (λ quiet. subst (λ x. IsSafe x (begun c (settled_at m)).marks) (sym left.1) keeps.safe) (λ quiet honest. subst LeavesHonest (sym left.1) kept) ended
       (inr (left.0 ∙ ap status_in by)) (λ may. cut_part before.taken now.taken (reply_text (step m c).reply) (performs.cut (says may)))

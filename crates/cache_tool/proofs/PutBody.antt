@@ -48,7 +48,7 @@ body_more h cs ds first body before mid now said sent ran writes =
     let same = unanswered-append cs ds h in
     record {
       stands = subst (λ x. LeadTo (cs ++ ds) before h.machine now x) (sym same)
-          (leads_on cs ds before h.machine mid (all_unanswered cs h) now (all_unanswered ds (all_unanswered cs h)) sent.stands
+          (leads_on cs ds before h.machine mid (all_unanswered cs h) now (all_unanswered ds (all_unanswered cs h)) refl sent.stands
           (subst (λ l. LeadTo l mid (after h.machine cs) now (all_unanswered l (all_unanswered cs h))) all ran.stands));
       done = done-append h.machine cs ds sent.done done;
       writes = subst (λ (x : History). IsWriting x.machine body) (sym same) writes;

@@ -146,7 +146,7 @@ sent_then h cs ds answer before mid now said first led second =
       stands = on_ok_weaker answer
           (λ on. subst (λ l. LeadTo l before h.machine now (all_unanswered l h)) (sym all)
           (subst (λ x. LeadTo (cs ++ rest) before h.machine now x) (sym same)
-          (leads_on cs rest before h.machine mid (all_unanswered cs h) now (all_unanswered rest (all_unanswered cs h)) led on))) second.stands;
+          (leads_on cs rest before h.machine mid (all_unanswered cs h) now (all_unanswered rest (all_unanswered cs h)) refl led on))) second.stands;
       done = λ e. done-append h.machine cs ds first (second.done e);
       refused = λ e. stops-append h.machine cs ds said first (second.refused e);
     }

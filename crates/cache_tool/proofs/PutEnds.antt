@@ -1,5 +1,5 @@
 -- How a put ends: the store is closed, and the last reply is printed.
-use Rattle.std.proofs.Common.{◌≡◌, ◌≢◌, ◌⊎◌, inl, inr, ℕ, ◌≤◌, List, length, refl, sym, ap, subst, ◌∙◌, arith}
+use Rattle.std.proofs.Common.{◌≡◌, ◌≢◌, ◌⊎◌, inl, inr, ℕ, ◌≤◌, List, [], length, refl, sym, ap, subst, ◌∙◌, arith}
 use Rattle.std.specs.Prelude.{Err, IfOk, IsSome, Ok, Option, Result}
 use Rattle.std.specs.Io.KnownBytes.{Appends}
 use Rattle.std.proofs.KnownBytes.{Appends-nil, Keeps-refl}
@@ -8,6 +8,7 @@ use Rattle.cache_base.specs.Causes.{HasCause, Rose}
 use Rattle.cache_base.specs.declared.status.Status.{Status}
 use Rattle.cache_base.specs.declared.status.Status.TheVariants as status
 use Rattle.cache_store.specs.Faults.{ending}
+use Rattle.cache_store.specs.InUse.{HasShortJournal, OpensInUse}
 use Rattle.cache_store.specs.Open.{IsHonest, IsShut, Opens, OpensHonestly, StartsOn}
 use Rattle.cache_store.specs.Said.{IsCut}
 use Rattle.cache_store.specs.Saying.{IsPart}
@@ -35,6 +36,7 @@ use Rattle.cache_tool.specs.World.{Output, Supply, World}
 use Rattle.cache_tool.proofs.Begun.{all_begin_keep}
 use Rattle.cache_tool.proofs.PutWhole.{fault_is_none, not_closing, some_body}
 use Rattle.cache_tool.proofs.RightLaws.{opened_right}
+use Rattle.cache_tool.proofs.StayingLaws.{StaysWhole, stays_whole}
 use Rattle.cache_tool.proofs.StatusLaws.{EndsAs, answer_closes, closes_or_not, closing_same}
 use Rattle.disk_model.specs.Account.{Ending}
 use Rattle.disk_model.specs.Sound.{IsQuiet}
@@ -100,6 +102,8 @@ not_opened m key from to f before t other calm some safe images =
             honest = λ closing right. absurd (not_closing f other closing);
             crash = λ quiet. crash_safe t m (put_commands m key body.0) (all_begin_keep t m (put_commands m key body.0) (marks_of m) (safe quiet));
             images = images;
+            journal = λ closing over. absurd (not_closing f other closing);
+            in_use = λ closing. absurd (not_closing f other closing);
           };
         },
       ),
@@ -111,7 +115,7 @@ not_opened m key from to f before t other calm some safe images =
     sink_is fault.Sink o e = o refl
 
 module _ {moment : ℕ} (m : Machine) (key : List ℕ) (from to : Supply) (came ended : Status) (before : Output) (first last : Session) (t : State) (said : List ℕ)
-    (opens : Opens moment before.disk first) (is_start : StartsOn moment before.disk m) (put : PutIsPerformed key (settled_at m) from to came first last said) (ends : EndsSession ended last t) (same : EndsAs ended came) where
+    (opens : Opens moment before.disk first) (is_start : StartsOn moment before.disk m) (based : OpensInUse before.disk first.open_store.index.map first.disk) (put : PutIsPerformed key (settled_at m) from to came first last said) (ends : EndsSession ended last t) (same : EndsAs ended came) where
   -- the commands that were performed, where the store was closed
   led : IsClosing came → LeadTo put.commands first m last (all_unanswered put.commands (settled_at m))
   led closing = put.stands closing
@@ -129,6 +133,14 @@ module _ {moment : ℕ} (m : Machine) (key : List ℕ) (from to : Supply) (came 
 
   images : IsClosing came → Honest (standing before.disk) → LeavesHonest t
   images closing honest = (closed closing).images ((led closing).tells (inl (opens.tells m is_start honest)))
+
+  journal : IsClosing ended → (after m put.commands).rest ≡ [] → HasShortJournal (standing t)
+  journal closing = (closed (subst IsClosing (closing_same ended came same closing) closing)).journal closing
+
+  in_use : StaysWhole ended m put.commands before.disk t
+  in_use closing =
+      let as_came : IsClosing came = subst IsClosing (closing_same ended came same closing) closing in
+      stays_whole before.disk t m first last put.commands (all_unanswered put.commands (settled_at m)) ended opens is_start based (led as_came) (closed as_came) refl closing
 
   -- an answer is printed
   pub answered : (final : Status) (taken : Option (List ℕ)) → IsAnswer ended → Printed ended final before.taken taken said
@@ -153,6 +165,8 @@ module _ {moment : ℕ} (m : Machine) (key : List ℕ) (from to : Supply) (came 
               honest = λ closing right. honest (answer_closes ended answer) right;
               crash = λ quiet. crash_safe t m put.commands (closed closes).safe;
               images = λ quiet honest. images closes honest;
+              journal = λ closing. journal (answer_closes ended answer);
+              in_use = λ closing. in_use (answer_closes ended answer);
             };
           },
         ),
@@ -178,6 +192,8 @@ module _ {moment : ℕ} (m : Machine) (key : List ℕ) (from to : Supply) (came 
           honest = honest;
           crash = λ quiet. crash_safe t m put.commands safe;
           images = λ quiet honest. left_honest honest;
+          journal = journal;
+          in_use = in_use;
         };
       },
     ),

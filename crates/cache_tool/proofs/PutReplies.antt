@@ -19,21 +19,22 @@ use Rattle.cache_tool.specs.PutProgress.{IsSent, IsWriting, PieceIsSent}
 use Rattle.cache_tool.specs.Right.{LeadTo}
 use Rattle.cache_tool.proofs.PutMachine.{piece_none, piece_over, piece_sent}
 use Rattle.cache_tool.proofs.RightLaws.{leads_one}
+use Rattle.cache_tool.proofs.StayingLaws.{StaysOnce}
 
 -- what went out to a sink that held nothing is what it holds
 pub sends_of : (c : Command) (h : History) (answer : Result Outcome StoreFault) (first now : Session) (before said : List ℕ) → before ≡ []
-    → Performs c h.machine answer first now (Some before) (Some said) → Keeps c h answer now → IsSent c h answer first now said
-sends_of c h answer first now before said none p kept = record {
+    → Performs c h.machine answer first now (Some before) (Some said) → Keeps c h answer now → (HadEffect answer → StaysOnce c first h.machine now) → IsSent c h answer first now said
+sends_of c h answer first now before said none p kept stays = record {
   safe = kept.safe;
-  next = leads answer kept.next p.tells;
+  next = leads answer kept.next p.tells stays;
   outcome = p.outcome;
   replied = λ bare. held answer (p.printed (λ goes. absurd (true≢false (sym goes ∙ bare))));
 }
   where
     leads : (a : Result Outcome StoreFault) → OnOk a (KeepsTo now (acked c h)) → (HadEffect a → ComesToTell c first h.machine → Tells now (step h.machine c).next)
-        → OnOk a (LeadTo (c ∷ []) first h.machine now (acked c h))
-    leads (Ok r) keeps tells = leads_one c first h.machine now (acked c h) keeps (tells tt)
-    leads (Err f) keeps tells = tt
+        → (HadEffect a → StaysOnce c first h.machine now) → OnOk a (LeadTo (c ∷ []) first h.machine now (acked c h))
+    leads (Ok r) keeps tells on = leads_one c first h.machine now (acked c h) keeps (tells tt) (on tt)
+    leads (Err f) keeps tells on = tt
 
     held : (a : Result Outcome StoreFault) → OnOk a (said ≡ before ++ reply_text (step h.machine c).reply) → OnOk a (said ≡ reply_text (step h.machine c).reply)
     held (Ok r) is = is ∙ ap (λ l. l ++ reply_text (step h.machine c).reply) none

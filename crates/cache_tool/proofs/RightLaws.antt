@@ -3,6 +3,7 @@ use Rattle.std.proofs.Common.{◌≡◌, inl, inr, ℕ, List, [], ◌∷◌, ◌
 use Rattle.std.specs.List.{list_any}
 use Rattle.std.proofs.lemmas.Bool.{or_cases, or_left, or_right}
 use Rattle.std.proofs.lemmas.List.Folds.{list_any-append}
+use Rattle.cache_store.specs.InUse.{HoldsBase}
 use Rattle.cache_store.specs.Open.{IsOpen, KeepsTo, Opens, StartsOn, Tells}
 use Rattle.cache_store.specs.Performing.{ComesToTell, MayTell, goes_by_records}
 use Rattle.cache_store.specs.Session.{Session}
@@ -10,8 +11,12 @@ use Rattle.cache_theory.specs.Command.{Command}
 use Rattle.cache_theory.specs.Command.Command.{Rebuild}
 use Rattle.cache_theory.specs.History.{History}
 use Rattle.cache_theory.specs.Machine.{Machine}
+use Rattle.cache_theory.specs.Step.{after}
 use Rattle.cache_tool.specs.Right.{AreRight, ComesRight, LeadTo, MaySay, MaySayOn, has_rebuild, is_rebuild}
+use Rattle.cache_tool.specs.Staying.{IsInUse, StaysOverAll}
+use Rattle.cache_tool.proofs.StayingLaws.{StaysOnce, both_in_use, none_in_use, stays_split}
 use Rattle.disk_model.specs.State.{State}
+use Rattle.index_record.specs.declared.record.IndexRecord.{IndexRecord}
 use Rattle.index_theory.specs.Honest.{LeavesHonest}
 use Rattle.index_theory.proofs.UncleanLaws.{unclean_leaves_honest}
 
@@ -48,20 +53,32 @@ one_is_right c before m (inr rebuilt) = inr (rebuild_is c rebuilt)
 
 -- no command
 pub leads_none : (now : Session) (h : History) → KeepsTo now h → LeadTo [] now h.machine now h
-leads_none now h keeps = record { keeps = keeps; tells = tells }
+leads_none now h keeps = record { keeps = keeps; tells = tells; in_use = λ records told holds over. none_in_use records now holds }
   where
     tells : AreRight [] now h.machine → Tells now h.machine
     tells (inl told) = told
     tells (inr none) = absurd (true≢false (sym none))
 
 -- one
-pub leads_one : (c : Command) (before : Session) (m : Machine) (now : Session) (h : History) → KeepsTo now h → (ComesToTell c before m → Tells now h.machine) → LeadTo (c ∷ []) before m now h
-leads_one c before m now h keeps tells = record { keeps = keeps; tells = λ right. tells (one_is_right c before m right) }
+pub leads_one : (c : Command) (before : Session) (m : Machine) (now : Session) (h : History) → KeepsTo now h → (ComesToTell c before m → Tells now h.machine) → StaysOnce c before m now
+    → LeadTo (c ∷ []) before m now h
+leads_one c before m now h keeps tells stays = record {
+  keeps = keeps;
+  tells = λ right. tells (one_is_right c before m right);
+  in_use = λ records told holds over. stays records told holds over.0;
+}
 
 -- some, and then more
-pub leads_on : (cs ds : List Command) (before : Session) (m : Machine) (mid : Session) (g : History) (now : Session) (h : History) → LeadTo cs before m mid g → LeadTo ds mid g.machine now h → LeadTo (cs ++ ds) before m now h
-leads_on cs ds before m mid g now h first second = record { keeps = second.keeps; tells = tells }
+pub leads_on : (cs ds : List Command) (before : Session) (m : Machine) (mid : Session) (g : History) (now : Session) (h : History) → g.machine ≡ after m cs → LeadTo cs before m mid g → LeadTo ds mid g.machine now h
+    → LeadTo (cs ++ ds) before m now h
+leads_on cs ds before m mid g now h same first second = record { keeps = second.keeps; tells = tells; in_use = in_use }
   where
+    in_use : (records : List IndexRecord) → Tells before m → HoldsBase records before.open_store.index.map → StaysOverAll records m (cs ++ ds) → IsInUse records before now
+    in_use records told holds over =
+        let parts = stays_split records m cs ds over in
+        let here = first.in_use records told holds parts.0 in
+        both_in_use records before mid now here (second.in_use records (first.tells (inl told)) here.base (subst (λ x. StaysOverAll records x ds) (sym same) parts.1))
+
     tells : AreRight (cs ++ ds) before m → Tells now h.machine
     tells (inl told) = second.tells (inl (first.tells (inl told)))
     tells (inr rebuilt) = elim (or_cases (has_rebuild cs) (has_rebuild ds) (sym (list_any-append is_rebuild cs ds) ∙ rebuilt)) [

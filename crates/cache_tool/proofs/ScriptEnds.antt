@@ -4,7 +4,8 @@ use Rattle.std.specs.Prelude.{min}
 use Rattle.std.proofs.KnownBytes.{Appends-nil}
 use Rattle.cache_base.specs.declared.status.Status.{Status}
 use Rattle.cache_base.specs.declared.status.Status.TheVariants as status
-use Rattle.cache_store.specs.Open.{IsHonest, IsShut, Opens, OpensHonestly, OpensSafely, Tells}
+use Rattle.cache_store.specs.InUse.{HasShortJournal, OpensInUse}
+use Rattle.cache_store.specs.Open.{IsHonest, IsShut, Opens, OpensHonestly, OpensSafely, StartsOn, Tells}
 use Rattle.cache_store.specs.Session.{Session}
 use Rattle.cache_store.specs.declared.fault.StoreFault.{StoreFault}
 use Rattle.cache_store.specs.declared.fault.StoreFault.TheVariants as fault
@@ -28,7 +29,8 @@ use Rattle.cache_tool.proofs.RightLaws.{opened_right, opened_says}
 use Rattle.cache_tool.proofs.ScriptMarks.{more_begun, none_begun}
 use Rattle.cache_tool.proofs.ScriptReplies.{begins_more, front_acked}
 use Rattle.cache_tool.proofs.StatusLaws.{EndsAs, closes_or_not, closing_same}
-use Rattle.disk_model.specs.State.{State}
+use Rattle.cache_tool.proofs.StayingLaws.{StaysWhole, stays_whole}
+use Rattle.disk_model.specs.State.{State, standing}
 use Rattle.index_theory.specs.Honest.{LeavesHonest}
 
 -- ---- the store did not open
@@ -59,6 +61,8 @@ runs_nothing moment ended (Some bytes) before t undone unnamed unfailed open_sti
     honest = λ closing right. absurd (open_still closing);
     crash = λ quiet. safe_is_crash_safe t (marks_between m cs 0 (min (0 + 1) (length cs))) (more_begun t m (marks_of m) cs 0 (min (0 + 1) (length cs)) (safe m is quiet));
     images = images;
+    journal = λ closing over. absurd (open_still closing);
+    in_use = λ closing. absurd (open_still closing);
   };
 }
 
@@ -128,10 +132,25 @@ module _ (h : History) (cs : List Command) (a : ℕ) (first last : Session) (t :
       let told = (led (subst IsClosing is closing)).tells (subst (λ e. AreRight (take (performed e a (length cs)) cs) first h.machine) is right) in
       subst (λ e. IsHonest t (after h.machine (take (performed e a (length cs)) cs))) (sym is) ((closed (subst IsClosing is closing)).honest closing told)
 
-pub runs_ended : (moment : ℕ) (ended : Status) (came : Result Status StoreFault) (s : State) (mid last : Progress) (t : State) → Opens moment s mid.session → PerformsScript came mid last → LeavesHonest last.session.disk
+  -- and an index stays in use
+  ended_journal : IsClosing ended → (after h.machine (take (performed ended a (length cs)) cs)).rest ≡ [] → HasShortJournal (standing t)
+  ended_journal closing over =
+      let is : ended ≡ came = closing_same ended came same closing in
+      (closed (subst IsClosing is closing)).journal closing (subst (λ e. (after h.machine (take (performed e a (length cs)) cs)).rest ≡ []) is over)
+
+  ended_in_use : {moment : ℕ} (s : State) → Opens moment s first → StartsOn moment s h.machine → OpensInUse s first.open_store.index.map first.disk
+      → StaysWhole ended h.machine (take (performed ended a (length cs)) cs) s t
+  ended_in_use s opens starts based closing =
+      let is : ended ≡ came = closing_same ended came same closing in
+      let as_came : IsClosing came = subst IsClosing is closing in
+      subst (λ e. StaysWhole ended h.machine (take (performed e a (length cs)) cs) s t) (sym is)
+      (stays_whole s t h.machine first last (take count cs) (history_from h cs a count) ended opens starts based (led as_came) (closed as_came) refl) closing
+
+pub runs_ended : (moment : ℕ) (ended : Status) (came : Result Status StoreFault) (s : State) (mid last : Progress) (t : State) → Opens moment s mid.session
+    → OpensInUse s mid.session.open_store.index.map mid.session.disk → PerformsScript came mid last → LeavesHonest last.session.disk
     → EndsSession ended last.session t → EndsAs ended (status_in came) → (¬ (IsClosing (status_in came)) → t ≡ last.session.disk)
     → RunsScript moment ended (record (world_of mid) { disk = s }) (record (world_of last) { disk = t })
-runs_ended moment ended came s mid last t opens performs kept ends same dropped = go mid.source.left performs
+runs_ended moment ended came s mid last t opens based performs kept ends same dropped = go mid.source.left performs
   where
     go : (left : Option (List ℕ)) → PerformsScript came (with_left mid left) last → RunsScript moment ended (record (world_of (with_left mid left)) { disk = s }) (record (world_of last) { disk = t })
     go None performs = tt
@@ -162,5 +181,7 @@ runs_ended moment ended came s mid last t opens performs kept ends same dropped 
             crash = λ quiet. safe_is_crash_safe t (marks_between m cs r.acked (min (r.acked + 1) (length cs)))
                 (ended_safe (settled_at m) cs r.acked mid.session last.session t ended (status_in came) r.leaves ends same dropped);
             images = λ quiet honest. ended_images (settled_at m) cs r.acked mid.session last.session t ended (status_in came) r.leaves ends same dropped kept (opens.tells m is honest);
+            journal = ended_journal (settled_at m) cs r.acked mid.session last.session t ended (status_in came) r.leaves ends same dropped;
+            in_use = ended_in_use (settled_at m) cs r.acked mid.session last.session t ended (status_in came) r.leaves ends same dropped s opens is based;
           };
         }

@@ -25,6 +25,7 @@ use Rattle.cache_tool.specs.declared.script.Ended.{Ended}
 use Rattle.cache_tool.specs.declared.script.Ended.TheVariants as ended
 use Rattle.cache_tool.proofs.Moments.{with_source}
 use Rattle.cache_tool.proofs.RightLaws.{leads_none, leads_on, leads_one, may_say_first, may_tell_last}
+use Rattle.cache_tool.proofs.StayingLaws.{StaysFor, StaysOnce}
 use Rattle.cache_tool.proofs.ScriptBytes.{more_length, nothing_read, read_bad, read_front, read_on, read_taken, read_whole}
 
 -- the machine after some commands and one more
@@ -57,9 +58,10 @@ module _ (before : Progress) where
     so_far = performs.each h keeps
 
     -- one more leads on to a history
-    one_leads : (g : History) → KeepsTo now.session g → (ComesToTell c mid.session (after h.machine cs) → Tells now.session g.machine) → LeadTo (cs ++ c ∷ []) before.session h.machine now.session g
-    one_leads g kept tells =
-        leads_on cs (c ∷ []) before.session h.machine mid.session (all_answered cs h) now.session g so_far.stands (leads_one c mid.session (after h.machine cs) now.session g kept tells)
+    one_leads : (g : History) → KeepsTo now.session g → (ComesToTell c mid.session (after h.machine cs) → Tells now.session g.machine) → StaysOnce c mid.session (after h.machine cs) now.session
+        → LeadTo (cs ++ c ∷ []) before.session h.machine now.session g
+    one_leads g kept tells stays =
+        leads_on cs (c ∷ []) before.session h.machine mid.session (all_answered cs h) now.session g refl so_far.stands (leads_one c mid.session (after h.machine cs) now.session g kept tells stays)
 
     -- and may say what the machine does
     one_says : MaySay (cs ++ c ∷ []) before.session h.machine → MayTell c mid.session (after h.machine cs)
@@ -72,15 +74,15 @@ module _ (before : Progress) where
 
   -- one command more was performed
   one_performed : (mid now : Progress) (cs : List Command) (c : Command) (o : Outcome) → PerformsAll cs before mid
-      → PerformsFor c (Ok o) mid.session now.session mid.taken now.taken → PerformsAll (cs ++ c ∷ []) before now
-  one_performed mid now cs c o performs next = record {
+      → PerformsFor c (Ok o) mid.session now.session mid.taken now.taken → StaysFor {T = Outcome} c (Ok o) mid.session now.session → PerformsAll (cs ++ c ∷ []) before now
+  one_performed mid now cs c o performs next stays = record {
     each = λ h keeps.
         let stands = (performs.each h keeps).stands.keeps in
         let said = next.answers (after h.machine cs) (represents stands) in
         let kept = next.crash (all_answered cs h) stands in
         record {
           stands = subst (λ x. LeadTo (cs ++ c ∷ []) before.session h.machine now.session x) (sym (answered_more cs c h))
-              (one_leads mid now cs c performs h keeps (acked c (all_answered cs h)) kept.next (said.tells tt));
+              (one_leads mid now cs c performs h keeps (acked c (all_answered cs h)) kept.next (said.tells tt) (stays (after h.machine cs) (represents stands) tt));
           out = λ may. subst (Appends before.taken now.taken) (sym (replies_text_more h.machine cs c))
               (one_out mid now cs c performs h keeps (reply_text (step (after h.machine cs) c).reply) may (said.printed (one_says mid now cs c performs h keeps may)));
         };
@@ -88,8 +90,8 @@ module _ (before : Progress) where
 
   -- it failed
   one_failed : (mid now : Progress) (cs : List Command) (c : Command) (f : StoreFault) → PerformsAll cs before mid
-      → PerformsFor c (Err f) mid.session now.session mid.taken now.taken → FailsAfter cs c f before now
-  one_failed mid now cs c f performs next = record {
+      → PerformsFor c (Err f) mid.session now.session mid.taken now.taken → StaysFor {T = Outcome} c (Err f) mid.session now.session → FailsAfter cs c f before now
+  one_failed mid now cs c f performs next stays = record {
     each = λ h keeps.
         let stands = (performs.each h keeps).stands.keeps in
         let said = next.answers (after h.machine cs) (represents stands) in
@@ -99,7 +101,7 @@ module _ (before : Progress) where
           cut = λ may.
               let tail = said.cut (one_says mid now cs c performs h keeps may) in
               record { cut = tail.0; short = tail.1.0; out = one_out mid now cs c performs h keeps (take tail.0 (reply_text (step (after h.machine cs) c).reply)) may tail.1.1 };
-          effect = λ sink. one_leads mid now cs c performs h keeps (unanswered c (all_answered cs h)) (kept.unanswered sink) (said.tells sink);
+          effect = λ sink. one_leads mid now cs c performs h keeps (unanswered c (all_answered cs h)) (kept.unanswered sink) (said.tells sink) (stays (after h.machine cs) (represents stands) sink);
         };
   }
 
@@ -126,36 +128,36 @@ starts tells r before held given used = record {
 module _ (tells : Bool) (r q : Reader) (mid now : Progress) where
   -- a command was performed
   pub turn_on : (c : Command) (outcome : Outcome) → Gives r q mid.source.left now.source.left c
-      → (IsTrue tells → PerformsFor c (Ok outcome) mid.session now.session mid.taken now.taken) → PerformsNext tells (Ok None) r q mid now
-  turn_on c outcome gives performs = record {
+      → (IsTrue tells → PerformsFor c (Ok outcome) mid.session now.session mid.taken now.taken) → (IsTrue tells → StaysFor {T = Outcome} c (Ok outcome) mid.session now.session) → PerformsNext tells (Ok None) r q mid now
+  turn_on c outcome gives performs stays = record {
     on = λ before goes. record {
       commands = goes.commands ++ c ∷ [];
       read = read_on r q before.source.left mid.source.left now.source.left goes.commands c goes.read goes.used gives;
       given = omega (arith, goes.given, gives.given, length-append goes.commands (c ∷ []));
       used = gives.used ∙ omega (arith, goes.used, more_length goes.commands c);
-      performs = λ told. one_performed before mid now goes.commands c outcome (goes.performs told) (performs told);
+      performs = λ told. one_performed before mid now goes.commands c outcome (goes.performs told) (performs told) (stays told);
     };
   }
 
   -- a command failed
   turn_off : (c : Command) (f : StoreFault) → Gives r q mid.source.left now.source.left c
-      → (IsTrue tells → PerformsFor c (Err f) mid.session now.session mid.taken now.taken) → PerformsNext tells (Err f) r q mid now
-  turn_off c f gives performs = record {
+      → (IsTrue tells → PerformsFor c (Err f) mid.session now.session mid.taken now.taken) → (IsTrue tells → StaysFor {T = Outcome} c (Err f) mid.session now.session) → PerformsNext tells (Err f) r q mid now
+  turn_off c f gives performs stays = record {
     on = λ before goes. record {
       commands = goes.commands;
       last = c;
       front =
           read_front before.source.left now.source.left (goes.commands ++ c ∷ []) (held_in q)
           (read_on r q before.source.left mid.source.left now.source.left goes.commands c goes.read goes.used gives);
-      fails = λ told. one_failed before mid now goes.commands c f (goes.performs told) (performs told);
+      fails = λ told. one_failed before mid now goes.commands c f (goes.performs told) (performs told) (stays told);
     };
   }
 
   -- which is the answer
   pub turn_err : (c : Command) (f : StoreFault) (final : Result (Option Ended) StoreFault) → IsErrAnd final (λ e. e ≡ f) → Gives r q mid.source.left now.source.left c
-      → (IsTrue tells → PerformsFor c (Err f) mid.session now.session mid.taken now.taken) → PerformsNext tells final r q mid now
-  turn_err c f (Ok e) is gives performs = absurd is
-  turn_err c f (Err e) is gives performs = subst (λ x. PerformsNext tells (Err x) r q mid now) (sym is) (turn_off c f gives performs)
+      → (IsTrue tells → PerformsFor c (Err f) mid.session now.session mid.taken now.taken) → (IsTrue tells → StaysFor {T = Outcome} c (Err f) mid.session now.session) → PerformsNext tells final r q mid now
+  turn_err c f (Ok e) is gives performs stays = absurd is
+  turn_err c f (Err e) is gives performs stays = subst (λ x. PerformsNext tells (Err x) r q mid now) (sym is) (turn_off c f gives performs stays)
 
 module _ (tells : Bool) (r q : Reader) (mid : Progress) (source : Supply) where
   -- there was none

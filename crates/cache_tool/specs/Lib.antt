@@ -10,6 +10,7 @@ pub mod Right
 pub mod Script
 pub mod ScriptProgress
 pub mod Statuses
+pub mod Staying
 pub mod Tally
 pub mod Verbs
 pub mod Words

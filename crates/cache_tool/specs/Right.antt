@@ -1,6 +1,7 @@
 -- Where the records in memory are right, and what is said where they are.
 use Rattle.std.specs.List.{list_any}
 use Rattle.std.specs.Prelude.{Bool, IsTrue, List, false, true, ◌⊎◌}
+use Rattle.cache_store.specs.InUse.{HoldsBase}
 use Rattle.cache_store.specs.Open.{KeepsTo, Tells}
 use Rattle.cache_store.specs.Performing.{goes_by_records}
 use Rattle.cache_store.specs.Session.{Session}
@@ -8,7 +9,9 @@ use Rattle.cache_theory.specs.Command.{Command}
 use Rattle.cache_theory.specs.Command.Command.{Rebuild}
 use Rattle.cache_theory.specs.History.{History}
 use Rattle.cache_theory.specs.Machine.{Machine}
+use Rattle.cache_tool.specs.Staying.{IsInUse, StaysOverAll}
 use Rattle.disk_model.specs.State.{State, standing}
+use Rattle.index_record.specs.declared.record.IndexRecord.{IndexRecord}
 use Rattle.index_theory.specs.Honest.{Honest}
 
 -- one of the commands reads all entries anew
@@ -44,3 +47,6 @@ pub record LeadTo (cs : List Command) (before : Session) (m : Machine) (now : Se
     : Type 0 where
   pub keeps : KeepsTo now h
   pub tells : AreRight cs before m → Tells now h.machine
+  -- where the records were right, the index stays in use as long as few of them differ from it
+  pub in_use : (records : List IndexRecord) → Tells before m → HoldsBase records before.open_store.index.map
+      → StaysOverAll records m cs → IsInUse records before now

@@ -1,13 +1,15 @@
 -- What the verbs come to, for every machine at an opening on what stands.
 use Rattle.std.specs.Io.KnownBytes.{Appends, Keeps}
-use Rattle.std.specs.Prelude.{IfSome, IsSome, List, Option, [], length, min, take, ℕ, ◌+◌, ◌++◌, ◌∷◌, ◌≡◌, ◌⊎◌}
+use Rattle.std.specs.Prelude.{IfSome, IsSome, List, Option, [], length, min, take, ℕ, ◌+◌, ◌++◌, ⊤, ◌∷◌, ◌≡◌, ◌≢◌, ◌⊎◌}
 use Rattle.cache_base.specs.declared.status.Status.{Status}
 use Rattle.cache_base.specs.declared.status.Status.TheVariants as status
 use Rattle.cache_store.specs.Answering.{outcome_of}
+use Rattle.cache_store.specs.InUse.{HasShortJournal, StaysInUse}
 use Rattle.cache_store.specs.Open.{IsHonest, IsShut, StartsOn}
 use Rattle.cache_store.specs.Said.{IsCut}
 use Rattle.cache_store.specs.Saying.{IsPart}
 use Rattle.cache_theory.specs.Command.{Command}
+use Rattle.cache_theory.specs.Command.Command.{Flush, ListRecords}
 use Rattle.cache_theory.specs.Crash.{IsCrashSafe}
 use Rattle.cache_theory.specs.Machine.{Machine}
 use Rattle.cache_theory.specs.Session.{BeginsWith, IsAcked, marks_between}
@@ -18,10 +20,16 @@ use Rattle.cache_tool.specs.Replies.{last_reply}
 use Rattle.cache_tool.specs.Right.{ComesRight, MaySayOn}
 use Rattle.cache_tool.specs.Script.{AreTaken, bad_line, performed}
 use Rattle.cache_tool.specs.Statuses.{IsAnswer, IsClosing, status_of}
+use Rattle.cache_tool.specs.Staying.{EndsInUse, StaysOverAll}
 use Rattle.cache_tool.specs.World.{Output, World, output_of}
 use Rattle.disk_model.specs.Sound.{IsQuiet}
 use Rattle.disk_model.specs.State.{State, standing}
-use Rattle.index_theory.specs.Honest.{Honest, LeavesHonest}
+use Rattle.disk_model.specs.declared.place.Place.TheVariants.{Index}
+use Rattle.index_theory.specs.Honest.{Honest, LeavesHonest, index_records}
+use Rattle.index_theory.specs.Scan.{scan}
+use Rattle.index_theory.specs.Start.{start_of}
+use Rattle.index_theory.specs.declared.kinds.Start.{Start}
+use Rattle.index_theory.specs.declared.kinds.Start.TheVariants.{Build, Ready}
 
 -- Commands are performed one after the other, from the first on.
 
@@ -54,6 +62,14 @@ pub record LeavesDisk (m : Machine) (cs : List Command) (r : Reach) (ended : Sta
   pub crash : IsQuiet s → IsCrashSafe t (marks_between m cs r.acked r.begun)
   -- and each is honest, where the directory was
   pub images : IsQuiet s → Honest (standing s) → LeavesHonest t
+  -- where the store was closed and the update has ended, the journal has few records
+  pub journal : IsClosing ended → (after m r.done).rest ≡ [] → HasShortJournal (standing t)
+  -- and an index that could be read stays in use in an honest directory, where few records come to differ from it: it
+  -- is unchanged past its header, and the journal spells what differs
+  pub in_use : IsClosing ended → Honest (standing s) → start_of (standing s) ≢ Build
+      → let base = index_records (standing s Index) in
+      StaysOverAll base m r.done → EndsInUse base (after m r.done)
+      → StaysInUse base (scan (after m r.done).shelf) s t
 
 -- the text of the last reply is printed, or it is cut
 pub record PrintsText (text : List ℕ) (ended : Status) (before now : Output) : Type 0 where
@@ -76,6 +92,12 @@ pub record PrintsLast (m : Machine) (cs : List Command) (ended : Status) (before
 abbrev pub AnswersCommand : ℕ → Command → Status → Output → Output → Type 0
 AnswersCommand moment c ended before now =
     (m : Machine) → StartsOn moment before.disk m → PrintsLast m (c ∷ []) ended before now
+
+-- the words look at no entry: `flush` never does, and `list` does not where the index is trusted
+abbrev pub LooksAtNone : Command → Start → Type 0
+LooksAtNone Flush start = ⊤
+LooksAtNone ListRecords start = start ≡ Ready
+LooksAtNone _ start = ⊥
 
 -- `put`, of a source that tells its bytes: the entry gets them as its body
 abbrev pub StoresEntry : ℕ → List ℕ → Status → World → World → Type 0

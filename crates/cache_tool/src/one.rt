@@ -3,13 +3,17 @@
 ghost use Rattle.std.specs.Prelude.{◌≡◌, ◌⊎◌, true, IsTrue};
 ghost use Rattle.cache_base.specs.Causes.{HasCause, Rose};
 ghost use Rattle.cache_script.specs.Command.{command_of};
+ghost use Rattle.cache_store.specs.IndexCalls.{LooksAtNames};
 ghost use Rattle.cache_store.specs.Printed.{PrintsOk, PrintsRefusal, is_plain};
+ghost use Rattle.cache_store.specs.Saying.{TakesMore};
 ghost use Rattle.cache_theory.specs.Given.{IsGiven};
 ghost use Rattle.cache_tool.specs.Statuses.{IsAnswer, IsClosing};
-ghost use Rattle.cache_tool.specs.Verbs.{AnswersCommand};
+ghost use Rattle.cache_tool.specs.Verbs.{AnswersCommand, LooksAtNone};
 ghost use Rattle.cache_tool.specs.World.{output};
 ghost use Rattle.disk_model.specs.Calls.{StopsAtFault};
 ghost use Rattle.disk_model.specs.Sound.{IsQuiet};
+ghost use Rattle.disk_model.specs.State.{standing};
+ghost use Rattle.index_theory.specs.Start.{start_of};
 
 use crate::session::{end, status_of, status_of_fault};
 use cache_base::{Moment, Status};
@@ -35,6 +39,9 @@ pub(crate) fn perform_one<D: Disk, K: Sink>(
     ensures done { result ≡ Status.Done → is_plain (command_of command.now) ≡ true →
         PrintsOk (K.taken sink.old) (K.taken sink.new) }
     ensures refused { result ≡ Status.No → PrintsRefusal (K.taken sink.old) (K.taken sink.new) }
+    ensures grows { IsTrue D.tells → TakesMore (K.taken sink.old) (K.taken sink.new) }
+    ensures no_entry { LooksAtNone (command_of command.now) (start_of (standing (D.state disk.old))) →
+        LooksAtNames D.Disk 0 disk.old disk.new }
     ensures quiet { IsClosing result → IsTrue D.tells → IsQuiet (D.state disk.new) }
     ensures stops { IsTrue D.tells → StopsAtFault (D.counts disk.old) (D.counts disk.new) }
     ensures sink { result ≡ Status.Sink → Rose (K.faults sink.old) (K.faults sink.new) }

@@ -9,7 +9,7 @@ ghost use Rattle.cache_store.specs.Faults.{ending};
 ghost use Rattle.cache_store.specs.Open.{IsOpen, LeavesOpen};
 ghost use Rattle.cache_store.specs.Printed.{HasBadKey, Prints, PrintsOk};
 ghost use Rattle.cache_store.specs.Said.{IsCut};
-ghost use Rattle.cache_store.specs.Saying.{IsPart};
+ghost use Rattle.cache_store.specs.Saying.{IsPart, TakesMore};
 ghost use Rattle.cache_store.specs.Session.{session};
 ghost use Rattle.cache_theory.specs.Given.{IsGiven};
 ghost use Rattle.cache_tool.specs.AnyDisk.{HoldsRefusal, IsRefusalLine, PutRefuses, TakesAtMost, ok_line};
@@ -220,6 +220,7 @@ pub(crate) fn put<D: Disk, S: Source, K: Sink>(
     ensures stores { let at = world S.Source K.Sink D.Disk in
         let before = at source.old sink.old disk.old in
         IsTrue D.tells → StoresEntry now key.now result before (at source.new sink.new disk.new) }
+    ensures grows { TakesMore (K.taken sink.old) (K.taken sink.new) }
     ensures read { result ≡ Status.Done → IsAtEnd (S.left source.new) }
     ensures unread { may_write key.now ≡ false → source.new ≡ source.old }
     ensures taken { TakesAtMost (BODY_LEN + PIECE_LEN) (S.left source.old) (S.left source.new) }

@@ -4,16 +4,20 @@ ghost use Rattle.std.specs.Prelude.{◌≡◌, ◌≢◌, ◌↔◌, ◌⊎◌, 
 ghost use Rattle.std.specs.Io.KnownBytes.{IsAtEnd};
 ghost use Rattle.cache_base.specs.Causes.{Rose};
 ghost use Rattle.cache_base.specs.declared.limits.TheConstants.{BODY_MAX, PIECE_MAX};
+ghost use Rattle.cache_store.specs.IndexCalls.{LooksAtNames};
 ghost use Rattle.cache_store.specs.Printed.{PrintsOk, PrintsRefusal, is_plain};
+ghost use Rattle.cache_store.specs.Saying.{TakesMore};
 ghost use Rattle.cache_tool.specs.AnyDisk.{PutRefuses, TakesAtMost};
 ghost use Rattle.cache_tool.specs.Script.{HasBadCommand, HasScript, IsScript};
 ghost use Rattle.cache_tool.specs.Statuses.{IsAnswer, IsClosing};
-ghost use Rattle.cache_tool.specs.Verbs.{AnswersCommand, RunsScript, StoresEntry};
+ghost use Rattle.cache_tool.specs.Verbs.{AnswersCommand, LooksAtNone, RunsScript, StoresEntry};
 ghost use Rattle.cache_tool.specs.Words.{WhenOne, WhenPut, WhenRun, asked_in};
 ghost use Rattle.cache_tool.specs.World.{output, world};
 ghost use Rattle.disk_model.specs.Calls.{StopsAtFault};
 ghost use Rattle.disk_model.specs.Sound.{IsQuiet};
+ghost use Rattle.disk_model.specs.State.{standing};
 ghost use Rattle.entry_key.specs.Writing.{may_write};
+ghost use Rattle.index_theory.specs.Start.{start_of};
 
 use crate::one::perform_one;
 use crate::put::put;
@@ -82,6 +86,11 @@ pub fn run<D: Disk, S: Source, K: Sink>(
         is_plain c ≡ true → PrintsOk (K.taken sink.old) (K.taken sink.new)) }
     ensures one_no { result ≡ Status.No → WhenOne (asked_in words.now) (λ now c.
         PrintsRefusal (K.taken sink.old) (K.taken sink.new)) }
+
+    // What is printed only grows, and a `flush`, and a `list` where the index is trusted, look at no entry.
+    ensures grows { IsTrue D.tells → TakesMore (K.taken sink.old) (K.taken sink.new) }
+    ensures no_entry { WhenOne (asked_in words.now) (λ now c.
+        LooksAtNone c (start_of (standing (D.state disk.old))) → LooksAtNames D.Disk 0 disk.old disk.new) }
 
     // Where the store was closed nothing is pending.
     ensures quiet { IsClosing result → IsTrue D.tells → IsQuiet (D.state disk.new) }

@@ -6,6 +6,7 @@ ghost use Rattle.cache_base.specs.Causes.{HasCause, Rose};
 ghost use Rattle.cache_script.specs.Reader.{given_in, held_in, used_in};
 ghost use Rattle.cache_store.specs.Open.{IsOpen, LeavesOpen};
 ghost use Rattle.cache_store.specs.Said.{IsCut};
+ghost use Rattle.cache_store.specs.Saying.{TakesMore};
 ghost use Rattle.cache_store.specs.Session.{session};
 ghost use Rattle.cache_tool.specs.Script.{HasBadCommand, HasScript, bad_line};
 ghost use Rattle.cache_tool.specs.ScriptProgress.{PerformsCommands, PerformsNext, PerformsScript};
@@ -47,6 +48,7 @@ pub(crate) fn run_script<D: Disk, S: Source, K: Sink>(
     ensures runs { let at = world S.Source K.Sink D.Disk in
         let before = at source.old sink.old disk.old in
         IsTrue D.tells → RunsScript now result before (at source.new sink.new disk.new) }
+    ensures grows { IsTrue D.tells → TakesMore (K.taken sink.old) (K.taken sink.new) }
     ensures done { result ≡ Status.Done → HasScript (S.left source.old) }
     ensures read { result ≡ Status.Done → IsAtEnd (S.left source.new) }
     ensures bad { result ≡ Status.Script → HasBadCommand (S.left source.old) }
@@ -79,6 +81,7 @@ fn perform_script<D: Disk, S: Source, K: Sink>(
     ensures performs { let at = progress S.Source K.Sink D.Disk in
         let before = at store.old source.old sink.old disk.old in
         IsTrue D.tells → PerformsScript result before (at store.new source.new sink.new disk.new) }
+    ensures grows { IsTrue D.tells → TakesMore (K.taken sink.old) (K.taken sink.new) }
     ensures status { IfOk result (λ s.
         (s ≡ Status.Done) ⊎ ((s ≡ Status.Script) ⊎ (s ≡ Status.Source))) }
     ensures done { result ≡ Ok Status.Done → HasScript (S.left source.old) }
@@ -116,6 +119,7 @@ fn perform_commands<D: Disk, S: Source, K: Sink>(
     ensures performs { let at = progress S.Source K.Sink D.Disk in
         let before = at store.old source.old sink.old disk.old in
         PerformsCommands D.tells result before (at store.new source.new sink.new disk.new) }
+    ensures grows { IsTrue D.tells → TakesMore (K.taken sink.old) (K.taken sink.new) }
     ensures open { IsTrue D.tells → LeavesOpen result (session D.Disk store.new disk.new) }
     ensures honest { IsTrue D.tells → LeavesHonest (D.state disk.new) }
     ensures account { let at = tally S.Source K.Sink D.Disk in
@@ -143,6 +147,7 @@ fn perform_next<D: Disk, S: Source, K: Sink>(
         let before = at store.old source.old sink.old disk.old in
         let now = at store.new source.new sink.new disk.new in
         PerformsNext D.tells result reader.old reader.new before now }
+    ensures grows { IsTrue D.tells → TakesMore (K.taken sink.old) (K.taken sink.new) }
     ensures further { result ≡ Ok None → given_in reader.old < given_in reader.new }
     ensures open { IsTrue D.tells → LeavesOpen result (session D.Disk store.new disk.new) }
     ensures honest { IsTrue D.tells → LeavesHonest (D.state disk.new) }

@@ -6,6 +6,7 @@ ghost use Rattle.cache_store.specs.Open.{LeavesOpen};
 ghost use Rattle.cache_store.specs.Session.{session};
 ghost use Rattle.cache_tool.specs.Ending.{EndsSession};
 ghost use Rattle.cache_tool.specs.Statuses.{IsClosing, status_in, status_of as status_of_outcome};
+ghost use Rattle.disk_model.specs.Account.{LooksAtNoEntry};
 ghost use Rattle.disk_model.specs.Calls.{StopsAtFault};
 ghost use Rattle.disk_model.specs.Sound.{IsQuiet};
 
@@ -45,6 +46,7 @@ pub(crate) fn end<D: Disk>(store: Store, came: Result<Status, StoreFault>, disk:
     ensures dropped { ¬ (IsClosing (status_in came)) →
         (result ≡ status_in came) × (disk.new ≡ disk.old) }
     ensures quiet { IsClosing result → IsTrue D.tells → IsQuiet (D.state disk.new) }
+    ensures no_entry { LooksAtNoEntry D.Disk disk.old disk.new }
     ensures stops { IsTrue D.tells → StopsAtFault (D.counts disk.old) (D.counts disk.new) }
     ensures cause { IsClosing (status_in came) →
         HasCause (result ≡ Status.Disk) (D.faults disk.old) (D.faults disk.new) }

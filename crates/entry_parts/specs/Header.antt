@@ -1,5 +1,5 @@
 -- The header of an entry's metadata, and its bytes.
-use Rattle.std.specs.Prelude.{ℕ, ◌≡◌, ◌<◌, ◌≤◌, ◌^◌, List, ◌++◌, length, take}
+use Rattle.std.specs.Prelude.{min, ℕ, ◌≡◌, ◌<◌, ◌≤◌, ◌+◌, ◌^◌, List, ◌++◌, length, take}
 use Rattle.cache_base.specs.Bytes.{AreBytes, be32, be32_at}
 use Rattle.entry_parts.specs.declared.header.Header.{Header}
 
@@ -45,6 +45,10 @@ fresh_header now key_size = record {
   key_size = key_size;
   flags = 0;
 }
+
+-- the header of an entry after one more use at a moment, with the frecency that this use gives it
+abbrev pub used_header : Header → ℕ → ℕ → Header
+used_header h now frecency = record h { fetch_count = min (h.fetch_count + 1) 0xFFFFFFFF; last_fetched = now; frecency = frecency }
 
 -- a header that is written is read back, whatever follows it
 abbrev pub HeaderReadsBack : Type 0

@@ -28,7 +28,7 @@ pub struct Header {
 }
 
 impl Header {
-    ghost use Rattle.entry_parts.specs.Header.{fresh_header};
+    ghost use Rattle.entry_parts.specs.Header.{fresh_header, used_header};
 
     /// The header in its 32 bytes.
     pub fn read(b: &[u8; 32]) -> Header
@@ -86,6 +86,18 @@ impl Header {
             expiration: u32::MAX,
             key_size,
             flags: 0,
+        }
+    }
+
+    /// The header after one more use at this moment, with this frecency. A count that stands at its end stays there.
+    pub fn used(self, now: Moment, frecency: u32) -> Header
+        ensures { result ≡ used_header self now frecency }
+    {
+        Header {
+            fetch_count: self.fetch_count.saturating_add(1),
+            last_fetched: now,
+            frecency,
+            ..self
         }
     }
 }

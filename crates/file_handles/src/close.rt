@@ -4,7 +4,7 @@ ghost use Rattle.std.specs.Prelude.{◌≡◌, ◌<◌, ◌&&◌, IfOk, IsSome, 
 ghost use Rattle.std.specs.List.{list_any};
 ghost use Rattle.cache_base.specs.declared.limits.TheConstants.{SLOTS};
 ghost use Rattle.cache_theory.specs.Command.Command.{Close};
-ghost use Rattle.disk_model.specs.Account.{Accounts, ending as disk_ending};
+ghost use Rattle.disk_model.specs.Account.{Accounts, LooksAtNoEntry, ending as disk_ending};
 ghost use Rattle.disk_model.specs.Calls.{if_done};
 ghost use Rattle.disk_model.specs.State.{standing};
 ghost use Rattle.disk_model.specs.Told.{Told};
@@ -58,6 +58,7 @@ fn drop_file<D: Disk>(disk: &mut D, object: &Object) -> Result<(), DiskFault>
     ensures state { Told D.Disk (λ s t. t ≡ if_done result (dropped object.now s) s)
         disk.old disk.new }
     ensures account { Accounts D.Disk (disk_ending result) disk.old disk.new }
+    ensures no_entry { LooksAtNoEntry D.Disk disk.old disk.new }
 {
     if object.doomed.is_none() && matches!(object.entry, Entry::Finished(_)) {
         return Ok(());
@@ -162,6 +163,7 @@ impl Handles {
             ClosesAll result (cache D.Disk self disk.old) (D.state disk.new) }
         ensures index { Told D.Disk LeavesIndex disk.old disk.new }
         ensures account { Accounts D.Disk (disk_ending result) disk.old disk.new }
+        ensures no_entry { LooksAtNoEntry D.Disk disk.old disk.new }
     {
         for object in &self.objects {
             if let Some(object) = object {

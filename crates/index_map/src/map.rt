@@ -173,7 +173,8 @@ impl RecordMap {
     /// The number of names whose record now differs from the base's, where a name may have none. Without a base, the
     /// number of records now.
     pub fn changed(&self) -> u64
-        ensures { result ≡ spec.changed self.now.base self.now.records }
+        ensures count { result ≡ spec.changed self.now.base self.now.records }
+        ensures known { spec.IsKnown self.now }
     {
         self.table.counts().changed
     }

@@ -1,9 +1,9 @@
 -- A closing of the index, in its steps.
-use Rattle.std.specs.Prelude.{Bool, List, true, ℕ, ◌≡◌, ◌⊎◌}
+use Rattle.std.specs.Prelude.{Bool, List, length, true, ℕ, ◌≡◌, ◌⊎◌}
 use Rattle.cache_base.specs.Bytes.{be32}
 use Rattle.disk_model.specs.State.{State, settled, standing}
 use Rattle.index_journal.specs.Journal.{IsPrinted}
-use Rattle.index_map.specs.Known.{IsKnown, Known}
+use Rattle.index_map.specs.Known.{IsKnown, Known, changed}
 use Rattle.index_record.specs.declared.record.IndexRecord.{IndexRecord}
 use Rattle.index_theory.specs.Apart.{IsApart}
 use Rattle.index_theory.specs.Closing.{closed, flag_cleared, flagged, log_begun, log_filled, log_synced}
@@ -23,6 +23,7 @@ pub record PrintsChanges (map : Known) (bytes : List ℕ) : Type 0 where
   pub known : IsKnown map
   pub changes : List IndexRecord
   pub diff : IsDiff map.base map.records changes
+  pub count : length changes ≡ changed map.base map.records
   pub printed : IsPrinted changes bytes
 
 -- how far the journal and the flag have come

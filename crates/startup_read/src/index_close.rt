@@ -6,6 +6,7 @@ ghost use Rattle.disk_model.specs.Calls.{Holds, if_ok};
 ghost use Rattle.disk_model.specs.Sound.{IsQuiet};
 ghost use Rattle.disk_model.specs.State.{settled, standing};
 ghost use Rattle.disk_model.specs.declared.place.Place.TheVariants.{Index};
+ghost use Rattle.index_map.specs.Known.{IsKnown};
 ghost use Rattle.index_theory.specs.Apart.{IsApart};
 ghost use Rattle.index_theory.specs.Closing.{closed, flagged, log_synced};
 ghost use Rattle.disk_model.specs.Told.{Told};
@@ -80,6 +81,7 @@ fn close_ended<D: Disk>(
 ) -> Result<(), DiskFault>
     requires { IsTrue D.tells → KeepsIndex (D.state disk.old) map.old }
     ensures map { OnOk result (map.new ≡ spec.after_refresh map.old) }
+    ensures known { map.old.has_base ≡ true → IsKnown map.old }
     ensures closed { OnOk result (Told D.Disk (spec.ClosesIndex map.old now) disk.old disk.new) }
     ensures amid { Told D.Disk (spec.IsAmidClosing map.old now) disk.old disk.new }
     ensures account { Accounts D.Disk (ending result) disk.old disk.new }
@@ -105,6 +107,7 @@ pub fn close_index<D: Disk>(
 
     // The map.
     ensures map { OnOk result (map.new ≡ (if ended then spec.after_refresh map.old else map.old)) }
+    ensures known { ended ≡ true → map.old.has_base ≡ true → IsKnown map.old }
 
     // The changes, in their order, and what they leave.
     ensures closed { ended ≡ true →

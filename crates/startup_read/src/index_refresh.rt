@@ -1,6 +1,7 @@
 //! Writes the index whole where that is due.
 
 ghost use Rattle.std.specs.Prelude.{◌≡◌, OnErr, OnOk, false, true};
+ghost use Rattle.index_map.specs.Known.{IsKnown};
 ghost use Rattle.index_theory.specs.Apart.{IsApart};
 ghost use Rattle.disk_model.specs.Told.{Told};
 ghost use Rattle.index_theory.specs.Unclean.{IsUnclean};
@@ -15,7 +16,8 @@ use index_map::RecordMap;
 use std::alloc::Global;
 
 fn is_due(map: &RecordMap) -> bool
-    ensures { result ≡ spec.is_due map.now }
+    ensures due { result ≡ spec.is_due map.now }
+    ensures known { map.now.has_base ≡ true → IsKnown map.now }
 {
     !map.has_base() || map.changed() >= CHANGED_MAX as u64
 }
@@ -31,6 +33,7 @@ pub fn refresh_index<D: Disk>(
     // The map.
     ensures map { OnOk result (map.new ≡ spec.after_refresh map.old) }
     ensures map_stays { OnErr result (map.new ≡ map.old) }
+    ensures known { map.old.has_base ≡ true → IsKnown map.old }
     ensures fresh { OnOk result (spec.is_due map.new ≡ false) }
 
     // The changes, in their order, and what they leave.

@@ -2,6 +2,7 @@ use Rattle.std.proofs.Common.{◌∙◌, sym, IsTrue}
 use Rattle.disk_model.specs.State.{standing}
 use Rattle.index_theory.specs.Start.{start_of}
 use Rattle.startup_read.proofs.KeptLaws.{unready_sees_none}
+use Rattle.cache_store.proofs.BasedIndex.{begun_based, opens_based}
 use Rattle.cache_store.proofs.BegunIndex.{begun_holds, begun_rest, begun_tells, build_unready, ready_rest, same_opens_honest, update_unready}
 use Rattle.cache_store.proofs.OpenedIndex.{opened_entries}
 use Rattle.cache_store.proofs.opening.begin_index.Goals as goal
@@ -58,3 +59,21 @@ pub returns-in-Build-clause-honest : goal.returns-in-Build-clause-honest
 returns-in-Build-clause-honest g c = λ told.
     same_opens_honest (g.D.Disk.state c.args.disk.now) (g.D.Disk.state c.open_index.new.disk) (g.D.Disk.state c.begin_update-in-Build.new.disk)
     (c.begin_update-in-Build.ensures.looks.state told) (c.in_ok-start.ensures.honest told)
+
+pub returns-in-Ready-clause-based : goal.returns-in-Ready-clause-based
+returns-in-Ready-clause-based g c = λ told.
+    opens_based (g.D.Disk.state c.args.disk.now) (g.D.Disk.state c.open_index.new.disk) c.in_ok-start.field-0.map (c.in_ok-start.ensures.map told) (c.in_ok-start.ensures.opened told)
+
+pub returns-in-Update-clause-based : goal.returns-in-Update-clause-based
+returns-in-Update-clause-based g c =
+    let s = g.D.Disk.state c.args.disk.now in
+    let t = g.D.Disk.state c.open_index.new.disk in
+    begun_based c.begin_update.result (IsTrue g.D.Disk.tells) s t (g.D.Disk.state c.begin_update.new.disk) c.in_ok-start.field-0.map c.begin_update.ensures.looks.state
+    (λ told. opens_based s t c.in_ok-start.field-0.map (c.in_ok-start.ensures.map told) (c.in_ok-start.ensures.opened told)) c.begin_update.ensures.base
+
+pub returns-in-Build-clause-based : goal.returns-in-Build-clause-based
+returns-in-Build-clause-based g c =
+    let s = g.D.Disk.state c.args.disk.now in
+    let t = g.D.Disk.state c.open_index.new.disk in
+    begun_based c.begin_update-in-Build.result (IsTrue g.D.Disk.tells) s t (g.D.Disk.state c.begin_update-in-Build.new.disk) c.in_ok-start.field-0.map c.begin_update-in-Build.ensures.looks.state
+    (λ told. opens_based s t c.in_ok-start.field-0.map (c.in_ok-start.ensures.map told) (c.in_ok-start.ensures.opened told)) c.begin_update-in-Build.ensures.base

@@ -5,6 +5,7 @@ use Rattle.cache_theory.specs.History.{settled_at}
 use Rattle.cache_tool.specs.HeldReply.{said_in}
 use Rattle.cache_tool.specs.Statuses.{status_in}
 use Rattle.cache_tool.specs.World.{output, supply, world}
+use Rattle.cache_tool.proofs.Growing.{takes_none, takes_part}
 use Rattle.cache_tool.proofs.PutEnds.{answered, disk_cause, ended_no_sink, never_others, never_sink, not_answered, not_opened, put_refuses, put_stops, source_came}
 use Rattle.cache_tool.proofs.StatusLaws.{no_answer}
 use Rattle.cache_tool.proofs.put.put.Goals as goal
@@ -20,7 +21,7 @@ pub returns-in-Done-clause-stores : goal.returns-in-Done-clause-stores
 returns-in-Done-clause-stores g c = λ told some m is.
     answered m c.args.key.now (supply g.S.Source c.args.source.now) (supply g.S.Source c.perform_put-came.new.source) (status_in c.perform_put-came.result) c.end.result (output g.K.Sink g.D.Disk c.args.sink.now c.args.disk.now)
     (session g.D.Disk c.in-Ok.store c.open.new.disk) (session g.D.Disk c.perform_put-came.new.store c.perform_put-came.new.disk) (g.D.Disk.state c.end.new.disk) (said_in c.perform_put-came.new.said)
-    (c.in-Ok.ensures.opens told) is ((c.perform_put-came.ensures.performs told).each some (settled_at m) ((c.in-Ok.ensures.opens told).keeps m is)) (c.end.ensures.ends told) c.end.ensures.same
+    (c.in-Ok.ensures.opens told) is (c.in-Ok.ensures.based told) ((c.perform_put-came.ensures.performs told).each some (settled_at m) ((c.in-Ok.ensures.opens told).keeps m is)) (c.end.ensures.ends told) c.end.ensures.same
     c.print_reply.result (g.K.Sink.taken c.print_reply.new.sink) (inl c.in-Done.is)
     (record { same = rw c.in-Done.is c.print_reply.ensures.same; all = c.print_reply.ensures.all; part = c.print_reply.ensures.part; cut = c.print_reply.ensures.cut })
 
@@ -28,7 +29,7 @@ pub returns-in-No-clause-stores : goal.returns-in-No-clause-stores
 returns-in-No-clause-stores g c = λ told some m is.
     answered m c.args.key.now (supply g.S.Source c.args.source.now) (supply g.S.Source c.perform_put-came.new.source) (status_in c.perform_put-came.result) c.end.result (output g.K.Sink g.D.Disk c.args.sink.now c.args.disk.now)
     (session g.D.Disk c.in-Ok.store c.open.new.disk) (session g.D.Disk c.perform_put-came.new.store c.perform_put-came.new.disk) (g.D.Disk.state c.end.new.disk) (said_in c.perform_put-came.new.said)
-    (c.in-Ok.ensures.opens told) is ((c.perform_put-came.ensures.performs told).each some (settled_at m) ((c.in-Ok.ensures.opens told).keeps m is)) (c.end.ensures.ends told) c.end.ensures.same
+    (c.in-Ok.ensures.opens told) is (c.in-Ok.ensures.based told) ((c.perform_put-came.ensures.performs told).each some (settled_at m) ((c.in-Ok.ensures.opens told).keeps m is)) (c.end.ensures.ends told) c.end.ensures.same
     c.print_reply-in-No.result (g.K.Sink.taken c.print_reply-in-No.new.sink) (inr c.in-No.is)
     (record { same = rw c.in-No.is c.print_reply-in-No.ensures.same; all = c.print_reply-in-No.ensures.all; part = c.print_reply-in-No.ensures.part; cut = c.print_reply-in-No.ensures.cut })
 
@@ -37,9 +38,10 @@ returns g c = record {
   stores = λ told some m is.
       not_answered m c.args.key.now (supply g.S.Source c.args.source.now) (supply g.S.Source c.perform_put-came.new.source) (status_in c.perform_put-came.result) c.end.result (output g.K.Sink g.D.Disk c.args.sink.now c.args.disk.now)
       (session g.D.Disk c.in-Ok.store c.open.new.disk) (session g.D.Disk c.perform_put-came.new.store c.perform_put-came.new.disk) (g.D.Disk.state c.end.new.disk) (said_in c.perform_put-came.new.said)
-      (c.in-Ok.ensures.opens told) is ((c.perform_put-came.ensures.performs told).each some (settled_at m) ((c.in-Ok.ensures.opens told).keeps m is)) (c.end.ensures.ends told) c.end.ensures.same
+      (c.in-Ok.ensures.opens told) is (c.in-Ok.ensures.based told) ((c.perform_put-came.ensures.performs told).each some (settled_at m) ((c.in-Ok.ensures.opens told).keeps m is)) (c.end.ensures.ends told) c.end.ensures.same
       (no_answer c.end.result c.in_default.not-Done c.in_default.not-No) (ended_no_sink c.end.result (status_in c.perform_put-came.result) (never_sink c.perform_put-came.result c.perform_put-came.ensures.only c.perform_put-came.ensures.no_sink) c.end.ensures.same)
       (c.perform_put-came.ensures.honest told) (λ dropped. ap g.D.Disk.state (c.end.ensures.dropped dropped).1);
+  grows = takes_none (g.K.Sink.taken c.args.sink.now);
   read = λ done. absurd (c.in_default.not-Done done);
   unread = c.perform_put-came.ensures.unread;
   taken = c.perform_put-came.ensures.taken;
@@ -64,3 +66,9 @@ returns-in-No-clause-refused g c = λ is.
     let at = world g.S.Source g.K.Sink g.D.Disk in
     put_refuses c.perform_put-came.result c.end.result (said_in c.perform_put-came.new.said) (at c.args.source.now c.args.sink.now c.args.disk.now)
     (at c.perform_put-came.new.source c.print_reply-in-No.new.sink c.end.new.disk) c.end.ensures.same c.in-No.is c.perform_put-came.ensures.refused (c.print_reply-in-No.ensures.all (inr is))
+
+pub returns-in-Done-clause-grows : goal.returns-in-Done-clause-grows
+returns-in-Done-clause-grows g c = takes_part (g.K.Sink.taken c.args.sink.now) (g.K.Sink.taken c.print_reply.new.sink) (said_in c.perform_put-came.new.said) c.print_reply.ensures.part
+
+pub returns-in-No-clause-grows : goal.returns-in-No-clause-grows
+returns-in-No-clause-grows g c = takes_part (g.K.Sink.taken c.args.sink.now) (g.K.Sink.taken c.print_reply-in-No.new.sink) (said_in c.perform_put-came.new.said) c.print_reply-in-No.ensures.part

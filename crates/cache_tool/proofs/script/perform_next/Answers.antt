@@ -1,12 +1,14 @@
-use Rattle.std.proofs.Common.{Err, ap}
+use Rattle.std.proofs.Common.{Err, Ok, ap}
 use Rattle.cache_script.specs.Command.{command_of}
 use Rattle.cache_store.specs.Session.{session}
+use Rattle.cache_store.specs.declared.fault.Outcome.{Outcome}
 use Rattle.cache_tool.specs.Tally.{tally}
 use Rattle.cache_tool.specs.World.{progress, supply}
 use Rattle.cache_tool.proofs.Accounted.{command_accounted}
 use Rattle.cache_tool.proofs.Handed.{handed_open}
 use Rattle.cache_tool.proofs.RightLaws.{open_leaves_honest}
 use Rattle.cache_tool.proofs.ScriptTurns.{gives_none, gives_one, turn_bad, turn_err, turn_failed, turn_on, turn_whole}
+use Rattle.cache_tool.proofs.StayingLaws.{stays_for}
 use Rattle.cache_tool.proofs.script.perform_next.Goals as goal
 
 pub returns-in_err-command-in-Ok-Some-clause-performs : goal.returns-in_err-command-in-Ok-Some-clause-performs
@@ -15,12 +17,16 @@ returns-in_err-command-in-Ok-Some-clause-performs g c =
     c.in-Ok-Some.is c.in-Ok-Some.field-0-is c.next_command.follows.holds-at-none in
     turn_err g.D.Disk.tells c.args.reader.now c.next_command.follows.lender-at-none _ _ (command_of c.in-Ok-Some.command) c.in_err-command-in-Ok-Some.field-0.0 c.from_residual.result c.from_residual.ensures.1
     gives c.in_err-command-in-Ok-Some.ensures.performs
+    (λ told. stays_for {T = Outcome} (command_of c.in-Ok-Some.command) (Err c.in_err-command-in-Ok-Some.field-0.0) (session g.D.Disk c.args.store.now c.args.disk.now) (session g.D.Disk c.command.new.self c.command.new.disk)
+    (λ spares. c.in_err-command-in-Ok-Some.ensures.index spares told) c.in_err-command-in-Ok-Some.ensures.base)
 
 pub returns-in_ok-command-in-Ok-Some-clause-performs : goal.returns-in_ok-command-in-Ok-Some-clause-performs
 returns-in_ok-command-in-Ok-Some-clause-performs g c =
     let gives = gives_one c.args.reader.now c.next_command.follows.lender-at-none (g.S.Source.left c.args.source.now) (g.S.Source.left c.next_command.new.source) c.next_command.result c.in-Ok-Some.field-0 c.in-Ok-Some.command
     c.in-Ok-Some.is c.in-Ok-Some.field-0-is c.next_command.follows.holds-at-none in
     turn_on g.D.Disk.tells c.args.reader.now c.next_command.follows.lender-at-none _ _ (command_of c.in-Ok-Some.command) c.in_ok-command-in-Ok-Some.field-0 gives c.in_ok-command-in-Ok-Some.ensures.performs
+    (λ told. stays_for {T = Outcome} (command_of c.in-Ok-Some.command) (Ok c.in_ok-command-in-Ok-Some.field-0) (session g.D.Disk c.args.store.now c.args.disk.now) (session g.D.Disk c.command.new.self c.command.new.disk)
+    (λ spares. c.in_ok-command-in-Ok-Some.ensures.index spares told) c.in_ok-command-in-Ok-Some.ensures.base)
 
 pub returns-in-Ok-None-clause-performs : goal.returns-in-Ok-None-clause-performs
 returns-in-Ok-None-clause-performs g c =

@@ -1,5 +1,7 @@
 use Rattle.cache_store.specs.Session.{session}
+use Rattle.cache_tool.specs.Script.{bad_line}
 use Rattle.cache_tool.specs.World.{progress}
+use Rattle.cache_tool.proofs.Growing.{takes_cut, takes_on, takes_text}
 use Rattle.cache_tool.proofs.RightLaws.{open_leaves_honest}
 use Rattle.cache_tool.proofs.ScriptWhole.{ran_bad, ran_bad_cut, ran_broke, ran_failed, ran_nothing, ran_whole}
 use Rattle.cache_tool.proofs.script.perform_script.Goals as goal
@@ -30,3 +32,15 @@ returns-clause-performs g c = λ told.
 
 pub returns-in_err-reader-clause-honest : goal.returns-in_err-reader-clause-honest
 returns-in_err-reader-clause-honest g c = λ told. open_leaves_honest (session g.D.Disk c.args.store.now c.args.disk.now) (c.requires.told told)
+
+pub returns-in_err-say_bad-in-Bad-clause-grows : goal.returns-in_err-say_bad-in-Bad-clause-grows
+returns-in_err-say_bad-in-Bad-clause-grows g c = λ told.
+    let mid = g.K.Sink.taken c.perform_commands.new.sink in
+    let now = g.K.Sink.taken c.say_bad.new.sink in
+    takes_on (g.K.Sink.taken c.args.sink.now) mid now (c.perform_commands.ensures.grows told) (takes_cut mid now (bad_line c.in-Bad.number) c.in_err-say_bad-in-Bad.ensures.cut)
+
+pub returns-clause-grows : goal.returns-clause-grows
+returns-clause-grows g c = λ told.
+    let mid = g.K.Sink.taken c.perform_commands.new.sink in
+    let now = g.K.Sink.taken c.say_bad.new.sink in
+    takes_on (g.K.Sink.taken c.args.sink.now) mid now (c.perform_commands.ensures.grows told) (takes_text mid now (bad_line c.in-Bad.number) c.in_ok-say_bad-in-Bad.ensures.said)

@@ -13,5 +13,5 @@ returns-clause-runs g c = λ told.
     let at = progress g.S.Source g.K.Sink g.D.Disk in
     let came = c.perform_script-came.new in
     runs_ended c.args.now c.end.result c.perform_script-came.result (g.D.Disk.state c.args.disk.now) (at c.in-Ok.store c.args.source.now c.args.sink.now c.open.new.disk)
-    (at came.store came.source came.sink came.disk) _ (c.in-Ok.ensures.opens told) (c.perform_script-came.ensures.performs told) (c.perform_script-came.ensures.honest told) (c.end.ensures.ends told) c.end.ensures.same
+    (at came.store came.source came.sink came.disk) _ (c.in-Ok.ensures.opens told) (c.in-Ok.ensures.based told) (c.perform_script-came.ensures.performs told) (c.perform_script-came.ensures.honest told) (c.end.ensures.ends told) c.end.ensures.same
     (λ still. ap (λ d. g.D.Disk.state d) (c.end.ensures.dropped still).1)

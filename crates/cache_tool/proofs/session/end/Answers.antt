@@ -11,6 +11,7 @@ use Rattle.cache_theory.specs.History.{History}
 use Rattle.cache_tool.specs.Ending.{IsEnded}
 use Rattle.cache_tool.specs.Statuses.{IsClosing, status_in}
 use Rattle.cache_tool.proofs.RightLaws.{open_leaves_honest}
+use Rattle.cache_tool.proofs.StayingLaws.{ends_in_use, ends_short}
 use Rattle.cache_tool.proofs.session.end.Goals as goal
 
 -- a store that failed to close was not closed
@@ -26,6 +27,8 @@ dropped ended still now h keeps = record {
   shut = λ closing. absurd (still closing);
   images = λ right. open_leaves_honest now (h.machine, represents keeps);
   honest = λ closing right. absurd (still closing);
+  journal = λ closing over. absurd (still closing);
+  in_use = λ records closing. absurd (still closing);
 }
 
 pub returns-in-Err-Disk-clause-ends : goal.returns-in-Err-Disk-clause-ends
@@ -39,11 +42,14 @@ returns-in-Ok-close-clause-ends g c = λ tells. record {
   each = λ h keeps.
       let closed = c.in-Ok-close.ensures.closes tells in
       let honest = c.in-Ok-close.ensures.honest tells in
+      let closes = c.in-Ok-close.ensures.journal tells in
       record {
         safe = closed.crash h keeps;
         shut = λ closing. closed.shut h.machine (represents keeps);
         images = λ right. honest.images h.machine (represents keeps) right;
         honest = λ closing right. honest.honest h.machine (represents keeps) right;
+        journal = λ closing over. ends_short _ _ h keeps closes over;
+        in_use = λ records closing right holds ends. ends_in_use _ _ h keeps closes records right holds ends;
       };
 }
 
@@ -58,5 +64,7 @@ returns-in-Err-clause-ends g c = λ tells. record {
         shut = λ closing. absurd (still closing);
         images = λ right. honest.images h.machine (represents keeps) right;
         honest = λ closing right. absurd (still closing);
+        journal = λ closing over. absurd (still closing);
+        in_use = λ records closing. absurd (still closing);
       };
 }

@@ -1,6 +1,7 @@
 use Rattle.cache_theory.proofs.Crashes.{safe_is_crash_safe}
 use Rattle.cache_store.specs.Session.{session}
 use Rattle.cache_store.proofs.Closed.{closes_failed, failed_honestly, images_honest, is_honest, left_honest, shut, spared_crash}
+use Rattle.cache_store.proofs.ClosedInUse.{closed_in_use}
 use Rattle.cache_store.proofs.store.Store.close.Goals as goal
 
 pub returns-in_err-closed-clause-crash : goal.returns-in_err-closed-clause-crash
@@ -61,3 +62,9 @@ returns-clause-honest g c = λ told.
       honest = λ m is tells. is_honest before d (c.close_all-closed.ensures.index told) t c.ended.result c.ended.ensures.ended (λ e. c.in_ok-close_index.ensures.trusted e told) (λ e. c.close_index.ensures.unclean e told) m is tells
           ((c.in_ok-closed.ensures.closes told).closed m is.stands);
     }
+
+pub returns-clause-journal : goal.returns-clause-journal
+returns-clause-journal g c = λ told.
+    let d = c.close_all-closed.new.disk in
+    closed_in_use c.args.self.index c.args.self.moment (g.D.Disk.state c.args.disk.now) (g.D.Disk.state d) (g.D.Disk.state c.close_index.new.disk) c.ended.result c.ended.ensures.ended (g.met.D.Disk.sound d told)
+    (c.close_all-closed.ensures.index told) c.close_index.ensures.known (λ e. c.in_ok-close_index.ensures.closed e told)

@@ -1,11 +1,15 @@
-use Rattle.std.proofs.Common.{ap}
+use Rattle.std.proofs.Common.{◌≡◌, [], ap, subst, sym}
 use Rattle.cache_script.specs.Command.{command_of}
 use Rattle.index_theory.proofs.UncleanLaws.{unclean_leaves_honest}
+use Rattle.cache_store.specs.Answering.{rest_of}
+use Rattle.cache_store.specs.IndexCalls.{IsFresh}
 use Rattle.cache_store.specs.Said.{saying}
-use Rattle.cache_store.specs.Session.{open_of, session}
+use Rattle.cache_store.specs.Session.{Open, open_of, session}
 use Rattle.cache_store.proofs.PerformSafe.{performs_open, performs_safely}
 use Rattle.cache_store.proofs.PerformWhole.{does_performs, fails_performs}
 use Rattle.cache_store.proofs.PrintedLaws.{prints_outcome}
+use Rattle.cache_store.proofs.SaidMore.{when_ok}
+use Rattle.cache_store.proofs.TakenMore.{rest_takes}
 use Rattle.cache_store.proofs.store.Store.command.Goals as goal
 
 pub returns-in_err-answered-clause-performs : goal.returns-in_err-answered-clause-performs
@@ -40,3 +44,13 @@ returns-in_err-answered-clause-honest g c = λ told. unclean_leaves_honest (g.D.
 
 pub returns-clause-honest : goal.returns-clause-honest
 returns-clause-honest g c = λ told. unclean_leaves_honest (g.D.Disk.state c.perform.new.disk) (c.in_ok-answered.ensures.unclean told)
+
+pub returns-clause-grows : goal.returns-clause-grows
+returns-clause-grows g c = λ told.
+    rest_takes (rest_of c.in_ok-answered.answered) (g.K.Sink.taken c.args.sink.now) (saying g.K.Sink c.perform.new.self.reply c.perform.new.sink) (g.K.Sink.taken c.finish_reply.new.sink) c.finish_reply.result
+    (c.in_ok-answered.ensures.grows told) c.finish_reply.ensures.printed c.finish_reply.ensures.cut
+
+pub returns-clause-flushed : goal.returns-clause-flushed
+returns-clause-flushed g c = λ flush.
+    when_ok c.finish_reply.result _
+    (subst (λ (o : Open). o.index.update ≡ [] → IsFresh o.index.map) (sym c.finish_reply.ensures.open) (c.in_ok-answered.ensures.flushed flush))

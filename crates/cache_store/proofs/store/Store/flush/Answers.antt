@@ -1,3 +1,7 @@
+use Rattle.std.proofs.Common.{◌∙◌, ap, rules, subst, sym}
+use Rattle.disk_model.specs.State.{settled}
+use Rattle.index_theory.specs.Leaves.{LeavesIndex}
+use Rattle.index_theory.proofs.LeavesLaws.{sync_leaves_index}
 use Rattle.file_handles.specs.Kept.{kept}
 use Rattle.cache_store.specs.Session.{session}
 use Rattle.cache_store.proofs.IndexAchieves.{fails_sparing, spared_in_same}
@@ -22,3 +26,11 @@ returns-clause-does g c = λ told.
 pub returns-clause-unclean : goal.returns-clause-unclean
 returns-clause-unclean g c = λ told.
     synced_unclean _ _ _ (c.in_ok-sync.ensures.state told) (c.in_ok-refresh.ensures.unclean told) c.args.self.now.index.map (c.requires.told told).1.matches.holds
+
+pub returns-clause-index : goal.returns-clause-index
+returns-clause-index g c = λ spares told.
+    subst (LeavesIndex (g.D.Disk.state c.args.disk.now)) (sym (c.in_ok-sync.ensures.state told ∙ ap settled (c.in_ok-refresh.ensures.unwritten spares told)))
+    (sync_leaves_index (g.D.Disk.state c.args.disk.now) (g.met.D.Disk.sound c.args.disk.now told))
+
+pub returns-clause-account : goal.returns-clause-account
+returns-clause-account g c = record { cause = search rules; went_on = search rules; stops = search rules }

@@ -1,6 +1,8 @@
 use Rattle.std.proofs.Common.{refl, arith}
 use Rattle.cache_store.specs.Session.{open_of}
 use Rattle.cache_store.proofs.Opened.{begun_honest, begun_safe, cleared_honest, cleared_safe, keeps_found, nothing_removed, opened_safe, opens, opens_open}
+use Rattle.cache_store.proofs.StartAlong.{in_use_along}
+use Rattle.file_handles.proofs.IndexLeft.{cleared_left}
 use Rattle.cache_store.proofs.Shelves.{shelf_exists}
 use Rattle.cache_store.proofs.store.Store.open.Goals as goal
 
@@ -89,3 +91,8 @@ returns-clause-opens g c = λ told.
 
 pub returns-clause-open : goal.returns-clause-open
 returns-clause-open g c = λ told. opens_open (g.D.Disk.state c.args.disk.now) c.args.now _ (g.met.D.Disk.finite c.args.disk.now told) (returns-clause-opens g c told)
+
+pub returns-clause-based : goal.returns-clause-based
+returns-clause-based g c = λ told.
+    in_use_along (g.D.Disk.state c.args.disk.now) (g.D.Disk.state c.clear.new.disk) (cleared_left (g.D.Disk.state c.args.disk.now) (g.D.Disk.state c.clear.new.disk) (c.clear.ensures.removes told)).stands
+    c.in_ok-index.index.map (g.D.Disk.state c.begin_index.new.disk) (c.in_ok-index.ensures.based told)

@@ -6,6 +6,7 @@ use Rattle.cache_store.specs.Said.{saying}
 use Rattle.cache_store.specs.Session.{session}
 use Rattle.cache_store.proofs.LearntAchieves.{append_achieves, close_achieves, create_achieves, doom_achieves, finish_achieves, open_achieves, set_achieves, unset_achieves}
 use Rattle.cache_store.proofs.PerformDoes.{as_command, at_does, done_unsaid, has_does, reading_does, state_does, unsaid_does}
+use Rattle.cache_store.proofs.TakenMore.{open_takes}
 use Rattle.file_handles.proofs.IndexLeft.{same_left}
 use Rattle.cache_store.proofs.store.Store.perform.Goals as goal
 
@@ -117,3 +118,18 @@ pub returns-in-Rebuild-clause-does : goal.returns-in-Rebuild-clause-does
 returns-in-Rebuild-clause-does g c = λ told.
     as_command _ Rebuild _ _ _ _ _ (ap command_of c.in-Rebuild.is)
     (unsaid_does Rebuild c.rebuild.result _ _ (saying g.K.Sink c.rebuild.new.self.reply c.args.sink.now) c.rebuild.ensures.not_said c.rebuild.ensures.no_sink (c.rebuild.ensures.held ∙ c.requires.empty) (c.rebuild.ensures.does told))
+
+pub returns-in-Element-clause-grows : goal.returns-in-Element-clause-grows
+returns-in-Element-clause-grows g c = λ told.
+    open_takes (ElementOf c.in-Element.slot c.in-Element.name.now) c.say_element.result (session g.D.Disk c.args.self.now c.args.disk.now) (g.K.Sink.taken c.args.sink.now)
+    (saying g.K.Sink c.say_element.new.self.reply c.say_element.new.sink) (c.requires.told told) (c.say_element.ensures.answers (g.D.Disk.state c.args.disk.now))
+
+pub returns-in-ReadPart-clause-grows : goal.returns-in-ReadPart-clause-grows
+returns-in-ReadPart-clause-grows g c = λ told.
+    open_takes (ReadPart c.in-ReadPart.slot c.in-ReadPart.from c.in-ReadPart.len) c.say_read.result (session g.D.Disk c.args.self.now c.args.disk.now) (g.K.Sink.taken c.args.sink.now)
+    (saying g.K.Sink c.say_read.new.self.reply c.say_read.new.sink) (c.requires.told told) (c.say_read.ensures.answers told)
+
+pub returns-in-Get-clause-grows : goal.returns-in-Get-clause-grows
+returns-in-Get-clause-grows g c = λ told.
+    open_takes (Get c.in-Get.key.now) c.say_get.result (session g.D.Disk c.args.self.now c.args.disk.now) (g.K.Sink.taken c.args.sink.now)
+    (saying g.K.Sink c.say_get.new.self.reply c.say_get.new.sink) (c.requires.told told) (c.say_get.ensures.answers told)

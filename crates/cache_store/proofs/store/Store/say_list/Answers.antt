@@ -5,6 +5,7 @@ use Rattle.index_record.specs.declared.record.IndexRecord.{IndexRecord}
 use Rattle.cache_store.specs.Said.{saying}
 use Rattle.cache_store.specs.Saying.{CutsIn, SaysMore}
 use Rattle.cache_store.proofs.ListDoes.{list_does, list_fails, list_stops, list_unsaid, no_sink}
+use Rattle.cache_store.proofs.TakenMore.{cuts_takes, says_takes}
 use Rattle.cache_store.proofs.store.Store.say_list.Goals as goal
 
 pub returns-in_err-finish-clause-does : goal.returns-in_err-finish-clause-does
@@ -51,3 +52,11 @@ returns-clause-does g c = λ told.
     })
     c.in_ok-records.records c.in_ok-records.ensures.known c.in_ok-records.ensures.by_name s0 s1 c.requires.empty
     (subst (λ (rs : List IndexRecord). SaysMore s0 s1 (records_text rs)) c.as_slice.ensures c.in_ok-say_records.ensures.says)
+
+pub returns-in_err-say_records-clause-grows : goal.returns-in_err-say_records-clause-grows
+returns-in_err-say_records-clause-grows g c =
+    cuts_takes (saying g.K.Sink c.args.self.now.reply c.args.sink.now) (g.K.Sink.taken c.say_records.new.sink) _ c.requires.empty c.in_err-say_records.ensures.cut
+
+pub returns-clause-grows : goal.returns-clause-grows
+returns-clause-grows g c =
+    says_takes (saying g.K.Sink c.args.self.now.reply c.args.sink.now) (saying g.K.Sink c.say_records.new.reply c.say_records.new.sink) _ c.requires.empty c.in_ok-say_records.ensures.says

@@ -40,6 +40,7 @@ loop-object-preserved g c =
         left = λ told. then_left s t (g.D.Disk.state c.match-object.disk) (before.left told)
             (dropped_left {T = Unit {0}} (Ok tt) t (g.D.Disk.state c.match-object.disk) w.in-Some.object (ap g.D.Disk.state w.disk-is ∙ w.in_ok-drop_file.ensures.state told));
         calm = subst (IsCalm g.D.Disk c.args.disk.now) (sym w.disk-is) (calm_then g.D.Disk _ _ _ before.calm w.in_ok-drop_file.ensures.account);
+        looks = λ told. ap (λ d. (g.D.Disk.counts d).entry_reads) w.disk-is ∙ w.in_ok-drop_file.ensures.no_entry told ∙ before.looks told;
       }
       | in_default w ↦ record {
         long = before.long;
@@ -47,6 +48,7 @@ loop-object-preserved g c =
             (subst (λ d. IsDroppedTo k i s (g.D.Disk.state d)) (sym w.disk-is) (before.to told));
         left = λ told. subst (λ d. LeavesIndex s (g.D.Disk.state d)) (sym w.disk-is) (before.left told);
         calm = subst (IsCalm g.D.Disk c.args.disk.now) (sym w.disk-is) before.calm;
+        looks = λ told. ap (λ d. (g.D.Disk.counts d).entry_reads) w.disk-is ∙ before.looks told;
       }
     ]
 
@@ -62,3 +64,9 @@ returns-in_err-drop_file-clause-index g c told =
 
 pub returns-clause-index : goal.returns-clause-index
 returns-clause-index g c told = c.loop-object.invariant.left told
+
+pub returns-in_err-drop_file-clause-no_entry : goal.returns-in_err-drop_file-clause-no_entry
+returns-in_err-drop_file-clause-no_entry g c told = c.drop_file.ensures.no_entry told ∙ c.loop-object.invariant.looks told
+
+pub returns-clause-no_entry : goal.returns-clause-no_entry
+returns-clause-no_entry g c told = c.loop-object.invariant.looks told

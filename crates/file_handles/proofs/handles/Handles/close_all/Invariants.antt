@@ -1,5 +1,5 @@
 use Rattle.std.proofs.Common.{◌≡◌, IsTrue, length}
-use Rattle.disk_model.specs.Account.{IsCalm}
+use Rattle.disk_model.specs.Account.{IsCalm, LooksAtNoEntry}
 use Rattle.index_theory.specs.Leaves.{LeavesIndex}
 use Rattle.file_handles.specs.Kept.{kept}
 use Rattle.file_handles.proofs.ClosedAll.{IsDroppedTo}
@@ -11,4 +11,5 @@ invariant-loop-object g l = record {
   to : IsTrue g.D.Disk.tells → IsDroppedTo (kept l.fn.self) l.object-index (g.D.Disk.state l.fn.disk) (g.D.Disk.state l.disk);
   left : IsTrue g.D.Disk.tells → LeavesIndex (g.D.Disk.state l.fn.disk) (g.D.Disk.state l.disk);
   calm : IsCalm g.D.Disk l.fn.disk l.disk;
+  looks : LooksAtNoEntry g.D.Disk l.fn.disk l.disk;
 }

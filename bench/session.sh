@@ -1,0 +1,59 @@
+#!/usr/bin/env bash
+# Whole runs of `list`, `put` and `rebuild` by the proved program against a plain one in C: see README.md.
+set -euo pipefail
+
+here=$(cd "$(dirname "${BASH_SOURCE[0]}")" && pwd)
+cache2=$here/../cache2
+work=$(mktemp -d -p /dev/shm)
+trap 'rm -rf "$work"' EXIT
+records=100000
+entries=2000
+
+gcc -O2 -Wall -Wno-unused-function -o "$work/session_c" "$here/session.c"
+gcc -O2 -Wall -Wno-unused-function -o "$work/open_index_c" "$here/open_index.c"
+gcc -O2 -Wall -o "$work/script_c" "$here/script.c"
+printf hello >"$work/body"
+# Builds the program where it is not built yet.
+"$cache2" "$work/first" 1000 list >/dev/null
+cp "$here/../crates/cache_tool/out/cache_tool" "$work/cache2"
+
+# compare DIR WORD..: both programs have to print the same and to leave the same files.
+compare() {
+    for program in cache2 session_c; do
+        rm -rf "$work/one"
+        cp -r "$1" "$work/one"
+        "$work/$program" "$work/one" "${@:2}" <"$work/body" >"$work/$program.txt"
+        (cd "$work/one" && find . -type f -exec sha1sum {} + | sort -k 2) >>"$work/$program.txt"
+    done
+    cmp "$work/cache2.txt" "$work/session_c.txt"
+}
+
+# measure NAME DIR WORD..
+measure() {
+    echo "$1"
+    compare "${@:2}"
+    python3 "$here/costs.py" 1.5 "$runs" "$work/body" "rattle=$work/cache2" "c=$work/session_c" -- "${@:2}" || status=1
+}
+
+status=0
+mkdir -p "$work/large/entries" "$work/full/entries"
+"$work/open_index_c" "$work/large" "$records" sorted
+runs=10
+measure "list of $records records" "$work/large" 1001 list
+measure "put of 5 bytes beside $records records" "$work/large" 1001 put :https://example.com/
+
+python3 - "$work/script" "$entries" <<'PYTHON'
+import random
+import sys
+
+random.seed(1)
+with open(sys.argv[1], "wb") as script:
+    for i in range(int(sys.argv[2])):
+        script.write(b"create 0 :https://example.com/%d\n" % i)
+        script.write(b"append 0 16384\n" + random.randbytes(16384) + b"\n")
+        script.write(b"close 0\n")
+PYTHON
+"$work/cache2" "$work/full" 1000 run <"$work/script" >/dev/null
+runs=20
+measure "rebuild of $entries entries" "$work/full" 1001 rebuild
+exit "$status"

@@ -1,0 +1,10 @@
+//! What follows from the definitions.
+
+ghost use Rattle.cache_store.specs.InUse.{FewAreSpared, FewStayInUse};
+
+/// Where few records differ from those of the index that stands, a `flush` does not write it, and a closing leaves it as it
+/// is with a journal of what differs.
+pub fn few_leave_index()
+    ensures spared { FewAreSpared }
+    ensures in_use { FewStayInUse }
+{}

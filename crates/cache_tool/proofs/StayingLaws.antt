@@ -1,0 +1,93 @@
+-- An index that stays in use: over one command, over more, and over a session from its opening to its end.
+use Rattle.std.proofs.Common.{◌≡◌, ◌≢◌, ℕ, List, [], ◌∷◌, ◌++◌, refl, ap, inl, subst, sym, ◌∙◌}
+use Rattle.std.specs.Prelude.{Result}
+use Rattle.cache_base.specs.declared.status.Status.{Status}
+use Rattle.cache_store.specs.InUse.{ClosesInUse, HasJournalOf, HasShortJournal, HoldsBase, OpensInUse, SparesIndex, StaysInUse, StaysOver, past_header}
+use Rattle.cache_store.specs.Open.{KeepsTo, Opens, Represents, StartsOn, Tells}
+use Rattle.cache_store.specs.Performing.{HadEffect}
+use Rattle.cache_store.specs.Session.{Session}
+use Rattle.cache_store.specs.declared.fault.StoreFault.{StoreFault}
+use Rattle.cache_store.proofs.InUseLaws.{few_are_spared, few_stay_in_use}
+use Rattle.cache_store.proofs.Represented.{represents}
+use Rattle.cache_theory.specs.Command.{Command}
+use Rattle.cache_theory.specs.History.{History}
+use Rattle.cache_theory.specs.Machine.{Machine}
+use Rattle.cache_theory.specs.Step.{after, step}
+use Rattle.cache_tool.specs.Ending.{IsEnded}
+use Rattle.cache_tool.specs.Right.{LeadTo}
+use Rattle.cache_tool.specs.Statuses.{IsClosing}
+use Rattle.cache_tool.specs.Staying.{EndsInUse, IsInUse, StaysOverAll}
+use Rattle.disk_model.specs.State.{State, standing}
+use Rattle.disk_model.specs.declared.place.Place.TheVariants.{Index}
+use Rattle.index_map.specs.Known.{SameBase}
+use Rattle.index_record.specs.declared.record.IndexRecord.{IndexRecord}
+use Rattle.index_theory.specs.Honest.{Honest, index_records}
+use Rattle.index_theory.specs.Leaves.{LeavesIndex}
+use Rattle.index_theory.specs.Scan.{scan}
+use Rattle.index_theory.specs.Start.{start_of}
+use Rattle.index_theory.specs.declared.kinds.Start.TheVariants.{Build}
+use Rattle.index_update.proofs.TellLaws.{bytes_end}
+
+-- ---- over commands
+
+-- over commands that are joined it stays over the first, and then over the others
+pub stays_split : (records : List IndexRecord) (m : Machine) (cs ds : List Command) → StaysOverAll records m (cs ++ ds) → StaysOverAll records m cs × StaysOverAll records (after m cs) ds
+stays_split records m [] ds over = (tt, over)
+stays_split records m (c ∷ cs) ds over = let rest = stays_split records (step m c).next cs ds over.1 in ((over.0, rest.0), rest.1)
+
+pub none_in_use : (records : List IndexRecord) (now : Session) → HoldsBase records now.open_store.index.map → IsInUse records now now
+none_in_use records now holds = record { base = holds; past = refl }
+
+pub both_in_use : (records : List IndexRecord) (before mid now : Session) → IsInUse records before mid → IsInUse records mid now → IsInUse records before now
+both_in_use records before mid now first second = record { base = second.base; past = second.past ∙ first.past }
+
+-- ---- over one command
+
+-- for a machine
+abbrev pub StaysOnce : Command → Session → Machine → Session → Type 0
+StaysOnce c before m now = (records : List IndexRecord) → Tells before m → HoldsBase records before.open_store.index.map → StaysOver records m c → IsInUse records before now
+
+-- whatever machine the store stands for, once the command has had its effect
+abbrev pub StaysFor : {T : Type 0} → Command → Result T StoreFault → Session → Session → Type 0
+StaysFor c answer before now = (m : Machine) → Represents before m → HadEffect answer → StaysOnce c before m now
+
+-- it leaves the files of the index and the base in memory as they are
+pub stays_for : {T : Type 0} (c : Command) (answer : Result T StoreFault) (before now : Session) → (SparesIndex c before.open_store.index → LeavesIndex before.disk now.disk)
+    → (SparesIndex c before.open_store.index → HadEffect answer → SameBase before.open_store.index.map now.open_store.index.map) → StaysFor c answer before now
+stays_for c answer before now leaves same = λ m stands had records told holds over.
+    let spares = few_are_spared records before m c stands told holds over in
+    let base = same spares had in
+    record {
+      base = record { has_base = base.has_base ∙ holds.has_base; same = λ name. base.records name ∙ holds.same name };
+      past = ap past_header ((leaves spares).stands Index tt);
+    }
+
+-- ---- at the end of a session
+
+module _ (before : Session) (t : State) (h : History) (keeps : KeepsTo before h) (closes : ClosesInUse before.open_store.index before.disk t) where
+  pub ends_short : h.machine.rest ≡ [] → HasShortJournal (standing t)
+  ends_short ended = closes.short ((bytes_end before.open_store.index.update).0 (sym keeps.matches.rest ∙ ended))
+
+  pub ends_in_use : (records : List IndexRecord) → Tells before h.machine → HoldsBase records before.open_store.index.map → EndsInUse records h.machine
+      → StaysInUse records (scan h.machine.shelf) before.disk t
+  ends_in_use records told holds ends = few_stay_in_use records before h.machine t (represents keeps) told holds ends.ended ends.few closes
+
+-- ---- over a whole session
+
+-- an index that could be read stays in use in an honest directory, where few records come to differ from it
+abbrev pub StaysWhole : Status → Machine → List Command → State → State → Type 0
+StaysWhole ended m cs s t = let base = index_records (standing s Index) in
+    IsClosing ended → Honest (standing s) → start_of (standing s) ≢ Build → StaysOverAll base m cs → EndsInUse base (after m cs) → StaysInUse base (scan (after m cs).shelf) s t
+
+pub stays_whole : {moment : ℕ} (s t : State) (m : Machine) (first last : Session) (cs : List Command) (h : History) (ended : Status) → Opens moment s first → StartsOn moment s m
+    → OpensInUse s first.open_store.index.map first.disk → LeadTo cs first m last h → IsEnded ended h last t → h.machine ≡ after m cs → StaysWhole ended m cs s t
+stays_whole s t m first last cs h ended opens is based leads closed same = λ closing honest some over ends.
+    let base : List IndexRecord = index_records (standing s Index) in
+    let begins = based some in
+    let told = opens.tells m is honest in
+    let on = leads.in_use base told begins.base over in
+    let last_stays = closed.in_use base closing (leads.tells (inl told)) on.base (subst (EndsInUse base) (sym same) ends) in
+    record {
+      past = last_stays.past ∙ on.past ∙ begins.past;
+      journal = subst (λ (x : Machine). HasJournalOf base (scan x.shelf) (standing t)) same last_stays.journal;
+    }
