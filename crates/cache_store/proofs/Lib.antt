@@ -11,6 +11,7 @@ pub mod IndexWrites
 pub mod InUseLaws
 pub mod LearntAchieves
 pub mod ListDoes
+pub mod MomentAndRest
 pub mod OneLearnt
 pub mod Opened
 pub mod OpenedIndex

@@ -8,6 +8,9 @@ use cache_base::{BUFFER_MAX, Buffer, NoMemory};
 use cache_io::{Sink, SinkFault, write_whole};
 use std::alloc::Global;
 
+// So many bytes are worth a write of their own.
+const HELD_MAX: usize = 65_536;
+
 /// The bytes of a reply that are not out yet, so that a short reply goes out by one write.
 #[derive(Drop)]
 pub(crate) struct Pending {
@@ -27,7 +30,7 @@ impl Pending {
         })
     }
 
-    /// Says bytes. They are held, and where they have no room what is held goes out first.
+    /// Says bytes. They are held, and where they have no room what is held goes out first. Many at once go out as they are.
     pub(crate) fn put<K: Sink>(&mut self, sink: &mut K, b: &[u8]) -> Result<(), SinkFault>
         ensures said { let at = saying K.Sink in
             OnOk result (SaysMore (at self.old sink.old) (at self.new sink.new) b.now) }
@@ -36,11 +39,12 @@ impl Pending {
         ensures cause { let failed = IsErrOf result SinkFault.Failed in
             HasCause failed (K.faults sink.old) (K.faults sink.new) }
     {
+        if b.len() > HELD_MAX {
+            self.send(sink)?;
+            return write_whole(sink, b);
+        }
         if b.len() > BUFFER_MAX - self.held.as_slice().len() {
             self.send(sink)?;
-            if b.len() > BUFFER_MAX {
-                return write_whole(sink, b);
-            }
         }
         self.held.extend(b);
         Ok(())

@@ -1,0 +1,67 @@
+-- What the handles and the disk represent hangs neither on the moment nor on the names that the update has still to read.
+use Rattle.std.proofs.Common.{◌∙◌, Bool, ℕ, List, refl, sym}
+use Rattle.cache_theory.specs.Crash.{IsCrashKept}
+use Rattle.cache_theory.specs.History.{History}
+use Rattle.cache_theory.specs.Machine.{Machine}
+use Rattle.cache_theory.specs.Marks.{Marks}
+use Rattle.cache_theory.specs.Proper.{IsProper}
+use Rattle.cache_theory.specs.Stands.{DoomedStand, IsHeldDoomed}
+use Rattle.cache_theory.proofs.EntryFiles.{entry_along}
+use Rattle.disk_model.specs.Image.{Files}
+use Rattle.disk_model.specs.State.{State, standing}
+use Rattle.file_handles.specs.Cache.{Cache}
+use Rattle.file_handles.specs.Kept.{Kept}
+use Rattle.file_handles.specs.Stands.{HandlesStand, IsAt, KeepsWhere}
+
+-- the machine with another moment and another rest
+abbrev pub with_both : Machine → ℕ → List (List ℕ) → Machine
+with_both m now rest = record m { moment = now; rest = rest }
+
+module _ (m : Machine) (now : ℕ) (rest : List (List ℕ)) where
+  held_after : (i : ℕ) → IsHeldDoomed m i → IsHeldDoomed (with_both m now rest) i
+  held_after i h = record { slots = h.slots; doomed = h.doomed }
+
+  held_before : (i : ℕ) → IsHeldDoomed (with_both m now rest) i → IsHeldDoomed m i
+  held_before i h = record { slots = h.slots; doomed = h.doomed }
+
+  both_handles : (k : Kept) (number : ℕ → ℕ) → HandlesStand k m number → HandlesStand k (with_both m now rest) number
+  both_handles k number stand = record {
+    slots = stand.slots;
+    used = stand.used;
+    objects = λ p x at.
+        let old = stand.objects p x at in
+        record { in_use = record { number = old.in_use.number; slots = old.in_use.slots }; as_held = old.as_held };
+    apart = stand.apart;
+  }
+
+  both_doomed : (files : Files) (At : ℕ → ℕ → Type 0) → DoomedStand files m At → DoomedStand files (with_both m now rest) At
+  both_doomed files At stand = record {
+    held = λ i h. stand.held i (held_before i h);
+    only = λ k some. let there = stand.only k some in (there.0, (there.1.0, held_after there.0 there.1.1));
+    one_object = stand.one_object;
+    one_number = stand.one_number;
+  }
+
+  both_kept : (s : State) (w : Marks) (At : ℕ → ℕ → Type 0) → IsCrashKept s m w At → IsCrashKept s (with_both m now rest) w At
+  both_kept s w At kept = record {
+    safe = kept.safe;
+    once = kept.once;
+    doomed = λ k i file name at h names ever. kept.doomed k i file name at (held_before i h) names ever;
+    unburied = kept.unburied;
+    young = kept.young;
+  }
+
+pub both_in : {b : Bool} (now : ℕ) (rest : List (List ℕ)) (at : Cache) (h : History) → IsProper (with_both h.machine now rest) → KeepsWhere b at h
+    → KeepsWhere b at (record { machine = with_both h.machine now rest; marks = h.marks })
+both_in now rest at h proper is =
+    let m = h.machine in
+    record {
+      number = is.number;
+      stands = record {
+        proper = proper;
+        handles = both_handles m now rest at.handles is.number is.stands.handles;
+        entries = λ name. is.stands.entries name ∙ sym (entry_along m (with_both m now rest) name refl refl (λ i at. refl));
+        doomed = both_doomed m now rest (standing at.disk) (IsAt at.handles is.number) is.stands.doomed;
+      };
+      crash_kept = λ on. both_kept m now rest at.disk h.marks (IsAt at.handles is.number) (is.crash_kept on);
+    }
