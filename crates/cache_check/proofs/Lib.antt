@@ -1,0 +1,12 @@
+pub mod TableLaws
+pub mod Damages
+pub mod FileFindings
+pub mod RowLaws
+pub mod RowSteps
+pub mod LooksLeft
+pub mod Turns
+pub mod Tables
+pub mod Found
+pub mod Agreement
+pub mod FoundExactly
+pub mod Rising

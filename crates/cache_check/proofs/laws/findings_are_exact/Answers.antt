@@ -1,0 +1,11 @@
+use Rattle.cache_check.proofs.FoundExactly as laws
+use Rattle.cache_check.proofs.laws.findings_are_exact.Goals as goal
+
+pub returns-clause-exact : goal.returns-clause-exact
+returns-clause-exact c = laws.findings_are_exact
+
+pub returns-clause-silent : goal.returns-clause-silent
+returns-clause-silent c = laws.right_records_are_silent
+
+pub returns-clause-rising : goal.returns-clause-rising
+returns-clause-rising c = laws.listed_names_rise

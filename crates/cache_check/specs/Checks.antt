@@ -1,0 +1,74 @@
+-- What the check of a name, of a file and of a chunk adds, and the calls of the disk that they take.
+use Rattle.std.specs.List.{AllByRecursion}
+use Rattle.std.specs.Prelude.{IsSome, List, None, Option, Some, [], if◌then◌else◌, map, option_and_then, sum_by, take, unwrap_or, ℕ, ◌++◌, ◌+◌, ◌≡◌}
+use Rattle.cache_base.specs.Limits.{chunks}
+use Rattle.cache_base.specs.declared.name.Name.{Name}
+use Rattle.cache_check.specs.Findings.{IsTableOf, file_findings, record_findings}
+use Rattle.cache_check.specs.Table.{Table, name_of}
+use Rattle.cache_check.specs.declared.finding.Finding.{Finding}
+use Rattle.cache_check.specs.declared.finding.What.{What}
+use Rattle.cache_check.specs.declared.finding.What.TheVariants as what
+use Rattle.chunk_store.specs.Chunks.{damage_at, damages}
+use Rattle.chunk_store.specs.declared.damage.Damage.{Damage}
+use Rattle.disk_model.specs.Calls.{Counts}
+use Rattle.disk_model.specs.Image.{Files}
+use Rattle.disk_model.specs.State.{State, standing}
+use Rattle.disk_model.specs.declared.place.Place.TheVariants.{Entry}
+use Rattle.entry_file.specs.EntryFile.{file_meta, fits}
+use Rattle.entry_file.specs.Looks.{Looks}
+use Rattle.entry_metadata.specs.Metadata.{Meta}
+use Rattle.evictor.specs.Evict.{has_name}
+use Rattle.index_record.specs.declared.record.IndexRecord.{IndexRecord}
+use Rattle.index_theory.specs.Ever.{Entries}
+use Rattle.index_theory.specs.Scan.{record_of}
+
+-- what the entry file of a name holds, if one stands
+abbrev pub file_at : State → Name → Option (List ℕ)
+file_at s name = standing s (Entry name)
+
+-- a file stands under each of these names
+abbrev pub AllStand : State → List Name → Type 0
+AllStand s names = AllByRecursion (λ name. IsSome (file_at s name)) names
+
+-- findings under a name
+abbrev pub named : Name → List What → List Finding
+named name whats = map (λ w. record { name = name; what = w }) whats
+
+-- the list has grown by these findings under the name
+abbrev pub Adds : Name → List What → List Finding → List Finding → Type 0
+Adds name whats before now = now ≡ before ++ named name whats
+
+-- the damage of chunk i of the body before the offset of these metadata, if it differs
+abbrev pub chunk_damage : Meta → ℕ → List ℕ → Option Damage
+chunk_damage m i content = damage_at m.hashes (take m.offset content) i
+
+-- each chunk that differs of the body before the offset of these metadata
+abbrev pub damaged : Meta → List ℕ → List What
+damaged m content = map (λ d. what.Damaged d) (damages m.hashes m.offset (take m.offset content))
+
+-- what is wrong with what stands under a name, and with the record that is known
+abbrev pub findings_of : Name → Option (List ℕ) → Option IndexRecord → List What
+findings_of name content known =
+    file_findings name content ++ record_findings (option_and_then (record_of name) content) known
+
+-- the calls that the check of a file takes: four at most for its metadata, and one for each chunk where it fits
+abbrev pub looks_at : Name → Option (List ℕ) → ℕ
+looks_at name None = 4
+looks_at name (Some content) = 4 + (if fits name.0 content then chunks (file_meta content).offset else 0)
+
+-- those of all files of a table that are not being written
+abbrev pub looks_over : Table (List ℕ) → List Name → ℕ
+looks_over files writing =
+    sum_by (λ file. if has_name writing (name_of file.0) then 0 else looks_at (name_of file.0) (Some file.1)) files
+
+-- the files of these names, as a table
+abbrev pub table_of : Files → List Name → Table (List ℕ)
+table_of files names = map (λ name. (name.0, unwrap_or (files (Entry name)) [])) names
+
+abbrev pub files_of : State → List Name → Table (List ℕ)
+files_of s names = table_of (standing s) names
+
+-- the names of the entries were asked for, and the entries that are not being written were looked at, each once
+abbrev pub LooksOnce : Entries → List Name → Counts → Counts → Type 0
+LooksOnce es writing before now = (files : Table (List ℕ)) → IsTableOf es files
+    → Looks (1 + looks_over files writing) before now

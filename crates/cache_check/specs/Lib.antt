@@ -1,0 +1,5 @@
+pub mod Table
+pub mod Findings
+pub mod Checks
+pub mod Rows
+pub mod Laws
