@@ -3,9 +3,11 @@
 costs.py LIMIT RUNS INPUT NAME=PROGRAM NAME=PROGRAM -- WORD ..
 
 The programs run in turn with these words, RUNS times in each of the passes, with the file INPUT as their standard input,
-and their output goes nowhere. The status is 1 where the ratio of the first program's time to the second's is above LIMIT.
+and their output goes nowhere. Where the environment has a folder FRESH, before each run the folder of the first word is made a
+copy of it. The status is 1 where the ratio of the first program's time to the second's is above LIMIT.
 """
 import os
+import shutil
 import statistics
 import subprocess
 import sys
@@ -15,6 +17,9 @@ PASSES = 5
 
 def run(command, source):
     """The processor seconds of one run."""
+    if "FRESH" in os.environ:
+        shutil.rmtree(command[1], ignore_errors=True)
+        shutil.copytree(os.environ["FRESH"], command[1])
     with open(source, "rb") as body:
         child = subprocess.Popen(command, stdin=body, stdout=subprocess.DEVNULL)
         _, status, usage = os.wait4(child.pid, 0)

@@ -157,14 +157,19 @@ static int read_block(const uint8_t *name, const uint8_t *block, uint32_t len, u
     return 1;
 }
 
+static void path_of_name(char *to, size_t room, const char *dir, const uint8_t *name)
+{
+    snprintf(to, room, "%s/entries/%08X%08X%08X%08X%08X", dir, big(name), big(name + 4), big(name + 8), big(name + 12),
+             big(name + 16));
+}
+
 static void read_entry(const char *dir, const uint8_t *name)
 {
     char path[4096];
     struct stat found;
     uint8_t last[4];
 
-    snprintf(path, sizeof path, "%s/entries/%08X%08X%08X%08X%08X", dir, big(name), big(name + 4), big(name + 8), big(name + 12),
-             big(name + 16));
+    path_of_name(path, sizeof path, dir, name);
     int file = open(path, O_RDONLY);
     if (file < 0 || fstat(file, &found) != 0)
         exit(6);

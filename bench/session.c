@@ -1,7 +1,7 @@
-/* A plain program that does what `cache2 DIR NOW list`, `rebuild`, `get KEY` and `put KEY` do in a directory that was closed clean,
-   with the same changes and syncs: the index is taken into use, the command is performed, the journal is written and the flag
-   cleared. The body of a `put` is shorter than a chunk. What bench/session.sh and bench/get.sh measure the proved program
-   against. */
+/* A plain program that does what `cache2 DIR NOW list`, `evict KB`, `rebuild`, `get KEY` and `put KEY` do in a directory that was
+   closed clean, with the same changes and syncs: the index is taken into use, the command is performed, the journal is written,
+   or the index where many records changed, and the flag cleared. The body of a `put` is shorter than a chunk. What
+   bench/session.sh and bench/get.sh measure the proved program against. */
 #include "entry_files.h"
 #include "get_entry.h"
 #include "index_files.h"
@@ -56,16 +56,11 @@ static uint8_t *print_records(const struct record *some, size_t n, size_t front,
     return file;
 }
 
-/* All entries are read anew, and the index is written whole. */
-static void rebuild(const char *dir, uint32_t now)
+/* The index is written whole, and takes its name after a sync. */
+static void write_index(const char *dir, uint32_t now)
 {
     size_t size;
 
-    count = 0;
-    memset(slots, 0, slot_count * sizeof *slots);
-    list(dir);
-    for (size_t i = 0; i < listed; i++)
-        read_entry(dir, names + 20 * i);
     qsort(records, count, sizeof *records, by_name);
     uint8_t *file = print_records(records, count, HEADER, &size);
     put_big(file, 10, 4);
@@ -76,8 +71,84 @@ static void rebuild(const char *dir, uint32_t now)
     sync_file(path);
     if (rename(path, at(other, dir, "index")) != 0)
         exit(6);
+}
+
+/* All entries are read anew, and the index is written whole. */
+static void rebuild(const char *dir, uint32_t now)
+{
+    count = 0;
+    memset(slots, 0, slot_count * sizeof *slots);
+    list(dir);
+    for (size_t i = 0; i < listed; i++)
+        read_entry(dir, names + 20 * i);
+    write_index(dir, now);
     sync_file(dir);
     printf("rebuilt %zu\n", count);
+}
+
+static uint64_t rank(const struct record *r)
+{
+    return r->frecency == 0 ? (uint64_t)1 << 32 : r->frecency;
+}
+
+static int by_rank(const void *a, const void *b)
+{
+    uint64_t x = rank(a), y = rank(b);
+
+    return x < y ? -1 : x > y ? 1 : by_name(a, b);
+}
+
+/* The least valuable entries go until all take at most so many KB: the folder is listed, and the files that stand are removed. The
+   index is written whole where 300 records or more went. Gives the number of those whose removal the journal has to tell, by
+   name; they stand in `gone`. */
+static size_t evict(const char *dir, uint32_t now, uint64_t limit, struct record **gone)
+{
+    uint64_t total = 0;
+    size_t victims = 0, left = 0;
+    char file[4096], entries[4096];
+
+    for (size_t i = 0; i < count; i++)
+        total += records[i].flags & 0xffffff;
+    if (total > limit)
+        list(dir);
+    qsort(records, count, sizeof *records, by_rank);
+    *gone = malloc(count * sizeof **gone + 1);
+    for (size_t i = 0; i < count; i++) {
+        struct record *r = &records[i];
+        if (total <= limit || r->flags & 0x04000000u) {
+            records[left++] = *r;
+            continue;
+        }
+        total -= r->flags & 0xffffff;
+        (*gone)[victims++] = *r;
+        if (bsearch(r->name, names, listed, 20, by_name) == NULL)
+            continue;
+        path_of_name(file, sizeof file, dir, r->name);
+        if (unlink(file) != 0)
+            exit(6);
+    }
+    count = left;
+    printf("evicted %zu\n", victims);
+    fflush(stdout);
+    for (size_t i = 0; i < victims; i++) {
+        if (held > sizeof lines - 128)
+            write_lines();
+        say_hex((*gone)[i].name, 20);
+        say_byte('\n');
+    }
+    write_lines();
+    if (victims >= 300) {
+        sync_file(at(entries, dir, "entries"));
+        write_index(dir, now);
+        return 0;
+    }
+    qsort(*gone, victims, sizeof **gone, by_name);
+    for (size_t i = 0; i < victims; i++) {
+        struct record removed = {.flags = 0x80000000u | REMOVED};
+        memcpy(removed.name, (*gone)[i].name, 20);
+        (*gone)[i] = removed;
+    }
+    return victims;
 }
 
 /* Makes the entry, and gives its record. */
@@ -145,8 +216,8 @@ static void close_index(const char *dir, const struct record *changed, size_t n)
 
 int main(int argc, char **argv)
 {
-    struct record new_one;
-    size_t new_ones = 0;
+    struct record new_one, *changed = &new_one;
+    size_t changes = 0;
     int status = 0;
 
     if (argc < 4)
@@ -161,17 +232,19 @@ int main(int argc, char **argv)
         say_records();
     } else if (strcmp(argv[3], "rebuild") == 0) {
         rebuild(argv[1], now);
+    } else if (strcmp(argv[3], "evict") == 0 && argc == 5) {
+        changes = evict(argv[1], now, strtoul(argv[4], NULL, 10), &changed);
     } else if (strcmp(argv[3], "get") == 0 && argc == 5) {
         status = print_entry(argv[1], argv[4]);
     } else if (strcmp(argv[3], "put") == 0 && argc == 5) {
         new_one = put(argv[1], now, argv[4]);
-        new_ones = 1;
+        changes = 1;
         char entry[4096];
         path_of(entry, sizeof entry, argv[1], argv[4]);
         sync_file(entry);
     } else {
         return 2;
     }
-    close_index(argv[1], &new_one, new_ones);
+    close_index(argv[1], changed, changes);
     return fflush(stdout) == 0 ? status : 5;
 }

@@ -1,5 +1,5 @@
 #!/usr/bin/env bash
-# Whole runs of `list`, `put` and `rebuild` by the proved program against a plain one in C: see README.md.
+# Whole runs of `list`, `put`, `rebuild` and `evict` by the proved program against a plain one in C: see README.md.
 set -euo pipefail
 
 here=$(cd "$(dirname "${BASH_SOURCE[0]}")" && pwd)
@@ -26,6 +26,11 @@ compare() {
         (cd "$work/one" && find . -type f -exec sha1sum {} + | sort -k 2) >>"$work/$program.txt"
     done
     cmp "$work/cache2.txt" "$work/session_c.txt"
+}
+
+# The sum of the KB in the lines of records.
+kilobytes() {
+    python3 -c 'import sys; print(sum(int(line.split()[-1], 16) & 0xffffff for line in sys.stdin if not line.startswith("records")))'
 }
 
 # measure NAME DIR WORD..
@@ -56,4 +61,22 @@ PYTHON
 "$work/cache2" "$work/full" 1000 run <"$work/script" >/dev/null
 runs=20
 measure "rebuild of $entries entries" "$work/full" 1001 rebuild
+
+# half of the KB of all entries
+compare "$work/full" 1001 evict 4294967295
+half=$(("$("$work/cache2" "$work/full" 1001 list | kilobytes)" / 2))
+runs=4
+export FRESH=$work/full
+compare "$work/full" 1001 evict "$half"
+echo "evict half of $entries entries"
+python3 "$here/costs.py" 1.5 "$runs" "$work/body" "rattle=$work/cache2" "c=$work/session_c" -- "$work/one" 1001 evict "$half" || status=1
+# how it grows: the two columns are one program
+for many in $((records / 10)) "$records"; do
+    mkdir -p "$work/rows/entries"
+    "$work/open_index_c" "$work/rows" "$many" shuffled
+    FRESH=$work/rows
+    echo "evict of $many records whose files do not stand"
+    python3 "$here/costs.py" 1000 "$runs" "$work/body" "rattle=$work/cache2" "again=$work/cache2" -- "$work/one" 1001 evict 0
+    rm -r "$work/rows"
+done
 exit "$status"

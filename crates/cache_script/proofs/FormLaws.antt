@@ -6,7 +6,7 @@ use Rattle.std.proofs.lemmas.Bool.Decides.{nat_tests}
 use Rattle.std.proofs.lemmas.Slice.Eq.{bytes_eq-Decides}
 use Rattle.cache_base.specs.Bytes.{AreBytes}
 use Rattle.cache_base.specs.declared.limits.TheConstants.{ELEMENTS_MAX, PIECE_MAX, SLOTS}
-use Rattle.cache_theory.specs.Command.Command.{At, Finish, ReadPart, Close, StepUpdate}
+use Rattle.cache_theory.specs.Command.Command.{At, Finish, UseEntry, ReadPart, Close, Evict, StepUpdate}
 use Rattle.cache_theory.specs.Command.{Command}
 use Rattle.cache_theory.specs.Text.{FieldsFit, IsOneLine, command_words, spaced}
 use Rattle.cache_script.specs.Lines.{Form, Tells, cut, number_below, slot_in, read_in, set_in, slot_form, verb_form, form_in}
@@ -125,6 +125,11 @@ verb_spelled verb rest line =
     (verb_case verb (codes "doom") _ _ P (λ is. (same (codes "doom") is, (line, refl)))
     (verb_case verb (codes "get") _ _ P (λ is. (same (codes "get") is, (line, refl)))
     (verb_case verb (codes "has") _ _ P (λ is. (same (codes "has") is, (line, refl)))
+    (verb_case verb (codes "evict") _ _ P
+    (λ is. mapped (λ n. Form.WholeLine (Evict n)) (number_in rest)
+    (λ n. (rest ≡ decimal n) × (n < 2 ^ 32)) P
+    (λ n h. (same (codes "evict") is ∙ ap (λ r. verb_text (codes "evict") r) h.0, (h.1, refl)))
+    (number_spelled rest))
     (verb_case verb (codes "step") _ _ P
     (λ is. mapped (λ n. Form.WholeLine (StepUpdate n)) (number_in rest)
     (λ n. (rest ≡ decimal n) × (n < 2 ^ 32)) P
@@ -136,7 +141,11 @@ verb_spelled verb rest line =
     (verb_case verb (codes "close") _ _ P
     (λ is. mapped (λ s. Form.WholeLine (Close s)) (slot_in rest) (IsBelow SLOTS rest) P
     (λ s h. (same (codes "close") is ∙ ap (λ r. verb_text (codes "close") r) h.0, (h.1, refl))) (below_spelled SLOTS rest))
-    (more_spelled verb rest line)))))))
+    (verb_case verb (codes "use") _ _ P
+    (λ is. mapped (λ s. Form.WholeLine (UseEntry s)) (slot_in rest) (IsBelow SLOTS rest) P
+    (λ s h. (same (codes "use") is ∙ ap (λ r. verb_text (codes "use") r) h.0, (h.1, refl)))
+    (below_spelled SLOTS rest))
+    (more_spelled verb rest line)))))))))
 
 pub form_spelled : (text : List ℕ) → IsLine text → IfSome (form_in text) (Tells text)
 unfolding form_in

@@ -5,7 +5,7 @@ use Rattle.std.proofs.lemmas.Bool.Decides.{Decides-eqb}
 use Rattle.std.proofs.lemmas.List.{append_assoc, take_at}
 use Rattle.cache_base.specs.declared.limits.TheConstants.{SLOTS}
 use Rattle.cache_theory.specs.Command.{Command}
-use Rattle.cache_theory.specs.Command.Command.{At, Create, OpenKey, Append, Finish, SetElement, UnsetElement, ElementOf, ReadPart, Close, Doom, Get, HasEntry, ListRecords, Flush, StepUpdate, UpdateState, Rebuild}
+use Rattle.cache_theory.specs.Command.Command.{At, Create, OpenKey, Append, Finish, SetElement, UnsetElement, ElementOf, UseEntry, ReadPart, Close, Doom, Get, HasEntry, ListRecords, Evict, EvictNames, Flush, StepUpdate, UpdateState, Rebuild}
 use Rattle.cache_theory.specs.Text.{FieldsFit, IsOneLine, command_words, command_data, command_bytes, spaced, NoneBeginsAnother}
 use Rattle.cache_script.specs.Lines.{Form, form_of, cut, form_in}
 use Rattle.cache_script.proofs.CutLaws.{Lacks, cut_at}
@@ -49,6 +49,9 @@ one_line (SetElement s name value) fits =
     (one_line_pair (decimal (length value)) name (one_line_number (length value) (omega (arith, fits.1.1.1))) fits.1.0.1)
 one_line (UnsetElement s name) fits = one_line_slot (codes "unset") s name fits.0 (lacks_by 10 (codes "unset") refl) fits.1.1
 one_line (ElementOf s name) fits = one_line_slot (codes "element") s name fits.0 (lacks_by 10 (codes "element") refl) fits.1.1
+one_line (UseEntry s) fits =
+    one_line_pair (codes "use") (decimal s) (lacks_by 10 (codes "use") refl)
+    (one_line_number s (omega arith))
 one_line (ReadPart s from len) fits =
     one_line_slot (codes "read") s (decimal from ++ 32 ∷ decimal len) fits.0 (lacks_by 10 (codes "read") refl)
     (one_line_pair (decimal from) (decimal len) (one_line_number from fits.1.0) (one_line_number len fits.1.1))
@@ -58,6 +61,10 @@ one_line (Get key) fits = one_line_pair (codes "get") key (lacks_by 10 (codes "g
 one_line (HasEntry key) fits =
     one_line_pair (codes "has") key (lacks_by 10 (codes "has") refl) fits.1
 one_line ListRecords fits = lacks_by 10 (codes "list") refl
+one_line (Evict kb) fits =
+    one_line_pair (codes "evict") (decimal kb) (lacks_by 10 (codes "evict") refl)
+    (one_line_number kb fits)
+one_line (EvictNames names) fits = absurd fits
 one_line Flush fits = lacks_by 10 (codes "flush") refl
 one_line (StepUpdate n) fits =
     one_line_pair (codes "step") (decimal n) (lacks_by 10 (codes "step") refl)

@@ -8,7 +8,7 @@ use Rattle.std.proofs.lemmas.Str.Parse.{digit_from_value}
 use Rattle.std.proofs.lemmas.Fmt.{digits_decimal}
 use Rattle.cache_base.specs.declared.limits.TheConstants.{ELEMENTS_MAX, PIECE_MAX, SLOTS}
 use Rattle.cache_theory.specs.Command.{Command}
-use Rattle.cache_theory.specs.Command.Command.{At, Create, OpenKey, Append, Finish, SetElement, UnsetElement, ElementOf, ReadPart, Close, Doom, Get, HasEntry, ListRecords, Flush, StepUpdate, UpdateState, Rebuild}
+use Rattle.cache_theory.specs.Command.Command.{At, Create, OpenKey, Append, Finish, SetElement, UnsetElement, ElementOf, UseEntry, ReadPart, Close, Doom, Get, HasEntry, ListRecords, Evict, EvictNames, Flush, StepUpdate, UpdateState, Rebuild}
 use Rattle.cache_theory.specs.Text.{FieldsFit, command_words, spaced}
 use Rattle.cache_script.specs.Lines.{Form, form_of, cut, number_below, slot_in, read_in, set_in, slot_form, verb_form, form_in}
 use Rattle.cache_base.specs.Numbers.{number_in}
@@ -71,12 +71,17 @@ line_read (Finish s) fits = ap (λ o. option_map (λ n. Form.WholeLine (Finish n
 line_read (SetElement s name value) fits = with_slot (codes "set") s (decimal (length value) ++ 32 ∷ name) _ fits.0 (set_read s (length value) name fits.1.1.1)
 line_read (UnsetElement s name) fits = with_slot (codes "unset") s name _ fits.0 refl
 line_read (ElementOf s name) fits = with_slot (codes "element") s name _ fits.0 refl
+line_read (UseEntry s) fits =
+    ap (λ o. option_map (λ n. Form.WholeLine (UseEntry n)) o) (below_read SLOTS s fits (omega arith))
 line_read (ReadPart s from len) fits = with_slot (codes "read") s (decimal from ++ 32 ∷ decimal len) _ fits.0 (part_read s from len fits.1.0 fits.1.1)
 line_read (Close s) fits = ap (λ o. option_map (λ n. Form.WholeLine (Close n)) o) (below_read SLOTS s fits (omega arith))
 line_read (Doom key) fits = refl
 line_read (Get key) fits = refl
 line_read (HasEntry key) fits = refl
 line_read ListRecords fits = refl
+line_read (Evict kb) fits =
+    ap (λ o. option_map (λ n. Form.WholeLine (Evict n)) o) (number_read kb fits)
+line_read (EvictNames names) fits = absurd fits
 line_read Flush fits = refl
 line_read (StepUpdate n) fits =
     ap (λ o. option_map (λ k. Form.WholeLine (StepUpdate k)) o) (number_read n fits)

@@ -5,7 +5,7 @@ use Rattle.std.specs.Option.{option_map, option_and_then}
 use Rattle.cache_base.specs.Bytes.{AreBytes}
 use Rattle.cache_base.specs.declared.limits.TheConstants.{ELEMENTS_MAX, PIECE_MAX, SLOTS}
 use Rattle.cache_theory.specs.Command.{Command}
-use Rattle.cache_theory.specs.Command.Command.{At, Create, OpenKey, Append, Finish, SetElement, UnsetElement, ElementOf, ReadPart, Close, Doom, Get, HasEntry, ListRecords, Flush, StepUpdate, UpdateState, Rebuild}
+use Rattle.cache_theory.specs.Command.Command.{At, Create, OpenKey, Append, Finish, SetElement, UnsetElement, ElementOf, UseEntry, ReadPart, Close, Doom, Get, HasEntry, ListRecords, Evict, Flush, StepUpdate, UpdateState, Rebuild}
 use Rattle.cache_theory.specs.Text.{FieldsFit, IsOneLine, command_data, command_words, spaced}
 use Rattle.cache_script.specs.Command.{command_of}
 use Rattle.cache_base.specs.Numbers.{number_in}
@@ -68,10 +68,12 @@ verb_form verb rest =
     else if pointwise nat_eq verb (codes "doom") then Some (Form.WholeLine (Doom rest))
     else if pointwise nat_eq verb (codes "get") then Some (Form.WholeLine (Get rest))
     else if pointwise nat_eq verb (codes "has") then Some (Form.WholeLine (HasEntry rest))
+    else if pointwise nat_eq verb (codes "evict") then option_map (λ n. Form.WholeLine (Evict n)) (number_in rest)
     else if pointwise nat_eq verb (codes "step")
     then option_map (λ n. Form.WholeLine (StepUpdate n)) (number_in rest)
     else if pointwise nat_eq verb (codes "finish") then option_map (λ s. Form.WholeLine (Finish s)) (slot_in rest)
     else if pointwise nat_eq verb (codes "close") then option_map (λ s. Form.WholeLine (Close s)) (slot_in rest)
+    else if pointwise nat_eq verb (codes "use") then option_map (λ s. Form.WholeLine (UseEntry s)) (slot_in rest)
     else option_and_then (λ parts. option_and_then (λ s. slot_form verb s parts.1) (slot_in parts.0)) (cut 32 rest)
 
 -- what a line tells, if it is the line of a command

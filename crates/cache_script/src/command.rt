@@ -44,6 +44,10 @@ pub enum Command<'a> {
         slot: u8,
         name: &'a [u8],
     },
+    /// One more fetch of the entry is counted, and its frecency rises.
+    UseEntry {
+        slot: u8,
+    },
     /// The bytes of the body from a place on, at most `len`.
     ReadPart {
         slot: u8,
@@ -68,6 +72,11 @@ pub enum Command<'a> {
     },
     /// The records of all entries.
     List,
+    /// The least valuable entries are removed, none of them in use or pinned, until all take at most
+    /// so many KB.
+    Evict {
+        kb: u32,
+    },
     /// All that was done is brought to the disk.
     Flush,
     /// The update of the index reads so many names more.

@@ -16,7 +16,7 @@ mod window;
 pub use command::Command;
 pub use laws::{bytes_have_commands, commands_are_one, none_begins_another};
 pub use reader::{Reader, ScriptFault};
-pub use records::record_text;
+pub use records::{extend_record, record_text};
 pub use refusals::refusal_text;
 
 #[cfg(test)]

@@ -108,6 +108,10 @@ fn verb_line<'a>(verb: &[u8], rest: &'a [u8]) -> Option<Line<'a>>
     if verb == b"has".as_slice() {
         return Some(Line::Whole(Command::Has { key: rest }));
     }
+    if verb == b"evict".as_slice() {
+        let kb = number(rest)?;
+        return Some(Line::Whole(Command::Evict { kb }));
+    }
     if verb == b"step".as_slice() {
         let n = number(rest)?;
         return Some(Line::Whole(Command::Step { n }));
@@ -119,6 +123,10 @@ fn verb_line<'a>(verb: &[u8], rest: &'a [u8]) -> Option<Line<'a>>
     if verb == b"close".as_slice() {
         let slot = slot(rest)?;
         return Some(Line::Whole(Command::Close { slot }));
+    }
+    if verb == b"use".as_slice() {
+        let slot = slot(rest)?;
+        return Some(Line::Whole(Command::UseEntry { slot }));
     }
     let (first, rest) = cut(rest, b' ')?;
     slot_line(verb, slot(first)?, rest)

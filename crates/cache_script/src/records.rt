@@ -1,12 +1,13 @@
 //! What is printed of a record.
 
-ghost use Rattle.std.specs.Prelude.{◌≡◌, ◌++◌, IfOk, OnOk, [], ◌∷◌, decimal, string_bytes};
+ghost use Rattle.std.specs.Prelude.{◌≡◌, ◌<◌, ◌≤◌, ◌^◌, ◌++◌, IfOk, OnOk, [], ◌∷◌, decimal, string_bytes};
 ghost use Rattle.std.specs.Int.{to_be_bytes, w64};
-ghost use Rattle.cache_base.specs.Bytes.{be32};
+ghost use Rattle.cache_base.specs.Bytes.{AreBytes, be32};
 ghost use Rattle.hex.specs.Hex.{encode_upper};
+ghost use Rattle.cache_script.specs.Numbers.{NumbersFit};
 ghost use Rattle.cache_theory.specs.Text.{record_words, spaced};
 
-use cache_base::NoMemory;
+use cache_base::{Bytes, NoMemory};
 use index_record::IndexRecord;
 use itoa::Buffer;
 use std::alloc::Global;
@@ -14,52 +15,92 @@ use std::alloc::Global;
 // The longest line: 40, 10, 16, 5, 5, 3 and 8 bytes, and six spaces.
 const LINE_LEN: usize = 93;
 
+// It tells that the elements of a slice are bytes.
+fn bytes_fit(b: &[u8])
+    ensures { AreBytes b.now }
+{}
+
+// Adds bytes in upper-case hexadecimal digits, at most 20 of them.
+fn extend_hex<const N: usize>(line: &mut Bytes, bytes: [u8; N]) -> Result<(), NoMemory>
+    requires { N ≤ 20 }
+    ensures { OnOk result (line.new ≡ line.old ++ encode_upper bytes.entry) }
+{
+    bytes_fit(bytes.as_slice());
+    let mut room = [0; 40];
+    let digits = &mut room[..2 * N];
+    if hex::encode_to_slice(bytes, digits).is_err() {
+        unreachable!();
+    }
+    digits.make_ascii_uppercase();
+    line.extend(digits)
+}
+
 // Adds a number in decimal, and a space.
-fn push_number(line: &mut String, n: u32) -> Result<(), NoMemory>
-    ensures { OnOk result (string_bytes line.new ≡ string_bytes line.old ++ (decimal n ++ 32 ∷ [])) }
+fn extend_number(line: &mut Bytes, n: u32) -> Result<(), NoMemory>
+    ensures { OnOk result (line.new ≡ line.old ++ (decimal n ++ 32 ∷ [])) }
 {
     let mut digits = Buffer::new();
-    line.push_str(digits.format(n))?;
-    line.push_str(" ")?;
-    Ok(())
+    line.extend(digits.format(n).as_bytes())?;
+    line.push(b' ')
 }
 
 // Adds the words up to the origin, with a space after each.
-fn push_first(alloc: Global, line: &mut String, r: &IndexRecord) -> Result<(), NoMemory>
-    ensures { OnOk result (string_bytes line.new ≡ string_bytes line.old
+fn extend_first(line: &mut Bytes, r: &IndexRecord) -> Result<(), NoMemory>
+    ensures { OnOk result (line.new ≡ line.old
         ++ (encode_upper r.now.name.0 ++ (32 ∷ (decimal r.now.frecency
         ++ (32 ∷ (encode_upper (to_be_bytes w64 r.now.origin) ++ 32 ∷ [])))))) }
 {
-    let name = hex::encode_upper(alloc, r.name.0.as_slice())?;
-    line.push_str(name.as_str())?;
-    line.push_str(" ")?;
-    push_number(line, r.frecency)?;
-    let origin = hex::encode_upper(alloc, r.origin.to_be_bytes())?;
-    line.push_str(origin.as_str())?;
-    line.push_str(" ")?;
-    Ok(())
+    extend_hex(line, r.name.0)?;
+    line.push(b' ')?;
+    extend_number(line, r.frecency)?;
+    extend_hex(line, r.origin.to_be_bytes())?;
+    line.push(b' ')
 }
 
 // Adds the words after the origin.
-fn push_last(alloc: Global, line: &mut String, r: &IndexRecord) -> Result<(), NoMemory>
-    ensures { OnOk result (string_bytes line.new ≡ string_bytes line.old
+fn extend_last(line: &mut Bytes, r: &IndexRecord) -> Result<(), NoMemory>
+    ensures { OnOk result (line.new ≡ line.old
         ++ (decimal r.now.on_start ++ (32 ∷ (decimal r.now.on_stop
         ++ (32 ∷ (decimal r.now.content ++ (32 ∷ encode_upper (be32 r.now.flags)))))))) }
 {
-    push_number(line, u32::from(r.on_start))?;
-    push_number(line, u32::from(r.on_stop))?;
-    push_number(line, u32::from(r.content))?;
-    let flags = hex::encode_upper(alloc, r.flags.to_be_bytes())?;
-    line.push_str(flags.as_str())?;
-    Ok(())
+    extend_number(line, u32::from(r.on_start))?;
+    extend_number(line, u32::from(r.on_stop))?;
+    extend_number(line, u32::from(r.content))?;
+    extend_hex(line, r.flags.to_be_bytes())
 }
 
-/// The line that is printed of a record, without its newline. Fails only out of memory.
+/// Adds the line that is printed of a record, without its newline. Where memory runs out a part of it may be there.
+pub fn extend_record(line: &mut Bytes, r: &IndexRecord) -> Result<(), NoMemory>
+    ensures { OnOk result (line.new ≡ line.old ++ spaced (record_words r.now)) }
+{
+    extend_first(line, r)?;
+    extend_last(line, r)
+}
+
+// It tells that a number fits its type.
+fn fits(n: u32)
+    ensures { n < 2 ^ 32 }
+{}
+
+// And so do those of a record.
+fn numbers_fit(r: &IndexRecord)
+    ensures { NumbersFit r.now }
+{
+    fits(r.frecency);
+    fits(u32::from(r.on_start));
+    fits(u32::from(r.on_stop));
+    fits(u32::from(r.content));
+}
+
+/// The same line as a text of its own. Fails only out of memory.
 pub fn record_text(alloc: Global, r: &IndexRecord) -> Result<String, NoMemory>
     ensures { IfOk result (λ text. string_bytes text ≡ spaced (record_words r.now)) }
 {
-    let mut line = String::with_capacity(alloc, LINE_LEN)?;
-    push_first(alloc, &mut line, r)?;
-    push_last(alloc, &mut line, r)?;
-    Ok(line)
+    numbers_fit(r);
+    let mut line = Bytes::with_room(alloc, LINE_LEN)?;
+    extend_record(&mut line, r)?;
+    match str::from_utf8(line.as_slice()) {
+        Ok(text) => Ok(String::from_str(alloc, text)?),
+        Err(_) => unreachable!(),
+    }
 }

@@ -63,7 +63,7 @@ fn all_count(
 
 #[test]
 fn lines_of_the_table_are_commands(rt: HostRuntime) -> Result<(), Fail> {
-    let scripts: [&[u8]; 20] = [
+    let scripts: [&[u8]; 22] = [
         b"at 0\n",
         b"at 4294967295\n",
         b"create 63 :x\n",
@@ -77,6 +77,8 @@ fn lines_of_the_table_are_commands(rt: HostRuntime) -> Result<(), Fail> {
         b"set 0 0 \n\n",
         b"unset 0 a name\n",
         b"element 0 \n",
+        b"use 0\n",
+        b"use 63\n",
         b"read 0 0 4294967295\n",
         b"close 10\n",
         b"doom :x\n",
@@ -91,10 +93,12 @@ fn lines_of_the_table_are_commands(rt: HostRuntime) -> Result<(), Fail> {
 
 #[test]
 fn lines_of_the_index_are_commands(rt: HostRuntime) -> Result<(), Fail> {
-    let scripts: [&[u8]; 7] = [
+    let scripts: [&[u8]; 9] = [
         b"has :x\n",
         b"has \n",
         b"list\n",
+        b"evict 0\n",
+        b"evict 4294967295\n",
         b"step 0\n",
         b"step 4294967295\n",
         b"state\n",
@@ -106,7 +110,7 @@ fn lines_of_the_index_are_commands(rt: HostRuntime) -> Result<(), Fail> {
 
 #[test]
 fn other_lines_are_bad(rt: HostRuntime) -> Result<(), Fail> {
-    let scripts: [&[u8]; 23] = [
+    let scripts: [&[u8]; 27] = [
         b"\n",
         b"fly\n",
         b"Flush\n",
@@ -128,6 +132,10 @@ fn other_lines_are_bad(rt: HostRuntime) -> Result<(), Fail> {
         b"finish 0 \n",
         b"close 64\n",
         b"get\n",
+        b"use\n",
+        b"use 64\n",
+        b"use 0 0\n",
+        b"use x\n",
         b"read 0 0\n",
         b"read 0 0 4294967296\n",
     ];
@@ -137,9 +145,13 @@ fn other_lines_are_bad(rt: HostRuntime) -> Result<(), Fail> {
 
 #[test]
 fn other_lines_of_the_index_are_bad(rt: HostRuntime) -> Result<(), Fail> {
-    let scripts: [&[u8]; 7] = [
+    let scripts: [&[u8]; 11] = [
         b"has\n",
         b"list \n",
+        b"evict\n",
+        b"evict 007\n",
+        b"evict 4294967296\n",
+        b"evict 1 KB\n",
         b"step\n",
         b"step 007\n",
         b"step 4294967296\n",
@@ -374,14 +386,23 @@ fn commands_have_their_fields(rt: HostRuntime) -> Result<(), Fail> {
 
 #[test]
 fn commands_of_the_index_have_their_fields(rt: HostRuntime) -> Result<(), Fail> {
-    let mut source = source_of(rt.alloc(), b"has a key\nlist\nstep 5\nstate\nrebuild\n", 4)?;
+    let script = b"use 7\nhas a key\nlist\nevict 9\nstep 5\nstate\nrebuild\n";
+    let mut source = source_of(rt.alloc(), script, 4)?;
     let mut reader = Reader::new(rt.alloc())?;
+    assert_eq!(rt;
+        reader.next_command(&mut source),
+        Ok(Some(Command::UseEntry { slot: 7 }))
+    );
     let key = b"a key".as_slice();
     assert_eq!(rt;
         reader.next_command(&mut source),
         Ok(Some(Command::Has { key }))
     );
     assert_eq!(rt; reader.next_command(&mut source), Ok(Some(Command::List)));
+    assert_eq!(rt;
+        reader.next_command(&mut source),
+        Ok(Some(Command::Evict { kb: 9 }))
+    );
     assert_eq!(rt;
         reader.next_command(&mut source),
         Ok(Some(Command::Step { n: 5 }))

@@ -32,7 +32,7 @@ regrouped : (numbers elements rest : List ℕ) → numbers ++ (elements ++ 10 �
 regrouped numbers elements rest = append_assoc numbers (elements ++ 10 ∷ []) rest ∙ ap (λ (t : List ℕ). numbers ++ t) (append_assoc elements (10 ∷ []) rest)
 
 found_text_is : (v : Version) → entry_text (version_meta v) v.body ≡ reply_text (Found v)
-unfolding reply_text found_line
+unfolding reply_text
 found_text_is v = regrouped (found_line (version_meta v)) (elements_bytes v.elements) (v.body ++ 10 ∷ [])
 
 body_of_file : (v : Version) → take (length v.body) (file_of v) ≡ v.body

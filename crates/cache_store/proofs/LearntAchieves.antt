@@ -1,10 +1,12 @@
 -- A command on entries that the handles carried out, of which the index has learnt.
 use Rattle.std.proofs.Common.{◌≡◌, ◌≢◌, ◌∙◌, Bool, true, false, ℕ, List, Option, Some, None, Result, Ok, Err, inl, inr, refl, sym, ap, subst}
 use Rattle.std.specs.Prelude.{IfOk, IfSome, OnOk, if◌then◌else◌, is_none}
+use Rattle.std.proofs.lemmas.Option.{IfSome_then}
+use Rattle.std.proofs.lemmas.Result.{IfOk-weaker}
 use Rattle.cache_base.specs.Checks.{first_failing}
 use Rattle.cache_theory.specs.Checks.{checks}
 use Rattle.cache_theory.specs.Command.{Command, Reply}
-use Rattle.cache_theory.specs.Command.Command.{Create, OpenKey, Append, Finish, SetElement, UnsetElement, Close, Doom}
+use Rattle.cache_theory.specs.Command.Command.{Create, OpenKey, Append, Finish, SetElement, UnsetElement, UseEntry, Close, Doom}
 use Rattle.cache_theory.specs.Command.Reply.{Done, Refused, NoneThere}
 use Rattle.cache_theory.specs.History.{History}
 use Rattle.cache_theory.specs.Machine.{Machine, object_of}
@@ -17,7 +19,7 @@ use Rattle.entry_parts.specs.Elements.{element}
 use Rattle.entry_parts.specs.Setting.{without_element}
 use Rattle.file_handles.specs.Answers.{done_or, done_or_none}
 use Rattle.file_handles.specs.Carries.{CarriesOut, CarriesOutAt}
-use Rattle.file_handles.specs.Effects.{HasEffect, learnt, rest_once}
+use Rattle.file_handles.specs.Effects.{HasEffect, HasEffectAt, learnt, rest_once}
 use Rattle.file_handles.specs.Kept.{Kept}
 use Rattle.file_handles.specs.Stands.{HandlesStand}
 use Rattle.file_handles.specs.declared.fault.Effect.{Effect}
@@ -26,7 +28,7 @@ use Rattle.file_handles.specs.declared.fault.HandleFault.{HandleFault}
 use Rattle.file_handles.specs.declared.fault.HandleFault.TheVariants as handle
 use Rattle.file_handles.proofs.LearntLaws.{learnt_scanned}
 use Rattle.file_handles.proofs.LearntRest.{learnt_rest}
-use Rattle.file_handles.proofs.Where.{LeavesWhere, carried_out, carried_out_at}
+use Rattle.file_handles.proofs.Where.{LeavesWhere, at_moment, carried_out_at}
 use Rattle.index_map.specs.Known.{Known, SameBase}
 use Rattle.index_theory.specs.Leaves.{LeavesIndex}
 use Rattle.index_theory.specs.Scan.{scanned}
@@ -56,7 +58,7 @@ pub record Teaches (m : Machine) (c : Command) (e : Effect) : Type 0 where
   pub scan : ScanChanges e (get m.shelf) (get (step m c).next.shelf)
 
 passes_teaches : (m : Machine) (c : Command) → IsOfEntries c → IsProper m → first_failing (checks m c) ≡ None → Teaches m c (learnt m c)
-passes_teaches m c of proper passes = record { rest = learnt_rest m c of proper passes; scan = learnt_scanned m c proper passes }
+passes_teaches m c of proper passes = record { rest = learnt_rest m c of proper passes; scan = learnt_scanned m c of proper passes }
 
 stays_teaches : (m : Machine) (c : Command) → (step m c).next ≡ m → Teaches m c effects.Same
 stays_teaches m c same = record {
@@ -78,39 +80,39 @@ unfolding StaysUnlessDone
 refused_stays m c stays r other None is = stays m (λ done. other (is ∙ done))
 refused_stays m c stays r other (Some refusal) is = refl
 
--- whatever machine the handles stand for: where the reply is its own, this is learnt of its step
-abbrev pub TeachesFor : Kept → Command → Option Reply → Effect → Type 0
-TeachesFor k c reply e =
-    (m : Machine) (number : ℕ → ℕ) → IsProper m → HandlesStand k m number → IfSome reply (λ r. r ≡ (step m c).reply) → IfSome reply (λ r. Teaches m c e)
+-- whatever machine of this moment the handles stand for: where the reply is its own, this is learnt of its step
+abbrev pub TeachesAt : ℕ → Kept → Command → Option Reply → Effect → Type 0
+TeachesAt now k c reply e =
+    (m : Machine) (number : ℕ → ℕ) → m.moment ≡ now → IsProper m → HandlesStand k m number → IfSome reply (λ r. r ≡ (step m c).reply) → IfSome reply (λ r. Teaches m c e)
 
-module _ (k : Kept) (c : Command) (of : IsOfEntries c) where
+module _ (now : ℕ) (k : Kept) (c : Command) (of : IsOfEntries c) where
   -- what the handles say of a command that was done
-  done_teaches : (e : Effect) → HasEffect k c e → TeachesFor k c (Some Done) e
-  done_teaches e has m number proper stand is =
-      subst (Teaches m c) (sym (has m number proper stand)) (passes_teaches m c of proper (done_passes m c (first_failing (checks m c)) is))
+  done_teaches : (e : Effect) → HasEffectAt now k c e → TeachesAt now k c (Some Done) e
+  done_teaches e has m number moment proper stand is =
+      subst (Teaches m c) (sym (has m number moment proper stand)) (passes_teaches m c of proper (done_passes m c (first_failing (checks m c)) is))
 
   -- and that nothing is learnt where it was not
-  other_teaches : StaysUnlessDone c → (r : Reply) → r ≢ Done → TeachesFor k c (Some r) effects.Same
-  other_teaches stays r other m number proper stand is = stays_teaches m c (refused_stays m c stays r other (first_failing (checks m c)) is)
+  other_teaches : StaysUnlessDone c → (r : Reply) → r ≢ Done → TeachesAt now k c (Some r) effects.Same
+  other_teaches stays r other m number moment proper stand is = stays_teaches m c (refused_stays m c stays r other (first_failing (checks m c)) is)
 
-  in_fault : StaysUnlessDone c → (f : HandleFault) → TeachesFor k c (done_or {T = Unit {0}} (Err f)) effects.Same
-  in_fault stays (handle.Refused r) m number proper stand is = other_teaches stays (Refused r) (λ e. cc) m number proper stand is
-  in_fault stays handle.Disk m number proper stand is = tt
-  in_fault stays handle.Memory m number proper stand is = tt
+  in_fault : StaysUnlessDone c → (f : HandleFault) → TeachesAt now k c (done_or {T = Unit {0}} (Err f)) effects.Same
+  in_fault stays (handle.Refused r) m number moment proper stand is = other_teaches stays (Refused r) (λ e. cc) m number moment proper stand is
+  in_fault stays handle.Disk m number moment proper stand is = tt
+  in_fault stays handle.Memory m number moment proper stand is = tt
 
-  handled_teaches : StaysUnlessDone c → (r : Result Effect HandleFault) → IfOk r (HasEffect k c) → TeachesFor k c (done_or r) (effect_of r)
+  handled_teaches : StaysUnlessDone c → (r : Result Effect HandleFault) → IfOk r (HasEffectAt now k c) → TeachesAt now k c (done_or r) (effect_of r)
   handled_teaches stays (Ok e) has = done_teaches e has
   handled_teaches stays (Err f) has = in_fault stays f
 
-  some_teaches : StaysUnlessDone c → (r : Result (Option Effect) HandleFault) → IfOk r (λ some. IfSome some (HasEffect k c)) → TeachesFor k c (done_or_none r) (effect_of_some r)
+  some_teaches : StaysUnlessDone c → (r : Result (Option Effect) HandleFault) → IfOk r (λ some. IfSome some (HasEffectAt now k c)) → TeachesAt now k c (done_or_none r) (effect_of_some r)
   some_teaches stays (Ok (Some e)) has = done_teaches e has
   some_teaches stays (Ok None) has = other_teaches stays NoneThere (λ e. cc)
   some_teaches stays (Err f) has = in_fault stays f
 
   -- nothing is ever learnt of the command
-  same_teaches : ((m : Machine) → learnt m c ≡ effects.Same) → (reply : Option Reply) → TeachesFor k c reply effects.Same
-  same_teaches never None m number proper stand is = tt
-  same_teaches never (Some r) m number proper stand is = go (first_failing (checks m c)) refl
+  same_teaches : ((m : Machine) → learnt m c ≡ effects.Same) → (reply : Option Reply) → TeachesAt now k c reply effects.Same
+  same_teaches never None m number moment proper stand is = tt
+  same_teaches never (Some r) m number moment proper stand is = go (first_failing (checks m c)) refl
     where
       go : (o : Option Refusal) → first_failing (checks m c) ≡ o → Teaches m c effects.Same
       go None passes = subst (Teaches m c) (never m) (passes_teaches m c of proper passes)
@@ -190,27 +192,28 @@ module _ {b : Bool} {c : Command} {h : History} {before after : Session} {e : Ef
       (subst (λ (o : Option Reply). IfSome o (λ r. Teaches h.machine c e)) gives taught)
   left_achieves (Err f) reply left taught learnt = record { safe = left.safe; replies = tt; next = tt; tells = tt }
 
--- a command on entries that the handles carried out, of which the index has learnt
+-- a command on entries that the handles carried out at this moment, of which the index has learnt
 pub learnt_achieves : (c : Command) (reply : Option Reply) (e : Effect) (answer : Result Answered StoreFault) (before after : Session) → KeepsMoment c → IsOfEntries c
-    → after.open_store.moment ≡ before.open_store.moment → CarriesOut c reply (cache_of before) (cache_of after) → TeachesFor before.open_store.handles c reply e
+    → after.open_store.moment ≡ before.open_store.moment → CarriesOutAt before.open_store.moment c reply (cache_of before) (cache_of after)
+    → TeachesAt before.open_store.moment before.open_store.handles c reply e
     → IsLearnt reply e answer before.open_store.index after.open_store.index → LeavesIndex before.disk after.disk → AchievesFor c answer before after
 learnt_achieves c reply e answer before after keeps of same carried teaches learnt leaves b h is =
-    let left = carried_out carried b h.machine h.marks is.stands in
-    left_achieves keeps of same is leaves answer reply left (teaches h.machine is.stands.number is.stands.stands.proper is.stands.stands.handles left.replies) learnt
-
--- the same for a machine of this moment
-pub learnt_achieves_at : (c : Command) (reply : Option Reply) (e : Effect) (answer : Result Answered StoreFault) (before after : Session) → KeepsMoment c → IsOfEntries c
-    → after.open_store.moment ≡ before.open_store.moment → CarriesOutAt before.open_store.moment c reply (cache_of before) (cache_of after) → TeachesFor before.open_store.handles c reply e
-    → IsLearnt reply e answer before.open_store.index after.open_store.index → LeavesIndex before.disk after.disk → AchievesFor c answer before after
-learnt_achieves_at c reply e answer before after keeps of same carried teaches learnt leaves b h is =
     let left = carried_out_at carried b h.machine h.marks is.matches.moment is.stands in
-    left_achieves keeps of same is leaves answer reply left (teaches h.machine is.stands.number is.stands.stands.proper is.stands.stands.handles left.replies) learnt
+    left_achieves keeps of same is leaves answer reply left (teaches h.machine is.stands.number is.matches.moment is.stands.stands.proper is.stands.stands.handles left.replies) learnt
 
 -- For each command.
+
+-- what it has as effect in each machine it has in those of a moment
+effect_at : (now : ℕ) (k : Kept) (c : Command) (e : Effect) → HasEffect k c e → HasEffectAt now k c e
+effect_at now k c e has m number moment = has m number
 
 create_done : (s : ℕ) (key : List ℕ) → StaysUnlessDone (Create s key)
 unfolding effect StaysUnlessDone
 create_done s key m other = absurd (other refl)
+
+use_done : (s : ℕ) → StaysUnlessDone (UseEntry s)
+unfolding effect StaysUnlessDone
+use_done s m other = absurd (other refl)
 
 finish_done : (s : ℕ) → StaysUnlessDone (Finish s)
 unfolding effect StaysUnlessDone
@@ -230,15 +233,28 @@ doom_done key m other = absurd (other refl)
 
 module _ (r : Result Effect HandleFault) (answer : Result Answered StoreFault) (before after : Session) (same : after.open_store.moment ≡ before.open_store.moment)
     (learns : IsLearnt (done_or r) (effect_of r) answer before.open_store.index after.open_store.index) (leaves : LeavesIndex before.disk after.disk) where
-  pub create_achieves : (s : ℕ) (key : List ℕ) → CarriesOutAt before.open_store.moment (Create s key) (done_or r) (cache_of before) (cache_of after)
-      → IfOk r (HasEffect before.open_store.handles (Create s key)) → AchievesFor (Create s key) answer before after
-  create_achieves s key carried has =
-      learnt_achieves_at (Create s key) (done_or r) (effect_of r) answer before after tt tt same carried (handled_teaches before.open_store.handles (Create s key) tt (create_done s key) r has) learns leaves
+  at_now : (c : Command) → IfOk r (HasEffect before.open_store.handles c) → IfOk r (HasEffectAt before.open_store.moment before.open_store.handles c)
+  at_now c =
+      let now = before.open_store.moment in
+      let k = before.open_store.handles in
+      IfOk-weaker r (HasEffect k c) (HasEffectAt now k c) (effect_at now k c)
+
+  handled_at : (c : Command) → KeepsMoment c → IsOfEntries c → StaysUnlessDone c → CarriesOutAt before.open_store.moment c (done_or r) (cache_of before) (cache_of after)
+      → IfOk r (HasEffectAt before.open_store.moment before.open_store.handles c) → AchievesFor c answer before after
+  handled_at c keeps of stays carried has =
+      learnt_achieves c (done_or r) (effect_of r) answer before after keeps of same carried (handled_teaches before.open_store.moment before.open_store.handles c of stays r has) learns leaves
 
   handled_achieves : (c : Command) → KeepsMoment c → IsOfEntries c → StaysUnlessDone c → CarriesOut c (done_or r) (cache_of before) (cache_of after)
       → IfOk r (HasEffect before.open_store.handles c) → AchievesFor c answer before after
-  handled_achieves c keeps of stays carried has =
-      learnt_achieves c (done_or r) (effect_of r) answer before after keeps of same carried (handled_teaches before.open_store.handles c of stays r has) learns leaves
+  handled_achieves c keeps of stays carried has = handled_at c keeps of stays (at_moment carried) (at_now c has)
+
+  pub create_achieves : (s : ℕ) (key : List ℕ) → CarriesOutAt before.open_store.moment (Create s key) (done_or r) (cache_of before) (cache_of after)
+      → IfOk r (HasEffect before.open_store.handles (Create s key)) → AchievesFor (Create s key) answer before after
+  create_achieves s key carried has = handled_at (Create s key) tt tt (create_done s key) carried (at_now (Create s key) has)
+
+  pub use_achieves : (s : ℕ) → CarriesOutAt before.open_store.moment (UseEntry s) (done_or r) (cache_of before) (cache_of after)
+      → IfOk r (HasEffectAt before.open_store.moment before.open_store.handles (UseEntry s)) → AchievesFor (UseEntry s) answer before after
+  use_achieves s = handled_at (UseEntry s) tt tt (use_done s)
 
   pub finish_achieves : (s : ℕ) → CarriesOut (Finish s) (done_or r) (cache_of before) (cache_of after)
       → IfOk r (HasEffect before.open_store.handles (Finish s)) → AchievesFor (Finish s) answer before after
@@ -262,7 +278,11 @@ pub unset_achieves : (r : Result (Option Effect) HandleFault) (answer : Result A
     → IfOk r (λ some. IfSome some (HasEffect before.open_store.handles (UnsetElement s name))) → AchievesFor (UnsetElement s name) answer before after
 unset_achieves r answer before after same learns leaves s name carried has =
     let c : Command = UnsetElement s name in
-    learnt_achieves c (done_or_none r) (effect_of_some r) answer before after tt tt same carried (some_teaches before.open_store.handles c tt (unset_stays s name) r has) learns leaves
+    let now = before.open_store.moment in
+    let k = before.open_store.handles in
+    learnt_achieves c (done_or_none r) (effect_of_some r) answer before after tt tt same (at_moment carried)
+    (some_teaches now k c tt (unset_stays s name) r
+    (IfOk-weaker r (λ some. IfSome some (HasEffect k c)) (λ some. IfSome some (HasEffectAt now k c)) (λ some has. IfSome_then some has (effect_at now k c)) has)) learns leaves
 
 -- nothing is learnt of the command
 module _ {T : Type 0} (r : Result T HandleFault) (answer : Result Answered StoreFault) (before after : Session) (same : after.open_store.moment ≡ before.open_store.moment)
@@ -280,10 +300,14 @@ module _ {T : Type 0} (r : Result T HandleFault) (answer : Result Answered Store
       go (Ok x) p = p
       go (Err f) p = tt
 
+  unlearnt_achieves : (c : Command) → KeepsMoment c → IsOfEntries c → ((m : Machine) → learnt m c ≡ effects.Same) → CarriesOut c (done_or r) (cache_of before) (cache_of after)
+      → AchievesFor c answer before after
+  unlearnt_achieves c keeps of never carried =
+      learnt_achieves c (done_or r) effects.Same answer before after keeps of same (at_moment carried)
+      (same_teaches before.open_store.moment before.open_store.handles c of never (done_or r)) unlearnt leaves
+
   pub open_achieves : (s : ℕ) (key : List ℕ) → CarriesOut (OpenKey s key) (done_or r) (cache_of before) (cache_of after) → AchievesFor (OpenKey s key) answer before after
-  open_achieves s key carried =
-      learnt_achieves (OpenKey s key) (done_or r) effects.Same answer before after tt tt same carried (same_teaches before.open_store.handles (OpenKey s key) tt (λ m. refl) (done_or r)) unlearnt leaves
+  open_achieves s key carried = unlearnt_achieves (OpenKey s key) tt tt (λ m. refl) carried
 
   pub append_achieves : (s : ℕ) (bytes : List ℕ) → CarriesOut (Append s bytes) (done_or r) (cache_of before) (cache_of after) → AchievesFor (Append s bytes) answer before after
-  append_achieves s bytes carried =
-      learnt_achieves (Append s bytes) (done_or r) effects.Same answer before after tt tt same carried (same_teaches before.open_store.handles (Append s bytes) tt (λ m. refl) (done_or r)) unlearnt leaves
+  append_achieves s bytes carried = unlearnt_achieves (Append s bytes) tt tt (λ m. refl) carried

@@ -1,8 +1,12 @@
 pub mod BasedIndex
 pub mod BegunIndex
+pub mod CalmAccounts
 pub mod Closed
 pub mod ClosedInUse
 pub mod CountedChanges
+pub mod EvictDoes
+pub mod FilesAmong
+pub mod Forgotten
 pub mod GetAnswers
 pub mod GetChunks
 pub mod HasEntry
@@ -12,6 +16,8 @@ pub mod InUseLaws
 pub mod LearntAchieves
 pub mod ListDoes
 pub mod MomentAndRest
+pub mod NamesDoomed
+pub mod NothingDoomed
 pub mod OneLearnt
 pub mod Opened
 pub mod OpenedIndex
@@ -19,7 +25,7 @@ pub mod PartRead
 pub mod PartWhole
 pub mod PastHeader
 pub mod PerformDoes
-pub mod PerformSafe
+pub mod PerformOpen
 pub mod PerformStands
 pub mod PerformSteps
 pub mod PerformWhole
@@ -29,6 +35,7 @@ pub mod Represented
 pub mod RestIsOne
 pub mod SaidFront
 pub mod SaidMore
+pub mod SaidWhole
 pub mod SayingLaws
 pub mod ScanAlike
 pub mod ScanBegins
@@ -39,3 +46,4 @@ pub mod StartAlong
 pub mod TakenMore
 pub mod TellsAlike
 pub mod Unsaid
+pub mod VictimsApart

@@ -1,14 +1,13 @@
 -- How the records of all entries are listed.
 use Rattle.std.proofs.Common.{◌≡◌, ◌≢◌, ◌∙◌, ℕ, List, [], Result, Ok, Err, IsErrAnd, refl, sym, ap, subst}
-use Rattle.std.specs.Prelude.{IfErr, IfOk, OnOk}
-use Rattle.std.proofs.lemmas.List.{append-nil}
+use Rattle.std.specs.Prelude.{IfOk}
 use Rattle.cache_store.specs.Answering.{AnswersTo, outcome_in, outcome_of}
 use Rattle.cache_store.specs.Faults.{of_disk}
 use Rattle.cache_store.specs.Kept.{HoldsIndex}
 use Rattle.cache_store.specs.Open.{KeepsWhere}
 use Rattle.cache_store.specs.Performing.{DoesFor}
 use Rattle.cache_store.specs.Records.{TellsOf}
-use Rattle.cache_store.specs.Said.{IsCut, Saying}
+use Rattle.cache_store.specs.Said.{Saying}
 use Rattle.cache_store.specs.Saying.{CutsIn, SaysMore}
 use Rattle.cache_store.specs.declared.answered.Answered.{Answered}
 use Rattle.cache_store.specs.declared.answered.Answered.TheVariants as answered
@@ -17,8 +16,7 @@ use Rattle.cache_store.specs.declared.fault.StoreFault.TheVariants as fault
 use Rattle.cache_store.specs.declared.memory_index.MemoryIndex.{MemoryIndex}
 use Rattle.cache_store.proofs.IndexAchieves.{begun_spared, comes_from, goes_on_telling, holds_same_base, list_rests, rests_next, rests_tells, session_at, spares_same}
 use Rattle.cache_store.proofs.IndexWrites.{sorted_is_scan}
-use Rattle.cache_store.proofs.SayingLaws.{said_nothing}
-use Rattle.cache_store.proofs.Unsaid.{none_cut}
+use Rattle.cache_store.proofs.SaidWhole.{fails_unsaid, if_err, not_said, on_ok, whole_cut, whole_said}
 use Rattle.cache_theory.specs.Checks.{checks}
 use Rattle.cache_theory.specs.Command.Command.{ListRecords}
 use Rattle.cache_theory.specs.Command.Reply.{Records}
@@ -56,32 +54,12 @@ module _ (m : Machine) (was now : Saying) (empty : was.held ≡ []) (sorted : Li
   text_is = ap records_text is ∙ list_text_is m
 
   pub list_said : SaysMore was now (records_text sorted) → AnswersTo (step m ListRecords).reply (Ok answered.All) was.taken now
-  list_said says = record {
-    says = record {
-      front = records_text sorted;
-      said = says was.taken [] (said_nothing was empty);
-      whole = append-nil (records_text sorted) ∙ text_is;
-    };
-    outcome = ap outcome_of (sym (list_reply_is m));
-    cut = tt;
-  }
+  list_said says = whole_said (step m ListRecords).reply (records_text sorted) text_is (ap outcome_of (list_reply_is m)) was now empty says
 
   pub list_cut : (f : StoreFault) → CutsIn was now.taken (records_text sorted) → AnswersTo (step m ListRecords).reply (Err f) was.taken now
-  list_cut f cuts = record {
-    says = tt;
-    outcome = tt;
-    cut = subst (λ (text : List ℕ). IsCut was.taken now.taken text) text_is (cuts was.taken [] (said_nothing was empty));
-  }
+  list_cut f cuts = whole_cut (step m ListRecords).reply (records_text sorted) text_is (ap outcome_of (list_reply_is m)) was now empty f cuts
 
 -- ---- what the command does
-
-on_ok : {T E : Type 0} (r : Result T E) {P : Type 0} → P → OnOk r P
-on_ok (Ok x) p = p
-on_ok (Err e) p = tt
-
-if_err : {T E : Type 0} (r : Result T E) {Q : E → Type 0} → ((e : E) → Q e) → IfErr r Q
-if_err (Ok x) q = tt
-if_err (Err e) q = q e
 
 list_outcome : (m : Machine) (answer : Result Answered StoreFault) → IfOk answer (λ a. a ≡ answered.All) → IfOk answer (λ a. outcome_in a ≡ outcome_of (step m ListRecords).reply)
 list_outcome m (Ok a) all = ap outcome_in all ∙ ap outcome_of (sym (list_reply_is m))
@@ -99,7 +77,7 @@ module _ (k : Kept) (now : ℕ) (s t : State) (old new : MemoryIndex) (finishes 
   told m is = goes_on_telling k s m old new is finishes.tells
 
   -- so the records, sorted by name, are the machine's where they tell
-  records_are : (m : Machine) (sorted : List IndexRecord) → IsKnown new.map → IsByName new.map.records sorted → CacheRepresents (cache_at k s) m → TellsOf (get m.shelf) old → sorted ≡ scan m.shelf
+  pub records_are : (m : Machine) (sorted : List IndexRecord) → IsKnown new.map → IsByName new.map.records sorted → CacheRepresents (cache_at k s) m → TellsOf (get m.shelf) old → sorted ≡ scan m.shelf
   records_are m sorted known by is tells = sorted_is_scan m new.map sorted is.1.proper ((told m is tells).all finishes.ended) known.names by
 
   module _ (answer : Result Answered StoreFault) (was : Saying) (later : Saying) (all : IfOk answer (λ a. a ≡ answered.All)) where
@@ -136,7 +114,7 @@ module _ (k : Kept) (now : ℕ) (s t : State) (old new : MemoryIndex) (finishes 
   pub list_unsaid : (answer : Result Answered StoreFault) (P : StoreFault → Type 0) (was : Saying) → IsErrAnd answer P
       → DoesFor ListRecords answer (session_at k now old s) (session_at k now new t) was.taken was
   list_unsaid (Ok a) P was failed = absurd failed
-  list_unsaid (Err f) P was failed = list_by (Err f) was was tt (λ m is tells. record { says = tt; outcome = tt; cut = none_cut (step m ListRecords).reply was.taken })
+  list_unsaid (Err f) P was failed = list_by (Err f) was was tt (λ m is tells. not_said (step m ListRecords).reply f was)
 
 -- no fault of the disk is one of the sink
 pub no_sink : (d : DiskFault) → of_disk d ≢ fault.Sink
@@ -147,12 +125,6 @@ no_sink disk.Memory e = absurd (cc)
 pub list_fails : (answer : Result Answered StoreFault) (P : StoreFault → Type 0) → IsErrAnd answer P → ((f : StoreFault) → P f → f ≢ fault.Sink)
     → (k : Kept) (now : ℕ) (s t : State) (old new : MemoryIndex) (was : Saying) → t ≡ s
     → DoesFor ListRecords answer (session_at k now old s) (session_at k now new t) was.taken was
-list_fails (Ok a) P failed other k now s t old new was same b h is = absurd failed
-list_fails (Err f) P failed other k now s t old new was same b h is = record {
-  safe = λ on. ((begun_spared ListRecords (session_at k now old s) t h is (λ apart. spares_same s t same)).crash_kept on).safe;
-  answers = λ may. record { says = tt; outcome = tt; cut = none_cut (step h.machine ListRecords).reply was.taken };
-  outcome = tt;
-  next = tt;
-  effect = λ sink. absurd (other f failed sink);
-  tells = λ sink. absurd (other f failed sink);
-}
+list_fails answer P failed other k now s t old new was same b h is =
+    fails_unsaid b ListRecords h answer P failed other (session_at k now old s) (session_at k now new t) was
+    (λ on. ((begun_spared ListRecords (session_at k now old s) t h is (λ apart. spares_same s t same)).crash_kept on).safe)

@@ -17,8 +17,9 @@ use Rattle.file_handles.specs.Stands.{KeepsWhere as CacheKeepsWhere}
 use Rattle.file_handles.proofs.Begun.{begun_in}
 use Rattle.index_update.specs.Rest.{name_bytes}
 use Rattle.cache_store.specs.Answering.{AnswersFor, AnswersTo, HasOutcome, outcome_of}
+use Rattle.cache_store.specs.DoneFor.{IsDoneFor}
 use Rattle.cache_store.specs.Open.{KeepsWhere, Tells}
-use Rattle.cache_store.specs.Performing.{AchievesFor, ComesToTell, Does, DoesFor, IsReply}
+use Rattle.cache_store.specs.Performing.{AchievesFor, ComesToTell, Does, DoesFor, DoesWhatIsDone, IsReply}
 use Rattle.cache_store.specs.Records.{AnswersHas}
 use Rattle.cache_store.specs.Replied.{replied, reply_of}
 use Rattle.cache_store.specs.Said.{Saying}
@@ -145,7 +146,14 @@ pub done_unsaid : (answer : Result Answered StoreFault) → IfOk answer (λ a. a
 done_unsaid (Ok a) done same = let both : ◌≡◌ {A = Result Answered StoreFault} (Ok answered.Done) (Ok answered.All) = ap Ok (sym done) ∙ same in cc
 done_unsaid (Err f) done same = cc
 
+-- ---- what is done for a command
+
 -- a command by another name
+pub by_name : (c d : Command) (answer : Result Answered StoreFault) (before after : Session) (out : Option (List ℕ)) (now : Saying) → c ≡ d
+    → DoesWhatIsDone d answer before after out now → DoesWhatIsDone c answer before after out now
+by_name c d answer before after out now same does = subst (λ (k : Command). DoesWhatIsDone k answer before after out now) (sym same) does
+
+-- for one that is no eviction it is the command itself
 pub as_command : (c d : Command) (answer : Result Answered StoreFault) (before after : Session) (out : Option (List ℕ)) (now : Saying) → c ≡ d
-    → DoesFor d answer before after out now → DoesFor c answer before after out now
-as_command c d answer before after out now same does = subst (λ (k : Command). DoesFor k answer before after out now) (sym same) does
+    → ((m : Machine) → IsDoneFor (Tells before m) d m d) → DoesFor d answer before after out now → DoesWhatIsDone c answer before after out now
+as_command c d answer before after out now same own does = by_name c d answer before after out now same (λ b h is. (d, (own h.machine, does b h is)))

@@ -1,15 +1,16 @@
 -- What a step leaves of the machine.
-use Rattle.std.proofs.Common.{◌≡◌, ℕ, true, Option, Some, None, refl, ◌∙◌}
+use Rattle.std.proofs.Common.{◌≡◌, ℕ, true, List, [], ◌∷◌, Option, Some, None, refl, ◌∙◌}
 use Rattle.std.specs.Prelude.{◌&&◌, ◌||◌, ⊤, is_none, not}
 use Rattle.std.proofs.lemmas.Bool.{cond_both}
 use Rattle.cache_base.specs.Checks.{first_failing}
+use Rattle.cache_base.specs.declared.name.Name.{Name}
 use Rattle.cache_theory.specs.Checks.{checks}
 use Rattle.cache_theory.specs.Command.{Command}
-use Rattle.cache_theory.specs.Command.Command.{At, OpenKey, Finish, UnsetElement, ElementOf, ReadPart, Close, Get, HasEntry, Flush, UpdateState}
+use Rattle.cache_theory.specs.Command.Command.{At, OpenKey, Finish, UnsetElement, ElementOf, ReadPart, Close, Get, HasEntry, Evict, EvictNames, Flush, UpdateState}
 use Rattle.cache_theory.specs.Command.Reply.{Done, NoneThere}
 use Rattle.cache_theory.specs.Machine.{Machine, has_slots, is_writer, number_of, object_of, on_shelf, used_by}
 use Rattle.cache_theory.specs.Marks.{Marks, acked, begun}
-use Rattle.cache_theory.specs.Step.{Answer, answer, changed, effect, finished_by, joined, released, step, stepped, stored, with_slot}
+use Rattle.cache_theory.specs.Step.{Answer, all_doomed, answer, changed, doomed_under, effect, evicted, finished_by, joined, released, step, stepped, stored, update_ended, with_slot}
 use Rattle.cache_theory.specs.Table.{remove}
 use Rattle.cache_theory.specs.declared.refusal.Refusal.{Refusal}
 use Rattle.entry_file.specs.EntryFile.{Reading}
@@ -73,6 +74,10 @@ released_moment m s =
     cond_both (has_slots after (number_of m s) || (object_of m s).doomed) after (record after { in_use = remove m.in_use (file_name (object_of m s).version.key) })
     (λ n. n.moment ≡ m.moment) (λ is. refl) (λ not_so. refl)
 
+all_doomed_moment : (m : Machine) (names : List Name) → (all_doomed m names).moment ≡ m.moment
+all_doomed_moment m [] = refl
+all_doomed_moment m (name ∷ names) = all_doomed_moment (doomed_under m name.0) names
+
 effect_moment : (m : Machine) (c : Command) → KeepsMoment c → (effect m c).next.moment ≡ m.moment
 unfolding effect
 effect_moment m (At now) keeps = absurd keeps
@@ -83,6 +88,8 @@ effect_moment m (UnsetElement s name) keeps =
     (answer (changed m s (λ v. record v { elements = without_element name v.elements })) Done)
     (λ (a : Answer). a.next.moment ≡ m.moment) (λ is. refl) (λ not_so. refl)
 effect_moment m (Close s) keeps = released_moment (finished_by m s) s ∙ finished_moment m s
+effect_moment m (Evict kb) keeps = all_doomed_moment (update_ended m) (evicted m kb)
+effect_moment m (EvictNames names) keeps = all_doomed_moment (update_ended m) names
 effect_moment m c keeps = refl
 
 pub step_moment : (m : Machine) (c : Command) → KeepsMoment c → (step m c).next.moment ≡ m.moment

@@ -1,5 +1,5 @@
 -- A command and the end of its reply.
-use Rattle.std.proofs.Common.{true, false, ◌≡◌, ◌∙◌, ℕ, List, Option, Result, Ok, Err, IsErrAnd, refl, sym, subst}
+use Rattle.std.proofs.Common.{Bool, true, false, ◌≡◌, ◌∙◌, ℕ, List, Option, Result, Ok, Err, IsErrAnd, refl, sym, subst}
 use Rattle.std.specs.Prelude.{IfOk, OnErr, OnOk}
 use Rattle.cache_theory.specs.Checks.{checks}
 use Rattle.cache_theory.specs.Command.{Command}
@@ -8,16 +8,18 @@ use Rattle.cache_theory.specs.Crash.{IsSafe}
 use Rattle.cache_theory.specs.History.{History, acked, begun, settled_at, unanswered}
 use Rattle.cache_theory.specs.Step.{effect, step}
 use Rattle.cache_theory.specs.Text.{reply_text}
+use Rattle.cache_theory.proofs.Crashes.{safe_is_crash_safe}
 use Rattle.file_handles.proofs.Begun.{begun_in}
 use Rattle.file_handles.proofs.Where.{marked_in}
 use Rattle.cache_store.specs.Answering.{CutsRest, SendsRest, outcome_in, rest_of}
 use Rattle.cache_store.specs.Open.{KeepsTo, Represents, Tells}
-use Rattle.cache_store.specs.Performing.{DoesFor, PerformsFor}
+use Rattle.cache_store.specs.Performing.{Does, DoesWhatIsDone, Keeps, Performs, PerformsFor}
 use Rattle.cache_store.specs.Said.{Saying}
 use Rattle.cache_store.specs.Session.{Open, Session}
 use Rattle.cache_store.specs.declared.answered.Answered.{Answered}
 use Rattle.cache_store.specs.declared.fault.Outcome.{Outcome}
 use Rattle.cache_store.specs.declared.fault.StoreFault.{StoreFault}
+use Rattle.cache_store.specs.declared.fault.StoreFault.TheVariants as fault
 use Rattle.cache_store.proofs.Represented.{keeps_bare, keeps_marked, keeps_to, represented}
 
 -- a command that had its effect, and is not acknowledged
@@ -42,30 +44,44 @@ begun_stands Flush h before after is safe stands =
     }
 begun_stands c h before after is safe stands = stands
 
+-- what is done with and without a crash makes up what is promised
+performs_for : (c : Command) (answer : Result Answered StoreFault) (final : Result Outcome StoreFault) (before mid after : Session) (taken : Option (List ℕ)) (between : Saying) (now : Option (List ℕ))
+    → ((d : Command) (b : Bool) (h : History) → Does b d h answer before mid taken between → Performs d h.machine final before after taken now)
+    → ((d : Command) (h : History) → KeepsTo before h → Does true d h answer before mid taken between → Keeps d h final after)
+    → DoesWhatIsDone c answer before mid taken between → PerformsFor c final before after taken now
+performs_for c answer final before mid after taken between now performs keeps does = record {
+  answers = λ m stand. let done = does false (settled_at m) (keeps_bare stand) in (done.0, (done.1.0, performs done.0 false (settled_at m) done.1.1));
+  crash = λ h is.
+      let done = does true h (keeps_marked is) in
+      (done.0, (done.1.0, record { performs = performs done.0 true h done.1.1; keeps = keeps done.0 h is done.1.1 }));
+}
+
+-- what the disk keeps after a failure; where it was the sink that failed, the command had its effect
+failed_keeps : (d : Command) (h : History) (f : StoreFault) (before after : Session) → KeepsTo before h → IsSafe after.disk (begun d h).marks → (f ≡ fault.Sink → KeepsTo after (acked d h))
+    → Keeps d h (Err f) after
+failed_keeps d h f before after is safe next = record {
+  crash = safe_is_crash_safe after.disk (begun d h).marks safe;
+  acked_crash = λ sink. safe_is_crash_safe after.disk (acked d h).marks (next sink).stands.crash_kept.safe;
+  safe = safe;
+  next = tt;
+  effect = next;
+  unanswered = λ sink. begun_stands d h before after is safe (next sink);
+}
+
 -- a command that failed
 pub fails_performs : (c : Command) (f : StoreFault) (final : Result Outcome StoreFault) (before after : Session) (taken : Option (List ℕ)) (now : Saying) → IsErrAnd final (λ e. e ≡ f)
-    → DoesFor c (Err f) before after taken now → PerformsFor c final before after taken now.taken
+    → DoesWhatIsDone c (Err f) before after taken now → PerformsFor c final before after taken now.taken
 fails_performs c f (Ok o) before after taken now is does = absurd is
-fails_performs c f (Err e) before after taken now is does = record {
-  answers = λ m stand.
-      let done = does false (settled_at m) (keeps_bare stand) in
-      record {
-        printed = λ may. tt;
-        outcome = tt;
-        next = tt;
-        cut = λ may. (done.answers may).cut;
-        effect = λ same. represented (done.effect (sym is ∙ same));
-        tells = λ same. done.tells (sym is ∙ same);
-      };
-  crash = λ h stands.
-      let done = does true h (keeps_marked stands) in
-      record {
-        safe = done.safe refl;
-        next = tt;
-        effect = λ same. keeps_to (done.effect (sym is ∙ same));
-        unanswered = λ same. begun_stands c h before after stands (done.safe refl) (keeps_to (done.effect (sym is ∙ same)));
-      };
-}
+fails_performs c f (Err e) before after taken now is does =
+    performs_for c (Err f) (Err e) before after after taken now now.taken
+    (λ d b h done. record {
+      printed = λ may. tt;
+      outcome = tt;
+      next = tt;
+      cut = λ may. (done.answers may).cut;
+      effect = λ same. represented (done.effect (sym is ∙ same));
+      tells = λ same. done.tells (sym is ∙ same);
+    }) (λ d h stands done. failed_keeps d h e before after stands (done.safe refl) (λ same. keeps_to (done.effect (sym is ∙ same)))) does
 
 -- what holds of an open store holds of the same by another name
 as_open : (P : Session → Type 0) (mid : Session) (last : Open) → last ≡ mid.open_store → P mid → P (record { open_store = last; disk = mid.disk })
@@ -74,48 +90,41 @@ as_open P mid last same = subst (λ (k : Open). P (record { open_store = k; disk
 -- one whose reply goes out, or is cut there
 pub does_performs : (c : Command) (a : Answered) (final : Result Outcome StoreFault) (before mid : Session) (last : Open) (taken : Option (List ℕ)) (between : Saying) (now : Option (List ℕ))
     → OnOk final (SendsRest (rest_of a) between now) → OnErr final (CutsRest (rest_of a) between now) → IfOk final (λ o. o ≡ outcome_in a) → last ≡ mid.open_store
-    → DoesFor c (Ok a) before mid taken between → PerformsFor c final before (record { open_store = last; disk = mid.disk }) taken now
-does_performs c a (Ok o) before mid last taken between now printed cut outcome same does = record {
-  answers = λ m stand.
-      let done = does false (settled_at m) (keeps_bare stand) in
-      let next = (step m c).next in
-      record {
-        printed = λ may. printed (reply_text (step m c).reply) taken (done.answers may).says;
-        outcome = outcome ∙ done.outcome;
-        next = as_open (λ now. Represents now next) mid last same (represented done.next);
-        cut = λ may. tt;
-        effect = tt;
-        tells = λ had comes. as_open (λ now. Tells now next) mid last same (done.tells tt comes);
-      };
-  crash = λ h stands.
-      let done = does true h (keeps_marked stands) in
-      record {
-        safe = done.safe refl;
-        next = as_open (λ now. KeepsTo now (acked c h)) mid last same (keeps_to done.next);
-        effect = tt;
-        unanswered = tt;
-      };
-}
-does_performs c a (Err f) before mid last taken between now printed cut outcome same does = record {
-  answers = λ m stand.
-      let done = does false (settled_at m) (keeps_bare stand) in
-      let next = (step m c).next in
-      record {
-        printed = λ may. tt;
-        outcome = tt;
-        next = tt;
-        cut = λ may. cut (reply_text (step m c).reply) taken (done.answers may).says;
-        effect = λ sink. as_open (λ now. Represents now next) mid last same (represented done.next);
-        tells = λ had comes. as_open (λ now. Tells now next) mid last same (done.tells tt comes);
-      };
-  crash = λ h stands.
-      let done = does true h (keeps_marked stands) in
-      let after : Session = record { open_store = last; disk = mid.disk } in
-      let next : KeepsTo after (acked c h) = as_open (λ now. KeepsTo now (acked c h)) mid last same (keeps_to done.next) in
-      record {
-        safe = done.safe refl;
-        next = tt;
-        effect = λ sink. next;
-        unanswered = λ sink. begun_stands c h before after stands (done.safe refl) next;
-      };
-}
+    → DoesWhatIsDone c (Ok a) before mid taken between → PerformsFor c final before (record { open_store = last; disk = mid.disk }) taken now
+does_performs c a (Ok o) before mid last taken between now printed cut outcome same does =
+    let after : Session = record { open_store = last; disk = mid.disk } in
+    performs_for c (Ok a) (Ok o) before mid after taken between now
+    (λ d b h done.
+    let next = (step h.machine d).next in
+    record {
+      printed = λ may. printed (reply_text (step h.machine d).reply) taken (done.answers may).says;
+      outcome = outcome ∙ done.outcome;
+      next = as_open (λ now. Represents now next) mid last same (represented done.next);
+      cut = λ may. tt;
+      effect = tt;
+      tells = λ had comes. as_open (λ now. Tells now next) mid last same (done.tells tt comes);
+    })
+    (λ d h stands done.
+    let next : KeepsTo after (acked d h) = as_open (λ now. KeepsTo now (acked d h)) mid last same (keeps_to done.next) in
+    record {
+      crash = safe_is_crash_safe mid.disk (begun d h).marks (done.safe refl);
+      acked_crash = λ had. safe_is_crash_safe mid.disk (acked d h).marks next.stands.crash_kept.safe;
+      safe = done.safe refl;
+      next = next;
+      effect = tt;
+      unanswered = tt;
+    }) does
+does_performs c a (Err f) before mid last taken between now printed cut outcome same does =
+    let after : Session = record { open_store = last; disk = mid.disk } in
+    performs_for c (Ok a) (Err f) before mid after taken between now
+    (λ d b h done.
+    let next = (step h.machine d).next in
+    record {
+      printed = λ may. tt;
+      outcome = tt;
+      next = tt;
+      cut = λ may. cut (reply_text (step h.machine d).reply) taken (done.answers may).says;
+      effect = λ sink. as_open (λ now. Represents now next) mid last same (represented done.next);
+      tells = λ had comes. as_open (λ now. Tells now next) mid last same (done.tells tt comes);
+    })
+    (λ d h stands done. failed_keeps d h f before after stands (done.safe refl) (λ sink. as_open (λ now. KeepsTo now (acked d h)) mid last same (keeps_to done.next))) does

@@ -2,6 +2,7 @@
 use Rattle.std.proofs.Common.{◌≡◌, ◌<◌, ◌∙◌, ◌++◌, ℕ, arith, length, List, [], ◌∷◌, Option, refl, sym, ap, subst, append_assoc}
 use Rattle.std.specs.Prelude.{flat_map}
 use Rattle.std.proofs.lemmas.List.{append-nil}
+use Rattle.std.proofs.lemmas.List.Concat.{flat_map-append}
 use Rattle.cache_store.specs.Said.{Said, Saying}
 use Rattle.cache_store.specs.Saying.{CutsIn, SaysMore}
 use Rattle.cache_store.proofs.SayingLaws.{cuts_front, cuts_line, cuts_then, says_then}
@@ -26,6 +27,21 @@ module _ {X : Type 0} (text : X → List ℕ) (xs left more : List X) (x : X) (w
       subst (λ (t : List ℕ). CutsIn was out t) with_next
       (cuts_front was out (front.front ++ text x) (flat_map text more) (cuts_then was now out front.front (text x) front.says cuts))
 
+-- and so with some next ones at once
+module _ {X : Type 0} (text : X → List ℕ) (xs left part rest : List X) (was now : Saying) (front : SaysFront text xs left was now) (first : left ≡ part ++ rest) where
+  with_part : (front.front ++ flat_map text part) ++ flat_map text rest ≡ flat_map text xs
+  with_part =
+      append_assoc front.front (flat_map text part) (flat_map text rest)
+      ∙ ap (λ ys. front.front ++ ys) (sym (flat_map-append text part rest)) ∙ ap (λ ys. front.front ++ flat_map text ys) (sym first) ∙ front.whole
+
+  pub says_part : (later : Saying) → SaysMore now later (flat_map text part) → SaysFront text xs rest was later
+  says_part later says = record { front = front.front ++ flat_map text part; says = says_then was now later front.front (flat_map text part) front.says says; whole = with_part }
+
+  pub cuts_part : (out : Option (List ℕ)) → CutsIn now out (flat_map text part) → CutsIn was out (flat_map text xs)
+  cuts_part out cuts =
+      subst (λ (t : List ℕ). CutsIn was out t) with_part
+      (cuts_front was out (front.front ++ flat_map text part) (flat_map text rest) (cuts_then was now out front.front (flat_map text part) front.says cuts))
+
 -- none was said yet
 pub says_begin : {X : Type 0} (text : X → List ℕ) (xs : List X) (was : Saying) → SaysFront text xs xs was was
 says_begin text xs was = record { front = []; says = λ before said is. subst (Said before was) (sym (append-nil said)) is; whole = refl }
@@ -34,21 +50,6 @@ says_begin text xs was = record { front = []; says = λ before said is. subst (S
 pub says_all : {X : Type 0} (text : X → List ℕ) (xs left : List X) (was now : Saying) → left ≡ [] → SaysFront text xs left was now → SaysMore was now (flat_map text xs)
 says_all text xs left was now none front =
     subst (λ (t : List ℕ). SaysMore was now t) (sym (append-nil front.front) ∙ ap (λ ys. front.front ++ flat_map text ys) (sym none) ∙ front.whole) front.says
-
--- an item whose text is a line, which is said in two pieces
-module _ {X : Type 0} (text : X → List ℕ) (xs left more : List X) (x : X) (was now : Saying) (front : SaysFront text xs left was now) (first : left ≡ x ∷ more)
-    (words : List ℕ) (line_is : text x ≡ words ++ 10 ∷ []) where
-  pub cuts_words : (out : Option (List ℕ)) → CutsIn now out words → CutsIn was out (flat_map text xs)
-  cuts_words out cuts = cuts_next text xs left more x was now front first out (subst (λ (t : List ℕ). CutsIn now out t) (sym line_is) (cuts_front now out words (10 ∷ []) cuts))
-
-  module _ (mid : Saying) (says : SaysMore now mid words) where
-    pub cuts_newline : (out : Option (List ℕ)) → CutsIn mid out (10 ∷ []) → CutsIn was out (flat_map text xs)
-    cuts_newline out cuts =
-        cuts_next text xs left more x was now front first out (subst (λ (t : List ℕ). CutsIn now out t) (sym line_is) (cuts_then now mid out words (10 ∷ []) says cuts))
-
-    pub says_line : (later : Saying) → SaysMore mid later (10 ∷ []) → SaysFront text xs more was later
-    says_line later ends =
-        says_next text xs left more x was now front first later (subst (λ (t : List ℕ). SaysMore now later t) (sym line_is) (says_then now mid later words (10 ∷ []) says ends))
 
 -- where some are left, nothing more went out
 pub cuts_before : {X : Type 0} (text words : X → List ℕ) (xs left : List X) (was now : Saying) → ((x : X) → text x ≡ words x ++ 10 ∷ []) → 0 < length left → SaysFront text xs left was now

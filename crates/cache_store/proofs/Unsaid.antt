@@ -1,16 +1,15 @@
 -- An answer of which nothing is said yet.
-use Rattle.std.proofs.Common.{◌≡◌, ◌≢◌, ℕ, ◌<◌, List, [], ◌∷◌, ◌++◌, length, Option, Result, Ok, Err, refl, sym, ap, subst, arith}
-use Rattle.std.specs.Prelude.{IfErr, IfOk, IfSome, OnOk, codes, decimal, flat_map, ⊤}
+use Rattle.std.proofs.Common.{◌≡◌, ◌≢◌, ℕ, List, [], Option, Result, Ok, Err, refl, sym, ap, subst}
+use Rattle.std.specs.Prelude.{IfErr, IfOk, IfSome, OnOk, ⊤}
 use Rattle.std.proofs.KnownBytes.{Appends-nil}
 use Rattle.std.proofs.lemmas.Option.{IfSome_then}
 use Rattle.cache_theory.specs.Command.{Reply}
 use Rattle.cache_theory.specs.Command.Command.{Get}
-use Rattle.cache_theory.specs.Command.Reply.{Refused, Value, Part, Found, Records}
 use Rattle.cache_theory.specs.Machine.{Machine}
 use Rattle.cache_theory.specs.Step.{step}
-use Rattle.cache_theory.specs.Text.{line, record_words, refusal_words, reply_text, spaced}
+use Rattle.cache_theory.specs.Text.{reply_text}
+use Rattle.cache_theory.proofs.RepliesLong.{replies_are_not_empty}
 use Rattle.disk_model.specs.State.{State}
-use Rattle.entry_parts.specs.Elements.{elements_bytes}
 use Rattle.file_handles.specs.Answers.{reply_in}
 use Rattle.file_handles.specs.Found.{FindsIn}
 use Rattle.file_handles.specs.declared.fault.HandleFault.{HandleFault}
@@ -39,37 +38,9 @@ unsaid_by (Err fault.Sink) not_said no_sink = no_sink refl
 unsaid_by (Ok a) not_said no_sink = tt
 unsaid_by (Err f) not_said no_sink = tt
 
--- a text is no shorter for what comes after it
-more_long : (xs ys : List ℕ) → 0 < length xs → 0 < length (xs ++ ys)
-more_long [] ys lt = absurd (omega (arith, lt))
-more_long (x ∷ xs) ys lt = omega arith
-
-end_long : (xs : List ℕ) (y : ℕ) → 0 < length (xs ++ y ∷ [])
-end_long [] y = omega arith
-end_long (x ∷ xs) y = omega arith
-
-lines_long : (words : List (List ℕ)) (more : List ℕ) → 0 < length (line words ++ more)
-lines_long words more = more_long (line words) more (end_long (spaced words) 10)
-
--- each reply has some text
-text_long : (r : Reply) → 0 < length (reply_text r)
-unfolding reply_text
-text_long (Value value) = lines_long (codes "value" ∷ decimal (length value) ∷ []) (value ++ 10 ∷ [])
-text_long (Part bytes) = lines_long (codes "data" ∷ decimal (length bytes) ∷ []) (bytes ++ 10 ∷ [])
-text_long (Found v) =
-    lines_long
-    (codes "found" ∷ decimal v.header.fetch_count ∷ decimal v.header.last_fetched ∷ decimal v.header.last_modified ∷ decimal v.header.frecency ∷ decimal v.header.expiration
-    ∷ decimal v.header.flags ∷ decimal (length (elements_bytes v.elements)) ∷ decimal (length v.body) ∷ [])
-    (elements_bytes v.elements ++ 10 ∷ (v.body ++ 10 ∷ []))
-text_long (Records records) =
-    lines_long (codes "records" ∷ decimal (length records) ∷ []) (flat_map (λ r. line (record_words r)) records)
-text_long (Refused r) = end_long (spaced (refusal_words r)) 10
--- each of the others begins with a letter
-text_long r = omega arith
-
--- so a reply of which nothing went out is cut
+-- a reply of which nothing went out is cut
 pub none_cut : (r : Reply) (o : Option (List ℕ)) → IsCut o o (reply_text r)
-none_cut r o = (0, (text_long r, Appends-nil o))
+none_cut r o = (0, (replies_are_not_empty r, Appends-nil o))
 
 said_none : (now : Saying) → now.held ≡ [] → (text rest : List ℕ) → rest ≡ text → SaysOf text rest now.taken now
 said_none now none text rest is = record { front = []; said = said_nothing now none; whole = is }

@@ -3,7 +3,7 @@ use Rattle.std.specs.Prelude.{IsTrue, List, None, Option, Some, length, take, tr
 use Rattle.cache_base.specs.declared.limits.TheConstants.{CHANGED_MAX}
 use Rattle.cache_base.specs.declared.name.Name.{Name}
 use Rattle.cache_theory.specs.Command.{Command}
-use Rattle.cache_theory.specs.Command.Command.{At, Flush, HasEntry, ListRecords, Rebuild, StepUpdate, UpdateState}
+use Rattle.cache_theory.specs.Command.Command.{At, Evict, EvictNames, Flush, HasEntry, ListRecords, Rebuild, StepUpdate, UpdateState}
 use Rattle.disk_model.specs.declared.disk.Disk.{Ghosts}
 use Rattle.index_map.specs.Known.{Known, changed}
 
@@ -12,6 +12,8 @@ abbrev pub names_read : Command → List Name → Option ℕ
 names_read (At now) rest = Some 0
 names_read (HasEntry key) rest = Some 0
 names_read ListRecords rest = Some (length rest)
+names_read (Evict kb) rest = Some (length rest)
+names_read (EvictNames names) rest = Some (length rest)
 names_read Flush rest = Some 0
 names_read (StepUpdate n) rest = Some (length (take n rest))
 names_read UpdateState rest = Some 0

@@ -1,5 +1,7 @@
 pub mod Answering
+pub mod DoneFor
 pub mod EntryText
+pub mod Evicting
 pub mod Faults
 pub mod IndexCalls
 pub mod InUse

@@ -2,6 +2,7 @@
 use Rattle.std.specs.Prelude.{Bool, Err, IfErr, IfOk, IfSome, IsTrue, List, Ok, OnErr, OnOk, Option, Result, false, true, ℕ, ⊤, ◌≡◌, ◌⊎◌}
 use Rattle.std.specs.Io.KnownBytes.{Appends}
 use Rattle.cache_store.specs.Answering.{AnswersTo, outcome_in, outcome_of}
+use Rattle.cache_store.specs.DoneFor.{DoneFor}
 use Rattle.cache_store.specs.Open.{KeepsTo, KeepsWhere, Represents, Tells}
 use Rattle.cache_store.specs.Replied.{replied}
 use Rattle.cache_store.specs.Said.{IsCut, Saying}
@@ -11,18 +12,18 @@ use Rattle.cache_store.specs.declared.fault.Outcome.{Outcome}
 use Rattle.cache_store.specs.declared.fault.StoreFault.{StoreFault}
 use Rattle.cache_store.specs.declared.fault.StoreFault.TheVariants as fault
 use Rattle.cache_theory.specs.Command.{Command, Reply}
-use Rattle.cache_theory.specs.Command.Command.{HasEntry, ListRecords, Rebuild}
+use Rattle.cache_theory.specs.Command.Command.{HasEntry, ListRecords, Evict, Rebuild}
 use Rattle.cache_theory.specs.Crash.{IsCrashSafe, IsSafe}
 use Rattle.cache_theory.specs.History.{History, acked, begun, unanswered as left_unanswered}
 use Rattle.cache_theory.specs.Machine.{Machine}
 use Rattle.cache_theory.specs.Step.{step}
 use Rattle.cache_theory.specs.Text.{reply_text}
-use Rattle.disk_model.specs.State.{State}
 
 -- the reply goes by the records in memory
 abbrev pub goes_by_records : Command → Bool
 goes_by_records (HasEntry key) = true
 goes_by_records ListRecords = true
+goes_by_records (Evict kb) = true
 goes_by_records _ = false
 
 -- the reply is the machine's: it does not go by the records, or they are right
@@ -54,7 +55,11 @@ pub record Performs (c : Command) (m : Machine) (answer : Result Outcome StoreFa
 -- for a history: what the disk keeps
 pub record Keeps (c : Command) (h : History) (answer : Result Outcome StoreFault)
     (after : Session) : Type 0 where
-  -- at every exit a crash may lose no more than the marks allow
+  -- at every exit a crash loses no more than the marks of the begun command allow, and once it has had its effect no more
+  -- than those of the acknowledged one
+  pub crash : IsCrashSafe after.disk (begun c h).marks
+  pub acked_crash : HadEffect answer → IsCrashSafe after.disk (acked c h).marks
+  -- and so it stays, whatever the next commands change
   pub safe : IsSafe after.disk (begun c h).marks
   pub next : OnOk answer (KeepsTo after (acked c h))
   -- where the sink failed the command has had its effect on the disk too, as one that is acknowledged
@@ -62,18 +67,19 @@ pub record Keeps (c : Command) (h : History) (answer : Result Outcome StoreFault
   -- and for whoever saw no reply it has begun
   pub unanswered : IfErr answer (λ f. f ≡ fault.Sink → KeepsTo after (left_unanswered c h))
 
+-- for a history: both
+pub record PerformsAndKeeps (c : Command) (h : History) (answer : Result Outcome StoreFault)
+    (before after : Session) (taken now : Option (List ℕ)) : Type 0 where
+  pub performs : Performs c h.machine answer before after taken now
+  pub keeps : Keeps c h answer after
+
 -- whatever machine the store stands for, and whatever history the disk keeps to
 pub record PerformsFor (c : Command) (answer : Result Outcome StoreFault) (before after : Session)
     (taken now : Option (List ℕ)) : Type 0 where
-  pub answers : (m : Machine) → Represents before m → Performs c m answer before after taken now
-  pub crash : (h : History) → KeepsTo before h → Keeps c h answer after
-
--- whatever the history, a crash loses no more than the marks of the begun command allow, and once it has had its effect
--- no more than those of the acknowledged one
-abbrev pub PerformsSafely : {T : Type 0} → Command → Result T StoreFault → Session → State → Type 0
-PerformsSafely c answer before t =
-    (h : History) → KeepsTo before h
-    → IsCrashSafe t (begun c h).marks × (HadEffect answer → IsCrashSafe t (acked c h).marks)
+  pub answers : (m : Machine) → Represents before m
+      → DoneFor (Tells before m) c m (λ d. Performs d m answer before after taken now)
+  pub crash : (h : History) → KeepsTo before h
+      → DoneFor (Tells before h.machine) c h.machine (λ d. PerformsAndKeeps d h answer before after taken now)
 
 -- the reply of which nothing is said yet is the machine's
 pub record IsReply (c : Command) (before : Session) (m : Machine) (r : Reply) : Type 0 where
@@ -106,3 +112,10 @@ abbrev pub DoesFor : Command → Result Answered StoreFault → Session → Sess
     → Option (List ℕ) → Saying → Type 0
 DoesFor c answer before after taken now =
     (crash : Bool) (h : History) → KeepsWhere crash before h → Does crash c h answer before after taken now
+
+-- the same of what is done for the command
+abbrev pub DoesWhatIsDone : Command → Result Answered StoreFault → Session → Session
+    → Option (List ℕ) → Saying → Type 0
+DoesWhatIsDone c answer before after taken now =
+    (crash : Bool) (h : History) → KeepsWhere crash before h
+    → DoneFor (Tells before h.machine) c h.machine (λ d. Does crash d h answer before after taken now)

@@ -6,7 +6,7 @@ use Rattle.cache_store.specs.declared.answered.Answered.TheVariants as answered
 use Rattle.cache_store.specs.declared.fault.Outcome.{Outcome}
 use Rattle.cache_store.specs.declared.fault.Outcome.TheVariants as outcome
 use Rattle.cache_theory.specs.Command.{Command}
-use Rattle.cache_theory.specs.Command.Command.{Create, UnsetElement, ElementOf, ReadPart, Get, HasEntry, ListRecords, StepUpdate, UpdateState, Rebuild}
+use Rattle.cache_theory.specs.Command.Command.{Create, UnsetElement, ElementOf, ReadPart, Get, HasEntry, ListRecords, Evict, EvictNames, StepUpdate, UpdateState, Rebuild}
 use Rattle.cache_theory.specs.Text.{line, refusal_words}
 use Rattle.cache_theory.specs.declared.refusal.Refusal.{Refusal}
 use Rattle.entry_key.specs.Writing.{may_write}
@@ -19,6 +19,8 @@ is_plain (ReadPart s from len) = false
 is_plain (Get key) = false
 is_plain (HasEntry key) = false
 is_plain ListRecords = false
+is_plain (Evict kb) = false
+is_plain (EvictNames names) = false
 is_plain (StepUpdate n) = false
 is_plain UpdateState = false
 is_plain Rebuild = false

@@ -113,7 +113,7 @@ fn say_rest<K: Sink>(
 impl Store {
     ghost use Rattle.cache_store.specs.Answering.{AnswersOver, CutsRest, SendsRest};
     ghost use Rattle.cache_store.specs.Open.{IsOpen, LeavesOpen};
-    ghost use Rattle.cache_store.specs.Performing.{DoesFor, HadEffect, PerformsFor, PerformsSafely};
+    ghost use Rattle.cache_store.specs.Performing.{DoesWhatIsDone, HadEffect, PerformsFor};
     ghost use Rattle.cache_store.specs.Session.{open_of, session};
     ghost use Rattle.file_handles.specs.Kept.{kept};
 
@@ -159,7 +159,7 @@ impl Store {
         requires empty { self.old.reply.held ≡ [] }
         requires told { IsTrue D.tells → IsOpen (session D.Disk self.old disk.old) }
         ensures does { let at = session D.Disk in IsTrue D.tells →
-            DoesFor (command_of c.now) result (at self.old disk.old) (at self.new disk.new)
+            DoesWhatIsDone (command_of c.now) result (at self.old disk.old) (at self.new disk.new)
             (K.taken sink.old) (saying K.Sink self.new.reply sink.new) }
         ensures plain { IfOk result (λ a. is_plain (command_of c.now) ≡ true → IsPlain a) }
         ensures bad_key { HasBadKey (command_of c.now) → result ≢ Ok Answered.Done }
@@ -207,6 +207,11 @@ impl Store {
                 self.index.learn_of_some(answer)
             }
             Command::Element { slot, name } => self.say_element(alloc, slot, name, sink),
+            Command::UseEntry { slot } => {
+                let now = self.moment;
+                let answer = self.handles.use_entry(alloc, disk, slot, now);
+                self.index.learn_of(answer)
+            }
             Command::ReadPart { slot, from, len } => {
                 self.say_read(alloc, disk, slot, from, len, sink)
             }
@@ -221,6 +226,7 @@ impl Store {
             Command::Get { key } => self.say_get(alloc, disk, key, sink),
             Command::Has { key } => Ok(self.index.has(key)),
             Command::List => self.say_list(alloc, disk, sink),
+            Command::Evict { kb } => self.evict(alloc, disk, kb, sink),
             Command::Flush => self.flush(alloc, disk),
             Command::Step { n } => self.step(disk, n),
             Command::State => Ok(self.index.state()),
@@ -253,7 +259,8 @@ impl Store {
     /// Performs a command and writes its reply, which is out when the call returns.
     ///
     /// The replies to `has` and `list` are the machine's where the records are right: where the directory was honest at
-    /// the opening, or a `rebuild` has answered.
+    /// the opening, or a `rebuild` has answered. There an `evict` takes off what the machine's does; elsewhere it takes
+    /// off what has to go by the records that there are, and the reply names it all the same.
     pub fn command<D: Disk, K: Sink>(
         &mut self,
         alloc: Global,
@@ -263,7 +270,7 @@ impl Store {
     ) -> Result<Outcome, StoreFault>
         requires given { IsGiven (command_of c.now) }
         requires told { IsTrue D.tells → IsOpen (session D.Disk self.old disk.old) }
-        // What it comes to, by the machine.
+        // What it comes to, by the machine, and what a crash leaves at every exit.
         ensures performs { let at = session D.Disk in IsTrue D.tells →
             PerformsFor (command_of c.now) result (at self.old disk.old) (at self.new disk.new)
             (K.taken sink.old) (K.taken sink.new) }
@@ -272,10 +279,6 @@ impl Store {
         ensures bad_key { HasBadKey (command_of c.now) → result ≢ Ok Outcome.Ok }
         ensures grows { IsTrue D.tells → TakesMore (K.taken sink.old) (K.taken sink.new) }
         ensures open { IsTrue D.tells → LeavesOpen result (session D.Disk self.new disk.new) }
-
-        // What a crash leaves, at every exit.
-        ensures crash { let before = session D.Disk self.old disk.old in IsTrue D.tells →
-            PerformsSafely (command_of c.now) result before (D.state disk.new) }
         ensures honest { IsTrue D.tells → LeavesHonest (D.state disk.new) }
 
         // The files of the index: they are left alone and the base in memory stays, but by a `rebuild`, and by a `flush`

@@ -26,9 +26,9 @@ use crate::memory_index::{MemoryIndex, scan};
 use crate::pending::Pending;
 use crate::replies::counted;
 use crate::store::Store;
-use cache_base::Moment;
+use cache_base::{Bytes, Moment, NoMemory};
 use cache_io::Sink;
-use cache_script::record_text;
+use cache_script::extend_record;
 use disk_model::{Disk, DiskFault};
 use index_record::IndexRecord;
 use startup_read::{refresh_index, write_index};
@@ -64,6 +64,23 @@ fn refresh<D: Disk>(
     }
 }
 
+// So many lines go out at once. None is longer than 93 bytes and a newline.
+const LINES: usize = 64;
+
+const LINES_LEN: usize = 94 * LINES;
+
+// The lines of some records.
+fn lines_of(alloc: Global, records: &[IndexRecord]) -> Result<Bytes, NoMemory>
+    ensures { IfOk result (λ text. text ≡ flat_map (λ r. line (record_words r)) records.now) }
+{
+    let mut lines = Bytes::with_room(alloc, LINES_LEN)?;
+    for r in records {
+        extend_record(&mut lines, r)?;
+        lines.push(b'\n')?;
+    }
+    Ok(lines)
+}
+
 // Says a line of each record.
 fn say_lines<K: Sink>(
     alloc: Global,
@@ -79,10 +96,12 @@ fn say_lines<K: Sink>(
     ensures sink { let failed = IsErrOf result StoreFault.Sink in
         HasCause failed (K.faults sink.old) (K.faults sink.new) }
 {
-    for record in records {
-        let text = record_text(alloc, record)?;
-        reply.put(sink, text.as_bytes())?;
-        reply.put(sink, b"\n")?;
+    let mut left = records;
+    while !left.is_empty() {
+        let (part, rest) = left.split_at(left.len().min(LINES));
+        let lines = lines_of(alloc, part)?;
+        reply.put(sink, lines.as_slice())?;
+        left = rest;
     }
     Ok(())
 }

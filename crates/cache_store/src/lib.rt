@@ -4,6 +4,7 @@
 
 mod answered;
 mod command;
+mod evict;
 mod fault;
 mod get;
 mod index_commands;

@@ -2,6 +2,7 @@
 
 ghost use Rattle.std.specs.Prelude.{◌≡◌, ◌≢◌, [], IfOk, IsTrue, OnOk, Some, drop, false, length, take};
 ghost use Rattle.cache_store.specs.Answering.{HasOutcome};
+ghost use Rattle.cache_store.specs.Evicting.{Forgets};
 ghost use Rattle.cache_store.specs.Records.{AnswersHas, Learns, TakenOff, TellsOf};
 ghost use Rattle.cache_store.specs.Replied.{reply_of};
 ghost use Rattle.cache_theory.specs.Command.Command.{HasEntry};
@@ -76,6 +77,16 @@ impl MemoryIndex {
         }
     }
 
+    /// Takes the records of these names out.
+    pub(crate) fn forget(&mut self, names: &[Name])
+        ensures rest { self.new.update ≡ self.old.update }
+        ensures forgets { Forgets names.now self.old.map self.new.map }
+    {
+        for name in names {
+            self.map.remove(name);
+        }
+    }
+
     /// Reads the files of the first n names that are left.
     pub(crate) fn step<D: Disk>(&mut self, disk: &mut D, n: u32) -> Result<(), DiskFault>
         ensures rest { OnOk result (self.new.update ≡ drop n self.old.update) }
@@ -97,6 +108,9 @@ impl MemoryIndex {
         ensures looks { let names = length self.old.update in
             LooksAtNames D.Disk (ending result) names disk.old disk.new }
     {
+        if self.update.ended() {
+            return Ok(());
+        }
         self.update.finish(disk, &mut self.map)
     }
 

@@ -27,8 +27,13 @@ pub mod HeldDoomed
 pub mod Rested
 pub mod Proper
 pub mod Waiting
+pub mod Touching
 pub mod Refiling
+pub mod Evicting
+pub mod EvictLimit
+pub mod EvictNames
 pub mod Acked
+pub mod RepliesLong
 pub mod WordedFronts
 pub mod WordedFlush
 pub mod WordedSteps

@@ -2,12 +2,13 @@
 use Rattle.std.proofs.Common.{ℕ, List, [], ◌∷◌, Bool, true, false, cond, not, ◌&&◌, ◌||◌, ◌++◌}
 use Rattle.std.specs.Prelude.{Option, None, Some, is_none}
 use Rattle.cache_base.specs.Checks.{first_failing}
+use Rattle.cache_base.specs.declared.name.Name.{Name}
 use Rattle.cache_theory.specs.Checks.{checks, with_value}
 use Rattle.cache_theory.specs.Command.{Command}
-use Rattle.cache_theory.specs.Command.Command.{Create, OpenKey, Append, Finish, SetElement, UnsetElement, Close, Doom}
+use Rattle.cache_theory.specs.Command.Command.{Create, OpenKey, Append, Finish, SetElement, UnsetElement, UseEntry, Close, Doom, Evict, EvictNames}
 use Rattle.cache_theory.specs.Command.Reply.{Done, NoneThere}
 use Rattle.cache_theory.specs.Machine.{Machine, Object, has_slots, is_writer, number_of, object_of, on_shelf, used_by}
-use Rattle.cache_theory.specs.Step.{Answer, after, answer, changed, effect, finished_by, joined, released, step, stepped, stored, with_slot}
+use Rattle.cache_theory.specs.Step.{Answer, after, all_doomed, answer, changed, doomed_under, effect, evicted, finished_by, joined, released, step, stepped, stored, update_ended, used, with_slot}
 use Rattle.cache_theory.specs.Table.{Table, IsTable, remove}
 use Rattle.cache_theory.specs.declared.refusal.Refusal.{Refusal}
 use Rattle.cache_theory.proofs.TableLaws.{insert_is_table, remove_is_table}
@@ -57,6 +58,11 @@ joined_table m s None (Whole v) h = h
 joined_table m s None (Damaged d) h = h
 joined_table m s None Nothing h = h
 
+all_doomed_table : (m : Machine) (names : List Name) → IsTable m.shelf → IsTable (all_doomed m names).shelf
+all_doomed_table m [] h = h
+all_doomed_table m (name ∷ names) h =
+    all_doomed_table (doomed_under m name.0) names (remove_is_table m.shelf name.0 h)
+
 effect_table : (m : Machine) (c : Command) → IsTable m.shelf → IsTable (effect m c).next.shelf
 unfolding effect
 effect_table m (Create s key) h = remove_is_table m.shelf (file_name key) h
@@ -67,8 +73,11 @@ effect_table m (SetElement s name value) h = changed_table m s (with_value name 
 effect_table m (UnsetElement s name) h =
     let unset : Version → Version = λ v. record v { elements = without_element name v.elements } in
     unset_table m (is_none (element name (object_of m s).version.elements)) (answer (changed m s unset) Done) h (changed_table m s unset h)
+effect_table m (UseEntry s) h = changed_table m s (used m.moment) h
 effect_table m (Close s) h = released_table (finished_by m s) s (finished_table m s h)
 effect_table m (Doom key) h = remove_is_table m.shelf (file_name key) h
+effect_table m (Evict kb) h = all_doomed_table (update_ended m) (evicted m kb) h
+effect_table m (EvictNames names) h = all_doomed_table (update_ended m) names h
 effect_table m c h = h
 
 stepped_table : (m : Machine) (c : Command) (r : Option Refusal) → IsTable m.shelf → IsTable (stepped m c r).next.shelf

@@ -6,18 +6,18 @@ use Rattle.cache_base.specs.Checks.{first_failing}
 use Rattle.cache_base.proofs.CheckLaws.{AllHold, all_hold}
 use Rattle.cache_theory.specs.Checks.{checks, with_value}
 use Rattle.cache_theory.specs.Command.{Command}
-use Rattle.cache_theory.specs.Command.Command.{At, Create, OpenKey, Append, Finish, SetElement, UnsetElement, Close, Doom, ListRecords, StepUpdate, Rebuild}
+use Rattle.cache_theory.specs.Command.Command.{At, Create, OpenKey, Append, Finish, SetElement, UnsetElement, UseEntry, Close, Doom, ListRecords, Evict, EvictNames, StepUpdate, Rebuild}
 use Rattle.cache_theory.specs.Command.Reply.{Done, NoneThere}
 use Rattle.cache_theory.specs.Given.{IsGiven}
 use Rattle.cache_theory.specs.Machine.{Machine, is_slot, object_of}
 use Rattle.cache_theory.specs.Proper.{IsProper, StaysProper}
-use Rattle.cache_theory.specs.Step.{answer, changed, effect, stepped}
+use Rattle.cache_theory.specs.Step.{answer, changed, effect, evicted, stepped, update_ended, used}
 use Rattle.cache_theory.specs.declared.refusal.Refusal.{Refusal}
 use Rattle.cache_theory.proofs.Changes.{object_is, proper_changed, proper_closed, proper_created, proper_finished, proper_joined}
 use Rattle.cache_theory.proofs.Dooming.{proper_doomed_under}
-use Rattle.cache_theory.proofs.Rested.{proper_rested}
+use Rattle.cache_theory.proofs.Rested.{proper_all_doomed, proper_rested}
 use Rattle.cache_theory.proofs.Slotted.{proper_slotted, same_slots}
-use Rattle.cache_theory.proofs.Versions.{object_appended, object_with, object_without}
+use Rattle.cache_theory.proofs.Versions.{object_appended, object_used, object_with, object_without}
 use Rattle.entry_name.specs.EntryName.{file_name}
 use Rattle.entry_parts.specs.Elements.{element}
 use Rattle.entry_parts.specs.Setting.{without_element}
@@ -41,9 +41,17 @@ effect_proper m (UnsetElement s name) given proper hold =
     cond_both (is_none (element name (object_of m s).version.elements)) (answer m NoneThere) (answer (changed m s (λ v. record v { elements = without_element name v.elements })) Done) (λ a. IsProper a.next)
     (λ none. proper)
     (λ some. proper_changed m s (λ v. record v { elements = without_element name v.elements }) proper is refl (object_without (object_of m s) name (object_is m s proper is)))
+effect_proper m (UseEntry s) given proper hold =
+    let is : is_slot m s ≡ true = hold.0 in
+    proper_changed m s (used m.moment) proper is refl
+    (object_used m.moment (object_of m s) proper.moment (object_is m s proper is))
 effect_proper m (Close s) given proper hold = proper_closed m s proper hold.0
 effect_proper m (Doom key) given proper hold = proper_doomed_under m (file_name key) proper
 effect_proper m ListRecords given proper hold = proper_rested m [] proper
+effect_proper m (Evict kb) given proper hold =
+    proper_all_doomed (update_ended m) (evicted m kb) (proper_rested m [] proper)
+effect_proper m (EvictNames names) given proper hold =
+    proper_all_doomed (update_ended m) names (proper_rested m [] proper)
 effect_proper m (StepUpdate n) given proper hold = proper_rested m (drop n m.rest) proper
 effect_proper m Rebuild given proper hold = proper_rested m [] proper
 effect_proper m c given proper hold = proper

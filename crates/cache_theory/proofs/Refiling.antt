@@ -8,13 +8,13 @@ use Rattle.std.proofs.lemmas.Map.Text.{is_eq-slice_cmp}
 use Rattle.cache_base.proofs.CheckLaws.{AllHold, all_hold}
 use Rattle.cache_theory.specs.Checks.{checks, with_value}
 use Rattle.cache_theory.specs.Command.{Command}
-use Rattle.cache_theory.specs.Command.Command.{Create, OpenKey, Append, Finish, SetElement, UnsetElement, Close, Doom, ListRecords, StepUpdate, Rebuild}
+use Rattle.cache_theory.specs.Command.Command.{Create, OpenKey, Append, Finish, SetElement, UnsetElement, UseEntry, Close, Doom, ListRecords, Evict, EvictNames, StepUpdate, Rebuild}
 use Rattle.cache_theory.specs.Command.Reply.{Done, NoneThere}
 use Rattle.cache_theory.specs.Laws.{EntriesHaveRecords}
 use Rattle.cache_theory.specs.Machine.{Machine, Object, has_slots, is_writer, number_of, object, object_of, on_shelf, used_by}
 use Rattle.cache_theory.specs.Proper.{IsProper}
 use Rattle.cache_theory.specs.Refiled.{EntriesAreRefiled, IsOfEntries, IsRefiled, Refiled, refiled, refiled_by}
-use Rattle.cache_theory.specs.Step.{answer, changed, effect, finished_by, fits_there, joined, released, stepped, stored, with_slot, without}
+use Rattle.cache_theory.specs.Step.{answer, changed, effect, finished_by, fits_there, joined, released, stepped, stored, used, with_slot, without}
 use Rattle.cache_theory.specs.Table.{Table, get, insert, remove}
 use Rattle.cache_theory.proofs.Names.{get-remove_other, get-remove_same, same_bytes}
 use Rattle.cache_theory.proofs.Objects.{nth, nth-set_same}
@@ -196,10 +196,14 @@ effect_refiled m (SetElement s key value) of proper hold =
 effect_refiled m (UnsetElement s key) of proper hold =
     refiled_unset m s (λ v. record v { elements = without_element key v.elements })
     (element key (object_of m s).version.elements) (slot_in_use m proper s hold.0).number
+effect_refiled m (UseEntry s) of proper hold =
+    refiled_changed m s (used m.moment) (slot_in_use m proper s hold.0).number
 effect_refiled m (Close s) of proper hold =
     refiled_closed m s (slot_in_use m proper s hold.0).number
 effect_refiled m (Doom key) of proper hold = (λ q. removed_or m.shelf (file_name key) q, refl)
 effect_refiled m ListRecords of proper hold = absurd of
+effect_refiled m (Evict kb) of proper hold = absurd of
+effect_refiled m (EvictNames names) of proper hold = absurd of
 effect_refiled m (StepUpdate n) of proper hold = absurd of
 effect_refiled m Rebuild of proper hold = absurd of
 effect_refiled m c of proper hold = (λ q. refl, refl)

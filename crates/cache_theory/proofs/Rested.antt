@@ -1,7 +1,10 @@
--- A machine whose update of the index has read other names.
-use Rattle.std.proofs.Common.{ℕ, List, refl, arith}
+-- A machine whose update of the index has read other names, and one whose names were doomed one after another.
+use Rattle.std.proofs.Common.{ℕ, List, [], ◌∷◌, refl, arith}
+use Rattle.cache_base.specs.declared.name.Name.{Name}
 use Rattle.cache_theory.specs.Machine.{Machine}
 use Rattle.cache_theory.specs.Proper.{IsInUse, IsProper}
+use Rattle.cache_theory.specs.Step.{all_doomed, doomed_under}
+use Rattle.cache_theory.proofs.Dooming.{proper_doomed_under}
 use Rattle.cache_theory.proofs.Users.{in_use_along, user_along}
 
 abbrev pub with_rest : Machine → List (List ℕ) → Machine
@@ -30,3 +33,8 @@ module _ (m : Machine) (rest : List (List ℕ)) where
     unstored = proper.unstored;
     writer = λ i u un. proper.writer i (use_off i u) un;
   }
+
+pub proper_all_doomed : (m : Machine) (names : List Name) → IsProper m → IsProper (all_doomed m names)
+proper_all_doomed m [] proper = proper
+proper_all_doomed m (name ∷ names) proper =
+    proper_all_doomed (doomed_under m name.0) names (proper_doomed_under m name.0 proper)

@@ -10,7 +10,7 @@ use Rattle.cache_base.specs.declared.limits.TheConstants.{BLOCK_MAX, BODY_MAX, E
 use Rattle.cache_theory.specs.Checks.{good_element, small_parts, with_value}
 use Rattle.cache_theory.specs.Machine.{Object}
 use Rattle.cache_theory.specs.Proper.{IsDraft, IsObject}
-use Rattle.cache_theory.specs.Step.{fresh}
+use Rattle.cache_theory.specs.Step.{fresh, used}
 use Rattle.cache_theory.proofs.Elements.{bytes_with, bytes_without, elements_with, elements_without, without_no_longer}
 use Rattle.cache_theory.proofs.FileBytes.{bytes-append}
 use Rattle.chunk_store.specs.Chunks.{chunk, chunk_hashes}
@@ -20,7 +20,10 @@ use Rattle.entry_key.specs.Writing.{is_plain, may_write}
 use Rattle.entry_metadata.specs.Metadata.{block_length}
 use Rattle.entry_metadata.proofs.PrintedBlock.{is_meta, length-block}
 use Rattle.entry_parts.specs.Elements.{AreElements, Element, elements_bytes}
+use Rattle.entry_parts.specs.Header.{IsHeader, used_header}
 use Rattle.entry_parts.specs.Setting.{with_element, without_element}
+use Rattle.entry_parts.specs.declared.header.Header.{Header}
+use Rattle.frecency.specs.Frecency.{next}
 use Rattle.jenkins_hash.specs.Hash.{hash16_of}
 
 -- A key that may be written.
@@ -152,6 +155,65 @@ draft_without name v d =
     let small = d.small in
     draft_elements v (without_element name v.elements) (elements_without name v.elements d.elements) (bytes_without name v.elements d.element_bytes) (omega (arith, fewer, small)) d
 
+-- With the header of one more use.
+
+next_small : (f now : ℕ) → next f now < 2 ^ 32
+unfolding next
+next_small f now = omega arith
+
+used_is_header : (h : Header) (now frecency : ℕ) → now < 2 ^ 32 → frecency < 2 ^ 32 → IsHeader h
+    → IsHeader (used_header h now frecency)
+used_is_header h now frecency moment small is = record {
+  version = is.version;
+  fetch_count = omega arith;
+  last_fetched = moment;
+  last_modified = is.last_modified;
+  frecency = small;
+  expiration = is.expiration;
+  key_size = is.key_size;
+  flags = is.flags;
+}
+
+draft_used : (now : ℕ) (v : Version) → now < 2 ^ 32 → IsDraft v → IsDraft (used now v)
+draft_used now v moment d = record {
+  header =
+      used_is_header v.header now (next v.header.frecency now) moment
+      (next_small v.header.frecency now) d.header;
+  version = d.version;
+  key_size = d.key_size;
+  key = d.key;
+  key_bytes = d.key_bytes;
+  elements = d.elements;
+  element_bytes = d.element_bytes;
+  small = d.small;
+  body = d.body;
+  short = d.short;
+}
+
+version_used : (now : ℕ) (v : Version) → now < 2 ^ 32 → IsVersion v → IsVersion (used now v)
+version_used now v moment h =
+    let long = length-block (version_meta (used now v)) in
+    let was = length-block (version_meta v) in
+    let small = h.meta.small in
+    record {
+      meta = record {
+        header =
+            used_is_header v.header now (next v.header.frecency now) moment
+            (next_small v.header.frecency now) h.meta.header;
+        version = h.meta.version;
+        key_size = h.meta.key_size;
+        key = h.meta.key;
+        key_bytes = h.meta.key_bytes;
+        elements = h.meta.elements;
+        element_bytes = h.meta.element_bytes;
+        hashes = h.meta.hashes;
+        hash_words = h.meta.hash_words;
+        offset = h.meta.offset;
+        small = omega (arith, long, was, small);
+      };
+      body = h.body;
+    }
+
 -- Objects.
 
 pub object_finished : (o : Object) → o.finished ≡ false → IsObject o → IsObject (record o { finished = true })
@@ -177,3 +239,10 @@ object_with o name value n x good small h =
 
 pub object_without : (o : Object) (name : List ℕ) → IsObject o → IsObject (record o { version = record o.version { elements = without_element name o.version.elements } })
 object_without o name h = record { draft = λ f. draft_without name o.version (h.draft f); version = λ f. version_without name o.version (h.version f) }
+
+pub object_used : (now : ℕ) (o : Object) → now < 2 ^ 32 → IsObject o
+    → IsObject (record o { version = used now o.version })
+object_used now o moment h = record {
+  draft = λ f. draft_used now o.version moment (h.draft f);
+  version = λ f. version_used now o.version moment (h.version f);
+}

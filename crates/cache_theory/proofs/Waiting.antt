@@ -6,13 +6,14 @@ use Rattle.std.specs.Str.{bytes_eq}
 use Rattle.std.proofs.lemmas.Bool.{cond_both, or_cases, or_left, or_right}
 use Rattle.std.proofs.lemmas.Slice.Eq.{bytes_eq-Decides}
 use Rattle.cache_base.specs.Checks.{first_failing}
+use Rattle.cache_base.specs.declared.name.Name.{Name}
 use Rattle.cache_theory.specs.Checks.{checks, with_value}
 use Rattle.cache_theory.specs.Command.{Command}
-use Rattle.cache_theory.specs.Command.Command.{Create, OpenKey, Append, Finish, SetElement, UnsetElement, Close, Doom, ListRecords, StepUpdate, Rebuild}
+use Rattle.cache_theory.specs.Command.Command.{Create, OpenKey, Append, Finish, SetElement, UnsetElement, UseEntry, Close, Doom, ListRecords, Evict, EvictNames, StepUpdate, Rebuild}
 use Rattle.cache_theory.specs.Command.Reply.{Done, NoneThere}
 use Rattle.cache_theory.specs.Laws.{ChangesLeaveRest, IsUnread}
 use Rattle.cache_theory.specs.Machine.{Machine, Object, has_slots, is_writer, number_of, object_of, on_shelf, used_by, waits_for}
-use Rattle.cache_theory.specs.Step.{answer, changed, doomed_under, effect, finished_by, joined, released, stepped, stored, with_slot, without}
+use Rattle.cache_theory.specs.Step.{all_doomed, answer, changed, doomed_under, effect, evicted, finished_by, joined, released, stepped, stored, update_ended, used, with_slot, without}
 use Rattle.cache_theory.specs.Table.{get, insert, remove}
 use Rattle.cache_theory.specs.declared.refusal.Refusal.{Refusal}
 use Rattle.cache_theory.proofs.Names.{get-insert_other, get-remove_other, same_bytes}
@@ -103,6 +104,20 @@ keeps_doomed m gone name any =
     let left = left_without name gone m.rest any in
     record { waited = left.was; shelved = get-remove_other m.shelf gone name left.other }
 
+keeps_all_doomed : (m : Machine) (names : List Name) (name : List ℕ) → Keeps m (all_doomed m names) name
+keeps_all_doomed m [] name = keeps_same m m name refl refl
+keeps_all_doomed m (n ∷ names) name =
+    let gone : Machine = doomed_under m n.0 in
+    keeps_then m gone (all_doomed gone names) name (keeps_doomed m n.0 name)
+    (keeps_all_doomed gone names name)
+
+keeps_evicted : (m : Machine) (names : List Name) (name : List ℕ)
+    → Keeps m (all_doomed (update_ended m) names) name
+keeps_evicted m names name =
+    let ended : Machine = update_ended m in
+    keeps_then m ended (all_doomed ended names) name (λ waits. absurd (cc))
+    (keeps_all_doomed ended names name)
+
 keeps_changed : (m : Machine) (s : ℕ) (f : Version → Version) (name : List ℕ)
     → Keeps m (changed m s f) name
 keeps_changed m s f name =
@@ -151,11 +166,14 @@ effect_keeps m (Finish s) name = keeps_finished m s name
 effect_keeps m (SetElement s key value) name = keeps_changed m s (with_value key value) name
 effect_keeps m (UnsetElement s key) name =
     keeps_unset m s key name (is_none (element key (object_of m s).version.elements))
+effect_keeps m (UseEntry s) name = keeps_changed m s (used m.moment) name
 effect_keeps m (Close s) name =
     let done : Machine = finished_by m s in
     keeps_then m done (released done s) name (keeps_finished m s name) (keeps_released done s name)
 effect_keeps m (Doom key) name = keeps_doomed m (file_name key) name
 effect_keeps m ListRecords name = λ waits. absurd (cc)
+effect_keeps m (Evict kb) name = keeps_evicted m (evicted m kb) name
+effect_keeps m (EvictNames names) name = keeps_evicted m names name
 effect_keeps m (StepUpdate n) name = λ waits. record {
   waited = waits_drop name n m.rest waits;
   shelved = refl;

@@ -3,7 +3,7 @@ use Rattle.std.specs.Prelude.{Bool, List, None, Option, Some, [], is_some, lengt
 use Rattle.cache_base.specs.Limits.{chunks}
 use Rattle.cache_base.specs.declared.limits.TheConstants.{BLOCK_MAX, BODY_MAX, ELEMENTS_MAX}
 use Rattle.cache_theory.specs.Command.{Command}
-use Rattle.cache_theory.specs.Command.Command.{Create, OpenKey, Append, Finish, SetElement, UnsetElement, ElementOf, ReadPart, Close, Doom, Get, HasEntry}
+use Rattle.cache_theory.specs.Command.Command.{Create, OpenKey, Append, Finish, SetElement, UnsetElement, ElementOf, UseEntry, ReadPart, Close, Doom, Get, HasEntry}
 use Rattle.cache_theory.specs.Machine.{Machine, is_entry, is_slot, is_writer, object, object_of, on_shelf, used_by}
 use Rattle.cache_theory.specs.declared.refusal.Refusal.{Refusal}
 use Rattle.cache_theory.specs.declared.refusal.Refusal.TheVariants as refused
@@ -85,6 +85,7 @@ checks m (Finish s) = slot_used m s ∷ writer m s ∷ unfinished m s ∷ []
 checks m (SetElement s name value) = slot_used m s ∷ may_set m s ∷ good_element name value ∷ small_parts (with_value name value (object_of m s).version) ∷ []
 checks m (UnsetElement s name) = slot_used m s ∷ may_set m s ∷ []
 checks m (ElementOf s name) = slot_used m s ∷ []
+checks m (UseEntry s) = slot_used m s ∷ []
 checks m (ReadPart s from len) = slot_used m s ∷ []
 checks m (Close s) = slot_used m s ∷ []
 checks m (Doom key) = good_key key ∷ there m key ∷ []

@@ -1,5 +1,6 @@
 -- The commands of the machine, and what it answers.
 use Rattle.std.specs.Prelude.{ℕ, List}
+use Rattle.cache_base.specs.declared.name.Name.{Name}
 use Rattle.cache_theory.specs.declared.refusal.Refusal.{Refusal}
 use Rattle.entry_file.specs.Version.{Version}
 use Rattle.index_record.specs.declared.record.IndexRecord.{IndexRecord}
@@ -13,12 +14,16 @@ pub data Command : Type 0 where
   SetElement : (slot : ℕ) (name value : List ℕ) → Command
   UnsetElement : (slot : ℕ) (name : List ℕ) → Command
   ElementOf : (slot : ℕ) (name : List ℕ) → Command
+  UseEntry : (slot : ℕ) → Command
   ReadPart : (slot from len : ℕ) → Command
   Close : (slot : ℕ) → Command
   Doom : (key : List ℕ) → Command
   Get : (key : List ℕ) → Command
   HasEntry : (key : List ℕ) → Command
   ListRecords : Command
+  Evict : (kb : ℕ) → Command
+  -- an eviction of these names, whatever the records say; no script spells it
+  EvictNames : (names : List Name) → Command
   Flush : Command
   StepUpdate : (n : ℕ) → Command
   UpdateState : Command
@@ -41,6 +46,8 @@ pub data Reply : Type 0 where
   Unknown : Reply
   -- the records of all entries
   Records : (records : List IndexRecord) → Reply
+  -- the names of the entries that were evicted
+  Evicted : (names : List Name) → Reply
   -- the update of the index has ended, or it has still to read so many names
   Ready : Reply
   Updating : (names : ℕ) → Reply

@@ -1,11 +1,18 @@
 -- What follows from the definitions of the machine.
-use Rattle.std.specs.Prelude.{List, is_some, true, ℕ, ◌≡◌}
+use Rattle.std.specs.List.{AllByRecursion, list_any}
+use Rattle.std.specs.Prelude.{Bool, List, None, [], false, if◌then◌else◌, is_some, map, true, ℕ, ◌≡◌, ◌≤◌, ◌⊎◌}
+use Rattle.std.specs.Str.{bytes_eq}
 use Rattle.cache_base.specs.declared.name.Name.{Name}
 use Rattle.cache_theory.specs.Command.{Command}
-use Rattle.cache_theory.specs.Machine.{Machine, waits_for}
-use Rattle.cache_theory.specs.Step.{after, fits_there, step}
+use Rattle.cache_theory.specs.Command.Command.{Evict, EvictNames}
+use Rattle.cache_theory.specs.Crash.{IsSafe}
+use Rattle.cache_theory.specs.Machine.{Machine, open_names, waits_for}
+use Rattle.cache_theory.specs.Marks.{Marks, begun, touches}
+use Rattle.cache_theory.specs.Step.{after, all_doomed, evicted, fits_there, step, update_ended}
 use Rattle.cache_theory.specs.Table.{IsTable, get}
-use Rattle.index_theory.specs.Scan.{scanned}
+use Rattle.disk_model.specs.State.{State}
+use Rattle.evictor.specs.Evict.{may_evict, total_kb}
+use Rattle.index_theory.specs.Scan.{scan, scanned}
 
 -- the shelf stays a table, whatever commands come
 abbrev pub ShelfStaysTable : Type 0
@@ -21,7 +28,59 @@ abbrev pub ChangesLeaveRest : Type 0
 ChangesLeaveRest = (m : Machine) (c : Command) (name : List ℕ)
     → waits_for (step m c).next name ≡ true → IsUnread m (step m c).next name
 
+-- what stands under a name changes only where the command touches the name
+abbrev pub ChangesAreTouched : Type 0
+ChangesAreTouched = (m : Machine) (c : Command) (name : List ℕ) → list_any (bytes_eq name) (touches m c) ≡ false
+    → get (step m c).next.shelf name ≡ get m.shelf name
+
 -- a name has an entry that fits exactly where the scan has a record of it
 abbrev pub EntriesHaveRecords : Type 0
 EntriesHaveRecords = (m : Machine) (name : Name)
     → is_some (scanned (get m.shelf) name) ≡ fits_there name.0 (get m.shelf name.0)
+
+-- the name is one of these
+abbrev pub is_among : List ℕ → List Name → Bool
+is_among name names = list_any (bytes_eq name) (map (λ n. n.0) names)
+
+-- what stands under these names is off the shelf, and the update has ended; the rest of the machine is unchanged
+pub record AreTakenOff (m next : Machine) (names : List Name) : Type 0 where
+  pub shelf : (name : List ℕ) → get next.shelf name ≡ (if is_among name names then None else get m.shelf name)
+  pub rest : next.rest ≡ []
+  pub objects : next.objects ≡ m.objects
+  pub users : (name : List ℕ) → get next.in_use name ≡ get m.in_use name
+  pub slots : next.slots ≡ m.slots
+  pub moment : next.moment ≡ m.moment
+
+-- the update ends, and what stands under names that are not in use is doomed: so they are taken off
+abbrev pub UnusedAreTakenOff : Type 0
+UnusedAreTakenOff = (m : Machine) (names : List Name)
+    → ((name : List ℕ) → is_among name names ≡ true → get m.in_use name ≡ None)
+    → AreTakenOff m (all_doomed (update_ended m) names) names
+
+-- eviction takes off what it evicts
+abbrev pub EvictTakesOff : Type 0
+EvictTakesOff = (m : Machine) (kb : ℕ) → AreTakenOff m (step m (Evict kb)).next (evicted m kb)
+
+-- something stands under the name, and no undoomed object of it is in use
+pub record MayGo (m : Machine) (name : List ℕ) : Type 0 where
+  pub stands : is_some (get m.shelf name) ≡ true
+  pub unused : get m.in_use name ≡ None
+
+-- only such names are evicted
+abbrev pub EvictedMayGo : Type 0
+EvictedMayGo = (m : Machine) (kb : ℕ) (name : List ℕ) → is_among name (evicted m kb) ≡ true → MayGo m name
+
+-- after an eviction all entries take at most so many KB, or each that is left is in use or pinned
+abbrev pub EvictMeetsLimit : Type 0
+EvictMeetsLimit = (m : Machine) (kb : ℕ) → let left = scan (step m (Evict kb)).next.shelf in
+    (total_kb left ≤ kb) ⊎ AllByRecursion (λ r. may_evict (open_names m) r ≡ false) left
+
+-- the machine's own eviction is that of its victims
+abbrev pub EvictIsOfNames : Type 0
+EvictIsOfNames = (m : Machine) (kb : ℕ) → (step m (Evict kb) ≡ step m (EvictNames (evicted m kb)))
+    × (touches m (Evict kb) ≡ touches m (EvictNames (evicted m kb)))
+
+-- a disk that is safe by the marks of a begun eviction of no names is so by those of the machine's own, which are more
+abbrev pub BegunTouchesMore : Type 0
+BegunTouchesMore = (s : State) (m : Machine) (kb : ℕ) (w : Marks) → IsSafe s (begun m (EvictNames []) w)
+    → IsSafe s (begun m (Evict kb) w)

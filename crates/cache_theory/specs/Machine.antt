@@ -1,8 +1,9 @@
 -- The machine: entries as whole versions, the objects that are in use, and the slots that use them.
 use Rattle.std.specs.List.{list_any, range_with_len}
-use Rattle.std.specs.Prelude.{Bool, List, None, Option, Some, [], false, is_some, length, option_and_then, option_map, slice_get, true, unwrap_or, if◌then◌else◌, ℕ, ◌&&◌, ◌==◌}
+use Rattle.std.specs.Prelude.{Bool, List, None, Option, Some, [], false, is_some, length, map, option_and_then, option_map, slice_get, true, unwrap_or, if◌then◌else◌, ℕ, ◌&&◌, ◌==◌}
 use Rattle.std.specs.Str.{bytes_eq}
-use Rattle.cache_theory.specs.Table.{Table, get}
+use Rattle.cache_base.specs.declared.name.Name.{Name}
+use Rattle.cache_theory.specs.Table.{Table, get, keys, name_of}
 use Rattle.entry_file.specs.EntryFile.{Reading, read_for}
 use Rattle.entry_file.specs.EntryFile.Reading.{Whole, Damaged, Nothing}
 use Rattle.entry_file.specs.Version.{Version}
@@ -86,3 +87,7 @@ is_entry Nothing = false
 -- whether the update of the index has still to read a name
 abbrev pub waits_for : Machine → List ℕ → Bool
 waits_for m name = list_any (bytes_eq name) m.rest
+
+-- the names with an undoomed object in use, rising
+abbrev pub open_names : Machine → List Name
+open_names m = map name_of (keys m.in_use)

@@ -1,14 +1,14 @@
 -- What a stop may lose: the state of the last acknowledged flush, the names that were touched since, and what was
 -- written since.
 use Rattle.std.specs.List.{list_any}
-use Rattle.std.specs.Prelude.{Any, Bool, List, None, Option, Some, [], false, if◌then◌else◌, is_some, not, option_map, slice_get, unwrap_or, ℕ, ◌&&◌, ◌++◌, ◌∷◌, ◌≡◌, ◌⊎◌}
+use Rattle.std.specs.Prelude.{Any, Bool, List, None, Option, Some, [], false, if◌then◌else◌, is_some, map, not, option_map, slice_get, unwrap_or, ℕ, ◌&&◌, ◌++◌, ◌∷◌, ◌≡◌, ◌⊎◌}
 use Rattle.std.specs.Str.{bytes_eq}
 use Rattle.cache_base.specs.Checks.{first_failing}
 use Rattle.cache_theory.specs.Checks.{checks}
 use Rattle.cache_theory.specs.Command.{Command}
-use Rattle.cache_theory.specs.Command.Command.{Create, Append, Finish, SetElement, UnsetElement, Close, Doom, Flush}
+use Rattle.cache_theory.specs.Command.Command.{Create, Append, Finish, SetElement, UnsetElement, UseEntry, Close, Doom, Evict, EvictNames, Flush}
 use Rattle.cache_theory.specs.Machine.{Machine, Object, is_writer, number_of, object, object_of}
-use Rattle.cache_theory.specs.Step.{effect, step}
+use Rattle.cache_theory.specs.Step.{effect, evicted, step}
 use Rattle.cache_theory.specs.Table.{get}
 use Rattle.cache_theory.specs.declared.refusal.Refusal.{Refusal}
 use Rattle.entry_file.specs.EntryFile.{found}
@@ -42,6 +42,7 @@ abbrev pub rewritten : Machine → Command → Option ℕ
 rewritten m (Finish s) = Some (number_of m s)
 rewritten m (SetElement s name value) = if (object_of m s).finished then Some (number_of m s) else None
 rewritten m (UnsetElement s name) = if (object_of m s).finished && is_some (element name (object_of m s).version.elements) then Some (number_of m s) else None
+rewritten m (UseEntry s) = if (object_of m s).finished then Some (number_of m s) else None
 rewritten m (Close s) = if is_writer m s && not (object_of m s).finished then Some (number_of m s) else None
 rewritten m _ = None
 
@@ -53,14 +54,17 @@ abbrev pub name_of_some : Machine → Option ℕ → List (List ℕ)
 name_of_some m None = []
 name_of_some m (Some i) = undoomed_name (object m i)
 
--- the names that a command touches: it creates, appends to, finishes, rewrites or dooms there
+-- the names that a command touches: it creates, appends to, finishes, rewrites, dooms or evicts there
 abbrev pub touches : Machine → Command → List (List ℕ)
 touches m (Create s key) = file_name key ∷ []
 touches m (Doom key) = file_name key ∷ []
+touches m (Evict kb) = map (λ name. name.0) (evicted m kb)
+touches m (EvictNames names) = map (λ name. name.0) names
 touches m (Append s bytes) = undoomed_name (object_of m s)
 touches m (Finish s) = name_of_some m (rewritten m (Finish s))
 touches m (SetElement s name value) = name_of_some m (rewritten m (SetElement s name value))
 touches m (UnsetElement s name) = name_of_some m (rewritten m (UnsetElement s name))
+touches m (UseEntry s) = name_of_some m (rewritten m (UseEntry s))
 touches m (Close s) = name_of_some m (rewritten m (Close s))
 touches m _ = []
 

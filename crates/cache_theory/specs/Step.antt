@@ -2,11 +2,12 @@
 use Rattle.std.specs.Prelude.{Bool, List, None, Option, Some, [], drop, false, filter, if◌then◌else◌, is_none, length, not, slice_get, slice_set, take, true, unwrap_or, ℕ, ◌&&◌, ◌==◌, ◌++◌, ◌||◌, ◌∷◌}
 use Rattle.std.specs.Str.{bytes_eq}
 use Rattle.cache_base.specs.Checks.{first_failing}
+use Rattle.cache_base.specs.declared.name.Name.{Name}
 use Rattle.cache_theory.specs.Checks.{checks, with_value}
 use Rattle.cache_theory.specs.Command.{Command, Reply}
-use Rattle.cache_theory.specs.Command.Command.{At, Create, OpenKey, Append, Finish, SetElement, UnsetElement, ElementOf, ReadPart, Close, Doom, Get, HasEntry, ListRecords, Flush, StepUpdate, UpdateState, Rebuild}
-use Rattle.cache_theory.specs.Command.Reply.{Done, Refused, NoneThere, Value, Part, Found, Yes, No, Unknown, Records, Ready, Updating, Rebuilt}
-use Rattle.cache_theory.specs.Machine.{Machine, Object, Slot, has_slots, is_writer, nobody, number_of, object_of, on_shelf, used_by, waits_for}
+use Rattle.cache_theory.specs.Command.Command.{At, Create, OpenKey, Append, Finish, SetElement, UnsetElement, ElementOf, UseEntry, ReadPart, Close, Doom, Get, HasEntry, ListRecords, Evict, EvictNames, Flush, StepUpdate, UpdateState, Rebuild}
+use Rattle.cache_theory.specs.Command.Reply.{Done, Refused, NoneThere, Value, Part, Found, Yes, No, Unknown, Records, Evicted, Ready, Updating, Rebuilt}
+use Rattle.cache_theory.specs.Machine.{Machine, Object, Slot, has_slots, is_writer, nobody, number_of, object_of, on_shelf, open_names, used_by, waits_for}
 use Rattle.cache_theory.specs.Table.{get, insert, remove}
 use Rattle.cache_theory.specs.declared.refusal.Refusal.{Refusal}
 use Rattle.cache_theory.specs.declared.refusal.Refusal.TheVariants as refused
@@ -16,7 +17,9 @@ use Rattle.entry_file.specs.Version.{Version, file_of}
 use Rattle.entry_name.specs.EntryName.{file_name}
 use Rattle.entry_parts.specs.Elements.{element}
 use Rattle.entry_parts.specs.Setting.{without_element}
-use Rattle.entry_parts.specs.Header.{fresh_header}
+use Rattle.entry_parts.specs.Header.{fresh_header, used_header}
+use Rattle.evictor.specs.Evict.{victims}
+use Rattle.frecency.specs.Frecency.{next as next_frecency}
 use Rattle.index_theory.specs.Scan.{scan}
 
 -- the names without one
@@ -87,6 +90,10 @@ released m s =
 abbrev pub changed : Machine → ℕ → (Version → Version) → Machine
 changed m s f = let o = object_of m s in stored m (number_of m s) (record o { version = f o.version })
 
+-- the version after one more use at a moment
+abbrev pub used : ℕ → Version → Version
+used now v = record v { header = used_header v.header now (next_frecency v.header.frecency now) }
+
 -- a writer's unfinished object is finished
 abbrev pub finished_by : Machine → ℕ → Machine
 finished_by m s = let o = object_of m s in if is_writer m s && not o.finished then stored m (number_of m s) (record o { finished = true }) else m
@@ -98,6 +105,15 @@ update_stepped m n = record m { rest = drop n m.rest }
 -- it has read all of them, and so has ended
 abbrev pub update_ended : Machine → Machine
 update_ended m = record m { rest = [] }
+
+-- what stands under each of these names is doomed
+abbrev pub all_doomed : Machine → List Name → Machine
+all_doomed m [] = m
+all_doomed m (name ∷ names) = all_doomed (doomed_under m name.0) names
+
+-- the names that have to go, so that the entries take at most so many KB
+unfoldable pub evicted : Machine → ℕ → List Name
+evicted m kb = victims (scan m.shelf) (open_names m) kb
 
 -- the machine after a command, and the reply
 pub record Answer : Type 0 where
@@ -145,12 +161,15 @@ effect m (UnsetElement s name) =
     if is_none (element name (object_of m s).version.elements) then answer m NoneThere
     else answer (changed m s (λ v. record v { elements = without_element name v.elements })) Done
 effect m (ElementOf s name) = answer m (element_reply (element name (object_of m s).version.elements))
+effect m (UseEntry s) = answer (changed m s (used m.moment)) Done
 effect m (ReadPart s from len) = answer m (Part (take len (drop from (object_of m s).version.body)))
 effect m (Close s) = answer (released (finished_by m s) s) Done
 effect m (Doom key) = answer (doomed_under m (file_name key)) Done
 effect m (Get key) = answer m (found_reply (on_shelf m key))
 effect m (HasEntry key) = answer m (has_reply m (file_name key))
 effect m ListRecords = answer (update_ended m) (Records (scan m.shelf))
+effect m (Evict kb) = answer (all_doomed (update_ended m) (evicted m kb)) (Evicted (evicted m kb))
+effect m (EvictNames names) = answer (all_doomed (update_ended m) names) (Evicted names)
 effect m Flush = answer m Done
 effect m (StepUpdate n) = answer (update_stepped m n) (state_reply (drop n m.rest))
 effect m UpdateState = answer m (state_reply m.rest)

@@ -4,15 +4,17 @@ use Rattle.std.specs.Prelude.{List, [], codes, decimal, flat_map, length, ℕ, �
 use Rattle.std.specs.Int.{to_be_bytes, w64}
 use Rattle.cache_base.specs.Bytes.{AreBytes, be16, be32}
 use Rattle.cache_base.specs.declared.limits.TheConstants.{ELEMENTS_MAX, LINE_MAX, PIECE_MAX, SCRIPT_MAX, SLOTS}
+use Rattle.cache_base.specs.declared.name.Name.{Name}
 use Rattle.cache_theory.specs.Command.{Command, Reply}
-use Rattle.cache_theory.specs.Command.Command.{At, Create, OpenKey, Append, Finish, SetElement, UnsetElement, ElementOf, ReadPart, Close, Doom, Get, HasEntry, ListRecords, Flush, StepUpdate, UpdateState, Rebuild}
-use Rattle.cache_theory.specs.Command.Reply.{Done, Refused, NoneThere, Value, Part, Found, Yes, No, Unknown, Records, Ready, Updating, Rebuilt}
+use Rattle.cache_theory.specs.Command.Command.{At, Create, OpenKey, Append, Finish, SetElement, UnsetElement, ElementOf, UseEntry, ReadPart, Close, Doom, Get, HasEntry, ListRecords, Evict, EvictNames, Flush, StepUpdate, UpdateState, Rebuild}
+use Rattle.cache_theory.specs.Command.Reply.{Done, Refused, NoneThere, Value, Part, Found, Yes, No, Unknown, Records, Evicted, Ready, Updating, Rebuilt}
 use Rattle.cache_theory.specs.Machine.{Machine}
 use Rattle.cache_theory.specs.Step.{replies}
 use Rattle.cache_theory.specs.declared.refusal.Refusal.{Refusal}
 use Rattle.cache_theory.specs.declared.refusal.Refusal.TheVariants as refused
 use Rattle.chunk_store.specs.declared.damage.Damage.{Damage}
-use Rattle.entry_file.specs.Version.{Version}
+use Rattle.entry_file.specs.Version.{Version, version_meta}
+use Rattle.entry_metadata.specs.Metadata.{Meta}
 use Rattle.entry_parts.specs.Elements.{elements_bytes}
 use Rattle.hex.specs.Hex.{encode_upper}
 use Rattle.index_record.specs.declared.record.IndexRecord.{IndexRecord}
@@ -45,13 +47,16 @@ refusal_words refused.BadElement = codes "bad element" ∷ []
 abbrev pub with_bytes : List ℕ → List ℕ → List ℕ
 with_bytes word bytes = line (word ∷ decimal (length bytes) ∷ []) ++ (bytes ++ 10 ∷ [])
 
+-- the line of an entry's numbers
+unfoldable pub found_line : Meta → List ℕ
+found_line m =
+    line (codes "found" ∷ decimal m.header.fetch_count ∷ decimal m.header.last_fetched ∷ decimal m.header.last_modified
+    ∷ decimal m.header.frecency ∷ decimal m.header.expiration ∷ decimal m.header.flags
+    ∷ decimal (length (elements_bytes m.elements)) ∷ decimal m.offset ∷ [])
+
 -- a whole entry: its numbers, its elements and its body
 abbrev pub version_text : Version → List ℕ
-version_text v =
-    line (codes "found" ∷ decimal v.header.fetch_count ∷ decimal v.header.last_fetched ∷ decimal v.header.last_modified
-    ∷ decimal v.header.frecency ∷ decimal v.header.expiration ∷ decimal v.header.flags
-    ∷ decimal (length (elements_bytes v.elements)) ∷ decimal (length v.body) ∷ [])
-    ++ (elements_bytes v.elements ++ 10 ∷ (v.body ++ 10 ∷ []))
+version_text v = found_line (version_meta v) ++ (elements_bytes v.elements ++ 10 ∷ (v.body ++ 10 ∷ []))
 
 -- the words of a record
 abbrev pub record_words : IndexRecord → List (List ℕ)
@@ -69,6 +74,11 @@ abbrev pub records_text : List IndexRecord → List ℕ
 records_text records =
     with_number (codes "records") (length records) ++ flat_map (λ r. line (record_words r)) records
 
+-- the number of some names, and a line of each
+abbrev pub names_text : List Name → List ℕ
+names_text names =
+    with_number (codes "evicted") (length names) ++ flat_map (λ name. line (encode_upper name.0 ∷ [])) names
+
 -- what a reply prints
 unfoldable pub reply_text : Reply → List ℕ
 reply_text Done = line (codes "ok" ∷ [])
@@ -81,15 +91,20 @@ reply_text Yes = line (codes "yes" ∷ [])
 reply_text No = line (codes "no" ∷ [])
 reply_text Unknown = line (codes "unknown" ∷ [])
 reply_text (Records records) = records_text records
+reply_text (Evicted names) = names_text names
 reply_text Ready = line (codes "ready" ∷ [])
 reply_text (Updating names) = with_number (codes "updating") names
 reply_text (Rebuilt records) = with_number (codes "rebuilt") records
+
+-- each reply has some bytes
+abbrev pub ReplyIsNotEmpty : Type 0
+ReplyIsNotEmpty = (r : Reply) → 0 < length (reply_text r)
 
 -- what the replies to some commands print
 abbrev pub replies_text : Machine → List Command → List ℕ
 replies_text m cs = flat_map reply_text (replies m cs)
 
--- the words of a command's line
+-- the words of a command's line; an eviction of given names has none
 abbrev pub command_words : Command → List (List ℕ)
 command_words (At now) = codes "at" ∷ decimal now ∷ []
 command_words (Create s key) = codes "create" ∷ decimal s ∷ key ∷ []
@@ -99,12 +114,15 @@ command_words (Finish s) = codes "finish" ∷ decimal s ∷ []
 command_words (SetElement s name value) = codes "set" ∷ decimal s ∷ decimal (length value) ∷ name ∷ []
 command_words (UnsetElement s name) = codes "unset" ∷ decimal s ∷ name ∷ []
 command_words (ElementOf s name) = codes "element" ∷ decimal s ∷ name ∷ []
+command_words (UseEntry s) = codes "use" ∷ decimal s ∷ []
 command_words (ReadPart s from len) = codes "read" ∷ decimal s ∷ decimal from ∷ decimal len ∷ []
 command_words (Close s) = codes "close" ∷ decimal s ∷ []
 command_words (Doom key) = codes "doom" ∷ key ∷ []
 command_words (Get key) = codes "get" ∷ key ∷ []
 command_words (HasEntry key) = codes "has" ∷ key ∷ []
 command_words ListRecords = codes "list" ∷ []
+command_words (Evict kb) = codes "evict" ∷ decimal kb ∷ []
+command_words (EvictNames names) = []
 command_words Flush = codes "flush" ∷ []
 command_words (StepUpdate n) = codes "step" ∷ decimal n ∷ []
 command_words UpdateState = codes "state" ∷ []
@@ -128,7 +146,7 @@ IsOneLine xs = AllByRecursion (λ x. x ≢ 10) xs
 abbrev pub IsNumber : ℕ → Type 0
 IsNumber n = n < 2 ^ 32
 
--- the fields of a command are within their limits
+-- the fields of a command are within their limits, and a script can spell it
 abbrev pub FieldsFit : Command → Type 0
 FieldsFit (At now) = IsNumber now
 FieldsFit (Create s key) = (s < SLOTS) × (AreBytes key × IsOneLine key)
@@ -138,11 +156,14 @@ FieldsFit (Finish s) = s < SLOTS
 FieldsFit (SetElement s name value) = (s < SLOTS) × ((AreBytes name × IsOneLine name) × (AreBytes value × (length value ≤ ELEMENTS_MAX)))
 FieldsFit (UnsetElement s name) = (s < SLOTS) × (AreBytes name × IsOneLine name)
 FieldsFit (ElementOf s name) = (s < SLOTS) × (AreBytes name × IsOneLine name)
+FieldsFit (UseEntry s) = s < SLOTS
 FieldsFit (ReadPart s from len) = (s < SLOTS) × (IsNumber from × IsNumber len)
 FieldsFit (Close s) = s < SLOTS
 FieldsFit (Doom key) = AreBytes key × IsOneLine key
 FieldsFit (Get key) = AreBytes key × IsOneLine key
 FieldsFit (HasEntry key) = AreBytes key × IsOneLine key
+FieldsFit (Evict kb) = IsNumber kb
+FieldsFit (EvictNames names) = ⊥
 FieldsFit (StepUpdate n) = IsNumber n
 -- the others have no fields
 FieldsFit _ = ⊤

@@ -1,10 +1,11 @@
 //! What follows from the definitions.
 
 ghost use Rattle.cache_theory.specs.Keeps.{BeginKeeps, CreateFilesOnce, CreateKeeps, QuietFilesOnce, QuietIsSafe, RemoveFilesOnce, RemoveKeeps, RenameFilesOnce, RenameKeeps, SafeIsCrashSafe, SyncFilesOnce, SyncKeeps, WholeIsFine, WriteFilesOnce, WriteKeeps};
-ghost use Rattle.cache_theory.specs.Laws.{ChangesLeaveRest, EntriesHaveRecords, ShelfStaysTable};
+ghost use Rattle.cache_theory.specs.Laws.{BegunTouchesMore, ChangesAreTouched, ChangesLeaveRest, EntriesHaveRecords, EvictIsOfNames, EvictMeetsLimit, EvictTakesOff, EvictedMayGo, ShelfStaysTable, UnusedAreTakenOff};
 ghost use Rattle.cache_theory.specs.Proper.{OpensProper, StaysProper};
 ghost use Rattle.cache_theory.specs.Refiled.{EntriesAreRefiled};
 ghost use Rattle.cache_theory.specs.Session.{AckedIsOne, CutIsAcked, WholeIsAcked};
+ghost use Rattle.cache_theory.specs.Text.{ReplyIsNotEmpty};
 ghost use Rattle.cache_theory.specs.Wording.{MarksAreWorded};
 
 /// The shelf stays a table, whatever commands come: names rise, and none stands twice.
@@ -16,6 +17,27 @@ pub fn shelf_stays_table()
 /// what stands there is unchanged.
 pub fn changes_leave_rest()
     ensures { ChangesLeaveRest }
+{}
+
+/// What stands under a name changes only where a command touches the name.
+pub fn changes_are_touched()
+    ensures { ChangesAreTouched }
+{}
+
+/// Eviction takes entries that stand and are not in use off the shelf until all take at most the
+/// limit or none is left that may go. It ends the update, and does nothing else.
+pub fn evict_takes_off()
+    ensures unused { UnusedAreTakenOff }
+    ensures off { EvictTakesOff }
+    ensures may { EvictedMayGo }
+    ensures limit { EvictMeetsLimit }
+{}
+
+/// The machine's own eviction is that of the names of its victims, and a crash may lose at least as much
+/// by it as by an eviction of no names.
+pub fn evict_is_of_names()
+    ensures same { EvictIsOfNames }
+    ensures more { BegunTouchesMore }
 {}
 
 /// A command on entries changes what stands under one name at most, and no other name leaves the
@@ -64,6 +86,11 @@ pub fn changes_file_once()
     ensures rename { RenameFilesOnce }
     ensures remove { RemoveFilesOnce }
     ensures sync { SyncFilesOnce }
+{}
+
+/// Each reply has some bytes.
+pub fn replies_are_not_empty()
+    ensures { ReplyIsNotEmpty }
 {}
 
 /// How many commands of a session are acknowledged is told by what went out.

@@ -1,5 +1,6 @@
 pub mod Accounted
 pub mod Begun
+pub mod DoneLaws
 pub mod EntryLooks
 pub mod Growing
 pub mod Handed

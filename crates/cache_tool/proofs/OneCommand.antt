@@ -7,6 +7,7 @@ use Rattle.std.proofs.lemmas.List.{take_all}
 use Rattle.cache_base.specs.declared.status.Status.{Status}
 use Rattle.cache_base.specs.declared.status.Status.TheVariants as status
 use Rattle.cache_store.specs.Answering.{outcome_of}
+use Rattle.cache_store.specs.DoneFor.{DoneFor}
 use Rattle.cache_store.specs.Faults.{ending}
 use Rattle.cache_store.specs.InUse.{HasShortJournal, OpensInUse}
 use Rattle.cache_store.specs.Open.{IsHonest, IsShut, LeavesOpen, Opens, OpensHonestly, StartsOn}
@@ -33,6 +34,7 @@ use Rattle.cache_tool.specs.Right.{ComesRight, LeadTo, MaySayOn}
 use Rattle.cache_tool.specs.Statuses.{IsAnswer, IsClosing, status_in, status_of}
 use Rattle.cache_tool.specs.Verbs.{PrintsLast}
 use Rattle.cache_tool.specs.World.{Output}
+use Rattle.cache_tool.proofs.DoneLaws.{some_done}
 use Rattle.cache_tool.proofs.RightLaws.{leads_one, may_tell_one, opened_right, opened_says}
 use Rattle.cache_tool.proofs.StayingLaws.{StaysOnce, StaysWhole, stays_whole}
 use Rattle.disk_model.specs.Sound.{IsQuiet}
@@ -167,10 +169,18 @@ no_sink_stops answer fault.Disk ended failed no_sink is = inl is
 no_sink_stops answer fault.Sink ended failed no_sink is = absurd (no_sink failed)
 
 pub unopened_prints : {T : Type 0} (m : Machine) (c : Command) (before : Output) (t : State) (answer : Result T StoreFault) (f : StoreFault) (ended : Status)
-    → answer ≡ Err f → answer ≢ Err fault.Sink → ended ≡ status_in (Err f) → (IsQuiet before.disk → IsSafe t (marks_of m)) → OpensHonestly before.disk t → PrintsLast m (c ∷ []) ended before (record before { disk = t })
+    → answer ≡ Err f → answer ≢ Err fault.Sink → ended ≡ status_in (Err f) → (IsQuiet before.disk → IsSafe t (marks_of m)) → OpensHonestly before.disk t
+    → DoneFor (Honest (standing before.disk)) c m (λ d. PrintsLast m (d ∷ []) ended before (record before { disk = t }))
 unopened_prints m c before t answer f ended failed no_sink is safe images =
-    stopped m c before (record before { disk = t }) (λ quiet. begin_keeps t m c (marks_of m) (safe quiet)) images ended (no_sink_stops answer f ended failed no_sink is)
-    (λ may. none_part before.taken (reply_text (step m c).reply))
+    let some = some_done (Honest (standing before.disk)) c m in
+    let d : Command = some.0 in (
+      d,
+      (
+        some.1,
+        stopped m d before (record before { disk = t }) (λ quiet. begin_keeps t m d (marks_of m) (safe quiet)) images ended (no_sink_stops answer f ended failed no_sink is)
+            (λ may. none_part before.taken (reply_text (step m d).reply)),
+      ),
+    )
 
 -- ---- it opened
 

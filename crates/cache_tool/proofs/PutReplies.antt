@@ -5,7 +5,7 @@ use Rattle.std.proofs.lemmas.Bool.{eqb-true}
 use Rattle.std.proofs.lemmas.List.{nil_from_length}
 use Rattle.cache_base.specs.declared.limits.TheConstants.{BODY_MAX}
 use Rattle.cache_store.specs.Open.{KeepsTo, Tells}
-use Rattle.cache_store.specs.Performing.{ComesToTell, HadEffect, Keeps, Performs}
+use Rattle.cache_store.specs.Performing.{ComesToTell, HadEffect, Keeps, Performs, goes_by_records}
 use Rattle.cache_store.specs.Session.{Session}
 use Rattle.cache_store.specs.declared.fault.Outcome.{Outcome}
 use Rattle.cache_store.specs.declared.fault.Outcome.TheVariants as outcome
@@ -15,8 +15,9 @@ use Rattle.cache_theory.specs.Command.Command.{Append}
 use Rattle.cache_theory.specs.History.{History, acked}
 use Rattle.cache_theory.specs.Step.{step}
 use Rattle.cache_theory.specs.Text.{reply_text}
-use Rattle.cache_tool.specs.PutProgress.{IsSent, IsWriting, PieceIsSent}
+use Rattle.cache_tool.specs.PutProgress.{IsSent, IsWriting, PieceIsSent, SendsCommand}
 use Rattle.cache_tool.specs.Right.{LeadTo}
+use Rattle.cache_tool.proofs.DoneLaws.{done_itself}
 use Rattle.cache_tool.proofs.PutMachine.{piece_none, piece_over, piece_sent}
 use Rattle.cache_tool.proofs.RightLaws.{leads_one}
 use Rattle.cache_tool.proofs.StayingLaws.{StaysOnce}
@@ -39,6 +40,13 @@ sends_of c h answer first now before said none p kept stays = record {
     held : (a : Result Outcome StoreFault) → OnOk a (said ≡ before ++ reply_text (step h.machine c).reply) → OnOk a (said ≡ reply_text (step h.machine c).reply)
     held (Ok r) is = is ∙ ap (λ l. l ++ reply_text (step h.machine c).reply) none
     held (Err f) is = tt
+
+-- a command whose reply does not go by the records is done itself
+pub sent_itself : (c : Command) (answer : Result Outcome StoreFault) (before now : Session) (said : List ℕ) → goes_by_records c ≡ false → SendsCommand c answer before now said
+    → (h : History) → KeepsTo before h → IsSent c h answer before now said
+sent_itself c answer before now said bare sends h keeps =
+    let does = sends.each h keeps in
+    subst (λ d. IsSent d h answer before now said) (done_itself (Tells before h.machine) c h.machine does.0 bare does.1.0) does.1.1
 
 -- an empty piece
 pub empty_went : (h : History) (body piece : List ℕ) (now : Session) (said : List ℕ) → piece ≡ [] → KeepsTo now h → IsWriting h.machine body

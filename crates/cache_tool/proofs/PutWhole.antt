@@ -24,6 +24,7 @@ use Rattle.cache_tool.specs.Statuses.{IsAnswer, IsClosing, status_in, status_of}
 use Rattle.cache_tool.specs.World.{Supply}
 use Rattle.cache_tool.proofs.Begun.{all_begin_keep}
 use Rattle.cache_tool.proofs.PutMachine.{close_is_plain, create_is_plain, create_writes, sent_one, sent_done}
+use Rattle.cache_tool.proofs.PutReplies.{sent_itself}
 use Rattle.cache_tool.proofs.PutCommands.{last_of, last_stopped, sent_more, sent_then, until_all}
 
 -- a fault is no answer, and but for that of a sink the store is not closed
@@ -213,12 +214,12 @@ module _ (h : History) (key : List ℕ) (from to : Supply) (start made_at : Sess
 
       pub close_failed : (f : StoreFault) → f ≢ fault.Sink → SendsCommand (Close 0) (Err f) now later said → PutIsPerformed key h from to (status_in (Err f)) start later said
       close_failed f other sends =
-          whole_failed h key from to start later said went.body f other went.body_of (closed_ran (Err f) (sends.each _ appended_stands.keeps))
+          whole_failed h key from to start later said went.body f other went.body_of (closed_ran (Err f) (sent_itself (Close 0) (Err f) now later said refl sends _ appended_stands.keeps))
 
       pub close_went : (r : Outcome) → SendsCommand (Close 0) (Ok r) now later said → PutIsPerformed key h from to (status_of r) start later said
-      close_went outcome.Refused sends = whole_refused h key from to start later said went.body went.body_of (closed_ran (Ok outcome.Refused) (sends.each _ appended_stands.keeps))
+      close_went outcome.Refused sends = whole_refused h key from to start later said went.body went.body_of (closed_ran (Ok outcome.Refused) (sent_itself (Close 0) (Ok outcome.Refused) now later said refl sends _ appended_stands.keeps))
       close_went outcome.Ok sends =
-          let sent = sends.each _ appended_stands.keeps in
+          let sent = sent_itself (Close 0) (Ok outcome.Ok) now later said refl sends _ appended_stands.keeps in
           whole_done h key from to start later said went.body went.body_of (closed_ran (Ok outcome.Ok) sent) (sym sent.outcome) (sent.replied refl)
 
 -- an outcome that is no refusal

@@ -24,6 +24,7 @@ use Rattle.cache_tool.specs.ScriptProgress.{LeavesScript, PerformsScript, histor
 use Rattle.cache_tool.specs.Statuses.{IsClosing, status_in}
 use Rattle.cache_tool.specs.Verbs.{RunsScript}
 use Rattle.cache_tool.specs.World.{Progress, World, world_of}
+use Rattle.cache_tool.proofs.DoneLaws.{all_done, are_done_where}
 use Rattle.cache_tool.proofs.Moments.{with_left}
 use Rattle.cache_tool.proofs.RightLaws.{opened_right, opened_says}
 use Rattle.cache_tool.proofs.ScriptMarks.{more_begun, none_begun}
@@ -31,7 +32,7 @@ use Rattle.cache_tool.proofs.ScriptReplies.{begins_more, front_acked}
 use Rattle.cache_tool.proofs.StatusLaws.{EndsAs, closes_or_not, closing_same}
 use Rattle.cache_tool.proofs.StayingLaws.{StaysWhole, stays_whole}
 use Rattle.disk_model.specs.State.{State, standing}
-use Rattle.index_theory.specs.Honest.{LeavesHonest}
+use Rattle.index_theory.specs.Honest.{Honest, LeavesHonest}
 
 -- ---- the store did not open
 
@@ -42,29 +43,37 @@ told w left = record w { source = record (w.source) { left = left } }
 runs_nothing : (moment : ℕ) (ended : Status) (left : Option (List ℕ)) (before : World) (t : State) → ended ≢ status.Done → ended ≢ status.Script → ended ≢ status.Source → ¬ (IsClosing ended)
     → OpensSafely moment before.disk t → OpensHonestly before.disk t → RunsScript moment ended (told before left) (record (told before left) { disk = t })
 runs_nothing moment ended None before t undone unnamed unfailed open_still safe images = tt
-runs_nothing moment ended (Some bytes) before t undone unnamed unfailed open_still safe images = λ m cs is found. record {
-  acked = 0;
-  all = λ e. absurd (⊎_elim undone unnamed e);
-  replies = λ may. record {
-    out = [];
-    printed = Appends-nil before.taken;
-    is_acked = front_acked m [] cs;
-    front = begins_more (replies_text m cs) (bad_line (length cs + 1)) [] (replies_text m cs, refl);
-    no_line = λ spells. (replies_text m cs, refl);
-    done = λ e. absurd (undone e);
-    script = λ e. absurd (unnamed e);
-    source = λ e. absurd (unfailed e);
-  };
-  source = λ e. absurd (unfailed e);
-  leaves = record {
-    shut = λ closing. absurd (open_still closing);
-    honest = λ closing right. absurd (open_still closing);
-    crash = λ quiet. safe_is_crash_safe t (marks_between m cs 0 (min (0 + 1) (length cs))) (more_begun t m (marks_of m) cs 0 (min (0 + 1) (length cs)) (safe m is quiet));
-    images = images;
-    journal = λ closing over. absurd (open_still closing);
-    in_use = λ closing. absurd (open_still closing);
-  };
-}
+runs_nothing moment ended (Some bytes) before t undone unnamed unfailed open_still safe images = λ m cs is found.
+    let all = all_done (Honest (standing before.disk)) m cs in
+    let ds : List Command = all.0 in (
+      ds,
+      (
+        all.1,
+        record {
+          acked = 0;
+          all = λ e. absurd (⊎_elim undone unnamed e);
+          replies = λ may. record {
+            out = [];
+            printed = Appends-nil before.taken;
+            is_acked = front_acked m [] ds;
+            front = begins_more (replies_text m ds) (bad_line (length cs + 1)) [] (replies_text m ds, refl);
+            no_line = λ spells. (replies_text m ds, refl);
+            all = λ e. absurd (undone e);
+            script = λ e. absurd (unnamed e);
+            source = λ e. absurd (unfailed e);
+          };
+          source = λ e. absurd (unfailed e);
+          leaves = record {
+            shut = λ closing. absurd (open_still closing);
+            honest = λ closing right. absurd (open_still closing);
+            crash = λ quiet. safe_is_crash_safe t (marks_between m ds 0 (min (0 + 1) (length ds))) (more_begun t m (marks_of m) ds 0 (min (0 + 1) (length ds)) (safe m is quiet));
+            images = images;
+            journal = λ closing over. absurd (open_still closing);
+            in_use = λ closing. absurd (open_still closing);
+          };
+        },
+      ),
+    )
 
 pub runs_unopened : (moment : ℕ) (ended : Status) (f : StoreFault) (before : World) (t : State) → ended ≡ status_in (Err f) → f ≢ fault.Sink → OpensSafely moment before.disk t → OpensHonestly before.disk t
     → RunsScript moment ended before (record before { disk = t })
@@ -156,32 +165,38 @@ runs_ended moment ended came s mid last t opens based performs kept ends same dr
     go None performs = tt
     go (Some bytes) performs = λ m cs is found.
         let r = performs.each (settled_at m) cs (opens.keeps m is) found in
-        let closing : IsClosing ended → status_in came ≡ ended = λ closes. sym (closing_same ended (status_in came) same closes) in
-        record {
-          acked = r.acked;
-          all = λ e. r.tells.all (⊎_elim (λ done. inl (closing (subst IsClosing (sym done) tt) ∙ done)) (λ script. inr (closing (subst IsClosing (sym script) tt) ∙ script)) e);
-          replies = λ may.
-              let said = r.tells.replies (opened_says opens is cs may) in
-              record {
-                out = said.out;
-                printed = said.printed;
-                is_acked = said.is_acked;
-                front = said.front;
-                no_line = said.no_line;
-                done = λ e. said.done (closing (subst IsClosing (sym e) tt) ∙ e);
-                script = λ e. said.script (closing (subst IsClosing (sym e) tt) ∙ e);
-                source = λ e. said.source (closing (subst IsClosing (sym e) tt) ∙ e);
+        let ds : List Command = r.done in
+        let closing : IsClosing ended → status_in came ≡ ended = λ closes. sym (closing_same ended (status_in came) same closes) in (
+          ds,
+          (
+            are_done_where (opens.tells m is) m cs ds r.are_done,
+            record {
+              acked = r.acked;
+              all = λ e. r.tells.all (⊎_elim (λ done. inl (closing (subst IsClosing (sym done) tt) ∙ done)) (λ script. inr (closing (subst IsClosing (sym script) tt) ∙ script)) e);
+              replies = λ may.
+                  let said = r.tells.replies (opened_says opens is ds may) in
+                  record {
+                    out = said.out;
+                    printed = said.printed;
+                    is_acked = said.is_acked;
+                    front = said.front;
+                    no_line = said.no_line;
+                    all = λ e. said.all (closing (subst IsClosing (sym e) tt) ∙ e);
+                    script = λ e. said.script (closing (subst IsClosing (sym e) tt) ∙ e);
+                    source = λ e. said.source (closing (subst IsClosing (sym e) tt) ∙ e);
+                  };
+              source = λ e. r.tells.source (closing (subst IsClosing (sym e) tt) ∙ e);
+              leaves = record {
+                shut = ended_shut (settled_at m) ds r.acked mid.session last.session t ended (status_in came) r.leaves ends same dropped;
+                honest = λ closes right.
+                    ended_honest (settled_at m) ds r.acked mid.session last.session t ended (status_in came) r.leaves ends same dropped closes
+                    (opened_right opens is (take (performed ended r.acked (length ds)) ds) right);
+                crash = λ quiet. safe_is_crash_safe t (marks_between m ds r.acked (min (r.acked + 1) (length ds)))
+                    (ended_safe (settled_at m) ds r.acked mid.session last.session t ended (status_in came) r.leaves ends same dropped);
+                images = λ quiet honest. ended_images (settled_at m) ds r.acked mid.session last.session t ended (status_in came) r.leaves ends same dropped kept (opens.tells m is honest);
+                journal = ended_journal (settled_at m) ds r.acked mid.session last.session t ended (status_in came) r.leaves ends same dropped;
+                in_use = ended_in_use (settled_at m) ds r.acked mid.session last.session t ended (status_in came) r.leaves ends same dropped s opens is based;
               };
-          source = λ e. r.tells.source (closing (subst IsClosing (sym e) tt) ∙ e);
-          leaves = record {
-            shut = ended_shut (settled_at m) cs r.acked mid.session last.session t ended (status_in came) r.leaves ends same dropped;
-            honest = λ closes right.
-                ended_honest (settled_at m) cs r.acked mid.session last.session t ended (status_in came) r.leaves ends same dropped closes
-                (opened_right opens is (take (performed ended r.acked (length cs)) cs) right);
-            crash = λ quiet. safe_is_crash_safe t (marks_between m cs r.acked (min (r.acked + 1) (length cs)))
-                (ended_safe (settled_at m) cs r.acked mid.session last.session t ended (status_in came) r.leaves ends same dropped);
-            images = λ quiet honest. ended_images (settled_at m) cs r.acked mid.session last.session t ended (status_in came) r.leaves ends same dropped kept (opens.tells m is honest);
-            journal = ended_journal (settled_at m) cs r.acked mid.session last.session t ended (status_in came) r.leaves ends same dropped;
-            in_use = ended_in_use (settled_at m) cs r.acked mid.session last.session t ended (status_in came) r.leaves ends same dropped s opens is based;
-          };
-        }
+            },
+          ),
+        )

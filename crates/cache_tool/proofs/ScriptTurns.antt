@@ -1,5 +1,5 @@
 -- What is performed of a script, turn by turn.
-use Rattle.std.proofs.Common.{◌≡◌, ℕ, ◌+◌, List, [], ◌∷◌, ◌++◌, take, Option, None, Some, Result, Ok, Err, IsErrAnd, refl, sym, ap, subst, ◌∙◌, arith, append_assoc, append-nil, length-append}
+use Rattle.std.proofs.Common.{◌≡◌, ◌⊎◌, inl, inr, ℕ, ◌+◌, List, [], ◌∷◌, ◌++◌, take, Option, None, Some, Result, Ok, Err, IsErrAnd, refl, sym, ap, subst, ◌∙◌, arith, append_assoc, append-nil, length-append}
 use Rattle.std.specs.Io.KnownBytes.{Appends}
 use Rattle.std.specs.Prelude.{Bool, IsTrue}
 use Rattle.std.proofs.KnownBytes.{Appends-nil, Appends-trans}
@@ -8,24 +8,28 @@ use Rattle.cache_script.specs.Reader.{BreaksOff, Ends, Gives, IsBadScript, Leave
 use Rattle.cache_script.specs.declared.command.Command.{Command as Given}
 use Rattle.cache_script.specs.declared.reader.Reader.{Reader}
 use Rattle.cache_script.specs.declared.reader.ScriptFault.{ScriptFault}
+use Rattle.cache_store.specs.DoneFor.{IsDoneFor}
 use Rattle.cache_store.specs.Open.{KeepsTo, Tells}
-use Rattle.cache_store.specs.Performing.{ComesToTell, MayTell, PerformsFor}
+use Rattle.cache_store.specs.Performing.{ComesToTell, MayTell, PerformsAndKeeps, PerformsFor}
 use Rattle.cache_store.specs.declared.fault.Outcome.{Outcome}
 use Rattle.cache_store.specs.declared.fault.StoreFault.{StoreFault}
+use Rattle.cache_store.specs.declared.fault.StoreFault.TheVariants as fault
 use Rattle.cache_store.proofs.Represented.{represents}
 use Rattle.cache_theory.specs.Command.{Command}
 use Rattle.cache_theory.specs.History.{History, acked, unanswered}
 use Rattle.cache_theory.specs.Machine.{Machine}
 use Rattle.cache_theory.specs.Step.{after, step}
 use Rattle.cache_theory.specs.Text.{replies_text, reply_text}
-use Rattle.cache_tool.specs.Right.{LeadTo, MaySay}
-use Rattle.cache_tool.specs.ScriptProgress.{ArePerformed, EndsScript, FailsAfter, HasPerformed, PerformsAll, PerformsNext, all_answered}
+use Rattle.cache_tool.specs.DoneFor.{AreDoneFor}
+use Rattle.cache_tool.specs.Right.{LeadTo, MaySay, has_rebuild}
+use Rattle.cache_tool.specs.ScriptProgress.{ArePerformed, EndsScript, FailsAfter, HasPerformed, IsCutOff, PerformsAll, PerformsNext, all_answered}
 use Rattle.cache_tool.specs.World.{Progress, Supply}
 use Rattle.cache_tool.specs.declared.script.Ended.{Ended}
 use Rattle.cache_tool.specs.declared.script.Ended.TheVariants as ended
+use Rattle.cache_tool.proofs.DoneLaws.{done_more, done_rebuild, done_where}
 use Rattle.cache_tool.proofs.Moments.{with_source}
 use Rattle.cache_tool.proofs.RightLaws.{leads_none, leads_on, leads_one, may_say_first, may_tell_last}
-use Rattle.cache_tool.proofs.StayingLaws.{StaysFor, StaysOnce}
+use Rattle.cache_tool.proofs.StayingLaws.{StaysFor, StaysOnce, stays_done}
 use Rattle.cache_tool.proofs.ScriptBytes.{more_length, nothing_read, read_bad, read_front, read_on, read_taken, read_whole}
 
 -- the machine after some commands and one more
@@ -51,40 +55,70 @@ replies_text_more m cs c = replies_text_joined m cs (c ∷ []) ∙ ap (λ l. rep
 module _ (before : Progress) where
   -- nothing was performed
   none_performed : PerformsAll [] before before
-  none_performed = record { each = λ h keeps. record { stands = leads_none before.session h keeps; out = λ may. Appends-nil before.taken } }
+  none_performed = record {
+    each = λ h keeps. record { done = []; are_done = tt; performed = record { stands = leads_none before.session h keeps; out = λ may. Appends-nil before.taken } };
+  }
 
-  module _ (mid now : Progress) (cs : List Command) (c : Command) (performs : PerformsAll cs before mid) (h : History) (keeps : KeepsTo before.session h) where
-    so_far : ArePerformed cs h before mid
-    so_far = performs.each h keeps
-
-    -- one more leads on to a history
-    one_leads : (g : History) → KeepsTo now.session g → (ComesToTell c mid.session (after h.machine cs) → Tells now.session g.machine) → StaysOnce c mid.session (after h.machine cs) now.session
-        → LeadTo (cs ++ c ∷ []) before.session h.machine now.session g
+  -- for a history: this was done so far, and then one thing more
+  module _ (mid now : Progress) (ds : List Command) (d : Command) (h : History) (so_far : ArePerformed ds h before mid) where
+    -- it leads on to a history
+    one_leads : (g : History) → KeepsTo now.session g → (ComesToTell d mid.session (after h.machine ds) → Tells now.session g.machine) → StaysOnce d mid.session (after h.machine ds) now.session
+        → LeadTo (ds ++ d ∷ []) before.session h.machine now.session g
     one_leads g kept tells stays =
-        leads_on cs (c ∷ []) before.session h.machine mid.session (all_answered cs h) now.session g refl so_far.stands (leads_one c mid.session (after h.machine cs) now.session g kept tells stays)
+        leads_on ds (d ∷ []) before.session h.machine mid.session (all_answered ds h) now.session g refl so_far.stands (leads_one d mid.session (after h.machine ds) now.session g kept tells stays)
 
     -- and may say what the machine does
-    one_says : MaySay (cs ++ c ∷ []) before.session h.machine → MayTell c mid.session (after h.machine cs)
-    one_says may = may_tell_last cs c before.session h.machine mid.session (all_answered cs h) so_far.stands may
+    one_says : MaySay (ds ++ d ∷ []) before.session h.machine → MayTell d mid.session (after h.machine ds)
+    one_says may = may_tell_last ds d before.session h.machine mid.session (all_answered ds h) so_far.stands may
 
     -- after the replies so far this went out
-    one_out : (text : List ℕ) → MaySay (cs ++ c ∷ []) before.session h.machine → Appends mid.taken now.taken text → Appends before.taken now.taken (replies_text h.machine cs ++ text)
+    one_out : (text : List ℕ) → MaySay (ds ++ d ∷ []) before.session h.machine → Appends mid.taken now.taken text → Appends before.taken now.taken (replies_text h.machine ds ++ text)
     one_out text may out =
-        Appends-trans before.taken mid.taken now.taken (replies_text h.machine cs) text (so_far.out (may_say_first cs (c ∷ []) before.session h.machine may)) out
+        Appends-trans before.taken mid.taken now.taken (replies_text h.machine ds) text (so_far.out (may_say_first ds (d ∷ []) before.session h.machine may)) out
+
+    -- where it is done for a command, all of this is done for the commands so far and this one
+    one_done : (cs : List Command) (c : Command) → AreDoneFor (Tells before.session h.machine) h.machine cs ds → IsDoneFor (Tells mid.session (after h.machine ds)) c (after h.machine ds) d
+        → AreDoneFor (Tells before.session h.machine) h.machine (cs ++ c ∷ []) (ds ++ d ∷ [])
+    one_done cs c are is = done_more (Tells before.session h.machine) h.machine cs ds c d are (done_where right c (after h.machine ds) d is)
+      where
+        right : Tells before.session h.machine ⊎ IsTrue (has_rebuild cs) → Tells mid.session (after h.machine ds)
+        right (inl told) = so_far.stands.tells (inl told)
+        right (inr rebuilt) = so_far.stands.tells (inr (sym (done_rebuild (Tells before.session h.machine) h.machine cs ds are) ∙ rebuilt))
+
+    -- it was performed
+    went_on : (o : Outcome) → PerformsAndKeeps d (all_answered ds h) (Ok o) mid.session now.session mid.taken now.taken → StaysOnce d mid.session (after h.machine ds) now.session
+        → ArePerformed (ds ++ d ∷ []) h before now
+    went_on o next stays = record {
+      stands = subst (λ x. LeadTo (ds ++ d ∷ []) before.session h.machine now.session x) (sym (answered_more ds d h))
+          (one_leads (acked d (all_answered ds h)) next.keeps.next (next.performs.tells tt) stays);
+      out = λ may. subst (Appends before.taken now.taken) (sym (replies_text_more h.machine ds d))
+          (one_out (reply_text (step (after h.machine ds) d).reply) may (next.performs.printed (one_says may)));
+    }
+
+    -- it failed
+    broke_off : (f : StoreFault) → PerformsAndKeeps d (all_answered ds h) (Err f) mid.session now.session mid.taken now.taken → (f ≡ fault.Sink → StaysOnce d mid.session (after h.machine ds) now.session)
+        → IsCutOff ds d f h before now
+    broke_off f next stays = record {
+      safe = next.keeps.safe;
+      cut = λ may.
+          let tail = next.performs.cut (one_says may) in
+          record { cut = tail.0; short = tail.1.0; out = one_out (take tail.0 (reply_text (step (after h.machine ds) d).reply)) may tail.1.1 };
+      effect = λ sink. one_leads (unanswered d (all_answered ds h)) (next.keeps.unanswered sink) (next.performs.tells sink) (stays sink);
+    }
 
   -- one command more was performed
   one_performed : (mid now : Progress) (cs : List Command) (c : Command) (o : Outcome) → PerformsAll cs before mid
       → PerformsFor c (Ok o) mid.session now.session mid.taken now.taken → StaysFor {T = Outcome} c (Ok o) mid.session now.session → PerformsAll (cs ++ c ∷ []) before now
   one_performed mid now cs c o performs next stays = record {
     each = λ h keeps.
-        let stands = (performs.each h keeps).stands.keeps in
-        let said = next.answers (after h.machine cs) (represents stands) in
-        let kept = next.crash (all_answered cs h) stands in
+        let some = performs.each h keeps in
+        let stands = some.performed.stands.keeps in
+        let does = next.crash (all_answered some.done h) stands in
+        let stays_once = stays_done (Tells mid.session (after h.machine some.done)) c mid.session (after h.machine some.done) now.session does.0 does.1.0 (stays (after h.machine some.done) (represents stands) tt) in
         record {
-          stands = subst (λ x. LeadTo (cs ++ c ∷ []) before.session h.machine now.session x) (sym (answered_more cs c h))
-              (one_leads mid now cs c performs h keeps (acked c (all_answered cs h)) kept.next (said.tells tt) (stays (after h.machine cs) (represents stands) tt));
-          out = λ may. subst (Appends before.taken now.taken) (sym (replies_text_more h.machine cs c))
-              (one_out mid now cs c performs h keeps (reply_text (step (after h.machine cs) c).reply) may (said.printed (one_says mid now cs c performs h keeps may)));
+          done = some.done ++ does.0 ∷ [];
+          are_done = one_done mid now some.done does.0 h some.performed cs c some.are_done does.1.0;
+          performed = went_on mid now some.done does.0 h some.performed o does.1.1 stays_once;
         };
   }
 
@@ -93,15 +127,15 @@ module _ (before : Progress) where
       → PerformsFor c (Err f) mid.session now.session mid.taken now.taken → StaysFor {T = Outcome} c (Err f) mid.session now.session → FailsAfter cs c f before now
   one_failed mid now cs c f performs next stays = record {
     each = λ h keeps.
-        let stands = (performs.each h keeps).stands.keeps in
-        let said = next.answers (after h.machine cs) (represents stands) in
-        let kept = next.crash (all_answered cs h) stands in
+        let some = performs.each h keeps in
+        let stands = some.performed.stands.keeps in
+        let does = next.crash (all_answered some.done h) stands in
+        let stays_once : f ≡ fault.Sink → StaysOnce does.0 mid.session (after h.machine some.done) now.session = λ sink. stays_done (Tells mid.session (after h.machine some.done)) c mid.session (after h.machine some.done) now.session does.0 does.1.0 (stays (after h.machine some.done) (represents stands) sink) in
         record {
-          safe = kept.safe;
-          cut = λ may.
-              let tail = said.cut (one_says mid now cs c performs h keeps may) in
-              record { cut = tail.0; short = tail.1.0; out = one_out mid now cs c performs h keeps (take tail.0 (reply_text (step (after h.machine cs) c).reply)) may tail.1.1 };
-          effect = λ sink. one_leads mid now cs c performs h keeps (unanswered c (all_answered cs h)) (kept.unanswered sink) (said.tells sink) (stays (after h.machine cs) (represents stands) sink);
+          done = some.done;
+          last = does.0;
+          are_done = one_done mid now some.done does.0 h some.performed cs c some.are_done does.1.0;
+          cut_off = broke_off mid now some.done does.0 h some.performed f does.1.1 stays_once;
         };
   }
 
@@ -168,7 +202,9 @@ module _ (tells : Bool) (r q : Reader) (mid : Progress) (source : Supply) where
       commands = goes.commands;
       ends = ends before goes;
       performs = λ told. record {
-        each = λ h keeps. let so_far = (goes.performs told).each h keeps in record { stands = so_far.stands; out = so_far.out };
+        each = λ h keeps.
+            let some = (goes.performs told).each h keeps in
+            record { done = some.done; are_done = some.are_done; performed = record { stands = some.performed.stands; out = some.performed.out } };
       };
     };
   }

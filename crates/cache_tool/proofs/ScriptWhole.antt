@@ -7,17 +7,20 @@ use Rattle.std.proofs.lemmas.List.{take_all}
 use Rattle.cache_base.specs.declared.status.Status.{Status}
 use Rattle.cache_base.specs.declared.status.Status.TheVariants as status
 use Rattle.cache_script.proofs.ListLaws.{commands_are_one, front_is_first}
+use Rattle.cache_store.specs.Open.{Tells}
 use Rattle.cache_store.specs.Said.{IsCut}
 use Rattle.cache_store.specs.declared.fault.StoreFault.{StoreFault}
 use Rattle.cache_store.specs.declared.fault.StoreFault.TheVariants as fault
 use Rattle.cache_theory.specs.Command.{Command}
 use Rattle.cache_theory.specs.History.{History}
 use Rattle.cache_theory.specs.Text.{CommandsIn, ScriptSpells, SpellsFront, command_bytes, command_data, command_words, replies_text, script_bytes, spaced}
+use Rattle.cache_tool.specs.DoneFor.{AreDoneFor}
 use Rattle.cache_tool.specs.Script.{AreTaken, bad_line, performed}
-use Rattle.cache_tool.specs.ScriptProgress.{ArePerformed, FailsMidway, IsCutOff, LeavesScript, PerformsScript, PerformsToEnd, ScriptIsRun}
+use Rattle.cache_tool.specs.ScriptProgress.{FailsMidway, LeavesScript, PerformsScript, PerformsToEnd, ScriptIsRun, SomeCutOff, SomePerformed}
 use Rattle.cache_tool.specs.Statuses.{status_in}
 use Rattle.cache_tool.specs.World.{Progress}
 use Rattle.cache_tool.specs.declared.script.Ended.TheVariants as ended
+use Rattle.cache_tool.proofs.DoneLaws.{done_and_rest, done_as_long}
 use Rattle.cache_tool.proofs.Moments.{with_left, with_taken}
 use Rattle.cache_tool.proofs.RightLaws.{leads_none}
 use Rattle.cache_tool.proofs.ScriptMarks.{keeps_cut, keeps_front}
@@ -81,35 +84,50 @@ module _ (bytes : List ℕ) (h : History) (start : Progress) where
   before = with_left start (Some bytes)
 
   -- the first commands were performed, and no more
-  ran_front : (now : Progress) (cs ds more : List Command) (came : Status) → cs ≡ ds ++ more → ArePerformed ds h before now → (came ≡ status.Done → more ≡ []) → came ≢ status.Script
-      → (came ≡ status.Source → AreTaken (Some bytes) now.source.left ds) → performed came (length ds) (length (ds ++ more)) ≡ length ds → ScriptIsRun h bytes cs came before now
-  ran_front now cs ds more came e are all unnamed taken same = subst (λ l. ScriptIsRun h bytes l came before now) (sym e) (record {
-    acked = length ds;
-    tells = tells_front h.machine bytes before now ds more came are.out all unnamed taken;
-    leaves = keeps_front h ds more came before.session now.session are.stands same;
-  })
+  ran_front : (now : Progress) (cs read rest : List Command) (came : Status) → cs ≡ read ++ rest → SomePerformed read h before now → (came ≡ status.Done → rest ≡ []) → came ≢ status.Script
+      → (came ≡ status.Source → AreTaken (Some bytes) now.source.left read) → ((a n : ℕ) → performed came a n ≡ a) → ScriptIsRun h bytes cs came before now
+  ran_front now cs read rest came e some all unnamed taken same =
+      let others = done_and_rest (Tells before.session h.machine) h.machine read some.done rest some.are_done in
+      subst (λ l. ScriptIsRun h bytes l came before now) (sym e) (record {
+        done = some.done ++ others.0;
+        are_done = others.1.0;
+        acked = length some.done;
+        tells = tells_front h.machine bytes before now read rest some.done others.0 came (done_as_long (Tells before.session h.machine) h.machine read some.done some.are_done) others.1.1 some.performed.out all unnamed taken;
+        leaves = keeps_front h some.done others.0 came before.session now.session some.performed.stands (same (length some.done) (length (some.done ++ others.0)));
+      })
 
   -- all were performed, and a part of the line that names a bad one went out
-  ran_line : (mid : Progress) (taken : Option (List ℕ)) (cs ds : List Command) (n : ℕ) (came : Status) → cs ≡ ds → ArePerformed ds h before mid → Appends mid.taken taken (take n (bad_line (length ds + 1)))
-      → (came ≡ status.Script → take n (bad_line (length ds + 1)) ≡ bad_line (length ds + 1)) → came ≢ status.Done → came ≢ status.Source → ¬ (ScriptSpells bytes ds)
-      → performed came (length ds) (length ds) ≡ length ds → ScriptIsRun h bytes cs came before (with_taken mid taken)
-  ran_line mid taken cs ds n came e are part all undone unfailed unspelled same = subst (λ l. ScriptIsRun h bytes l came before (with_taken mid taken)) (sym e) (record {
-    acked = length ds;
-    tells =
-        tells_line h.machine bytes before (with_taken mid taken) ds n came
-        (λ may. Appends-trans before.taken mid.taken taken (replies_text h.machine ds) (take n (bad_line (length ds + 1))) (are.out may) part) all undone unfailed unspelled;
-    leaves =
-        subst (λ l. LeavesScript h l came (length ds) before.session mid.session) (append-nil ds)
-        (keeps_front h ds [] came before.session mid.session are.stands (ap (λ l. performed came (length ds) (length l)) (append-nil ds) ∙ same));
-  })
+  ran_line : (mid : Progress) (taken : Option (List ℕ)) (cs read : List Command) (n : ℕ) (came : Status) → cs ≡ read → SomePerformed read h before mid → Appends mid.taken taken (take n (bad_line (length read + 1)))
+      → (came ≡ status.Script → take n (bad_line (length read + 1)) ≡ bad_line (length read + 1)) → came ≢ status.Done → came ≢ status.Source → ¬ (ScriptSpells bytes read)
+      → ((a : ℕ) → performed came a a ≡ a) → ScriptIsRun h bytes cs came before (with_taken mid taken)
+  ran_line mid taken cs read n came e some part all undone unfailed unspelled same =
+      let ds : List Command = some.done in
+      subst (λ l. ScriptIsRun h bytes l came before (with_taken mid taken)) (sym e) (record {
+        done = ds;
+        are_done = some.are_done;
+        acked = length ds;
+        tells =
+            tells_line h.machine bytes before (with_taken mid taken) read ds n came (done_as_long (Tells before.session h.machine) h.machine read ds some.are_done)
+            (λ may. Appends-trans before.taken mid.taken taken (replies_text h.machine ds) (take n (bad_line (length read + 1))) (some.performed.out may) part) all undone unfailed unspelled;
+        leaves =
+            subst (λ l. LeavesScript h l came (length ds) before.session mid.session) (append-nil ds)
+            (keeps_front h ds [] came before.session mid.session some.performed.stands (ap (λ l. performed came (length ds) (length l)) (append-nil ds) ∙ same (length ds)));
+      })
 
   -- one more was begun
-  ran_cut : (now : Progress) (cs ds more : List Command) (c : Command) (f : StoreFault) → cs ≡ (ds ++ c ∷ []) ++ more → IsCutOff ds c f h before now → ScriptIsRun h bytes cs (status_in (Err f)) before now
-  ran_cut now cs ds more c f e cut = let whole : cs ≡ ds ++ c ∷ more = e ∙ append_assoc ds (c ∷ []) more in subst (λ l. ScriptIsRun h bytes l (status_in (Err f)) before now) (sym whole) (record {
-    acked = length ds;
-    tells = tells_cut h.machine bytes before now ds more c (status_in (Err f)) cut.cut (not_done f) (not_script f) (not_source f);
-    leaves = keeps_cut h ds more c f before.session now.session cut.safe cut.effect;
-  })
+  ran_cut : (now : Progress) (cs read rest : List Command) (c : Command) (f : StoreFault) → cs ≡ (read ++ c ∷ []) ++ rest → SomeCutOff read c f h before now → ScriptIsRun h bytes cs (status_in (Err f)) before now
+  ran_cut now cs read rest c f e some =
+      let ds : List Command = some.done in
+      let d : Command = some.last in
+      let all : List Command = (read ++ c ∷ []) ++ rest in
+      let others = done_and_rest (Tells before.session h.machine) h.machine (read ++ c ∷ []) (ds ++ d ∷ []) rest some.are_done in
+      subst (λ l. ScriptIsRun h bytes l (status_in (Err f)) before now) (sym e) (record {
+        done = ds ++ d ∷ others.0;
+        are_done = subst (λ l. AreDoneFor (Tells before.session h.machine) h.machine all l) (append_assoc ds (d ∷ []) others.0) others.1.0;
+        acked = length ds;
+        tells = tells_cut h.machine bytes before now all ds others.0 d (status_in (Err f)) some.cut_off.cut (not_done f) (not_script f) (not_source f);
+        leaves = keeps_cut h ds others.0 d f before.session now.session some.cut_off.safe some.cut_off.effect;
+      })
 
 -- ---- by how they ended
 
@@ -122,7 +140,8 @@ ran_nothing (Err f) before is = subst (λ x. PerformsScript (Err x) before befor
     go None = record { each = tt }
     go (Some bytes) = record {
       each = λ h cs keeps found.
-          ran_front bytes h before (with_left before (Some bytes)) cs [] cs status.Memory refl (record { stands = leads_none before.session h keeps; out = λ may. Appends-nil before.taken }) (λ e. absurd (cc e)) (λ e. absurd (cc e)) (λ e. absurd (cc e)) refl;
+          ran_front bytes h before (with_left before (Some bytes)) cs [] cs status.Memory refl
+          (record { done = []; are_done = tt; performed = record { stands = leads_none before.session h keeps; out = λ may. Appends-nil before.taken } }) (λ e. absurd (cc e)) (λ e. absurd (cc e)) (λ e. absurd (cc e)) (λ a n. refl);
     }
 
 module _ (before : Progress) where
@@ -135,7 +154,7 @@ module _ (before : Progress) where
         each = λ h cs keeps found.
             let ds : List Command = p.commands in
             ran_front bytes h before now cs ds [] status.Done (commands_are_one bytes cs ds found (whole_is_longest bytes ds p.ends.1) ∙ sym (append-nil ds)) ((p.performs refl).each h keeps) (λ e. refl) (λ e. absurd (cc e))
-            (λ e. absurd (cc e)) refl;
+            (λ e. absurd (cc e)) (λ a n. refl);
       }
 
   pub ran_failed : (now : Progress) → PerformsToEnd true ended.Failed before now → PerformsScript (Ok status.Source) before now
@@ -146,7 +165,7 @@ module _ (before : Progress) where
       go (Some bytes) p = record {
         each = λ h cs keeps found.
             let first = taken_first bytes now.source.left cs p.commands found p.ends in
-            ran_front bytes h before now cs p.commands first.0 status.Source first.1 ((p.performs refl).each h keeps) (λ e. absurd (cc e)) (λ e. absurd (cc e)) (λ e. p.ends) refl;
+            ran_front bytes h before now cs p.commands first.0 status.Source first.1 ((p.performs refl).each h keeps) (λ e. absurd (cc e)) (λ e. absurd (cc e)) (λ e. p.ends) (λ a n. refl);
       }
 
   pub ran_bad : (mid : Progress) (taken : Option (List ℕ)) (n : ℕ) → PerformsToEnd true (ended.Bad n) before mid → Appends mid.taken taken (bad_line n) → PerformsScript (Ok status.Script) before (with_taken mid taken)
@@ -160,7 +179,7 @@ module _ (before : Progress) where
             let text : List ℕ = bad_line (length ds + 1) in
             let whole : take (length text) text ≡ text = take_all (length text) text (omega arith) in
             ran_line bytes h before mid taken cs ds (length text) status.Script (commands_are_one bytes cs ds found p.ends.1.0) ((p.performs refl).each h keeps)
-            (subst (Appends mid.taken taken) (ap bad_line p.ends.0 ∙ sym whole) said) (λ e. whole) (λ e. absurd (cc e)) (λ e. absurd (cc e)) p.ends.1.1 refl;
+            (subst (Appends mid.taken taken) (ap bad_line p.ends.0 ∙ sym whole) said) (λ e. whole) (λ e. absurd (cc e)) (λ e. absurd (cc e)) p.ends.1.1 (λ a. refl);
       }
 
   -- the line was cut
@@ -175,7 +194,7 @@ module _ (before : Progress) where
         each = λ h cs keeps found.
             let ds : List Command = p.commands in
             ran_line bytes h before mid taken cs ds cut.0 (status_in (Err x)) (commands_are_one bytes cs ds found p.ends.1.0) ((p.performs refl).each h keeps)
-            (subst (λ k. Appends mid.taken taken (take cut.0 (bad_line k))) p.ends.0 cut.1.1) (λ e. absurd (not_script x e)) (not_done x) (not_source x) p.ends.1.1 (none_more x (length ds));
+            (subst (λ k. Appends mid.taken taken (take cut.0 (bad_line k))) p.ends.0 cut.1.1) (λ e. absurd (not_script x e)) (not_done x) (not_source x) p.ends.1.1 (none_more x);
       }
 
   pub ran_broke : (now : Progress) (came : Result Status StoreFault) (fault : StoreFault) → IsErrAnd came (λ f. f ≡ fault) → FailsMidway true fault before now → PerformsScript came before now

@@ -2,6 +2,7 @@
 use Rattle.std.proofs.Common.{◌≡◌, ◌≢◌, ℕ, List, [], ◌∷◌, ◌++◌, refl, ap, inl, subst, sym, ◌∙◌}
 use Rattle.std.specs.Prelude.{Result}
 use Rattle.cache_base.specs.declared.status.Status.{Status}
+use Rattle.cache_store.specs.DoneFor.{IsDoneFor}
 use Rattle.cache_store.specs.InUse.{ClosesInUse, HasJournalOf, HasShortJournal, HoldsBase, OpensInUse, SparesIndex, StaysInUse, StaysOver, past_header}
 use Rattle.cache_store.specs.Open.{KeepsTo, Opens, Represents, StartsOn, Tells}
 use Rattle.cache_store.specs.Performing.{HadEffect}
@@ -10,6 +11,7 @@ use Rattle.cache_store.specs.declared.fault.StoreFault.{StoreFault}
 use Rattle.cache_store.proofs.InUseLaws.{few_are_spared, few_stay_in_use}
 use Rattle.cache_store.proofs.Represented.{represents}
 use Rattle.cache_theory.specs.Command.{Command}
+use Rattle.cache_theory.specs.Command.Command.{Evict}
 use Rattle.cache_theory.specs.History.{History}
 use Rattle.cache_theory.specs.Machine.{Machine}
 use Rattle.cache_theory.specs.Step.{after, step}
@@ -61,6 +63,14 @@ stays_for c answer before now leaves same = λ m stands had records told holds o
       base = record { has_base = base.has_base ∙ holds.has_base; same = λ name. base.records name ∙ holds.same name };
       past = ap past_header ((leaves spares).stands Index tt);
     }
+
+-- and so it is of what is done for it
+stays_over : (right : Type 0) (records : List IndexRecord) (c : Command) (m : Machine) (d : Command) → IsDoneFor right c m d → StaysOver records m d → StaysOver records m c
+stays_over right records (Evict kb) m d is over = tt
+stays_over right records c m d is over = subst (StaysOver records m) is over
+
+pub stays_done : (right : Type 0) (c : Command) (before : Session) (m : Machine) (now : Session) (d : Command) → IsDoneFor right c m d → StaysOnce c before m now → StaysOnce d before m now
+stays_done right c before m now d is stays = λ records told holds over. stays records told holds (stays_over right records c m d is over)
 
 -- ---- at the end of a session
 

@@ -1,46 +1,69 @@
 -- Words are read exactly where they are those of the table.
 use Rattle.std.proofs.Common.{◌≡◌, ◌⊎◌, inl, inr, ℕ, ◌<◌, ◌^◌, List, [], ◌∷◌, Bool, true, false, cond, Option, None, Some, IfSome, decimal, nat_eq, refl, sym, ap, ◌∙◌}
 use Rattle.std.specs.Cmp.Lexicographic.{pointwise}
-use Rattle.std.specs.Option.{option_and_then}
+use Rattle.std.specs.Option.{option_and_then, option_map}
 use Rattle.std.specs.Prelude.{codes}
 use Rattle.std.proofs.lemmas.Slice.Eq.{bytes_eq-Decides}
 use Rattle.cache_base.specs.Numbers.{number_in}
 use Rattle.cache_base.proofs.NumberLaws.{number_read, number_spelled}
-use Rattle.cache_theory.specs.Command.Command.{Doom, Flush, Get, ListRecords, Rebuild}
-use Rattle.cache_tool.specs.Words.{AreOfOne, AreWords, Asked, WordsAreOfTable, alone, asked_by, of_key, verbs}
+use Rattle.cache_theory.specs.Command.Command.{Doom, Evict, Flush, Get, ListRecords, Rebuild}
+use Rattle.cache_tool.specs.Words.{AreOfOne, AreWords, Asked, WordsAreOfTable, alone, asked_by, verbs, with_word}
 
 -- one test of a chain
+tested_some : (verb name : List ℕ) (some : Option Asked) (asked : Asked) (rest : Option Asked) → cond (pointwise nat_eq verb name) some rest ≡ Some asked
+    → ((verb ≡ name) × (some ≡ Some asked)) ⊎ (rest ≡ Some asked)
+tested_some verb name some asked rest = go (pointwise nat_eq verb name) (bytes_eq-Decides verb name).0
+  where
+    go : (b : Bool) → (b ≡ true → verb ≡ name) → cond b some rest ≡ Some asked → ((verb ≡ name) × (some ≡ Some asked)) ⊎ (rest ≡ Some asked)
+    go true is e = inl (is refl, e)
+    go false is e = inr e
+
+-- where it asks for something
 tested : (verb name : List ℕ) (x asked : Asked) (rest : Option Asked) → cond (pointwise nat_eq verb name) (Some x) rest ≡ Some asked
     → ((verb ≡ name) × (asked ≡ x)) ⊎ (rest ≡ Some asked)
-tested verb name x asked rest = go (pointwise nat_eq verb name) (bytes_eq-Decides verb name).0
-  where
-    go : (b : Bool) → (b ≡ true → verb ≡ name) → cond b (Some x) rest ≡ Some asked → ((verb ≡ name) × (asked ≡ x)) ⊎ (rest ≡ Some asked)
-    go true is e = inl (is refl, cc)
-    go false is e = inr e
+tested verb name x asked rest e = elim (tested_some verb name (Some x) asked rest e) [
+  | inl here ↦ inl (here.0, (let one : Some x ≡ Some asked = here.1 in cc))
+  | inr others ↦ inr others
+]
 
 alone_is : (now : ℕ) (verb : List ℕ) (asked : Asked) → alone now verb ≡ Some asked → AreOfOne (verb ∷ []) now asked verbs
 alone_is now verb asked e = elim (tested verb (codes "run") (Asked.Run now) asked _ e) [
   | inl run ↦ inl (ap (λ w. w ∷ []) run.0, run.1)
   | inr more ↦ elim (tested verb (codes "flush") (Asked.One now Flush) asked _ more) [
-    | inl flush ↦ inr (inr (inr (inr (inl (ap (λ w. w ∷ []) flush.0, flush.1)))))
+    | inl flush ↦ inr (inr (inr (inr (inr (inl (ap (λ w. w ∷ []) flush.0, flush.1))))))
     | inr others ↦ elim (tested verb (codes "list") (Asked.One now ListRecords) asked _ others) [
-      | inl list ↦ inr (inr (inr (inr (inr (inl (ap (λ w. w ∷ []) list.0, list.1))))))
+      | inl list ↦ inr (inr (inr (inr (inr (inr (inl (ap (λ w. w ∷ []) list.0, list.1)))))))
       | inr last ↦ elim (tested verb (codes "rebuild") (Asked.One now Rebuild) asked None last) [
-        | inl rebuild ↦ inr (inr (inr (inr (inr (inr (inl (ap (λ w. w ∷ []) rebuild.0, rebuild.1)))))))
+        | inl rebuild ↦ inr (inr (inr (inr (inr (inr (inr (inl (ap (λ w. w ∷ []) rebuild.0, rebuild.1))))))))
         | inr none ↦ absurd (cc)
       ]
     ]
   ]
 ]
 
-of_key_is : (now : ℕ) (verb key : List ℕ) (asked : Asked) → of_key now verb key ≡ Some asked → AreOfOne (verb ∷ (key ∷ [])) now asked verbs
-of_key_is now verb key asked e = elim (tested verb (codes "put") (Asked.Put now key) asked _ e) [
-  | inl put ↦ inr (inl (key, (ap (λ w. w ∷ (key ∷ [])) put.0, put.1)))
-  | inr more ↦ elim (tested verb (codes "get") (Asked.One now (Get key)) asked _ more) [
-    | inl get ↦ inr (inr (inl (key, (ap (λ w. w ∷ (key ∷ [])) get.0, get.1))))
-    | inr others ↦ elim (tested verb (codes "doom") (Asked.One now (Doom key)) asked None others) [
-      | inl doom ↦ inr (inr (inr (inl (key, (ap (λ w. w ∷ (key ∷ [])) doom.0, doom.1)))))
-      | inr none ↦ absurd (cc)
+-- a word that is the number of a verb
+number_is : (now : ℕ) (word : List ℕ) (asked : Asked) → option_map (λ kb. Asked.One now (Evict kb)) (number_in word) ≡ Some asked
+    → (n : ℕ) × ((n < 2 ^ 32) × ((word ≡ decimal n) × (asked ≡ Asked.One now (Evict n))))
+number_is now word asked = go (number_in word) (number_spelled word)
+  where
+    go : (r : Option ℕ) → IfSome r (λ n. (word ≡ decimal n) × (n < 2 ^ 32)) → option_map (λ kb. Asked.One now (Evict kb)) r ≡ Some asked
+        → (n : ℕ) × ((n < 2 ^ 32) × ((word ≡ decimal n) × (asked ≡ Asked.One now (Evict n))))
+    go None spelled e = absurd (cc)
+    go (Some n) spelled e = (n, (spelled.1, (spelled.0, cc)))
+
+with_word_is : (now : ℕ) (verb word : List ℕ) (asked : Asked) → with_word now verb word ≡ Some asked → AreOfOne (verb ∷ (word ∷ [])) now asked verbs
+with_word_is now verb word asked e = elim (tested verb (codes "put") (Asked.Put now word) asked _ e) [
+  | inl put ↦ inr (inl (word, (ap (λ w. w ∷ (word ∷ [])) put.0, put.1)))
+  | inr more ↦ elim (tested verb (codes "get") (Asked.One now (Get word)) asked _ more) [
+    | inl get ↦ inr (inr (inl (word, (ap (λ w. w ∷ (word ∷ [])) get.0, get.1))))
+    | inr others ↦ elim (tested verb (codes "doom") (Asked.One now (Doom word)) asked _ others) [
+      | inl doom ↦ inr (inr (inr (inl (word, (ap (λ w. w ∷ (word ∷ [])) doom.0, doom.1)))))
+      | inr last ↦ elim (tested_some verb (codes "evict") (option_map (λ kb. Asked.One now (Evict kb)) (number_in word)) asked None last) [
+        | inl evict ↦
+            let of = number_is now word asked evict.1 in
+            inr (inr (inr (inr (inl (of.0, (of.1.0, (ap (λ w. w ∷ (word ∷ [])) evict.0 ∙ ap (λ w. codes "evict" ∷ (w ∷ [])) of.1.1.0, of.1.1.1)))))))
+        | inr none ↦ absurd (cc)
+      ]
     ]
   ]
 ]
@@ -58,7 +81,7 @@ read_is : (words : List (List ℕ)) (asked : Asked) → asked_by words ≡ Some 
 read_is [] asked e = absurd (cc)
 read_is (now ∷ []) asked e = absurd (cc)
 read_is (now ∷ (verb ∷ [])) asked e = numbered now (verb ∷ []) asked (λ n. alone n verb) (λ n is. alone_is n verb asked is) e
-read_is (now ∷ (verb ∷ (key ∷ []))) asked e = numbered now (verb ∷ (key ∷ [])) asked (λ n. of_key n verb key) (λ n is. of_key_is n verb key asked is) e
+read_is (now ∷ (verb ∷ (word ∷ []))) asked e = numbered now (verb ∷ (word ∷ [])) asked (λ n. with_word n verb word) (λ n is. with_word_is n verb word asked is) e
 read_is (now ∷ (verb ∷ (key ∷ (x ∷ more)))) asked e = absurd (cc)
 
 -- and the words of the table are read
@@ -66,18 +89,21 @@ table_read : (now : ℕ) → now < 2 ^ 32 → (rest : List (List ℕ)) (asked : 
 table_read now small rest asked (inl run) =
     ap (λ r. asked_by (decimal now ∷ r)) run.0 ∙ ap (option_and_then (λ n. alone n (codes "run"))) (number_read now small) ∙ ap Some (sym run.1)
 table_read now small rest asked (inr (inl put)) =
-    ap (λ r. asked_by (decimal now ∷ r)) put.1.0 ∙ ap (option_and_then (λ n. of_key n (codes "put") put.0)) (number_read now small) ∙ ap Some (sym put.1.1)
+    ap (λ r. asked_by (decimal now ∷ r)) put.1.0 ∙ ap (option_and_then (λ n. with_word n (codes "put") put.0)) (number_read now small) ∙ ap Some (sym put.1.1)
 table_read now small rest asked (inr (inr (inl get))) =
-    ap (λ r. asked_by (decimal now ∷ r)) get.1.0 ∙ ap (option_and_then (λ n. of_key n (codes "get") get.0)) (number_read now small) ∙ ap Some (sym get.1.1)
+    ap (λ r. asked_by (decimal now ∷ r)) get.1.0 ∙ ap (option_and_then (λ n. with_word n (codes "get") get.0)) (number_read now small) ∙ ap Some (sym get.1.1)
 table_read now small rest asked (inr (inr (inr (inl doom)))) =
-    ap (λ r. asked_by (decimal now ∷ r)) doom.1.0 ∙ ap (option_and_then (λ n. of_key n (codes "doom") doom.0)) (number_read now small) ∙ ap Some (sym doom.1.1)
-table_read now small rest asked (inr (inr (inr (inr (inl flush))))) =
+    ap (λ r. asked_by (decimal now ∷ r)) doom.1.0 ∙ ap (option_and_then (λ n. with_word n (codes "doom") doom.0)) (number_read now small) ∙ ap Some (sym doom.1.1)
+table_read now small rest asked (inr (inr (inr (inr (inl evict))))) =
+    ap (λ r. asked_by (decimal now ∷ r)) evict.1.1.0 ∙ ap (option_and_then (λ n. with_word n (codes "evict") (decimal evict.0))) (number_read now small)
+    ∙ ap (option_map (λ kb. Asked.One now (Evict kb))) (number_read evict.0 evict.1.0) ∙ ap Some (sym evict.1.1.1)
+table_read now small rest asked (inr (inr (inr (inr (inr (inl flush)))))) =
     ap (λ r. asked_by (decimal now ∷ r)) flush.0 ∙ ap (option_and_then (λ n. alone n (codes "flush"))) (number_read now small) ∙ ap Some (sym flush.1)
-table_read now small rest asked (inr (inr (inr (inr (inr (inl list)))))) =
+table_read now small rest asked (inr (inr (inr (inr (inr (inr (inl list))))))) =
     ap (λ r. asked_by (decimal now ∷ r)) list.0 ∙ ap (option_and_then (λ n. alone n (codes "list"))) (number_read now small) ∙ ap Some (sym list.1)
-table_read now small rest asked (inr (inr (inr (inr (inr (inr (inl rebuild))))))) =
+table_read now small rest asked (inr (inr (inr (inr (inr (inr (inr (inl rebuild)))))))) =
     ap (λ r. asked_by (decimal now ∷ r)) rebuild.0 ∙ ap (option_and_then (λ n. alone n (codes "rebuild"))) (number_read now small) ∙ ap Some (sym rebuild.1)
-table_read now small rest asked (inr (inr (inr (inr (inr (inr (inr none))))))) = absurd none
+table_read now small rest asked (inr (inr (inr (inr (inr (inr (inr (inr none)))))))) = absurd none
 
 pub words_are_of_table : WordsAreOfTable
 words_are_of_table = λ words asked. (

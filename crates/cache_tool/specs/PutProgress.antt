@@ -5,7 +5,8 @@ use Rattle.cache_base.specs.declared.limits.TheConstants.{BODY_MAX}
 use Rattle.cache_base.specs.declared.status.Status.{Status}
 use Rattle.cache_base.specs.declared.status.Status.TheVariants as status
 use Rattle.cache_store.specs.Answering.{outcome_of}
-use Rattle.cache_store.specs.Open.{KeepsTo}
+use Rattle.cache_store.specs.DoneFor.{DoneFor}
+use Rattle.cache_store.specs.Open.{KeepsTo, Tells}
 use Rattle.cache_store.specs.Performing.{goes_by_records}
 use Rattle.cache_store.specs.Session.{Session}
 use Rattle.cache_store.specs.declared.fault.Outcome.{Outcome}
@@ -35,10 +36,11 @@ pub record IsSent (c : Command) (h : History) (answer : Result Outcome StoreFaul
   pub outcome : IfOk answer (λ r. r ≡ outcome_of (step h.machine c).reply)
   pub replied : goes_by_records c ≡ false → OnOk answer (said ≡ reply_text (step h.machine c).reply)
 
--- whatever history the disk kept to
+-- whatever history the disk kept to, of what is done for it
 pub record SendsCommand (c : Command) (answer : Result Outcome StoreFault) (before now : Session)
     (said : List ℕ) : Type 0 where
-  pub each : (h : History) → KeepsTo before h → IsSent c h answer before now said
+  pub each : (h : History) → KeepsTo before h
+      → DoneFor (Tells before h.machine) c h.machine (λ d. IsSent d h answer before now said)
 
 -- Commands one after the other.
 

@@ -7,7 +7,7 @@ use Rattle.cache_base.specs.declared.status.Status.{Status}
 use Rattle.cache_base.specs.declared.status.Status.TheVariants as status
 use Rattle.cache_script.specs.Reader.{given_in, held_in, used_in}
 use Rattle.cache_script.specs.declared.reader.Reader.{Reader}
-use Rattle.cache_store.specs.Open.{KeepsTo}
+use Rattle.cache_store.specs.Open.{KeepsTo, Tells}
 use Rattle.cache_store.specs.Session.{Session}
 use Rattle.cache_store.specs.declared.fault.StoreFault.{StoreFault}
 use Rattle.cache_store.specs.declared.fault.StoreFault.TheVariants as fault
@@ -18,6 +18,7 @@ use Rattle.cache_theory.specs.Machine.{Machine}
 use Rattle.cache_theory.specs.Marks.{Marks, all_acked, all_begun}
 use Rattle.cache_theory.specs.Step.{after, step}
 use Rattle.cache_theory.specs.Text.{CommandsIn, IsCommand, ScriptSpells, SpellsFront, replies_text, reply_text, script_bytes}
+use Rattle.cache_tool.specs.DoneFor.{AreDoneFor}
 use Rattle.cache_tool.specs.Right.{LeadTo, MaySay}
 use Rattle.cache_tool.specs.Script.{AreTaken, performed}
 use Rattle.cache_tool.specs.Statuses.{IsClosing, status_in}
@@ -46,9 +47,15 @@ pub record ArePerformed (cs : List Command) (h : History) (before now : Progress
   pub out : MaySay cs before.session h.machine
       → Appends before.taken now.taken (replies_text h.machine cs)
 
+-- of what is done for some commands
+pub record SomePerformed (cs : List Command) (h : History) (before now : Progress) : Type 0 where
+  pub done : List Command
+  pub are_done : AreDoneFor (Tells before.session h.machine) h.machine cs done
+  pub performed : ArePerformed done h before now
+
 -- whatever history the disk kept to
 pub record PerformsAll (cs : List Command) (before now : Progress) : Type 0 where
-  pub each : (h : History) → KeepsTo before.session h → ArePerformed cs h before now
+  pub each : (h : History) → KeepsTo before.session h → SomePerformed cs h before now
 
 -- one command more was begun, and failed: a part of its reply went out
 pub record IsCutIn (cs : List Command) (c : Command) (m : Machine) (before now : Progress)
@@ -65,10 +72,18 @@ pub record IsCutOff (cs : List Command) (c : Command) (f : StoreFault) (h : Hist
   pub effect : f ≡ fault.Sink → LeadTo (cs ++ c ∷ []) before.session h.machine
       now.session (unanswered c (all_answered cs h))
 
+-- of what is done for some commands
+pub record SomeCutOff (cs : List Command) (c : Command) (f : StoreFault) (h : History)
+    (before now : Progress) : Type 0 where
+  pub done : List Command
+  pub last : Command
+  pub are_done : AreDoneFor (Tells before.session h.machine) h.machine (cs ++ c ∷ []) (done ++ last ∷ [])
+  pub cut_off : IsCutOff done last f h before now
+
 -- whatever history the disk kept to
 pub record FailsAfter (cs : List Command) (c : Command) (f : StoreFault) (before now : Progress)
     : Type 0 where
-  pub each : (h : History) → KeepsTo before.session h → IsCutOff cs c f h before now
+  pub each : (h : History) → KeepsTo before.session h → SomeCutOff cs c f h before now
 
 -- Turns of the loop that reads and performs commands.
 
@@ -121,12 +136,12 @@ pub record PerformsNext (tells : Bool) (answer : Result (Option Ended) StoreFaul
 
 -- The whole script, for a history and the commands of the source's bytes.
 
--- what went out, which acknowledges `a` commands
-pub record TellsAcked (m : Machine) (bytes : List ℕ) (cs : List Command) (ended : Status)
+-- what went out, which acknowledges what was done for `a` commands
+pub record TellsAcked (m : Machine) (bytes : List ℕ) (cs done : List Command) (ended : Status)
     (before now : Progress) (a : ℕ) : Type 0 where
   pub all : (ended ≡ status.Done) ⊎ (ended ≡ status.Script) → a ≡ length cs
-  pub replies : MaySay cs before.session m
-      → TellsReplies m bytes cs ended a before.taken now.taken
+  pub replies : MaySay done before.session m
+      → TellsReplies m bytes cs done ended a before.taken now.taken
   pub source : ended ≡ status.Source → AreTaken before.source.left now.source.left (take a cs)
 
 -- the marks where the first `a` commands are acknowledged, and those up to `b` have begun
@@ -150,9 +165,11 @@ pub record LeavesScript (h : History) (cs : List Command) (ended : Status) (a : 
 
 pub record ScriptIsRun (h : History) (bytes : List ℕ) (cs : List Command) (ended : Status)
     (before now : Progress) : Type 0 where
+  pub done : List Command
+  pub are_done : AreDoneFor (Tells before.session h.machine) h.machine cs done
   pub acked : ℕ
-  pub tells : TellsAcked h.machine bytes cs ended before now acked
-  pub leaves : LeavesScript h cs ended acked before.session now.session
+  pub tells : TellsAcked h.machine bytes cs done ended before now acked
+  pub leaves : LeavesScript h done ended acked before.session now.session
 
 pub record PerformsScript (came : Result Status StoreFault) (before now : Progress) : Type 0 where
   pub each : IfSome before.source.left (λ bytes. (h : History) (cs : List Command)

@@ -4,17 +4,19 @@ use Rattle.std.specs.Prelude.{IfSome, IsSome, List, Option, [], length, min, tak
 use Rattle.cache_base.specs.declared.status.Status.{Status}
 use Rattle.cache_base.specs.declared.status.Status.TheVariants as status
 use Rattle.cache_store.specs.Answering.{outcome_of}
+use Rattle.cache_store.specs.DoneFor.{DoneFor}
 use Rattle.cache_store.specs.InUse.{HasShortJournal, StaysInUse}
 use Rattle.cache_store.specs.Open.{IsHonest, IsShut, StartsOn}
 use Rattle.cache_store.specs.Said.{IsCut}
 use Rattle.cache_store.specs.Saying.{IsPart}
 use Rattle.cache_theory.specs.Command.{Command}
-use Rattle.cache_theory.specs.Command.Command.{Flush, ListRecords}
+use Rattle.cache_theory.specs.Command.Command.{Evict, Flush, ListRecords}
 use Rattle.cache_theory.specs.Crash.{IsCrashSafe}
 use Rattle.cache_theory.specs.Machine.{Machine}
 use Rattle.cache_theory.specs.Session.{BeginsWith, IsAcked, marks_between}
 use Rattle.cache_theory.specs.Step.{after}
 use Rattle.cache_theory.specs.Text.{CommandsIn, ScriptSpells, replies_text, reply_text}
+use Rattle.cache_tool.specs.DoneFor.{AreDoneFor}
 use Rattle.cache_tool.specs.Put.{ArePut}
 use Rattle.cache_tool.specs.Replies.{last_reply}
 use Rattle.cache_tool.specs.Right.{ComesRight, MaySayOn}
@@ -91,12 +93,14 @@ pub record PrintsLast (m : Machine) (cs : List Command) (ended : Status) (before
 -- words other than `run` and `put`: the command is performed, and its reply is printed
 abbrev pub AnswersCommand : ℕ → Command → Status → Output → Output → Type 0
 AnswersCommand moment c ended before now =
-    (m : Machine) → StartsOn moment before.disk m → PrintsLast m (c ∷ []) ended before now
+    (m : Machine) → StartsOn moment before.disk m
+    → DoneFor (Honest (standing before.disk)) c m (λ d. PrintsLast m (d ∷ []) ended before now)
 
--- the words look at no entry: `flush` never does, and `list` does not where the index is trusted
+-- the words look at no entry: `flush` never does, and `list` and `evict` do not where the index is trusted
 abbrev pub LooksAtNone : Command → Start → Type 0
 LooksAtNone Flush start = ⊤
 LooksAtNone ListRecords start = start ≡ Ready
+LooksAtNone (Evict kb) start = start ≡ Ready
 LooksAtNone _ start = ⊥
 
 -- `put`, of a source that tells its bytes: the entry gets them as its body
@@ -107,38 +111,40 @@ StoresEntry moment key ended before now =
     → (cs : List Command) × (ArePut m key before.source now.source ended cs
     × PrintsLast m cs ended (output_of before) (output_of now))
 
--- what went out are the replies to commands, which acknowledge `acked` of them
-pub record TellsReplies (m : Machine) (bytes : List ℕ) (cs : List Command) (ended : Status)
+-- what went out are the replies to what was done for commands, which acknowledge `acked` of them
+pub record TellsReplies (m : Machine) (bytes : List ℕ) (cs done : List Command) (ended : Status)
     (acked : ℕ) (before now : Option (List ℕ)) : Type 0 where
   pub out : List ℕ
   pub printed : Appends before now out
-  pub is_acked : IsAcked m cs out acked
+  pub is_acked : IsAcked m done out acked
   -- in any case a prefix of the replies, and of the line that names a bad command where there is one
-  pub front : BeginsWith (replies_text m cs ++ bad_line (length cs + 1)) out
-  pub no_line : ScriptSpells bytes cs → BeginsWith (replies_text m cs) out
+  pub front : BeginsWith (replies_text m done ++ bad_line (length cs + 1)) out
+  pub no_line : ScriptSpells bytes cs → BeginsWith (replies_text m done) out
   -- all of them, by the status
-  pub done : ended ≡ status.Done → out ≡ replies_text m cs
-  pub script : ended ≡ status.Script → out ≡ replies_text m cs ++ bad_line (length cs + 1)
+  pub all : ended ≡ status.Done → out ≡ replies_text m done
+  pub script : ended ≡ status.Script → out ≡ replies_text m done ++ bad_line (length cs + 1)
   -- with a source that failed the replies to the commands that it gave whole
-  pub source : ended ≡ status.Source → out ≡ replies_text m (take acked cs)
+  pub source : ended ≡ status.Source → out ≡ replies_text m (take acked done)
 
--- these are the commands of a script, of which some are acknowledged, and one more may have begun
-pub record PrintsReplies (m : Machine) (bytes : List ℕ) (cs : List Command) (ended : Status)
+-- these are the commands of a script, and what was done for them, of which some are acknowledged, and one more may have
+-- begun
+pub record PrintsReplies (m : Machine) (bytes : List ℕ) (cs done : List Command) (ended : Status)
     (before now : World) : Type 0 where
   pub acked : ℕ
   -- all of them are, where none failed
   pub all : (ended ≡ status.Done) ⊎ (ended ≡ status.Script) → acked ≡ length cs
   -- what is printed are their replies, and tells how many are acknowledged, unless a reply goes by records that are not
   -- right
-  pub replies : MaySayOn before.disk cs
-      → TellsReplies m bytes cs ended acked before.taken now.taken
+  pub replies : MaySayOn before.disk done
+      → TellsReplies m bytes cs done ended acked before.taken now.taken
   -- a source that failed gave these commands whole
   pub source : ended ≡ status.Source
       → AreTaken before.source.left now.source.left (take acked cs)
-  pub leaves : LeavesDisk m cs (one_begun_after acked ended cs) ended before.disk now.disk
+  pub leaves : LeavesDisk m done (one_begun_after acked ended done) ended before.disk now.disk
 
 -- `run`, of a source that tells its bytes: the commands that these spell are performed
 abbrev pub RunsScript : ℕ → Status → World → World → Type 0
 RunsScript moment ended before now = IfSome before.source.left (λ bytes.
     (m : Machine) (cs : List Command) → StartsOn moment before.disk m → CommandsIn bytes cs
-    → PrintsReplies m bytes cs ended before now)
+    → (done : List Command) × (AreDoneFor (Honest (standing before.disk)) m cs done
+    × PrintsReplies m bytes cs done ended before now))

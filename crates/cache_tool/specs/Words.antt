@@ -1,13 +1,13 @@
 -- The words of the command line, each as its bytes.
 use Rattle.std.specs.Cmp.Lexicographic.{pointwise}
 use Rattle.std.specs.Prelude.{List, None, Some, [], codes, decimal, if◌then◌else◌, map, nat_eq, string_bytes, ℕ, ◌∷◌, ◌≡◌, ◌⊎◌, ◌<◌, ◌^◌, ◌↔◌}
-use Rattle.std.specs.Option.{option_and_then}
+use Rattle.std.specs.Option.{option_and_then, option_map}
 use Rattle.std.specs.declared.alloc.Global.{Global}
 use Rattle.std.specs.declared.option.Option.{Option}
 use Rattle.std.specs.declared.string.String.{String}
 use Rattle.cache_base.specs.Numbers.{number_in}
 use Rattle.cache_theory.specs.Command.{Command}
-use Rattle.cache_theory.specs.Command.Command.{Doom, Flush, Get, ListRecords, Rebuild}
+use Rattle.cache_theory.specs.Command.Command.{Doom, Evict, Flush, Get, ListRecords, Rebuild}
 
 -- what the words ask for, at a moment
 pub data Asked : Type 0 where
@@ -20,10 +20,11 @@ pub data Asked : Type 0 where
 
 -- The table of the verbs, and which words are those of the table.
 
--- a verb that stands alone, or one with a key after it; and what it asks for at a moment
+-- a verb that stands alone, or one with a key or a number after it; and what it asks for at a moment
 pub data Verb : Type 0 where
   Alone : (name : List ℕ) (asks : ℕ → Asked) → Verb
   WithKey : (name : List ℕ) (asks : ℕ → List ℕ → Asked) → Verb
+  WithNumber : (name : List ℕ) (asks : ℕ → ℕ → Asked) → Verb
 
 abbrev pub verbs : List Verb
 verbs =
@@ -31,16 +32,19 @@ verbs =
     ∷ (Verb.WithKey (codes "put") (λ now key. Asked.Put now key)
     ∷ (Verb.WithKey (codes "get") (λ now key. Asked.One now (Get key))
     ∷ (Verb.WithKey (codes "doom") (λ now key. Asked.One now (Doom key))
+    ∷ (Verb.WithNumber (codes "evict") (λ now kb. Asked.One now (Evict kb))
     ∷ (Verb.Alone (codes "flush") (λ now. Asked.One now Flush)
     ∷ (Verb.Alone (codes "list") (λ now. Asked.One now ListRecords)
     ∷ (Verb.Alone (codes "rebuild") (λ now. Asked.One now Rebuild)
-    ∷ []))))))
+    ∷ [])))))))
 
 -- these words are the verb with what follows it, and ask for this
 abbrev pub AreOfVerb : List (List ℕ) → ℕ → Asked → Verb → Type 0
 AreOfVerb words now asked (Verb.Alone name asks) = (words ≡ name ∷ []) × (asked ≡ asks now)
 AreOfVerb words now asked (Verb.WithKey name asks) =
     (key : List ℕ) × ((words ≡ name ∷ (key ∷ [])) × (asked ≡ asks now key))
+AreOfVerb words now asked (Verb.WithNumber name asks) =
+    (n : ℕ) × ((n < 2 ^ 32) × ((words ≡ name ∷ (decimal n ∷ [])) × (asked ≡ asks now n)))
 
 -- so it is for one of these verbs
 abbrev pub AreOfOne : List (List ℕ) → ℕ → Asked → List Verb → Type 0
@@ -67,18 +71,19 @@ alone now verb =
     else if pointwise nat_eq verb (codes "rebuild") then Some (Asked.One now Rebuild)
     else None
 
--- a verb with a key
-abbrev pub of_key : ℕ → List ℕ → List ℕ → Option Asked
-of_key now verb key =
-    if pointwise nat_eq verb (codes "put") then Some (Asked.Put now key)
-    else if pointwise nat_eq verb (codes "get") then Some (Asked.One now (Get key))
-    else if pointwise nat_eq verb (codes "doom") then Some (Asked.One now (Doom key))
+-- a verb with a key or a number
+abbrev pub with_word : ℕ → List ℕ → List ℕ → Option Asked
+with_word now verb word =
+    if pointwise nat_eq verb (codes "put") then Some (Asked.Put now word)
+    else if pointwise nat_eq verb (codes "get") then Some (Asked.One now (Get word))
+    else if pointwise nat_eq verb (codes "doom") then Some (Asked.One now (Doom word))
+    else if pointwise nat_eq verb (codes "evict") then option_map (λ kb. Asked.One now (Evict kb)) (number_in word)
     else None
 
--- the words NOW and a verb that stands alone, and NOW, a verb and a key
+-- the words NOW and a verb that stands alone, and NOW, a verb and a word after it
 abbrev pub asked_by : List (List ℕ) → Option Asked
 asked_by (now ∷ (verb ∷ [])) = option_and_then (λ n. alone n verb) (number_in now)
-asked_by (now ∷ (verb ∷ (key ∷ []))) = option_and_then (λ n. of_key n verb key) (number_in now)
+asked_by (now ∷ (verb ∷ (word ∷ []))) = option_and_then (λ n. with_word n verb word) (number_in now)
 asked_by _ = None
 
 -- words ask for something exactly where they are those of the table

@@ -30,12 +30,15 @@ use std::alloc::Global;
 
 /// Does what the words say. These are the words after the directory: `NOW run` performs the script that the source has,
 /// `NOW put KEY` makes an entry of the key whose body the source has, `NOW get KEY` prints an entry, `NOW doom KEY`
-/// removes one, `NOW flush` syncs what was written, `NOW list` prints the records of all entries, and `NOW rebuild` reads
-/// all entries anew and writes the index. Each opens the store at the moment NOW and closes it.
+/// removes one, `NOW evict KB` removes the least valuable ones until all take at most so many KB, `NOW flush` syncs what
+/// was written, `NOW list` prints the records of all entries, and `NOW rebuild` reads all entries anew and writes the
+/// index. Each opens the store at the moment NOW and closes it.
 ///
 /// The clauses on contents hold where the disk and the source tell theirs. Those on a crash hold where nothing was
 /// pending at the call, and speak of every exit, whatever the status. The replies to `list` and `has` go by the records in
-/// memory: where one of them is among the commands, what is printed is the machine's where the directory was honest.
+/// memory: where one of them is among the commands, what is printed is the machine's where the directory was honest. What
+/// `evict` removes goes by them too: there it is what the machine removes, and elsewhere the entries that have to go by
+/// the records that there are.
 pub fn run<D: Disk, S: Source, K: Sink>(
     alloc: Global,
     words: &[String],
@@ -87,7 +90,7 @@ pub fn run<D: Disk, S: Source, K: Sink>(
     ensures one_no { result ≡ Status.No → WhenOne (asked_in words.now) (λ now c.
         PrintsRefusal (K.taken sink.old) (K.taken sink.new)) }
 
-    // What is printed only grows, and a `flush`, and a `list` where the index is trusted, look at no entry.
+    // What is printed only grows. A `flush` looks at no entry, nor do a `list` and an `evict` where the index is trusted.
     ensures grows { IsTrue D.tells → TakesMore (K.taken sink.old) (K.taken sink.new) }
     ensures no_entry { WhenOne (asked_in words.now) (λ now c.
         LooksAtNone c (start_of (standing (D.state disk.old))) → LooksAtNames D.Disk 0 disk.old disk.new) }

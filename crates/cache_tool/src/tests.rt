@@ -1,6 +1,7 @@
 //! The program on a disk in memory.
 
 mod crash;
+mod evict;
 mod get;
 mod one;
 mod put;

@@ -2,7 +2,7 @@
 
 ghost use Rattle.std.specs.Prelude.{◌≡◌, IfSome};
 ghost use Rattle.std.specs.Option.{option_map};
-ghost use Rattle.cache_tool.specs.Words.{alone as alone_of, asked_in, of_key as of_key_of};
+ghost use Rattle.cache_tool.specs.Words.{alone as alone_of, asked_in, with_word as with_word_of};
 ghost use Rattle.cache_tool.specs.Asked.{asked, AskedIsGiven};
 
 use cache_base::{Moment, number};
@@ -15,7 +15,7 @@ pub(crate) enum Asked<'a> {
     Run { now: Moment },
     /// `NOW put KEY`
     Put { now: Moment, key: &'a [u8] },
-    /// `NOW get KEY`, `NOW doom KEY`, `NOW flush`, `NOW list`, `NOW rebuild`
+    /// `NOW get KEY`, `NOW doom KEY`, `NOW evict KB`, `NOW flush`, `NOW list`, `NOW rebuild`
     One { now: Moment, command: Command<'a> },
 }
 
@@ -42,20 +42,24 @@ fn alone(now: Moment, verb: &str) -> Option<Asked<'_>>
     }
 }
 
-// A verb with a key.
-fn of_key<'a>(now: Moment, verb: &str, key: &'a [u8]) -> Option<Asked<'a>>
-    ensures asked { option_map asked result ≡ of_key_of now verb.now key.now }
+// A verb with a key or a number.
+fn with_word<'a>(now: Moment, verb: &str, word: &'a [u8]) -> Option<Asked<'a>>
+    ensures asked { option_map asked result ≡ with_word_of now verb.now word.now }
     ensures given { IfSome result (λ a. AskedIsGiven (asked a)) }
 {
     match verb {
-        "put" => Some(Asked::Put { now, key }),
+        "put" => Some(Asked::Put { now, key: word }),
         "get" => Some(Asked::One {
             now,
-            command: Command::Get { key },
+            command: Command::Get { key: word },
         }),
         "doom" => Some(Asked::One {
             now,
-            command: Command::Doom { key },
+            command: Command::Doom { key: word },
+        }),
+        "evict" => Some(Asked::One {
+            now,
+            command: Command::Evict { kb: number(word)? },
         }),
         _ => None,
     }
@@ -67,7 +71,7 @@ pub(crate) fn read_words(words: &[String]) -> Option<Asked<'_>>
 {
     match words {
         [now, verb] => alone(number(now.as_bytes())?, verb),
-        [now, verb, key] => of_key(number(now.as_bytes())?, verb.as_str(), key.as_bytes()),
+        [now, verb, word] => with_word(number(now.as_bytes())?, verb.as_str(), word.as_bytes()),
         _ => None,
     }
 }

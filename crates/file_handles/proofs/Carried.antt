@@ -16,7 +16,7 @@ use Rattle.disk_model.specs.Sound.{IsSound}
 use Rattle.disk_model.specs.State.{State}
 use Rattle.file_handles.specs.Answers.{OnRefused, done_or}
 use Rattle.file_handles.specs.Cache.{cache_at}
-use Rattle.file_handles.specs.Carries.{CarriesOut}
+use Rattle.file_handles.specs.Carries.{CarriesOut, CarriesOutAt}
 use Rattle.file_handles.specs.Changes.{ChangesAt}
 use Rattle.file_handles.specs.Held.{IsHeldAs}
 use Rattle.file_handles.specs.Kept.{Kept, with_object}
@@ -29,14 +29,14 @@ use Rattle.file_handles.proofs.Begun.{begun_in}
 use Rattle.file_handles.proofs.Changed.{MayGoOut, changed_in_safe, changed_safe}
 use Rattle.file_handles.proofs.ElementSlots.{there_number}
 use Rattle.file_handles.proofs.Histories.{history_of}
-use Rattle.file_handles.proofs.Where.{CarriesOutWhere, LeavesWhere, carries_out}
+use Rattle.file_handles.proofs.Where.{LeavesWhere, carries_out, carries_out_at}
 
--- a command that passes its checks and makes this change of the slot's object, and writes to its file only where `Writes`
--- holds of the object
-pub record MakesChange (k : Kept) (c : Command) (slot : ℕ) (change : MachineObject → MachineObject) (Writes : MachineObject → Type 0) : Type 0 where
+-- a command that passes its checks and makes this change of the slot's object in the machines that are `At`, and writes to
+-- its file only where `Writes` holds of the object
+pub record MakesChangeAt (At : Machine → Type 0) (k : Kept) (c : Command) (slot : ℕ) (change : MachineObject → MachineObject) (Writes : MachineObject → Type 0) : Type 0 where
   pub passes : Passes k c
   pub acks : (m : Machine) (w : Marks) → acked m c w ≡ begun m c w
-  pub effects : (m : Machine) (number : ℕ → ℕ) → HandlesStand k m number → first_failing (checks m c) ≡ None
+  pub effects : (m : Machine) (number : ℕ → ℕ) → HandlesStand k m number → At m → first_failing (checks m c) ≡ None
       → effect m c ≡ answer (stored m (number_of m slot) (change (object_of m slot))) Done
   pub objects : (m : Machine) → IsProper m → first_failing (checks m c) ≡ None → IsObject (change (object_of m slot))
   pub key : (o : MachineObject) → (change o).version.key ≡ o.version.key
@@ -46,9 +46,13 @@ pub record MakesChange (k : Kept) (c : Command) (slot : ℕ) (change : MachineOb
   pub out : (m : Machine) (w : Marks) (number : ℕ → ℕ) → HandlesStand k m number → first_failing (checks m c) ≡ None → Writes (object_of m slot)
       → object (effect m c).next (number_of m slot) ≡ change (object_of m slot) → MayGoOut (begun m c w) (number_of m slot) (change (object_of m slot))
 
-module _ (s t : State) (k after : Kept) (c : Command) (slot : ℕ) (small : slot < SLOTS) (p : ℕ) (x : Object) (has : HasAt k slot p x) (change : MachineObject → MachineObject) (Writes : MachineObject → Type 0)
-    (makes : MakesChange k c slot change Writes) {T : Type 0} (r : Result T HandleFault) (there : ChangesAt p change r (cache_at k s) (cache_at after t) x) (writes : (o : MachineObject) → IsHeldAs x o → Writes o ⊎ (t ≡ s)) where
-  module _ {b : Bool} (m : Machine) (w : Marks) (is : KeepsWhere b (cache_at k s) (history_of m (begun m c w))) where
+-- and one that makes it in every machine
+abbrev pub MakesChange : Kept → Command → ℕ → (MachineObject → MachineObject) → (MachineObject → Type 0) → Type 0
+MakesChange k c slot change Writes = MakesChangeAt (λ m. Unit {0}) k c slot change Writes
+
+module _ (At : Machine → Type 0) (s t : State) (k after : Kept) (c : Command) (slot : ℕ) (small : slot < SLOTS) (p : ℕ) (x : Object) (has : HasAt k slot p x) (change : MachineObject → MachineObject) (Writes : MachineObject → Type 0)
+    (makes : MakesChangeAt At k c slot change Writes) {T : Type 0} (r : Result T HandleFault) (there : ChangesAt p change r (cache_at k s) (cache_at after t) x) (writes : (o : MachineObject) → IsHeldAs x o → Writes o ⊎ (t ≡ s)) where
+  module _ {b : Bool} (m : Machine) (w : Marks) (at : At m) (is : KeepsWhere b (cache_at k s) (history_of m (begun m c w))) where
     slot_number : number_of m slot ≡ is.number p
     slot_number = there_number k m is.number is.stands.handles slot small p x has
 
@@ -65,7 +69,7 @@ module _ (s t : State) (k after : Kept) (c : Command) (slot : ℕ) (small : slot
     }
 
     effect_is : effect m c ≡ answer (stored m (is.number p) (change (object m (is.number p)))) Done
-    effect_is = makes.effects m is.number is.stands.handles passes ∙ ap (λ j. answer (stored m j (change (object m j))) Done) slot_number
+    effect_is = makes.effects m is.number is.stands.handles at passes ∙ ap (λ j. answer (stored m j (change (object m j))) Done) slot_number
 
     step_is : step m c ≡ answer (stored m (is.number p) (change (object m (is.number p)))) Done
     step_is = ap (stepped m c) passes ∙ effect_is
@@ -108,20 +112,29 @@ module _ (s t : State) (k after : Kept) (c : Command) (slot : ℕ) (small : slot
             }
 
 -- such a command is carried out: a fault is no refusal
-change_where : (s t : State) → IsSound s → (k after : Kept) (c : Command) (slot : ℕ) → slot < SLOTS → (p : ℕ) (x : Object) → HasAt k slot p x → (change : MachineObject → MachineObject)
-    (Writes : MachineObject → Type 0) → MakesChange k c slot change Writes → {T : Type 0} (r : Result T HandleFault) → ChangesAt p change r (cache_at k s) (cache_at after t) x
-    → ((o : MachineObject) → IsHeldAs x o → Writes o ⊎ (t ≡ s)) → OnRefused r (λ _. ⊥) → CarriesOutWhere c (done_or r) (cache_at k s) (cache_at after t)
-change_where s t sound k after c slot small p x has change Writes makes (Ok value) there writes none b m w is =
-    made s t k after c slot small p x has change Writes makes (Ok value) there writes m w (begun_in s k m c w is) sound there.put_back
-change_where s t sound k after c slot small p x has change Writes makes (Err fault.Disk) there writes none b m w is =
-    failed s t k after c slot small p x has change Writes makes (Err fault.Disk) there writes m w (begun_in s k m c w is)
-change_where s t sound k after c slot small p x has change Writes makes (Err fault.Memory) there writes none b m w is =
-    failed s t k after c slot small p x has change Writes makes (Err fault.Memory) there writes m w (begun_in s k m c w is)
-change_where s t sound k after c slot small p x has change Writes makes (Err (fault.Refused refusal)) there writes none b m w is =
+change_where : (At : Machine → Type 0) (s t : State) → IsSound s → (k after : Kept) (c : Command) (slot : ℕ) → slot < SLOTS → (p : ℕ) (x : Object) → HasAt k slot p x
+    → (change : MachineObject → MachineObject) (Writes : MachineObject → Type 0) → MakesChangeAt At k c slot change Writes → {T : Type 0} (r : Result T HandleFault)
+    → ChangesAt p change r (cache_at k s) (cache_at after t) x → ((o : MachineObject) → IsHeldAs x o → Writes o ⊎ (t ≡ s)) → OnRefused r (λ _. ⊥)
+    → (b : Bool) (m : Machine) (w : Marks) → At m → KeepsWhere b (cache_at k s) (history_of m w) → LeavesWhere b c (history_of m w) (done_or r) (cache_at after t)
+change_where At s t sound k after c slot small p x has change Writes makes (Ok value) there writes none b m w at is =
+    made At s t k after c slot small p x has change Writes makes (Ok value) there writes m w at (begun_in s k m c w is) sound there.put_back
+change_where At s t sound k after c slot small p x has change Writes makes (Err fault.Disk) there writes none b m w at is =
+    failed At s t k after c slot small p x has change Writes makes (Err fault.Disk) there writes m w at (begun_in s k m c w is)
+change_where At s t sound k after c slot small p x has change Writes makes (Err fault.Memory) there writes none b m w at is =
+    failed At s t k after c slot small p x has change Writes makes (Err fault.Memory) there writes m w at (begun_in s k m c w is)
+change_where At s t sound k after c slot small p x has change Writes makes (Err (fault.Refused refusal)) there writes none b m w at is =
     absurd (none refusal refl)
 
 pub change_carried : (s t : State) → IsSound s → (k after : Kept) (c : Command) (slot : ℕ) → slot < SLOTS → (p : ℕ) (x : Object) → HasAt k slot p x → (change : MachineObject → MachineObject)
     (Writes : MachineObject → Type 0) → MakesChange k c slot change Writes → {T : Type 0} (r : Result T HandleFault) → ChangesAt p change r (cache_at k s) (cache_at after t) x
     → ((o : MachineObject) → IsHeldAs x o → Writes o ⊎ (t ≡ s)) → OnRefused r (λ _. ⊥) → CarriesOut c (done_or r) (cache_at k s) (cache_at after t)
 change_carried s t sound k after c slot small p x has change Writes makes r there writes none =
-    carries_out (change_where s t sound k after c slot small p x has change Writes makes r there writes none)
+    carries_out (λ b m w is. change_where (λ m. Unit {0}) s t sound k after c slot small p x has change Writes makes r there writes none b m w tt is)
+
+-- and the same at a moment
+pub change_carried_at : (now : ℕ) (s t : State) → IsSound s → (k after : Kept) (c : Command) (slot : ℕ) → slot < SLOTS → (p : ℕ) (x : Object) → HasAt k slot p x
+    → (change : MachineObject → MachineObject) (Writes : MachineObject → Type 0) → MakesChangeAt (λ m. m.moment ≡ now) k c slot change Writes → {T : Type 0} (r : Result T HandleFault)
+    → ChangesAt p change r (cache_at k s) (cache_at after t) x → ((o : MachineObject) → IsHeldAs x o → Writes o ⊎ (t ≡ s)) → OnRefused r (λ _. ⊥)
+    → CarriesOutAt now c (done_or r) (cache_at k s) (cache_at after t)
+change_carried_at now s t sound k after c slot small p x has change Writes makes r there writes none =
+    carries_out_at (change_where (λ m. m.moment ≡ now) s t sound k after c slot small p x has change Writes makes r there writes none)

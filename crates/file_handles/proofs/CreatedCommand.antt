@@ -101,7 +101,7 @@ module _ (s : State) (k : Kept) (slot : ℕ) (key : List ℕ) (name : Name) (may
   doom_fails u after f dooms some = ((dooms some).leaves b (history_of m (begun m (Create slot key) w)) touched here).safe
 
   -- or is doomed, if there was one
-  pub doom_done : {D X : Type 0} (state : D → State) (d e : D) (after : Kept) (some_ : Bool) → state d ≡ s → (position (is_user name) k.objects ≢ None → DoomsUnder {T = Bool} name.0 (Ok some_) (cache_at k s) (cache_at after (state e)))
+  pub doom_done : {D X : Type 0} (state : D → State) (d e : D) (after : Kept) (some_ : Bool) → state d ≡ s → (position (is_user name) k.objects ≢ None → DoomsUnder {T = Bool} {E = HandleFault} name.0 (Ok some_) (cache_at k s) (cache_at after (state e)))
       → (position (is_user name) k.objects ≡ None → X × ((e ≡ d) × (after ≡ k))) → IsInBut b name.0 (state e) after (doomed_under m name.0) (begun m (Create slot key) w)
   doom_done state d e after some_ is dooms still =
       after_doom s (state e) k after name m (begun m (Create slot key) w) here (λ some. ((dooms some).leaves b (history_of m (begun m (Create slot key) w)) touched here).next)

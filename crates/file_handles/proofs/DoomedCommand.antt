@@ -103,7 +103,7 @@ bare_stands s k key name named bare passes (m, (number, stands)) =
     in
     some_file key (standing s (Entry name)) read
 
-removed_or_not : (s t : State) (w : Marks) (name : Name) (f : DiskFault) → t ≡ if_done {T = Unit {0}} (Err f) (removed (Entry name) s) s → is_touched w name.0 ≡ true → IsSafe s w → IsSafe t w
+pub removed_or_not : (s t : State) (w : Marks) (name : Name) (f : DiskFault) → t ≡ if_done {T = Unit {0}} (Err f) (removed (Entry name) s) s → is_touched w name.0 ≡ true → IsSafe s w → IsSafe t w
 removed_or_not s t w name Failed is touched safe =
     subst (λ u. IsSafe u w) (sym is) (remove_keeps s w (Entry name) (λ q e. inl (ap (is_touched w) (sym (one_place name.0 q e)) ∙ touched)) safe)
 removed_or_not s t w name Memory is touched safe = subst (λ u. IsSafe u w) (sym is) safe

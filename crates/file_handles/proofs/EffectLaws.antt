@@ -1,5 +1,5 @@
 -- What an index learns of a command, by the object of the slot that is held.
-use Rattle.std.proofs.Common.{◌≡◌, ℕ, ◌<◌, ◌+◌, List, ◌++◌, length, length-append, Bool, true, false, not, ◌&&◌, Option, Some, None, is_some, refl, sym, ap, subst, ◌∙◌, arith}
+use Rattle.std.proofs.Common.{◌≡◌, ℕ, ◌<◌, List, ◌++◌, length, length-append, Bool, true, false, not, ◌&&◌, Option, Some, None, is_some, refl, sym, ap, subst, ◌∙◌, arith}
 use Rattle.std.specs.Prelude.{if◌then◌else◌}
 use Rattle.std.proofs.lemmas.Bool.{and_parts, not-true}
 use Rattle.cache_base.specs.Bytes.{be32}
@@ -9,7 +9,7 @@ use Rattle.cache_theory.specs.Command.{Command}
 use Rattle.cache_theory.specs.Command.Command.{Close}
 use Rattle.cache_theory.specs.Machine.{Machine, Object as MachineObject, is_writer, number_of, object, object_of}
 use Rattle.cache_theory.specs.Marks.{rewritten}
-use Rattle.cache_theory.specs.Proper.{IsObject}
+use Rattle.cache_theory.specs.Proper.{IsObject, IsProper}
 use Rattle.cache_theory.specs.Step.{Answer, finished_by, step, stepped, stored}
 use Rattle.cache_theory.proofs.Changes.{object_is}
 use Rattle.cache_theory.proofs.Objects.{nth, nth-set_same}
@@ -24,7 +24,7 @@ use Rattle.index_record.specs.Filling.{record_of_meta}
 use Rattle.index_theory.specs.Scan.{record_of}
 use Rattle.file_handles.specs.Changes.{completed}
 use Rattle.file_handles.specs.Closing.{is_some_draft}
-use Rattle.file_handles.specs.Effects.{HasEffect, IsLearntOf, file_len, learnt, learnt_at, learnt_of, learnt_of_held, learnt_under, name_of, object_name}
+use Rattle.file_handles.specs.Effects.{HasEffect, HasEffectAt, IsLearntOf, file_len, learnt, learnt_at, learnt_of, learnt_of_held, learnt_under, name_of, object_name}
 use Rattle.file_handles.specs.Held.{IsHeldAs, elements_in, object_with}
 use Rattle.file_handles.specs.Kept.{Kept, object_at, use_at}
 use Rattle.file_handles.specs.Refuses.{HasAt}
@@ -35,7 +35,7 @@ use Rattle.file_handles.specs.declared.object.Entry.{Entry}
 use Rattle.file_handles.specs.declared.object.Entry.TheVariants as entry
 use Rattle.file_handles.specs.declared.object.Object.{Object}
 use Rattle.file_handles.specs.declared.object.Use.{Use}
-use Rattle.file_handles.proofs.Carried.{MakesChange}
+use Rattle.file_handles.proofs.Carried.{MakesChange, MakesChangeAt}
 use Rattle.file_handles.proofs.ClosedSlot.{close_step, finishes, has_slot, numbered, object_there}
 use Rattle.file_handles.proofs.ElementChecks.{if_object}
 use Rattle.file_handles.proofs.ElementReads.{there_elements}
@@ -104,23 +104,37 @@ at_finished m i o there = go o.finished refl
 
 -- The effect of a command that changes the object of a slot.
 
-module _ (k : Kept) (c : Command) (slot : ℕ) (small : slot < SLOTS) (p : ℕ) (x : Object) (has : HasAt k slot p x) (change : MachineObject → MachineObject) (Writes : MachineObject → Type 0)
-    (makes : MakesChange k c slot change Writes) where
-  pub change_effect : (e : Effect) → ((m : Machine) → learnt m c ≡ learnt_at (step m c).next (rewritten m c))
+module _ (At : Machine → Type 0) (k : Kept) (c : Command) (slot : ℕ) (small : slot < SLOTS) (p : ℕ) (x : Object) (has : HasAt k slot p x) (change : MachineObject → MachineObject) (Writes : MachineObject → Type 0)
+    (makes : MakesChangeAt At k c slot change Writes) where
+  effect_where : (e : Effect) → ((m : Machine) → learnt m c ≡ learnt_at (step m c).next (rewritten m c))
       → ((m : Machine) (number : ℕ → ℕ) → HandlesStand k m number → rewritten m c ≡ (if (change (object_of m slot)).finished then Some (number_of m slot) else None))
-      → IsLearntOf change (object_at k p) e → HasEffect k c e
-  change_effect e by_step writes is m number proper stand =
+      → IsLearntOf change (object_at k p) e → (m : Machine) (number : ℕ → ℕ) → At m → IsProper m → HandlesStand k m number → e ≡ learnt m c
+  effect_where e by_step writes is m number at proper stand =
       let fine = makes.passes m number proper stand in
       let i : ℕ = number_of m slot in
       let o : MachineObject = change (object_of m slot) in
       let held : IsHeldAs x (object_of m slot) = subst (λ (o : MachineObject). IsHeldAs x o) (sym (there_object k m number stand slot small p x has)) (there_held k m number stand slot small p x has) in
       let within : i < length m.objects = subst (λ j. j < length m.objects) (sym (there_number k m number stand slot small p x has)) (stand.objects p x has.found).in_use.number in
       let there : object (step m c).next i ≡ o =
-      ap (λ (a : Answer). object a.next i) (ap (stepped m c) fine ∙ makes.effects m number stand fine)
+      ap (λ (a : Answer). object a.next i) (ap (stepped m c) fine ∙ makes.effects m number stand at fine)
       ∙ nth-set_same m.objects i i o within refl
       in
       if_object (object_at k p) x (λ x. (o : MachineObject) → IsHeldAs x o → IsObject (change o) → e ≡ learnt_of (change o)) has.found is (object_of m slot) held (makes.objects m proper fine)
       ∙ sym (by_step m ∙ ap (learnt_at (step m c).next) (writes m number stand) ∙ at_finished (step m c).next i o there)
+
+-- in every machine, and in those of a moment
+pub change_effect : (k : Kept) (c : Command) (slot : ℕ) → slot < SLOTS → (p : ℕ) (x : Object) → HasAt k slot p x → (change : MachineObject → MachineObject) (Writes : MachineObject → Type 0)
+    → MakesChange k c slot change Writes → (e : Effect) → ((m : Machine) → learnt m c ≡ learnt_at (step m c).next (rewritten m c))
+    → ((m : Machine) (number : ℕ → ℕ) → HandlesStand k m number → rewritten m c ≡ (if (change (object_of m slot)).finished then Some (number_of m slot) else None))
+    → IsLearntOf change (object_at k p) e → HasEffect k c e
+change_effect k c slot small p x has change Writes makes e by_step writes is m number proper stand =
+    effect_where (λ m. Unit {0}) k c slot small p x has change Writes makes e by_step writes is m number tt proper stand
+
+pub change_effect_at : (now : ℕ) (k : Kept) (c : Command) (slot : ℕ) → slot < SLOTS → (p : ℕ) (x : Object) → HasAt k slot p x → (change : MachineObject → MachineObject) (Writes : MachineObject → Type 0)
+    → MakesChangeAt (λ m. m.moment ≡ now) k c slot change Writes → (e : Effect) → ((m : Machine) → learnt m c ≡ learnt_at (step m c).next (rewritten m c))
+    → ((m : Machine) (number : ℕ → ℕ) → HandlesStand k m number → rewritten m c ≡ (if (change (object_of m slot)).finished then Some (number_of m slot) else None))
+    → IsLearntOf change (object_at k p) e → HasEffectAt now k c e
+change_effect_at now k c slot small p x has change Writes makes = effect_where (λ m. m.moment ≡ now) k c slot small p x has change Writes makes
 
 -- The file of an object is rewritten when an element is removed that is there.
 pub unsets_rewrite : (k : Kept) (slot : ℕ) → slot < SLOTS → (p : ℕ) (x : Object) → HasAt k slot p x → (name value : List ℕ) → element name (elements_in x.entry) ≡ Some value

@@ -27,7 +27,7 @@ use Rattle.file_handles.specs.Stands.{HandlesStand}
 use Rattle.file_handles.specs.declared.fault.HandleFault.{HandleFault}
 use Rattle.file_handles.specs.declared.object.Object.{Object}
 use Rattle.file_handles.proofs.Carried.{MakesChange, change_carried}
-use Rattle.file_handles.proofs.ElementChanged.{with_elements}
+use Rattle.file_handles.proofs.EntryChanged.{with_elements}
 use Rattle.file_handles.proofs.ElementChecks.{if_object}
 use Rattle.file_handles.proofs.ElementEntries.{finished_is}
 use Rattle.file_handles.proofs.ElementMarks.{goes_out}
@@ -37,7 +37,7 @@ use Rattle.file_handles.proofs.ElementReads.{there_elements}
 abbrev pub IsFinished : MachineObject → Type 0
 IsFinished o = o.finished ≡ true
 
-writes_finished : (s t : State) (x : Object) → (is_draft x.entry ≡ true → t ≡ s) → (o : MachineObject) → IsHeldAs x o → IsFinished o ⊎ (t ≡ s)
+pub writes_finished : (s t : State) (x : Object) → (is_draft x.entry ≡ true → t ≡ s) → (o : MachineObject) → IsHeldAs x o → IsFinished o ⊎ (t ≡ s)
 writes_finished s t x quiet o held = elim (cases_Bool (is_draft x.entry)) [
   | inl draft ↦ inr (quiet draft)
   | inr finished ↦ inl (finished_is x.entry o held.held_entry ∙ ap not finished)
@@ -49,7 +49,7 @@ unfolding checks effect
 set_makes k slot name value name_bytes value_bytes passes = record {
   passes = passes;
   acks = λ m w. refl;
-  effects = λ m number stand fine. refl;
+  effects = λ m number stand at fine. refl;
   objects = λ m proper fine.
       let all = all_hold (checks m (SetElement slot name value)) fine in
       object_with (object_of m slot) name value name_bytes value_bytes all.1.1.0 all.1.1.1.0 (object_is m slot proper all.0);
@@ -70,7 +70,7 @@ module _ (k : Kept) (slot : ℕ) (small : slot < SLOTS) (p : ℕ) (x : Object) (
   unset_makes = record {
     passes = passes;
     acks = λ m w. refl;
-    effects = λ m number stand fine.
+    effects = λ m number stand at fine.
         ap (λ (o : Option (List ℕ)). cond (is_none o) (answer m NoneThere) (answer (changed m slot (λ v. record v { elements = without_element name v.elements })) Done)) (element_there m number stand);
     objects = λ m proper fine.
         let all = all_hold (checks m (UnsetElement slot name)) fine in

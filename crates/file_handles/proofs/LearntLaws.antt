@@ -9,12 +9,12 @@ use Rattle.cache_base.specs.declared.name.Name.{Name}
 use Rattle.cache_base.proofs.CheckLaws.{all_hold}
 use Rattle.cache_theory.specs.Checks.{checks, with_value}
 use Rattle.cache_theory.specs.Command.{Command}
-use Rattle.cache_theory.specs.Command.Command.{At, Create, OpenKey, Append, Finish, SetElement, UnsetElement, ElementOf, ReadPart, Close, Doom, Get, Flush, HasEntry, ListRecords, StepUpdate, UpdateState, Rebuild}
+use Rattle.cache_theory.specs.Command.Command.{At, Create, OpenKey, Append, Finish, SetElement, UnsetElement, ElementOf, UseEntry, ReadPart, Close, Doom, Get, Flush, HasEntry, ListRecords, Evict, EvictNames, StepUpdate, UpdateState, Rebuild}
 use Rattle.cache_theory.specs.Command.Reply.{Done, NoneThere}
-use Rattle.cache_theory.specs.Machine.{Machine, Object as MachineObject, is_slot, is_writer, number_of, object, object_of, on_shelf, used_by}
+use Rattle.cache_theory.specs.Machine.{Machine, Object as MachineObject, is_slot, is_writer, number_of, object_of, on_shelf, used_by}
 use Rattle.cache_theory.specs.Marks.{rewritten}
 use Rattle.cache_theory.specs.Proper.{IsProper}
-use Rattle.cache_theory.specs.Step.{Answer, answer, changed, effect, finished_by, joined, released, step, stepped, stored}
+use Rattle.cache_theory.specs.Step.{Answer, answer, changed, effect, finished_by, joined, released, step, stepped, stored, used}
 use Rattle.cache_theory.specs.Table.{Table, get, insert, remove}
 use Rattle.cache_theory.proofs.Names.{get-insert_other, get-insert_same, get-remove_other, get-remove_same, same_bytes}
 use Rattle.cache_theory.proofs.Objects.{nth, nth-set_same}
@@ -31,7 +31,7 @@ use Rattle.index_record.specs.declared.record.IndexRecord.{IndexRecord}
 use Rattle.index_theory.specs.Scan.{record_of, scanned}
 use Rattle.record_list.specs.Lists.{same_name}
 use Rattle.file_handles.specs.Changes.{appended, completed, with_version}
-use Rattle.file_handles.specs.Effects.{LearntIsScanned, learnt, learnt_at, learnt_of, learnt_under, name_of, object_name, once}
+use Rattle.file_handles.specs.Effects.{LearntIsScanned, learnt_at, learnt_of, learnt_under, name_of, object_name, once}
 use Rattle.file_handles.specs.declared.fault.Effect.{Effect}
 use Rattle.file_handles.specs.declared.fault.Effect.TheVariants as effects
 use Rattle.file_handles.proofs.EffectLaws.{and_false, and_true, at_finished, learnt_unfinished}
@@ -154,6 +154,12 @@ module _ (m : Machine) (proper : IsProper m) (q : Name) where
             stored_learnt m (number_of m s) (with_version (λ v. record v { elements = without_element name v.elements }) (object_of m s)) q (within all.0) without refl refl
             ∙ ap (λ (b : Bool). once (learnt_at without (if b then Some (number_of m s) else None)) (scanned (get m.shelf)) q) (sym (and_true (object_of m s).finished))
 
+    uses : first_failing (checks m (UseEntry s)) ≡ None → Scans m (UseEntry s) q (effect m (UseEntry s)).next
+    unfolding checks effect
+    uses fine =
+        let all = all_hold (checks m (UseEntry s)) fine in
+        stored_learnt m (number_of m s) (with_version (used m.moment) (object_of m s)) q (within all.0) (changed m s (used m.moment)) refl refl
+
     closes : first_failing (checks m (Close s)) ≡ None → Scans m (Close s) q (effect m (Close s)).next
     unfolding checks effect
     closes fine = go (is_writer m s && not (object_of m s).finished)
@@ -177,21 +183,24 @@ module _ (m : Machine) (proper : IsProper m) (q : Name) where
 
 pub learnt_scanned : LearntIsScanned
 unfolding effect
-learnt_scanned m (At now) proper fine q = by_effect m proper q (At now) fine refl
-learnt_scanned m (Create s key) proper fine q = gone m proper q (Create s key) key fine refl
-learnt_scanned m (OpenKey s key) proper fine q = by_effect m proper q (OpenKey s key) fine (ap (λ (t : Table (List ℕ)). scanned (get t) q) (joined_scanned m s (used_by m key) (on_shelf m key)))
-learnt_scanned m (Append s bytes) proper fine q = by_effect m proper q (Append s bytes) fine (appends m proper q s bytes fine)
-learnt_scanned m (Finish s) proper fine q = by_effect m proper q (Finish s) fine (finishes m proper q s fine)
-learnt_scanned m (SetElement s name value) proper fine q = by_effect m proper q (SetElement s name value) fine (sets m proper q s name value fine)
-learnt_scanned m (UnsetElement s name) proper fine q = by_effect m proper q (UnsetElement s name) fine (unsets m proper q s name fine)
-learnt_scanned m (ElementOf s name) proper fine q = by_effect m proper q (ElementOf s name) fine refl
-learnt_scanned m (ReadPart s from len) proper fine q = by_effect m proper q (ReadPart s from len) fine refl
-learnt_scanned m (Close s) proper fine q = by_effect m proper q (Close s) fine (closes m proper q s fine)
-learnt_scanned m (Doom key) proper fine q = gone m proper q (Doom key) key fine refl
-learnt_scanned m (Get key) proper fine q = by_effect m proper q (Get key) fine refl
-learnt_scanned m Flush proper fine q = by_effect m proper q Flush fine refl
-learnt_scanned m (HasEntry key) proper fine q = by_effect m proper q (HasEntry key) fine refl
-learnt_scanned m ListRecords proper fine q = by_effect m proper q ListRecords fine refl
-learnt_scanned m (StepUpdate n) proper fine q = by_effect m proper q (StepUpdate n) fine refl
-learnt_scanned m UpdateState proper fine q = by_effect m proper q UpdateState fine refl
-learnt_scanned m Rebuild proper fine q = by_effect m proper q Rebuild fine refl
+learnt_scanned m (At now) of proper fine q = by_effect m proper q (At now) fine refl
+learnt_scanned m (Create s key) of proper fine q = gone m proper q (Create s key) key fine refl
+learnt_scanned m (OpenKey s key) of proper fine q = by_effect m proper q (OpenKey s key) fine (ap (λ (t : Table (List ℕ)). scanned (get t) q) (joined_scanned m s (used_by m key) (on_shelf m key)))
+learnt_scanned m (Append s bytes) of proper fine q = by_effect m proper q (Append s bytes) fine (appends m proper q s bytes fine)
+learnt_scanned m (Finish s) of proper fine q = by_effect m proper q (Finish s) fine (finishes m proper q s fine)
+learnt_scanned m (SetElement s name value) of proper fine q = by_effect m proper q (SetElement s name value) fine (sets m proper q s name value fine)
+learnt_scanned m (UnsetElement s name) of proper fine q = by_effect m proper q (UnsetElement s name) fine (unsets m proper q s name fine)
+learnt_scanned m (ElementOf s name) of proper fine q = by_effect m proper q (ElementOf s name) fine refl
+learnt_scanned m (UseEntry s) of proper fine q = by_effect m proper q (UseEntry s) fine (uses m proper q s fine)
+learnt_scanned m (ReadPart s from len) of proper fine q = by_effect m proper q (ReadPart s from len) fine refl
+learnt_scanned m (Close s) of proper fine q = by_effect m proper q (Close s) fine (closes m proper q s fine)
+learnt_scanned m (Doom key) of proper fine q = gone m proper q (Doom key) key fine refl
+learnt_scanned m (Get key) of proper fine q = by_effect m proper q (Get key) fine refl
+learnt_scanned m Flush of proper fine q = by_effect m proper q Flush fine refl
+learnt_scanned m (HasEntry key) of proper fine q = by_effect m proper q (HasEntry key) fine refl
+learnt_scanned m ListRecords of proper fine q = absurd of
+learnt_scanned m (Evict kb) of proper fine q = absurd of
+learnt_scanned m (EvictNames names) of proper fine q = absurd of
+learnt_scanned m (StepUpdate n) of proper fine q = absurd of
+learnt_scanned m UpdateState of proper fine q = by_effect m proper q UpdateState fine refl
+learnt_scanned m Rebuild of proper fine q = absurd of

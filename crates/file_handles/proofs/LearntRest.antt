@@ -7,13 +7,13 @@ use Rattle.cache_base.specs.declared.name.Name.{Name}
 use Rattle.cache_base.proofs.CheckLaws.{AllHold, all_hold}
 use Rattle.cache_theory.specs.Checks.{checks, with_value}
 use Rattle.cache_theory.specs.Command.{Command}
-use Rattle.cache_theory.specs.Command.Command.{Create, Doom, Finish, SetElement, UnsetElement, Close}
+use Rattle.cache_theory.specs.Command.Command.{Create, Doom, Finish, SetElement, UnsetElement, UseEntry, Close}
 use Rattle.cache_theory.specs.Command.Reply.{Done, NoneThere}
 use Rattle.cache_theory.specs.Machine.{Machine, Object as MachineObject, is_writer, number_of, object, object_of}
 use Rattle.cache_theory.specs.Marks.{rewritten}
 use Rattle.cache_theory.specs.Proper.{IsProper}
 use Rattle.cache_theory.specs.Refiled.{IsRefiled, Refiled, refiled, refiled_by}
-use Rattle.cache_theory.specs.Step.{Answer, answer, changed, effect, finished_by, released, step, stepped, stored, without}
+use Rattle.cache_theory.specs.Step.{Answer, answer, changed, effect, finished_by, released, step, stepped, stored, used, without}
 use Rattle.cache_theory.proofs.Objects.{nth, nth-set_same}
 use Rattle.cache_theory.proofs.Refiling.{entries_are_refiled}
 use Rattle.cache_theory.proofs.Users.{slot_in_use}
@@ -65,6 +65,8 @@ written_done m (SetElement s name value) proper hold =
 written_done m (UnsetElement s name) proper hold =
     where_done (effect m (UnsetElement s name)).next (number_of m s) ((object_of m s).finished && is_some (element name (object_of m s).version.elements))
     (unset_done m s (slot_in_use m proper s hold.0).number (λ v. record v { elements = without_element name v.elements }) (element name (object_of m s).version.elements))
+written_done m (UseEntry s) proper hold =
+    where_done (changed m s (used m.moment)) (number_of m s) (object_of m s).finished (changed_done m s (slot_in_use m proper s hold.0).number (used m.moment))
 written_done m (Close s) proper hold =
     where_done (released (finished_by m s) s) (number_of m s) (is_writer m s && not (object_of m s).finished) (λ writes.
     ap (λ objects. (nth objects (number_of m s)).finished) (released_objects (finished_by m s) s) ∙ completed_done m s (slot_in_use m proper s hold.0).number writes)

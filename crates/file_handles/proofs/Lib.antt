@@ -18,10 +18,12 @@ pub mod Grown
 pub mod Completed
 pub mod Carried
 pub mod WriterCommands
-pub mod ElementChanged
+pub mod EntryChanged
 pub mod ElementReads
 pub mod ElementCommands
+pub mod UseCommand
 pub mod User
+pub mod OpenNames
 pub mod DoomedNumbers
 pub mod DoomedStands
 pub mod DoomedKeeps
@@ -46,6 +48,8 @@ pub mod Begins
 pub mod CreatedIn
 pub mod CreatedCommand
 pub mod Released
+pub mod SlotUsers
+pub mod Evicted
 pub mod ReleasedFiles
 pub mod ReleasedSlot
 pub mod ClosedSlot

@@ -35,7 +35,7 @@ pub no_one : {X : Type 0} (o : Option X) → is_some o ≡ false → o ≡ None
 no_one None h = refl
 no_one (Some x) h = cc
 
-user_at : (k : Kept) (name : Name) (p : ℕ) (x : Option Object) → p < length k.objects → object_at k p ≡ x → is_user name x ≡ true → IsUserAt k name p
+pub user_at : (k : Kept) (name : Name) (p : ℕ) (x : Option Object) → p < length k.objects → object_at k p ≡ x → is_user name x ≡ true → IsUserAt k name p
 user_at k name p None lt at is = absurd (cc)
 user_at k name p (Some x) lt at is =
     let parts = and_parts (is_none x.doomed) (bytes_eq x.name.0 name.0) is in

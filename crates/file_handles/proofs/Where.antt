@@ -82,3 +82,7 @@ module _ {c : Command} {replied : Option Reply} {before after : Cache} where
     pub carried_out_at : CarriesOutAt now c replied before after → CarriesOutAtWhere now c replied before after
     carried_out_at carried true m w moment is = marked_leaves {h = history_of m w} (carried.answers m moment (stand_for is)) (carried.crash (history_of m w) moment (is_in is))
     carried_out_at carried false m w moment is = bare_leaves {h = history_of m w} (carried.answers m moment (stand_for is))
+
+    -- what is carried out at every moment is at this one
+    pub at_moment : CarriesOut c replied before after → CarriesOutAt now c replied before after
+    at_moment carried = record { answers = λ m moment stand. carried.answers m stand; crash = λ h moment is. carried.crash h is }

@@ -30,7 +30,7 @@ unfolding checks effect
 append_makes k slot bytes are passes = record {
   passes = passes;
   acks = λ m w. refl;
-  effects = λ m number stand fine. refl;
+  effects = λ m number stand at fine. refl;
   objects = λ m proper fine.
       let all = all_hold (checks m (Append slot bytes)) fine in
       object_appended (object_of m slot) bytes (not-true (object_of m slot).finished all.1.1.0) are all.1.1.1.0 (object_is m slot proper all.0);
@@ -48,7 +48,7 @@ unfolding checks effect
 finish_makes k slot passes = record {
   passes = passes;
   acks = λ m w. refl;
-  effects = λ m number stand fine.
+  effects = λ m number stand at fine.
       let all = all_hold (checks m (Finish slot)) fine in
       λ i. answer (if all.1.0 i && all.1.1.0 i then stored m (number_of m slot) (completed (object_of m slot)) else m) Done;
   objects = λ m proper fine.

@@ -13,7 +13,6 @@ use Rattle.disk_model.specs.State.{State, standing}
 use Rattle.disk_model.specs.declared.place.Place.TheVariants.{Doomed}
 use Rattle.file_handles.specs.Cache.{Cache}
 use Rattle.file_handles.specs.Stands.{KeepsWhere, ReachesHistory, Represents}
-use Rattle.file_handles.specs.declared.fault.HandleFault.{HandleFault}
 use Rattle.file_handles.specs.declared.object.Object.{Object}
 
 -- the number of a doomed object
@@ -24,9 +23,9 @@ number_in x = option_and_then (λ y. y.doomed) x
 abbrev pub numbers_in : List (Option Object) → List ℕ
 numbers_in objects = filter_map number_in objects
 
--- the object in use under a name is doomed, whatever the history in whose marks the name is touched
-pub record DoomsUnder {T : Type 0} (name : List ℕ) (answer : Result T HandleFault)
-    (before after : Cache) : Type 0 where
+-- what stands under a name is doomed, whatever the history in whose marks the name is touched
+pub record DoomsUnder {T E : Type 0} (name : List ℕ) (answer : Result T E) (before after : Cache)
+    : Type 0 where
   pub leaves : (crash : Bool) (h : History) → is_touched h.marks name ≡ true
       → KeepsWhere crash before h
       → ReachesHistory crash (record h { machine = doomed_under h.machine name }) answer after

@@ -67,6 +67,11 @@ abbrev pub HasEffect : Kept → Command → Effect → Type 0
 HasEffect k c e =
     (m : Machine) (number : ℕ → ℕ) → IsProper m → HandlesStand k m number → e ≡ learnt m c
 
+-- so it is for every machine of this moment that they stand for
+abbrev pub HasEffectAt : ℕ → Kept → Command → Effect → Type 0
+HasEffectAt now k c e = (m : Machine) (number : ℕ → ℕ)
+    → m.moment ≡ now → IsProper m → HandlesStand k m number → e ≡ learnt m c
+
 -- it is what is learnt of an object that is held, whichever of the machine's that is, once it is
 -- changed so
 abbrev pub IsLearntOf : (MachineObject → MachineObject) → Option Object → Effect → Type 0
@@ -90,10 +95,10 @@ once effect.Same said name = said name
 once (effect.Gone gone) said name = if same_name gone name then None else said name
 once (effect.Wrote r) said name = if same_name r.name name then Some r else said name
 
--- a command whose checks hold changes the scan of the shelf by what is learnt of it
+-- a command on entries whose checks hold changes the scan of the shelf by what is learnt of it
 abbrev pub LearntIsScanned : Type 0
 LearntIsScanned = (m : Machine) (c : Command)
-    → IsProper m → first_failing (checks m c) ≡ None → (name : Name)
+    → IsOfEntries c → IsProper m → first_failing (checks m c) ≡ None → (name : Name)
     → scanned (get (step m c).next.shelf) name ≡ once (learnt m c) (scanned (get m.shelf)) name
 
 -- the record that is learnt, if there is one, says neither that its name is gone nor that it is

@@ -18,3 +18,4 @@ pub mod Creating
 pub mod Joining
 pub mod Found
 pub mod Refuses
+pub mod Users

@@ -1,14 +1,17 @@
--- A change of an entry's elements.
+-- A change of an entry: of its elements, or one more use.
 use Rattle.std.specs.Prelude.{Bool, List, None, Option, Some, if◌then◌else◌, length, nat_le, ℕ, ◌&&◌, ◌≤◌}
 use Rattle.cache_base.specs.Limits.{chunks}
 use Rattle.cache_base.specs.declared.limits.TheConstants.{BLOCK_MAX, ELEMENTS_MAX}
 use Rattle.entry_file.specs.Version.{Version}
 use Rattle.entry_metadata.specs.Metadata.{block_length}
 use Rattle.entry_parts.specs.Elements.{Element, elements_bytes}
+use Rattle.entry_parts.specs.Header.{used_header}
 use Rattle.entry_parts.specs.Setting.{with_element, without_element}
+use Rattle.entry_parts.specs.declared.header.Header.{Header}
+use Rattle.frecency.specs.Frecency.{next as next_frecency}
 use Rattle.file_handles.specs.Held.{body_len_in, key_in}
-use Rattle.file_handles.specs.declared.elements.Change.{Change}
-use Rattle.file_handles.specs.declared.elements.Change.TheVariants as change
+use Rattle.file_handles.specs.declared.change.Change.{Change}
+use Rattle.file_handles.specs.declared.change.Change.TheVariants as change
 use Rattle.file_handles.specs.declared.object.Entry.{Entry}
 use Rattle.file_handles.specs.declared.object.Entry.TheVariants as entry
 
@@ -16,9 +19,18 @@ use Rattle.file_handles.specs.declared.object.Entry.TheVariants as entry
 abbrev pub changed_by : Change → List Element → List Element
 changed_by (change.Set name value) es = with_element name.now value.now es
 changed_by (change.Remove name) es = without_element name.now es
+changed_by (change.Use now) es = es
 
+-- the header after it: a use counts, and gives the frecency that follows
+abbrev pub header_by : Change → Header → Header
+header_by (change.Set name value) h = h
+header_by (change.Remove name) h = h
+header_by (change.Use now) h = used_header h now (next_frecency h.frecency now)
+
+-- and the version
 abbrev pub with_change : Change → Version → Version
-with_change c v = record v { elements = changed_by c v.elements }
+with_change c v =
+    record v { header = header_by c v.header; elements = changed_by c v.elements }
 
 -- the entry has room for these elements
 abbrev pub HasRoom : Entry → List Element → Type 0

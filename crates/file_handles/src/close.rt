@@ -21,8 +21,8 @@ use disk_model::{Disk, DiskFault};
 use doom_area::release;
 use std::alloc::Global;
 
-// Whether the use is of this place.
-fn uses(used: &Option<Use>, place: usize) -> bool
+/// Whether the use is of this place.
+pub(crate) fn uses(used: &Option<Use>, place: usize) -> bool
     ensures { result ≡ is_use_of place used.now }
 {
     match used {

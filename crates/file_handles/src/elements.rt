@@ -1,6 +1,6 @@
 //! Reads and changes the elements of an entry in use.
 
-ghost use Rattle.std.specs.Prelude.{ℕ, List, None, Some, true, ◌+◌, ◌≡◌, ◌<◌, ◌≤◌, IfErr, IfNone, IfOk, IfSome, IsSomeAnd, IsTrue, OnOk, length, option_map};
+ghost use Rattle.std.specs.Prelude.{ℕ, List, Some, ◌+◌, ◌≡◌, ◌<◌, ◌≤◌, IfErr, IfNone, IfOk, IfSome, IsSomeAnd, IsTrue, OnOk, length, option_map};
 ghost use Rattle.cache_base.specs.Limits.{chunks as chunks_of};
 ghost use Rattle.cache_base.specs.declared.limits.TheConstants.{ELEMENTS_MAX, SLOTS};
 ghost use Rattle.cache_theory.specs.Command.Command.{ElementOf, SetElement, UnsetElement};
@@ -12,28 +12,19 @@ ghost use Rattle.entry_metadata.specs.Metadata.{block_length};
 ghost use Rattle.entry_parts.specs.Elements.{elements_bytes};
 ghost use Rattle.entry_parts.specs.Setting.{has_zero as has_zero_in, with_element};
 ghost use Rattle.file_handles.specs.Answers.{OnRefused, done_or, done_or_none, ending};
-ghost use Rattle.file_handles.specs.Effects.{HasEffect, IsLearntOf, IsPlainEffect};
-ghost use Rattle.file_handles.specs.Held.{body_len_in, elements_in, is_draft, key_in};
-ghost use Rattle.file_handles.specs.Setting.{HasRoom, are_small, changed_by, small_len, with_change};
+ghost use Rattle.file_handles.specs.Effects.{HasEffect, IsPlainEffect};
+ghost use Rattle.file_handles.specs.Held.{body_len_in, elements_in, key_in};
+ghost use Rattle.file_handles.specs.Setting.{HasRoom, are_small, small_len};
 ghost use Rattle.index_theory.specs.Leaves.{LeavesIndex};
 
-use crate::finish::learnt_of;
-use crate::object::{Draft, Entry, Object};
+use crate::change::Change;
+use crate::object::Entry;
 use crate::{Effect, HandleFault, Handles};
-use cache_base::{BLOCK_MAX, ELEMENTS_MAX, NoMemory, chunks};
+use cache_base::{BLOCK_MAX, ELEMENTS_MAX, chunks};
 use cache_theory::Refusal;
 use disk_model::Disk;
-use entry_file::rewrite_meta;
-use entry_metadata::Meta;
 use entry_parts::Elements;
 use std::alloc::Global;
-
-/// A change of an entry's elements.
-#[derive(Clone, Copy)]
-pub(crate) enum Change<'a> {
-    Set { name: &'a [u8], value: &'a [u8] },
-    Remove { name: &'a [u8] },
-}
 
 fn has_zero(b: &[u8]) -> bool
     ensures { result ≡ has_zero_in b.now }
@@ -91,77 +82,10 @@ fn may_have(entry: &Entry, elements: &Elements, name: &[u8], value: &[u8]) -> bo
     }
 }
 
-// The elements after the change.
-fn changed(elements: Elements, change: Change<'_>) -> Result<Elements, NoMemory>
-    ensures { IfOk result (λ after. after ≡ changed_by change.entry elements) }
-{
-    let mut elements = elements;
-    match change {
-        Change::Set { name, value } => {
-            if elements.set(name, value).is_err() {
-                return Err(NoMemory);
-            }
-        }
-        Change::Remove { name } => {
-            elements.remove(name);
-        }
-    }
-    Ok(elements)
-}
-
-// The draft after the change.
-fn changed_draft(draft: Draft, change: Change<'_>) -> Result<Draft, NoMemory>
-    requires { length (elements_bytes (changed_by change draft.elements)) ≤ ELEMENTS_MAX }
-    ensures elements { IfOk result (λ after.
-        after.elements ≡ changed_by change.entry draft.elements) }
-    ensures others { IfOk result (λ after. (after.body ≡ draft.body)
-        × ((after.header ≡ draft.header) × (after.key ≡ draft.key))) }
-{
-    let Draft {
-        body,
-        header,
-        key,
-        elements,
-    } = draft;
-    let elements = changed(elements, change)?;
-    Ok(Draft {
-        body,
-        header,
-        key,
-        elements,
-    })
-}
-
-// The metadata after the change.
-fn changed_meta(meta: Meta, change: Change<'_>) -> Result<Meta, NoMemory>
-    requires { HasRoom (Entry.Finished meta) (changed_by change meta.elements) }
-    ensures elements { IfOk result (λ after.
-        after.elements ≡ changed_by change.entry meta.elements) }
-    ensures others { IfOk result (λ after. (after.header ≡ meta.header) × ((after.key ≡ meta.key)
-        × ((after.hashes ≡ meta.hashes) × (after.offset ≡ meta.offset)))) }
-{
-    let Meta {
-        header,
-        key,
-        elements,
-        hashes,
-        offset,
-    } = meta;
-    let elements = changed(elements, change)?;
-    Ok(Meta {
-        header,
-        key,
-        elements,
-        hashes,
-        offset,
-    })
-}
-
 impl Handles {
     ghost use Rattle.file_handles.specs.Cache.{cache};
     ghost use Rattle.file_handles.specs.Carries.{Answers, CarriesOut};
-    ghost use Rattle.file_handles.specs.Changes.{ChangesThere, IsFiledAt, with_version};
-    ghost use Rattle.file_handles.specs.Kept.{kept, object_at as object_kept_at, object_in};
+    ghost use Rattle.file_handles.specs.Kept.{kept, object_at as object_kept_at};
     ghost use Rattle.file_handles.specs.Refuses.{HasAt, Passes, Refuses, UsesObject};
     ghost use Rattle.file_handles.specs.Stands.{RepresentsSome};
 
@@ -203,49 +127,6 @@ impl Handles {
         } else {
             Err(Refusal::TooLarge)
         }
-    }
-
-    // Changes the elements of the object at a place. The metadata of a finished entry are rewritten.
-    fn change_at<D: Disk>(
-        &mut self,
-        alloc: Global,
-        disk: &mut D,
-        place: usize,
-        change: Change<'_>,
-    ) -> Result<Effect, HandleFault>
-        requires place { place < SLOTS }
-        requires room { IsSomeAnd (object_kept_at (kept self.old) place)
-            (λ x. HasRoom x.entry (changed_by change (elements_in x.entry))) }
-        requires told { IsTrue D.tells → IsFiledAt (cache D.Disk self.old disk.old) place }
-        ensures changes { let at = cache D.Disk in IsTrue D.tells →
-            ChangesThere place (with_version (with_change change.entry)) result
-            (at self.old disk.old) (at self.new disk.new) }
-        ensures quiet { IsTrue D.tells → IfSome (object_kept_at (kept self.old) place)
-            (λ x. is_draft x.entry ≡ true → D.state disk.new ≡ D.state disk.old) }
-        ensures effect { IfOk result (IsLearntOf
-            (with_version (with_change change.entry)) (object_kept_at (kept self.old) place)) }
-        ensures plain { IfOk result IsPlainEffect }
-        ensures refused { OnRefused result (λ _. ⊥) }
-        ensures account { Accounts D.Disk (ending result) disk.old disk.new }
-    {
-        let object = self.take(place);
-        let file = object.file_place();
-        let Object {
-            name,
-            doomed,
-            entry,
-        } = object;
-        let entry = match entry {
-            Entry::Draft(draft) => Entry::Draft(changed_draft(draft, change)?),
-            Entry::Finished(meta) => {
-                let meta = changed_meta(meta, change)?;
-                rewrite_meta(alloc, disk, &file, &meta)?;
-                Entry::Finished(meta)
-            }
-        };
-        let effect = learnt_of(&name, doomed, &entry);
-        self.put_entry(place, name, doomed, entry);
-        Ok(effect)
     }
 
     /// Sets the value of the first element of the name, or adds the element at the end. The metadata of a finished

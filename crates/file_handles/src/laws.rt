@@ -2,7 +2,7 @@
 
 ghost use Rattle.file_handles.specs.Effects.{LearntIsScanned, LearntLeavesRest};
 
-/// What an index must learn of a command is how the scan of the shelf changes.
+/// What an index must learn of a command on entries is how the scan of the shelf changes.
 pub fn learnt_is_scanned()
     ensures { LearntIsScanned }
 {}

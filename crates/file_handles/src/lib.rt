@@ -4,10 +4,12 @@
 #![tactic(auto)]
 
 mod append;
+mod change;
 mod close;
 mod create;
 mod doom;
 mod elements;
+mod evict;
 mod fault;
 mod find;
 mod finish;
@@ -16,6 +18,8 @@ mod laws;
 mod object;
 mod open;
 mod read;
+mod use_entry;
+mod users;
 
 pub use cache_theory::Refusal;
 pub use fault::{Effect, HandleFault};

@@ -4,6 +4,7 @@ mod doomed;
 mod elements;
 mod refusals;
 mod sessions;
+mod users;
 
 use crate::{Effect, HandleFault, Handles, Refusal};
 use cache_base::{Moment, NoMemory};

@@ -151,58 +151,108 @@ fn lists_what_stands(alloc: Global, disk: &mut MemDisk) -> Result<bool, Fail> {
     Ok(before.as_slice() == after.as_slice())
 }
 
-// The second entry is written anew and flushed, and the machine stops after each number of calls. Whether in an image
-// the others are found as they were, and the second as it was, as it is now, or not at all: as it is now, where the flush
-// was acknowledged.
-fn is_allowed(alloc: Global, image: &mut MemDisk, flushed: bool) -> Result<bool, Fail> {
-    let others = prints(alloc, image, ":a", OLD)? && prints(alloc, image, ":c", OLD)?;
-    let others = others && lists_what_stands(alloc, image)?;
-    if flushed {
-        return Ok(others && prints(alloc, image, ":b", NEW)?);
-    }
-    let second = prints(alloc, image, ":b", OLD)?
-        || prints(alloc, image, ":b", NEW)?
-        || prints(alloc, image, ":b", ABSENT)?;
-    Ok(others && second)
+// What is done to one of the three entries, and what a `get` prints of it afterwards: after this text at once, and before
+// it not yet, or nothing.
+#[derive(Clone, Copy)]
+struct Change<'a> {
+    line: &'a str,
+    script: &'a [u8],
+    key: &'a str,
+    acked: Option<&'a [u8]>,
+    new: &'a [u8],
 }
 
-#[test]
-fn each_stop_leaves_what_is_allowed(rt: HostRuntime) -> Result<(), Fail> {
-    let alloc = rt.alloc();
-    let script = b"create 0 :b\nappend 0 3\nnew\nclose 0\nflush\n";
-    let mut disk = three_entries(alloc)?;
-    let before = disk.calls();
-    let (status, _) = ends(alloc, &mut disk, "1001 run", script)?;
-    assert_eq!(rt; status, Status::Done);
-    for stop in before..disk.calls() {
-        let mut disk = three_entries(alloc)?;
-        disk.stop_after(stop);
-        let (status, text) = ends(alloc, &mut disk, "1001 run", script)?;
-        assert_eq!(rt; status, Status::Disk);
-        let flushed = text.as_slice() == b"ok\nok\nok\nok\n".as_slice();
-        let (a, b, c) = (place_of(":a"), place_of(":b"), place_of(":c"));
-        let now = [
-            (":a", disk.file(&a)),
-            (":b", disk.file(&b)),
-            (":c", disk.file(&c)),
-        ];
-        let image = image_of(alloc, &disk, false, &now)?;
-        let mut image = image.ok_or("the disk as it reads is no image")?;
-        assert!(rt;
-            is_allowed(alloc, &mut image, flushed)?,
-            "after {stop} calls"
-        );
-        let synced = [
+// Whether in an image the other entries are found as they were, and the changed one as it may be.
+fn is_allowed(
+    alloc: Global,
+    image: &mut MemDisk,
+    change: &Change<'_>,
+    acked: bool,
+) -> Result<bool, Fail> {
+    for key in [":a", ":b", ":c"] {
+        if key != change.key && !prints(alloc, image, key, OLD)? {
+            return Ok(false);
+        }
+    }
+    if !lists_what_stands(alloc, image)? {
+        return Ok(false);
+    }
+    if prints(alloc, image, change.key, change.new)? {
+        return Ok(true);
+    }
+    let old = prints(alloc, image, change.key, OLD)?;
+    let absent = prints(alloc, image, change.key, ABSENT)?;
+    Ok(!acked && (old || absent))
+}
+
+// Whether the image with what stands, or with what was synced, is allowed.
+fn image_is_allowed(
+    alloc: Global,
+    disk: &MemDisk,
+    synced: bool,
+    change: &Change<'_>,
+    acked: bool,
+) -> Result<bool, Fail> {
+    let (a, b, c) = (place_of(":a"), place_of(":b"), place_of(":c"));
+    let contents = if synced {
+        [
             (":a", disk.synced_file(&a)),
             (":b", disk.synced_file(&b)),
             (":c", disk.synced_file(&c)),
-        ];
-        let image = image_of(alloc, &disk, true, &synced)?;
-        let mut image = image.ok_or("what was synced is no image")?;
-        assert!(rt;
-            is_allowed(alloc, &mut image, flushed)?,
-            "after {stop} calls"
-        );
+        ]
+    } else {
+        [
+            (":a", disk.file(&a)),
+            (":b", disk.file(&b)),
+            (":c", disk.file(&c)),
+        ]
+    };
+    let image = image_of(alloc, disk, synced, &contents)?;
+    let mut image = image.ok_or("this is no image")?;
+    is_allowed(alloc, &mut image, change, acked)
+}
+
+// The first number of calls after which a stop leaves an image that is not allowed, where there is one.
+fn bad_stop(alloc: Global, change: &Change<'_>) -> Result<Option<u64>, Fail> {
+    let mut disk = three_entries(alloc)?;
+    let before = disk.calls();
+    ends(alloc, &mut disk, change.line, change.script)?;
+    for stop in before..disk.calls() {
+        let mut disk = three_entries(alloc)?;
+        disk.stop_after(stop);
+        let (status, text) = ends(alloc, &mut disk, change.line, change.script)?;
+        let acked = change.acked == Some(text.as_slice());
+        let now = image_is_allowed(alloc, &disk, false, change, acked)?;
+        let synced = image_is_allowed(alloc, &disk, true, change, acked)?;
+        if status != Status::Disk || !now || !synced {
+            return Ok(Some(stop));
+        }
     }
+    Ok(None)
+}
+
+// The second entry is written anew and flushed; and the one whose name is the least is evicted.
+#[test]
+fn each_stop_leaves_what_is_allowed(rt: HostRuntime) -> Result<(), Fail> {
+    let alloc = rt.alloc();
+    let anew = Change {
+        line: "1001 run",
+        script: b"create 0 :b\nappend 0 3\nnew\nclose 0\nflush\n",
+        key: ":b",
+        acked: Some(b"ok\nok\nok\nok\n"),
+        new: NEW,
+    };
+    assert_eq!(rt; bad_stop(alloc, &anew)?, None);
+    let evicted = Change {
+        line: "1001 evict 2",
+        script: b"",
+        key: ":c",
+        acked: None,
+        new: ABSENT,
+    };
+    assert_eq!(rt; bad_stop(alloc, &evicted)?, None);
+    let mut disk = three_entries(alloc)?;
+    ends(alloc, &mut disk, "1001 evict 2", b"")?;
+    assert!(rt; is_allowed(alloc, &mut disk, &evicted, true)?);
     Ok(())
 }

@@ -11,9 +11,11 @@ fn a_doomed_entry_is_gone(rt: HostRuntime) -> Result<(), Fail> {
         (DOOM, b"".as_slice(), Status::Done, b"ok\n".as_slice()),
         (DOOM, b"", Status::No, ABSENT),
         ("1001 doom x", b"", Status::No, b"bad key\n"),
+        ("1002 evict 0", b"", Status::Done, b"evicted 0\n"),
         ("1003 flush", b"", Status::Done, b"ok\n"),
+        ("1004 rebuild", b"", Status::Done, b"rebuilt 0\n"),
     ];
-    assert_eq!(rt; rows_so(alloc, &mut disk, &rows)?, 4);
+    assert_eq!(rt; rows_so(alloc, &mut disk, &rows)?, 6);
     assert!(rt; disk.file(&place_of(KEY)).is_none());
     Ok(())
 }

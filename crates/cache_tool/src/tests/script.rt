@@ -20,8 +20,22 @@ const A_READER_OUTLIVES_ITS_ENTRY: (&[u8], &[u8]) = (
 );
 
 const ELEMENTS: (&[u8], &[u8]) = (
-    b"create 0 :x\nset 0 1 ctid\n5\nset 0 0 \n\nelement 0 ctid\nunset 0 none\nfinish 0\nappend 0 1\nz\n",
-    b"ok\nok\nbad element\nvalue 1\n5\nnone\nok\nfinished\n",
+    b"create 0 :x\nset 0 1 ctid\n5\nset 0 0 \n\nelement 0 ctid\nunset 0 none\nfinish 0\nappend 0 1\nz\nuse 0\n",
+    b"ok\nok\nbad element\nvalue 1\n5\nnone\nok\nfinished\nok\n",
+);
+
+// A use is counted at its moment, and the frecency follows: of an unfinished entry as of a finished one, by any slot.
+const USES: (&[u8], &[u8]) = (
+    b"create 0 :x\nuse 0\nclose 0\nget :x\nopen 1 :x\nat 2000\nuse 1\nget :x\nuse 2\n",
+    b"ok\nok\nok\nfound 2 1000 1000 22600 4294967295 0 0 0\n\n\n\
+    ok\nok\nok\nfound 3 2000 1000 35650 4294967295 0 0 0\n\n\nno slot\n",
+);
+
+// An entry that is open stays, finished or not, and its size counts once it is finished.
+const OPEN_ENTRIES_STAY: (&[u8], &[u8]) = (
+    b"create 0 :x\nevict 0\nfinish 0\nevict 0\nopen 1 :x\nclose 0\nevict 0\nclose 1\nevict 1\nevict 0\nhas :x\n",
+    b"ok\nevicted 0\nok\nevicted 0\nok\nok\nevicted 0\nok\nevicted 0\n\
+    evicted 1\nE7B6F5F662C0DAF32123F79D1EE97F4F2B56A961\nno\n",
 );
 
 // What is written at a later moment has it, and two keys are two entries.
@@ -63,6 +77,8 @@ fn scripts_are_answered(rt: HostRuntime) -> Result<(), Fail> {
         THREE_RECORDS,
         A_READER_OUTLIVES_ITS_ENTRY,
         ELEMENTS,
+        USES,
+        OPEN_ENTRIES_STAY,
         MOMENTS,
         REFUSALS,
     ] {
@@ -134,6 +150,10 @@ fn malformed_lines_are_named(rt: HostRuntime) -> Result<(), Fail> {
         b"step -1\n",
         b"state \n",
         b"rebuild \n",
+        b"use\n",
+        b"use 64\n",
+        b"evict\n",
+        b"evict 4294967296\n",
     ] {
         let mut disk = MemDisk::new(alloc);
         let so = runs(alloc, &mut disk, script, Status::Script, b"script 1\n")?;

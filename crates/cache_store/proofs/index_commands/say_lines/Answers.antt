@@ -1,10 +1,11 @@
-use Rattle.std.proofs.Common.{◌∙◌, List, ℕ, arith, drop, refl, rules, subst}
-use Rattle.std.proofs.lemmas.List.{drop_more, length-drop}
+use Rattle.std.proofs.Common.{◌≡◌, ◌∙◌, ◌++◌, ◌<◌, ◌∷◌, [], ap₂, false, ℕ, List, arith, drop, length, refl, rules, subst, sym, take}
+use Rattle.std.specs.Prelude.{◌==◌}
+use Rattle.std.proofs.lemmas.List.{take-append-drop}
 use Rattle.cache_theory.specs.Text.{line, record_words, spaced}
 use Rattle.index_record.specs.declared.record.IndexRecord.{IndexRecord}
 use Rattle.cache_store.specs.Said.{saying}
 use Rattle.cache_store.specs.Saying.{CutsIn, SaysMore}
-use Rattle.cache_store.proofs.SaidFront.{cuts_before, cuts_newline, cuts_words, says_line}
+use Rattle.cache_store.proofs.SaidFront.{cuts_before, cuts_part, says_part}
 use Rattle.cache_store.proofs.SaidMore.{when_err}
 use Rattle.cache_store.proofs.index_commands.say_lines.Goals as goal
 
@@ -14,43 +15,35 @@ line_of r = line (record_words r)
 abbrev words_of : IndexRecord → List ℕ
 words_of r = spaced (record_words r)
 
-pub returns-in_err-text-clause-cut : goal.returns-in_err-text-clause-cut
-returns-in_err-text-clause-cut g c =
-    let rs = c.args.records.now in
-    let i = c.loop-record.record-index in
+-- a list in two parts
+parts : (left part rest : List IndexRecord) (n : ℕ) → part ≡ take n left → rest ≡ drop n left → left ≡ part ++ rest
+parts left part rest n front back = sym (ap₂ (λ (a b : List IndexRecord). a ++ b) front back ∙ take-append-drop n left)
+
+some_left : (left : List IndexRecord) → (length left == 0) ≡ false → 0 < length left
+some_left [] none = absurd (cc)
+some_left (r ∷ rs) some = omega arith
+
+pub returns-in_err-lines-clause-cut : goal.returns-in_err-lines-clause-cut
+returns-in_err-lines-clause-cut g c =
+    let left = c.loop-left.left.now in
     when_err c.from_residual.result _
-    (cuts_before line_of words_of rs (drop i rs) (saying g.K.Sink c.args.reply.now c.args.sink.now) (saying g.K.Sink c.loop-record.reply c.loop-record.sink) (λ r. refl)
-    (let lt = c.loop-record-test.true in let len = length-drop i rs in omega (arith, lt, len)) c.loop-record.invariant.says)
+    (cuts_before line_of words_of c.args.records.now left (saying g.K.Sink c.args.reply.now c.args.sink.now) (saying g.K.Sink c.loop-left.reply c.loop-left.sink) (λ r. refl)
+    (some_left left (sym c.is_empty.ensures ∙ c.loop-left-test.true)) c.loop-left.invariant.says)
 
 pub returns-in_err-put-clause-cut : goal.returns-in_err-put-clause-cut
 returns-in_err-put-clause-cut g c =
-    let rs = c.args.records.now in
-    let i = c.loop-record.record-index in
-    let s1 = saying g.K.Sink c.loop-record.reply c.loop-record.sink in
+    let s1 = saying g.K.Sink c.loop-left.reply c.loop-left.sink in
     let out = g.K.Sink.taken c.put.new.sink in
     when_err c.from_residual-in_err-put.result _
-    (cuts_words line_of rs (drop i rs) _ _ (saying g.K.Sink c.args.reply.now c.args.sink.now) s1 c.loop-record.invariant.says (drop_more rs i _ c.loop-record-test.true) _ refl out
-    (subst (λ (t : List ℕ). CutsIn s1 out t) (c.as_bytes.ensures.value ∙ c.in_ok-text.ensures) c.in_err-put.ensures.cut))
+    (cuts_part line_of c.args.records.now c.loop-left.left.now c.split_at.result.0.now c.split_at.result.1.now (saying g.K.Sink c.args.reply.now c.args.sink.now) s1 c.loop-left.invariant.says
+    (parts c.loop-left.left.now _ _ _ c.split_at.ensures.front c.split_at.ensures.back) out (subst (λ (t : List ℕ). CutsIn s1 out t) (c.as_slice.ensures ∙ c.in_ok-lines.ensures) c.in_err-put.ensures.cut))
 
-pub returns-in_err-put-2-clause-cut : goal.returns-in_err-put-2-clause-cut
-returns-in_err-put-2-clause-cut g c =
-    let rs = c.args.records.now in
-    let i = c.loop-record.record-index in
-    let s1 = saying g.K.Sink c.loop-record.reply c.loop-record.sink in
-    let s2 = saying g.K.Sink c.put.new.self c.put.new.sink in
-    when_err c.from_residual-in_err-put-2.result _
-    (cuts_newline line_of rs (drop i rs) _ _ (saying g.K.Sink c.args.reply.now c.args.sink.now) s1 c.loop-record.invariant.says (drop_more rs i _ c.loop-record-test.true) _ refl s2
-    (subst (λ (t : List ℕ). SaysMore s1 s2 t) (c.as_bytes.ensures.value ∙ c.in_ok-text.ensures) c.in_ok-put.ensures.said) (g.K.Sink.taken c.put-in-loop-record.new.sink) c.in_err-put-2.ensures.cut)
-
-pub loop-record-preserved : goal.loop-record-preserved
-loop-record-preserved g c =
-    let rs = c.args.records.now in
-    let i = c.loop-record.record-index in
-    let s1 = saying g.K.Sink c.loop-record.reply c.loop-record.sink in
+pub loop-left-preserved : goal.loop-left-preserved
+loop-left-preserved g c =
+    let s1 = saying g.K.Sink c.loop-left.reply c.loop-left.sink in
     let s2 = saying g.K.Sink c.put.new.self c.put.new.sink in
     record {
-      says = says_line line_of rs (drop i rs) _ _ (saying g.K.Sink c.args.reply.now c.args.sink.now) s1 c.loop-record.invariant.says (drop_more rs i _ c.loop-record-test.true) _ refl s2
-          (subst (λ (t : List ℕ). SaysMore s1 s2 t) (c.as_bytes.ensures.value ∙ c.in_ok-text.ensures) c.in_ok-put.ensures.said)
-          (saying g.K.Sink c.put-in-loop-record.new.self c.put-in-loop-record.new.sink) c.in_ok-put-2.ensures.said;
+      says = says_part line_of c.args.records.now c.loop-left.left.now c.split_at.result.0.now c.split_at.result.1.now (saying g.K.Sink c.args.reply.now c.args.sink.now) s1 c.loop-left.invariant.says
+          (parts c.loop-left.left.now _ _ _ c.split_at.ensures.front c.split_at.ensures.back) s2 (subst (λ (t : List ℕ). SaysMore s1 s2 t) (c.as_slice.ensures ∙ c.in_ok-lines.ensures) c.in_ok-put.ensures.said);
       sink = search rules;
     }

@@ -11,6 +11,7 @@ use Rattle.cache_theory.specs.History.{unanswered}
 use Rattle.cache_tool.specs.HeldReply.{said_in}
 use Rattle.cache_tool.specs.World.{supply}
 use Rattle.cache_tool.proofs.Handed.{handed_on, handed_open}
+use Rattle.cache_tool.proofs.PutReplies.{sent_itself}
 use Rattle.cache_tool.proofs.RightLaws.{open_leaves_honest}
 use Rattle.cache_tool.proofs.PutWhole.{appended_failed, appended_other, close_failed, close_went, create_failed, create_refused, created, nothing_went, other_outcome}
 use Rattle.cache_tool.proofs.put.perform_put.Goals as goal
@@ -29,19 +30,19 @@ pub returns-in_err-send-clause-performs : goal.returns-in_err-send-clause-perfor
 returns-in_err-send-clause-performs g c = λ told. record {
   each = λ some h stands.
       let failed = handed_on c.from_residual-in_err-send.result c.in_err-send.field-0.0 c.from_residual-in_err-send.ensures.1 in
-      rw failed (create_failed h c.args.key.now _ _ _ _ _ refl some c.in_err-send.field-0.0 (λ e. c.in_err-send.ensures.no_sink (ap (λ f. Err f) e)) ((c.in_err-send.ensures.sends told).each h stands));
+      rw failed (create_failed h c.args.key.now _ _ _ _ _ refl some c.in_err-send.field-0.0 (λ e. c.in_err-send.ensures.no_sink (ap (λ f. Err f) e)) (sent_itself (Create 0 c.args.key.now) _ _ _ _ refl (c.in_err-send.ensures.sends told) h stands));
 }
 
 pub returns-in-Refused-clause-performs : goal.returns-in-Refused-clause-performs
 returns-in-Refused-clause-performs g c = λ told. record {
-  each = λ some h stands. create_refused h c.args.key.now _ _ _ _ _ refl some (((rw c.in-Refused.is at c.in_ok-send.ensures.sends) told).each h stands);
+  each = λ some h stands. create_refused h c.args.key.now _ _ _ _ _ refl some (sent_itself (Create 0 c.args.key.now) _ _ _ _ refl ((rw c.in-Refused.is at c.in_ok-send.ensures.sends) told) h stands);
 }
 
 pub returns-in_err-appended-clause-performs : goal.returns-in_err-appended-clause-performs
 returns-in_err-appended-clause-performs g c = λ told. record {
   each = λ some h stands.
       let made = created h c.args.key.now (session g.D.Disk c.args.store.now c.args.disk.now) (session g.D.Disk c.send.new.store c.send.new.disk) (said_in c.send.new.said)
-      (((rw (other_outcome c.in_ok-send.field-0 c.in_default.not-Refused) at c.in_ok-send.ensures.sends) told).each h stands) in
+      (sent_itself (Create 0 c.args.key.now) _ _ _ _ refl ((rw (other_outcome c.in_ok-send.field-0 c.in_default.not-Refused) at c.in_ok-send.ensures.sends) told) h stands) in
       let handed = handed_on c.from_residual-in_err-appended.result c.in_err-appended.field-0.0 c.from_residual-in_err-appended.ensures.1 in
       rw handed (appended_failed h c.args.key.now (supply g.S.Source c.args.source.now) (supply g.S.Source c.append_all.new.source) (session g.D.Disk c.args.store.now c.args.disk.now) (session g.D.Disk c.send.new.store c.send.new.disk) made c.in_err-appended.field-0.0
       (session g.D.Disk c.append_all.new.store c.append_all.new.disk) (said_in c.append_all.new.said) (λ e. c.in_err-appended.ensures.no_sink (ap (λ f. Err f) e))
@@ -55,7 +56,7 @@ pub returns-in_err-outcome-clause-performs : goal.returns-in_err-outcome-clause-
 returns-in_err-outcome-clause-performs g c = λ told. record {
   each = λ some h stands.
       let made = created h c.args.key.now (session g.D.Disk c.args.store.now c.args.disk.now) (session g.D.Disk c.send.new.store c.send.new.disk) (said_in c.send.new.said)
-      (((rw (other_outcome c.in_ok-send.field-0 c.in_default.not-Refused) at c.in_ok-send.ensures.sends) told).each h stands) in
+      (sent_itself (Create 0 c.args.key.now) _ _ _ _ refl ((rw (other_outcome c.in_ok-send.field-0 c.in_default.not-Refused) at c.in_ok-send.ensures.sends) told) h stands) in
       let handed = handed_on c.from_residual-in_err-outcome.result c.in_err-outcome.field-0.0 c.from_residual-in_err-outcome.ensures.1 in
       let whole = rw c.in-Done.is at c.in_ok-appended.ensures.appends in
       rw handed (close_failed h c.args.key.now (supply g.S.Source c.args.source.now) (supply g.S.Source c.append_all.new.source) (session g.D.Disk c.args.store.now c.args.disk.now) (session g.D.Disk c.send.new.store c.send.new.disk) made
@@ -72,7 +73,7 @@ pub returns-in-Done-clause-performs : goal.returns-in-Done-clause-performs
 returns-in-Done-clause-performs g c = λ told. record {
   each = λ some h stands.
       let made = created h c.args.key.now (session g.D.Disk c.args.store.now c.args.disk.now) (session g.D.Disk c.send.new.store c.send.new.disk) (said_in c.send.new.said)
-      (((rw (other_outcome c.in_ok-send.field-0 c.in_default.not-Refused) at c.in_ok-send.ensures.sends) told).each h stands) in
+      (sent_itself (Create 0 c.args.key.now) _ _ _ _ refl ((rw (other_outcome c.in_ok-send.field-0 c.in_default.not-Refused) at c.in_ok-send.ensures.sends) told) h stands) in
       let whole = rw c.in-Done.is at c.in_ok-appended.ensures.appends in
       rw c.status_of.ensures (close_went h c.args.key.now (supply g.S.Source c.args.source.now) (supply g.S.Source c.append_all.new.source) (session g.D.Disk c.args.store.now c.args.disk.now) (session g.D.Disk c.send.new.store c.send.new.disk) made
       (session g.D.Disk c.append_all.new.store c.append_all.new.disk) (said_in c.append_all.new.said)
@@ -89,7 +90,7 @@ returns g c = record {
   performs = λ told. record {
     each = λ some h stands.
         let made = created h c.args.key.now (session g.D.Disk c.args.store.now c.args.disk.now) (session g.D.Disk c.send.new.store c.send.new.disk) (said_in c.send.new.said)
-        (((rw (other_outcome c.in_ok-send.field-0 c.in_default.not-Refused) at c.in_ok-send.ensures.sends) told).each h stands) in
+        (sent_itself (Create 0 c.args.key.now) _ _ _ _ refl ((rw (other_outcome c.in_ok-send.field-0 c.in_default.not-Refused) at c.in_ok-send.ensures.sends) told) h stands) in
         appended_other h c.args.key.now (supply g.S.Source c.args.source.now) (supply g.S.Source c.append_all.new.source) (session g.D.Disk c.args.store.now c.args.disk.now) (session g.D.Disk c.send.new.store c.send.new.disk) made c.in_ok-appended.appended
         (session g.D.Disk c.append_all.new.store c.append_all.new.disk) (said_in c.append_all.new.said) c.in_default-appended.not-Done
         ((c.in_ok-appended.ensures.appends told).each some (unanswered (Create 0 c.args.key.now) h) made.stands.keeps made.writes);

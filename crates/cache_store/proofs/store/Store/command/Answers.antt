@@ -5,7 +5,7 @@ use Rattle.cache_store.specs.Answering.{rest_of}
 use Rattle.cache_store.specs.IndexCalls.{IsFresh}
 use Rattle.cache_store.specs.Said.{saying}
 use Rattle.cache_store.specs.Session.{Open, open_of, session}
-use Rattle.cache_store.proofs.PerformSafe.{performs_open, performs_safely}
+use Rattle.cache_store.proofs.PerformOpen.{performs_open}
 use Rattle.cache_store.proofs.PerformWhole.{does_performs, fails_performs}
 use Rattle.cache_store.proofs.PrintedLaws.{prints_outcome}
 use Rattle.cache_store.proofs.SaidMore.{when_ok}
@@ -21,12 +21,6 @@ returns-clause-performs g c = λ told.
     does_performs (command_of c.args.c.now) c.in_ok-answered.answered c.finish_reply.result _ (session g.D.Disk c.perform.new.self c.perform.new.disk) (open_of c.finish_reply.new.self) _
     (saying g.K.Sink c.perform.new.self.reply c.perform.new.sink) (g.K.Sink.taken c.finish_reply.new.sink) c.finish_reply.ensures.printed c.finish_reply.ensures.cut c.finish_reply.ensures.outcome
     c.finish_reply.ensures.open (c.in_ok-answered.ensures.does told)
-
-pub returns-in_err-answered-clause-crash : goal.returns-in_err-answered-clause-crash
-returns-in_err-answered-clause-crash g c = λ told. performs_safely (command_of c.args.c.now) _ _ _ _ c.from_residual.result (returns-in_err-answered-clause-performs g c told)
-
-pub returns-clause-crash : goal.returns-clause-crash
-returns-clause-crash g c = λ told. performs_safely (command_of c.args.c.now) _ _ _ _ c.finish_reply.result (returns-clause-performs g c told)
 
 pub returns-in_err-answered-clause-open : goal.returns-in_err-answered-clause-open
 returns-in_err-answered-clause-open g c = λ told. performs_open (command_of c.args.c.now) _ _ _ _ c.from_residual.result (c.requires.told told) (returns-in_err-answered-clause-performs g c told)

@@ -1,11 +1,11 @@
 use Rattle.std.proofs.Common.{refl, ap, subst, ◌∙◌}
 use Rattle.cache_script.specs.Command.{command_of}
-use Rattle.cache_theory.specs.Command.Command.{At, Append, Close, Create, Doom, ElementOf, Finish, Flush, Get, HasEntry, ListRecords, OpenKey, ReadPart, Rebuild, SetElement, StepUpdate, UnsetElement, UpdateState}
+use Rattle.cache_theory.specs.Command.Command.{At, Append, Close, Create, Doom, ElementOf, Evict, Finish, Flush, Get, HasEntry, ListRecords, OpenKey, ReadPart, Rebuild, SetElement, StepUpdate, UnsetElement, UpdateState, UseEntry}
 use Rattle.cache_theory.specs.Given.{IsGiven}
 use Rattle.cache_store.specs.Said.{saying}
 use Rattle.cache_store.specs.Session.{session}
-use Rattle.cache_store.proofs.LearntAchieves.{append_achieves, close_achieves, create_achieves, doom_achieves, finish_achieves, open_achieves, set_achieves, unset_achieves}
-use Rattle.cache_store.proofs.PerformDoes.{as_command, at_does, done_unsaid, has_does, reading_does, state_does, unsaid_does}
+use Rattle.cache_store.proofs.LearntAchieves.{append_achieves, close_achieves, create_achieves, doom_achieves, finish_achieves, open_achieves, set_achieves, unset_achieves, use_achieves}
+use Rattle.cache_store.proofs.PerformDoes.{as_command, at_does, by_name, done_unsaid, has_does, reading_does, state_does, unsaid_does}
 use Rattle.cache_store.proofs.TakenMore.{open_takes}
 use Rattle.file_handles.proofs.IndexLeft.{same_left}
 use Rattle.cache_store.proofs.store.Store.perform.Goals as goal
@@ -13,110 +13,122 @@ use Rattle.cache_store.proofs.store.Store.perform.Goals as goal
 pub returns-in-At-clause-does : goal.returns-in-At-clause-does
 returns-in-At-clause-does g c = λ told.
     let was = saying g.K.Sink c.args.self.now.reply c.args.sink.now in
-    as_command _ (At c.in-At.now) _ _ _ _ _ (ap command_of c.in-At.is)
+    as_command _ (At c.in-At.now) _ _ _ _ _ (ap command_of c.in-At.is) (λ m. refl)
     (at_does c.in-At.now (session g.D.Disk c.args.self.now c.args.disk.now) was (subst IsGiven (ap command_of c.in-At.is) c.requires.given) c.requires.empty)
 
 pub returns-in-Create-clause-does : goal.returns-in-Create-clause-does
 returns-in-Create-clause-does g c = λ told.
     let was = saying g.K.Sink c.args.self.now.reply c.args.sink.now in
-    as_command _ (Create c.in-Create.slot c.in-Create.key.now) _ _ _ _ _ (ap command_of c.in-Create.is)
+    as_command _ (Create c.in-Create.slot c.in-Create.key.now) _ _ _ _ _ (ap command_of c.in-Create.is) (λ m. refl)
     (unsaid_does (Create c.in-Create.slot c.in-Create.key.now) c.learn_of.result _ _ was c.learn_of.ensures.learnt.not_said c.learn_of.ensures.learnt.no_sink c.requires.empty
     (create_achieves c.create-answer.result c.learn_of.result (session g.D.Disk c.args.self.now c.args.disk.now) _ refl c.learn_of.ensures.learnt (c.create-answer.ensures.index told) c.in-Create.slot c.in-Create.key.now (c.create-answer.ensures.carried told) c.create-answer.ensures.effect))
 
 pub returns-in-OpenKey-clause-does : goal.returns-in-OpenKey-clause-does
 returns-in-OpenKey-clause-does g c = λ told.
     let was = saying g.K.Sink c.args.self.now.reply c.args.sink.now in
-    as_command _ (OpenKey c.in-OpenKey.slot c.in-OpenKey.key.now) _ _ _ _ _ (ap command_of c.in-OpenKey.is)
+    as_command _ (OpenKey c.in-OpenKey.slot c.in-OpenKey.key.now) _ _ _ _ _ (ap command_of c.in-OpenKey.is) (λ m. refl)
     (unsaid_does (OpenKey c.in-OpenKey.slot c.in-OpenKey.key.now) c.answer_of.result _ _ was c.answer_of.ensures.not_said c.answer_of.ensures.no_sink c.requires.empty
     (open_achieves c.open.result c.answer_of.result (session g.D.Disk c.args.self.now c.args.disk.now) _ refl refl c.answer_of.ensures.replies c.answer_of.ensures.not_said c.answer_of.ensures.no_sink (same_left (c.open.ensures.looks.state told)) c.in-OpenKey.slot c.in-OpenKey.key.now (c.open.ensures.carried told)))
 
 pub returns-in-Append-clause-does : goal.returns-in-Append-clause-does
 returns-in-Append-clause-does g c = λ told.
     let was = saying g.K.Sink c.args.self.now.reply c.args.sink.now in
-    as_command _ (Append c.in-Append.slot c.in-Append.bytes.now) _ _ _ _ _ (ap command_of c.in-Append.is)
+    as_command _ (Append c.in-Append.slot c.in-Append.bytes.now) _ _ _ _ _ (ap command_of c.in-Append.is) (λ m. refl)
     (unsaid_does (Append c.in-Append.slot c.in-Append.bytes.now) c.answer_of-in-Append.result _ _ was c.answer_of-in-Append.ensures.not_said c.answer_of-in-Append.ensures.no_sink c.requires.empty
     (append_achieves c.append.result c.answer_of-in-Append.result (session g.D.Disk c.args.self.now c.args.disk.now) _ refl refl c.answer_of-in-Append.ensures.replies c.answer_of-in-Append.ensures.not_said c.answer_of-in-Append.ensures.no_sink (c.append.ensures.index told) c.in-Append.slot c.in-Append.bytes.now (c.append.ensures.carried told)))
 
 pub returns-in-Finish-clause-does : goal.returns-in-Finish-clause-does
 returns-in-Finish-clause-does g c = λ told.
     let was = saying g.K.Sink c.args.self.now.reply c.args.sink.now in
-    as_command _ (Finish c.in-Finish.slot) _ _ _ _ _ (ap command_of c.in-Finish.is)
+    as_command _ (Finish c.in-Finish.slot) _ _ _ _ _ (ap command_of c.in-Finish.is) (λ m. refl)
     (unsaid_does (Finish c.in-Finish.slot) c.learn_of-in-Finish.result _ _ was c.learn_of-in-Finish.ensures.learnt.not_said c.learn_of-in-Finish.ensures.learnt.no_sink c.requires.empty
     (finish_achieves c.finish-answer.result c.learn_of-in-Finish.result (session g.D.Disk c.args.self.now c.args.disk.now) _ refl c.learn_of-in-Finish.ensures.learnt (c.finish-answer.ensures.index told) c.in-Finish.slot (c.finish-answer.ensures.carried told) c.finish-answer.ensures.effect))
 
 pub returns-in-SetElement-clause-does : goal.returns-in-SetElement-clause-does
 returns-in-SetElement-clause-does g c = λ told.
     let was = saying g.K.Sink c.args.self.now.reply c.args.sink.now in
-    as_command _ (SetElement c.in-SetElement.slot c.in-SetElement.name.now c.in-SetElement.value.now) _ _ _ _ _ (ap command_of c.in-SetElement.is)
+    as_command _ (SetElement c.in-SetElement.slot c.in-SetElement.name.now c.in-SetElement.value.now) _ _ _ _ _ (ap command_of c.in-SetElement.is) (λ m. refl)
     (unsaid_does (SetElement c.in-SetElement.slot c.in-SetElement.name.now c.in-SetElement.value.now) c.learn_of-in-SetElement.result _ _ was c.learn_of-in-SetElement.ensures.learnt.not_said c.learn_of-in-SetElement.ensures.learnt.no_sink c.requires.empty
     (set_achieves c.set_element-answer.result c.learn_of-in-SetElement.result (session g.D.Disk c.args.self.now c.args.disk.now) _ refl c.learn_of-in-SetElement.ensures.learnt (c.set_element-answer.ensures.index told) c.in-SetElement.slot c.in-SetElement.name.now c.in-SetElement.value.now (c.set_element-answer.ensures.carried told) c.set_element-answer.ensures.effect))
 
 pub returns-in-UnsetElement-clause-does : goal.returns-in-UnsetElement-clause-does
 returns-in-UnsetElement-clause-does g c = λ told.
     let was = saying g.K.Sink c.args.self.now.reply c.args.sink.now in
-    as_command _ (UnsetElement c.in-UnsetElement.slot c.in-UnsetElement.name.now) _ _ _ _ _ (ap command_of c.in-UnsetElement.is)
+    as_command _ (UnsetElement c.in-UnsetElement.slot c.in-UnsetElement.name.now) _ _ _ _ _ (ap command_of c.in-UnsetElement.is) (λ m. refl)
     (unsaid_does (UnsetElement c.in-UnsetElement.slot c.in-UnsetElement.name.now) c.learn_of_some.result _ _ was c.learn_of_some.ensures.learnt.not_said c.learn_of_some.ensures.learnt.no_sink c.requires.empty
     (unset_achieves c.unset_element-answer.result c.learn_of_some.result (session g.D.Disk c.args.self.now c.args.disk.now) _ refl c.learn_of_some.ensures.learnt (c.unset_element-answer.ensures.index told) c.in-UnsetElement.slot c.in-UnsetElement.name.now (c.unset_element-answer.ensures.carried told) c.unset_element-answer.ensures.effect))
 
 pub returns-in-Close-clause-does : goal.returns-in-Close-clause-does
 returns-in-Close-clause-does g c = λ told.
     let was = saying g.K.Sink c.args.self.now.reply c.args.sink.now in
-    as_command _ (Close c.in-Close.slot) _ _ _ _ _ (ap command_of c.in-Close.is)
+    as_command _ (Close c.in-Close.slot) _ _ _ _ _ (ap command_of c.in-Close.is) (λ m. refl)
     (unsaid_does (Close c.in-Close.slot) c.learn_of-in-Close.result _ _ was c.learn_of-in-Close.ensures.learnt.not_said c.learn_of-in-Close.ensures.learnt.no_sink c.requires.empty
     (close_achieves c.close-answer.result c.learn_of-in-Close.result (session g.D.Disk c.args.self.now c.args.disk.now) _ refl c.learn_of-in-Close.ensures.learnt (c.close-answer.ensures.index told) c.in-Close.slot (c.close-answer.ensures.carried told) c.close-answer.ensures.effect))
 
 pub returns-in-Doom-clause-does : goal.returns-in-Doom-clause-does
 returns-in-Doom-clause-does g c = λ told.
     let was = saying g.K.Sink c.args.self.now.reply c.args.sink.now in
-    as_command _ (Doom c.in-Doom.key.now) _ _ _ _ _ (ap command_of c.in-Doom.is)
+    as_command _ (Doom c.in-Doom.key.now) _ _ _ _ _ (ap command_of c.in-Doom.is) (λ m. refl)
     (unsaid_does (Doom c.in-Doom.key.now) c.learn_of-in-Doom.result _ _ was c.learn_of-in-Doom.ensures.learnt.not_said c.learn_of-in-Doom.ensures.learnt.no_sink c.requires.empty
     (doom_achieves c.doom-answer.result c.learn_of-in-Doom.result (session g.D.Disk c.args.self.now c.args.disk.now) _ refl c.learn_of-in-Doom.ensures.learnt (c.doom-answer.ensures.index told) c.in-Doom.key.now (c.doom-answer.ensures.carried told) c.doom-answer.ensures.effect))
 
 pub returns-in-Element-clause-does : goal.returns-in-Element-clause-does
 returns-in-Element-clause-does g c = λ told.
-    as_command _ (ElementOf c.in-Element.slot c.in-Element.name.now) _ _ _ _ _ (ap command_of c.in-Element.is)
+    as_command _ (ElementOf c.in-Element.slot c.in-Element.name.now) _ _ _ _ _ (ap command_of c.in-Element.is) (λ m. refl)
     (reading_does (ElementOf c.in-Element.slot c.in-Element.name.now) tt c.say_element.result (session g.D.Disk c.args.self.now c.args.disk.now) _ _ _ refl c.say_element.ensures.open (c.say_element.ensures.answers (g.D.Disk.state c.args.disk.now)))
+
+pub returns-in-UseEntry-clause-does : goal.returns-in-UseEntry-clause-does
+returns-in-UseEntry-clause-does g c = λ told.
+    let was = saying g.K.Sink c.args.self.now.reply c.args.sink.now in
+    as_command _ (UseEntry c.in-UseEntry.slot) _ _ _ _ _ (ap command_of c.in-UseEntry.is) (λ m. refl)
+    (unsaid_does (UseEntry c.in-UseEntry.slot) c.learn_of-in-UseEntry.result _ _ was c.learn_of-in-UseEntry.ensures.learnt.not_said c.learn_of-in-UseEntry.ensures.learnt.no_sink c.requires.empty
+    (use_achieves c.use_entry-answer.result c.learn_of-in-UseEntry.result (session g.D.Disk c.args.self.now c.args.disk.now) _ refl c.learn_of-in-UseEntry.ensures.learnt (c.use_entry-answer.ensures.index told) c.in-UseEntry.slot (c.use_entry-answer.ensures.carried told) c.use_entry-answer.ensures.effect))
 
 pub returns-in-ReadPart-clause-does : goal.returns-in-ReadPart-clause-does
 returns-in-ReadPart-clause-does g c = λ told.
-    as_command _ (ReadPart c.in-ReadPart.slot c.in-ReadPart.from c.in-ReadPart.len) _ _ _ _ _ (ap command_of c.in-ReadPart.is)
+    as_command _ (ReadPart c.in-ReadPart.slot c.in-ReadPart.from c.in-ReadPart.len) _ _ _ _ _ (ap command_of c.in-ReadPart.is) (λ m. refl)
     (reading_does (ReadPart c.in-ReadPart.slot c.in-ReadPart.from c.in-ReadPart.len) tt c.say_read.result (session g.D.Disk c.args.self.now c.args.disk.now) _ _ _ (c.say_read.ensures.looks.state told) c.say_read.ensures.open (c.say_read.ensures.answers told))
 
 pub returns-in-Get-clause-does : goal.returns-in-Get-clause-does
 returns-in-Get-clause-does g c = λ told.
-    as_command _ (Get c.in-Get.key.now) _ _ _ _ _ (ap command_of c.in-Get.is)
+    as_command _ (Get c.in-Get.key.now) _ _ _ _ _ (ap command_of c.in-Get.is) (λ m. refl)
     (reading_does (Get c.in-Get.key.now) tt c.say_get.result (session g.D.Disk c.args.self.now c.args.disk.now) _ _ _ (c.say_get.ensures.looks.state told) c.say_get.ensures.open (c.say_get.ensures.answers told))
 
 pub returns-in-Has-clause-does : goal.returns-in-Has-clause-does
 returns-in-Has-clause-does g c = λ told.
     let was = saying g.K.Sink c.args.self.now.reply c.args.sink.now in
-    as_command _ (HasEntry c.in-Has.key.now) _ _ _ _ _ (ap command_of c.in-Has.is)
+    as_command _ (HasEntry c.in-Has.key.now) _ _ _ _ _ (ap command_of c.in-Has.is) (λ m. refl)
     (has_does c.in-Has.key.now c.has.result (session g.D.Disk c.args.self.now c.args.disk.now) was c.has.ensures.unsaid c.requires.empty c.has.ensures.outcome c.has.ensures.answers)
 
 pub returns-in-State-clause-does : goal.returns-in-State-clause-does
 returns-in-State-clause-does g c = λ told.
     let was = saying g.K.Sink c.args.self.now.reply c.args.sink.now in
-    as_command _ UpdateState _ _ _ _ _ (ap command_of c.in-State.is)
+    as_command _ UpdateState _ _ _ _ _ (ap command_of c.in-State.is) (λ m. refl)
     (state_does c.state.result (session g.D.Disk c.args.self.now c.args.disk.now) was c.state.ensures.unsaid c.requires.empty c.state.ensures.reply)
 
 pub returns-in-List-clause-does : goal.returns-in-List-clause-does
 returns-in-List-clause-does g c = λ told.
-    as_command _ ListRecords _ _ _ _ _ (ap command_of c.in-List.is)
+    as_command _ ListRecords _ _ _ _ _ (ap command_of c.in-List.is) (λ m. refl)
     (c.say_list.ensures.does told)
+
+pub returns-in-Evict-clause-does : goal.returns-in-Evict-clause-does
+returns-in-Evict-clause-does g c = λ told.
+    by_name _ (Evict c.in-Evict.kb) _ _ _ _ _ (ap command_of c.in-Evict.is)
+    (c.evict.ensures.does told)
 
 pub returns-in-Flush-clause-does : goal.returns-in-Flush-clause-does
 returns-in-Flush-clause-does g c = λ told.
-    as_command _ Flush _ _ _ _ _ (ap command_of c.in-Flush.is)
+    as_command _ Flush _ _ _ _ _ (ap command_of c.in-Flush.is) (λ m. refl)
     (unsaid_does Flush c.flush.result _ _ (saying g.K.Sink c.flush.new.self.reply c.args.sink.now) (done_unsaid c.flush.result c.flush.ensures.done) c.flush.ensures.no_sink (c.flush.ensures.held ∙ c.requires.empty) (c.flush.ensures.does told))
 
 pub returns-in-Step-clause-does : goal.returns-in-Step-clause-does
 returns-in-Step-clause-does g c = λ told.
-    as_command _ (StepUpdate c.in-Step.n) _ _ _ _ _ (ap command_of c.in-Step.is)
+    as_command _ (StepUpdate c.in-Step.n) _ _ _ _ _ (ap command_of c.in-Step.is) (λ m. refl)
     (unsaid_does (StepUpdate c.in-Step.n) c.step.result _ _ (saying g.K.Sink c.step.new.self.reply c.args.sink.now) c.step.ensures.not_said c.step.ensures.no_sink (c.step.ensures.held ∙ c.requires.empty) (c.step.ensures.does told))
 
 pub returns-in-Rebuild-clause-does : goal.returns-in-Rebuild-clause-does
 returns-in-Rebuild-clause-does g c = λ told.
-    as_command _ Rebuild _ _ _ _ _ (ap command_of c.in-Rebuild.is)
+    as_command _ Rebuild _ _ _ _ _ (ap command_of c.in-Rebuild.is) (λ m. refl)
     (unsaid_does Rebuild c.rebuild.result _ _ (saying g.K.Sink c.rebuild.new.self.reply c.args.sink.now) c.rebuild.ensures.not_said c.rebuild.ensures.no_sink (c.rebuild.ensures.held ∙ c.requires.empty) (c.rebuild.ensures.does told))
 
 pub returns-in-Element-clause-grows : goal.returns-in-Element-clause-grows

@@ -5,14 +5,14 @@ use Rattle.file_handles.specs.Cache.{cache_at}
 use Rattle.file_handles.specs.Changes.{ChangesThere, with_version}
 use Rattle.file_handles.specs.Effects.{IsLearntOf, learnt_of_held}
 use Rattle.file_handles.specs.Kept.{kept, with_object}
-use Rattle.file_handles.specs.Setting.{changed_by, with_change}
+use Rattle.file_handles.specs.Setting.{changed_by, header_by, with_change}
 use Rattle.file_handles.specs.declared.object.Entry.{Entry}
 use Rattle.file_handles.specs.declared.object.Entry.TheVariants.{Draft, Finished}
 use Rattle.file_handles.specs.declared.object.Object.{Object}
 use Rattle.file_handles.proofs.Accounting.{account_handed_on}
 use Rattle.file_handles.proofs.EffectLaws.{held_is_learnt}
 use Rattle.file_handles.proofs.ElementChecks.{is_there}
-use Rattle.file_handles.proofs.ElementChanged.{IsDraftWith, IsMetaWith, draft_becomes, draft_held, meta_becomes, meta_held, meta_writes, stores}
+use Rattle.file_handles.proofs.EntryChanged.{IsDraftWith, IsMetaWith, draft_becomes, draft_held, meta_becomes, meta_held, meta_writes, stores}
 use Rattle.file_handles.proofs.PutBack.{changes_done, changes_failed, put_back}
 use Rattle.file_handles.proofs.handles.Handles.change_at.Goals as goal
 use Rattle.file_handles.proofs.handles.Handles.change_at.Goals.{in-Draft+in_ok-changed_draft-in-Draft, in-Finished+in_ok-meta-in-Finished+in_ok-rewrite_meta-in-Finished}
@@ -40,9 +40,9 @@ rewrite_meta-requires g c told =
     let x = c.take-object.result in
     let filed = c.requires.told told x c.take-object.ensures.found in
     let new = c.in_ok-meta-in-Finished.ensures in
-    let with : IsMetaWith (changed_by c.args.change) c.in-Finished.meta c.in_ok-meta-in-Finished.meta =
-    record { header = new.others.0; key = new.others.1.0; elements = new.elements; hashes = new.others.1.1.0; offset = new.others.1.1.1 } in
-    stores (changed_by c.args.change) x filed.0 s filed.1 c.in-Finished.meta c.in_ok-meta-in-Finished.meta c.in-Finished.is with c.file_place-file.result c.file_place-file.ensures
+    let with : IsMetaWith (header_by c.args.change) (changed_by c.args.change) c.in-Finished.meta c.in_ok-meta-in-Finished.meta =
+    record { header = new.header; key = new.others.0; elements = new.elements; hashes = new.others.1.0; offset = new.others.1.1 } in
+    stores (header_by c.args.change) (changed_by c.args.change) x filed.0 s filed.1 c.in-Finished.meta c.in_ok-meta-in-Finished.meta c.in-Finished.is with c.file_place-file.result c.file_place-file.ensures
 
 pub returns-in_err-rewrite_meta-in-Finished-clause-changes :
     goal.returns-in_err-rewrite_meta-in-Finished-clause-changes
@@ -51,10 +51,10 @@ returns-in_err-rewrite_meta-in-Finished-clause-changes g c told =
     let t = g.D.Disk.state c.rewrite_meta.new.disk in
     let x = c.take-object.result in
     let new = c.in_ok-meta-in-Finished.ensures in
-    let with : IsMetaWith (changed_by c.args.change) c.in-Finished.meta c.in_ok-meta-in-Finished.meta =
-    record { header = new.others.0; key = new.others.1.0; elements = new.elements; hashes = new.others.1.1.0; offset = new.others.1.1.1 } in
+    let with : IsMetaWith (header_by c.args.change) (changed_by c.args.change) c.in-Finished.meta c.in_ok-meta-in-Finished.meta =
+    record { header = new.header; key = new.others.0; elements = new.elements; hashes = new.others.1.0; offset = new.others.1.1 } in
     changes_failed c.args.place (with_version (with_change c.args.change)) c.from_residual-in_err-rewrite_meta-in-Finished.result s t (kept c.args.self.now) (kept c.take-object.new.self) x c.take-object.ensures.found
-    (λ o filed. meta_writes (changed_by c.args.change) x o s filed c.in-Finished.meta c.in_ok-meta-in-Finished.meta c.in-Finished.is with t c.file_place-file.result c.file_place-file.ensures (c.rewrite_meta.ensures.writes told))
+    (λ o filed. meta_writes (header_by c.args.change) (changed_by c.args.change) x o s filed c.in-Finished.meta c.in_ok-meta-in-Finished.meta c.in-Finished.is with t c.file_place-file.result c.file_place-file.ensures (c.rewrite_meta.ensures.writes told))
     c.from_residual-in_err-rewrite_meta-in-Finished.ensures.0
 
 pub returns-in_err-rewrite_meta-in-Finished-clause-account :
@@ -72,26 +72,26 @@ returns-clause-changes g c told =
     elim c.match-entry.branch [
       | in-Draft+in_ok-changed_draft-in-Draft w ↦
           let new = w.in_ok-changed_draft-in-Draft.ensures in
-          let with : IsDraftWith (changed_by c.args.change) w.in-Draft.draft w.in_ok-changed_draft-in-Draft.field-0 =
-          record { body = new.others.0; header = new.others.1.0; key = new.others.1.1; elements = new.elements } in
+          let with : IsDraftWith (header_by c.args.change) (changed_by c.args.change) w.in-Draft.draft w.in_ok-changed_draft-in-Draft.field-0 =
+          record { body = new.others.0; header = new.header; key = new.others.1; elements = new.elements } in
           let t_is : g.D.Disk.state c.match-entry.disk ≡ s = ap g.D.Disk.state w.disk-is in
           let y : Object = record { name = x.name; doomed = x.doomed; entry = Draft w.in_ok-changed_draft-in-Draft.field-0 } in
           let put = put_back k (kept c.take-object.new.self) after c.args.place _ c.take-object.ensures.kept c.put_entry.ensures ∙ ap (λ (e : Entry). with_object k c.args.place (Some (record { name = x.name; doomed = x.doomed; entry = e }))) w.entry-is in
           subst (λ (u : State). ChangesThere c.args.place (with_version (with_change c.args.change)) (Ok c.learnt_of-effect.result) (cache_at k s) (cache_at after u)) (sym t_is)
           (changes_done c.args.place (with_version (with_change c.args.change)) (Ok c.learnt_of-effect.result) s s k after x c.take-object.ensures.found (λ o filed. not_written _ _ s)
-          y (λ o filed. draft_becomes (changed_by c.args.change) x o s filed w.in-Draft.draft w.in_ok-changed_draft-in-Draft.field-0 w.in-Draft.is with) put)
+          y (λ o filed. draft_becomes (header_by c.args.change) (changed_by c.args.change) x o s filed w.in-Draft.draft w.in_ok-changed_draft-in-Draft.field-0 w.in-Draft.is with) put)
       | in-Finished+in_ok-meta-in-Finished+in_ok-rewrite_meta-in-Finished w ↦
           let new = w.in_ok-meta-in-Finished.ensures in
-          let with : IsMetaWith (changed_by c.args.change) w.in-Finished.meta w.in_ok-meta-in-Finished.meta =
-          record { header = new.others.0; key = new.others.1.0; elements = new.elements; hashes = new.others.1.1.0; offset = new.others.1.1.1 } in
+          let with : IsMetaWith (header_by c.args.change) (changed_by c.args.change) w.in-Finished.meta w.in_ok-meta-in-Finished.meta =
+          record { header = new.header; key = new.others.0; elements = new.elements; hashes = new.others.1.0; offset = new.others.1.1 } in
           let t : State = g.D.Disk.state w.rewrite_meta.new.disk in
           let t_is : g.D.Disk.state c.match-entry.disk ≡ t = ap g.D.Disk.state w.disk-is in
           let y : Object = record { name = x.name; doomed = x.doomed; entry = Finished w.in_ok-meta-in-Finished.meta } in
           let put = put_back k (kept c.take-object.new.self) after c.args.place _ c.take-object.ensures.kept c.put_entry.ensures ∙ ap (λ (e : Entry). with_object k c.args.place (Some (record { name = x.name; doomed = x.doomed; entry = e }))) w.entry-is in
           subst (λ (u : State). ChangesThere c.args.place (with_version (with_change c.args.change)) (Ok c.learnt_of-effect.result) (cache_at k s) (cache_at after u)) (sym t_is)
           (changes_done c.args.place (with_version (with_change c.args.change)) (Ok c.learnt_of-effect.result) s t k after x c.take-object.ensures.found
-          (λ o filed. meta_writes (changed_by c.args.change) x o s filed w.in-Finished.meta w.in_ok-meta-in-Finished.meta w.in-Finished.is with t c.file_place-file.result c.file_place-file.ensures (w.rewrite_meta.ensures.writes told))
-          y (λ o filed. meta_becomes (changed_by c.args.change) x o s filed w.in-Finished.meta w.in_ok-meta-in-Finished.meta w.in-Finished.is with t c.file_place-file.result c.file_place-file.ensures
+          (λ o filed. meta_writes (header_by c.args.change) (changed_by c.args.change) x o s filed w.in-Finished.meta w.in_ok-meta-in-Finished.meta w.in-Finished.is with t c.file_place-file.result c.file_place-file.ensures (w.rewrite_meta.ensures.writes told))
+          y (λ o filed. meta_becomes (header_by c.args.change) (changed_by c.args.change) x o s filed w.in-Finished.meta w.in_ok-meta-in-Finished.meta w.in-Finished.is with t c.file_place-file.result c.file_place-file.ensures
           (w.in_ok-rewrite_meta-in-Finished.ensures.stands told)) put)
     ]
 
@@ -104,14 +104,14 @@ returns-clause-effect g c =
     ∙ elim c.match-entry.branch [
       | in-Draft+in_ok-changed_draft-in-Draft w ↦
           let after = w.in_ok-changed_draft-in-Draft.ensures in
-          let with : IsDraftWith (changed_by c.args.change) w.in-Draft.draft w.in_ok-changed_draft-in-Draft.field-0 =
-          record { body = after.others.0; header = after.others.1.0; key = after.others.1.1; elements = after.elements } in
+          let with : IsDraftWith (header_by c.args.change) (changed_by c.args.change) w.in-Draft.draft w.in_ok-changed_draft-in-Draft.field-0 =
+          record { body = after.others.0; header = after.header; key = after.others.1; elements = after.elements } in
           ap (λ (e : Entry). learnt_of_held x.name x.doomed e) w.entry-is
-          ∙ held_is_learnt x.name x.doomed (Draft w.in_ok-changed_draft-in-Draft.field-0) (change o) (draft_held (changed_by c.args.change) x o held w.in-Draft.draft w.in_ok-changed_draft-in-Draft.field-0 w.in-Draft.is with) new
+          ∙ held_is_learnt x.name x.doomed (Draft w.in_ok-changed_draft-in-Draft.field-0) (change o) (draft_held (header_by c.args.change) (changed_by c.args.change) x o held w.in-Draft.draft w.in_ok-changed_draft-in-Draft.field-0 w.in-Draft.is with) new
       | in-Finished+in_ok-meta-in-Finished+in_ok-rewrite_meta-in-Finished w ↦
           let after = w.in_ok-meta-in-Finished.ensures in
-          let with : IsMetaWith (changed_by c.args.change) w.in-Finished.meta w.in_ok-meta-in-Finished.meta =
-          record { header = after.others.0; key = after.others.1.0; elements = after.elements; hashes = after.others.1.1.0; offset = after.others.1.1.1 } in
+          let with : IsMetaWith (header_by c.args.change) (changed_by c.args.change) w.in-Finished.meta w.in_ok-meta-in-Finished.meta =
+          record { header = after.header; key = after.others.0; elements = after.elements; hashes = after.others.1.0; offset = after.others.1.1 } in
           ap (λ (e : Entry). learnt_of_held x.name x.doomed e) w.entry-is
-          ∙ held_is_learnt x.name x.doomed (Finished w.in_ok-meta-in-Finished.meta) (change o) (meta_held (changed_by c.args.change) x o held w.in-Finished.meta w.in_ok-meta-in-Finished.meta w.in-Finished.is with) new
+          ∙ held_is_learnt x.name x.doomed (Finished w.in_ok-meta-in-Finished.meta) (change o) (meta_held (header_by c.args.change) (changed_by c.args.change) x o held w.in-Finished.meta w.in_ok-meta-in-Finished.meta w.in-Finished.is with) new
     ])

@@ -11,7 +11,7 @@ use Rattle.file_handles.specs.Held.{elements_in}
 use Rattle.file_handles.specs.Refuses.{HasAt}
 use Rattle.file_handles.specs.Setting.{HasRoom}
 use Rattle.file_handles.proofs.EffectLaws.{change_effect}
-use Rattle.file_handles.proofs.ElementChanged.{with_elements}
+use Rattle.file_handles.proofs.EntryChanged.{with_elements}
 use Rattle.file_handles.proofs.ElementChecks.{both_right, the_object}
 use Rattle.file_handles.proofs.ElementCommands.{IsFinished, set_leaves, set_makes}
 use Rattle.file_handles.proofs.Places.{filed_somehow}

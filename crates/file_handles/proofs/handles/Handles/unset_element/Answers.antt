@@ -8,7 +8,7 @@ use Rattle.file_handles.specs.Carries.{CarriesOut}
 use Rattle.file_handles.specs.Kept.{kept, object_at}
 use Rattle.file_handles.specs.Refuses.{HasAt}
 use Rattle.file_handles.proofs.EffectLaws.{change_effect, unsets_rewrite}
-use Rattle.file_handles.proofs.ElementChanged.{with_elements}
+use Rattle.file_handles.proofs.EntryChanged.{with_elements}
 use Rattle.file_handles.proofs.ElementChecks.{at_object, if_object, some_object}
 use Rattle.file_handles.proofs.ElementCommands.{IsFinished, fault_reply, unset_leaves, unset_makes}
 use Rattle.file_handles.proofs.ElementEntries.{room_without}

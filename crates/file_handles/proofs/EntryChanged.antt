@@ -1,4 +1,4 @@
--- An entry whose elements are changed, and its file.
+-- An entry whose header and elements are changed, and its file.
 use Rattle.std.proofs.Common.{◌≡◌, inr, ℕ, List, Option, Some, true, refl, sym, ap, subst, ◌∙◌}
 use Rattle.cache_theory.specs.Machine.{Object as MachineObject}
 use Rattle.cache_theory.specs.Stands.{object_file}
@@ -16,6 +16,7 @@ use Rattle.entry_metadata.specs.Meta.{meta_of}
 use Rattle.entry_metadata.specs.Metadata.{Meta as Said}
 use Rattle.entry_metadata.specs.declared.meta.Meta.{Meta}
 use Rattle.entry_parts.specs.Elements.{Element}
+use Rattle.entry_parts.specs.declared.header.Header.{Header}
 use Rattle.file_handles.specs.Changes.{Becomes, IsFiledAs, IsMomentOf, with_version}
 use Rattle.file_handles.specs.Held.{IsEntryOf, IsHeldAs, object_place, object_with}
 use Rattle.file_handles.specs.declared.object.Draft.{Draft as DraftOf}
@@ -24,33 +25,37 @@ use Rattle.file_handles.specs.declared.object.Entry.TheVariants.{Draft, Finished
 use Rattle.file_handles.specs.declared.object.Object.{Object}
 use Rattle.file_handles.proofs.Changed.{writes_weaker}
 
--- the metadata with other elements
-pub record IsMetaWith (es : List Element → List Element) (old new : Meta) : Type 0 where
-  pub header : new.header ≡ old.header
+-- the object with other elements
+abbrev pub with_elements : (List Element → List Element) → MachineObject → MachineObject
+with_elements es o = with_version (λ v. record v { elements = es v.elements }) o
+
+-- the metadata with another header and other elements
+pub record IsMetaWith (hs : Header → Header) (es : List Element → List Element) (old new : Meta) : Type 0 where
+  pub header : new.header ≡ hs old.header
   pub key : new.key ≡ old.key
   pub elements : new.elements ≡ es old.elements
   pub hashes : new.hashes ≡ old.hashes
   pub offset : new.offset ≡ old.offset
 
 -- and the draft
-pub record IsDraftWith (es : List Element → List Element) (old new : DraftOf) : Type 0 where
+pub record IsDraftWith (hs : Header → Header) (es : List Element → List Element) (old new : DraftOf) : Type 0 where
   pub body : new.body ≡ old.body
-  pub header : new.header ≡ old.header
+  pub header : new.header ≡ hs old.header
   pub key : new.key ≡ old.key
   pub elements : new.elements ≡ es old.elements
 
 writes_at_weaker : (place : Place) (P Q : List ℕ → Type 0) (s t : State) → ((c : List ℕ) → P c → Q c) → WritesAt place P s t → WritesAt place Q s t
 writes_at_weaker place P Q s t all writes file at = writes_weaker s t file P Q all (writes file at)
 
-module _ (es : List Element → List Element) where
-  abbrev pub with_es : Version → Version
-  with_es v = record v { elements = es v.elements }
+module _ (hs : Header → Header) (es : List Element → List Element) where
+  abbrev pub with_parts : Version → Version
+  with_parts v = record v { header = hs v.header; elements = es v.elements }
 
-  abbrev pub with_elements : MachineObject → MachineObject
-  with_elements o = with_version with_es o
+  abbrev pub with_changed : MachineObject → MachineObject
+  with_changed o = with_version with_parts o
 
-  -- the object is held as it is with other elements
-  pub meta_held : (x : Object) (o : MachineObject) → IsHeldAs x o → (old new : Meta) → x.entry ≡ Finished old → IsMetaWith es old new → IsHeldAs (object_with x.name x.doomed (Finished new)) (with_elements o)
+  -- the object is held as it is with these
+  pub meta_held : (x : Object) (o : MachineObject) → IsHeldAs x o → (old new : Meta) → x.entry ≡ Finished old → IsMetaWith hs es old new → IsHeldAs (object_with x.name x.doomed (Finished new)) (with_changed o)
   meta_held x o held old new is with =
       let was : IsEntryOf (Finished old) o = subst (λ (e : Entry). IsEntryOf e o) is held.held_entry in
       let old_is = was.1 in
@@ -60,7 +65,7 @@ module _ (es : List Element → List Element) where
         held_entry = (
           was.0,
           λ i. record {
-            header = (with.header ∙ ap (λ (m : Said). m.header) old_is) i;
+            header = (with.header ∙ ap (λ (m : Said). hs m.header) old_is) i;
             key = (with.key ∙ ap (λ (m : Said). m.key) old_is) i;
             elements = (with.elements ∙ ap (λ (m : Said). es m.elements) old_is) i;
             hashes = (with.hashes ∙ ap (λ (m : Said). m.hashes) old_is) i;
@@ -69,7 +74,7 @@ module _ (es : List Element → List Element) where
         );
       }
 
-  pub draft_held : (x : Object) (o : MachineObject) → IsHeldAs x o → (old new : DraftOf) → x.entry ≡ Draft old → IsDraftWith es old new → IsHeldAs (object_with x.name x.doomed (Draft new)) (with_elements o)
+  pub draft_held : (x : Object) (o : MachineObject) → IsHeldAs x o → (old new : DraftOf) → x.entry ≡ Draft old → IsDraftWith hs es old new → IsHeldAs (object_with x.name x.doomed (Draft new)) (with_changed o)
   draft_held x o held old new is with =
       let was : IsEntryOf (Draft old) o = subst (λ (e : Entry). IsEntryOf e o) is held.held_entry in
       record {
@@ -79,7 +84,7 @@ module _ (es : List Element → List Element) where
           was.0,
           record {
             body = subst (λ (b : NewEntry). HasBody (held_of b) o.version.body) (sym with.body) was.1.body;
-            header = with.header ∙ was.1.header;
+            header = with.header ∙ ap hs was.1.header;
             key = with.key ∙ was.1.key;
             elements = with.elements ∙ ap es was.1.elements;
           },
@@ -87,8 +92,8 @@ module _ (es : List Element → List Element) where
       }
 
   -- what becomes of an object with another entry
-  entry_becomes : (x : Object) (o : MachineObject) (s t : State) (e : Entry) → IsFiledAs x o s → IsEntryOf e (with_elements o) → standing t (object_place x) ≡ Some (object_file (with_elements o))
-      → Becomes x (record { name = x.name; doomed = x.doomed; entry = e }) (with_elements o) t
+  entry_becomes : (x : Object) (o : MachineObject) (s t : State) (e : Entry) → IsFiledAs x o s → IsEntryOf e (with_changed o) → standing t (object_place x) ≡ Some (object_file (with_changed o))
+      → Becomes x (record { name = x.name; doomed = x.doomed; entry = e }) (with_changed o) t
   entry_becomes x o s t e filed is file = record {
     same_place = refl;
     same_name = refl;
@@ -98,11 +103,11 @@ module _ (es : List Element → List Element) where
   }
 
   -- an object whose entry is finished
-  module _ (x : Object) (o : MachineObject) (s : State) (filed : IsFiledAs x o s) (old new : Meta) (is : x.entry ≡ Finished old) (with : IsMetaWith es old new) where
+  module _ (x : Object) (o : MachineObject) (s : State) (filed : IsFiledAs x o s) (old new : Meta) (is : x.entry ≡ Finished old) (with : IsMetaWith hs es old new) where
     entry_is : (o.finished ≡ true) × (meta_of old ≡ version_meta o.version)
     entry_is = subst (λ (e : Entry). IsEntryOf e o) is filed.as_held.held_entry
 
-    pub meta_is : meta_of new ≡ version_meta (with_es o.version)
+    pub meta_is : meta_of new ≡ version_meta (with_parts o.version)
     meta_is = (meta_held x o filed.as_held old new is with).held_entry.1
 
     pub stands_whole : standing s (object_place x) ≡ Some (file_of o.version)
@@ -112,29 +117,29 @@ module _ (es : List Element → List Element) where
     pub stores : (place : Place) → place ≡ object_place x → StoresBody (standing s place) (meta_of new)
     stores place same =
         subst (λ (c : Option (List ℕ)). StoresBody c (meta_of new)) (sym (ap (standing s) same ∙ stands_whole))
-        (subst (λ (m : Said). StoresBody (Some (file_of o.version)) m) (sym meta_is) (rewrites_to_version (with_es o.version) o.version refl).0)
+        (subst (λ (m : Said). StoresBody (Some (file_of o.version)) m) (sym meta_is) (rewrites_to_version (with_parts o.version) o.version refl).0)
 
-    whole : file_of (rewritten (meta_of new) (file_of o.version)) ≡ file_of (with_es o.version)
-    whole = ap file_of (ap (λ (m : Said). rewritten m (file_of o.version)) meta_is ∙ (rewrites_to_version (with_es o.version) o.version refl).1)
+    whole : file_of (rewritten (meta_of new) (file_of o.version)) ≡ file_of (with_parts o.version)
+    whole = ap file_of (ap (λ (m : Said). rewritten m (file_of o.version)) meta_is ∙ (rewrites_to_version (with_parts o.version) o.version refl).1)
 
     module _ (t : State) (place : Place) (same : place ≡ object_place x) where
       pub meta_writes : ((content : List ℕ) → standing s place ≡ Some content → WritesAt place (λ c. c ≡ file_of (rewritten (meta_of new) content)) s t)
-          → WritesAt (object_place x) (IsMomentOf (with_elements o)) s t
+          → WritesAt (object_place x) (IsMomentOf (with_changed o)) s t
       meta_writes writes =
-          subst (λ (q : Place). WritesAt q (IsMomentOf (with_elements o)) s t) same
-          (writes_at_weaker place (λ c. c ≡ file_of (rewritten (meta_of new) (file_of o.version))) (IsMomentOf (with_elements o)) s t (λ c is. inr (entry_is.0, is ∙ whole))
+          subst (λ (q : Place). WritesAt q (IsMomentOf (with_changed o)) s t) same
+          (writes_at_weaker place (λ c. c ≡ file_of (rewritten (meta_of new) (file_of o.version))) (IsMomentOf (with_changed o)) s t (λ c is. inr (entry_is.0, is ∙ whole))
           (writes (file_of o.version) (ap (standing s) same ∙ stands_whole)))
 
       pub meta_becomes : ((content : List ℕ) → standing s place ≡ Some content → standing t place ≡ Some (file_of (rewritten (meta_of new) content)))
-          → Becomes x (record { name = x.name; doomed = x.doomed; entry = Finished new }) (with_elements o) t
+          → Becomes x (record { name = x.name; doomed = x.doomed; entry = Finished new }) (with_changed o) t
       meta_becomes stands =
           entry_becomes x o s t (Finished new) filed (entry_is.0, meta_is)
-          (ap (standing t) (sym same) ∙ stands (file_of o.version) (ap (standing s) same ∙ stands_whole) ∙ ap Some (whole ∙ sym (finished_file_is (with_elements o) entry_is.0)))
+          (ap (standing t) (sym same) ∙ stands (file_of o.version) (ap (standing s) same ∙ stands_whole) ∙ ap Some (whole ∙ sym (finished_file_is (with_changed o) entry_is.0)))
 
   -- one that is being written
-  pub draft_becomes : (x : Object) (o : MachineObject) (s : State) → IsFiledAs x o s → (old new : DraftOf) → x.entry ≡ Draft old → IsDraftWith es old new
-      → Becomes x (record { name = x.name; doomed = x.doomed; entry = Draft new }) (with_elements o) s
+  pub draft_becomes : (x : Object) (o : MachineObject) (s : State) → IsFiledAs x o s → (old new : DraftOf) → x.entry ≡ Draft old → IsDraftWith hs es old new
+      → Becomes x (record { name = x.name; doomed = x.doomed; entry = Draft new }) (with_changed o) s
   draft_becomes x o s filed old new is with =
       let was = subst (λ (e : Entry). IsEntryOf e o) is filed.as_held.held_entry in
       entry_becomes x o s s (Draft new) filed (draft_held x o filed.as_held old new is with).held_entry
-      (filed.file ∙ ap Some (unfinished_file_is o was.0 ∙ sym (unfinished_file_is (with_elements o) was.0)))
+      (filed.file ∙ ap Some (unfinished_file_is o was.0 ∙ sym (unfinished_file_is (with_changed o) was.0)))

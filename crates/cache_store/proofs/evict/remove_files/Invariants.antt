@@ -1,0 +1,22 @@
+use Rattle.std.proofs.Common.{◌≡◌, IsTrue, drop}
+use Rattle.cache_store.specs.Evicting.{AreUnused, HoldsFiles}
+use Rattle.cache_store.proofs.NamesDoomed.{Completes}
+use Rattle.disk_model.specs.Account.{IsCalm, LooksAtNoEntry}
+use Rattle.disk_model.specs.Told.{Told}
+use Rattle.file_handles.specs.Cache.{cache}
+use Rattle.file_handles.specs.Kept.{kept}
+use Rattle.index_theory.specs.Leaves.{LeavesIndex}
+use Rattle.cache_store.proofs.evict.remove_files.Given as goal
+
+-- the files that are left may be removed, and complete the whole
+abbrev pub invariant-loop-name : goal.invariant-loop-name
+invariant-loop-name g l = record {
+  unused : AreUnused (kept l.handles) (drop l.name-index l.names);
+  told : IsTrue g.D.Disk.tells → HoldsFiles (cache g.D.Disk l.handles l.disk) (drop l.name-index l.names);
+  completes : IsTrue g.D.Disk.tells
+      → Completes (drop l.name-index l.names) l.fn.names (cache g.D.Disk l.fn.handles l.fn.disk) (cache g.D.Disk l.handles l.disk);
+  kept : kept l.handles ≡ kept l.fn.handles;
+  index : Told g.D.Disk LeavesIndex l.fn.disk l.disk;
+  calm : IsCalm g.D.Disk l.fn.disk l.disk;
+  looks : LooksAtNoEntry g.D.Disk l.fn.disk l.disk;
+}

@@ -1,0 +1,62 @@
+-- How entries are evicted by the records in memory.
+use Rattle.std.specs.List.{AllByRecursion, IsDistinct}
+use Rattle.std.specs.Prelude.{Bool, IsSome, List, None, Result, false, filter, if◌then◌else◌, is_some, true, ℕ, ◌≡◌}
+use Rattle.cache_base.specs.declared.name.Name.{Name}
+use Rattle.cache_theory.specs.History.{History}
+use Rattle.cache_theory.specs.Laws.{is_among}
+use Rattle.cache_theory.specs.Marks.{is_touched}
+use Rattle.cache_theory.specs.Step.{all_doomed}
+use Rattle.disk_model.specs.State.{State, standing}
+use Rattle.disk_model.specs.declared.disk.DiskFault.{DiskFault}
+use Rattle.disk_model.specs.declared.place.Place.TheVariants.{Entry}
+use Rattle.evictor.specs.Evict.{has_name, victims}
+use Rattle.file_handles.specs.Cache.{Cache}
+use Rattle.file_handles.specs.Kept.{Kept}
+use Rattle.file_handles.specs.Stands.{KeepsWhere, ReachesHistory, RepresentsSome}
+use Rattle.file_handles.specs.Users.{AreOpenNames, users_of}
+use Rattle.index_map.specs.Known.{IsKnown, Known, SameBase}
+use Rattle.index_record.specs.declared.record.IndexRecord.{IndexRecord}
+use Rattle.record_list.specs.Lists.{IsByName, record_at, same_name}
+
+-- these names have to go by the records of the map, so that all take at most so many KB; no name in use is among them
+pub record AreVictims (map : Known) (k : Kept) (kb : ℕ) (names : List Name) : Type 0 where
+  pub records : List IndexRecord
+  pub in_use : List Name
+  pub known : IsKnown map
+  pub by_name : IsByName map.records records
+  pub opened : AreOpenNames k in_use
+  pub unused : (name : Name) → has_name in_use name ≡ false → users_of k name ≡ 0
+  pub chosen : names ≡ victims records in_use kb
+
+-- a file stands under the name
+abbrev pub has_file : State → Name → Bool
+has_file s name = is_some (standing s (Entry name))
+
+-- some of the names, in their order
+abbrev pub ArePicked : List Name → List Name → Type 0
+ArePicked names some = (test : Name → Bool) × (some ≡ filter test names)
+
+-- no name stands twice, and no slot uses any
+pub record AreUnused (k : Kept) (names : List Name) : Type 0 where
+  pub distinct : IsDistinct same_name names
+  pub unused : AllByRecursion (λ name. users_of k name ≡ 0) names
+
+-- the handles and the disk stand for some machine, and under each name stands a file
+pub record HoldsFiles (now : Cache) (names : List Name) : Type 0 where
+  pub stands : RepresentsSome now
+  pub files : AllByRecursion (λ name. IsSome (standing now.disk (Entry name))) names
+
+-- what stands under these names is doomed, whatever the history in whose marks they are touched
+pub record DoomsAll (names : List Name) (answer : Result (Unit {0}) DiskFault) (before after : Cache)
+    : Type 0 where
+  pub leaves : (crash : Bool) (h : History)
+      → AllByRecursion (λ name. is_touched h.marks name.0 ≡ true) names → KeepsWhere crash before h
+      → ReachesHistory crash (record h { machine = all_doomed h.machine names }) answer after
+
+-- the records of these names are out, and the others and the base are as before
+pub record Forgets (names : List Name) (old new : Known) : Type 0 where
+  pub records : (q : Name) → record_at new.records q
+      ≡ (if is_among q.0 names then None else record_at old.records q)
+  pub seen : (q : Name) → record_at new.seen q
+      ≡ (if is_among q.0 names then None else record_at old.seen q)
+  pub base : SameBase old new

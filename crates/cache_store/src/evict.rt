@@ -1,0 +1,192 @@
+//! Evicts entries, so that all take at most so many KB.
+
+ghost use Rattle.std.specs.List.{list_any};
+ghost use Rattle.std.specs.Prelude.{◌≡◌, ◌≢◌, [], ◌∷◌, Err, IfOk, IsErrOf, IsTrue, OnErr, OnOk, filter, flat_map, length, string_bytes};
+ghost use Rattle.cache_base.specs.Causes.{HasCause};
+ghost use Rattle.cache_base.specs.Names.{AreRising};
+ghost use Rattle.cache_store.specs.Evicting.{ArePicked, AreUnused, AreVictims, DoomsAll, HoldsFiles, has_file};
+ghost use Rattle.cache_store.specs.Faults.{ending};
+ghost use Rattle.cache_store.specs.IndexCalls.{LooksAtNames};
+ghost use Rattle.cache_store.specs.Said.{saying};
+ghost use Rattle.cache_store.specs.Saying.{CutsIn, SaysMore, TakesMore};
+ghost use Rattle.cache_theory.specs.Command.Command.{Evict};
+ghost use Rattle.cache_theory.specs.Text.{line, names_text};
+ghost use Rattle.disk_model.specs.Account.{Accounts, Looks, LooksAtNoEntry, ending as disk_ending};
+ghost use Rattle.disk_model.specs.Told.{Told};
+ghost use Rattle.file_handles.specs.Cache.{cache};
+ghost use Rattle.file_handles.specs.Kept.{kept};
+ghost use Rattle.hex.specs.Hex.{encode_upper};
+ghost use Rattle.index_map.specs.Known.{SameBase};
+ghost use Rattle.index_theory.specs.Leaves.{LeavesIndex};
+ghost use Rattle.record_list.specs.Lists.{same_name};
+
+use crate::StoreFault;
+use crate::answered::Answered;
+use crate::pending::Pending;
+use crate::replies::counted;
+use crate::store::Store;
+use cache_base::{Name, Names, NoMemory};
+use cache_io::Sink;
+use disk_model::{Disk, DiskFault};
+use entry_name::text_of;
+use evictor::victims;
+use file_handles::Handles;
+use std::alloc::Global;
+
+// Whether the name is among rising ones.
+fn is_among(rising: &[Name], name: &Name) -> bool
+    requires { AreRising rising.now }
+    ensures { result ≡ list_any (same_name name.now) rising.now }
+{
+    rising.binary_search(name).is_ok()
+}
+
+// Those of the names that are among rising ones, in their order.
+fn common(alloc: Global, names: &[Name], rising: &[Name]) -> Result<Names, NoMemory>
+    requires { AreRising rising.now }
+    ensures { IfOk result (λ list. list ≡ filter (λ name. list_any (same_name name) rising.now) names.now) }
+{
+    let mut list = Names::with_room(alloc, names.len())?;
+    for name in names {
+        if is_among(rising, name) {
+            list.push(*name)?;
+        }
+    }
+    Ok(list)
+}
+
+// Those of the names under which a file stands, in their order. The folder is listed once, unless there are no names.
+fn standing<D: Disk>(alloc: Global, disk: &mut D, names: &[Name]) -> Result<Names, DiskFault>
+    ensures picked { IfOk result (ArePicked names.now) }
+    ensures stand { let s = D.state disk.old in
+        IfOk result (λ list. IsTrue D.tells → list ≡ filter (has_file s) names.now) }
+    ensures looks { Looks D.Disk (disk_ending result) disk.old disk.new }
+    ensures no_entry { LooksAtNoEntry D.Disk disk.old disk.new }
+{
+    let mut entries = Names::new(alloc);
+    if names.is_empty() {
+        return Ok(entries);
+    }
+    disk.entries(&mut entries)?;
+    Ok(common(alloc, names, entries.as_slice())?)
+}
+
+// Removes the files of these names, one after the other.
+fn remove_files<D: Disk>(
+    handles: &mut Handles,
+    disk: &mut D,
+    names: &[Name],
+) -> Result<(), DiskFault>
+    requires unused { AreUnused (kept handles.old) names.now }
+    requires told { IsTrue D.tells → HoldsFiles (cache D.Disk handles.old disk.old) names.now }
+    ensures dooms { let at = cache D.Disk in IsTrue D.tells →
+        DoomsAll names.now result (at handles.old disk.old) (at handles.new disk.new) }
+    ensures kept { kept handles.new ≡ kept handles.old }
+    ensures index { Told D.Disk LeavesIndex disk.old disk.new }
+    ensures account { Accounts D.Disk (disk_ending result) disk.old disk.new }
+    ensures no_entry { LooksAtNoEntry D.Disk disk.old disk.new }
+{
+    for name in names {
+        handles.evict(disk, name)?;
+    }
+    Ok(())
+}
+
+// The line of a name.
+fn name_line(alloc: Global, name: &Name) -> Result<String, NoMemory>
+    ensures { IfOk result (λ text. string_bytes text ≡ line (encode_upper name.now.0 ∷ [])) }
+{
+    let mut text = text_of(alloc, name)?;
+    text.push('\n')?;
+    Ok(text)
+}
+
+// Says a line of each name.
+fn say_lines<K: Sink>(
+    alloc: Global,
+    names: &[Name],
+    reply: &mut Pending,
+    sink: &mut K,
+) -> Result<(), StoreFault>
+    ensures says { let at = saying K.Sink in let text = flat_map (λ n. line (encode_upper n.0 ∷ [])) names.now in
+        OnOk result (SaysMore (at reply.old sink.old) (at reply.new sink.new) text) }
+    ensures cut { let at = saying K.Sink in let text = flat_map (λ n. line (encode_upper n.0 ∷ [])) names.now in
+        OnErr result (CutsIn (at reply.old sink.old) (K.taken sink.new) text) }
+    ensures no_disk { result ≢ Err StoreFault.Disk }
+    ensures sink { let failed = IsErrOf result StoreFault.Sink in
+        HasCause failed (K.faults sink.old) (K.faults sink.new) }
+{
+    for name in names {
+        let line = name_line(alloc, name)?;
+        reply.put(sink, line.as_bytes())?;
+    }
+    Ok(())
+}
+
+// Says the number of the names, and a line of each.
+fn say_names<K: Sink>(
+    alloc: Global,
+    names: &[Name],
+    reply: &mut Pending,
+    sink: &mut K,
+) -> Result<(), StoreFault>
+    ensures says { let at = saying K.Sink in let text = names_text names.now in
+        OnOk result (SaysMore (at reply.old sink.old) (at reply.new sink.new) text) }
+    ensures cut { let at = saying K.Sink in let text = names_text names.now in
+        OnErr result (CutsIn (at reply.old sink.old) (K.taken sink.new) text) }
+    ensures no_disk { result ≢ Err StoreFault.Disk }
+    ensures sink { let failed = IsErrOf result StoreFault.Sink in
+        HasCause failed (K.faults sink.old) (K.faults sink.new) }
+{
+    let head = counted(alloc, b"evicted", names.len() as u64)?;
+    reply.put(sink, head.as_slice())?;
+    say_lines(alloc, names, reply, sink)
+}
+
+impl Store {
+    ghost use Rattle.cache_store.specs.Open.{IsOpen};
+    ghost use Rattle.cache_store.specs.Performing.{DoesWhatIsDone, HadEffect};
+    ghost use Rattle.cache_store.specs.Session.{session};
+
+    // The names that have to go by the records, so that all entries take at most so many KB, in the order of eviction.
+    fn names_to_evict(&self, alloc: Global, kb: u32) -> Result<Names, NoMemory>
+        ensures { IfOk result (AreVictims self.now.index.map (kept self.now.handles) kb) }
+    {
+        let records = self.index.map.records()?;
+        let in_use = self.handles.open_names(alloc)?;
+        victims(alloc, &records, &in_use, u64::from(kb))
+    }
+
+    /// Ends the update, removes the entries that have to go by their records, so that all take at most so many KB, and
+    /// says their names, in the order of eviction. A record whose file does not stand goes as well. The folder is listed,
+    /// and the names are gathered, before the first file is removed.
+    pub(crate) fn evict<D: Disk, K: Sink>(
+        &mut self,
+        alloc: Global,
+        disk: &mut D,
+        kb: u32,
+        sink: &mut K,
+    ) -> Result<Answered, StoreFault>
+        requires empty { self.old.reply.held ≡ [] }
+        requires told { IsTrue D.tells → IsOpen (session D.Disk self.old disk.old) }
+        ensures does { let at = session D.Disk in IsTrue D.tells →
+            DoesWhatIsDone (Evict kb) result (at self.old disk.old) (at self.new disk.new)
+            (K.taken sink.old) (saying K.Sink self.new.reply sink.new) }
+        ensures grows { TakesMore (K.taken sink.old) (K.taken sink.new) }
+        ensures base { HadEffect result → SameBase self.old.index.map self.new.index.map }
+        ensures index { Told D.Disk LeavesIndex disk.old disk.new }
+        ensures all { IfOk result (λ a. a ≡ Answered.All) }
+        ensures names { LooksAtNames D.Disk (length self.old.index.update) disk.old disk.new }
+        ensures account { Accounts D.Disk (ending result) disk.old disk.new }
+        ensures sink { let failed = IsErrOf result StoreFault.Sink in
+            HasCause failed (K.faults sink.old) (K.faults sink.new) }
+    {
+        self.index.finish(disk)?;
+        let names = self.names_to_evict(alloc, kb)?;
+        let files = standing(alloc, disk, names.as_slice())?;
+        remove_files(&mut self.handles, disk, files.as_slice())?;
+        self.index.forget(names.as_slice());
+        say_names(alloc, names.as_slice(), &mut self.reply, sink)?;
+        Ok(Answered::All)
+    }
+}

@@ -1,0 +1,181 @@
+-- The names of the undoomed objects in use, and the machine's.
+use Rattle.std.proofs.Common.{◌≡◌, ℕ, ◌+◌, ◌<◌, List, [], ◌∷◌, length, map, get_or, take, Bool, true, false, cond, ◌&&◌, Option, Some, None, Result, Ok, Err, IfOk, is_some, T, refl, sym, ap, subst, ◌∙◌}
+use Rattle.std.specs.Prelude.{is_none, unwrap_or, ◌||◌}
+use Rattle.std.specs.FinMap.{is_sorted}
+use Rattle.std.specs.FinMap.Entries.{below_all}
+use Rattle.std.specs.List.{AllByRecursion, list_any, position}
+use Rattle.std.specs.List.Sorted.{IsStrictlySortedBy}
+use Rattle.std.specs.Ordering.{eq_by_cmp, is_eq, is_lt}
+use Rattle.std.specs.Str.{bytes_eq}
+use Rattle.std.specs.declared.cmp.Ordering.TheVariants.{Less}
+use Rattle.std.proofs.lemmas.Bool.{and_from}
+use Rattle.std.proofs.lemmas.List.Folds.{Any-from_list_any, list_any_at, list_any_more}
+use Rattle.std.proofs.lemmas.List.Quantifiers.{position-Some}
+use Rattle.std.proofs.lemmas.Map.Text.{is_eq-slice_cmp}
+use Rattle.std.proofs.lemmas.Option.{slice_get-get_or, unwrap_or-slice_get}
+use Rattle.cache_base.specs.Names.{AreRising, name_cmp}
+use Rattle.cache_base.specs.declared.name.Name.{Name}
+use Rattle.cache_theory.specs.Machine.{Machine, open_names}
+use Rattle.cache_theory.specs.Proper.{IsProper}
+use Rattle.cache_theory.specs.Table.{IsTable, Table, bytes_cmp, get, keys, name_of}
+use Rattle.cache_theory.proofs.Evicting.{has_open}
+use Rattle.cache_theory.proofs.TableLaws.{same_table}
+use Rattle.evictor.specs.Evict.{has_name}
+use Rattle.file_handles.specs.Finding.{is_user}
+use Rattle.file_handles.specs.Kept.{Kept}
+use Rattle.file_handles.specs.Stands.{HandlesStand}
+use Rattle.file_handles.specs.Users.{AreOpenNames, users_at, users_of}
+use Rattle.file_handles.specs.declared.object.Object.{Object}
+use Rattle.file_handles.proofs.User.{no_one, no_user_there, user_at, user_is_used, user_somewhere}
+
+-- One object more in a set of names.
+
+or_cond : (a b : Bool) → cond a true b ≡ (b || a)
+or_cond true true = refl
+or_cond true false = refl
+or_cond false true = refl
+or_cond false false = refl
+
+or_false : (b : Bool) → b ≡ (b || false)
+or_false true = refl
+or_false false = refl
+
+module _ (objects : List (Option Object)) (i : ℕ) (d : Option Object) (q : Name) (within : i < length objects) where
+  with_next : (b : Bool) → is_user q (get_or objects i d) ≡ b
+      → (list_any (is_user q) (take i objects) || b) ≡ list_any (is_user q) (take (i + 1) objects)
+  with_next b is =
+      ap (λ c. list_any (is_user q) (take i objects) || c) (sym is) ∙ sym (list_any_more (is_user q) objects i d within)
+
+  -- one that is no user
+  pub skipped : is_user q (get_or objects i d) ≡ false
+      → list_any (is_user q) (take i objects) ≡ list_any (is_user q) (take (i + 1) objects)
+  skipped is = or_false (list_any (is_user q) (take i objects)) ∙ with_next false is
+
+  -- an undoomed one
+  pub added : (x : Object) → get_or objects i d ≡ Some x → is_none x.doomed ≡ true
+      → cond (is_eq (name_cmp x.name q)) true (list_any (is_user q) (take i objects))
+      ≡ list_any (is_user q) (take (i + 1) objects)
+  added x at undoomed =
+      or_cond (is_eq (name_cmp x.name q)) (list_any (is_user q) (take i objects))
+      ∙ with_next (is_eq (name_cmp x.name q))
+      (ap (is_user q) at ∙ ap (λ b. b && bytes_eq x.name.0 q.0) undoomed ∙ sym (is_eq-slice_cmp x.name.0 q.0))
+
+-- Rising names with the same members are the same: as tables that have nothing under their names.
+
+nothings : List Name → Table (Unit {0})
+nothings names = map (λ n. (n.0, tt)) names
+
+same_nothing : (a b : Option (Unit {0})) → is_some a ≡ is_some b → a ≡ b
+same_nothing None None is = refl
+same_nothing (Some a) (Some b) is = refl
+same_nothing None (Some b) is = absurd (cc)
+same_nothing (Some a) None is = absurd (cc)
+
+member_is : (names : List Name) (q : List ℕ) → is_some (get (nothings names) q) ≡ has_name names (name_of q)
+unfolding nothings
+member_is [] q = refl
+member_is (n ∷ names) q =
+    elim (eq_by_cmp bytes_cmp q n.0) as (λ b. is_some (cond b (Some tt) (get (nothings names) q)) ≡ (b || has_name names (name_of q))) [
+      | true ↦ refl
+      | false ↦ member_is names q
+    ]
+
+names_back : (names : List Name) → map name_of (keys (nothings names)) ≡ names
+unfolding nothings
+names_back [] = refl
+names_back (n ∷ names) = ap (λ ns. n ∷ ns) (names_back names)
+
+same_names : (a b : List Name) → IsTable (nothings a) → IsTable (nothings b)
+    → ((q : List ℕ) → has_name a (name_of q) ≡ has_name b (name_of q)) → a ≡ b
+same_names a b ra rb same =
+    let tables : nothings a ≡ nothings b =
+    same_table (nothings a) (nothings b) ra rb (λ q.
+    same_nothing (get (nothings a) q) (get (nothings b) q) (member_is a q ∙ same q ∙ sym (member_is b q))) in
+    sym (names_back a) ∙ ap (λ (t : Table (Unit {0})). map name_of (keys t)) tables ∙ names_back b
+
+-- names that rise
+
+below_is : (n : Name) (names : List Name) → AllByRecursion (λ y. name_cmp n y ≡ Less) names
+    → below_all bytes_cmp n.0 (nothings names) ≡ true
+unfolding nothings
+below_is n [] h = refl
+below_is n (y ∷ names) h =
+    and_from (is_lt (name_cmp n y)) (below_all bytes_cmp n.0 (nothings names)) (ap is_lt h.0) (below_is n names h.1)
+
+sorted_is : (names : List Name) → AreRising names → is_sorted bytes_cmp (nothings names) ≡ true
+unfolding nothings IsStrictlySortedBy
+sorted_is [] h = refl
+sorted_is (n ∷ names) h =
+    and_from (below_all bytes_cmp n.0 (nothings names)) (is_sorted bytes_cmp (nothings names)) (below_is n names h.0)
+    (sorted_is names h.1)
+
+rising_table : (names : List Name) → AreRising names → IsTable (nothings names)
+rising_table names rising = record { rising = subst T (sym (sorted_is names rising)) tt }
+
+-- and the names of a table
+
+below_keys : {X : Type 0} (n : List ℕ) (t : Table X)
+    → below_all bytes_cmp n (nothings (map name_of (keys t))) ≡ below_all bytes_cmp n t
+unfolding nothings
+below_keys n [] = refl
+below_keys n (e ∷ es) = ap (λ b. is_lt (bytes_cmp n e.0) && b) (below_keys n es)
+
+sorted_keys : {X : Type 0} (t : Table X)
+    → is_sorted bytes_cmp (nothings (map name_of (keys t))) ≡ is_sorted bytes_cmp t
+unfolding nothings
+sorted_keys [] = refl
+sorted_keys (e ∷ es) = λ i. below_keys e.0 es i && sorted_keys es i
+
+keys_table : {X : Type 0} (t : Table X) → IsTable t → IsTable (nothings (map name_of (keys t)))
+keys_table t is = record { rising = subst T (sym (sorted_keys t)) is.rising }
+
+-- A name has a user exactly where one is found.
+user_or_none : (k : Kept) (q : Name) → list_any (is_user q) k.objects ≡ is_some (position (is_user q) k.objects)
+user_or_none k q = go (list_any (is_user q) k.objects) refl (position (is_user q) k.objects) refl
+  where
+    go : (b : Bool) → list_any (is_user q) k.objects ≡ b → (o : Option ℕ) → position (is_user q) k.objects ≡ o → b ≡ is_some o
+    go true any None none =
+        let found = Any-from_list_any (is_user q) k.objects any in
+        let at = unwrap_or-slice_get k.objects found.0 None in
+        let there = ap (λ o. unwrap_or o None) (slice_get-get_or k.objects found.0 found.1 found.2) ∙ found.3 in
+        absurd (user_somewhere k q found.0 (user_at k q found.0 found.1 found.2 there found.4) none)
+    go true any (Some p) at = refl
+    go false no_user None at = refl
+    go false no_user (Some p) at =
+        let here = position-Some (is_user q) k.objects p None at in
+        let some = list_any_at (is_user q) k.objects p None here.0 here.1 in
+        absurd (let never : true ≡ false = sym some ∙ no_user in cc)
+
+-- a name that is not among these has no slot
+not_among : (k : Kept) (names : List Name) → ((q : Name) → has_name names q ≡ list_any (is_user q) k.objects)
+    → (q : Name) → has_name names q ≡ false → users_of k q ≡ 0
+not_among k names has q lacks =
+    ap (users_at k) (no_one (position (is_user q) k.objects) (sym (user_or_none k q) ∙ sym (has q) ∙ lacks))
+
+module _ (k : Kept) (m : Machine) (number : ℕ → ℕ) (proper : IsProper m) (stand : HandlesStand k m number) where
+  open_same : (q : Name) → list_any (is_user q) k.objects ≡ is_some (get m.in_use q.0)
+  open_same q = user_or_none k q ∙ go (position (is_user q) k.objects) refl
+    where
+      go : (o : Option ℕ) → position (is_user q) k.objects ≡ o → is_some o ≡ is_some (get m.in_use q.0)
+      go None none = ap is_some (sym (no_user_there k m number proper stand q none))
+      go (Some p) at = ap is_some (sym (user_is_used k m number proper stand q p at))
+
+  -- rising names of undoomed objects are the machine's
+  open_is : (names : List Name) → AreRising names → ((q : Name) → has_name names q ≡ list_any (is_user q) k.objects)
+      → names ≡ open_names m
+  open_is names rising has =
+      same_names names (open_names m) (rising_table names rising) (keys_table m.in_use proper.users) (λ q.
+      has (name_of q) ∙ open_same (name_of q) ∙ sym (has_open m.in_use (name_of q)))
+
+-- The names of a set of users, listed in their order.
+
+module _ {E : Type 0} (k : Kept) (users : List Name) (has : (q : Name) → has_name users q ≡ list_any (is_user q) k.objects) where
+  pub listed_open : (r : Result (List Name) E) → IfOk r (λ names. names ≡ users) → IfOk r AreRising → IfOk r (AreOpenNames k)
+  listed_open (Err e) is rising = tt
+  listed_open (Ok names) is rising = λ m number proper stand.
+      open_is k m number proper stand names rising (λ q. ap (λ ns. has_name ns q) is ∙ has q)
+
+  pub listed_unused : (r : Result (List Name) E) → IfOk r (λ names. names ≡ users)
+      → IfOk r (λ names. (q : Name) → has_name names q ≡ false → users_of k q ≡ 0)
+  listed_unused (Err e) is = tt
+  listed_unused (Ok names) is = not_among k names (λ q. ap (λ ns. has_name ns q) is ∙ has q)

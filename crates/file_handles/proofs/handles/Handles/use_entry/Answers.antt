@@ -1,0 +1,57 @@
+use Rattle.std.proofs.Common.{◌≡◌, refl, true}
+use Rattle.std.proofs.lemmas.Result.{IfOk-weaker}
+use Rattle.cache_theory.specs.Command.Command.{UseEntry}
+use Rattle.cache_theory.specs.Step.{used}
+use Rattle.file_handles.specs.Changes.{with_version}
+use Rattle.file_handles.specs.Effects.{HasEffectAt, IsLearntOf}
+use Rattle.file_handles.specs.Held.{is_draft}
+use Rattle.file_handles.specs.Kept.{kept, object_at}
+use Rattle.file_handles.specs.Refuses.{HasAt}
+use Rattle.file_handles.proofs.Carried.{change_carried_at}
+use Rattle.file_handles.proofs.EffectLaws.{change_effect_at}
+use Rattle.file_handles.proofs.ElementChecks.{if_object, the_object}
+use Rattle.file_handles.proofs.ElementCommands.{IsFinished, writes_finished}
+use Rattle.file_handles.proofs.IndexLeft.{change_left}
+use Rattle.file_handles.proofs.Places.{filed_somehow}
+use Rattle.file_handles.proofs.Refused.{refused_answer}
+use Rattle.file_handles.proofs.UseCommand.{use_makes}
+use Rattle.file_handles.proofs.Where.{at_moment}
+use Rattle.file_handles.proofs.handles.Handles.use_entry.Goals as goal
+
+pub returns-in_err-place-clause-carried : goal.returns-in_err-place-clause-carried
+returns-in_err-place-clause-carried g c told =
+    at_moment (refused_answer c.from_residual.result (g.D.Disk.state c.args.disk.now) (kept c.args.self.now) (UseEntry c.args.slot)
+    c.in_err-place.field-0.0 c.from_residual.ensures.1 c.in_err-place.ensures.refused)
+
+pub change_at-requires-clause-told : goal.change_at-requires-clause-told
+change_at-requires-clause-told g c told = filed_somehow _ _ _ (c.requires.told told)
+
+pub returns-clause-carried : goal.returns-clause-carried
+returns-clause-carried g c told =
+    let s = g.D.Disk.state c.args.disk.now in
+    let t = g.D.Disk.state c.change_at.new.disk in
+    let k = kept c.args.self.now in
+    let p = c.in_ok-place.place in
+    let now = c.args.now in
+    let there = the_object (object_at k p) (HasAt k c.args.slot p) c.in_ok-place.ensures.object in
+    let quiet = if_object (object_at k p) there.0 (λ z. is_draft z.entry ≡ true → t ≡ s) there.1.0 (c.change_at.ensures.quiet told) in
+    change_carried_at now s t (g.met.D.Disk.sound c.args.disk.now told) k (kept c.change_at.new.self) (UseEntry c.args.slot) c.args.slot c.requires.slot p there.0 there.1.1
+    (with_version (used now)) IsFinished (use_makes now c.ranges.now.fits k c.args.slot c.in_ok-place.ensures.passes) c.change_at.result
+    (c.change_at.ensures.changes told there.0 there.1.0) (writes_finished s t there.0 quiet) c.change_at.ensures.refused
+
+pub returns-clause-effect : goal.returns-clause-effect
+returns-clause-effect g c =
+    let k = kept c.args.self.now in
+    let p = c.in_ok-place.place in
+    let now = c.args.now in
+    let there = the_object (object_at k p) (HasAt k c.args.slot p) c.in_ok-place.ensures.object in
+    IfOk-weaker c.change_at.result (IsLearntOf (with_version (used now)) (object_at k p)) (HasEffectAt now k (UseEntry c.args.slot)) (λ e is.
+    change_effect_at now k (UseEntry c.args.slot) c.args.slot c.requires.slot p there.0 there.1.1 (with_version (used now)) IsFinished
+    (use_makes now c.ranges.now.fits k c.args.slot c.in_ok-place.ensures.passes) e (λ m. refl) (λ m number stand. refl) is)
+    c.change_at.ensures.effect
+
+pub returns-clause-index : goal.returns-clause-index
+returns-clause-index g c told =
+    let there = the_object _ _ c.in_ok-place.ensures.object in
+    change_left (g.D.Disk.state c.args.disk.now) (g.D.Disk.state c.change_at.new.disk) (kept c.args.self.now) (kept c.change_at.new.self) c.in_ok-place.place there.0 (_) c.change_at.result
+    (g.met.D.Disk.sound c.args.disk.now told) there.1.0 (filed_somehow _ _ _ (c.requires.told told)) (c.change_at.ensures.changes told)

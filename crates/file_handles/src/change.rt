@@ -1,0 +1,161 @@
+//! Changes what is held of an entry: its elements, or its counts by one more use.
+
+ghost use Rattle.std.specs.Prelude.{◌≡◌, ◌<◌, ◌≤◌, IfOk, IfSome, IsSomeAnd, IsTrue, length, true};
+ghost use Rattle.cache_base.specs.declared.limits.TheConstants.{ELEMENTS_MAX, SLOTS};
+ghost use Rattle.disk_model.specs.Account.{Accounts};
+ghost use Rattle.entry_parts.specs.Elements.{elements_bytes};
+ghost use Rattle.file_handles.specs.Answers.{OnRefused, ending};
+ghost use Rattle.file_handles.specs.Effects.{IsLearntOf, IsPlainEffect};
+ghost use Rattle.file_handles.specs.Held.{elements_in, is_draft};
+ghost use Rattle.file_handles.specs.Setting.{HasRoom, changed_by, header_by, with_change};
+
+use crate::finish::learnt_of;
+use crate::object::{Draft, Entry, Object};
+use crate::{Effect, HandleFault, Handles};
+use cache_base::{Moment, NoMemory};
+use disk_model::Disk;
+use entry_file::rewrite_meta;
+use entry_metadata::Meta;
+use entry_parts::{Elements, Header};
+use frecency::next as next_frecency;
+use std::alloc::Global;
+
+/// A change of an entry: of its elements, or one more use at a moment.
+#[derive(Clone, Copy)]
+pub(crate) enum Change<'a> {
+    Set { name: &'a [u8], value: &'a [u8] },
+    Remove { name: &'a [u8] },
+    Use { now: Moment },
+}
+
+// The header after the change.
+fn changed_header(header: Header, change: Change<'_>) -> Header
+    ensures header { result ≡ header_by change.entry header }
+    ensures version { result.version ≡ header.version }
+    ensures key_size { result.key_size ≡ header.key_size }
+{
+    match change {
+        Change::Use { now } => header.used(now, next_frecency(header.frecency, now)),
+        Change::Set { .. } => header,
+        Change::Remove { .. } => header,
+    }
+}
+
+// The elements after the change.
+fn changed_elements(elements: Elements, change: Change<'_>) -> Result<Elements, NoMemory>
+    ensures { IfOk result (λ after. after ≡ changed_by change.entry elements) }
+{
+    let mut elements = elements;
+    match change {
+        Change::Set { name, value } => {
+            if elements.set(name, value).is_err() {
+                return Err(NoMemory);
+            }
+        }
+        Change::Remove { name } => {
+            elements.remove(name);
+        }
+        Change::Use { .. } => {}
+    }
+    Ok(elements)
+}
+
+// The draft after the change.
+fn changed_draft(draft: Draft, change: Change<'_>) -> Result<Draft, NoMemory>
+    requires { length (elements_bytes (changed_by change draft.elements)) ≤ ELEMENTS_MAX }
+    ensures header { IfOk result (λ after. after.header ≡ header_by change.entry draft.header) }
+    ensures elements { IfOk result (λ after.
+        after.elements ≡ changed_by change.entry draft.elements) }
+    ensures others { IfOk result (λ after. (after.body ≡ draft.body) × (after.key ≡ draft.key)) }
+{
+    let Draft {
+        body,
+        header,
+        key,
+        elements,
+    } = draft;
+    let header = changed_header(header, change);
+    let elements = changed_elements(elements, change)?;
+    Ok(Draft {
+        body,
+        header,
+        key,
+        elements,
+    })
+}
+
+// The metadata after the change.
+fn changed_meta(meta: Meta, change: Change<'_>) -> Result<Meta, NoMemory>
+    requires { HasRoom (Entry.Finished meta) (changed_by change meta.elements) }
+    ensures header { IfOk result (λ after. after.header ≡ header_by change.entry meta.header) }
+    ensures elements { IfOk result (λ after.
+        after.elements ≡ changed_by change.entry meta.elements) }
+    ensures others { IfOk result (λ after. (after.key ≡ meta.key)
+        × ((after.hashes ≡ meta.hashes) × (after.offset ≡ meta.offset))) }
+{
+    let Meta {
+        header,
+        key,
+        elements,
+        hashes,
+        offset,
+    } = meta;
+    let header = changed_header(header, change);
+    let elements = changed_elements(elements, change)?;
+    Ok(Meta {
+        header,
+        key,
+        elements,
+        hashes,
+        offset,
+    })
+}
+
+impl Handles {
+    ghost use Rattle.file_handles.specs.Cache.{cache};
+    ghost use Rattle.file_handles.specs.Changes.{ChangesThere, IsFiledAt, with_version};
+    ghost use Rattle.file_handles.specs.Kept.{kept, object_at as object_kept_at};
+
+    /// Makes a change of the object at a place. The metadata of a finished entry are rewritten.
+    pub(crate) fn change_at<D: Disk>(
+        &mut self,
+        alloc: Global,
+        disk: &mut D,
+        place: usize,
+        change: Change<'_>,
+    ) -> Result<Effect, HandleFault>
+        requires place { place < SLOTS }
+        requires room { IsSomeAnd (object_kept_at (kept self.old) place)
+            (λ x. HasRoom x.entry (changed_by change (elements_in x.entry))) }
+        requires told { IsTrue D.tells → IsFiledAt (cache D.Disk self.old disk.old) place }
+        ensures changes { let at = cache D.Disk in IsTrue D.tells →
+            ChangesThere place (with_version (with_change change.entry)) result
+            (at self.old disk.old) (at self.new disk.new) }
+        ensures quiet { IsTrue D.tells → IfSome (object_kept_at (kept self.old) place)
+            (λ x. is_draft x.entry ≡ true → D.state disk.new ≡ D.state disk.old) }
+        ensures effect { IfOk result (IsLearntOf
+            (with_version (with_change change.entry)) (object_kept_at (kept self.old) place)) }
+        ensures plain { IfOk result IsPlainEffect }
+        ensures refused { OnRefused result (λ _. ⊥) }
+        ensures account { Accounts D.Disk (ending result) disk.old disk.new }
+    {
+        let object = self.take(place);
+        let file = object.file_place();
+        let Object {
+            name,
+            doomed,
+            entry,
+        } = object;
+        let entry = match entry {
+            Entry::Draft(draft) => Entry::Draft(changed_draft(draft, change)?),
+            Entry::Finished(meta) => {
+                let meta = changed_meta(meta, change)?;
+                rewrite_meta(alloc, disk, &file, &meta)?;
+                Entry::Finished(meta)
+            }
+        };
+        let effect = learnt_of(&name, doomed, &entry);
+        self.put_entry(place, name, doomed, entry);
+        Ok(effect)
+    }
+}
