@@ -153,10 +153,11 @@ form_spelled text line =
     verb_case text (codes "flush") _ _ (Tells text) (λ is. (is, (tt, refl)))
     (verb_case text (codes "list") _ _ (Tells text) (λ is. (is, (tt, refl)))
     (verb_case text (codes "state") _ _ (Tells text) (λ is. (is, (tt, refl)))
+    (verb_case text (codes "verify") _ _ (Tells text) (λ is. (is, (tt, refl)))
     (verb_case text (codes "rebuild") _ _ (Tells text) (λ is. (is, (tt, refl)))
     (chained (λ (parts : List ℕ × List ℕ). verb_form parts.0 parts.1) (cut 32 text) (Lacks 32 text) (IsCut 32 text) (Tells text)
     (λ parts h. subst (λ (t : List ℕ). IfSome (verb_form parts.0 parts.1) (Tells t)) (sym h.0)
-    (verb_spelled parts.0 parts.1 (line_behind 32 parts.0 parts.1 (subst IsLine h.0 line)))) (cut_is 32 text)))))
+    (verb_spelled parts.0 parts.1 (line_behind 32 parts.0 parts.1 (subst IsLine h.0 line)))) (cut_is 32 text))))))
 
 none_or_some : {X : Type 0} {x : X} → None ≡ Some x → ⊥
 none_or_some e = cc

@@ -5,7 +5,7 @@ use Rattle.std.proofs.lemmas.Bool.Decides.{Decides-eqb}
 use Rattle.std.proofs.lemmas.List.{append_assoc, take_at}
 use Rattle.cache_base.specs.declared.limits.TheConstants.{SLOTS}
 use Rattle.cache_theory.specs.Command.{Command}
-use Rattle.cache_theory.specs.Command.Command.{At, Create, OpenKey, Append, Finish, SetElement, UnsetElement, ElementOf, UseEntry, ReadPart, Close, Doom, Get, HasEntry, ListRecords, Evict, EvictNames, Flush, StepUpdate, UpdateState, Rebuild}
+use Rattle.cache_theory.specs.Command.Command.{At, Create, OpenKey, Append, Finish, SetElement, UnsetElement, ElementOf, UseEntry, ReadPart, Close, Doom, Get, HasEntry, ListRecords, Evict, EvictNames, Flush, StepUpdate, UpdateState, Verify, VerifyRecords, Rebuild}
 use Rattle.cache_theory.specs.Text.{FieldsFit, IsOneLine, command_words, command_data, command_bytes, spaced, NoneBeginsAnother}
 use Rattle.cache_script.specs.Lines.{Form, form_of, cut, form_in}
 use Rattle.cache_script.proofs.CutLaws.{Lacks, cut_at}
@@ -70,6 +70,8 @@ one_line (StepUpdate n) fits =
     one_line_pair (codes "step") (decimal n) (lacks_by 10 (codes "step") refl)
     (one_line_number n fits)
 one_line UpdateState fits = lacks_by 10 (codes "state") refl
+one_line Verify fits = lacks_by 10 (codes "verify") refl
+one_line (VerifyRecords records) fits = absurd fits
 one_line Rebuild fits = lacks_by 10 (codes "rebuild") refl
 
 -- ---- and so it is what stands before the first newline

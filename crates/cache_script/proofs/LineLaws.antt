@@ -8,7 +8,7 @@ use Rattle.std.proofs.lemmas.Str.Parse.{digit_from_value}
 use Rattle.std.proofs.lemmas.Fmt.{digits_decimal}
 use Rattle.cache_base.specs.declared.limits.TheConstants.{ELEMENTS_MAX, PIECE_MAX, SLOTS}
 use Rattle.cache_theory.specs.Command.{Command}
-use Rattle.cache_theory.specs.Command.Command.{At, Create, OpenKey, Append, Finish, SetElement, UnsetElement, ElementOf, UseEntry, ReadPart, Close, Doom, Get, HasEntry, ListRecords, Evict, EvictNames, Flush, StepUpdate, UpdateState, Rebuild}
+use Rattle.cache_theory.specs.Command.Command.{At, Create, OpenKey, Append, Finish, SetElement, UnsetElement, ElementOf, UseEntry, ReadPart, Close, Doom, Get, HasEntry, ListRecords, Evict, EvictNames, Flush, StepUpdate, UpdateState, Verify, VerifyRecords, Rebuild}
 use Rattle.cache_theory.specs.Text.{FieldsFit, command_words, spaced}
 use Rattle.cache_script.specs.Lines.{Form, form_of, cut, number_below, slot_in, read_in, set_in, slot_form, verb_form, form_in}
 use Rattle.cache_base.specs.Numbers.{number_in}
@@ -86,4 +86,6 @@ line_read Flush fits = refl
 line_read (StepUpdate n) fits =
     ap (λ o. option_map (λ k. Form.WholeLine (StepUpdate k)) o) (number_read n fits)
 line_read UpdateState fits = refl
+line_read Verify fits = refl
+line_read (VerifyRecords records) fits = absurd fits
 line_read Rebuild fits = refl

@@ -5,7 +5,7 @@ use Rattle.std.specs.Option.{option_map, option_and_then}
 use Rattle.cache_base.specs.Bytes.{AreBytes}
 use Rattle.cache_base.specs.declared.limits.TheConstants.{ELEMENTS_MAX, PIECE_MAX, SLOTS}
 use Rattle.cache_theory.specs.Command.{Command}
-use Rattle.cache_theory.specs.Command.Command.{At, Create, OpenKey, Append, Finish, SetElement, UnsetElement, ElementOf, UseEntry, ReadPart, Close, Doom, Get, HasEntry, ListRecords, Evict, Flush, StepUpdate, UpdateState, Rebuild}
+use Rattle.cache_theory.specs.Command.Command.{At, Create, OpenKey, Append, Finish, SetElement, UnsetElement, ElementOf, UseEntry, ReadPart, Close, Doom, Get, HasEntry, ListRecords, Evict, Flush, StepUpdate, UpdateState, Verify, Rebuild}
 use Rattle.cache_theory.specs.Text.{FieldsFit, IsOneLine, command_data, command_words, spaced}
 use Rattle.cache_script.specs.Command.{command_of}
 use Rattle.cache_base.specs.Numbers.{number_in}
@@ -82,6 +82,7 @@ form_in text =
     if pointwise nat_eq text (codes "flush") then Some (Form.WholeLine Flush)
     else if pointwise nat_eq text (codes "list") then Some (Form.WholeLine ListRecords)
     else if pointwise nat_eq text (codes "state") then Some (Form.WholeLine UpdateState)
+    else if pointwise nat_eq text (codes "verify") then Some (Form.WholeLine Verify)
     else if pointwise nat_eq text (codes "rebuild") then Some (Form.WholeLine Rebuild)
     else option_and_then (λ parts. verb_form parts.0 parts.1) (cut 32 text)
 

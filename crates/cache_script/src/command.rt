@@ -85,6 +85,8 @@ pub enum Command<'a> {
     },
     /// How far the update of the index is.
     State,
+    /// What is wrong with files and records.
+    Verify,
     /// The index is written anew from all files.
     Rebuild,
 }

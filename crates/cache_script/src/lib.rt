@@ -1,8 +1,9 @@
-//! The text of a script: its commands one after another, read from a source, and what is printed of a refusal
-//! and of a record.
+//! The text of a script: its commands one after another, read from a source, and what is printed of a refusal, of a
+//! record and of a finding.
 #![tactic(auto)]
 
 mod command;
+mod findings;
 mod front;
 mod giving;
 mod laws;
@@ -14,6 +15,7 @@ mod refusals;
 mod window;
 
 pub use command::Command;
+pub use findings::finding_text;
 pub use laws::{bytes_have_commands, commands_are_one, none_begins_another};
 pub use reader::{Reader, ScriptFault};
 pub use records::{extend_record, record_text};

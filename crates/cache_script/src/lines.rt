@@ -145,6 +145,9 @@ fn text_line(text: &[u8]) -> Option<Line<'_>>
     if text == b"state".as_slice() {
         return Some(Line::Whole(Command::State));
     }
+    if text == b"verify".as_slice() {
+        return Some(Line::Whole(Command::Verify));
+    }
     if text == b"rebuild".as_slice() {
         return Some(Line::Whole(Command::Rebuild));
     }

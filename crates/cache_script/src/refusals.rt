@@ -8,7 +8,8 @@ use cache_theory::Refusal;
 use chunk_store::Damage;
 use std::alloc::Global;
 
-fn damage_text(alloc: Global, damage: Damage) -> Result<String, NoMemory>
+/// The line that is printed of a damage, without its newline.
+pub(crate) fn damage_text(alloc: Global, damage: Damage) -> Result<String, NoMemory>
     ensures { IfOk result (λ text. string_bytes text ≡ spaced (damage_words damage)) }
 {
     let chunk = damage.chunk;

@@ -1,11 +1,13 @@
 ghost use Rattle.std.specs.Prelude.{◌<◌};
 
 use crate::front::{Front, front_of};
-use crate::{Command, Reader, ScriptFault, record_text, refusal_text};
+use crate::{Command, Reader, ScriptFault, finding_text, record_text, refusal_text};
 use cache_base::{Bytes, Name, NoMemory, Numbers, SCRIPT_MAX};
+use cache_check::{Finding, What};
 use cache_io::{MemSource, Source};
 use cache_theory::Refusal;
 use chunk_store::Damage;
+use entry_file::Unfit;
 use index_record::IndexRecord;
 use std::alloc::Global;
 use std::process::Abort;
@@ -93,7 +95,7 @@ fn lines_of_the_table_are_commands(rt: HostRuntime) -> Result<(), Fail> {
 
 #[test]
 fn lines_of_the_index_are_commands(rt: HostRuntime) -> Result<(), Fail> {
-    let scripts: [&[u8]; 9] = [
+    let scripts: [&[u8]; 10] = [
         b"has :x\n",
         b"has \n",
         b"list\n",
@@ -102,6 +104,7 @@ fn lines_of_the_index_are_commands(rt: HostRuntime) -> Result<(), Fail> {
         b"step 0\n",
         b"step 4294967295\n",
         b"state\n",
+        b"verify\n",
         b"rebuild\n",
     ];
     all_count(&rt, rt.alloc(), &scripts, Ok(1))?;
@@ -386,7 +389,7 @@ fn commands_have_their_fields(rt: HostRuntime) -> Result<(), Fail> {
 
 #[test]
 fn commands_of_the_index_have_their_fields(rt: HostRuntime) -> Result<(), Fail> {
-    let script = b"use 7\nhas a key\nlist\nevict 9\nstep 5\nstate\nrebuild\n";
+    let script = b"use 7\nhas a key\nlist\nevict 9\nstep 5\nstate\nverify\nrebuild\n";
     let mut source = source_of(rt.alloc(), script, 4)?;
     let mut reader = Reader::new(rt.alloc())?;
     assert_eq!(rt;
@@ -408,6 +411,7 @@ fn commands_of_the_index_have_their_fields(rt: HostRuntime) -> Result<(), Fail> 
         Ok(Some(Command::Step { n: 5 }))
     );
     assert_eq!(rt; reader.next_command(&mut source), Ok(Some(Command::State)));
+    assert_eq!(rt; reader.next_command(&mut source), Ok(Some(Command::Verify)));
     assert_eq!(rt;
         reader.next_command(&mut source),
         Ok(Some(Command::Rebuild))
@@ -467,5 +471,77 @@ fn records_have_their_text(rt: HostRuntime) -> Result<(), Fail> {
         text.as_str(),
         "A9993E364706816ABA3E25717850C26C9CD0D89D 1000 DA39A3EE5E6B4B0D 65535 65535 0 80000001"
     );
+    Ok(())
+}
+
+fn findings_are(rt: &impl Abort, alloc: Global, table: &[(What, &str)]) -> Result<(), NoMemory> {
+    for (what, text) in table {
+        let finding = Finding {
+            name: NAME,
+            what: *what,
+        };
+        assert_eq!(rt; finding_text(alloc, &finding)?.as_str(), *text);
+    }
+    Ok(())
+}
+
+#[test]
+fn findings_have_their_texts(rt: HostRuntime) -> Result<(), Fail> {
+    let damage = Damage {
+        chunk: 0,
+        stored: 0x399e,
+        found: 0x6daa,
+    };
+    let table = [
+        (
+            What::Unfit(Unfit::Short),
+            "A9993E364706816ABA3E25717850C26C9CD0D89D unfit short",
+        ),
+        (
+            What::Unfit(Unfit::TooBig),
+            "A9993E364706816ABA3E25717850C26C9CD0D89D unfit too-big",
+        ),
+        (
+            What::Unfit(Unfit::Version),
+            "A9993E364706816ABA3E25717850C26C9CD0D89D unfit version",
+        ),
+        (
+            What::Unfit(Unfit::KeyEnd),
+            "A9993E364706816ABA3E25717850C26C9CD0D89D unfit key-end",
+        ),
+        (
+            What::Unfit(Unfit::Hash),
+            "A9993E364706816ABA3E25717850C26C9CD0D89D unfit hash",
+        ),
+        (
+            What::Unfit(Unfit::KeyForm),
+            "A9993E364706816ABA3E25717850C26C9CD0D89D unfit key-form",
+        ),
+        (
+            What::Unfit(Unfit::Elements),
+            "A9993E364706816ABA3E25717850C26C9CD0D89D unfit elements",
+        ),
+        (
+            What::Unfit(Unfit::WrongName),
+            "A9993E364706816ABA3E25717850C26C9CD0D89D unfit wrong-name",
+        ),
+        (
+            What::Damaged(damage),
+            "A9993E364706816ABA3E25717850C26C9CD0D89D damaged 0 399E 6DAA",
+        ),
+        (
+            What::Missing,
+            "A9993E364706816ABA3E25717850C26C9CD0D89D missing",
+        ),
+        (
+            What::Extra,
+            "A9993E364706816ABA3E25717850C26C9CD0D89D extra",
+        ),
+        (
+            What::Differs,
+            "A9993E364706816ABA3E25717850C26C9CD0D89D differs",
+        ),
+    ];
+    findings_are(&rt, rt.alloc(), &table)?;
     Ok(())
 }

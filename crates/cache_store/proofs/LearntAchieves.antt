@@ -149,6 +149,7 @@ unsaid_reply answered.Unknown unsaid = (_, refl)
 unsaid_reply answered.Ready unsaid = (_, refl)
 unsaid_reply (answered.Updating n) unsaid = (_, refl)
 unsaid_reply (answered.Rebuilt n) unsaid = (_, refl)
+unsaid_reply (answered.Checked found) unsaid = (_, refl)
 unsaid_reply (answered.Refused r) unsaid = (_, refl)
 
 -- The command is achieved.

@@ -7,6 +7,7 @@ pub mod CountedChanges
 pub mod EvictDoes
 pub mod FilesAmong
 pub mod Forgotten
+pub mod FoundOnShelf
 pub mod GetAnswers
 pub mod GetChunks
 pub mod HasEntry
@@ -46,4 +47,5 @@ pub mod StartAlong
 pub mod TakenMore
 pub mod TellsAlike
 pub mod Unsaid
+pub mod VerifyDoes
 pub mod VictimsApart

@@ -19,7 +19,7 @@ use Rattle.index_update.specs.Rest.{name_bytes}
 use Rattle.cache_store.specs.Answering.{AnswersFor, AnswersTo, HasOutcome, outcome_of}
 use Rattle.cache_store.specs.DoneFor.{IsDoneFor}
 use Rattle.cache_store.specs.Open.{KeepsWhere, Tells}
-use Rattle.cache_store.specs.Performing.{AchievesFor, ComesToTell, Does, DoesFor, DoesWhatIsDone, IsReply}
+use Rattle.cache_store.specs.Performing.{Achieves, AchievesFor, AchievesWhatIsDone, ComesToTell, Does, DoesFor, DoesWhatIsDone, IsReply}
 use Rattle.cache_store.specs.Records.{AnswersHas}
 use Rattle.cache_store.specs.Replied.{replied, reply_of}
 use Rattle.cache_store.specs.Said.{Saying}
@@ -34,13 +34,12 @@ use Rattle.cache_store.proofs.Represented.{represented}
 use Rattle.cache_store.proofs.SaidMore.{when_ok}
 use Rattle.cache_store.proofs.Unsaid.{unsaid_answers, unsaid_by, unsaid_effect, unsaid_had, unsaid_outcome}
 
--- a command of whose reply nothing is said yet does what it achieves
-pub unsaid_does : (c : Command) (answer : Result Answered StoreFault) (before after : Session) (now : Saying) → answer ≢ Ok answered.All → answer ≢ Err fault.Sink → now.held ≡ []
-    → AchievesFor c answer before after → DoesFor c answer before after now.taken now
-unsaid_does c answer before after now not_said no_sink none achieves b h is =
+-- for a history, a command of whose reply nothing is said yet does what it achieves
+unsaid_at : (c : Command) (answer : Result Answered StoreFault) (before after : Session) (now : Saying) → answer ≢ Ok answered.All → answer ≢ Err fault.Sink → now.held ≡ []
+    → (b : Bool) (h : History) → Achieves b c h answer before after → Does b c h answer before after now.taken now
+unsaid_at c answer before after now not_said no_sink none b h done =
     let unsaid = unsaid_by answer not_said no_sink in
     let reply = (step h.machine c).reply in
-    let done = achieves b h is in
     record {
       safe = done.safe;
       answers = λ may. unsaid_answers answer unsaid reply (IfSome_then (replied answer) done.replies (λ r said. said.reply may)) now none;
@@ -49,6 +48,19 @@ unsaid_does c answer before after now not_said no_sink none achieves b h is =
       effect = unsaid_effect answer unsaid (KeepsWhere b after (acked c h));
       tells = λ had. unsaid_had answer unsaid (ComesToTell c before h.machine → Tells after (step h.machine c).next) had done.tells;
     }
+
+-- and so for all
+pub unsaid_does : (c : Command) (answer : Result Answered StoreFault) (before after : Session) (now : Saying) → answer ≢ Ok answered.All → answer ≢ Err fault.Sink → now.held ≡ []
+    → AchievesFor c answer before after → DoesFor c answer before after now.taken now
+unsaid_does c answer before after now not_said no_sink none achieves b h is =
+    unsaid_at c answer before after now not_said no_sink none b h (achieves b h is)
+
+-- also where what is done for it is another command
+pub unsaid_done : (c : Command) (answer : Result Answered StoreFault) (before after : Session) (now : Saying) → answer ≢ Ok answered.All → answer ≢ Err fault.Sink → now.held ≡ []
+    → AchievesWhatIsDone c answer before after → DoesWhatIsDone c answer before after now.taken now
+unsaid_done c answer before after now not_said no_sink none achieves b h is =
+    let done = achieves b h is in
+    (done.0, (done.1.0, unsaid_at done.0 answer before after now not_said no_sink none b h done.1.1))
 
 -- ---- a command that only reads
 
@@ -153,7 +165,7 @@ pub by_name : (c d : Command) (answer : Result Answered StoreFault) (before afte
     → DoesWhatIsDone d answer before after out now → DoesWhatIsDone c answer before after out now
 by_name c d answer before after out now same does = subst (λ (k : Command). DoesWhatIsDone k answer before after out now) (sym same) does
 
--- for one that is no eviction it is the command itself
+-- for one that is no eviction and no check it is the command itself
 pub as_command : (c d : Command) (answer : Result Answered StoreFault) (before after : Session) (out : Option (List ℕ)) (now : Saying) → c ≡ d
     → ((m : Machine) → IsDoneFor (Tells before m) d m d) → DoesFor d answer before after out now → DoesWhatIsDone c answer before after out now
 as_command c d answer before after out now same own does = by_name c d answer before after out now same (λ b h is. (d, (own h.machine, does b h is)))

@@ -8,10 +8,10 @@ use Rattle.cache_store.specs.declared.fault.Outcome.{Outcome}
 use Rattle.cache_store.specs.declared.fault.Outcome.TheVariants as outcome
 use Rattle.cache_store.specs.declared.fault.StoreFault.{StoreFault}
 use Rattle.cache_theory.specs.Command.{Command, Reply}
-use Rattle.cache_theory.specs.Command.Reply.{Refused}
+use Rattle.cache_theory.specs.Command.Reply.{Findings, Refused}
 use Rattle.cache_theory.specs.Machine.{Machine}
 use Rattle.cache_theory.specs.Step.{step}
-use Rattle.cache_theory.specs.Text.{refusal_words, reply_text, line, with_number}
+use Rattle.cache_theory.specs.Text.{findings_text, refusal_words, reply_text, line, with_number}
 use Rattle.disk_model.specs.State.{State}
 use Rattle.file_handles.specs.Cache.{Cache, cache_at}
 use Rattle.file_handles.specs.Kept.{Kept}
@@ -28,15 +28,18 @@ rest_of answered.Unknown = line (codes "unknown" ∷ [])
 rest_of answered.Ready = line (codes "ready" ∷ [])
 rest_of (answered.Updating names) = with_number (codes "updating") names
 rest_of (answered.Rebuilt records) = with_number (codes "rebuilt") records
+rest_of (answered.Checked findings) = findings_text findings
 rest_of (answered.Refused r) = line (refusal_words r)
 
--- whether a reply is a refusal
+-- whether a reply is a refusal, or says that something is wrong
 abbrev pub outcome_of : Reply → Outcome
 outcome_of (Refused r) = outcome.Refused
+outcome_of (Findings (f ∷ more)) = outcome.Refused
 outcome_of _ = outcome.Ok
 
 abbrev pub outcome_in : Answered → Outcome
 outcome_in (answered.Refused r) = outcome.Refused
+outcome_in (answered.Checked findings) = outcome_of (Findings findings)
 outcome_in _ = outcome.Ok
 
 -- the outcome is the machine's, in whatever state it is

@@ -1,18 +1,20 @@
--- What is done for a command: itself; but an eviction goes by records, which may not be right.
+-- What is done for a command: itself; but an eviction and a check go by records, which may not be right.
 use Rattle.std.specs.Prelude.{List, ◌≡◌}
 use Rattle.cache_theory.specs.Command.{Command}
-use Rattle.cache_theory.specs.Command.Command.{Evict, EvictNames}
+use Rattle.cache_theory.specs.Command.Command.{Evict, EvictNames, Verify, VerifyRecords}
 use Rattle.cache_theory.specs.Machine.{Machine, open_names}
 use Rattle.evictor.specs.Evict.{victims}
 use Rattle.index_record.specs.declared.record.IndexRecord.{IndexRecord}
 use Rattle.index_theory.specs.Scan.{scan}
 
--- an eviction is that of the victims among some records, which are those of all entries where the records are right; so
--- it is the machine's own there
+-- an eviction is that of the victims among some records, and a check is one against some records, which are those of all
+-- entries where the records are right; so both are the machine's own there
 abbrev pub IsDoneFor : (right : Type 0) → Command → Machine → Command → Type 0
 IsDoneFor right (Evict kb) m done =
     (records : List IndexRecord)
     × ((done ≡ EvictNames (victims records (open_names m) kb)) × (right → records ≡ scan m.shelf))
+IsDoneFor right Verify m done =
+    (records : List IndexRecord) × ((done ≡ VerifyRecords records) × (right → records ≡ scan m.shelf))
 IsDoneFor right c m done = done ≡ c
 
 -- this holds of what is done for the command

@@ -17,3 +17,4 @@ pub mod Said
 pub mod Saying
 pub mod Session
 pub mod Texts
+pub mod Verifying

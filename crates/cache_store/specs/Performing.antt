@@ -12,7 +12,7 @@ use Rattle.cache_store.specs.declared.fault.Outcome.{Outcome}
 use Rattle.cache_store.specs.declared.fault.StoreFault.{StoreFault}
 use Rattle.cache_store.specs.declared.fault.StoreFault.TheVariants as fault
 use Rattle.cache_theory.specs.Command.{Command, Reply}
-use Rattle.cache_theory.specs.Command.Command.{HasEntry, ListRecords, Evict, Rebuild}
+use Rattle.cache_theory.specs.Command.Command.{HasEntry, ListRecords, Evict, Verify, Rebuild}
 use Rattle.cache_theory.specs.Crash.{IsCrashSafe, IsSafe}
 use Rattle.cache_theory.specs.History.{History, acked, begun, unanswered as left_unanswered}
 use Rattle.cache_theory.specs.Machine.{Machine}
@@ -24,6 +24,7 @@ abbrev pub goes_by_records : Command → Bool
 goes_by_records (HasEntry key) = true
 goes_by_records ListRecords = true
 goes_by_records (Evict kb) = true
+goes_by_records Verify = true
 goes_by_records _ = false
 
 -- the reply is the machine's: it does not go by the records, or they are right
@@ -97,6 +98,12 @@ pub record Achieves (crash : Bool) (c : Command) (h : History) (answer : Result 
 abbrev pub AchievesFor : Command → Result Answered StoreFault → Session → Session → Type 0
 AchievesFor c answer before after =
     (crash : Bool) (h : History) → KeepsWhere crash before h → Achieves crash c h answer before after
+
+-- the same of what is done for the command
+abbrev pub AchievesWhatIsDone : Command → Result Answered StoreFault → Session → Session → Type 0
+AchievesWhatIsDone c answer before after =
+    (crash : Bool) (h : History) → KeepsWhere crash before h
+    → DoneFor (Tells before h.machine) c h.machine (λ d. Achieves crash d h answer before after)
 
 -- for a history: what the command does before its reply is out whole, with and without a crash
 pub record Does (crash : Bool) (c : Command) (h : History) (answer : Result Answered StoreFault)

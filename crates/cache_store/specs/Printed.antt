@@ -1,13 +1,14 @@
 -- What a command prints on any disk, by its outcome.
 use Rattle.std.specs.Io.KnownBytes.{Appends}
 use Rattle.std.specs.Prelude.{Bool, List, Option, [], codes, false, true, ℕ, ⊤, ◌∷◌, ◌≡◌}
+use Rattle.cache_check.specs.declared.finding.Finding.{Finding}
 use Rattle.cache_store.specs.declared.answered.Answered.{Answered}
 use Rattle.cache_store.specs.declared.answered.Answered.TheVariants as answered
 use Rattle.cache_store.specs.declared.fault.Outcome.{Outcome}
 use Rattle.cache_store.specs.declared.fault.Outcome.TheVariants as outcome
 use Rattle.cache_theory.specs.Command.{Command}
-use Rattle.cache_theory.specs.Command.Command.{Create, UnsetElement, ElementOf, ReadPart, Get, HasEntry, ListRecords, Evict, EvictNames, StepUpdate, UpdateState, Rebuild}
-use Rattle.cache_theory.specs.Text.{line, refusal_words}
+use Rattle.cache_theory.specs.Command.Command.{Create, UnsetElement, ElementOf, ReadPart, Get, HasEntry, ListRecords, Evict, EvictNames, StepUpdate, UpdateState, Verify, VerifyRecords, Rebuild}
+use Rattle.cache_theory.specs.Text.{findings_text, line, refusal_words}
 use Rattle.cache_theory.specs.declared.refusal.Refusal.{Refusal}
 use Rattle.entry_key.specs.Writing.{may_write}
 
@@ -23,6 +24,8 @@ is_plain (Evict kb) = false
 is_plain (EvictNames names) = false
 is_plain (StepUpdate n) = false
 is_plain UpdateState = false
+is_plain Verify = false
+is_plain (VerifyRecords records) = false
 is_plain Rebuild = false
 is_plain _ = true
 
@@ -40,9 +43,28 @@ PrintsRefusal before now = (r : Refusal) × Appends before now (line (refusal_wo
 abbrev pub PrintsOk : Option (List ℕ) → Option (List ℕ) → Type 0
 PrintsOk before now = Appends before now (line (codes "ok" ∷ []))
 
+-- findings go out, of which there are some
+abbrev pub PrintsFindings : Option (List ℕ) → Option (List ℕ) → Type 0
+PrintsFindings before now =
+    (first : Finding) × ((more : List Finding) × Appends before now (findings_text (first ∷ more)))
+
+-- whether an answer lists findings, and whether a command asks for them
+abbrev pub lists_findings : Answered → Bool
+lists_findings (answered.Checked findings) = true
+lists_findings _ = false
+
+abbrev pub is_check : Command → Bool
+is_check Verify = true
+is_check _ = false
+
+-- what the outcome `Refused` means of a command: a refusal, or findings
+abbrev pub PrintsNo : Command → Option (List ℕ) → Option (List ℕ) → Type 0
+PrintsNo Verify before now = PrintsFindings before now
+PrintsNo c before now = PrintsRefusal before now
+
 -- what goes out tells the outcome
 pub record Prints (c : Command) (o : Outcome) (before now : Option (List ℕ)) : Type 0 where
-  pub refused : o ≡ outcome.Refused → PrintsRefusal before now
+  pub refused : o ≡ outcome.Refused → PrintsNo c before now
   pub done : o ≡ outcome.Ok → is_plain c ≡ true → PrintsOk before now
 
 -- the command makes an entry under a key that cannot be written

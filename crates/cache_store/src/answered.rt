@@ -1,12 +1,13 @@
 //! What a command answers before its reply is out whole.
 
-ghost use Rattle.std.specs.Prelude.{◌≡◌, ◌≢◌, IfOk, Err, Ok};
+ghost use Rattle.std.specs.Prelude.{◌≡◌, ◌≢◌, false, IfOk, Err, Ok};
 ghost use Rattle.cache_store.specs.Faults.{ending};
-ghost use Rattle.cache_store.specs.Printed.{IsPlain};
+ghost use Rattle.cache_store.specs.Printed.{IsPlain, lists_findings};
 ghost use Rattle.cache_store.specs.Replied.{replied};
 ghost use Rattle.file_handles.specs.Answers.{done_or, ending as handle_ending, fault_ending as handle_fault_ending, reply_in};
 
 use crate::StoreFault;
+use cache_check::FindingList;
 use cache_theory::Refusal;
 use file_handles::HandleFault;
 
@@ -30,6 +31,8 @@ pub(crate) enum Answered {
     Updating(u64),
     /// The index was written anew with so many records, and it says `rebuilt` and their number.
     Rebuilt(u64),
+    /// The entries were checked, and it says what is wrong.
+    Checked(FindingList),
     /// It is refused, and says why.
     Refused(Refusal),
 }
@@ -39,6 +42,7 @@ pub(crate) fn fault_answer(fault: HandleFault) -> Result<Answered, StoreFault>
     ensures replies { replied result ≡ reply_in fault }
     ensures not_said { result ≢ Ok Answered.All }
     ensures plain { IfOk result IsPlain }
+    ensures unlisted { IfOk result (λ a. lists_findings a ≡ false) }
     ensures no_sink { result ≢ Err StoreFault.Sink }
     ensures ending { ending result ≡ handle_fault_ending fault }
 {
@@ -54,6 +58,7 @@ pub(crate) fn answer_of<T: Drop>(answer: Result<T, HandleFault>) -> Result<Answe
     ensures replies { replied result ≡ done_or answer }
     ensures not_said { result ≢ Ok Answered.All }
     ensures plain { IfOk result IsPlain }
+    ensures unlisted { IfOk result (λ a. lists_findings a ≡ false) }
     ensures no_sink { result ≢ Err StoreFault.Sink }
     ensures ending { ending result ≡ handle_ending answer }
 {

@@ -1,6 +1,6 @@
 //! Performs one command, and writes its reply.
 
-ghost use Rattle.std.specs.Prelude.{◌≡◌, ◌≢◌, ◌<◌, [], Err, Ok, true, IfOk, IfSome, IsErrOf, IsTrue, OnErr, OnOk, codes};
+ghost use Rattle.std.specs.Prelude.{◌≡◌, ◌≢◌, ◌<◌, [], Err, Ok, true, false, IfOk, IfSome, IsErrOf, IsTrue, OnErr, OnOk, codes};
 ghost use Rattle.cache_base.specs.Causes.{HasCause};
 ghost use Rattle.cache_base.specs.declared.limits.TheConstants.{SLOTS};
 ghost use Rattle.cache_script.specs.Command.{command_of};
@@ -8,10 +8,10 @@ ghost use Rattle.cache_store.specs.Answering.{outcome_in, rest_of};
 ghost use Rattle.cache_store.specs.Faults.{ending};
 ghost use Rattle.cache_store.specs.IndexCalls.{IsFresh, IsWritten, LooksAtNames, WritesIndex, names_read};
 ghost use Rattle.cache_store.specs.InUse.{SparesIndex};
-ghost use Rattle.cache_store.specs.Printed.{HasBadKey, IsPlain, Prints, is_plain};
+ghost use Rattle.cache_store.specs.Printed.{HasBadKey, IsPlain, Prints, is_check, is_plain, lists_findings};
 ghost use Rattle.cache_store.specs.Said.{saying};
 ghost use Rattle.cache_store.specs.Saying.{CutsIn, SaysMore, TakesMore};
-ghost use Rattle.cache_theory.specs.Command.Command.{ElementOf, Flush, Rebuild};
+ghost use Rattle.cache_theory.specs.Command.Command.{ElementOf, Flush, Rebuild, Verify};
 ghost use Rattle.cache_theory.specs.Given.{IsGiven};
 ghost use Rattle.cache_theory.specs.Text.{with_bytes};
 ghost use Rattle.disk_model.specs.Account.{Accounts};
@@ -26,6 +26,7 @@ use crate::answered::{Answered, answer_of};
 use crate::pending::Pending;
 use crate::replies::counted;
 use crate::store::Store;
+use crate::verify::say_found;
 use crate::{Outcome, StoreFault};
 use cache_io::Sink;
 use cache_script::{Command, refusal_text};
@@ -101,6 +102,7 @@ fn say_rest<K: Sink>(
             let line = counted(alloc, b"rebuilt", records)?;
             say_ok(reply, sink, line.as_slice())
         }
+        Answered::Checked(found) => say_found(alloc, found.as_slice(), reply, sink),
         Answered::Refused(refusal) => {
             let text = refusal_text(alloc, &refusal)?;
             reply.put(sink, text.as_bytes())?;
@@ -115,6 +117,7 @@ impl Store {
     ghost use Rattle.cache_store.specs.Open.{IsOpen, LeavesOpen};
     ghost use Rattle.cache_store.specs.Performing.{DoesWhatIsDone, HadEffect, PerformsFor};
     ghost use Rattle.cache_store.specs.Session.{open_of, session};
+    ghost use Rattle.cache_store.specs.Verifying.{IsFoundIn, PrintsFound};
     ghost use Rattle.file_handles.specs.Kept.{kept};
 
     // Says the value of an element.
@@ -129,6 +132,7 @@ impl Store {
         requires empty { self.old.reply.held ≡ [] }
         ensures answers { AnswersOver (kept self.old.handles) (ElementOf slot name.now) result
             (K.taken sink.old) (saying K.Sink self.new.reply sink.new) }
+        ensures unlisted { IfOk result (λ a. lists_findings a ≡ false) }
         ensures unsaid { IfOk result (λ a. a ≢ Answered.All → sink.new ≡ sink.old) }
         ensures still_empty { IfOk result (λ a.
             a ≢ Answered.All → self.new.reply.held ≡ []) }
@@ -162,6 +166,9 @@ impl Store {
             DoesWhatIsDone (command_of c.now) result (at self.old disk.old) (at self.new disk.new)
             (K.taken sink.old) (saying K.Sink self.new.reply sink.new) }
         ensures plain { IfOk result (λ a. is_plain (command_of c.now) ≡ true → IsPlain a) }
+        ensures lists { IfOk result (λ a. lists_findings a ≡ is_check (command_of c.now)) }
+        ensures found { command_of c.now ≡ Verify → IfOk result (λ a. IsTrue D.tells →
+            IsFoundIn (session D.Disk self.old disk.old) self.new.index.map a) }
         ensures bad_key { HasBadKey (command_of c.now) → result ≢ Ok Answered.Done }
         ensures unsaid { IfOk result (λ a. a ≢ Answered.All → sink.new ≡ sink.old) }
         ensures still_empty { IfOk result (λ a.
@@ -230,6 +237,7 @@ impl Store {
             Command::Flush => self.flush(alloc, disk),
             Command::Step { n } => self.step(disk, n),
             Command::State => Ok(self.index.state()),
+            Command::Verify => self.verify(alloc, disk),
             Command::Rebuild => self.rebuild(alloc, disk),
         }
     }
@@ -258,9 +266,11 @@ impl Store {
 
     /// Performs a command and writes its reply, which is out when the call returns.
     ///
-    /// The replies to `has` and `list` are the machine's where the records are right: where the directory was honest at
-    /// the opening, or a `rebuild` has answered. There an `evict` takes off what the machine's does; elsewhere it takes
-    /// off what has to go by the records that there are, and the reply names it all the same.
+    /// The reply to `verify` is what is wrong with the files that stand and the records in memory, and the outcome is
+    /// `Refused` where that is anything. The replies to `has` and `list` are the machine's where the records are right:
+    /// where the directory was honest at the opening, or a `rebuild` has answered. There an `evict` takes off what the
+    /// machine's does; elsewhere it takes off what has to go by the records that there are, and the reply names it all
+    /// the same.
     pub fn command<D: Disk, K: Sink>(
         &mut self,
         alloc: Global,
@@ -276,6 +286,8 @@ impl Store {
             (K.taken sink.old) (K.taken sink.new) }
         ensures prints { IfOk result (λ o.
             Prints (command_of c.now) o (K.taken sink.old) (K.taken sink.new)) }
+        ensures verifies { command_of c.now ≡ Verify → OnOk result (IsTrue D.tells →
+            PrintsFound (session D.Disk self.old disk.old) self.new.index.map (K.taken sink.old) (K.taken sink.new)) }
         ensures bad_key { HasBadKey (command_of c.now) → result ≢ Ok Outcome.Ok }
         ensures grows { IsTrue D.tells → TakesMore (K.taken sink.old) (K.taken sink.new) }
         ensures open { IsTrue D.tells → LeavesOpen result (session D.Disk self.new disk.new) }

@@ -1,10 +1,11 @@
 //! Replies to a `get`.
 
-ghost use Rattle.std.specs.Prelude.{◌≡◌, ◌≢◌, [], Err, IfOk, IsErrOf, IsTrue, OnErr, OnOk};
+ghost use Rattle.std.specs.Prelude.{◌≡◌, ◌≢◌, [], Err, false, IfOk, IsErrOf, IsTrue, OnErr, OnOk};
 ghost use Rattle.cache_base.specs.Causes.{HasCause};
 ghost use Rattle.cache_store.specs.EntryText.{entry_text, head_text};
 ghost use Rattle.cache_store.specs.Faults.{ending};
 ghost use Rattle.cache_store.specs.Prefix.{ForPrefix};
+ghost use Rattle.cache_store.specs.Printed.{lists_findings};
 ghost use Rattle.cache_store.specs.Said.{saying};
 ghost use Rattle.cache_store.specs.Saying.{CutsIn, SaysMore};
 ghost use Rattle.cache_theory.specs.Command.Command.{Get};
@@ -126,6 +127,7 @@ impl Store {
         ensures answers { IsTrue D.tells →
             AnswersFor (cache D.Disk self.old.handles disk.old) (Get key.now) result
             (K.taken sink.old) (saying K.Sink self.new.reply sink.new) }
+        ensures unlisted { IfOk result (λ a. lists_findings a ≡ false) }
         ensures unsaid { IfOk result (λ a. a ≢ Answered.All → sink.new ≡ sink.old) }
         ensures still_empty { IfOk result (λ a.
             a ≢ Answered.All → self.new.reply.held ≡ []) }

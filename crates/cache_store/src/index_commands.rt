@@ -1,12 +1,13 @@
 //! Performs the commands that go by the index.
 
-ghost use Rattle.std.specs.Prelude.{◌≡◌, ◌≢◌, [], Err, IfOk, IsErrOf, IsTrue, Ok, OnErr, OnOk, flat_map, length, take};
+ghost use Rattle.std.specs.Prelude.{◌≡◌, ◌≢◌, [], Err, false, IfOk, IsErrOf, IsTrue, Ok, OnErr, OnOk, flat_map, length, take};
 ghost use Rattle.cache_base.specs.Causes.{HasCause};
 ghost use Rattle.cache_store.specs.Answering.{HasOutcome};
 ghost use Rattle.cache_store.specs.Faults.{ending};
 ghost use Rattle.cache_store.specs.IndexCalls.{IsFresh, IsWritten, LooksAtNames};
 ghost use Rattle.cache_store.specs.InUse.{SparesIndex};
 ghost use Rattle.cache_store.specs.Kept.{HoldsIndex};
+ghost use Rattle.cache_store.specs.Printed.{lists_findings};
 ghost use Rattle.cache_store.specs.Said.{saying};
 ghost use Rattle.cache_store.specs.Saying.{CutsIn, SaysMore, TakesMore};
 ghost use Rattle.cache_theory.specs.Command.Command.{Flush, ListRecords, Rebuild, StepUpdate};
@@ -145,6 +146,7 @@ impl Store {
             (K.taken sink.old) (saying K.Sink self.new.reply sink.new) }
         ensures grows { TakesMore (K.taken sink.old) (K.taken sink.new) }
         ensures base { SameBase self.old.index.map self.new.index.map }
+        ensures unlisted { IfOk result (λ a. lists_findings a ≡ false) }
         ensures all { IfOk result (λ a. a ≡ Answered.All) }
         ensures looks { Looks D.Disk (ending result) disk.old disk.new }
         ensures names { LooksAtNames D.Disk (length self.old.index.update) disk.old disk.new }
@@ -163,6 +165,7 @@ impl Store {
         ensures does { let at = session D.Disk in IsTrue D.tells →
             AchievesFor (StepUpdate n) result (at self.old disk.old) (at self.new disk.new) }
         ensures base { SameBase self.old.index.map self.new.index.map }
+        ensures unlisted { IfOk result (λ a. lists_findings a ≡ false) }
         ensures not_said { result ≢ Ok Answered.All }
         ensures no_sink { result ≢ Err StoreFault.Sink }
         ensures held { self.new.reply.held ≡ self.old.reply.held }
@@ -184,6 +187,7 @@ impl Store {
         requires told { IsTrue D.tells → IsOpen (session D.Disk self.old disk.old) }
         ensures does { let at = session D.Disk in IsTrue D.tells →
             AchievesFor Flush result (at self.old disk.old) (at self.new disk.new) }
+        ensures unlisted { IfOk result (λ a. lists_findings a ≡ false) }
         ensures done { IfOk result (λ a. a ≡ Answered.Done) }
         ensures no_sink { result ≢ Err StoreFault.Sink }
         ensures held { self.new.reply.held ≡ self.old.reply.held }
@@ -210,6 +214,7 @@ impl Store {
         ensures does { let at = session D.Disk in IsTrue D.tells →
             AchievesFor Rebuild result (at self.old disk.old) (at self.new disk.new) }
         ensures outcome { IfOk result (HasOutcome Rebuild) }
+        ensures unlisted { IfOk result (λ a. lists_findings a ≡ false) }
         ensures not_said { result ≢ Ok Answered.All }
         ensures no_sink { result ≢ Err StoreFault.Sink }
         ensures held { self.new.reply.held ≡ self.old.reply.held }

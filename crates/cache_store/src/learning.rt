@@ -1,9 +1,9 @@
 //! Learns of a command on entries, for the index in memory.
 
-ghost use Rattle.std.specs.Prelude.{IfOk};
+ghost use Rattle.std.specs.Prelude.{◌≡◌, false, IfOk};
 ghost use Rattle.cache_store.specs.Faults.{EndsAs, ending};
 ghost use Rattle.cache_store.specs.Learnt.{IsLearnt, effect_of, effect_of_some};
-ghost use Rattle.cache_store.specs.Printed.{IsPlain};
+ghost use Rattle.cache_store.specs.Printed.{IsPlain, lists_findings};
 ghost use Rattle.file_handles.specs.Answers.{done_or, done_or_none, ending as handle_ending};
 ghost use Rattle.file_handles.specs.Effects.{IsPlainEffect};
 
@@ -21,6 +21,7 @@ impl MemoryIndex {
         requires { IsPlainEffect (effect_of answer) }
         ensures learnt { IsLearnt (done_or answer) (effect_of answer) result self.old self.new }
         ensures plain { IfOk result IsPlain }
+        ensures unlisted { IfOk result (λ a. lists_findings a ≡ false) }
         ensures ending { EndsAs (handle_ending answer) (ending result) }
     {
         match answer {
@@ -39,6 +40,7 @@ impl MemoryIndex {
     ) -> Result<Answered, StoreFault>
         requires { IsPlainEffect (effect_of_some answer) }
         ensures learnt { IsLearnt (done_or_none answer) (effect_of_some answer) result self.old self.new }
+        ensures unlisted { IfOk result (λ a. lists_findings a ≡ false) }
         ensures ending { EndsAs (handle_ending answer) (ending result) }
     {
         match answer {

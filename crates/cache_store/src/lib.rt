@@ -16,6 +16,7 @@ mod pending;
 mod read;
 mod replies;
 mod store;
+mod verify;
 
 pub use fault::{Outcome, StoreFault};
 pub use laws::few_leave_index;

@@ -3,6 +3,7 @@
 ghost use Rattle.std.specs.Prelude.{◌≡◌, ◌≢◌, [], IfOk, IsTrue, OnOk, Some, drop, false, length, take};
 ghost use Rattle.cache_store.specs.Answering.{HasOutcome};
 ghost use Rattle.cache_store.specs.Evicting.{Forgets};
+ghost use Rattle.cache_store.specs.Printed.{lists_findings};
 ghost use Rattle.cache_store.specs.Records.{AnswersHas, Learns, TakenOff, TellsOf};
 ghost use Rattle.cache_store.specs.Replied.{reply_of};
 ghost use Rattle.cache_theory.specs.Command.Command.{HasEntry};
@@ -118,6 +119,7 @@ impl MemoryIndex {
     pub(crate) fn state(&self) -> Answered
         ensures reply { reply_of result ≡ Some (state_reply (name_bytes self.now.update)) }
         ensures unsaid { result ≢ Answered.All }
+        ensures unlisted { lists_findings result ≡ false }
     {
         match self.update.rest() {
             0 => Answered::Ready,
@@ -130,6 +132,7 @@ impl MemoryIndex {
         ensures outcome { HasOutcome (HasEntry key.now) result }
         ensures answers { AnswersHas key.now self.now result }
         ensures unsaid { result ≢ Answered.All }
+        ensures unlisted { lists_findings result ≡ false }
     {
         if !may_write(key) {
             return Answered::Refused(Refusal::BadKey);

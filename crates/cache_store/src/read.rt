@@ -1,9 +1,10 @@
 //! Replies to a `read`.
 
-ghost use Rattle.std.specs.Prelude.{◌≡◌, ◌≢◌, ◌<◌, ◌≤◌, ◌+◌, ◌^◌, [], IfOk, IsErrOf, IsTrue, OnErr, OnOk, codes, drop, length, take};
+ghost use Rattle.std.specs.Prelude.{◌≡◌, ◌≢◌, ◌<◌, ◌≤◌, ◌+◌, ◌^◌, [], false, IfOk, IsErrOf, IsTrue, OnErr, OnOk, codes, drop, length, take};
 ghost use Rattle.cache_base.specs.Causes.{HasCause};
 ghost use Rattle.cache_base.specs.declared.limits.TheConstants.{SLOTS};
 ghost use Rattle.cache_store.specs.Faults.{ending};
+ghost use Rattle.cache_store.specs.Printed.{lists_findings};
 ghost use Rattle.cache_store.specs.Said.{saying};
 ghost use Rattle.cache_store.specs.Saying.{CutsIn, SaysMore, SaysPart, StopsIn};
 ghost use Rattle.cache_theory.specs.Command.Command.{ReadPart};
@@ -156,6 +157,7 @@ impl Store {
         ensures answers { IsTrue D.tells →
             AnswersFor (cache D.Disk self.old.handles disk.old) (ReadPart slot from len) result
             (K.taken sink.old) (saying K.Sink self.new.reply sink.new) }
+        ensures unlisted { IfOk result (λ a. lists_findings a ≡ false) }
         ensures unsaid { IfOk result (λ a. a ≢ Answered.All → sink.new ≡ sink.old) }
         ensures still_empty { IfOk result (λ a.
             a ≢ Answered.All → self.new.reply.held ≡ []) }

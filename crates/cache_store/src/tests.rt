@@ -37,11 +37,11 @@ fn a_session_is_answered(rt: HostRuntime) -> Result<(), Fail> {
     let mut disk = RealDisk::new(&rt, String::from_str(rt.alloc(), "cache")?);
     let mut sink = MemSink::new(rt.alloc());
     let script =
-        b"create 0 :https://x/\nappend 0 3\nold\nclose 0\nopen 1 :https://x/\ndoom :https://x/\ncreate 2 :https://x/\nappend 2 3\nnew\nget :https://x/\nread 1 0 10\nclose 2\nget :https://x/\n";
+        b"create 0 :https://x/\nappend 0 3\nold\nclose 0\nopen 1 :https://x/\ndoom :https://x/\ncreate 2 :https://x/\nappend 2 3\nnew\nget :https://x/\nread 1 0 10\nverify\nclose 2\nget :https://x/\nverify\n";
     assert_eq!(rt; perform(rt.alloc(), &mut disk, script, &mut sink), Ok(true));
     assert_eq!(rt;
         sink.bytes(),
-        b"ok\nok\nok\nok\nok\nok\nok\nunfinished\ndata 3\nold\nok\nfound 1 1000 1000 1000 4294967295 0 0 3\n\nnew\n".as_slice()
+        b"ok\nok\nok\nok\nok\nok\nok\nunfinished\ndata 3\nold\nfindings 0\nok\nfound 1 1000 1000 1000 4294967295 0 0 3\n\nnew\nfindings 0\n".as_slice()
     );
     Ok(())
 }

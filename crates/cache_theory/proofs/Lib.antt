@@ -32,6 +32,7 @@ pub mod Refiling
 pub mod Evicting
 pub mod EvictLimit
 pub mod EvictNames
+pub mod WritingNames
 pub mod Acked
 pub mod RepliesLong
 pub mod WordedFronts

@@ -6,7 +6,7 @@ use Rattle.cache_base.specs.Checks.{first_failing}
 use Rattle.cache_base.proofs.CheckLaws.{AllHold, all_hold}
 use Rattle.cache_theory.specs.Checks.{checks, with_value}
 use Rattle.cache_theory.specs.Command.{Command}
-use Rattle.cache_theory.specs.Command.Command.{At, Create, OpenKey, Append, Finish, SetElement, UnsetElement, UseEntry, Close, Doom, ListRecords, Evict, EvictNames, StepUpdate, Rebuild}
+use Rattle.cache_theory.specs.Command.Command.{At, Create, OpenKey, Append, Finish, SetElement, UnsetElement, UseEntry, Close, Doom, ListRecords, Evict, EvictNames, StepUpdate, Verify, VerifyRecords, Rebuild}
 use Rattle.cache_theory.specs.Command.Reply.{Done, NoneThere}
 use Rattle.cache_theory.specs.Given.{IsGiven}
 use Rattle.cache_theory.specs.Machine.{Machine, is_slot, object_of}
@@ -53,6 +53,8 @@ effect_proper m (Evict kb) given proper hold =
 effect_proper m (EvictNames names) given proper hold =
     proper_all_doomed (update_ended m) names (proper_rested m [] proper)
 effect_proper m (StepUpdate n) given proper hold = proper_rested m (drop n m.rest) proper
+effect_proper m Verify given proper hold = proper_rested m [] proper
+effect_proper m (VerifyRecords records) given proper hold = proper_rested m [] proper
 effect_proper m Rebuild given proper hold = proper_rested m [] proper
 effect_proper m c given proper hold = proper
 

@@ -8,7 +8,7 @@ use Rattle.std.proofs.lemmas.Map.Text.{is_eq-slice_cmp}
 use Rattle.cache_base.proofs.CheckLaws.{AllHold, all_hold}
 use Rattle.cache_theory.specs.Checks.{checks, with_value}
 use Rattle.cache_theory.specs.Command.{Command}
-use Rattle.cache_theory.specs.Command.Command.{Create, OpenKey, Append, Finish, SetElement, UnsetElement, UseEntry, Close, Doom, ListRecords, Evict, EvictNames, StepUpdate, Rebuild}
+use Rattle.cache_theory.specs.Command.Command.{Create, OpenKey, Append, Finish, SetElement, UnsetElement, UseEntry, Close, Doom, ListRecords, Evict, EvictNames, StepUpdate, Verify, VerifyRecords, Rebuild}
 use Rattle.cache_theory.specs.Command.Reply.{Done, NoneThere}
 use Rattle.cache_theory.specs.Laws.{EntriesHaveRecords}
 use Rattle.cache_theory.specs.Machine.{Machine, Object, has_slots, is_writer, number_of, object, object_of, on_shelf, used_by}
@@ -205,6 +205,8 @@ effect_refiled m ListRecords of proper hold = absurd of
 effect_refiled m (Evict kb) of proper hold = absurd of
 effect_refiled m (EvictNames names) of proper hold = absurd of
 effect_refiled m (StepUpdate n) of proper hold = absurd of
+effect_refiled m Verify of proper hold = absurd of
+effect_refiled m (VerifyRecords records) of proper hold = absurd of
 effect_refiled m Rebuild of proper hold = absurd of
 effect_refiled m c of proper hold = (λ q. refl, refl)
 

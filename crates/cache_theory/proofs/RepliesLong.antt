@@ -1,8 +1,9 @@
 -- No reply is empty.
 use Rattle.std.proofs.Common.{ℕ, ◌<◌, List, [], ◌∷◌, ◌++◌, codes, decimal, flat_map, length, arith, length-append}
 use Rattle.cache_base.specs.declared.name.Name.{Name}
-use Rattle.cache_theory.specs.Command.Reply.{Done, Refused, NoneThere, Value, Part, Found, Yes, No, Unknown, Records, Evicted, Ready, Updating, Rebuilt}
-use Rattle.cache_theory.specs.Text.{ReplyIsNotEmpty, found_line, line, record_words, refusal_words, reply_text, version_text, with_bytes, with_number}
+use Rattle.cache_check.specs.declared.finding.Finding.{Finding}
+use Rattle.cache_theory.specs.Command.Reply.{Done, Refused, NoneThere, Value, Part, Found, Yes, No, Unknown, Records, Evicted, Ready, Updating, Findings, Rebuilt}
+use Rattle.cache_theory.specs.Text.{ReplyIsNotEmpty, finding_words, found_line, line, record_words, refusal_words, reply_text, version_text, with_bytes, with_number}
 use Rattle.entry_file.specs.Version.{Version, version_meta}
 use Rattle.entry_metadata.specs.Metadata.{Meta}
 use Rattle.entry_parts.specs.Elements.{elements_bytes}
@@ -60,4 +61,8 @@ replies_are_not_empty (Evicted names) =
     (number_long (codes "evicted") (length names))
 replies_are_not_empty Ready = line_long (codes "ready" ∷ [])
 replies_are_not_empty (Updating names) = number_long (codes "updating") names
+replies_are_not_empty (Findings findings) =
+    longer (with_number (codes "findings") (length findings))
+    (flat_map (λ (f : Finding). line (finding_words f)) findings)
+    (number_long (codes "findings") (length findings))
 replies_are_not_empty (Rebuilt records) = number_long (codes "rebuilt") records

@@ -9,7 +9,7 @@ use Rattle.cache_base.specs.Checks.{first_failing}
 use Rattle.cache_base.specs.declared.name.Name.{Name}
 use Rattle.cache_theory.specs.Checks.{checks, with_value}
 use Rattle.cache_theory.specs.Command.{Command}
-use Rattle.cache_theory.specs.Command.Command.{Create, OpenKey, Append, Finish, SetElement, UnsetElement, UseEntry, Close, Doom, ListRecords, Evict, EvictNames, StepUpdate, Rebuild}
+use Rattle.cache_theory.specs.Command.Command.{Create, OpenKey, Append, Finish, SetElement, UnsetElement, UseEntry, Close, Doom, ListRecords, Evict, EvictNames, StepUpdate, Verify, VerifyRecords, Rebuild}
 use Rattle.cache_theory.specs.Command.Reply.{Done, NoneThere}
 use Rattle.cache_theory.specs.Laws.{ChangesLeaveRest, IsUnread}
 use Rattle.cache_theory.specs.Machine.{Machine, Object, has_slots, is_writer, number_of, object_of, on_shelf, used_by, waits_for}
@@ -178,6 +178,8 @@ effect_keeps m (StepUpdate n) name = λ waits. record {
   waited = waits_drop name n m.rest waits;
   shelved = refl;
 }
+effect_keeps m Verify name = λ waits. absurd (cc)
+effect_keeps m (VerifyRecords records) name = λ waits. absurd (cc)
 effect_keeps m Rebuild name = λ waits. absurd (cc)
 effect_keeps m c name = keeps_same m _ name refl refl
 

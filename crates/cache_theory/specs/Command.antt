@@ -1,6 +1,7 @@
 -- The commands of the machine, and what it answers.
 use Rattle.std.specs.Prelude.{ℕ, List}
 use Rattle.cache_base.specs.declared.name.Name.{Name}
+use Rattle.cache_check.specs.declared.finding.Finding.{Finding}
 use Rattle.cache_theory.specs.declared.refusal.Refusal.{Refusal}
 use Rattle.entry_file.specs.Version.{Version}
 use Rattle.index_record.specs.declared.record.IndexRecord.{IndexRecord}
@@ -27,6 +28,9 @@ pub data Command : Type 0 where
   Flush : Command
   StepUpdate : (n : ℕ) → Command
   UpdateState : Command
+  Verify : Command
+  -- a check against these records, whatever the files say; no script spells it
+  VerifyRecords : (records : List IndexRecord) → Command
   Rebuild : Command
 
 pub data Reply : Type 0 where
@@ -51,5 +55,7 @@ pub data Reply : Type 0 where
   -- the update of the index has ended, or it has still to read so many names
   Ready : Reply
   Updating : (names : ℕ) → Reply
+  -- what is wrong with files and records
+  Findings : (findings : List Finding) → Reply
   -- the index is written anew, with so many records
   Rebuilt : (records : ℕ) → Reply

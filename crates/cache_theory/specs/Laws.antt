@@ -4,7 +4,7 @@ use Rattle.std.specs.Prelude.{Bool, List, None, [], false, if◌then◌else◌, 
 use Rattle.std.specs.Str.{bytes_eq}
 use Rattle.cache_base.specs.declared.name.Name.{Name}
 use Rattle.cache_theory.specs.Command.{Command}
-use Rattle.cache_theory.specs.Command.Command.{Evict, EvictNames}
+use Rattle.cache_theory.specs.Command.Command.{Evict, EvictNames, Verify, VerifyRecords}
 use Rattle.cache_theory.specs.Crash.{IsSafe}
 use Rattle.cache_theory.specs.Machine.{Machine, open_names, waits_for}
 use Rattle.cache_theory.specs.Marks.{Marks, begun, touches}
@@ -79,6 +79,10 @@ EvictMeetsLimit = (m : Machine) (kb : ℕ) → let left = scan (step m (Evict kb
 abbrev pub EvictIsOfNames : Type 0
 EvictIsOfNames = (m : Machine) (kb : ℕ) → (step m (Evict kb) ≡ step m (EvictNames (evicted m kb)))
     × (touches m (Evict kb) ≡ touches m (EvictNames (evicted m kb)))
+
+-- the machine's own check is that against the scan
+abbrev pub VerifyIsOfRecords : Type 0
+VerifyIsOfRecords = (m : Machine) → step m Verify ≡ step m (VerifyRecords (scan m.shelf))
 
 -- a disk that is safe by the marks of a begun eviction of no names is so by those of the machine's own, which are more
 abbrev pub BegunTouchesMore : Type 0

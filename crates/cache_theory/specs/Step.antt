@@ -3,11 +3,12 @@ use Rattle.std.specs.Prelude.{Bool, List, None, Option, Some, [], drop, false, f
 use Rattle.std.specs.Str.{bytes_eq}
 use Rattle.cache_base.specs.Checks.{first_failing}
 use Rattle.cache_base.specs.declared.name.Name.{Name}
+use Rattle.cache_check.specs.Findings.{findings}
 use Rattle.cache_theory.specs.Checks.{checks, with_value}
 use Rattle.cache_theory.specs.Command.{Command, Reply}
-use Rattle.cache_theory.specs.Command.Command.{At, Create, OpenKey, Append, Finish, SetElement, UnsetElement, ElementOf, UseEntry, ReadPart, Close, Doom, Get, HasEntry, ListRecords, Evict, EvictNames, Flush, StepUpdate, UpdateState, Rebuild}
-use Rattle.cache_theory.specs.Command.Reply.{Done, Refused, NoneThere, Value, Part, Found, Yes, No, Unknown, Records, Evicted, Ready, Updating, Rebuilt}
-use Rattle.cache_theory.specs.Machine.{Machine, Object, Slot, has_slots, is_writer, nobody, number_of, object_of, on_shelf, open_names, used_by, waits_for}
+use Rattle.cache_theory.specs.Command.Command.{At, Create, OpenKey, Append, Finish, SetElement, UnsetElement, ElementOf, UseEntry, ReadPart, Close, Doom, Get, HasEntry, ListRecords, Evict, EvictNames, Flush, StepUpdate, UpdateState, Verify, VerifyRecords, Rebuild}
+use Rattle.cache_theory.specs.Command.Reply.{Done, Refused, NoneThere, Value, Part, Found, Yes, No, Unknown, Records, Evicted, Ready, Updating, Findings, Rebuilt}
+use Rattle.cache_theory.specs.Machine.{Machine, Object, Slot, has_slots, is_writer, nobody, number_of, object_of, on_shelf, open_names, used_by, waits_for, writing_names}
 use Rattle.cache_theory.specs.Table.{get, insert, remove}
 use Rattle.cache_theory.specs.declared.refusal.Refusal.{Refusal}
 use Rattle.cache_theory.specs.declared.refusal.Refusal.TheVariants as refused
@@ -173,6 +174,8 @@ effect m (EvictNames names) = answer (all_doomed (update_ended m) names) (Evicte
 effect m Flush = answer m Done
 effect m (StepUpdate n) = answer (update_stepped m n) (state_reply (drop n m.rest))
 effect m UpdateState = answer m (state_reply m.rest)
+effect m Verify = answer (update_ended m) (Findings (findings m.shelf (scan m.shelf) (writing_names m)))
+effect m (VerifyRecords records) = answer (update_ended m) (Findings (findings m.shelf records (writing_names m)))
 effect m Rebuild = answer (update_ended m) (Rebuilt (length (scan m.shelf)))
 
 -- one step: the first failing check is the reply, and then nothing changes

@@ -5,15 +5,20 @@ use Rattle.std.specs.Int.{to_be_bytes, w64}
 use Rattle.cache_base.specs.Bytes.{AreBytes, be16, be32}
 use Rattle.cache_base.specs.declared.limits.TheConstants.{ELEMENTS_MAX, LINE_MAX, PIECE_MAX, SCRIPT_MAX, SLOTS}
 use Rattle.cache_base.specs.declared.name.Name.{Name}
+use Rattle.cache_check.specs.declared.finding.Finding.{Finding}
+use Rattle.cache_check.specs.declared.finding.What.{What}
+use Rattle.cache_check.specs.declared.finding.What.TheVariants as what
 use Rattle.cache_theory.specs.Command.{Command, Reply}
-use Rattle.cache_theory.specs.Command.Command.{At, Create, OpenKey, Append, Finish, SetElement, UnsetElement, ElementOf, UseEntry, ReadPart, Close, Doom, Get, HasEntry, ListRecords, Evict, EvictNames, Flush, StepUpdate, UpdateState, Rebuild}
-use Rattle.cache_theory.specs.Command.Reply.{Done, Refused, NoneThere, Value, Part, Found, Yes, No, Unknown, Records, Evicted, Ready, Updating, Rebuilt}
+use Rattle.cache_theory.specs.Command.Command.{At, Create, OpenKey, Append, Finish, SetElement, UnsetElement, ElementOf, UseEntry, ReadPart, Close, Doom, Get, HasEntry, ListRecords, Evict, EvictNames, Flush, StepUpdate, UpdateState, Verify, VerifyRecords, Rebuild}
+use Rattle.cache_theory.specs.Command.Reply.{Done, Refused, NoneThere, Value, Part, Found, Yes, No, Unknown, Records, Evicted, Ready, Updating, Findings, Rebuilt}
 use Rattle.cache_theory.specs.Machine.{Machine}
 use Rattle.cache_theory.specs.Step.{replies}
 use Rattle.cache_theory.specs.declared.refusal.Refusal.{Refusal}
 use Rattle.cache_theory.specs.declared.refusal.Refusal.TheVariants as refused
 use Rattle.chunk_store.specs.declared.damage.Damage.{Damage}
 use Rattle.entry_file.specs.Version.{Version, version_meta}
+use Rattle.entry_file.specs.declared.entry_read.Unfit.{Unfit}
+use Rattle.entry_file.specs.declared.entry_read.Unfit.TheVariants as unfit
 use Rattle.entry_metadata.specs.Metadata.{Meta}
 use Rattle.entry_parts.specs.Elements.{elements_bytes}
 use Rattle.hex.specs.Hex.{encode_upper}
@@ -65,6 +70,29 @@ record_words r =
     ∷ decimal r.on_start ∷ decimal r.on_stop ∷ decimal r.content
     ∷ encode_upper (be32 r.flags) ∷ []
 
+-- the word of a check that a file fails
+abbrev pub unfit_word : Unfit → List ℕ
+unfit_word unfit.Short = codes "short"
+unfit_word unfit.TooBig = codes "too-big"
+unfit_word unfit.Version = codes "version"
+unfit_word unfit.KeyEnd = codes "key-end"
+unfit_word unfit.Hash = codes "hash"
+unfit_word unfit.KeyForm = codes "key-form"
+unfit_word unfit.Elements = codes "elements"
+unfit_word unfit.WrongName = codes "wrong-name"
+
+-- the words of what is wrong
+abbrev pub what_words : What → List (List ℕ)
+what_words (what.Unfit check) = codes "unfit" ∷ unfit_word check ∷ []
+what_words (what.Damaged d) = damage_words d
+what_words what.Missing = codes "missing" ∷ []
+what_words what.Extra = codes "extra" ∷ []
+what_words what.Differs = codes "differs" ∷ []
+
+-- the words of a finding
+abbrev pub finding_words : Finding → List (List ℕ)
+finding_words f = encode_upper f.name.0 ∷ what_words f.what
+
 -- a word and a number
 abbrev pub with_number : List ℕ → ℕ → List ℕ
 with_number word n = line (word ∷ decimal n ∷ [])
@@ -78,6 +106,11 @@ records_text records =
 abbrev pub names_text : List Name → List ℕ
 names_text names =
     with_number (codes "evicted") (length names) ++ flat_map (λ name. line (encode_upper name.0 ∷ [])) names
+
+-- the number of some findings, and a line of each
+abbrev pub findings_text : List Finding → List ℕ
+findings_text findings =
+    with_number (codes "findings") (length findings) ++ flat_map (λ f. line (finding_words f)) findings
 
 -- what a reply prints
 unfoldable pub reply_text : Reply → List ℕ
@@ -94,6 +127,7 @@ reply_text (Records records) = records_text records
 reply_text (Evicted names) = names_text names
 reply_text Ready = line (codes "ready" ∷ [])
 reply_text (Updating names) = with_number (codes "updating") names
+reply_text (Findings findings) = findings_text findings
 reply_text (Rebuilt records) = with_number (codes "rebuilt") records
 
 -- each reply has some bytes
@@ -104,7 +138,7 @@ ReplyIsNotEmpty = (r : Reply) → 0 < length (reply_text r)
 abbrev pub replies_text : Machine → List Command → List ℕ
 replies_text m cs = flat_map reply_text (replies m cs)
 
--- the words of a command's line; an eviction of given names has none
+-- the words of a command's line; an eviction of given names has none, nor has a check against given records
 abbrev pub command_words : Command → List (List ℕ)
 command_words (At now) = codes "at" ∷ decimal now ∷ []
 command_words (Create s key) = codes "create" ∷ decimal s ∷ key ∷ []
@@ -126,6 +160,8 @@ command_words (EvictNames names) = []
 command_words Flush = codes "flush" ∷ []
 command_words (StepUpdate n) = codes "step" ∷ decimal n ∷ []
 command_words UpdateState = codes "state" ∷ []
+command_words Verify = codes "verify" ∷ []
+command_words (VerifyRecords records) = []
 command_words Rebuild = codes "rebuild" ∷ []
 
 -- the bytes behind a command's line, with their newline
@@ -164,6 +200,7 @@ FieldsFit (Get key) = AreBytes key × IsOneLine key
 FieldsFit (HasEntry key) = AreBytes key × IsOneLine key
 FieldsFit (Evict kb) = IsNumber kb
 FieldsFit (EvictNames names) = ⊥
+FieldsFit (VerifyRecords records) = ⊥
 FieldsFit (StepUpdate n) = IsNumber n
 -- the others have no fields
 FieldsFit _ = ⊤

@@ -1,7 +1,7 @@
 //! What follows from the definitions.
 
 ghost use Rattle.cache_theory.specs.Keeps.{BeginKeeps, CreateFilesOnce, CreateKeeps, QuietFilesOnce, QuietIsSafe, RemoveFilesOnce, RemoveKeeps, RenameFilesOnce, RenameKeeps, SafeIsCrashSafe, SyncFilesOnce, SyncKeeps, WholeIsFine, WriteFilesOnce, WriteKeeps};
-ghost use Rattle.cache_theory.specs.Laws.{BegunTouchesMore, ChangesAreTouched, ChangesLeaveRest, EntriesHaveRecords, EvictIsOfNames, EvictMeetsLimit, EvictTakesOff, EvictedMayGo, ShelfStaysTable, UnusedAreTakenOff};
+ghost use Rattle.cache_theory.specs.Laws.{BegunTouchesMore, ChangesAreTouched, ChangesLeaveRest, EntriesHaveRecords, EvictIsOfNames, EvictMeetsLimit, EvictTakesOff, EvictedMayGo, ShelfStaysTable, UnusedAreTakenOff, VerifyIsOfRecords};
 ghost use Rattle.cache_theory.specs.Proper.{OpensProper, StaysProper};
 ghost use Rattle.cache_theory.specs.Refiled.{EntriesAreRefiled};
 ghost use Rattle.cache_theory.specs.Session.{AckedIsOne, CutIsAcked, WholeIsAcked};
@@ -38,6 +38,11 @@ pub fn evict_takes_off()
 pub fn evict_is_of_names()
     ensures same { EvictIsOfNames }
     ensures more { BegunTouchesMore }
+{}
+
+/// The machine's own check is that against the records of a scan.
+pub fn verify_is_of_records()
+    ensures { VerifyIsOfRecords }
 {}
 
 /// A command on entries changes what stands under one name at most, and no other name leaves the

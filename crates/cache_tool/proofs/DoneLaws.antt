@@ -5,7 +5,7 @@ use Rattle.std.proofs.lemmas.Bool.{or_left, or_right}
 use Rattle.cache_store.specs.DoneFor.{IsDoneFor}
 use Rattle.cache_store.specs.Performing.{goes_by_records}
 use Rattle.cache_theory.specs.Command.{Command}
-use Rattle.cache_theory.specs.Command.Command.{Evict, EvictNames}
+use Rattle.cache_theory.specs.Command.Command.{Evict, EvictNames, Verify, VerifyRecords}
 use Rattle.cache_theory.specs.Machine.{Machine, open_names}
 use Rattle.cache_theory.specs.Step.{after, step}
 use Rattle.cache_tool.specs.DoneFor.{AreDoneFor}
@@ -18,21 +18,25 @@ use Rattle.index_theory.specs.Scan.{scan}
 -- the records need not be right where another thing has to be
 pub done_where : {right other : Type 0} → (other → right) → (c : Command) (m : Machine) (d : Command) → IsDoneFor right c m d → IsDoneFor other c m d
 done_where so (Evict kb) m d is = (is.0, (is.1.0, λ here. is.1.1 (so here)))
+done_where so Verify m d is = (is.0, (is.1.0, λ here. is.1.1 (so here)))
 done_where so c m d is = is
 
 -- a command whose reply does not go by the records is done itself
 pub done_itself : (right : Type 0) (c : Command) (m : Machine) (d : Command) → goes_by_records c ≡ false → IsDoneFor right c m d → d ≡ c
 done_itself right (Evict kb) m d bare is = absurd (true≢false bare)
+done_itself right Verify m d bare is = absurd (true≢false bare)
 done_itself right c m d bare is = is
 
 -- what is done reads all entries anew where the command does
 done_rebuilds : (right : Type 0) (c : Command) (m : Machine) (d : Command) → IsDoneFor right c m d → is_rebuild c ≡ is_rebuild d
 done_rebuilds right (Evict kb) m d is = ap is_rebuild (sym is.1.0)
+done_rebuilds right Verify m d is = ap is_rebuild (sym is.1.0)
 done_rebuilds right c m d is = ap is_rebuild (sym is)
 
 -- something can be done, whatever is right
 pub some_done : (right : Type 0) (c : Command) (m : Machine) → (d : Command) × IsDoneFor right c m d
 some_done right (Evict kb) m = (EvictNames (victims (scan m.shelf) (open_names m) kb), (scan m.shelf, (refl, λ here. refl)))
+some_done right Verify m = (VerifyRecords (scan m.shelf), (scan m.shelf, (refl, λ here. refl)))
 some_done right c m = (c, refl)
 
 -- ---- for commands

@@ -9,7 +9,7 @@ use Rattle.cache_base.proofs.CheckLaws.{all_hold}
 use Rattle.cache_theory.specs.Checks.{checks}
 use Rattle.cache_theory.specs.Command.{Command, Reply}
 use Rattle.cache_theory.specs.Command.Command.{Append, Close, Create}
-use Rattle.cache_theory.specs.Command.Reply.{Done, Refused}
+use Rattle.cache_theory.specs.Command.Reply.{Done, Findings, Refused}
 use Rattle.cache_theory.specs.History.{History}
 use Rattle.cache_theory.specs.Machine.{Machine, Object, Slot, number_of, object, object_of}
 use Rattle.cache_theory.specs.Marks.{Marks, acked, begun}
@@ -78,6 +78,7 @@ not_done_by m c = go (step m c).reply
     go : (r : Reply) → outcome_of r ≡ outcome.Refused → is_done r ≡ false
     go Done is = absurd (cc)
     go (Refused f) is = refl
+    go (Findings more) is = refl
     go r is = absurd (cc)
 
 module _ (c : Command) (h : History) (answer : Result Outcome StoreFault) (before now : Session) (said : List ℕ) (plain : IsPlain c) (sends : IsSent c h answer before now said) where

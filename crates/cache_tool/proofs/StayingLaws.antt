@@ -11,7 +11,7 @@ use Rattle.cache_store.specs.declared.fault.StoreFault.{StoreFault}
 use Rattle.cache_store.proofs.InUseLaws.{few_are_spared, few_stay_in_use}
 use Rattle.cache_store.proofs.Represented.{represents}
 use Rattle.cache_theory.specs.Command.{Command}
-use Rattle.cache_theory.specs.Command.Command.{Evict}
+use Rattle.cache_theory.specs.Command.Command.{Evict, Verify}
 use Rattle.cache_theory.specs.History.{History}
 use Rattle.cache_theory.specs.Machine.{Machine}
 use Rattle.cache_theory.specs.Step.{after, step}
@@ -67,6 +67,7 @@ stays_for c answer before now leaves same = λ m stands had records told holds o
 -- and so it is of what is done for it
 stays_over : (right : Type 0) (records : List IndexRecord) (c : Command) (m : Machine) (d : Command) → IsDoneFor right c m d → StaysOver records m d → StaysOver records m c
 stays_over right records (Evict kb) m d is over = tt
+stays_over right records Verify m d is over = tt
 stays_over right records c m d is over = subst (StaysOver records m) is over
 
 pub stays_done : (right : Type 0) (c : Command) (before : Session) (m : Machine) (now : Session) (d : Command) → IsDoneFor right c m d → StaysOnce c before m now → StaysOnce d before m now

@@ -6,7 +6,7 @@ use Rattle.std.specs.Prelude.{codes}
 use Rattle.std.proofs.lemmas.Slice.Eq.{bytes_eq-Decides}
 use Rattle.cache_base.specs.Numbers.{number_in}
 use Rattle.cache_base.proofs.NumberLaws.{number_read, number_spelled}
-use Rattle.cache_theory.specs.Command.Command.{Doom, Evict, Flush, Get, ListRecords, Rebuild}
+use Rattle.cache_theory.specs.Command.Command.{Doom, Evict, Flush, Get, ListRecords, Rebuild, Verify}
 use Rattle.cache_tool.specs.Words.{AreOfOne, AreWords, Asked, WordsAreOfTable, alone, asked_by, verbs, with_word}
 
 -- one test of a chain
@@ -33,9 +33,12 @@ alone_is now verb asked e = elim (tested verb (codes "run") (Asked.Run now) aske
     | inl flush ↦ inr (inr (inr (inr (inr (inl (ap (λ w. w ∷ []) flush.0, flush.1))))))
     | inr others ↦ elim (tested verb (codes "list") (Asked.One now ListRecords) asked _ others) [
       | inl list ↦ inr (inr (inr (inr (inr (inr (inl (ap (λ w. w ∷ []) list.0, list.1)))))))
-      | inr last ↦ elim (tested verb (codes "rebuild") (Asked.One now Rebuild) asked None last) [
-        | inl rebuild ↦ inr (inr (inr (inr (inr (inr (inr (inl (ap (λ w. w ∷ []) rebuild.0, rebuild.1))))))))
-        | inr none ↦ absurd (cc)
+      | inr further ↦ elim (tested verb (codes "verify") (Asked.One now Verify) asked _ further) [
+        | inl verify ↦ inr (inr (inr (inr (inr (inr (inr (inl (ap (λ w. w ∷ []) verify.0, verify.1))))))))
+        | inr last ↦ elim (tested verb (codes "rebuild") (Asked.One now Rebuild) asked None last) [
+          | inl rebuild ↦ inr (inr (inr (inr (inr (inr (inr (inr (inl (ap (λ w. w ∷ []) rebuild.0, rebuild.1)))))))))
+          | inr none ↦ absurd (cc)
+        ]
       ]
     ]
   ]
@@ -101,9 +104,11 @@ table_read now small rest asked (inr (inr (inr (inr (inr (inl flush)))))) =
     ap (λ r. asked_by (decimal now ∷ r)) flush.0 ∙ ap (option_and_then (λ n. alone n (codes "flush"))) (number_read now small) ∙ ap Some (sym flush.1)
 table_read now small rest asked (inr (inr (inr (inr (inr (inr (inl list))))))) =
     ap (λ r. asked_by (decimal now ∷ r)) list.0 ∙ ap (option_and_then (λ n. alone n (codes "list"))) (number_read now small) ∙ ap Some (sym list.1)
-table_read now small rest asked (inr (inr (inr (inr (inr (inr (inr (inl rebuild)))))))) =
+table_read now small rest asked (inr (inr (inr (inr (inr (inr (inr (inl verify)))))))) =
+    ap (λ r. asked_by (decimal now ∷ r)) verify.0 ∙ ap (option_and_then (λ n. alone n (codes "verify"))) (number_read now small) ∙ ap Some (sym verify.1)
+table_read now small rest asked (inr (inr (inr (inr (inr (inr (inr (inr (inl rebuild))))))))) =
     ap (λ r. asked_by (decimal now ∷ r)) rebuild.0 ∙ ap (option_and_then (λ n. alone n (codes "rebuild"))) (number_read now small) ∙ ap Some (sym rebuild.1)
-table_read now small rest asked (inr (inr (inr (inr (inr (inr (inr (inr none)))))))) = absurd none
+table_read now small rest asked (inr (inr (inr (inr (inr (inr (inr (inr (inr none))))))))) = absurd none
 
 pub words_are_of_table : WordsAreOfTable
 words_are_of_table = λ words asked. (

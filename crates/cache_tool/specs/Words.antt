@@ -7,7 +7,7 @@ use Rattle.std.specs.declared.option.Option.{Option}
 use Rattle.std.specs.declared.string.String.{String}
 use Rattle.cache_base.specs.Numbers.{number_in}
 use Rattle.cache_theory.specs.Command.{Command}
-use Rattle.cache_theory.specs.Command.Command.{Doom, Evict, Flush, Get, ListRecords, Rebuild}
+use Rattle.cache_theory.specs.Command.Command.{Doom, Evict, Flush, Get, ListRecords, Rebuild, Verify}
 
 -- what the words ask for, at a moment
 pub data Asked : Type 0 where
@@ -35,8 +35,9 @@ verbs =
     ∷ (Verb.WithNumber (codes "evict") (λ now kb. Asked.One now (Evict kb))
     ∷ (Verb.Alone (codes "flush") (λ now. Asked.One now Flush)
     ∷ (Verb.Alone (codes "list") (λ now. Asked.One now ListRecords)
+    ∷ (Verb.Alone (codes "verify") (λ now. Asked.One now Verify)
     ∷ (Verb.Alone (codes "rebuild") (λ now. Asked.One now Rebuild)
-    ∷ [])))))))
+    ∷ []))))))))
 
 -- these words are the verb with what follows it, and ask for this
 abbrev pub AreOfVerb : List (List ℕ) → ℕ → Asked → Verb → Type 0
@@ -68,6 +69,7 @@ alone now verb =
     if pointwise nat_eq verb (codes "run") then Some (Asked.Run now)
     else if pointwise nat_eq verb (codes "flush") then Some (Asked.One now Flush)
     else if pointwise nat_eq verb (codes "list") then Some (Asked.One now ListRecords)
+    else if pointwise nat_eq verb (codes "verify") then Some (Asked.One now Verify)
     else if pointwise nat_eq verb (codes "rebuild") then Some (Asked.One now Rebuild)
     else None
 

@@ -4,7 +4,7 @@ ghost use Rattle.std.specs.Prelude.{◌≡◌, ◌⊎◌, true, IsTrue};
 ghost use Rattle.cache_base.specs.Causes.{HasCause, Rose};
 ghost use Rattle.cache_script.specs.Command.{command_of};
 ghost use Rattle.cache_store.specs.IndexCalls.{LooksAtNames};
-ghost use Rattle.cache_store.specs.Printed.{PrintsOk, PrintsRefusal, is_plain};
+ghost use Rattle.cache_store.specs.Printed.{PrintsNo, PrintsOk, is_plain};
 ghost use Rattle.cache_store.specs.Saying.{TakesMore};
 ghost use Rattle.cache_theory.specs.Given.{IsGiven};
 ghost use Rattle.cache_tool.specs.Statuses.{IsAnswer, IsClosing};
@@ -38,7 +38,8 @@ pub(crate) fn perform_one<D: Disk, K: Sink>(
         ⊎ ((result ≡ Status.Sink) ⊎ ((result ≡ Status.Disk) ⊎ (result ≡ Status.Memory))) }
     ensures done { result ≡ Status.Done → is_plain (command_of command.now) ≡ true →
         PrintsOk (K.taken sink.old) (K.taken sink.new) }
-    ensures refused { result ≡ Status.No → PrintsRefusal (K.taken sink.old) (K.taken sink.new) }
+    ensures refused { result ≡ Status.No →
+        PrintsNo (command_of command.now) (K.taken sink.old) (K.taken sink.new) }
     ensures grows { IsTrue D.tells → TakesMore (K.taken sink.old) (K.taken sink.new) }
     ensures no_entry { LooksAtNone (command_of command.now) (start_of (standing (D.state disk.old))) →
         LooksAtNames D.Disk 0 disk.old disk.new }

@@ -5,7 +5,7 @@ ghost use Rattle.std.specs.Io.KnownBytes.{IsAtEnd};
 ghost use Rattle.cache_base.specs.Causes.{Rose};
 ghost use Rattle.cache_base.specs.declared.limits.TheConstants.{BODY_MAX, PIECE_MAX};
 ghost use Rattle.cache_store.specs.IndexCalls.{LooksAtNames};
-ghost use Rattle.cache_store.specs.Printed.{PrintsOk, PrintsRefusal, is_plain};
+ghost use Rattle.cache_store.specs.Printed.{PrintsNo, PrintsOk, is_plain};
 ghost use Rattle.cache_store.specs.Saying.{TakesMore};
 ghost use Rattle.cache_tool.specs.AnyDisk.{PutRefuses, TakesAtMost};
 ghost use Rattle.cache_tool.specs.Script.{HasBadCommand, HasScript, IsScript};
@@ -31,14 +31,14 @@ use std::alloc::Global;
 /// Does what the words say. These are the words after the directory: `NOW run` performs the script that the source has,
 /// `NOW put KEY` makes an entry of the key whose body the source has, `NOW get KEY` prints an entry, `NOW doom KEY`
 /// removes one, `NOW evict KB` removes the least valuable ones until all take at most so many KB, `NOW flush` syncs what
-/// was written, `NOW list` prints the records of all entries, and `NOW rebuild` reads all entries anew and writes the
-/// index. Each opens the store at the moment NOW and closes it.
+/// was written, `NOW list` prints the records of all entries, `NOW verify` checks all entries and prints what is wrong, and
+/// `NOW rebuild` reads all entries anew and writes the index. Each opens the store at the moment NOW and closes it.
 ///
 /// The clauses on contents hold where the disk and the source tell theirs. Those on a crash hold where nothing was
 /// pending at the call, and speak of every exit, whatever the status. The replies to `list` and `has` go by the records in
 /// memory: where one of them is among the commands, what is printed is the machine's where the directory was honest. What
-/// `evict` removes goes by them too: there it is what the machine removes, and elsewhere the entries that have to go by
-/// the records that there are.
+/// `evict` removes and `verify` finds goes by them too: there it is what the machine removes and finds, and elsewhere the
+/// entries that have to go by the records that there are, and what is wrong with these records and the files.
 pub fn run<D: Disk, S: Source, K: Sink>(
     alloc: Global,
     words: &[String],
@@ -79,7 +79,8 @@ pub fn run<D: Disk, S: Source, K: Sink>(
     ensures ignored { WhenOne (asked_in words.now) (λ now c. source.new ≡ source.old) }
 
     // On any disk, also on one that tells nothing, the status is that of the printed reply: `ok` with `Done`, for a `put`
-    // and for a command whose reply is `ok` or a refusal; and a refusal with `No`, except for a `put` of too long a body.
+    // and for a command whose reply is `ok` or a refusal; and with `No` a refusal, or for `verify` what was found, except
+    // for a `put` of too long a body.
     ensures put_done { result ≡ Status.Done →
         WhenPut (asked_in words.now) (λ now key. PrintsOk (K.taken sink.old) (K.taken sink.new)) }
     ensures put_no { let at = world S.Source K.Sink D.Disk in result ≡ Status.No →
@@ -88,7 +89,7 @@ pub fn run<D: Disk, S: Source, K: Sink>(
     ensures one_done { result ≡ Status.Done → WhenOne (asked_in words.now) (λ now c.
         is_plain c ≡ true → PrintsOk (K.taken sink.old) (K.taken sink.new)) }
     ensures one_no { result ≡ Status.No → WhenOne (asked_in words.now) (λ now c.
-        PrintsRefusal (K.taken sink.old) (K.taken sink.new)) }
+        PrintsNo c (K.taken sink.old) (K.taken sink.new)) }
 
     // What is printed only grows. A `flush` looks at no entry, nor do a `list` and an `evict` where the index is trusted.
     ensures grows { IsTrue D.tells → TakesMore (K.taken sink.old) (K.taken sink.new) }

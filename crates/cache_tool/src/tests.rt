@@ -6,6 +6,7 @@ mod get;
 mod one;
 mod put;
 mod script;
+mod verify;
 
 use crate::run::run;
 use cache_base::{Bytes, NoMemory, Numbers, Status};

@@ -15,7 +15,8 @@ pub(crate) enum Asked<'a> {
     Run { now: Moment },
     /// `NOW put KEY`
     Put { now: Moment, key: &'a [u8] },
-    /// `NOW get KEY`, `NOW doom KEY`, `NOW evict KB`, `NOW flush`, `NOW list`, `NOW rebuild`
+    /// `NOW get KEY`, `NOW doom KEY`, `NOW evict KB`, `NOW flush`, `NOW list`, `NOW verify`,
+    /// `NOW rebuild`
     One { now: Moment, command: Command<'a> },
 }
 
@@ -33,6 +34,10 @@ fn alone(now: Moment, verb: &str) -> Option<Asked<'_>>
         "list" => Some(Asked::One {
             now,
             command: Command::List,
+        }),
+        "verify" => Some(Asked::One {
+            now,
+            command: Command::Verify,
         }),
         "rebuild" => Some(Asked::One {
             now,

@@ -1,5 +1,5 @@
--- The names of the undoomed objects in use, and the machine's.
-use Rattle.std.proofs.Common.{◌≡◌, ℕ, ◌+◌, ◌<◌, List, [], ◌∷◌, length, map, get_or, take, Bool, true, false, cond, ◌&&◌, Option, Some, None, Result, Ok, Err, IfOk, is_some, T, refl, sym, ap, subst, ◌∙◌}
+-- The names of the undoomed objects in use, and of those that are being written, and the machine's.
+use Rattle.std.proofs.Common.{◌≡◌, ℕ, ◌+◌, ◌<◌, List, [], ◌∷◌, length, map, get_or, take, Bool, true, false, cond, not, ◌&&◌, Option, Some, None, Result, Ok, Err, IfOk, is_some, T, refl, sym, ap, subst, ◌∙◌}
 use Rattle.std.specs.Prelude.{is_none, unwrap_or, ◌||◌}
 use Rattle.std.specs.FinMap.{is_sorted}
 use Rattle.std.specs.FinMap.Entries.{below_all}
@@ -8,25 +8,33 @@ use Rattle.std.specs.List.Sorted.{IsStrictlySortedBy}
 use Rattle.std.specs.Ordering.{eq_by_cmp, is_eq, is_lt}
 use Rattle.std.specs.Str.{bytes_eq}
 use Rattle.std.specs.declared.cmp.Ordering.TheVariants.{Less}
-use Rattle.std.proofs.lemmas.Bool.{and_from}
+use Rattle.std.proofs.lemmas.Bool.{and_from, and_parts}
 use Rattle.std.proofs.lemmas.List.Folds.{Any-from_list_any, list_any_at, list_any_more}
 use Rattle.std.proofs.lemmas.List.Quantifiers.{position-Some}
 use Rattle.std.proofs.lemmas.Map.Text.{is_eq-slice_cmp}
 use Rattle.std.proofs.lemmas.Option.{slice_get-get_or, unwrap_or-slice_get}
+use Rattle.std.proofs.lemmas.Slice.Eq.{bytes_eq-Decides}
 use Rattle.cache_base.specs.Names.{AreRising, name_cmp}
 use Rattle.cache_base.specs.declared.name.Name.{Name}
-use Rattle.cache_theory.specs.Machine.{Machine, open_names}
+use Rattle.cache_theory.specs.Machine.{Machine, object, open_names, writing_names}
+use Rattle.cache_theory.specs.Machine.{Object as MachineObject}
 use Rattle.cache_theory.specs.Proper.{IsProper}
 use Rattle.cache_theory.specs.Table.{IsTable, Table, bytes_cmp, get, keys, name_of}
 use Rattle.cache_theory.proofs.Evicting.{has_open}
 use Rattle.cache_theory.proofs.TableLaws.{same_table}
+use Rattle.cache_theory.proofs.WritingNames.{has_writing, is_unfinished, passes_there, passing, passing_is_table}
 use Rattle.evictor.specs.Evict.{has_name}
 use Rattle.file_handles.specs.Finding.{is_user}
-use Rattle.file_handles.specs.Kept.{Kept}
+use Rattle.file_handles.specs.Held.{IsEntryOf, is_draft}
+use Rattle.file_handles.specs.Kept.{Kept, object_at}
 use Rattle.file_handles.specs.Stands.{HandlesStand}
-use Rattle.file_handles.specs.Users.{AreOpenNames, users_at, users_of}
+use Rattle.file_handles.specs.Users.{AreOpenNames, AreWritingNames, counts, is_counted, users_at, users_of}
+use Rattle.file_handles.specs.declared.object.Entry.{Entry}
+use Rattle.file_handles.specs.declared.object.Entry.TheVariants as entry
 use Rattle.file_handles.specs.declared.object.Object.{Object}
-use Rattle.file_handles.proofs.User.{no_one, no_user_there, user_at, user_is_used, user_somewhere}
+use Rattle.file_handles.specs.declared.users.Asked.{Asked}
+use Rattle.file_handles.specs.declared.users.Asked.TheVariants as asked
+use Rattle.file_handles.proofs.User.{no_one, no_user_there, user_at, user_is_used, user_of, user_somewhere, user_there}
 
 -- One object more in a set of names.
 
@@ -40,25 +48,26 @@ or_false : (b : Bool) → b ≡ (b || false)
 or_false true = refl
 or_false false = refl
 
-module _ (objects : List (Option Object)) (i : ℕ) (d : Option Object) (q : Name) (within : i < length objects) where
-  with_next : (b : Bool) → is_user q (get_or objects i d) ≡ b
-      → (list_any (is_user q) (take i objects) || b) ≡ list_any (is_user q) (take (i + 1) objects)
+module _ (which : Asked) (objects : List (Option Object)) (i : ℕ) (d : Option Object) (q : Name) (within : i < length objects) where
+  with_next : (b : Bool) → is_counted which q (get_or objects i d) ≡ b
+      → (list_any (is_counted which q) (take i objects) || b) ≡ list_any (is_counted which q) (take (i + 1) objects)
   with_next b is =
-      ap (λ c. list_any (is_user q) (take i objects) || c) (sym is) ∙ sym (list_any_more (is_user q) objects i d within)
+      ap (λ c. list_any (is_counted which q) (take i objects) || c) (sym is)
+      ∙ sym (list_any_more (is_counted which q) objects i d within)
 
-  -- one that is no user
-  pub skipped : is_user q (get_or objects i d) ≡ false
-      → list_any (is_user q) (take i objects) ≡ list_any (is_user q) (take (i + 1) objects)
-  skipped is = or_false (list_any (is_user q) (take i objects)) ∙ with_next false is
+  -- one that does not count
+  pub skipped : is_counted which q (get_or objects i d) ≡ false
+      → list_any (is_counted which q) (take i objects) ≡ list_any (is_counted which q) (take (i + 1) objects)
+  skipped is = or_false (list_any (is_counted which q) (take i objects)) ∙ with_next false is
 
-  -- an undoomed one
-  pub added : (x : Object) → get_or objects i d ≡ Some x → is_none x.doomed ≡ true
-      → cond (is_eq (name_cmp x.name q)) true (list_any (is_user q) (take i objects))
-      ≡ list_any (is_user q) (take (i + 1) objects)
-  added x at undoomed =
-      or_cond (is_eq (name_cmp x.name q)) (list_any (is_user q) (take i objects))
+  -- one that counts
+  pub added : (x : Object) → get_or objects i d ≡ Some x → counts which x ≡ true
+      → cond (is_eq (name_cmp x.name q)) true (list_any (is_counted which q) (take i objects))
+      ≡ list_any (is_counted which q) (take (i + 1) objects)
+  added x at asked =
+      or_cond (is_eq (name_cmp x.name q)) (list_any (is_counted which q) (take i objects))
       ∙ with_next (is_eq (name_cmp x.name q))
-      (ap (is_user q) at ∙ ap (λ b. b && bytes_eq x.name.0 q.0) undoomed ∙ sym (is_eq-slice_cmp x.name.0 q.0))
+      (ap (is_counted which q) at ∙ ap (λ b. b && bytes_eq x.name.0 q.0) asked ∙ sym (is_eq-slice_cmp x.name.0 q.0))
 
 -- Rising names with the same members are the same: as tables that have nothing under their names.
 
@@ -129,6 +138,15 @@ sorted_keys (e ∷ es) = λ i. below_keys e.0 es i && sorted_keys es i
 keys_table : {X : Type 0} (t : Table X) → IsTable t → IsTable (nothings (map name_of (keys t)))
 keys_table t is = record { rising = subst T (sym (sorted_keys t)) is.rising }
 
+-- Where all are asked for, users count.
+user_counts : (q : Name) (o : Option Object) → is_counted asked.All q o ≡ is_user q o
+user_counts q None = refl
+user_counts q (Some x) = refl
+
+users_count : (q : Name) (objects : List (Option Object))
+    → list_any (is_counted asked.All q) objects ≡ list_any (is_user q) objects
+users_count q objects = λ i. list_any (λ o. user_counts q o i) objects
+
 -- A name has a user exactly where one is found.
 user_or_none : (k : Kept) (q : Name) → list_any (is_user q) k.objects ≡ is_some (position (is_user q) k.objects)
 user_or_none k q = go (list_any (is_user q) k.objects) refl (position (is_user q) k.objects) refl
@@ -152,6 +170,16 @@ not_among : (k : Kept) (names : List Name) → ((q : Name) → has_name names q 
 not_among k names has q lacks =
     ap (users_at k) (no_one (position (is_user q) k.objects) (sym (user_or_none k q) ∙ sym (has q) ∙ lacks))
 
+-- An entry is a draft where the machine's object is not finished.
+draft_is : (e : Entry) (o : MachineObject) → IsEntryOf e o → not o.finished ≡ is_draft e
+draft_is (entry.Draft d) o is = ap not is.0
+draft_is (entry.Finished meta) o is = ap not is.0
+
+same_test : (a b : Bool) → (a ≡ true → b ≡ true) → (b ≡ true → a ≡ true) → a ≡ b
+same_test true b to from = sym (to refl)
+same_test false true to from = from refl
+same_test false false to from = refl
+
 module _ (k : Kept) (m : Machine) (number : ℕ → ℕ) (proper : IsProper m) (stand : HandlesStand k m number) where
   open_same : (q : Name) → list_any (is_user q) k.objects ≡ is_some (get m.in_use q.0)
   open_same q = user_or_none k q ∙ go (position (is_user q) k.objects) refl
@@ -167,15 +195,81 @@ module _ (k : Kept) (m : Machine) (number : ℕ → ℕ) (proper : IsProper m) (
       same_names names (open_names m) (rising_table names rising) (keys_table m.in_use proper.users) (λ q.
       has (name_of q) ∙ open_same (name_of q) ∙ sym (has_open m.in_use (name_of q)))
 
+  -- a draft that counts is the machine's unfinished object under the name
+  draft_there : (q : Name) (p : ℕ) (o : Option Object) → p < length k.objects → object_at k p ≡ o
+      → is_counted asked.Drafts q o ≡ true → passes_there (is_unfinished m) (get m.in_use q.0) ≡ true
+  draft_there q p None lt at is = absurd (cc)
+  draft_there q p (Some x) lt at is =
+      let parts = and_parts (is_draft x.entry && is_none x.doomed) (bytes_eq x.name.0 q.0) is in
+      let kinds = and_parts (is_draft x.entry) (is_none x.doomed) parts.0 in
+      let user = and_from (is_none x.doomed) (bytes_eq x.name.0 q.0) kinds.1 parts.1 in
+      ap (passes_there (is_unfinished m)) (user_there k m number proper stand q p (user_at k q p (Some x) lt at user))
+      ∙ draft_is x.entry (object m (number p)) (stand.objects p x at).as_held.held_entry
+      ∙ kinds.0
+
+  counted_there : (q : Name) → list_any (is_counted asked.Drafts q) k.objects ≡ true
+      → passes_there (is_unfinished m) (get m.in_use q.0) ≡ true
+  counted_there q any =
+      let found = Any-from_list_any (is_counted asked.Drafts q) k.objects any in
+      let at = unwrap_or-slice_get k.objects found.0 None in
+      let there = ap (λ o. unwrap_or o None) (slice_get-get_or k.objects found.0 found.1 found.2) ∙ found.3 in
+      draft_there q found.0 found.1 found.2 there found.4
+
+  -- and the machine's is a draft that counts
+  there_counted : (q : Name) (o : Option ℕ) → get m.in_use q.0 ≡ o → passes_there (is_unfinished m) o ≡ true
+      → list_any (is_counted asked.Drafts q) k.objects ≡ true
+  there_counted q None at writing = absurd (cc)
+  there_counted q (Some i) at writing =
+      let found = user_of k m number proper stand q i at in
+      let p = found.0 in
+      let there = found.1.0 in
+      let x = there.object in
+      let held = (stand.objects p x there.at_place).as_held.held_entry in
+      let draft : is_draft x.entry ≡ true =
+      sym (draft_is x.entry (object m (number p)) held) ∙ ap (is_unfinished m) found.1.1 ∙ writing in
+      let undoomed : is_none x.doomed ≡ true = ap (λ (o : Option ℕ). is_none o) there.undoomed in
+      let counted : is_counted asked.Drafts q (Some x) ≡ true =
+      and_from (is_draft x.entry && is_none x.doomed) (bytes_eq x.name.0 q.0)
+      (and_from (is_draft x.entry) (is_none x.doomed) draft undoomed)
+      ((bytes_eq-Decides x.name.0 q.0).1 there.named) in
+      list_any_at (is_counted asked.Drafts q) k.objects p None there.ranged
+      (ap (is_counted asked.Drafts q) (sym (unwrap_or-slice_get k.objects p None) ∙ there.at_place) ∙ counted)
+
+  writing_same : (q : Name)
+      → list_any (is_counted asked.Drafts q) k.objects ≡ passes_there (is_unfinished m) (get m.in_use q.0)
+  writing_same q = same_test _ _ (counted_there q) (there_counted q (get m.in_use q.0) refl)
+
+  -- rising names of those that are being written are the machine's
+  writing_is : (names : List Name) → AreRising names
+      → ((q : Name) → has_name names q ≡ list_any (is_counted asked.Drafts q) k.objects) → names ≡ writing_names m
+  writing_is names rising has =
+      same_names names (writing_names m) (rising_table names rising)
+      (keys_table (passing (is_unfinished m) m.in_use) (passing_is_table (is_unfinished m) m.in_use proper.users))
+      (λ q. has (name_of q) ∙ writing_same (name_of q) ∙ sym (has_writing m proper.users (name_of q)))
+
 -- The names of a set of users, listed in their order.
 
-module _ {E : Type 0} (k : Kept) (users : List Name) (has : (q : Name) → has_name users q ≡ list_any (is_user q) k.objects) where
+has_listed : (k : Kept) (users names : List Name)
+    → ((q : Name) → has_name users q ≡ list_any (is_counted asked.All q) k.objects) → names ≡ users
+    → (q : Name) → has_name names q ≡ list_any (is_user q) k.objects
+has_listed k users names has is q = ap (λ ns. has_name ns q) is ∙ has q ∙ users_count q k.objects
+
+module _ {E : Type 0} (k : Kept) (users : List Name) (has : (q : Name) → has_name users q ≡ list_any (is_counted asked.All q) k.objects) where
   pub listed_open : (r : Result (List Name) E) → IfOk r (λ names. names ≡ users) → IfOk r AreRising → IfOk r (AreOpenNames k)
   listed_open (Err e) is rising = tt
   listed_open (Ok names) is rising = λ m number proper stand.
-      open_is k m number proper stand names rising (λ q. ap (λ ns. has_name ns q) is ∙ has q)
+      open_is k m number proper stand names rising (has_listed k users names has is)
 
   pub listed_unused : (r : Result (List Name) E) → IfOk r (λ names. names ≡ users)
       → IfOk r (λ names. (q : Name) → has_name names q ≡ false → users_of k q ≡ 0)
   listed_unused (Err e) is = tt
-  listed_unused (Ok names) is = not_among k names (λ q. ap (λ ns. has_name ns q) is ∙ has q)
+  listed_unused (Ok names) is = not_among k names (has_listed k users names has is)
+
+-- And those of a set of drafts.
+
+pub listed_writing : {E : Type 0} (k : Kept) (drafts : List Name)
+    → ((q : Name) → has_name drafts q ≡ list_any (is_counted asked.Drafts q) k.objects)
+    → (r : Result (List Name) E) → IfOk r (λ names. names ≡ drafts) → IfOk r AreRising → IfOk r (AreWritingNames k)
+listed_writing k drafts has (Err e) is rising = tt
+listed_writing k drafts has (Ok names) is rising = λ m number proper stand.
+    writing_is k m number proper stand names rising (λ q. ap (λ ns. has_name ns q) is ∙ has q)

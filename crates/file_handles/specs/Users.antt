@@ -1,12 +1,18 @@
 -- The entries in use, by their names.
-use Rattle.std.specs.Prelude.{List, None, Option, Some, filter, length, ℕ, ◌≡◌}
+use Rattle.std.specs.Prelude.{Bool, List, None, Option, Some, false, filter, is_none, length, true, ℕ, ◌&&◌, ◌≡◌}
+use Rattle.std.specs.Str.{bytes_eq}
 use Rattle.cache_base.specs.declared.name.Name.{Name}
-use Rattle.cache_theory.specs.Machine.{Machine, open_names}
+use Rattle.cache_theory.specs.Machine.{Machine, open_names, writing_names}
 use Rattle.cache_theory.specs.Proper.{IsProper}
 use Rattle.file_handles.specs.Closing.{is_use_of}
+use Rattle.file_handles.specs.Held.{is_draft}
 use Rattle.file_handles.specs.Kept.{Kept}
 use Rattle.file_handles.specs.Loading.{user_place}
 use Rattle.file_handles.specs.Stands.{HandlesStand}
+use Rattle.file_handles.specs.declared.object.Entry.{Entry}
+use Rattle.file_handles.specs.declared.object.Object.{Object}
+use Rattle.file_handles.specs.declared.users.Asked.{Asked}
+use Rattle.file_handles.specs.declared.users.Asked.TheVariants as asked
 
 -- the number of slots that use a place, if there is one
 abbrev pub users_at : Kept → Option ℕ → ℕ
@@ -21,3 +27,22 @@ users_of k name = users_at k (user_place k name)
 abbrev pub AreOpenNames : Kept → List Name → Type 0
 AreOpenNames k names =
     (m : Machine) (number : ℕ → ℕ) → IsProper m → HandlesStand k m number → names ≡ open_names m
+
+-- and those that are being written there
+abbrev pub AreWritingNames : Kept → List Name → Type 0
+AreWritingNames k names =
+    (m : Machine) (number : ℕ → ℕ) → IsProper m → HandlesStand k m number → names ≡ writing_names m
+
+-- whether such entries are asked for
+abbrev pub asks : Asked → Entry → Bool
+asks asked.All e = true
+asks asked.Drafts e = is_draft e
+
+-- an undoomed object that is asked for
+abbrev pub counts : Asked → Object → Bool
+counts which x = asks which x.entry && is_none x.doomed
+
+-- such a one of the name is there
+abbrev pub is_counted : Asked → Name → Option Object → Bool
+is_counted which name None = false
+is_counted which name (Some x) = counts which x && bytes_eq x.name.0 name.0

@@ -7,14 +7,22 @@ ghost use Rattle.cache_base.specs.Names.{AreRising, name_cmp};
 ghost use Rattle.cache_base.specs.declared.name.Name.{Name as AName};
 ghost use Rattle.evictor.specs.Evict.{has_name};
 ghost use Rattle.file_handles.specs.Closing.{is_use_of};
-ghost use Rattle.file_handles.specs.Finding.{is_user};
+ghost use Rattle.file_handles.specs.Users.{counts, is_counted};
 
 use crate::Handles;
 use crate::close::uses;
-use crate::object::{Object, Use};
+use crate::object::{Entry, Object, Use};
 use cache_base::{Name, Names, NoMemory};
 use std::alloc::Global;
 use std::collections::BTreeSet;
+
+/// Which undoomed entries in use are asked for.
+#[derive(Clone, Copy)]
+enum Asked {
+    All,
+    /// Those that are still being written.
+    Drafts,
+}
 
 // The number of slots that use a place.
 fn count_uses(slots: &[Option<Use>], place: usize) -> usize
@@ -23,16 +31,30 @@ fn count_uses(slots: &[Option<Use>], place: usize) -> usize
     slots.iter().filter(|used| uses(used, place)).count()
 }
 
-// The names of the undoomed objects, as a set.
-fn name_set(alloc: Global, objects: &[Option<Object>]) -> Result<BTreeSet<Name>, NoMemory>
+// Whether an object is undoomed and asked for.
+fn is_asked(asked: Asked, object: &Object) -> bool
+    ensures { result ≡ counts asked object.now }
+{
+    match asked {
+        Asked::All => object.doomed.is_none(),
+        Asked::Drafts => matches!(object.entry, Entry::Draft(_)) && object.doomed.is_none(),
+    }
+}
+
+// The names of the undoomed objects that are asked for, as a set.
+fn name_set(
+    alloc: Global,
+    objects: &[Option<Object>],
+    asked: Asked,
+) -> Result<BTreeSet<Name>, NoMemory>
     ensures { IfOk result (λ set. (q : AName) →
-        contains name_cmp set q ≡ list_any (is_user q) objects.now) }
+        contains name_cmp set q ≡ list_any (is_counted asked q) objects.now) }
 {
     let mut names = BTreeSet::new(alloc);
     for object in objects {
         match object {
             Some(object) => {
-                if object.doomed.is_none() {
+                if is_asked(asked, object) {
                     names.insert(object.name)?;
                 }
             }
@@ -56,7 +78,7 @@ fn listed(alloc: Global, mut set: BTreeSet<Name>) -> Result<Names, NoMemory>
 
 impl Handles {
     ghost use Rattle.file_handles.specs.Kept.{kept};
-    ghost use Rattle.file_handles.specs.Users.{AreOpenNames, users_of};
+    ghost use Rattle.file_handles.specs.Users.{AreOpenNames, AreWritingNames, users_of};
 
     /// The number of slots that use the undoomed entry of a name. It takes no memory.
     pub fn users(&self, name: &Name) -> usize
@@ -74,7 +96,15 @@ impl Handles {
         ensures unused { IfOk result (λ names. (name : AName) →
             has_name names name ≡ false → users_of (kept self.now) name ≡ 0) }
     {
-        let set = name_set(alloc, &self.objects)?;
+        let set = name_set(alloc, &self.objects, Asked::All)?;
+        listed(alloc, set)
+    }
+
+    /// The names of undoomed entries that are still being written, in name order.
+    pub fn writing_names(&self, alloc: Global) -> Result<Names, NoMemory>
+        ensures { IfOk result (AreWritingNames (kept self.now)) }
+    {
+        let set = name_set(alloc, &self.objects, Asked::Drafts)?;
         listed(alloc, set)
     }
 }

@@ -73,6 +73,30 @@ fn open_names_rise(rt: HostRuntime) -> Result<(), Fail> {
     Ok(())
 }
 
+// An entry is being written until it is finished or doomed.
+#[test]
+fn names_of_drafts_rise(rt: HostRuntime) -> Result<(), Fail> {
+    let mut disk = disk_in(&rt)?;
+    let mut handles = handles_of(&rt)?;
+    assert_eq!(rt; handles.create(rt.alloc(), &mut disk, 7, X, 5), gone());
+    assert_eq!(rt;
+        handles.create(rt.alloc(), &mut disk, 8, Y, 5),
+        Ok(Effect::Gone(name_of(Y)))
+    );
+    let both = handles.writing_names(rt.alloc())?;
+    assert!(rt; both.as_slice() == [name_of(Y), name_of(X)].as_slice());
+    assert_eq!(rt; handles.finish(rt.alloc(), &mut disk, 7), wrote(5));
+    let one = handles.writing_names(rt.alloc())?;
+    assert!(rt; one.as_slice() == [name_of(Y)].as_slice());
+    assert_eq!(rt;
+        handles.doom(rt.alloc(), &mut disk, Y),
+        Ok(Effect::Gone(name_of(Y)))
+    );
+    let none = handles.writing_names(rt.alloc())?;
+    assert!(rt; none.as_slice().is_empty());
+    Ok(())
+}
+
 // An entry goes once no slot has it.
 #[test]
 fn an_unused_entry_is_evicted(rt: HostRuntime) -> Result<(), Fail> {

@@ -1,12 +1,13 @@
 use Rattle.std.proofs.Common.{[], ◌≡◌, ◌∷◌, ◌∙◌, List, Option, Result, ℕ, codes, decimal, subst, sym}
 use Rattle.std.specs.Prelude.{OnErr}
+use Rattle.cache_check.specs.declared.finding.Finding.{Finding}
 use Rattle.cache_store.specs.Answering.{rest_of}
 use Rattle.cache_store.specs.Said.{Saying, saying}
 use Rattle.cache_store.specs.Saying.{CutsIn, SaysMore}
 use Rattle.cache_store.specs.declared.answered.Answered.{Answered}
 use Rattle.cache_store.specs.declared.fault.Outcome.{Outcome}
 use Rattle.cache_store.specs.declared.fault.StoreFault.{StoreFault}
-use Rattle.cache_theory.specs.Text.{refusal_words, spaced}
+use Rattle.cache_theory.specs.Text.{findings_text, refusal_words, spaced}
 use Rattle.cache_store.proofs.SaidMore.{when_err}
 use Rattle.cache_store.proofs.SayingLaws.{cuts_front, cuts_line, cuts_then}
 use Rattle.cache_store.proofs.command.say_rest.Goals as goal
@@ -56,6 +57,13 @@ returns-in_ok-line-in-Rebuilt-clause-cut g c =
     let out = g.K.Sink.taken c.say_ok-in-Rebuilt.new.sink in
     answer_cut c.say_ok-in-Rebuilt.result s0 out c.in-Rebuilt.is
     (subst (λ (t : List ℕ). OnErr c.say_ok-in-Rebuilt.result (CutsIn s0 out t)) (c.as_slice-in-Rebuilt.ensures ∙ c.in_ok-line-in-Rebuilt.ensures) c.say_ok-in-Rebuilt.ensures.cut)
+
+pub returns-in-Checked-clause-cut : goal.returns-in-Checked-clause-cut
+returns-in-Checked-clause-cut g c =
+    let s0 = saying g.K.Sink c.args.reply.now c.args.sink.now in
+    let out = g.K.Sink.taken c.say_found.new.sink in
+    answer_cut c.say_found.result s0 out c.in-Checked.is
+    (subst (λ (fs : List Finding). OnErr c.say_found.result (CutsIn s0 out (findings_text fs))) c.as_slice-in-Checked.ensures c.say_found.ensures.cut)
 
 pub returns-in_err-text-in-Refused-clause-cut : goal.returns-in_err-text-in-Refused-clause-cut
 returns-in_err-text-in-Refused-clause-cut g c =

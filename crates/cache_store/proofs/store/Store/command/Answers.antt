@@ -5,10 +5,11 @@ use Rattle.cache_store.specs.Answering.{rest_of}
 use Rattle.cache_store.specs.IndexCalls.{IsFresh}
 use Rattle.cache_store.specs.Said.{saying}
 use Rattle.cache_store.specs.Session.{Open, open_of, session}
+use Rattle.cache_store.specs.Verifying.{PrintsFound}
 use Rattle.cache_store.proofs.PerformOpen.{performs_open}
 use Rattle.cache_store.proofs.PerformWhole.{does_performs, fails_performs}
-use Rattle.cache_store.proofs.PrintedLaws.{prints_outcome}
-use Rattle.cache_store.proofs.SaidMore.{when_ok}
+use Rattle.cache_store.proofs.PrintedLaws.{prints_found, prints_outcome}
+use Rattle.cache_store.proofs.SaidMore.{of_ok, when_ok}
 use Rattle.cache_store.proofs.TakenMore.{rest_takes}
 use Rattle.cache_store.proofs.store.Store.command.Goals as goal
 
@@ -31,7 +32,18 @@ returns-clause-open g c = λ told. performs_open (command_of c.args.c.now) _ _ _
 pub returns-clause-prints : goal.returns-clause-prints
 returns-clause-prints g c =
     prints_outcome (command_of c.args.c.now) c.in_ok-answered.answered c.finish_reply.result _ _ _ (λ n. ap g.K.Sink.taken (c.in_ok-answered.ensures.unsaid n)) c.in_ok-answered.ensures.still_empty
-    c.in_ok-answered.ensures.plain c.finish_reply.ensures.printed c.finish_reply.ensures.outcome
+    c.in_ok-answered.ensures.plain c.in_ok-answered.ensures.lists c.finish_reply.ensures.printed c.finish_reply.ensures.outcome
+
+pub returns-clause-verifies : goal.returns-clause-verifies
+returns-clause-verifies g c = λ verify.
+    let before = session g.D.Disk c.args.self.now c.args.disk.now in
+    let taken = g.K.Sink.taken c.args.sink.now in
+    let now = g.K.Sink.taken c.finish_reply.new.sink in
+    of_ok c.finish_reply.result _ _ (λ sends told.
+    subst (λ (o : Open). PrintsFound before o.index.map taken now) (sym c.finish_reply.ensures.open)
+    (prints_found before (open_of c.perform.new.self).index.map c.in_ok-answered.answered (c.in_ok-answered.ensures.found verify told) taken (saying g.K.Sink c.perform.new.self.reply c.perform.new.sink) now
+    (λ n. ap g.K.Sink.taken (c.in_ok-answered.ensures.unsaid n)) c.in_ok-answered.ensures.still_empty sends))
+    c.finish_reply.ensures.printed
 
 pub returns-in_err-answered-clause-honest : goal.returns-in_err-answered-clause-honest
 returns-in_err-answered-clause-honest g c = λ told. unclean_leaves_honest (g.D.Disk.state c.perform.new.disk) (c.in_err-answered.ensures.unclean told)

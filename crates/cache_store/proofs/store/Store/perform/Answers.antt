@@ -1,11 +1,11 @@
 use Rattle.std.proofs.Common.{refl, ap, subst, ◌∙◌}
 use Rattle.cache_script.specs.Command.{command_of}
-use Rattle.cache_theory.specs.Command.Command.{At, Append, Close, Create, Doom, ElementOf, Evict, Finish, Flush, Get, HasEntry, ListRecords, OpenKey, ReadPart, Rebuild, SetElement, StepUpdate, UnsetElement, UpdateState, UseEntry}
+use Rattle.cache_theory.specs.Command.Command.{At, Append, Close, Create, Doom, ElementOf, Evict, Finish, Flush, Get, HasEntry, ListRecords, OpenKey, ReadPart, Rebuild, SetElement, StepUpdate, UnsetElement, UpdateState, UseEntry, Verify}
 use Rattle.cache_theory.specs.Given.{IsGiven}
 use Rattle.cache_store.specs.Said.{saying}
 use Rattle.cache_store.specs.Session.{session}
 use Rattle.cache_store.proofs.LearntAchieves.{append_achieves, close_achieves, create_achieves, doom_achieves, finish_achieves, open_achieves, set_achieves, unset_achieves, use_achieves}
-use Rattle.cache_store.proofs.PerformDoes.{as_command, at_does, by_name, done_unsaid, has_does, reading_does, state_does, unsaid_does}
+use Rattle.cache_store.proofs.PerformDoes.{as_command, at_does, by_name, done_unsaid, has_does, reading_does, state_does, unsaid_does, unsaid_done}
 use Rattle.cache_store.proofs.TakenMore.{open_takes}
 use Rattle.file_handles.proofs.IndexLeft.{same_left}
 use Rattle.cache_store.proofs.store.Store.perform.Goals as goal
@@ -125,6 +125,11 @@ pub returns-in-Step-clause-does : goal.returns-in-Step-clause-does
 returns-in-Step-clause-does g c = λ told.
     as_command _ (StepUpdate c.in-Step.n) _ _ _ _ _ (ap command_of c.in-Step.is) (λ m. refl)
     (unsaid_does (StepUpdate c.in-Step.n) c.step.result _ _ (saying g.K.Sink c.step.new.self.reply c.args.sink.now) c.step.ensures.not_said c.step.ensures.no_sink (c.step.ensures.held ∙ c.requires.empty) (c.step.ensures.does told))
+
+pub returns-in-Verify-clause-does : goal.returns-in-Verify-clause-does
+returns-in-Verify-clause-does g c = λ told.
+    by_name _ Verify _ _ _ _ _ (ap command_of c.in-Verify.is)
+    (unsaid_done Verify c.verify.result _ _ (saying g.K.Sink c.verify.new.self.reply c.args.sink.now) c.verify.ensures.not_said c.verify.ensures.no_sink (c.verify.ensures.held ∙ c.requires.empty) (c.verify.ensures.does told))
 
 pub returns-in-Rebuild-clause-does : goal.returns-in-Rebuild-clause-does
 returns-in-Rebuild-clause-does g c = λ told.
