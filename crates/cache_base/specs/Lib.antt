@@ -2,6 +2,7 @@ pub mod Buffer
 pub mod Bytes
 pub mod Causes
 pub mod Checks
+pub mod Items
 pub mod Limits
 pub mod Names
 pub mod Numbers

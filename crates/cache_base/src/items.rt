@@ -75,6 +75,13 @@ impl<T: Drop> Items<T> {
         self.items.push(x)?;
         Ok(())
     }
+
+    /// Makes the list empty. It keeps its memory.
+    pub fn clear(&mut self)
+        ensures { self.new ≡ [] }
+    {
+        self.items.clear();
+    }
 }
 
 /// Bytes.
@@ -90,6 +97,10 @@ pub type Names = Items<Name>;
 pub type Numbers = Items<u32>;
 
 impl Items<u8> {
+    ghost use Rattle.std.specs.Prelude.{length, replicate, take, ◌-◌};
+    ghost use Rattle.std.specs.Borrow.{sem};
+    ghost use Rattle.cache_base.specs.Items.{LendsItems};
+
     /// Adds bytes at the end, or leaves the list as it was.
     pub fn extend(&mut self, b: &[u8]) -> Result<(), NoMemory>
         ensures ok { OnOk result (self.new ≡ self.old ++ b.now) }
@@ -106,6 +117,23 @@ impl Items<u8> {
     {
         let digits = n.to_string(alloc)?;
         self.extend(digits.as_bytes())
+    }
+
+    /// Cuts the list to `n` bytes, or fills it up to `n` with zero bytes, or leaves it as it was.
+    pub fn set_len(&mut self, n: usize) -> Result<(), NoMemory>
+        ensures ok { OnOk result (self.new ≡ take n self.old ++ replicate (n - length self.old) 0) }
+        ensures err { OnErr result (self.new ≡ self.old) }
+    {
+        self.items.resize(n, 0)?;
+        Ok(())
+    }
+
+    /// Lends the bytes to be written in place, as by a read from a file: call `set_len` first.
+    pub fn as_mut_slice(&mut self) -> &mut [u8]
+        ensures* writes_back { sem 𝓛 (LendsItems self.entry result) }
+        ensures value { result.now ≡ self.old }
+    {
+        self.items.as_mut_slice()
     }
 }
 

@@ -33,7 +33,7 @@ same_bytes : (a b : List ℕ) → bytes_eq a b ≡ true → a ≡ b
 same_bytes a b e = (bytes_eq-Decides a b).0 e
 
 -- a name is among the keys of a table exactly where the table has something under it
-has_key : {X : Type 0} (t : Table X) (name : Name) → has_name (map name_of (keys t)) name ≡ is_some (get t name.0)
+pub has_key : {X : Type 0} (t : Table X) (name : Name) → has_name (map name_of (keys t)) name ≡ is_some (get t name.0)
 has_key [] name = refl
 has_key (e ∷ es) name = elim (eq_by_cmp bytes_cmp name.0 e.0) as (λ b. (b || has_name (map name_of (keys es)) name) ≡ is_some (cond b (Some e.1) (get es name.0))) [ true ↦ refl | false ↦ has_key es name ]
 

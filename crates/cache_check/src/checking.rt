@@ -4,12 +4,10 @@ ghost use Rattle.std.specs.BTreeSet.{contains as contains_of};
 ghost use Rattle.std.specs.Prelude.{◌≡◌, ◌++◌, IfOk, OnOk, IsTrue, IsErrOf, true};
 ghost use Rattle.cache_base.specs.Causes.{HasCause};
 ghost use Rattle.cache_base.specs.Names.{AreRising, name_cmp};
-ghost use Rattle.cache_base.specs.declared.name.Name.{Name as AName};
 ghost use Rattle.cache_check.specs.Findings.{AreFindings, findings as findings_in};
 ghost use Rattle.disk_model.specs.Account.{Looks, ending};
 ghost use Rattle.disk_model.specs.State.{standing};
 ghost use Rattle.entry_file.specs.Looks.{Looks as LooksAtMost};
-ghost use Rattle.evictor.specs.Evict.{has_name};
 ghost use Rattle.index_theory.specs.Ever.{entries_on};
 ghost use Rattle.record_list.specs.Lists.{AreRising as AreByName, HasNames};
 ghost use Rattle.cache_check.specs.Checks as spec;
@@ -18,23 +16,13 @@ ghost use Rattle.cache_check.specs.Rows as rows;
 use crate::FindingList;
 use crate::entry::{add_compared, check_entry};
 use crate::rows::{Row, first_row, rest_of};
-use cache_base::{Buffer, Name, Names, NoMemory};
+use cache_base::{Buffer, Name, Names};
 use disk_model::{Disk, DiskFault};
+use evictor::name_set;
 use index_record::{IndexRecord, Records};
 use record_list::by_name;
 use std::alloc::Global;
 use std::collections::BTreeSet;
-
-// The names as a set, in which each name is looked up.
-fn name_set(alloc: Global, names: &[Name]) -> Result<BTreeSet<Name>, NoMemory>
-    ensures { IfOk result (λ set. (q : AName) → contains_of name_cmp set q ≡ has_name names.now q) }
-{
-    let mut set = BTreeSet::new(alloc);
-    for name in names {
-        set.insert(*name)?;
-    }
-    Ok(set)
-}
 
 // Adds what is wrong under the name of a row.
 fn check_row<D: Disk>(

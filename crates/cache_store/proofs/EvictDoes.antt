@@ -6,10 +6,10 @@ use Rattle.std.specs.Str.{bytes_eq}
 use Rattle.std.proofs.lemmas.Bool.{or_cases, or_left, or_right}
 use Rattle.cache_base.specs.declared.name.Name.{Name}
 use Rattle.cache_store.specs.Answering.{AnswersTo, outcome_in, outcome_of}
-use Rattle.cache_store.specs.DoneFor.{IsDoneFor}
+use Rattle.cache_store.specs.DoneFor.{IsDoneBy}
 use Rattle.cache_store.specs.Evicting.{AreVictims, DoomsAll, Forgets, has_file}
 use Rattle.cache_store.specs.Open.{KeepsWhere, Tells}
-use Rattle.cache_store.specs.Performing.{Does, DoesWhatIsDone}
+use Rattle.cache_store.specs.Performing.{GoesBy, Does, DoesWhatIsDone}
 use Rattle.cache_store.specs.Said.{Saying}
 use Rattle.cache_store.specs.Saying.{CutsIn, SaysMore}
 use Rattle.cache_store.specs.declared.answered.Answered.{Answered}
@@ -20,9 +20,10 @@ use Rattle.cache_store.specs.declared.memory_index.MemoryIndex.{MemoryIndex}
 use Rattle.cache_store.proofs.Forgotten.{forgotten_tells}
 use Rattle.cache_store.proofs.IndexAchieves.{begun_spared, comes_from, goes_on_telling, session_at, spares_same}
 use Rattle.cache_store.proofs.LearntAchieves.{holds_on}
-use Rattle.cache_store.proofs.ListDoes.{Finishes, records_are}
+use Rattle.cache_store.proofs.ListDoes.{Finishes}
 use Rattle.cache_store.proofs.NamesDoomed.{not_in_use, shelf_there}
 use Rattle.cache_store.proofs.NothingDoomed.{IsBare, those_standing}
+use Rattle.cache_store.proofs.RecordsAtEnd.{goes_by, some_at_end, sorted_at_end}
 use Rattle.cache_store.proofs.SaidWhole.{fails_unsaid, if_err, on_ok, whole_cut, whole_said}
 use Rattle.cache_store.proofs.Spared.{rested_in}
 use Rattle.cache_store.proofs.VictimsApart.{all_filtered, victims_unused}
@@ -50,8 +51,8 @@ use Rattle.file_handles.specs.Users.{users_of}
 use Rattle.file_handles.proofs.Begun.{begun_in}
 use Rattle.file_handles.proofs.User.{no_one}
 use Rattle.file_handles.proofs.Where.{stand_for}
+use Rattle.index_theory.specs.Ever.{entries_on}
 use Rattle.index_theory.specs.Leaves.{LeavesIndex}
-use Rattle.index_theory.specs.Scan.{scan}
 use Rattle.index_update.specs.Rest.{name_bytes}
 use Rattle.index_update.proofs.ReadMore.{base_then}
 use Rattle.record_list.proofs.NameLaws.{same_itself}
@@ -105,11 +106,11 @@ pub evict_looks : (kb : ℕ) (answer : Result Answered StoreFault) (P : StoreFau
     → (k : Kept) (now : ℕ) (s t : State) (old new : MemoryIndex) (was : Saying) → t ≡ s
     → DoesWhatIsDone (Evict kb) answer (session_at k now old s) (session_at k now new t) was.taken was
 evict_looks kb answer P failed other k now s t old new was same crash h is =
-    let records = scan h.machine.shelf in
-    let done : Command = EvictNames (victims records (open_names h.machine) kb) in (
+    let records = some_at_end (entries_on s) old in
+    let done : Command = EvictNames (victims records.0 (open_names h.machine) kb) in (
       done,
       (
-        (records, (refl, λ told. refl)),
+        (records.0, (refl, goes_by k now s old h.machine (stand_for is.stands) records.0 records.1)),
         fails_unsaid crash done h answer P failed other (session_at k now old s) (session_at k now new t) was
             (λ on. ((begun_spared done (session_at k now old s) t h is (λ apart. spares_same s t same)).crash_kept on).safe),
       ),
@@ -139,12 +140,15 @@ module _ (kb : ℕ) (k l : Kept) (now : ℕ) (s t u : State) (old mid : MemoryIn
     stand : CacheRepresents (cache_at k s) h.machine
     stand = stand_for is.stands
 
-    -- the names are the victims of the records in memory, which are the machine's where they tell
-    done_is : IsDoneFor (Tells (session_at k now old s) h.machine) (Evict kb) h.machine (EvictNames names)
+    -- the names are the victims of the records in memory
+    done_is : IsDoneBy (GoesBy (session_at k now old s) h.machine) (Evict kb) h.machine (EvictNames names)
     done_is =
         let opened : are.in_use ≡ open_names h.machine = are.opened h.machine stand.0 stand.1.proper stand.1.handles in (
           are.records,
-          (ap EvictNames (are.chosen ∙ ap (λ ns. victims are.records ns kb) opened), λ tells. records_are k now s t old mid finishes h.machine are.records are.known are.by_name stand tells.tells),
+          (
+            ap EvictNames (are.chosen ∙ ap (λ ns. victims are.records ns kb) opened),
+            goes_by k now s old h.machine stand are.records (sorted_at_end (entries_on s) old mid.map are.records are.known are.by_name finishes.records),
+          ),
         )
 
     -- the update has ended, and the eviction has begun

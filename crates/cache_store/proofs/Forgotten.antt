@@ -8,6 +8,7 @@ use Rattle.cache_store.specs.declared.memory_index.MemoryIndex.{MemoryIndex}
 use Rattle.cache_theory.specs.Laws.{AreTakenOff, is_among}
 use Rattle.cache_theory.specs.Machine.{Machine}
 use Rattle.cache_theory.specs.Table.{get}
+use Rattle.cache_theory.proofs.Evicting.{off_either}
 use Rattle.index_map.specs.Known.{Known, Sets}
 use Rattle.index_record.specs.declared.record.IndexRecord.{IndexRecord}
 use Rattle.index_theory.specs.Scan.{record_of, scanned}
@@ -23,12 +24,6 @@ ForgetsRest left names before now = (new : Known) → Forgets left now new → F
 
 pub forgets_all : (names : List Name) (now : Known) → ForgetsRest names names now now
 forgets_all names now new forgets = forgets
-
-off_either : {X : Type 0} (a b : Bool) (o : Option X) → cond b None (cond a None o) ≡ cond (a || b) None o
-off_either true true o = refl
-off_either true false o = refl
-off_either false true o = refl
-off_either false false o = refl
 
 module _ (name : Name) (left : List Name) where
   -- what is out with the first and with those left

@@ -24,6 +24,7 @@ pub mod Opened
 pub mod OpenedIndex
 pub mod PartRead
 pub mod PartWhole
+pub mod ReadsHeld
 pub mod PastHeader
 pub mod PerformDoes
 pub mod PerformOpen
@@ -31,12 +32,14 @@ pub mod PerformStands
 pub mod PerformSteps
 pub mod PerformWhole
 pub mod PrintedLaws
+pub mod RecordsAtEnd
 pub mod ReplyLaws
 pub mod Represented
 pub mod RestIsOne
 pub mod SaidFront
 pub mod SaidMore
 pub mod SaidWhole
+pub mod SameTotals
 pub mod SayingLaws
 pub mod ScanAlike
 pub mod ScanBegins
@@ -47,5 +50,6 @@ pub mod StartAlong
 pub mod TakenMore
 pub mod TellsAlike
 pub mod Unsaid
+pub mod UpdateOver
 pub mod VerifyDoes
 pub mod VictimsApart

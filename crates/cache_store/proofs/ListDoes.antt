@@ -6,7 +6,7 @@ use Rattle.cache_store.specs.Faults.{of_disk}
 use Rattle.cache_store.specs.Kept.{HoldsIndex}
 use Rattle.cache_store.specs.Open.{KeepsWhere}
 use Rattle.cache_store.specs.Performing.{DoesFor}
-use Rattle.cache_store.specs.Records.{TellsOf}
+use Rattle.cache_store.specs.Records.{EndsWith, TellsOf}
 use Rattle.cache_store.specs.Said.{Saying}
 use Rattle.cache_store.specs.Saying.{CutsIn, SaysMore}
 use Rattle.cache_store.specs.declared.answered.Answered.{Answered}
@@ -70,6 +70,7 @@ pub record Finishes (s t : State) (old new : MemoryIndex) : Type 0 where
   pub same : t ≡ s
   pub ended : new.update ≡ []
   pub base : SameBase old.map new.map
+  pub records : EndsWith (entries_on s) old new.map.records
   pub tells : TellsOf (entries_on s) old → TellsOf (entries_on s) new
 
 module _ (k : Kept) (now : ℕ) (s t : State) (old new : MemoryIndex) (finishes : Finishes s t old new) where

@@ -9,6 +9,7 @@ use Rattle.cache_theory.specs.Stands.{DoomedStand, IsHeldDoomed}
 use Rattle.cache_theory.proofs.EntryFiles.{entry_along}
 use Rattle.disk_model.specs.Image.{Files}
 use Rattle.disk_model.specs.State.{State, standing}
+use Rattle.file_handles.proofs.HeldChunkLaws.{chunks_on}
 use Rattle.file_handles.specs.Cache.{Cache}
 use Rattle.file_handles.specs.Kept.{Kept}
 use Rattle.file_handles.specs.Stands.{HandlesStand, IsAt, KeepsWhere}
@@ -32,6 +33,7 @@ module _ (m : Machine) (now : ℕ) (rest : List (List ℕ)) where
         let old = stand.objects p x at in
         record { in_use = record { number = old.in_use.number; slots = old.in_use.slots }; as_held = old.as_held };
     apart = stand.apart;
+    chunks = chunks_on k k m (with_both m now rest) number (λ q y at. at) (λ q y at. at) (λ i. refl) refl refl refl stand.chunks;
   }
 
   both_doomed : (files : Files) (At : ℕ → ℕ → Type 0) → DoomedStand files m At → DoomedStand files (with_both m now rest) At

@@ -1,5 +1,5 @@
 -- Where nothing stands under a name and no object of it is in use, there is nothing to doom.
-use Rattle.std.proofs.Common.{◌≡◌, inl, inr, ℕ, Bool, true, false, cond, List, [], ◌∷◌, None, filter, refl, sym, ap, ◌∙◌}
+use Rattle.std.proofs.Common.{◌≡◌, ℕ, Bool, true, false, cond, List, [], ◌∷◌, None, filter, refl, sym, ap, ◌∙◌}
 use Rattle.std.specs.List.{AllByRecursion}
 use Rattle.cache_base.specs.declared.name.Name.{Name}
 use Rattle.cache_theory.specs.Machine.{Machine}
@@ -7,21 +7,8 @@ use Rattle.cache_theory.specs.Proper.{IsProper}
 use Rattle.cache_theory.specs.Step.{all_doomed, doomed_at, doomed_under, without}
 use Rattle.cache_theory.specs.Table.{IsTable, Table, get, remove}
 use Rattle.cache_theory.proofs.Dooming.{proper_doomed_under}
-use Rattle.cache_theory.proofs.Evicting.{all_weaker}
-use Rattle.cache_theory.proofs.Names.{get-remove_other, get-remove_same, one_name}
+use Rattle.cache_theory.proofs.Evicting.{all_weaker, none_after, same_after}
 use Rattle.cache_theory.proofs.TableLaws.{remove_is_table, same_table}
-
-none_after : {X : Type 0} (t : Table X) (gone q : List ℕ) → get t q ≡ None → get (remove t gone) q ≡ None
-none_after t gone q none = elim (one_name gone q) [
-  | inl same ↦ get-remove_same t gone q same
-  | inr other ↦ get-remove_other t gone q other ∙ none
-]
-
-same_after : {X : Type 0} (t : Table X) (gone q : List ℕ) → get t gone ≡ None → get (remove t gone) q ≡ get t q
-same_after t gone q none = elim (one_name gone q) [
-  | inl same ↦ get-remove_same t gone q same ∙ sym none ∙ ap (get t) same
-  | inr other ↦ get-remove_other t gone q other
-]
 
 remove_none : {X : Type 0} (t : Table X) (name : List ℕ) → IsTable t → get t name ≡ None → remove t name ≡ t
 remove_none t name is none = same_table (remove t name) t (remove_is_table t name is) is (λ q. same_after t name q none)

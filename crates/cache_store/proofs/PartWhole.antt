@@ -3,12 +3,7 @@ use Rattle.std.proofs.Common.{◌≡◌, ◌∙◌, ℕ, ◌+◌, ◌-◌, ◌%�
 use Rattle.std.proofs.lemmas.List.{drop-drop, length-take, take_all, take_min}
 use Rattle.std.proofs.Math.Seq.{take-add}
 use Rattle.std.specs.declared.option.Option.{Option}
-use Rattle.cache_theory.specs.Machine.{Machine}
-use Rattle.disk_model.specs.State.{State}
-use Rattle.file_handles.specs.Cache.{Cache, cache_at}
-use Rattle.file_handles.specs.Kept.{Kept}
 use Rattle.file_handles.specs.Reading.{part_of_body}
-use Rattle.file_handles.specs.Stands.{Represents}
 use Rattle.cache_store.specs.Said.{Saying}
 use Rattle.cache_store.specs.Saying.{SaysMore, StopsIn}
 use Rattle.cache_store.proofs.SayingLaws.{says_then, stops_front, stops_then}
@@ -67,8 +62,3 @@ module _ (body : List ℕ) (from len done : ℕ) where
 
   pub says_with_part : (n : ℕ) → n ≡ length part → (a b c : Saying) → SaysMore a b so_far → SaysMore b c part → SaysMore a c (take (done + n) (drop from body))
   says_with_part n is a b c says more = subst (λ (t : List ℕ). SaysMore a c t) (more_is n is) (says_then a b c so_far part says more)
-
--- what the handles and the disk represent, they represent when both are the same
-pub represents_same : (at after : Cache) (m : Machine) → after.disk ≡ at.disk → after.handles ≡ at.handles → Represents at m → Represents after m
-represents_same at after m of_disk of_kept represents =
-    subst (λ (x : State). Represents (cache_at after.handles x) m) (sym of_disk) (subst (λ (x : Kept). Represents (cache_at x at.disk) m) (sym of_kept) represents)

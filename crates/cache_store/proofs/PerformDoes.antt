@@ -13,13 +13,15 @@ use Rattle.cache_theory.specs.Proper.{IsProper}
 use Rattle.cache_theory.specs.Step.{effect, state_reply, step}
 use Rattle.cache_theory.proofs.Proper.{stays_proper}
 use Rattle.disk_model.specs.State.{State}
+use Rattle.file_handles.specs.Cache.{cache_at}
+use Rattle.file_handles.specs.Kept.{Kept}
 use Rattle.file_handles.specs.Stands.{KeepsWhere as CacheKeepsWhere}
 use Rattle.file_handles.proofs.Begun.{begun_in}
 use Rattle.index_update.specs.Rest.{name_bytes}
 use Rattle.cache_store.specs.Answering.{AnswersFor, AnswersTo, HasOutcome, outcome_of}
-use Rattle.cache_store.specs.DoneFor.{IsDoneFor}
+use Rattle.cache_store.specs.DoneFor.{IsDoneBy}
 use Rattle.cache_store.specs.Open.{KeepsWhere, Tells}
-use Rattle.cache_store.specs.Performing.{Achieves, AchievesFor, AchievesWhatIsDone, ComesToTell, Does, DoesFor, DoesWhatIsDone, IsReply}
+use Rattle.cache_store.specs.Performing.{GoesBy, Achieves, AchievesFor, AchievesWhatIsDone, ComesToTell, Does, DoesFor, DoesWhatIsDone, IsReply}
 use Rattle.cache_store.specs.Records.{AnswersHas}
 use Rattle.cache_store.specs.Replied.{replied, reply_of}
 use Rattle.cache_store.specs.Said.{Saying}
@@ -81,24 +83,40 @@ module _ (c : Command) (reads : IsReading c) where
   reading_tells : (m : Machine) (before : Session) → ComesToTell c before m → Tells before (step m c).next
   reading_tells m before comes = subst (Tells before) (sym (reading_next m c reads)) (⊎_elim (λ tells. tells) (λ same. absurd (subst IsReading same reads)) comes)
 
-  pub reading_does : (answer : Result Answered StoreFault) (before after : Session) (out : Option (List ℕ)) (now : Saying) → after.disk ≡ before.disk → after.open_store ≡ before.open_store
+  -- one whose handles then stand for what they stood for
+  pub reading_does_with : (answer : Result Answered StoreFault) (before after : Session) (handles : Kept) (out : Option (List ℕ)) (now : Saying) → after.disk ≡ before.disk
+      → after.open_store ≡ record before.open_store { handles = handles } → ((b : Bool) (h : History) → CacheKeepsWhere b (cache_of before) h → CacheKeepsWhere b (cache_at handles before.disk) h)
       → AnswersFor (cache_of before) c answer out now → DoesFor c answer before after out now
-  reading_does answer before after out now same_disk same_open answers b h is =
+  reading_does_with answer before after handles out now same_disk same_open goes_on answers b h is =
       subst (λ (s : State). Does b c h answer before (record { open_store = after.open_store; disk = s }) out now) (sym same_disk)
       (subst (λ (o : Open). Does b c h answer before (record { open_store = o; disk = before.disk }) out now) (sym same_open) (record {
         safe = λ on. (begun_is.crash_kept on).safe;
         answers = λ may. said;
         outcome = said.outcome;
-        next = when_ok answer _ (reading_keeps h before is);
-        effect = if_sink answer (reading_keeps h before is);
+        next = when_ok answer _ (reading_keeps h then then_is);
+        effect = if_sink answer (reading_keeps h then then_is);
         tells = λ had. reading_tells h.machine before;
       }))
     where
+      then : Session
+      then = record { open_store = record before.open_store { handles = handles }; disk = before.disk }
+
+      then_is : KeepsWhere b then h
+      then_is = record {
+        stands = goes_on b h is.stands;
+        matches = record { moment = is.matches.moment; rest = is.matches.rest; holds = is.matches.holds };
+      }
+
       begun_is : CacheKeepsWhere b (cache_of before) (begun c h)
       begun_is = begun_in before.disk before.open_store.handles h.machine c h.marks is.stands
 
       said : AnswersTo (step h.machine c).reply answer out now
       said = answers h.machine (represented is).stands
+
+  pub reading_does : (answer : Result Answered StoreFault) (before after : Session) (out : Option (List ℕ)) (now : Saying) → after.disk ≡ before.disk → after.open_store ≡ before.open_store
+      → AnswersFor (cache_of before) c answer out now → DoesFor c answer before after out now
+  reading_does answer before after out now same_disk same_open =
+      reading_does_with answer before after before.open_store.handles out now same_disk same_open (λ b h is. is)
 
   -- one that only reads the index in memory
   index_achieves : (a : Answered) (before : Session) → ((b : Bool) (h : History) → KeepsWhere b before h → IfSome (reply_of a) (IsReply c before h.machine)) → AchievesFor c (Ok a) before before
@@ -167,5 +185,5 @@ by_name c d answer before after out now same does = subst (λ (k : Command). Doe
 
 -- for one that is no eviction and no check it is the command itself
 pub as_command : (c d : Command) (answer : Result Answered StoreFault) (before after : Session) (out : Option (List ℕ)) (now : Saying) → c ≡ d
-    → ((m : Machine) → IsDoneFor (Tells before m) d m d) → DoesFor d answer before after out now → DoesWhatIsDone c answer before after out now
+    → ((m : Machine) → IsDoneBy (GoesBy before m) d m d) → DoesFor d answer before after out now → DoesWhatIsDone c answer before after out now
 as_command c d answer before after out now same own does = by_name c d answer before after out now same (λ b h is. (d, (own h.machine, does b h is)))

@@ -13,7 +13,8 @@ use Rattle.cache_store.specs.declared.fault.StoreFault.{StoreFault}
 use Rattle.cache_store.specs.declared.memory_index.MemoryIndex.{MemoryIndex}
 use Rattle.cache_store.proofs.FoundOnShelf.{found_on_shelf}
 use Rattle.cache_store.proofs.IndexAchieves.{RestsWith, comes_from, fails_sparing, goes_on_telling, holds_same_base, rests_achieves, session_at, spares_same}
-use Rattle.cache_store.proofs.ListDoes.{Finishes, records_are}
+use Rattle.cache_store.proofs.ListDoes.{Finishes}
+use Rattle.cache_store.proofs.RecordsAtEnd.{goes_by, some_at_end, sorted_at_end}
 use Rattle.cache_theory.specs.Checks.{checks}
 use Rattle.cache_theory.specs.Command.Command.{Verify, VerifyRecords}
 use Rattle.cache_theory.specs.Command.Reply.{Findings}
@@ -29,7 +30,6 @@ use Rattle.file_handles.proofs.Where.{stand_for}
 use Rattle.index_map.specs.Known.{IsKnown}
 use Rattle.index_record.specs.declared.record.IndexRecord.{IndexRecord}
 use Rattle.index_theory.specs.Ever.{entries_on}
-use Rattle.index_theory.specs.Scan.{scan}
 use Rattle.index_update.specs.Rest.{name_bytes}
 use Rattle.record_list.specs.Lists.{IsByName}
 
@@ -51,11 +51,11 @@ pub verify_fails : (answer : Result Answered StoreFault) (P : StoreFault → Typ
     → (k : Kept) (now : ℕ) (s t : State) (old new : MemoryIndex) → t ≡ s
     → AchievesWhatIsDone Verify answer (session_at k now old s) (session_at k now new t)
 verify_fails answer P failed k now s t old new same crash h is =
-    let records = scan h.machine.shelf in (
-      VerifyRecords records,
+    let records = some_at_end (entries_on s) old in (
+      VerifyRecords records.0,
       (
-        (records, (refl, λ told. refl)),
-        fails_sparing (VerifyRecords records) answer P (session_at k now old s) (session_at k now new t) failed
+        (records.0, (refl, goes_by k now s old h.machine (stand_for is.stands) records.0 records.1)),
+        fails_sparing (VerifyRecords records.0) answer P (session_at k now old s) (session_at k now new t) failed
             (λ apart. spares_same s t same) crash h is,
       ),
     )
@@ -79,7 +79,7 @@ module _ (k : Kept) (now : ℕ) (s t : State) (old new : MemoryIndex) (finishes 
   verify_does crash h is = (
     VerifyRecords records,
     (
-      (records, (refl, λ told. records_are k now s t old new finishes h.machine records known by (stand_for is.stands) told.tells)),
+      (records, (refl, goes_by k now s old h.machine (stand_for is.stands) records (sorted_at_end (entries_on s) old new.map records known by finishes.records))),
       rests_achieves (VerifyRecords records) (λ m. []) (verify_rests records) k now s t old new (answered.Checked found)
           (λ apart. spares_same s t finishes.same)
           (λ holds. subst (λ (u : State). HoldsIndex u new.map) (sym finishes.same) (holds_same_base s old.map new.map finishes.base holds))

@@ -1,12 +1,16 @@
 -- How entries are evicted by the records in memory.
 use Rattle.std.specs.List.{AllByRecursion, IsDistinct}
-use Rattle.std.specs.Prelude.{Bool, IsSome, List, None, Result, false, filter, if◌then◌else◌, is_some, true, ℕ, ◌≡◌}
+use Rattle.std.specs.Prelude.{Bool, IsSome, IsTrue, List, None, Result, false, filter, if◌then◌else◌, is_some, true, ℕ, ⊤, ◌≡◌, ◌⊎◌}
 use Rattle.cache_base.specs.declared.name.Name.{Name}
+use Rattle.cache_theory.specs.Command.{Command}
+use Rattle.cache_theory.specs.Command.Command.{Evict}
 use Rattle.cache_theory.specs.History.{History}
 use Rattle.cache_theory.specs.Laws.{is_among}
 use Rattle.cache_theory.specs.Marks.{is_touched}
 use Rattle.cache_theory.specs.Step.{all_doomed}
+use Rattle.disk_model.specs.Account.{Ending}
 use Rattle.disk_model.specs.State.{State, standing}
+use Rattle.disk_model.specs.declared.disk.Disk.{Ghosts}
 use Rattle.disk_model.specs.declared.disk.DiskFault.{DiskFault}
 use Rattle.disk_model.specs.declared.place.Place.TheVariants.{Entry}
 use Rattle.evictor.specs.Evict.{has_name, victims}
@@ -60,3 +64,15 @@ pub record Forgets (names : List Name) (old new : Known) : Type 0 where
   pub seen : (q : Name) → record_at new.seen q
       ≡ (if is_among q.0 names then None else record_at old.seen q)
   pub base : SameBase old new
+
+-- the command evicts by the records
+abbrev pub IsEviction : Command → Type 0
+IsEviction (Evict kb) = ⊤
+IsEviction _ = ⊥
+
+-- every look at the disk, the list of its files too, stands before the first change: where the disk failed, it holds the
+-- same as before, or its last call was a change that failed. Memory may run out later, in a removal or with the reply
+abbrev pub LooksBeforeChanges : {Self : _} → Ghosts Self → Ending → Self → Self → Type 0
+LooksBeforeChanges D answer before now =
+    answer ≡ Ending.OneFailed → IsTrue D.tells
+    → (D.state now ≡ D.state before) ⊎ ((D.counts now).failed.change ≡ (D.counts now).calls)

@@ -1,5 +1,6 @@
 pub mod Answering
 pub mod DoneFor
+pub mod EndsUpdate
 pub mod EntryText
 pub mod Evicting
 pub mod Faults
@@ -12,6 +13,7 @@ pub mod Performing
 pub mod Prefix
 pub mod Printed
 pub mod Records
+pub mod Reads
 pub mod Replied
 pub mod Said
 pub mod Saying

@@ -2,8 +2,9 @@
 use Rattle.std.specs.Prelude.{Bool, Err, IfErr, IfOk, IfSome, IsTrue, List, Ok, OnErr, OnOk, Option, Result, false, true, ℕ, ⊤, ◌≡◌, ◌⊎◌}
 use Rattle.std.specs.Io.KnownBytes.{Appends}
 use Rattle.cache_store.specs.Answering.{AnswersTo, outcome_in, outcome_of}
-use Rattle.cache_store.specs.DoneFor.{DoneFor}
+use Rattle.cache_store.specs.DoneFor.{DoneBy}
 use Rattle.cache_store.specs.Open.{KeepsTo, KeepsWhere, Represents, Tells}
+use Rattle.cache_store.specs.Records.{AreAtEnd}
 use Rattle.cache_store.specs.Replied.{replied}
 use Rattle.cache_store.specs.Said.{IsCut, Saying}
 use Rattle.cache_store.specs.Session.{Session}
@@ -18,6 +19,9 @@ use Rattle.cache_theory.specs.History.{History, acked, begun, unanswered as left
 use Rattle.cache_theory.specs.Machine.{Machine}
 use Rattle.cache_theory.specs.Step.{step}
 use Rattle.cache_theory.specs.Text.{reply_text}
+use Rattle.index_record.specs.declared.record.IndexRecord.{IndexRecord}
+use Rattle.index_theory.specs.Ever.{entries_on}
+use Rattle.index_theory.specs.Scan.{scan}
 
 -- the reply goes by the records in memory
 abbrev pub goes_by_records : Command → Bool
@@ -34,6 +38,12 @@ MayTell c now m = IsTrue (goes_by_records c) → Tells now m
 -- the records are right afterwards: they were so before, or they are read anew
 abbrev pub ComesToTell : Command → Session → Machine → Type 0
 ComesToTell c now m = Tells now m ⊎ (c ≡ Rebuild)
+
+-- an eviction or a check goes by these records: those in memory once the update has ended, which are those of all entries
+-- where they were right
+pub record GoesBy (before : Session) (m : Machine) (records : List IndexRecord) : Type 0 where
+  pub in_memory : AreAtEnd (entries_on before.disk) before.open_store.index records
+  pub right : Tells before m → records ≡ scan m.shelf
 
 -- the command has had its effect: there is an outcome, or the sink failed
 abbrev pub HadEffect : {T : Type 0} → Result T StoreFault → Type 0
@@ -78,9 +88,9 @@ pub record PerformsAndKeeps (c : Command) (h : History) (answer : Result Outcome
 pub record PerformsFor (c : Command) (answer : Result Outcome StoreFault) (before after : Session)
     (taken now : Option (List ℕ)) : Type 0 where
   pub answers : (m : Machine) → Represents before m
-      → DoneFor (Tells before m) c m (λ d. Performs d m answer before after taken now)
+      → DoneBy (GoesBy before m) c m (λ d. Performs d m answer before after taken now)
   pub crash : (h : History) → KeepsTo before h
-      → DoneFor (Tells before h.machine) c h.machine (λ d. PerformsAndKeeps d h answer before after taken now)
+      → DoneBy (GoesBy before h.machine) c h.machine (λ d. PerformsAndKeeps d h answer before after taken now)
 
 -- the reply of which nothing is said yet is the machine's
 pub record IsReply (c : Command) (before : Session) (m : Machine) (r : Reply) : Type 0 where
@@ -103,7 +113,7 @@ AchievesFor c answer before after =
 abbrev pub AchievesWhatIsDone : Command → Result Answered StoreFault → Session → Session → Type 0
 AchievesWhatIsDone c answer before after =
     (crash : Bool) (h : History) → KeepsWhere crash before h
-    → DoneFor (Tells before h.machine) c h.machine (λ d. Achieves crash d h answer before after)
+    → DoneBy (GoesBy before h.machine) c h.machine (λ d. Achieves crash d h answer before after)
 
 -- for a history: what the command does before its reply is out whole, with and without a crash
 pub record Does (crash : Bool) (c : Command) (h : History) (answer : Result Answered StoreFault)
@@ -125,4 +135,4 @@ abbrev pub DoesWhatIsDone : Command → Result Answered StoreFault → Session �
     → Option (List ℕ) → Saying → Type 0
 DoesWhatIsDone c answer before after taken now =
     (crash : Bool) (h : History) → KeepsWhere crash before h
-    → DoneFor (Tells before h.machine) c h.machine (λ d. Does crash d h answer before after taken now)
+    → DoneBy (GoesBy before h.machine) c h.machine (λ d. Does crash d h answer before after taken now)

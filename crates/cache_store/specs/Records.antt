@@ -1,5 +1,5 @@
 -- What the records in memory say of the entries.
-use Rattle.std.specs.Prelude.{List, None, Some, [], ℕ, ◌≡◌}
+use Rattle.std.specs.Prelude.{List, None, Some, [], ℕ, ◌≡◌, ◌≢◌}
 use Rattle.cache_base.specs.declared.name.Name.{Name}
 use Rattle.cache_store.specs.Replied.{reply_of}
 use Rattle.cache_store.specs.declared.answered.Answered.{Answered}
@@ -11,11 +11,13 @@ use Rattle.cache_theory.specs.Table.{get}
 use Rattle.file_handles.specs.Effects.{once, rest_once}
 use Rattle.file_handles.specs.declared.fault.Effect.{Effect}
 use Rattle.index_map.specs.Known.{Known, SameBase}
+use Rattle.index_record.specs.declared.record.IndexRecord.{IndexRecord}
 use Rattle.index_theory.specs.Ever.{Entries}
 use Rattle.index_theory.specs.Scan.{scanned}
+use Rattle.index_update.specs.Reads.{ReadsIn}
 use Rattle.index_update.specs.Rest.{name_bytes, without}
 use Rattle.index_update.specs.Tells.{TellsAll, TellsSeen}
-use Rattle.record_list.specs.Lists.{record_at}
+use Rattle.record_list.specs.Lists.{AreRising, record_at}
 
 -- the record that was seen of each name outside the rest is that of the entry, and none where no entry fits; once the
 -- update has ended so is each record
@@ -53,3 +55,20 @@ pub record RecordsTell (index : MemoryIndex) (m : Machine) : Type 0 where
 abbrev pub AnswersHas : List ℕ → MemoryIndex → Answered → Type 0
 AnswersHas key index a =
     (m : Machine) → RecordsTell index m → reply_of a ≡ Some (step m (HasEntry key)).reply
+
+-- the records in memory once the update has ended: where it had ended, those of the map; and else those that were seen,
+-- with the records of the entries whose names were left to read
+pub record EndsWith (es : Entries) (index : MemoryIndex) (records : List IndexRecord) : Type 0 where
+  pub ended : index.update ≡ [] → (name : Name) → record_at records name ≡ record_at index.map.records name
+  pub read : index.update ≢ [] → ReadsIn es index.update index.map.seen records
+
+-- just those, in name order
+pub record AreAtEnd (es : Entries) (index : MemoryIndex) (records : List IndexRecord) : Type 0 where
+  pub rising : AreRising records
+  pub same : EndsWith es index records
+
+-- so there is one such list
+abbrev pub AtEndIsOne : Type 0
+AtEndIsOne =
+    (es : Entries) (index : MemoryIndex) (rs more : List IndexRecord)
+    → AreAtEnd es index rs → AreAtEnd es index more → rs ≡ more

@@ -1,17 +1,19 @@
 //! Performs one command, and writes its reply.
 
-ghost use Rattle.std.specs.Prelude.{◌≡◌, ◌≢◌, ◌<◌, [], Err, Ok, true, false, IfOk, IfSome, IsErrOf, IsTrue, OnErr, OnOk, codes};
+ghost use Rattle.std.specs.Prelude.{ℕ, ◌≡◌, ◌≢◌, ◌<◌, [], Err, Ok, true, false, IfOk, IfSome, IsErrOf, IsTrue, OnErr, OnOk, codes};
 ghost use Rattle.cache_base.specs.Causes.{HasCause};
 ghost use Rattle.cache_base.specs.declared.limits.TheConstants.{SLOTS};
 ghost use Rattle.cache_script.specs.Command.{command_of};
 ghost use Rattle.cache_store.specs.Answering.{outcome_in, rest_of};
+ghost use Rattle.cache_store.specs.Evicting.{IsEviction, LooksBeforeChanges};
 ghost use Rattle.cache_store.specs.Faults.{ending};
 ghost use Rattle.cache_store.specs.IndexCalls.{IsFresh, IsWritten, LooksAtNames, WritesIndex, names_read};
 ghost use Rattle.cache_store.specs.InUse.{SparesIndex};
 ghost use Rattle.cache_store.specs.Printed.{HasBadKey, IsPlain, Prints, is_check, is_plain, lists_findings};
+ghost use Rattle.cache_store.specs.Reads.{AreHeld, LastIsFirst};
 ghost use Rattle.cache_store.specs.Said.{saying};
 ghost use Rattle.cache_store.specs.Saying.{CutsIn, SaysMore, TakesMore};
-ghost use Rattle.cache_theory.specs.Command.Command.{ElementOf, Flush, Rebuild, Verify};
+ghost use Rattle.cache_theory.specs.Command.Command.{ElementOf, Flush, ReadPart, Rebuild, Verify};
 ghost use Rattle.cache_theory.specs.Given.{IsGiven};
 ghost use Rattle.cache_theory.specs.Text.{with_bytes};
 ghost use Rattle.disk_model.specs.Account.{Accounts};
@@ -182,9 +184,16 @@ impl Store {
         ensures unclean { IsTrue D.tells → IsUnclean (D.state disk.new) }
         ensures looks { IfSome (names_read (command_of c.now) self.old.index.update)
             (λ names. LooksAtNames D.Disk names disk.old disk.new) }
+        ensures looks_first { IsEviction (command_of c.now) →
+            LooksBeforeChanges D.Disk (ending result) disk.old disk.new }
         ensures flushed { command_of c.now ≡ Flush → OnOk result
             (self.new.index.update ≡ [] → IsFresh self.new.index.map) }
         ensures rebuilt { command_of c.now ≡ Rebuild → OnOk result (IsWritten self.new.index.map) }
+        ensures held { (slot from len : ℕ) → command_of c.now ≡ ReadPart slot from len →
+            AreHeld (kept self.old.handles) slot from len → disk.new ≡ disk.old }
+        ensures recent { (slot from len : ℕ) → command_of c.now ≡ ReadPart slot from len →
+            IfOk result (λ a. outcome_in a ≡ Outcome.Ok → IsTrue D.tells →
+            LastIsFirst (kept self.old.handles) slot from len (kept self.new.handles)) }
         ensures account { Accounts D.Disk (ending result) disk.old disk.new }
         ensures sink { let failed = IsErrOf result StoreFault.Sink in
             HasCause failed (K.faults sink.old) (K.faults sink.new) }
@@ -305,9 +314,19 @@ impl Store {
             (self.new.index.update ≡ [] → IsFresh self.new.index.map) }
         ensures rebuilt { command_of c.now ≡ Rebuild → OnOk result (IsWritten self.new.index.map) }
 
-        // Calls and faults. A command that goes by the index looks at an entry for no name but those that it reads.
+        // A `read` makes no call of the disk where all its chunks are held. Afterwards its last one is the most recent.
+        ensures held { (slot from len : ℕ) → command_of c.now ≡ ReadPart slot from len →
+            AreHeld (kept self.old.handles) slot from len → disk.new ≡ disk.old }
+        ensures recent { (slot from len : ℕ) → command_of c.now ≡ ReadPart slot from len →
+            result ≡ Ok Outcome.Ok → IsTrue D.tells →
+            LastIsFirst (kept self.old.handles) slot from len (kept self.new.handles) }
+
+        // Calls and faults. A command that goes by the index looks at an entry for no name but those that it reads, and
+        // an eviction looks at the disk only before its first removal.
         ensures looks { IfSome (names_read (command_of c.now) self.old.index.update)
             (λ names. LooksAtNames D.Disk names disk.old disk.new) }
+        ensures looks_first { IsEviction (command_of c.now) →
+            LooksBeforeChanges D.Disk (ending result) disk.old disk.new }
         ensures account { Accounts D.Disk (ending result) disk.old disk.new }
         ensures sink { let failed = IsErrOf result StoreFault.Sink in
             HasCause failed (K.faults sink.old) (K.faults sink.new) }

@@ -4,7 +4,7 @@ ghost use Rattle.std.specs.List.{list_any};
 ghost use Rattle.std.specs.Prelude.{◌≡◌, ◌≢◌, [], ◌∷◌, Err, false, IfOk, IsErrOf, IsTrue, OnErr, OnOk, filter, flat_map, length, string_bytes};
 ghost use Rattle.cache_base.specs.Causes.{HasCause};
 ghost use Rattle.cache_base.specs.Names.{AreRising};
-ghost use Rattle.cache_store.specs.Evicting.{ArePicked, AreUnused, AreVictims, DoomsAll, HoldsFiles, has_file};
+ghost use Rattle.cache_store.specs.Evicting.{ArePicked, AreUnused, AreVictims, DoomsAll, HoldsFiles, LooksBeforeChanges, has_file};
 ghost use Rattle.cache_store.specs.Faults.{ending};
 ghost use Rattle.cache_store.specs.IndexCalls.{LooksAtNames};
 ghost use Rattle.cache_store.specs.Printed.{lists_findings};
@@ -16,6 +16,7 @@ ghost use Rattle.disk_model.specs.Account.{Accounts, Looks, LooksAtNoEntry, endi
 ghost use Rattle.disk_model.specs.Told.{Told};
 ghost use Rattle.file_handles.specs.Cache.{cache};
 ghost use Rattle.file_handles.specs.Kept.{kept};
+ghost use Rattle.file_handles.specs.Removing.{FailsInChange};
 ghost use Rattle.hex.specs.Hex.{encode_upper};
 ghost use Rattle.index_map.specs.Known.{SameBase};
 ghost use Rattle.index_theory.specs.Leaves.{LeavesIndex};
@@ -85,6 +86,7 @@ fn remove_files<D: Disk>(
     ensures kept { kept handles.new ≡ kept handles.old }
     ensures index { Told D.Disk LeavesIndex disk.old disk.new }
     ensures account { Accounts D.Disk (disk_ending result) disk.old disk.new }
+    ensures change { FailsInChange D.Disk (disk_ending result) disk.new }
     ensures no_entry { LooksAtNoEntry D.Disk disk.old disk.new }
 {
     for name in names {
@@ -179,6 +181,7 @@ impl Store {
         ensures unlisted { IfOk result (λ a. lists_findings a ≡ false) }
         ensures all { IfOk result (λ a. a ≡ Answered.All) }
         ensures names { LooksAtNames D.Disk (length self.old.index.update) disk.old disk.new }
+        ensures looks_first { LooksBeforeChanges D.Disk (ending result) disk.old disk.new }
         ensures account { Accounts D.Disk (ending result) disk.old disk.new }
         ensures sink { let failed = IsErrOf result StoreFault.Sink in
             HasCause failed (K.faults sink.old) (K.faults sink.new) }

@@ -8,6 +8,7 @@ mod evict;
 mod fault;
 mod get;
 mod index_commands;
+mod kilobytes;
 mod laws;
 mod learning;
 mod memory_index;
@@ -19,7 +20,7 @@ mod store;
 mod verify;
 
 pub use fault::{Outcome, StoreFault};
-pub use laws::few_leave_index;
+pub use laws::{few_leave_index, records_at_end_are_one};
 pub use store::Store;
 
 #[cfg(test)]

@@ -4,7 +4,7 @@ ghost use Rattle.std.specs.Prelude.{◌≡◌, ◌≢◌, [], IfOk, IsTrue, OnOk
 ghost use Rattle.cache_store.specs.Answering.{HasOutcome};
 ghost use Rattle.cache_store.specs.Evicting.{Forgets};
 ghost use Rattle.cache_store.specs.Printed.{lists_findings};
-ghost use Rattle.cache_store.specs.Records.{AnswersHas, Learns, TakenOff, TellsOf};
+ghost use Rattle.cache_store.specs.Records.{AnswersHas, EndsWith, Learns, TakenOff, TellsOf};
 ghost use Rattle.cache_store.specs.Replied.{reply_of};
 ghost use Rattle.cache_theory.specs.Command.Command.{HasEntry};
 ghost use Rattle.cache_theory.specs.Step.{state_reply};
@@ -104,6 +104,8 @@ impl MemoryIndex {
     pub(crate) fn finish<D: Disk>(&mut self, disk: &mut D) -> Result<(), DiskFault>
         ensures rest { OnOk result (self.new.update ≡ []) }
         ensures base { SameBase self.old.map self.new.map }
+        ensures records { let es = entries_on (D.state disk.old) in
+            OnOk result (IsTrue D.tells → EndsWith es self.old self.new.map.records) }
         ensures tells { let es = entries_on (D.state disk.old) in
             OnOk result (IsTrue D.tells → TellsOf es self.old → TellsOf es self.new) }
         ensures looks { let names = length self.old.update in

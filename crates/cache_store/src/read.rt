@@ -3,8 +3,10 @@
 ghost use Rattle.std.specs.Prelude.{◌≡◌, ◌≢◌, ◌<◌, ◌≤◌, ◌+◌, ◌^◌, [], false, IfOk, IsErrOf, IsTrue, OnErr, OnOk, codes, drop, length, take};
 ghost use Rattle.cache_base.specs.Causes.{HasCause};
 ghost use Rattle.cache_base.specs.declared.limits.TheConstants.{SLOTS};
+ghost use Rattle.cache_store.specs.Answering.{outcome_in};
 ghost use Rattle.cache_store.specs.Faults.{ending};
 ghost use Rattle.cache_store.specs.Printed.{lists_findings};
+ghost use Rattle.cache_store.specs.Reads.{AreHeld, LastIsFirst};
 ghost use Rattle.cache_store.specs.Said.{saying};
 ghost use Rattle.cache_store.specs.Saying.{CutsIn, SaysMore, SaysPart, StopsIn};
 ghost use Rattle.cache_theory.specs.Command.Command.{ReadPart};
@@ -12,14 +14,14 @@ ghost use Rattle.cache_theory.specs.Text.{with_bytes};
 ghost use Rattle.disk_model.specs.Account.{Looks};
 ghost use Rattle.file_handles.specs.Cache.{cache};
 ghost use Rattle.file_handles.specs.Kept.{kept};
-ghost use Rattle.file_handles.specs.Reading.{ForBody, part_of_body};
+ghost use Rattle.file_handles.specs.Reading.{ForBody, HasRead, HoldsAsBefore, IsPartHeld, SameButChunks, part_of_body};
 ghost use Rattle.file_handles.specs.Stands.{RepresentsSome};
 
-use crate::StoreFault;
 use crate::answered::Answered;
 use crate::pending::Pending;
 use crate::replies::counted;
 use crate::store::Store;
+use crate::{Outcome, StoreFault};
 use cache_io::Sink;
 use disk_model::Disk;
 use file_handles::{HandleFault, Handles};
@@ -28,6 +30,7 @@ use std::alloc::Global;
 // Says one part of the body, and gives its length.
 fn say_part<D: Disk, K: Sink>(
     handles: &mut Handles,
+    alloc: Global,
     disk: &mut D,
     slot: u8,
     from: u64,
@@ -46,12 +49,14 @@ fn say_part<D: Disk, K: Sink>(
         let part = part_of_body body from len in
         StopsIn (at reply.old sink.old) (K.taken sink.new) part)) }
     ensures bound { IfOk result (λ n. n ≤ len) }
-    ensures kept { kept handles.new ≡ kept handles.old }
+    ensures read { let before = cache D.Disk handles.old disk.old in
+        HasRead (IsTrue D.tells) slot from len result before (kept handles.new) }
+    ensures held { IsPartHeld (kept handles.old) slot from len → disk.new ≡ disk.old }
     ensures looks { Looks D.Disk (ending result) disk.old disk.new }
     ensures sink { let failed = IsErrOf result StoreFault.Sink in
         HasCause failed (K.faults sink.old) (K.faults sink.new) }
 {
-    match handles.read_part(disk, slot, from, len) {
+    match handles.read_part(alloc, disk, slot, from, len) {
         Ok(part) => {
             let n = len.min(part.len() as u64);
             reply.put(sink, part)?;
@@ -66,6 +71,7 @@ fn say_part<D: Disk, K: Sink>(
 // Says the bytes of the body from a place on, part by part.
 fn say_parts<D: Disk, K: Sink>(
     handles: &mut Handles,
+    alloc: Global,
     disk: &mut D,
     slot: u8,
     from: u64,
@@ -84,14 +90,28 @@ fn say_parts<D: Disk, K: Sink>(
         ForBody (cache D.Disk handles.old disk.old) slot (λ body.
         let bytes = take len (drop from body) in
         StopsIn (at reply.old sink.old) (K.taken sink.new) bytes)) }
-    ensures kept { kept handles.new ≡ kept handles.old }
+    ensures same { SameButChunks (kept handles.old) (kept handles.new) }
+    ensures holds { IsTrue D.tells →
+        HoldsAsBefore (cache D.Disk handles.old disk.old) (kept handles.new) }
+    ensures held { AreHeld (kept handles.old) slot from len → disk.new ≡ disk.old }
+    ensures recent { OnOk result (IsTrue D.tells →
+        LastIsFirst (kept handles.old) slot from len (kept handles.new)) }
     ensures looks { Looks D.Disk (ending result) disk.old disk.new }
     ensures sink { let failed = IsErrOf result StoreFault.Sink in
         HasCause failed (K.faults sink.old) (K.faults sink.new) }
 {
     let mut done = 0;
     while done < len {
-        let n = say_part(handles, disk, slot, from + done, len - done, reply, sink)?;
+        let n = say_part(
+            handles,
+            alloc,
+            disk,
+            slot,
+            from + done,
+            len - done,
+            reply,
+            sink,
+        )?;
         if n == 0 {
             return Ok(());
         }
@@ -125,14 +145,19 @@ fn say_bytes<D: Disk, K: Sink>(
         let bytes = take len (drop from body) in
         let text = with_bytes (codes "data") bytes in
         len ≡ length bytes → CutsIn (at reply.old sink.old) (K.taken sink.new) text)) }
-    ensures kept { kept handles.new ≡ kept handles.old }
+    ensures same { SameButChunks (kept handles.old) (kept handles.new) }
+    ensures holds { IsTrue D.tells →
+        HoldsAsBefore (cache D.Disk handles.old disk.old) (kept handles.new) }
+    ensures held { AreHeld (kept handles.old) slot from len → disk.new ≡ disk.old }
+    ensures recent { OnOk result (IsTrue D.tells →
+        LastIsFirst (kept handles.old) slot from len (kept handles.new)) }
     ensures looks { Looks D.Disk (ending result) disk.old disk.new }
     ensures sink { let failed = IsErrOf result StoreFault.Sink in
         HasCause failed (K.faults sink.old) (K.faults sink.new) }
 {
     let head = counted(alloc, b"data", len)?;
     reply.put(sink, head.as_slice())?;
-    say_parts(handles, disk, slot, from, len, reply, sink)?;
+    say_parts(handles, alloc, disk, slot, from, len, reply, sink)?;
     reply.put(sink, b"\n")?;
     Ok(())
 }
@@ -161,7 +186,14 @@ impl Store {
         ensures unsaid { IfOk result (λ a. a ≢ Answered.All → sink.new ≡ sink.old) }
         ensures still_empty { IfOk result (λ a.
             a ≢ Answered.All → self.new.reply.held ≡ []) }
-        ensures open { open_of self.new ≡ open_of self.old }
+        ensures open { open_of self.new
+            ≡ record (open_of self.old) { handles = kept self.new.handles } }
+        ensures same { SameButChunks (kept self.old.handles) (kept self.new.handles) }
+        ensures holds { IsTrue D.tells →
+            HoldsAsBefore (cache D.Disk self.old.handles disk.old) (kept self.new.handles) }
+        ensures held { AreHeld (kept self.old.handles) slot from len → disk.new ≡ disk.old }
+        ensures recent { IfOk result (λ a. outcome_in a ≡ Outcome.Ok → IsTrue D.tells →
+            LastIsFirst (kept self.old.handles) slot from len (kept self.new.handles)) }
         ensures looks { Looks D.Disk (ending result) disk.old disk.new }
         ensures sink { let failed = IsErrOf result StoreFault.Sink in
             HasCause failed (K.faults sink.old) (K.faults sink.new) }

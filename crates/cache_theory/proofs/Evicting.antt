@@ -12,7 +12,8 @@ use Rattle.cache_theory.specs.Checks.{checks}
 use Rattle.cache_theory.specs.Laws.{EvictTakesOff, EvictedMayGo, MayGo, UnusedAreTakenOff, is_among}
 use Rattle.cache_theory.specs.Machine.{Machine, open_names}
 use Rattle.cache_theory.specs.Step.{all_doomed, doomed_at, doomed_under, effect, evicted, update_ended, without}
-use Rattle.cache_theory.specs.Table.{Table, bytes_cmp, get, keys, name_of, remove}
+use Rattle.cache_theory.specs.Table.{Table, bytes_cmp, get, name_of, remove}
+use Rattle.cache_check.proofs.FoundExactly.{has_key}
 use Rattle.cache_theory.proofs.Names.{get-remove_other, get-remove_same, one_name, same_bytes}
 use Rattle.entry_file.specs.EntryFile.{file_meta, fits}
 use Rattle.entry_metadata.specs.Metadata.{Meta}
@@ -101,18 +102,6 @@ module _ (P : List ℕ → Type 0) where
           (subst (λ (n : Name). P n.0) (sym (record_named (name_of e.0) (file_meta e.1) (length e.1))) h.0, later)
       go false later = later
 
--- The names that are open are those in use.
-
-pub has_open : {X : Type 0} (t : Table X) (name : Name)
-    → has_name (map name_of (keys t)) name ≡ is_some (get t name.0)
-has_open [] name = refl
-has_open (e ∷ es) name =
-    let more : Bool = has_name (map name_of (keys es)) name in
-    elim (eq_by_cmp bytes_cmp name.0 e.0) as (λ b. (b || more) ≡ is_some (cond b (Some e.1) (get es name.0))) [
-      | true ↦ refl
-      | false ↦ has_open es name
-    ]
-
 none_of : {X : Type 0} (o : Option X) → is_some o ≡ false → o ≡ None
 none_of None none = refl
 none_of (Some x) none = absurd (cc)
@@ -126,7 +115,7 @@ may_go_of m r h =
       stands = h.0;
       unused =
           none_of (get m.in_use r.name.0)
-          (sym (has_open m.in_use r.name) ∙ not-true (has_name (open_names m) r.name) parts.1);
+          (sym (has_key m.in_use r.name) ∙ not-true (has_name (open_names m) r.name) parts.1);
     }
 
 evicted_records : Machine → ℕ → List IndexRecord
@@ -167,14 +156,14 @@ evicted_may_go m kb name among =
 abbrev AreUnused : Machine → List Name → Type 0
 AreUnused m names = AllByRecursion (λ n. get m.in_use n.0 ≡ None) names
 
-none_after : {X : Type 0} (t : Table X) (gone q : List ℕ) → get t q ≡ None
+pub none_after : {X : Type 0} (t : Table X) (gone q : List ℕ) → get t q ≡ None
     → get (remove t gone) q ≡ None
 none_after t gone q none = elim (one_name gone q) [
   | inl same ↦ get-remove_same t gone q same
   | inr other ↦ get-remove_other t gone q other ∙ none
 ]
 
-same_after : {X : Type 0} (t : Table X) (gone q : List ℕ) → get t gone ≡ None
+pub same_after : {X : Type 0} (t : Table X) (gone q : List ℕ) → get t gone ≡ None
     → get (remove t gone) q ≡ get t q
 same_after t gone q none = elim (one_name gone q) [
   | inl same ↦ get-remove_same t gone q same ∙ sym none ∙ ap (get t) same
@@ -213,7 +202,7 @@ rest_stays : (m : Machine) (names : List Name) → m.rest ≡ [] → (all_doomed
 rest_stays m [] ended = ended
 rest_stays m (n ∷ names) ended = rest_stays (doomed_under m n.0) names (ap (without n.0) ended)
 
-off_either : {X : Type 0} (a b : Bool) (o : Option X)
+pub off_either : {X : Type 0} (a b : Bool) (o : Option X)
     → cond b None (cond a None o) ≡ cond (a || b) None o
 off_either true true o = refl
 off_either true false o = refl

@@ -11,7 +11,7 @@ use Rattle.std.proofs.lemmas.Map.Text.{is_eq-slice_cmp}
 use Rattle.cache_base.specs.declared.name.Name.{Name}
 use Rattle.cache_theory.specs.Machine.{Machine, object, writing_names}
 use Rattle.cache_theory.specs.Table.{IsTable, Table, bytes_cmp, get}
-use Rattle.cache_theory.proofs.Evicting.{has_open}
+use Rattle.cache_check.proofs.FoundExactly.{has_key}
 use Rattle.cache_theory.proofs.Names.{same_bytes}
 use Rattle.evictor.specs.Evict.{has_name}
 
@@ -104,5 +104,5 @@ is_unfinished m i = not (object m i).finished
 pub has_writing : (m : Machine) → IsTable m.in_use → (name : Name)
     → has_name (writing_names m) name ≡ passes_there (is_unfinished m) (get m.in_use name.0)
 has_writing m table name =
-    has_open (passing (is_unfinished m) m.in_use) name
+    has_key (passing (is_unfinished m) m.in_use) name
     ∙ some_passing (is_unfinished m) m.in_use (is_true (is_sorted bytes_cmp m.in_use) table.rising) name.0

@@ -2,8 +2,10 @@
 use Rattle.std.proofs.Common.{◌≡◌, ◌⊎◌, inl, inr, IsTrue, List, [], ◌∷◌, ◌++◌, length, suc, refl, sym, ap, ◌∙◌, false, true≢false}
 use Rattle.std.specs.Prelude.{◌||◌}
 use Rattle.std.proofs.lemmas.Bool.{or_left, or_right}
-use Rattle.cache_store.specs.DoneFor.{IsDoneFor}
-use Rattle.cache_store.specs.Performing.{goes_by_records}
+use Rattle.cache_store.specs.DoneFor.{IsDoneBy, IsDoneFor}
+use Rattle.cache_store.specs.Open.{Tells}
+use Rattle.cache_store.specs.Performing.{GoesBy, goes_by_records}
+use Rattle.cache_store.specs.Session.{Session}
 use Rattle.cache_theory.specs.Command.{Command}
 use Rattle.cache_theory.specs.Command.Command.{Evict, EvictNames, Verify, VerifyRecords}
 use Rattle.cache_theory.specs.Machine.{Machine, open_names}
@@ -14,6 +16,12 @@ use Rattle.evictor.specs.Evict.{victims}
 use Rattle.index_theory.specs.Scan.{scan}
 
 -- ---- for one command
+
+-- what a store does goes by records that are right where those in memory were
+pub done_right : (before : Session) (c : Command) (m : Machine) (d : Command) → IsDoneBy (GoesBy before m) c m d → IsDoneFor (Tells before m) c m d
+done_right before (Evict kb) m d is = (is.0, (is.1.0, is.1.1.right))
+done_right before Verify m d is = (is.0, (is.1.0, is.1.1.right))
+done_right before c m d is = is
 
 -- the records need not be right where another thing has to be
 pub done_where : {right other : Type 0} → (other → right) → (c : Command) (m : Machine) (d : Command) → IsDoneFor right c m d → IsDoneFor other c m d

@@ -26,7 +26,7 @@ use Rattle.cache_tool.specs.ScriptProgress.{ArePerformed, EndsScript, FailsAfter
 use Rattle.cache_tool.specs.World.{Progress, Supply}
 use Rattle.cache_tool.specs.declared.script.Ended.{Ended}
 use Rattle.cache_tool.specs.declared.script.Ended.TheVariants as ended
-use Rattle.cache_tool.proofs.DoneLaws.{done_more, done_rebuild, done_where}
+use Rattle.cache_tool.proofs.DoneLaws.{done_more, done_rebuild, done_right, done_where}
 use Rattle.cache_tool.proofs.Moments.{with_source}
 use Rattle.cache_tool.proofs.RightLaws.{leads_none, leads_on, leads_one, may_say_first, may_tell_last}
 use Rattle.cache_tool.proofs.StayingLaws.{StaysFor, StaysOnce, stays_done}
@@ -114,10 +114,11 @@ module _ (before : Progress) where
         let some = performs.each h keeps in
         let stands = some.performed.stands.keeps in
         let does = next.crash (all_answered some.done h) stands in
-        let stays_once = stays_done (Tells mid.session (after h.machine some.done)) c mid.session (after h.machine some.done) now.session does.0 does.1.0 (stays (after h.machine some.done) (represents stands) tt) in
+        let did = done_right mid.session c (after h.machine some.done) does.0 does.1.0 in
+        let stays_once = stays_done (Tells mid.session (after h.machine some.done)) c mid.session (after h.machine some.done) now.session does.0 did (stays (after h.machine some.done) (represents stands) tt) in
         record {
           done = some.done ++ does.0 ∷ [];
-          are_done = one_done mid now some.done does.0 h some.performed cs c some.are_done does.1.0;
+          are_done = one_done mid now some.done does.0 h some.performed cs c some.are_done did;
           performed = went_on mid now some.done does.0 h some.performed o does.1.1 stays_once;
         };
   }
@@ -130,11 +131,12 @@ module _ (before : Progress) where
         let some = performs.each h keeps in
         let stands = some.performed.stands.keeps in
         let does = next.crash (all_answered some.done h) stands in
-        let stays_once : f ≡ fault.Sink → StaysOnce does.0 mid.session (after h.machine some.done) now.session = λ sink. stays_done (Tells mid.session (after h.machine some.done)) c mid.session (after h.machine some.done) now.session does.0 does.1.0 (stays (after h.machine some.done) (represents stands) sink) in
+        let did = done_right mid.session c (after h.machine some.done) does.0 does.1.0 in
+        let stays_once : f ≡ fault.Sink → StaysOnce does.0 mid.session (after h.machine some.done) now.session = λ sink. stays_done (Tells mid.session (after h.machine some.done)) c mid.session (after h.machine some.done) now.session does.0 did (stays (after h.machine some.done) (represents stands) sink) in
         record {
           done = some.done;
           last = does.0;
-          are_done = one_done mid now some.done does.0 h some.performed cs c some.are_done does.1.0;
+          are_done = one_done mid now some.done does.0 h some.performed cs c some.are_done did;
           cut_off = broke_off mid now some.done does.0 h some.performed f does.1.1 stays_once;
         };
   }

@@ -1,5 +1,6 @@
 //! The program on a disk in memory.
 
+mod chunks;
 mod crash;
 mod evict;
 mod get;
@@ -11,7 +12,7 @@ mod verify;
 use crate::run::run;
 use cache_base::{Bytes, NoMemory, Numbers, Status};
 use cache_io::{MemSink, MemSource};
-use disk_model::{MemDisk, Place};
+use disk_model::{Disk, MemDisk, Place};
 use entry_name::name_of;
 use std::alloc::{AllocError, Global};
 use std::test::Fail;
@@ -62,9 +63,9 @@ fn place_of(key: &str) -> Place {
 }
 
 // The one call of the program here: a proof reads its whole contract at each.
-fn call(
+fn call<D: Disk>(
     alloc: Global,
-    disk: &mut MemDisk,
+    disk: &mut D,
     words: &[String],
     source: &mut MemSource,
     sink: &mut MemSink,
@@ -73,9 +74,9 @@ fn call(
 }
 
 // The words of a line over these bytes: the status, and what is printed.
-fn ends(
+fn ends<D: Disk>(
     alloc: Global,
-    disk: &mut MemDisk,
+    disk: &mut D,
     line: &str,
     input: &[u8],
 ) -> Result<(Status, Bytes), Fail> {

@@ -2,16 +2,12 @@
 use Rattle.std.proofs.Common.{◌≡◌, ℕ, ◌+◌, ◌-◌, ◌*◌, ◌<◌, ◌≤◌, List, ◌++◌, length, take, drop, Option, Some, None, Result, Ok, Err, sym, ap, ◌∙◌, arith}
 use Rattle.std.specs.Prelude.{min, replicate, IfSome, OnOk}
 use Rattle.std.proofs.lemmas.Grind.{common_steps}
-use Rattle.std.proofs.lemmas.List.{drop-replicate, drop-take}
+use Rattle.std.proofs.lemmas.List.{drop-take, take_at}
 use Rattle.cache_base.specs.Limits.{chunk_size, chunks}
 use Rattle.disk_model.specs.State.{part_of}
 use Rattle.disk_model.specs.declared.disk.DiskFault.{DiskFault}
 use Rattle.chunk_store.specs.Chunks.{chunk}
 use Rattle.chunk_store.specs.Stored.{filled_up, read_as, chunk_len}
-
--- a part that is read over zeros is filled up with zeros
-pub read_over_zeros : (n k : ℕ) (part : List ℕ) → k ≡ length part → part ++ drop k (replicate n 0) ≡ filled_up n part
-read_over_zeros n k part e = ap (λ (rest : List ℕ). part ++ rest) (drop-replicate k n 0) ∙ ap (λ (j : ℕ). part ++ replicate (n - j) 0) e
 
 -- a part with all bytes is not filled up
 filled_whole : (n : ℕ) (part : List ℕ) → length part ≡ n → part ++ replicate (n - length part) 0 ≡ part
@@ -54,3 +50,16 @@ if_read (Err fault) f p = tt
 -- a list with a tail, cut back to its length
 pub cut_back : (n : ℕ) (old tail : List ℕ) → length old ≡ n → take n (old ++ tail) ++ replicate (n - length (old ++ tail)) 0 ≡ old
 cut_back n old tail e = grind (arith, common_steps)
+
+-- a part that is read over any bytes, of which the rest is made zeros
+pub read_over_any : (k m : ℕ) (old part now : List ℕ) → k ≡ length part → m ≡ length now → now ≡ part ++ drop k old → take k now ++ replicate (m - k) 0 ≡ filled_up m part
+read_over_any k m old part now e l is =
+    ap (λ xs. take k xs ++ replicate (m - k) 0) is ∙ ap (λ xs. xs ++ replicate (m - k) 0) (take_at part (drop k old) k (sym e)) ∙ ap (λ j. part ++ replicate (m - j) 0) e
+
+-- so a chunk is read over any bytes
+pub chunk_over_any : (len i k : ℕ) (file : Option (List ℕ)) (old now after : List ℕ) → i < chunks len → length old ≡ chunk_len len i → length now ≡ length old
+    → k ≡ length (part_of (i * chunk_size) (length old) file) → now ≡ part_of (i * chunk_size) (length old) file ++ drop k old → after ≡ take k now ++ replicate (length now - k) 0
+    → IfSome file (λ content. len ≤ length content → after ≡ chunk (take len content) i)
+chunk_over_any len i k file old now after below long same e is z =
+    chunk_of_file len i (length old) file after below long
+    (z ∙ ap (λ m. take k now ++ replicate (m - k) 0) same ∙ read_over_any k (length old) old (part_of (i * chunk_size) (length old) file) now e (sym same) is)

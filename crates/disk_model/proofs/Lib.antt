@@ -1,3 +1,4 @@
+pub mod OneRises
 pub mod Places
 pub mod Files
 pub mod Sound

@@ -5,6 +5,7 @@ pub mod State
 pub mod Sound
 pub mod Standing
 pub mod Listing
+pub mod Silent
 pub mod Image
 pub mod Writes
 pub mod Calls

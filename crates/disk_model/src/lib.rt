@@ -4,6 +4,7 @@
 
 mod disk;
 mod laws;
+mod liar_disk;
 mod mem_disk;
 mod mem_file;
 mod mem_image;
@@ -14,6 +15,7 @@ mod place;
 
 pub use disk::{Disk, DiskFault};
 pub use laws::reads_as_image;
+pub use liar_disk::LiarDisk;
 pub use mem_disk::MemDisk;
 pub use mem_image::ImageFault;
 pub use place::{NameStep, Place};

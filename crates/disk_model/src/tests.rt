@@ -5,6 +5,7 @@ use std::test::Fail;
 
 mod changes;
 mod images;
+mod liar;
 mod listing;
 
 const ENTRY: Place = Place::Entry(Name([7; 20]));

@@ -12,8 +12,8 @@ use index_record::{IndexRecord, Records, is_pinned, size_kb};
 use std::alloc::Global;
 use std::collections::BTreeSet;
 
-// The names as a set, in which each record's name is looked up.
-fn name_set(alloc: Global, names: &[Name]) -> Result<BTreeSet<Name>, NoMemory>
+/// The names as a set, in which each record's name is looked up. Fails only for want of memory.
+pub fn name_set(alloc: Global, names: &[Name]) -> Result<BTreeSet<Name>, NoMemory>
     ensures { IfOk result (λ set. (q : AName) → contains_of name_cmp set q ≡ spec.has_name names.now q) }
 {
     let mut set = BTreeSet::new(alloc);

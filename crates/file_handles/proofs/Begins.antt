@@ -1,8 +1,10 @@
 -- The handles at an opening.
-use Rattle.std.proofs.Common.{◌≡◌, ◌∙◌, inl, inr, ℕ, zero, suc, List, length, get_or, replicate, Option, Some, None, refl, sym, ap, arith}
+use Rattle.std.proofs.Common.{◌≡◌, ◌∙◌, inl, inr, ℕ, zero, suc, List, [], length, get_or, replicate, Option, Some, None, refl, sym, ap, subst, arith}
 use Rattle.std.specs.Prelude.{EachIndex, option_map, slice_get, slice_index_or, unwrap_or}
 use Rattle.std.proofs.lemmas.Bool.{cases_Bool, ltb-false, ltb-true}
 use Rattle.std.proofs.Common.{ltb}
+use Rattle.std.specs.List.{All}
+use Rattle.std.proofs.lemmas.List.Elements.{All-nil}
 use Rattle.std.proofs.lemmas.Option.{slice_get_past, unwrap_or-slice_get}
 use Rattle.cache_theory.specs.Machine.{opened}
 use Rattle.cache_theory.specs.Proper.{OpensProper}
@@ -10,6 +12,7 @@ use Rattle.cache_theory.specs.Stands.{IsHeldDoomed}
 use Rattle.cache_theory.specs.Table.{Table}
 use Rattle.cache_theory.proofs.Slots.{slot_of as slot_with}
 use Rattle.file_handles.specs.Carries.{Begins}
+use Rattle.file_handles.specs.HeldChunks.{IsChunkInUse}
 use Rattle.file_handles.specs.Kept.{Kept, object_at, use_at}
 use Rattle.file_handles.specs.Stands.{HandlesStand, IsAt, Stands}
 use Rattle.file_handles.specs.declared.object.Object.{Object}
@@ -36,7 +39,7 @@ never_some : {X : Type 0} (P : Type 0) (x : X) → None ≡ Some x → P
 never_some P x e = absurd (cc)
 
 -- handles without objects and uses
-module _ (k : Kept) (objects : (p : ℕ) → object_at k p ≡ None) (uses : (t : ℕ) → use_at k t ≡ None) (proper_opens : OpensProper) where
+module _ (k : Kept) (objects : (p : ℕ) → object_at k p ≡ None) (uses : (t : ℕ) → use_at k t ≡ None) (none_made : k.made ≡ 0) (no_chunks : k.chunks ≡ []) (proper_opens : OpensProper) where
   no_object : (p : ℕ) (x : Object) → object_at k p ≡ Some x → ⊥
   no_object p x at = never_some ⊥ x (sym (objects p) ∙ at)
 
@@ -52,6 +55,7 @@ module _ (k : Kept) (objects : (p : ℕ) → object_at k p ≡ None) (uses : (t 
     used = λ t u at. absurd (no_use t u at);
     objects = λ p x at. absurd (no_object p x at);
     apart = λ p q x y at also same. absurd (no_object p x at);
+    chunks = record { numbered = λ p x at. absurd (no_object p x at); made = none_made; held = subst (All (IsChunkInUse k (opened now shelf rest))) (sym no_chunks) (All-nil (IsChunkInUse k (opened now shelf rest))) };
   }
 
   pub begins : Begins k

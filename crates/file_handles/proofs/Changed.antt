@@ -3,6 +3,7 @@ use Rattle.std.proofs.Common.{◌≡◌, ◌≢◌, inl, inr, ℕ, List, Option,
 use Rattle.std.specs.Prelude.{IfOk, IsSome, is_none, slice_get, slice_set}
 use Rattle.std.proofs.lemmas.Option.{slice_get_within}
 use Rattle.std.proofs.lemmas.Bool.{cases_Bool, cases_eq}
+use Rattle.std.proofs.lemmas.List.Elements.{All-weaker}
 use Rattle.cache_theory.specs.Crash.{IsCrashKept, IsFine, IsSafe, WasUnder}
 use Rattle.cache_theory.specs.Ever.{EverAt, IsFiledOnce, entry_place}
 use Rattle.cache_theory.specs.Keeps.{IsFineAll}
@@ -20,6 +21,7 @@ use Rattle.cache_theory.proofs.Names.{one_name}
 use Rattle.cache_theory.proofs.Objects.{nth_is, nth_there, object_at as machine_object_at}
 use Rattle.cache_theory.proofs.Storing.{MayStand, proper_stored, stored_here, stored_like, stored_there}
 use Rattle.cache_theory.proofs.Users.{in_use_along}
+use Rattle.chunk_cache.specs.Cached.{CachedChunk}
 use Rattle.chunk_store.specs.Stored.{unfinished_file}
 use Rattle.disk_model.specs.Sound.{IsSound}
 use Rattle.disk_model.specs.Standing.{Puts}
@@ -34,10 +36,12 @@ use Rattle.entry_name.specs.EntryName.{file_name}
 use Rattle.file_handles.specs.Cache.{cache_at}
 use Rattle.file_handles.specs.Changes.{Becomes, Changes, IsFiledAs, IsMomentOf}
 use Rattle.file_handles.specs.Held.{IsHeldAs, object_place, place_of}
+use Rattle.file_handles.specs.HeldChunks.{ChunksStand, IsChunkInUse, KeepsChunks}
 use Rattle.file_handles.specs.Kept.{Kept, object_at, with_object}
 use Rattle.file_handles.specs.Stands.{HandlesStand, IsAt, IsObjectOf, KeepsWhere}
 use Rattle.file_handles.specs.declared.fault.HandleFault.{HandleFault}
 use Rattle.file_handles.specs.declared.object.Object.{Object}
+use Rattle.file_handles.proofs.HeldChunkLaws.{chunk_on, keeps_own}
 use Rattle.file_handles.proofs.Histories.{history_of}
 use Rattle.file_handles.proofs.KeptLaws.{object_set_here, object_set_other, place_within}
 use Rattle.file_handles.proofs.Places.{doomed_at, doomed_is, file_stands, is_filed, undoomed_is, undoomed_place}
@@ -129,7 +133,7 @@ module _ {b : Bool} (s : State) (k : Kept) (m : Machine) (w : Marks) (is : Keeps
     wrote_once on = let file = file_of_it in write_files_once s t file.0 (writes_weaker s t file.0 (IsMomentOf o) (λ c. Unit {0}) (λ c moment. tt) (writes file.0 file.1)) (is.crash_kept on).once
 
     -- the call changed the object to y
-    module _ (y : Object) (sound : IsSound s) (becomes : Becomes x y o t) where
+    module _ (y : Object) (sound : IsSound s) (becomes : Becomes x y (object m (is.number p)) o t) where
       puts : Puts (object_place x) (Some (object_file o)) s t
       puts = writes_puts (object_place x) (IsMomentOf o) s t (object_file (object m (is.number p))) (object_file o) sound (file_stands s k m is.number is.stands p x at) writes becomes.file
 
@@ -168,6 +172,37 @@ module _ {b : Bool} (s : State) (k : Kept) (m : Machine) (w : Marks) (is : Keeps
             record { in_use = in_use_on (is.number q) old.in_use; as_held = subst (IsHeldAs z) (sym (stored_there m (is.number p) o is.stands.proper may (is.number q) other)) old.as_held }
       ]
 
+      numbered_at : (q : ℕ) (z : Object) → object_at k q ≡ Some z → is.number q ≡ z.number
+      numbered_at = is.stands.handles.chunks.numbered
+
+      chunk_next : (c : CachedChunk) → IsChunkInUse k m c → IsChunkInUse (with_object k p (Some y)) (stored m (is.number p) o) c
+      chunk_next c in_use = elim (cases_eq in_use.place p) [
+        | inl same ↦
+            let own : c.entry ≡ is.number p = sym (numbered_at in_use.place in_use.object in_use.at_place ∙ in_use.numbered) ∙ ap is.number same in
+            chunk_on k (with_object k p (Some y)) m (stored m (is.number p) o) c in_use.place y (here in_use.place same) (becomes.same_object ∙ sym (numbered_at p x at) ∙ sym own)
+            (subst (λ (i : ℕ). KeepsChunks (object m i) (object (stored m (is.number p) o) i)) (sym own)
+            (subst (KeepsChunks (object m (is.number p))) (sym (stored_here m (is.number p) o is.stands.proper may (is.number p) refl)) becomes.keeps_chunks))
+            in_use
+        | inr apart ↦
+            let other : c.entry ≢ is.number p =
+            λ e. apart (is.stands.handles.apart in_use.place p in_use.object x in_use.at_place at (numbered_at in_use.place in_use.object in_use.at_place ∙ in_use.numbered ∙ e)) in
+            chunk_on k (with_object k p (Some y)) m (stored m (is.number p) o) c in_use.place in_use.object (there in_use.place apart ∙ in_use.at_place) in_use.numbered
+            (keeps_own _ _ (stored_there m (is.number p) o is.stands.proper may c.entry other)) in_use
+      ]
+
+      chunks_next : ChunksStand (with_object k p (Some y)) (stored m (is.number p) o) is.number
+      chunks_next = record {
+        numbered = λ q z at_q. elim (cases_eq q p) [
+          | inl same ↦
+              let both : Some y ≡ Some z = sym (here q same) ∙ at_q in
+              let one : y ≡ z = cc in
+              ap is.number same ∙ numbered_at p x at ∙ sym becomes.same_object ∙ ap (λ (w : Object). w.number) one
+          | inr apart ↦ numbered_at q z (sym (there q apart) ∙ at_q)
+        ];
+        made = (let l = length-set m.objects (is.number p) o in let made = is.stands.handles.chunks.made in omega (arith, l, made));
+        held = All-weaker (IsChunkInUse k m) (IsChunkInUse (with_object k p (Some y)) (stored m (is.number p) o)) chunk_next k.chunks is.stands.handles.chunks.held;
+      }
+
       handles : HandlesStand (with_object k p (Some y)) (stored m (is.number p) o) is.number
       handles = record {
         slots = is.stands.handles.slots;
@@ -177,6 +212,7 @@ module _ {b : Bool} (s : State) (k : Kept) (m : Machine) (w : Marks) (is : Keeps
         ];
         objects = objects;
         apart = λ q r a b at_q at_r e. let q_was = was_there q a at_q in let r_was = was_there r b at_r in is.stands.handles.apart q r q_was.0 r_was.0 q_was.1 r_was.1 e;
+        chunks = chunks_next;
       }
 
       entries_stand : EntriesStand (standing t) (stored m (is.number p) o)
@@ -315,7 +351,7 @@ pub changed_in_safe : {b : Bool} (s t : State) (k : Kept) (m : Machine) (w : Mar
 changed_in_safe s t k m w is p x y change changed sound at changes ok may safe =
     let o : MachineObject = object m (is.number p) in
     let filed = is_filed s k m is.number is.stands p x at in
-    let at_ok : IfOk {E = HandleFault} (Ok y) (λ y. (o : MachineObject) → IsFiledAs x o s → Becomes x y (change o) t) = subst (λ (r : Result Object HandleFault). IfOk r (λ y. (o : MachineObject) → IsFiledAs x o s → Becomes x y (change o) t)) ok changes.becomes in
+    let at_ok : IfOk {E = HandleFault} (Ok y) (λ y. (o : MachineObject) → IsFiledAs x o s → Becomes x y o (change o) t) = subst (λ (r : Result Object HandleFault). IfOk r (λ y. (o : MachineObject) → IsFiledAs x o s → Becomes x y o (change o) t)) ok changes.becomes in
     wrote_in s k m w is p x at (change o) may t (changes.writes o filed) y sound (at_ok o filed) safe
 
 pub changed_in : {b : Bool} (s t : State) (k : Kept) (m : Machine) (w : Marks) (is : KeepsWhere b (cache_at k s) (history_of m w)) (p : ℕ) (x y : Object) (change : MachineObject → MachineObject) (changed : Result Object HandleFault)

@@ -195,9 +195,9 @@ module _ (s : State) (k : Kept) (slot : ℕ) (small : slot < SLOTS) (u : Use) (a
     still_there m number stands x at_x change (Err f) e put = absurd put
     still_there m number stands x at_x change (Ok y) e put =
         let filed = is_filed s k m number stands u.place x at_x in
-        let ok : IfOk {E = HandleFault} (Ok y) (λ y. (o : MachineObject) → IsFiledAs x o s → Becomes x y (completed o) t) =
-        subst (λ (changed : Result Object HandleFault). IfOk changed (λ y. (o : MachineObject) → IsFiledAs x o s → Becomes x y (completed o) t)) e change.changes.becomes in
-        let becomes : Becomes x y (completed (object m (number u.place))) t = ok (object m (number u.place)) filed in
+        let ok : IfOk {E = HandleFault} (Ok y) (λ y. (o : MachineObject) → IsFiledAs x o s → Becomes x y o (completed o) t) =
+        subst (λ (changed : Result Object HandleFault). IfOk changed (λ y. (o : MachineObject) → IsFiledAs x o s → Becomes x y o (completed o) t)) e change.changes.becomes in
+        let becomes : Becomes x y (object m (number u.place)) (completed (object m (number u.place))) t = ok (object m (number u.place)) filed in
         let placed : object_at after u.place ≡ Some y = ap (λ (l : Kept). object_at l u.place) put ∙ object_set_here k u.place u.place (Some y) (place_within k u.place x at_x) refl in
         record {
           placed = ap (λ (l : Kept). option_map (λ (v : Use). v.place) (use_at l slot)) put ∙ ap (option_map (λ (v : Use). v.place)) at;

@@ -16,6 +16,7 @@ use Rattle.file_handles.specs.Held.{IsEntryOf, IsHeldAs, object_place, object_wi
 use Rattle.file_handles.specs.declared.object.Draft.{Draft}
 use Rattle.file_handles.specs.declared.object.Entry.TheVariants as entry
 use Rattle.file_handles.specs.declared.object.Object.{Object}
+use Rattle.file_handles.proofs.HeldChunkLaws.{keeps_completed}
 use Rattle.file_handles.proofs.Changed.{writes_weaker}
 
 module _ (x : Object) (d : Draft) (is : x.entry ≡ entry.Draft d) where
@@ -31,7 +32,7 @@ module _ (x : Object) (d : Draft) (is : x.entry ≡ entry.Draft d) where
 
   -- it is held as the finished object
   pub completed_held : (meta : Meta) → ((body : List ℕ) → HasBody (held d.body) body → meta_of meta ≡ version_meta (finished d.header d.key d.elements body)) → (o : MachineObject) → IsHeldAs x o
-      → IsHeldAs (object_with x.name x.doomed (entry.Finished meta)) (completed o)
+      → IsHeldAs (object_with x.number x.name x.doomed (entry.Finished meta)) (completed o)
   completed_held meta metas o as_held =
       let was = draft_of o as_held in
       record {
@@ -55,10 +56,12 @@ module _ (x : Object) (d : Draft) (is : x.entry ≡ entry.Draft d) where
     -- and it is the finished entry
     pub completed_becomes : (meta : Meta) → ((body : List ℕ) → HasBody (held d.body) body → meta_of meta ≡ version_meta (finished d.header d.key d.elements body))
         → ((body : List ℕ) → HasBody (held d.body) body → standing s place ≡ Some (unfinished_file body) → standing t place ≡ Some (file_of (finished d.header d.key d.elements body)))
-        → (o : MachineObject) → IsFiledAs x o s → Becomes x (record { name = x.name; doomed = x.doomed; entry = entry.Finished meta }) (completed o) t
+        → (o : MachineObject) → IsFiledAs x o s → Becomes x (record { number = x.number; name = x.name; doomed = x.doomed; entry = entry.Finished meta }) o (completed o) t
     completed_becomes meta metas stands o filed =
         let was = was_draft o s filed in
         record {
+          same_object = refl;
+          keeps_chunks = keeps_completed o was.0;
           same_place = refl;
           same_name = refl;
           same_number = refl;

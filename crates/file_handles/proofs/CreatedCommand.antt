@@ -124,6 +124,7 @@ module _ (s : State) (k : Kept) (slot : ℕ) (key : List ℕ) (name : Name) (may
         let add : MayAdd before next slot true (fresh m.moment key) x adds.place use_ = record {
           enters = may_create m slot key stand.stands.proper may.small bytes (ap not slot_free) may.good;
           as_held = held;
+          numbered = adds.numbered;
           free = adds.free;
           ranged = places adds.place adds.ranged;
           within = within;

@@ -22,7 +22,7 @@ use Rattle.disk_model.proofs.Standing.{added_puts}
 use Rattle.entry_name.specs.EntryName.{file_name}
 use Rattle.file_handles.specs.Cache.{cache_at}
 use Rattle.file_handles.specs.Finding.{is_user}
-use Rattle.file_handles.specs.Kept.{Kept, with_object, with_use}
+use Rattle.file_handles.specs.Kept.{Kept, with_new, with_use}
 use Rattle.file_handles.specs.Stands.{IsAt, KeepsWhere}
 use Rattle.file_handles.specs.declared.object.Object.{Object}
 use Rattle.file_handles.specs.declared.object.Use.{Use}
@@ -86,7 +86,7 @@ module _ (s : State) (name : Name) (sound : IsSound s) where
             ∙ sym (entry_entered_other m slot true (fresh now key) but.stands.proper may.enters q (λ e. apart (named ∙ sym e)))
       ]
 
-      pub created_in : KeepsWhere b (cache_at (with_use (with_object k p (Some x)) slot (Some u)) (created (Entry name) s)) (history_of (entered m slot true (fresh now key)) w)
+      pub created_in : KeepsWhere b (cache_at (with_use (with_new k p x) slot (Some u)) (created (Entry name) s)) (history_of (entered m slot true (fresh now key)) w)
       created_in =
           let proper = but.stands.proper in
           let stand = but.stands.handles in

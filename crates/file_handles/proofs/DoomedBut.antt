@@ -1,5 +1,5 @@
 -- The handles and the disk stand for a machine, but for the file under one name.
-use Rattle.std.proofs.Common.{◌≡◌, ◌≢◌, inl, inr, ℕ, List, Some, None, true, sym, ap, subst, ◌∙◌, arith, Bool, IsTrue}
+use Rattle.std.proofs.Common.{◌≡◌, ◌≢◌, inl, inr, ℕ, List, Some, None, true, refl, sym, ap, subst, ◌∙◌, arith, Bool, IsTrue}
 use Rattle.std.specs.Prelude.{slice_get}
 use Rattle.cache_base.specs.declared.name.Name.{Name}
 use Rattle.cache_theory.specs.Crash.{IsCrashKept, WasUnder}
@@ -27,6 +27,7 @@ use Rattle.file_handles.specs.Cache.{cache_at}
 use Rattle.file_handles.specs.Held.{IsHeldAs}
 use Rattle.file_handles.specs.Kept.{Kept}
 use Rattle.file_handles.specs.Stands.{HandlesStand, IsAt, KeepsWhere, Stands}
+use Rattle.file_handles.proofs.HeldChunkLaws.{chunks_on}
 use Rattle.file_handles.proofs.Histories.{history_of}
 
 -- the files and the handles are the machine's, but for the file under the name
@@ -74,6 +75,7 @@ module _ (name : List ℕ) (s : State) (k : Kept) (m : Machine) (w : Marks) (unu
           let old = stands.handles.objects p x at in
           record { in_use = in_use_next (number p) old.in_use; as_held = subst (λ o. IsHeldAs x o) (sym (same_object (number p))) old.as_held };
       apart = stands.handles.apart;
+      chunks = chunks_on k k m (doomed_under m name) number (λ q y at. at) (λ q y at. at) same_object (doomed_length m name) refl refl stands.handles.chunks;
     };
     entries_but = λ q apart. stands.entries q ∙ sym (entry_doomed_other m name q stands.proper apart);
     doomed = record {

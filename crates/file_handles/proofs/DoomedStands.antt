@@ -2,6 +2,7 @@
 use Rattle.std.proofs.Common.{◌≡◌, ◌≢◌, ◌⊎◌, inl, inr, ℕ, ◌<◌, length, Option, Some, None, IsSome, true, refl, sym, ap, subst, ◌∙◌, arith}
 use Rattle.std.specs.List.{Contains}
 use Rattle.std.proofs.lemmas.Bool.{cases_eq}
+use Rattle.std.proofs.lemmas.List.Elements.{All-weaker}
 use Rattle.cache_base.specs.declared.name.Name.{Name}
 use Rattle.cache_theory.specs.Ever.{entries, entry_place}
 use Rattle.cache_theory.specs.Machine.{Machine, Object as MachineObject, object}
@@ -15,6 +16,7 @@ use Rattle.cache_theory.proofs.FiledOnce.{one_name as one_place}
 use Rattle.cache_theory.proofs.HeldDoomed.{held_before_doomed, held_doomed, held_new}
 use Rattle.cache_theory.proofs.Names.{one_name}
 use Rattle.cache_theory.proofs.Users.{in_use_along, same_number}
+use Rattle.chunk_cache.specs.Cached.{CachedChunk}
 use Rattle.disk_model.specs.declared.place.Place.{Place}
 use Rattle.disk_model.specs.declared.place.Place.TheVariants.{Doomed, Entry, Index, Log, Tmp}
 use Rattle.disk_model.specs.Sound.{IsSound}
@@ -23,12 +25,14 @@ use Rattle.disk_model.specs.State.{State, renamed, standing}
 use Rattle.disk_model.proofs.Standing.{renamed_moves}
 use Rattle.file_handles.specs.Dooming.{number_in, numbers_in}
 use Rattle.file_handles.specs.Held.{IsEntryOf, IsHeldAs}
+use Rattle.file_handles.specs.HeldChunks.{ChunksStand, IsChunkInUse, KeepsChunks}
 use Rattle.file_handles.specs.Kept.{Kept, object_at, with_object}
 use Rattle.file_handles.specs.Stands.{HandlesStand, IsAt, IsObjectOf, Stands}
 use Rattle.file_handles.specs.declared.object.Entry.{Entry as HeldEntry}
 use Rattle.file_handles.specs.declared.object.Entry.TheVariants as entry
 use Rattle.file_handles.specs.declared.object.Object.{Object}
 use Rattle.file_handles.proofs.DoomedNumbers.{number_of_doomed}
+use Rattle.file_handles.proofs.HeldChunkLaws.{chunk_on, keeps_own}
 use Rattle.file_handles.proofs.KeptLaws.{object_set_here, object_set_other}
 
 -- the object with this number among the doomed
@@ -115,6 +119,37 @@ module _ (s : State) (k : Kept) (m : Machine) (number : ℕ → ℕ) (name : Nam
   is_same_object : (q r : ℕ) (y z : Object) → q ≡ r → y ≡ z → IsObjectOf next (number r) z → IsObjectOf next (number q) y
   is_same_object q r y z e f h = subst (λ a. IsObjectOf next (number q) a) (sym f) (subst (λ a. IsObjectOf next (number a) z) (sym e) h)
 
+  chunk_next : (c : CachedChunk) → IsChunkInUse k m c → IsChunkInUse after next c
+  chunk_next c is =
+      let own : number is.place ≡ c.entry = may.stands.handles.chunks.numbered is.place is.object is.at_place ∙ is.numbered in
+      elim (cases_eq is.place p) [
+        | inl e ↦
+            let both : Some x ≡ Some is.object = sym may.at_place ∙ ap (object_at k) (sym e) ∙ is.at_place in
+            let one : x ≡ is.object = cc in
+            chunk_on k after m next c p (doomed_as x n) here (ap (λ (y : Object). y.number) one ∙ is.numbered)
+            (subst (λ (i : ℕ). KeepsChunks (object m i) (object next i)) (ap number (sym e) ∙ own)
+            (subst (KeepsChunks (object m (number p))) (sym user_next) (record { more = omega arith; same = λ i lt. refl })))
+            is
+        | inr apart ↦
+            chunk_on k after m next c is.place is.object (there is.place apart ∙ is.at_place) is.numbered
+            (keeps_own _ _ (ap (object next) (sym own) ∙ other_next (number is.place) (apart_numbers is.place is.object is.at_place apart) ∙ ap (object m) own)) is
+      ]
+
+  chunks_next : ChunksStand after next number
+  chunks_next = record {
+    numbered = λ q y at.
+        let was = was_at q y at in
+        may.stands.handles.chunks.numbered q was.0 was.1.0 ∙ elim was.1.1 [
+          | inl new ↦
+              let both : Some x ≡ Some was.0 = sym may.at_place ∙ ap (object_at k) (sym new.0) ∙ was.1.0 in
+              let one : x ≡ was.0 = cc in
+              ap (λ (z : Object). z.number) (sym one) ∙ ap (λ (z : Object). z.number) (sym new.1)
+          | inr same ↦ ap (λ (z : Object). z.number) (sym same.1)
+        ];
+    made = may.stands.handles.chunks.made ∙ sym (doomed_length m name.0);
+    held = All-weaker (IsChunkInUse k m) (IsChunkInUse after next) chunk_next k.chunks may.stands.handles.chunks.held;
+  }
+
   handles_next : HandlesStand after next number
   handles_next = record {
     slots = may.stands.handles.slots;
@@ -129,6 +164,7 @@ module _ (s : State) (k : Kept) (m : Machine) (number : ℕ → ℕ) (name : Nam
           | inr same ↦ is_same_object q q y was.0 refl same.1 (object_q q was.0 was.1.0 same.0)
         ];
     apart = λ q r y z at_q at_r same. let a = was_at q y at_q in let b = was_at r z at_r in may.stands.handles.apart q r a.0 b.0 a.1.0 b.1.0 same;
+    chunks = chunks_next;
   }
 
   moves : Moves (Entry name) (Doomed n) s t

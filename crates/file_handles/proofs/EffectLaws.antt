@@ -87,10 +87,10 @@ learnt_whole : (o : MachineObject) → o.finished ≡ true → o.doomed ≡ fals
 unfolding learnt_if
 learnt_whole o done undoomed is = (λ i. learnt_if o (done i && not (undoomed i))) ∙ ap (learnt_under (object_name o)) (record_is o.version is)
 
-pub held_is_learnt : (name : Name) (doomed : Option ℕ) (e : Entry) (o : MachineObject) → IsHeldAs (object_with name doomed e) o → IsObject o → learnt_of_held name doomed e ≡ learnt_of o
-held_is_learnt name (Some number) e o held is = sym (learnt_doomed o (sym held.doomed))
-held_is_learnt name None (entry.Draft d) o held is = sym (learnt_unfinished o held.held_entry.0)
-held_is_learnt name None (entry.Finished meta) o held is =
+pub held_is_learnt : (n : ℕ) (name : Name) (doomed : Option ℕ) (e : Entry) (o : MachineObject) → IsHeldAs (object_with n name doomed e) o → IsObject o → learnt_of_held name doomed e ≡ learnt_of o
+held_is_learnt n name (Some number) e o held is = sym (learnt_doomed o (sym held.doomed))
+held_is_learnt n name None (entry.Draft d) o held is = sym (learnt_unfinished o held.held_entry.0)
+held_is_learnt n name None (entry.Finished meta) o held is =
     (λ i. effect.Wrote (record_of_meta (record { 0 = held.named i }) (held.held_entry.1 i) (file_len (held.held_entry.1 i))))
     ∙ sym (learnt_whole o held.held_entry.0 (sym held.doomed) (is.version held.held_entry.0))
 

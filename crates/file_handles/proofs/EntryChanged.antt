@@ -1,5 +1,5 @@
 -- An entry whose header and elements are changed, and its file.
-use Rattle.std.proofs.Common.{◌≡◌, inr, ℕ, List, Option, Some, true, refl, sym, ap, subst, ◌∙◌}
+use Rattle.std.proofs.Common.{◌≡◌, inr, ℕ, List, Option, Some, true, refl, sym, ap, subst, ◌∙◌, arith}
 use Rattle.cache_theory.specs.Machine.{Object as MachineObject}
 use Rattle.cache_theory.specs.Stands.{object_file}
 use Rattle.cache_theory.proofs.EntryFiles.{finished_file_is, unfinished_file_is}
@@ -55,7 +55,7 @@ module _ (hs : Header → Header) (es : List Element → List Element) where
   with_changed o = with_version with_parts o
 
   -- the object is held as it is with these
-  pub meta_held : (x : Object) (o : MachineObject) → IsHeldAs x o → (old new : Meta) → x.entry ≡ Finished old → IsMetaWith hs es old new → IsHeldAs (object_with x.name x.doomed (Finished new)) (with_changed o)
+  pub meta_held : (x : Object) (o : MachineObject) → IsHeldAs x o → (old new : Meta) → x.entry ≡ Finished old → IsMetaWith hs es old new → IsHeldAs (object_with x.number x.name x.doomed (Finished new)) (with_changed o)
   meta_held x o held old new is with =
       let was : IsEntryOf (Finished old) o = subst (λ (e : Entry). IsEntryOf e o) is held.held_entry in
       let old_is = was.1 in
@@ -74,7 +74,7 @@ module _ (hs : Header → Header) (es : List Element → List Element) where
         );
       }
 
-  pub draft_held : (x : Object) (o : MachineObject) → IsHeldAs x o → (old new : DraftOf) → x.entry ≡ Draft old → IsDraftWith hs es old new → IsHeldAs (object_with x.name x.doomed (Draft new)) (with_changed o)
+  pub draft_held : (x : Object) (o : MachineObject) → IsHeldAs x o → (old new : DraftOf) → x.entry ≡ Draft old → IsDraftWith hs es old new → IsHeldAs (object_with x.number x.name x.doomed (Draft new)) (with_changed o)
   draft_held x o held old new is with =
       let was : IsEntryOf (Draft old) o = subst (λ (e : Entry). IsEntryOf e o) is held.held_entry in
       record {
@@ -93,8 +93,10 @@ module _ (hs : Header → Header) (es : List Element → List Element) where
 
   -- what becomes of an object with another entry
   entry_becomes : (x : Object) (o : MachineObject) (s t : State) (e : Entry) → IsFiledAs x o s → IsEntryOf e (with_changed o) → standing t (object_place x) ≡ Some (object_file (with_changed o))
-      → Becomes x (record { name = x.name; doomed = x.doomed; entry = e }) (with_changed o) t
+      → Becomes x (record { number = x.number; name = x.name; doomed = x.doomed; entry = e }) o (with_changed o) t
   entry_becomes x o s t e filed is file = record {
+    same_object = refl;
+    keeps_chunks = record { more = omega arith; same = λ i lt. refl };
     same_place = refl;
     same_name = refl;
     same_number = refl;
@@ -131,14 +133,14 @@ module _ (hs : Header → Header) (es : List Element → List Element) where
           (writes (file_of o.version) (ap (standing s) same ∙ stands_whole)))
 
       pub meta_becomes : ((content : List ℕ) → standing s place ≡ Some content → standing t place ≡ Some (file_of (rewritten (meta_of new) content)))
-          → Becomes x (record { name = x.name; doomed = x.doomed; entry = Finished new }) (with_changed o) t
+          → Becomes x (record { number = x.number; name = x.name; doomed = x.doomed; entry = Finished new }) o (with_changed o) t
       meta_becomes stands =
           entry_becomes x o s t (Finished new) filed (entry_is.0, meta_is)
           (ap (standing t) (sym same) ∙ stands (file_of o.version) (ap (standing s) same ∙ stands_whole) ∙ ap Some (whole ∙ sym (finished_file_is (with_changed o) entry_is.0)))
 
   -- one that is being written
   pub draft_becomes : (x : Object) (o : MachineObject) (s : State) → IsFiledAs x o s → (old new : DraftOf) → x.entry ≡ Draft old → IsDraftWith hs es old new
-      → Becomes x (record { name = x.name; doomed = x.doomed; entry = Draft new }) (with_changed o) s
+      → Becomes x (record { number = x.number; name = x.name; doomed = x.doomed; entry = Draft new }) o (with_changed o) s
   draft_becomes x o s filed old new is with =
       let was = subst (λ (e : Entry). IsEntryOf e o) is filed.as_held.held_entry in
       entry_becomes x o s s (Draft new) filed (draft_held x o filed.as_held old new is with).held_entry

@@ -14,6 +14,7 @@ use Rattle.file_handles.specs.Held.{IsDraftOf, IsEntryOf, object_place}
 use Rattle.file_handles.specs.declared.object.Draft.{Draft}
 use Rattle.file_handles.specs.declared.object.Entry.TheVariants as entry
 use Rattle.file_handles.specs.declared.object.Object.{Object}
+use Rattle.file_handles.proofs.HeldChunkLaws.{keeps_appended}
 use Rattle.file_handles.proofs.Changed.{writes_weaker}
 
 module _ (x : Object) (d : Draft) (is : x.entry ≡ entry.Draft d) (b : List ℕ) (s t : State) (place : Place) (at : place ≡ object_place x) where
@@ -25,7 +26,7 @@ module _ (x : Object) (d : Draft) (is : x.entry ≡ entry.Draft d) (b : List ℕ
   pub grown_becomes : (e : Draft) → e.header ≡ d.header → e.key ≡ d.key → e.elements ≡ d.elements
       → ((body : List ℕ) → HasBody (held d.body) body → HasBody (held e.body) (body ++ b))
       → ((body : List ℕ) → HasBody (held d.body) body → standing s place ≡ Some (unfinished_file body) → standing t place ≡ Some (unfinished_file (body ++ b)))
-      → (o : MachineObject) → IsFiledAs x o s → Becomes x (record { name = x.name; doomed = x.doomed; entry = entry.Draft e }) (appended b o) t
+      → (o : MachineObject) → IsFiledAs x o s → Becomes x (record { number = x.number; name = x.name; doomed = x.doomed; entry = entry.Draft e }) o (appended b o) t
   grown_becomes e header key elements body stands o filed =
       let was : IsEntryOf (entry.Draft d) o = subst (λ z. IsEntryOf z o) is filed.as_held.held_entry in
       let now : IsDraftOf e (appended b o).version = record {
@@ -35,6 +36,8 @@ module _ (x : Object) (d : Draft) (is : x.entry ≡ entry.Draft d) (b : List ℕ
         elements = elements ∙ was.1.elements;
       } in
       record {
+        same_object = refl;
+        keeps_chunks = keeps_appended b o was.0;
         same_place = refl;
         same_name = refl;
         same_number = refl;

@@ -7,7 +7,7 @@ use Rattle.std.proofs.lemmas.Option.{unwrap_or-slice_get}
 use Rattle.cache_base.specs.declared.limits.TheConstants.{SLOTS}
 use Rattle.file_handles.specs.Finding.{is_free}
 use Rattle.file_handles.specs.Joining.{AddsTo, JoinsAt}
-use Rattle.file_handles.specs.Kept.{Kept, object_at, with_object, with_use}
+use Rattle.file_handles.specs.Kept.{Kept, object_at, with_new, with_use}
 use Rattle.file_handles.specs.declared.object.Object.{Object}
 use Rattle.file_handles.specs.declared.object.Use.{Use}
 
@@ -26,13 +26,14 @@ free_is_none k p is = go (object_at k p) refl
     go (Some x) at = absurd (let e : get_or k.objects p None ≡ Some x = sym (unwrap_or-slice_get k.objects p None) ∙ at in let n = sym (ap (λ (o : Option Object). is_none o) e) ∙ here in cc)
 
 -- an object that is put at the place that was found free, for a slot
-pub added : (slot : ℕ) (x : Object) (writes : Bool) (before put after : Kept) (p : ℕ) → p < SLOTS → position is_free before.objects ≡ Some p → put ≡ with_object before p (Some x) → JoinsAt slot p writes put after
+pub added : (slot : ℕ) (x : Object) (writes : Bool) (before put after : Kept) (p : ℕ) → p < SLOTS → position is_free before.objects ≡ Some p → x.number ≡ before.made → put ≡ with_new before p x → JoinsAt slot p writes put after
     → AddsTo slot x writes (Ok tt) before after
-added slot x writes before put after p ranged found is joins = record {
+added slot x writes before put after p ranged found numbered is joins = record {
   added = record {
     place = p;
     ranged = ranged;
     free = free_is_none before p found;
+    numbered = numbered;
     joins = let P : Kept → Type 0 = λ k. JoinsAt slot p writes k after in subst P is joins;
   };
   refused = tt;

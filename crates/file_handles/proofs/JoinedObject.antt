@@ -3,6 +3,7 @@ use Rattle.std.proofs.Common.{◌≡◌, ◌≢◌, inl, inr, ℕ, ◌<◌, [], 
 use Rattle.std.specs.Prelude.{◌==◌, if◌then◌else◌, option_map, slice_get, unwrap_or}
 use Rattle.std.proofs.lemmas.Bool.{cases_eq, ne_eqb}
 use Rattle.std.proofs.lemmas.Option.{slice_get_past, slice_get_within}
+use Rattle.std.proofs.lemmas.List.Elements.{All-weaker}
 use Rattle.cache_theory.specs.Crash.{IsCrashKept, WasUnder}
 use Rattle.cache_theory.specs.Machine.{Machine, Object as MachineObject}
 use Rattle.cache_theory.specs.Marks.{Marks, is_buried}
@@ -14,13 +15,16 @@ use Rattle.cache_theory.proofs.HeldDoomed.{held_before_entered, held_entered, he
 use Rattle.cache_theory.proofs.Objects.{length_more, nth, nth-append_old, nth_is, nth_there}
 use Rattle.cache_theory.proofs.Slots.{free_is_none, has_slots_of, slot_kept, slot_of as slot_with, use_of, with_slot_other, with_slot_same}
 use Rattle.cache_theory.proofs.Users.{in_use_along}
+use Rattle.chunk_cache.specs.Cached.{CachedChunk}
 use Rattle.disk_model.specs.Image.{Files}
 use Rattle.disk_model.specs.State.{State}
 use Rattle.file_handles.specs.Held.{IsHeldAs}
-use Rattle.file_handles.specs.Kept.{Kept, object_at, use_at, with_object, with_use}
+use Rattle.file_handles.specs.HeldChunks.{ChunksStand, IsChunkInUse}
+use Rattle.file_handles.specs.Kept.{Kept, object_at, use_at, with_new, with_object, with_use}
 use Rattle.file_handles.specs.Stands.{HandlesStand, IsAt, IsObjectOf, slot_of}
 use Rattle.file_handles.specs.declared.object.Object.{Object}
 use Rattle.file_handles.specs.declared.object.Use.{Use}
+use Rattle.file_handles.proofs.HeldChunkLaws.{chunk_on, keeps_own}
 use Rattle.file_handles.proofs.JoinedSlots.{same_place, use_set_here, use_set_other}
 use Rattle.file_handles.proofs.KeptLaws.{object_set_here, object_set_other}
 
@@ -28,6 +32,7 @@ use Rattle.file_handles.proofs.KeptLaws.{object_set_here, object_set_other}
 pub record MayAdd (k : Kept) (m : Machine) (slot : ℕ) (writes : Bool) (o : MachineObject) (x : Object) (p : ℕ) (u : Use) : Type 0 where
   pub enters : MayEnter m slot writes o
   pub as_held : IsHeldAs x o
+  pub numbered : x.number ≡ k.made
   pub free : object_at k p ≡ None
   pub ranged : p < length k.objects
   pub within : slot < length k.slots
@@ -39,7 +44,7 @@ module _ (k : Kept) (m : Machine) (number : ℕ → ℕ) (proper : IsProper m) (
   next = entered m slot writes o
 
   abbrev pub after : Kept
-  after = with_use (with_object k p (Some x)) slot (Some u)
+  after = with_use (with_new k p x) slot (Some u)
 
   abbrev pub numbers : ℕ → ℕ
   numbers q = if q == p then length m.objects else number q
@@ -122,27 +127,45 @@ module _ (k : Kept) (m : Machine) (number : ℕ → ℕ) (proper : IsProper m) (
     ]
   ]
 
+  chunk_next : (c : CachedChunk) → IsChunkInUse k m c → IsChunkInUse after next c
+  chunk_next c is =
+      let below = number_below is.place is.object is.at_place in
+      let numbered = stand.chunks.numbered is.place is.object is.at_place ∙ is.numbered in
+      chunk_on k after m next c is.place is.object (there is.place (not_free is.place is.object is.at_place) ∙ is.at_place) is.numbered
+      (keeps_own _ _ (entered_there m slot writes o proper may.enters c.entry (omega (arith, below, numbered)))) is
+
+  chunks_next : ChunksStand after next numbers
+  chunks_next = record {
+    numbered = λ q y at. elim (cases_eq q p) [
+      | inl e ↦ new_number q e ∙ sym stand.chunks.made ∙ sym may.numbered ∙ ap (λ (z : Object). z.number) (sym (one_object_there q y at e))
+      | inr apart ↦ old_number q apart ∙ stand.chunks.numbered q y (sym (there q apart) ∙ at)
+    ];
+    made = (let l = length_more m.objects o in let made = stand.chunks.made in omega (arith, l, made));
+    held = All-weaker (IsChunkInUse k m) (IsChunkInUse after next) chunk_next k.chunks stand.chunks.held;
+  }
+
   pub handles_added : HandlesStand after next numbers
   handles_added = record {
     slots = λ t lt. elim (cases_eq t slot) [
       | inl e ↦
           let n : length m.objects ≡ numbers u.place = sym (new_number u.place may.placed) in
           with_slot_same m.slots slot t (use_of (length m.objects) writes) e ∙ (λ i. use_of (n i) (sym may.writing i))
-          ∙ sym (ap (option_map (slot_of numbers)) (use_set_here (with_object k p (Some x)) slot t (Some u) may.within e))
+          ∙ sym (ap (option_map (slot_of numbers)) (use_set_here (with_new k p x) slot t (Some u) may.within e))
       | inr apart ↦
           with_slot_other m.slots slot t (use_of (length m.objects) writes) apart ∙ stand.slots t lt ∙ same_slot t (use_at k t) refl
-          ∙ sym (ap (option_map (slot_of numbers)) (use_set_other (with_object k p (Some x)) slot t (Some u) apart))
+          ∙ sym (ap (option_map (slot_of numbers)) (use_set_other (with_new k p x) slot t (Some u) apart))
     ];
     used = λ t v at. elim (cases_eq t slot) [
       | inl e ↦
-          let same = same_place u v (sym (use_set_here (with_object k p (Some x)) slot t (Some u) may.within e) ∙ at) in
+          let same = same_place u v (sym (use_set_here (with_new k p x) slot t (Some u) may.within e) ∙ at) in
           subst (λ (y : Option Object). IsSome y) (sym (here v.place (sym same ∙ may.placed))) refl
       | inr apart ↦
-          let old : use_at k t ≡ Some v = sym (use_set_other (with_object k p (Some x)) slot t (Some u) apart) ∙ at in
+          let old : use_at k t ≡ Some v = sym (use_set_other (with_new k p x) slot t (Some u) apart) ∙ at in
           subst (λ (y : Option Object). IsSome y) (sym (there v.place (place_taken t v old))) (stand.used t v old)
     ];
     objects = objects_next;
     apart = apart_next;
+    chunks = chunks_next;
   }
 
   -- The doomed objects are the same.

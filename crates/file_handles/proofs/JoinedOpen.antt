@@ -33,7 +33,7 @@ use Rattle.file_handles.specs.Cache.{cache_at}
 use Rattle.file_handles.specs.Carries.{CarriesOut}
 use Rattle.file_handles.specs.Held.{IsHeldAs}
 use Rattle.file_handles.specs.Joining.{Adds, AddsTo, JoinsAt}
-use Rattle.file_handles.specs.Kept.{Kept, use_at, used, with_object, with_use}
+use Rattle.file_handles.specs.Kept.{Kept, use_at, used, with_new, with_use}
 use Rattle.file_handles.specs.Loading.{LoadsAs, used_place}
 use Rattle.file_handles.specs.Stands.{HandlesStand, KeepsWhere, Stands}
 use Rattle.file_handles.specs.declared.fault.HandleFault.{HandleFault}
@@ -183,7 +183,7 @@ module _ (s : State) (k : Kept) (slot : ℕ) (key : List ℕ) (small : slot < SL
         unread_answer (Err f) e is loads = subst (λ (a : HandleFault). CarriesOut (OpenKey slot key) (reply_in a) (cache_at k s) (cache_at k s)) (sym is) (unread_leaves e loads)
 
         -- an entry that is read
-        module _ (meta : Meta) (x : Object) (is_object : x ≡ record { name = name; doomed = None; entry = entry.Finished meta }) (loads : LoadsAs (read_for key (standing s (Entry name))) (Ok meta)) where
+        module _ (meta : Meta) (x : Object) (is_object : x ≡ record { number = x.number; name = name; doomed = None; entry = entry.Finished meta }) (loads : LoadsAs (read_for key (standing s (Entry name))) (Ok meta)) where
           enters_in : {b : Bool} (after : Kept) (m : Machine) (w : Marks) (is : KeepsWhere b (cache_at k s) (history_of m w)) → Adds slot x false k after → (p_within : (p : ℕ) → p < SLOTS → p < length k.objects)
               → (v : Version) → on_shelf m key ≡ Whole v → meta_of meta ≡ version_meta v → KeepsWhere b (cache_at after s) (history_of (joined m slot None (Whole v)) w)
           enters_in {b} after m w is adds p_within v at same =
@@ -195,6 +195,7 @@ module _ (s : State) (k : Kept) (slot : ℕ) (key : List ℕ) (small : slot < SL
               let may : MayAdd k m slot false (read_object v) x adds.place adds.joins.use_ = record {
                 enters = enters;
                 as_held = subst (λ y. IsHeldAs y (read_object v)) (sym is_object) (record { named = named ∙ sym shelved.named; doomed = refl; held_entry = (refl, same) });
+                numbered = adds.numbered;
                 free = adds.free;
                 ranged = p_within adds.place adds.ranged;
                 within = within;
@@ -202,7 +203,7 @@ module _ (s : State) (k : Kept) (slot : ℕ) (key : List ℕ) (small : slot < SL
                 writing = adds.joins.writing;
               } in
               let next : Machine = joined m slot None (Whole v) in
-              let l : Kept = with_use (with_object k adds.place (Some x)) slot (Some adds.joins.use_) in
+              let l : Kept = with_use (with_new k adds.place x) slot (Some adds.joins.use_) in
               let result : KeepsWhere b (cache_at l s) (history_of next w) = record {
                 number = numbers k m is.number proper stand slot false (read_object v) x adds.place adds.joins.use_ may;
                 stands = record {

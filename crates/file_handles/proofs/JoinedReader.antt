@@ -17,6 +17,7 @@ use Rattle.file_handles.specs.Kept.{Kept, object_at, with_use}
 use Rattle.file_handles.specs.Stands.{HandlesStand, IsAt, KeepsWhere, slot_of}
 use Rattle.file_handles.specs.declared.object.Object.{Object}
 use Rattle.file_handles.specs.declared.object.Use.{Use}
+use Rattle.file_handles.proofs.HeldChunkLaws.{chunks_on}
 use Rattle.file_handles.proofs.Histories.{history_of}
 use Rattle.file_handles.proofs.JoinedSlots.{same_place, use_set_here, use_set_other}
 
@@ -64,6 +65,7 @@ module _ {b : Bool} (s : State) (k : Kept) (m : Machine) (w : Marks) (is : Keeps
           as_held = old.as_held;
         };
     apart = stand.apart;
+    chunks = chunks_on k after m next is.number (λ q y at. at) (λ q y at. at) (λ i. refl) refl refl refl stand.chunks;
   }
 
   at_on : (d i : ℕ) → IsAt k is.number d i → IsAt after is.number d i

@@ -1,6 +1,7 @@
 pub mod Histories
 pub mod Accounting
 pub mod KeptLaws
+pub mod HeldChunkLaws
 pub mod Places
 pub mod Where
 pub mod Begun
@@ -59,3 +60,5 @@ pub mod LearntRest
 pub mod ClosedAll
 pub mod Parts
 pub mod PartsSlots
+pub mod ReadChunks
+pub mod ReadKept

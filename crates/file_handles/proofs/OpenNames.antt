@@ -20,7 +20,7 @@ use Rattle.cache_theory.specs.Machine.{Machine, object, open_names, writing_name
 use Rattle.cache_theory.specs.Machine.{Object as MachineObject}
 use Rattle.cache_theory.specs.Proper.{IsProper}
 use Rattle.cache_theory.specs.Table.{IsTable, Table, bytes_cmp, get, keys, name_of}
-use Rattle.cache_theory.proofs.Evicting.{has_open}
+use Rattle.cache_check.proofs.FoundExactly.{has_key}
 use Rattle.cache_theory.proofs.TableLaws.{same_table}
 use Rattle.cache_theory.proofs.WritingNames.{has_writing, is_unfinished, passes_there, passing, passing_is_table}
 use Rattle.evictor.specs.Evict.{has_name}
@@ -193,7 +193,7 @@ module _ (k : Kept) (m : Machine) (number : ℕ → ℕ) (proper : IsProper m) (
       → names ≡ open_names m
   open_is names rising has =
       same_names names (open_names m) (rising_table names rising) (keys_table m.in_use proper.users) (λ q.
-      has (name_of q) ∙ open_same (name_of q) ∙ sym (has_open m.in_use (name_of q)))
+      has (name_of q) ∙ open_same (name_of q) ∙ sym (has_key m.in_use (name_of q)))
 
   -- a draft that counts is the machine's unfinished object under the name
   draft_there : (q : Name) (p : ℕ) (o : Option Object) → p < length k.objects → object_at k p ≡ o

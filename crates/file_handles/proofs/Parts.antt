@@ -1,7 +1,7 @@
 -- The part of a body in a chunk.
-use Rattle.std.proofs.Common.{◌≡◌, ◌∙◌, inl, inr, ℕ, ◌+◌, ◌-◌, ◌*◌, ◌/◌, ◌%◌, ◌<◌, ◌≤◌, List, [], ◌++◌, length, length-append, length-drop, min, take, drop, Bool, true, false, refl, sym, ap, arith}
-use Rattle.std.proofs.Common.{◌⊎◌, Option, Some, Result, Ok, Err, subst, eqb-true}
-use Rattle.std.specs.Prelude.{◌==◌, ◌||◌, IfSome, OnOk, if◌then◌else◌, nat_le}
+use Rattle.std.proofs.Common.{◌≡◌, ◌∙◌, inl, inr, ℕ, ◌+◌, ◌-◌, ◌*◌, ◌/◌, ◌%◌, ◌<◌, ◌≤◌, List, [], ◌++◌, length, length-append, length-drop, min, take, drop, Bool, true, false, cond, refl, sym, ap, arith}
+use Rattle.std.proofs.Common.{◌⊎◌, None, Result, Ok, Err, eqb-true}
+use Rattle.std.specs.Prelude.{◌==◌, ◌||◌, OnOk, nat_le}
 use Rattle.std.proofs.lemmas.List.{drop-drop, drop-take, drop_all, length-take, take-take, take_all, take_at}
 use Rattle.std.proofs.lemmas.Bool.{cases_Bool, eqb-false, leb-false, leb-true}
 use Rattle.std.proofs.Common.{leb}
@@ -12,14 +12,18 @@ use Rattle.chunk_store.specs.Chunks.{chunk}
 use Rattle.chunk_store.specs.Stored.{whole_len}
 use Rattle.entry_file.specs.Held.{held}
 use Rattle.cache_base.specs.Bytes.{be32}
+use Rattle.cache_base.specs.Limits.{chunks}
 use Rattle.entry_file.specs.Version.{file_of, version_meta}
 use Rattle.entry_file.proofs.Bodies.{rest_long, unfinished_front, unfinished_long}
 use Rattle.entry_metadata.specs.Metadata.{block_bytes}
 use Rattle.file_handles.proofs.ElementEntries.{body_len_is}
+use Rattle.file_handles.proofs.HeldChunkLaws.{in_front}
 use Rattle.file_handles.specs.Held.{IsEntryOf, body_len_in, rest_in}
-use Rattle.file_handles.specs.Reading.{part_in, part_of_body}
+use Rattle.file_handles.specs.HeldChunks.{chunks_on_disk}
+use Rattle.file_handles.specs.Reading.{HasChunkOf, part_of_body, rest_part, stored_in}
 use Rattle.file_handles.specs.declared.object.Entry.{Entry}
 use Rattle.file_handles.specs.declared.object.Entry.TheVariants as entry
+use Rattle.file_handles.specs.declared.object.Object.{Object}
 
 le_or : (m n : ℕ) → (m ≤ n) ⊎ (n < m)
 le_or m n = elim (cases_Bool (leb m n)) [ inl le ↦ inl (leb-true m n le) | inr past ↦ inr (leb-false m n past) ]
@@ -55,12 +59,6 @@ module _ (size len from base r : ℕ) (at : from ≡ base + r) where
       ∙ take_twice len (size - r) (drop r (drop base xs))
       ∙ ap (take (min len (size - r))) (drop-drop r base xs ∙ ap (λ n. drop n xs) (sym at))
 
--- what lies in a prefix of a list
-in_front : (n from front : ℕ) (xs : List ℕ) → from + n ≤ front → take n (drop from (take front xs)) ≡ take n (drop from xs)
-in_front n from front xs le =
-    ap (λ k. take n (drop from (take k xs))) (let e : front ≡ from + (front - from) = omega (arith, le) in e)
-    ∙ ap (take n) (drop-take from (front - from) xs) ∙ take-take n (front - from) (drop from xs) (omega (arith, le))
-
 -- there is none where none is asked for, or after the end
 pub no_part : (body : List ℕ) (from len : ℕ) → (len ≡ 0) ⊎ (length body ≤ from) → [] ≡ part_of_body body from len
 no_part body from len none = elim none [
@@ -82,25 +80,35 @@ held_part (entry.Draft d) o is from len within past =
     ∙ in_rest 262144 len from (whole_len body) (from % 262144) (omega (arith, long, within, past)) body (omega arith)
 held_part (entry.Finished meta) o is from len within past = absurd (omega (arith, within, past))
 
--- and else it is in a chunk on the disk
-pub stored_part : (e : Entry) (o : MachineObject) → IsEntryOf e o → (from len : ℕ) → from < stored_of e o
-    → take len (drop (from % 262144) (chunk (take (stored_of e o) (object_file o)) (from / 262144))) ≡ part_of_body o.version.body from len
+-- and else it is in a chunk on the disk, which is that of the body
+pub stored_chunk : (e : Entry) (o : MachineObject) → IsEntryOf e o → (from : ℕ) → from < stored_of e o
+    → chunk (take (stored_of e o) (object_file o)) (from / 262144) ≡ chunk o.version.body (from / 262144)
 unfolding file_of
-stored_part (entry.Draft d) o is from len before =
+stored_chunk (entry.Draft d) o is from before =
     let body : List ℕ = o.version.body in
     let long = rest_long (held d.body) body is.1.body in
     let whole : stored_of (entry.Draft d) o ≡ whole_len body = omega (arith, long) in
     let file : take (stored_of (entry.Draft d) o) (object_file o) ≡ take (whole_len body) body =
     (λ i. take (whole i) (unfinished_file_is o is.0 i)) ∙ unfinished_front body in
-    ap (λ c. take len (drop (from % 262144) (chunk c (from / 262144)))) file
-    ∙ in_piece 262144 len from (from / 262144 * 262144) (from % 262144) (omega arith) (take (whole_len body) body) (omega arith)
-    ∙ in_front (min len (262144 - from % 262144)) from (whole_len body) body (omega (arith, before, whole))
-stored_part (entry.Finished meta) o is from len before =
+    ap (λ c. chunk c (from / 262144)) file
+    ∙ in_front 262144 (from / 262144 * 262144) (whole_len body) body (omega (arith, before, whole))
+stored_chunk (entry.Finished meta) o is from before =
     let body : List ℕ = o.version.body in
-    let file : take (stored_of (entry.Finished meta) o) (object_file o) ≡ body =
-    ap (take (stored_of (entry.Finished meta) o)) (finished_file_is o is.0) ∙ take_at body _ (stored_of (entry.Finished meta) o) (omega arith) in
-    ap (λ c. take len (drop (from % 262144) (chunk c (from / 262144)))) file
-    ∙ in_piece 262144 len from (from / 262144 * 262144) (from % 262144) (omega arith) body (omega arith)
+    ap (λ c. chunk c (from / 262144))
+    (ap (take (stored_of (entry.Finished meta) o)) (finished_file_is o is.0) ∙ take_at body _ (stored_of (entry.Finished meta) o) (omega arith))
+
+pub stored_on_disk : (e : Entry) (o : MachineObject) → IsEntryOf e o → (from : ℕ) → from < stored_of e o → from / 262144 < chunks_on_disk o
+stored_on_disk (entry.Draft d) o is from before =
+    let long = rest_long (held d.body) o.version.body is.1.body in
+    let count : chunks_on_disk o ≡ length o.version.body / 262144 = ap (λ b. cond b (chunks (length o.version.body)) (length o.version.body / 262144)) is.0 in
+    omega (arith, long, before, count)
+stored_on_disk (entry.Finished meta) o is from before =
+    let count : chunks_on_disk o ≡ chunks (length o.version.body) = ap (λ b. cond b (chunks (length o.version.body)) (length o.version.body / 262144)) is.0 in
+    omega (arith, before, count)
+
+-- a part of a chunk of the body
+pub chunk_part : (body : List ℕ) (from len : ℕ) → take len (drop (from % 262144) (chunk body (from / 262144))) ≡ part_of_body body from len
+chunk_part body from len = in_piece 262144 len from (from / 262144 * 262144) (from % 262144) (omega arith) body (omega arith)
 
 pub stored_long : (e : Entry) (o : MachineObject) → IsEntryOf e o → stored_of e o ≤ length (object_file o)
 unfolding file_of
@@ -115,39 +123,35 @@ stored_long (entry.Finished meta) o is =
     let all = length-append o.version.body (block_bytes (version_meta o.version) ++ be32 (length o.version.body)) in
     omega (arith, file, all)
 
--- what an entry holds and the chunk that was read have together
-choice : Bool → Bool → Bool → List ℕ → List ℕ → ℕ → ℕ → List ℕ
-choice zero past behind rest buf from len = if zero || past then [] else take len (drop (from % 262144) (if behind then rest else buf))
+-- what of the body is on the disk, by what is held
+pub stored_is : (e : Entry) (o : MachineObject) → IsEntryOf e o → stored_in e ≡ stored_of e o
+stored_is e o is = ap (λ n. n - length (rest_in e)) (body_len_is e o is)
 
-pub fetched_part : (e : Entry) (o : MachineObject) → IsEntryOf e o → (buf : List ℕ) (from len stored : ℕ) → stored ≡ body_len_in e - length (rest_in e) → (file : Option (List ℕ)) → file ≡ Some (object_file o)
-    → (0 < len → from < stored → IfSome file (λ f. stored ≤ length f → buf ≡ chunk (take stored f) (from / 262144))) → part_in e buf from len ≡ part_of_body o.version.body from len
-unfolding choice
-fetched_part e o is buf from len stored at file stands read = go (len == 0) (nat_le (body_len_in e) from) (nat_le (body_len_in e - length (rest_in e)) from) refl refl refl
+-- a part that is of no chunk on the disk
+pub rest_is_part : (x : Object) (o : MachineObject) → IsEntryOf x.entry o → (from len : ℕ) → HasChunkOf x from len None → rest_part x.entry from len ≡ part_of_body o.version.body from len
+rest_is_part x o is from len none = go (len == 0) (nat_le (body_len_in x.entry) from) refl refl
   where
+    e : Entry
+    e = x.entry
+
     end : body_len_in e ≡ length o.version.body
     end = body_len_is e o is
 
-    from_disk : 0 < len → from < stored → take len (drop (from % 262144) buf) ≡ part_of_body o.version.body from len
-    from_disk some before =
-        let P : Option (List ℕ) → Type 0 = λ f. IfSome f (λ c. stored ≤ length c → buf ≡ chunk (take stored c) (from / 262144)) in
-        let same : stored ≡ stored_of e o = omega (arith, at, end) in
-        let long = stored_long e o is in
-        ap (λ b. take len (drop (from % 262144) b)) (subst P stands (read some before) (omega (arith, same, long)))
-        ∙ ap (λ n. take len (drop (from % 262144) (chunk (take n (object_file o)) (from / 262144)))) same
-        ∙ stored_part e o is from len (omega (arith, before, same))
+    past_stored : 0 < len → stored_in e ≤ from
+    past_stored some = elim (le_or (stored_in e) from) [
+      | inl le ↦ le
+      | inr before ↦ absurd (none x.number (from / 262144) (record { some = some; stored = before; numbered = refl; index_is = refl }))
+    ]
 
-    go : (zero past behind : Bool) → (len == 0) ≡ zero → nat_le (body_len_in e) from ≡ past → nat_le (body_len_in e - length (rest_in e)) from ≡ behind
-        → choice zero past behind (rest_in e) buf from len ≡ part_of_body o.version.body from len
-    go true past behind z p b = no_part o.version.body from len (inl (eqb-true len 0 z))
-    go false true behind z p b = no_part o.version.body from len (inr (let le = leb-true (body_len_in e) from p in omega (arith, le, end)))
-    go false false true z p b =
+    go : (zero past : Bool) → (len == 0) ≡ zero → nat_le (body_len_in e) from ≡ past → cond (zero || past) [] (take len (drop (from % 262144) (rest_in e))) ≡ part_of_body o.version.body from len
+    go true past z p = no_part o.version.body from len (inl (eqb-true len 0 z))
+    go false true z p = no_part o.version.body from len (inr (let le = leb-true (body_len_in e) from p in omega (arith, le, end)))
+    go false false z p =
         let before = leb-false (body_len_in e) from p in
-        let le = leb-true (body_len_in e - length (rest_in e)) from b in
-        held_part e o is from len (omega (arith, before, end)) (omega (arith, le, end))
-    go false false false z p b =
-        let lt = leb-false (body_len_in e - length (rest_in e)) from b in
         let some = eqb-false len 0 z in
-        from_disk (omega (arith, some)) (omega (arith, lt, at))
+        let stored = past_stored (omega (arith, some)) in
+        let same = stored_is e o is in
+        held_part e o is from len (omega (arith, before, end)) (omega (arith, stored, same))
 
 -- what holds of an Ok
 pub on_ok : {T E : Type 0} (r : Result T E) (P Q : Type 0) → (P → Q) → OnOk r P → OnOk r Q

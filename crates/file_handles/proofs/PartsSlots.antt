@@ -1,27 +1,23 @@
 -- Whose body a slot reads.
-use Rattle.std.proofs.Common.{◌≡◌, ◌∙◌, ℕ, ◌<◌, List, length, cond, Option, Some, None, Result, Ok, Err, IfErr, IsErrAnd, refl, sym, ap, subst, OnOk}
-use Rattle.std.specs.Prelude.{IfOk, IfSome, is_some, option_map}
+use Rattle.std.proofs.Common.{◌≡◌, ◌∙◌, ℕ, ◌<◌, length, cond, Some, None, Result, Ok, Err, IfErr, IsErrAnd, sym, ap, subst, OnOk}
+use Rattle.std.specs.Prelude.{IfOk, is_some, option_map}
 use Rattle.cache_base.specs.declared.limits.TheConstants.{SLOTS}
 use Rattle.cache_theory.specs.Checks.{checks}
 use Rattle.cache_theory.specs.Command.Command.{ReadPart}
-use Rattle.cache_theory.specs.Machine.{Machine, Object as MachineObject, object, object_of}
+use Rattle.cache_theory.specs.Machine.{Machine, object, object_of}
 use Rattle.cache_theory.specs.declared.refusal.Refusal.{Refusal}
 use Rattle.cache_theory.specs.declared.refusal.Refusal.TheVariants.{NoSlot}
-use Rattle.disk_model.specs.State.{State, standing}
 use Rattle.file_handles.specs.Answers.{OnRefused}
-use Rattle.file_handles.specs.Changes.{IsFiledAs}
 use Rattle.file_handles.specs.Held.{body_len_in}
 use Rattle.file_handles.specs.Kept.{Kept, object_at, use_at, used}
 use Rattle.file_handles.specs.Refuses.{Passes, Refuses}
-use Rattle.file_handles.specs.Reading.{part_in, part_of_body}
-use Rattle.file_handles.specs.Stands.{HandlesStand, Stands, slot_of}
+use Rattle.file_handles.specs.Stands.{HandlesStand, slot_of}
 use Rattle.file_handles.specs.declared.fault.HandleFault.{HandleFault}
 use Rattle.file_handles.specs.declared.fault.HandleFault.TheVariants as fault
 use Rattle.file_handles.specs.declared.object.Object.{Object}
 use Rattle.file_handles.specs.declared.object.Use.{Use}
 use Rattle.file_handles.proofs.ElementSlots.{has_object, no_slot, no_use_found, slot_number, use_found}
 use Rattle.file_handles.proofs.ElementEntries.{body_len_is}
-use Rattle.file_handles.proofs.Places.{is_filed}
 
 -- a refusal that is handed on
 pub refused_on : {T : Type 0} (r : Result T Refusal) (f : Refusal) (P : Refusal → Type 0) → IsErrAnd r (λ e. e ≡ f) → P f → IfErr r P
@@ -53,22 +49,6 @@ module _ (k : Kept) (s : ℕ) (small : s < SLOTS) where
   pub part_len : (m : Machine) (number : ℕ → ℕ) → HandlesStand k m number → (u : Use) (x : Object) → used (use_at k s) ≡ Ok u → object_at k u.place ≡ Some x → body_len_in x.entry ≡ length (object_of m s).version.body
   part_len m number stand u x is at =
       body_len_is x.entry (object m (number u.place)) (stand.objects u.place x at).as_held.held_entry ∙ ap (λ o. length o.version.body) (sym (part_object m number stand u is))
-
--- what is read of a slot's body, once its part was fetched
-pub part_read : (s : State) (k : Kept) (slot : ℕ) → slot < SLOTS → (u : Use) → used (use_at k slot) ≡ Ok u → (shown chunk : List ℕ) (from len : ℕ)
-    → ((x : Object) (o : MachineObject) → object_at k u.place ≡ Some x → IsFiledAs x o s → part_in x.entry chunk from len ≡ part_of_body o.version.body from len)
-    → IfSome (object_at k u.place) (λ x. shown ≡ part_in x.entry chunk from len)
-    → (m : Machine) (number : ℕ → ℕ) → Stands (standing s) k m number → shown ≡ part_of_body (object_of m slot).version.body from len
-part_read s k slot small u is shown chunk from len fetched lent m number stands = go (object_at k u.place) refl
-  where
-    whose : object m (number u.place) ≡ object_of m slot
-    whose = sym (part_object k slot small m number stands.handles u is)
-
-    go : (o : Option Object) → object_at k u.place ≡ o → shown ≡ part_of_body (object_of m slot).version.body from len
-    go None at = absurd (has_object k m number stands.handles slot small u (use_found (use_at k slot) u is) at)
-    go (Some x) at =
-        let P : Option Object → Type 0 = λ o. IfSome o (λ x. shown ≡ part_in x.entry chunk from len) in
-        subst P at lent ∙ fetched x (object m (number u.place)) at (is_filed s k m number stands u.place x at) ∙ ap (λ (o : MachineObject). part_of_body o.version.body from len) whose
 
 -- an error that is handed on
 pub err_is : {T E : Type 0} (r : Result T E) (e : E) → IsErrAnd r (λ f. f ≡ e) → r ≡ Err e

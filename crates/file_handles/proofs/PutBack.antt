@@ -32,7 +32,7 @@ module _ {T : Type 0} (p : ℕ) (change : MachineObject → MachineObject) (answ
   })
 
   -- and else the changed object
-  pub changes_done : (y : Object) → ((o : MachineObject) → IsFiledAs x o s → Becomes x y (change o) t) → after ≡ with_object before p (Some y) → (z : Object) → object_at before p ≡ Some z
+  pub changes_done : (y : Object) → ((o : MachineObject) → IsFiledAs x o s → Becomes x y o (change o) t) → after ≡ with_object before p (Some y) → (z : Object) → object_at before p ≡ Some z
       → ChangesAt p change answer (cache_at before s) (cache_at after t) z
   changes_done y becomes put z also = subst (ChangesAt p change answer (cache_at before s) (cache_at after t)) (one_object before p x z at also) (record {
     changed = Ok y;

@@ -1,5 +1,6 @@
 -- What the handles and the disk stand for, where a slot is given up.
 use Rattle.std.proofs.Common.{◌≡◌, ◌≢◌, ℕ, ◌<◌, List, length, true, false, Option, Some, None, IsSome, refl, sym, ap, subst, ◌∙◌, arith, Bool, IsTrue}
+use Rattle.std.specs.List.{All}
 use Rattle.std.specs.Prelude.{slice_get, slice_set}
 use Rattle.cache_base.specs.declared.limits.TheConstants.{SLOTS}
 use Rattle.cache_theory.specs.Crash.{IsCrashKept, IsSafe, WasUnder}
@@ -15,27 +16,33 @@ use Rattle.cache_theory.proofs.Objects.{nth}
 use Rattle.cache_theory.proofs.Releasing.{proper_released}
 use Rattle.cache_theory.proofs.Slots.{HasSlot}
 use Rattle.cache_theory.proofs.Users.{in_use_along}
+use Rattle.chunk_cache.specs.Cached.{CachedChunk}
 use Rattle.disk_model.specs.State.{State, names_now, standing}
 use Rattle.disk_model.specs.declared.place.Place.TheVariants.{Doomed}
 use Rattle.file_handles.specs.Cache.{cache_at}
 use Rattle.file_handles.specs.Held.{IsHeldAs}
+use Rattle.file_handles.specs.HeldChunks.{IsChunkInUse}
 use Rattle.file_handles.specs.Kept.{Kept, object_at, use_at}
 use Rattle.file_handles.specs.Stands.{HandlesStand, IsAt, KeepsWhere}
 use Rattle.file_handles.specs.declared.object.Object.{Object}
 use Rattle.file_handles.specs.declared.object.Use.{Use}
 use Rattle.file_handles.proofs.ElementSlots.{slot_is}
+use Rattle.file_handles.proofs.HeldChunkLaws.{all_on}
 use Rattle.file_handles.proofs.Histories.{history_of}
 use Rattle.file_handles.proofs.Released.{left_at, left_has, released_objects, released_slots, some_object, use_was}
 
 -- the handles with these objects, without the slot
-abbrev pub left_with : Kept → ℕ → List (Option Object) → Kept
-left_with k s objects = record { objects = objects; slots = slice_set k.slots s None }
+abbrev pub left_with : Kept → ℕ → List (Option Object) → List CachedChunk → Kept
+left_with k s objects chunks = record { objects = objects; slots = slice_set k.slots s None; made = k.made; chunks = chunks }
 
 -- which objects and files are left, by the slots that are left
 pub record LeavesFor (m : Machine) (number : ℕ → ℕ) (k : Kept) (slots : ℕ → Option Slot) (after : Kept) (before now : State) : Type 0 where
   pub was : (q : ℕ) (x : Object) → object_at after q ≡ Some x → object_at k q ≡ Some x
   pub stays : (q : ℕ) (x : Object) → object_at k q ≡ Some x → HasSlot slots (number q) → object_at after q ≡ Some x
   pub has : (q : ℕ) (x : Object) → object_at after q ≡ Some x → HasSlot slots (number q)
+  -- and each chunk that is held is of one of these objects
+  pub same_made : after.made ≡ k.made
+  pub chunks : All (IsChunkInUse k m) k.chunks → All (IsChunkInUse after m) after.chunks
   -- the files of the entries, and those of the doomed objects that keep a slot, are as before, and no other doomed file stands
   pub same_entries : (name : List ℕ) → entries (standing now) name ≡ entries (standing before) name
   pub same_doomed : (d i : ℕ) → IsAt k number d i → HasSlot slots i → standing now (Doomed d) ≡ standing before (Doomed d)
@@ -61,7 +68,8 @@ module _
     (room : length k.slots ≡ SLOTS)
     (reads : (object_of m slot).finished ≡ false → is_writer m slot ≡ false)
     (objects : List (Option Object))
-    (leaves : LeavesFor m is.number k (with_slot slot None m.slots) (left_with k slot objects) s t) where
+    (chunks : List CachedChunk)
+    (leaves : LeavesFor m is.number k (with_slot slot None m.slots) (left_with k slot objects chunks) s t) where
   stand : HandlesStand k m is.number
   stand = is.stands.handles
 
@@ -75,7 +83,7 @@ module _
   in_use i has used = in_use_along m (released m slot) i (let same = ap (λ (objects : List MachineObject). length objects) (released_objects m slot) in omega (arith, same))
       (λ h. subst (λ slots. HasSlot slots i) (sym (released_slots m slot)) has) used
 
-  handles : HandlesStand (left_with k slot objects) (released m slot) is.number
+  handles : HandlesStand (left_with k slot objects chunks) (released m slot) is.number
   handles = record {
     slots = λ r lt. ap (λ slots. slots r) (released_slots m slot) ∙ left_at m is.number k stand slot u at_slot room r lt;
     used = λ r v at.
@@ -85,12 +93,17 @@ module _
         let old = stand.objects q x (leaves.was q x at) in
         record { in_use = in_use (is.number q) (leaves.has q x at) old.in_use; as_held = subst (IsHeldAs x) (sym (same_object (is.number q))) old.as_held };
     apart = λ p q x y at_p at_q same. stand.apart p q x y (leaves.was p x at_p) (leaves.was q y at_q) same;
+    chunks = record {
+      numbered = λ q x at. stand.chunks.numbered q x (leaves.was q x at);
+      made = leaves.same_made ∙ stand.chunks.made ∙ ap (λ (objects : List MachineObject). length objects) (sym (released_objects m slot));
+      held = all_on (left_with k slot objects chunks) (left_with k slot objects chunks) m (released m slot) chunks (λ q y at. at) same_object (leaves.chunks stand.chunks.held);
+    };
   }
 
-  was_at : (d i : ℕ) → IsAt (left_with k slot objects) is.number d i → IsAt k is.number d i
+  was_at : (d i : ℕ) → IsAt (left_with k slot objects chunks) is.number d i → IsAt k is.number d i
   was_at d i a = record { place = a.place; object = a.object; at_place = leaves.was a.place a.object a.at_place; is_doomed = a.is_doomed; numbered = a.numbered }
 
-  still_at : (d i : ℕ) → HasSlot (with_slot slot None m.slots) i → IsAt k is.number d i → IsAt (left_with k slot objects) is.number d i
+  still_at : (d i : ℕ) → HasSlot (with_slot slot None m.slots) i → IsAt k is.number d i → IsAt (left_with k slot objects chunks) is.number d i
   still_at d i has a = record {
     place = a.place;
     object = a.object;
@@ -99,7 +112,7 @@ module _
     numbered = a.numbered;
   }
 
-  doomed_stand : DoomedStand (standing t) (released m slot) (IsAt (left_with k slot objects) is.number)
+  doomed_stand : DoomedStand (standing t) (released m slot) (IsAt (left_with k slot objects chunks) is.number)
   doomed_stand = record {
     held = λ i h.
         let before = held_before_released m slot i h in
@@ -113,7 +126,7 @@ module _
     one_number = λ d e i a b. is.stands.doomed.one_number d e i (was_at d i a) (was_at e i b);
   }
 
-  crash_kept : IsTrue b → IsCrashKept t (released m slot) w (IsAt (left_with k slot objects) is.number)
+  crash_kept : IsTrue b → IsCrashKept t (released m slot) w (IsAt (left_with k slot objects chunks) is.number)
   crash_kept on = record {
     safe = leaves.safe w (is.crash_kept on).safe;
     once = leaves.once (is.crash_kept on).once;
@@ -124,7 +137,7 @@ module _
     young = let same = ap (λ (objects : List MachineObject). length objects) (released_objects m slot) in let young = (is.crash_kept on).young in omega (arith, same, young);
   }
 
-  pub left_in : KeepsWhere b (cache_at (left_with k slot objects) t) (history_of (released m slot) w)
+  pub left_in : KeepsWhere b (cache_at (left_with k slot objects chunks) t) (history_of (released m slot) w)
   left_in = record {
     number = is.number;
     stands = record {

@@ -1,8 +1,9 @@
 -- A slot of the handles is given up, and its object where no other slot has it.
 use Rattle.std.proofs.Common.{◌≡◌, ◌≢◌, inl, inr, ℕ, ◌<◌, List, length, true, false, Option, Some, None, Result, Ok, Err, refl, sym, ap, subst, ◌∙◌, Bool}
-use Rattle.std.specs.Prelude.{OnOk, option_map, slice_set}
-use Rattle.std.specs.List.{list_any}
+use Rattle.std.specs.Prelude.{Contains, OnOk, option_map, slice_set}
+use Rattle.std.specs.List.{All, list_any}
 use Rattle.std.proofs.lemmas.Bool.{cases_eq}
+use Rattle.std.proofs.lemmas.List.Elements.{All-contains, All-contains_itself, All-weaker}
 use Rattle.cache_base.specs.declared.limits.TheConstants.{SLOTS}
 use Rattle.cache_theory.specs.Crash.{IsSafe}
 use Rattle.cache_theory.specs.Ever.{EverAt, IsFiledOnce, entries, entry_place}
@@ -14,6 +15,8 @@ use Rattle.cache_theory.proofs.DiskChanges.{remove_keeps}
 use Rattle.cache_theory.proofs.EverSteps.{ever_removed}
 use Rattle.cache_theory.proofs.FiledOnce.{remove_files_once}
 use Rattle.cache_theory.proofs.Slots.{HasSlot, slot_of}
+use Rattle.chunk_cache.specs.Cached.{CachedChunk, without_entry}
+use Rattle.chunk_cache.proofs.Properties.{forget_adds_none}
 use Rattle.disk_model.specs.Calls.{if_done}
 use Rattle.disk_model.specs.State.{State, names_now, removed, standing}
 use Rattle.disk_model.specs.declared.disk.DiskFault.{DiskFault}
@@ -23,10 +26,12 @@ use Rattle.disk_model.proofs.Sound.{found}
 use Rattle.disk_model.proofs.Standing.{removed_puts}
 use Rattle.file_handles.specs.Cache.{cache_at}
 use Rattle.file_handles.specs.Closing.{is_use_of, let_go_by, without_doomed}
-use Rattle.file_handles.specs.Kept.{Kept, object_at, use_at, with_object, with_use}
+use Rattle.file_handles.specs.HeldChunks.{IsChunkInUse}
+use Rattle.file_handles.specs.Kept.{Kept, object_at, use_at, with_object, with_use, without_chunks}
 use Rattle.file_handles.specs.Stands.{HandlesStand, IsAt, KeepsWhere}
 use Rattle.file_handles.specs.declared.object.Object.{Object}
 use Rattle.file_handles.specs.declared.object.Use.{Use}
+use Rattle.file_handles.proofs.HeldChunkLaws.{all_on, chunk_on, keeps_own}
 use Rattle.file_handles.proofs.Histories.{history_of}
 use Rattle.file_handles.proofs.KeptLaws.{object_set_here, object_set_other, place_within}
 use Rattle.file_handles.proofs.Places.{doomed_at}
@@ -68,10 +73,12 @@ module _
 
   -- Another slot has the object.
   pub shared_in : list_any (is_use_of u.place) (with_use k slot None).slots ≡ true → KeepsWhere b (cache_at (with_use k slot None) s) (history_of (released m slot) w)
-  shared_in any = left_in s s k m w is slot u at_slot small room reads k.objects (record {
+  shared_in any = left_in s s k m w is slot u at_slot small room reads k.objects k.chunks (record {
     was = λ q x at. at;
     stays = λ q x at has. at;
     has = λ q x at. kept (is.number q) (slot_of m (is.number q) (stand.objects q x at).in_use.slots);
+    same_made = refl;
+    chunks = all_on k (with_use k slot None) m m k.chunks (λ q y at. at) (λ i. refl);
     same_entries = λ name. refl;
     same_doomed = λ d i a has. refl;
     was_doomed = λ d some. some;
@@ -114,13 +121,34 @@ module _
     other_number d n i e a has = other_doomed d n (λ same. gone (subst (HasSlot (with_slot slot None m.slots))
         (is.stands.doomed.one_object d i (is.number u.place) a (doomed_at s k m is.number is.stands u.place x at d (e ∙ ap Some (sym same)))) has))
 
-    leaves : (n : Option ℕ) → x.doomed ≡ n → LeavesFor m is.number k (with_slot slot None m.slots) (with_object (with_use k slot None) u.place None) s (without_doomed n s)
+    abbrev left : Kept
+    left = without_chunks (with_object (with_use k slot None) u.place None) x.number
+
+    -- a chunk of another object stays
+    chunk_left : (c : CachedChunk) → c.entry ≢ x.number → IsChunkInUse k m c → IsChunkInUse left m c
+    chunk_left c other own =
+        let apart : own.place ≢ u.place =
+        λ same.
+        let both : Some own.object ≡ Some x = sym own.at_place ∙ ap (object_at k) same ∙ at in
+        let one : own.object ≡ x = cc in
+        other (sym own.numbered ∙ ap (λ (y : Object). y.number) one) in
+        chunk_on k left m m c own.place own.object (object_set_other k u.place own.place None apart ∙ own.at_place) own.numbered (keeps_own _ _ refl) own
+
+    chunks_left : All (IsChunkInUse k m) k.chunks → All (IsChunkInUse left m) left.chunks
+    chunks_left held =
+        All-weaker (Contains left.chunks) (IsChunkInUse left m)
+        (λ c in_left. let was = forget_adds_none x.number k.chunks c in_left in chunk_left c was.0 (All-contains (IsChunkInUse k m) k.chunks c held was.1))
+        left.chunks (All-contains_itself left.chunks)
+
+    leaves : (n : Option ℕ) → x.doomed ≡ n → LeavesFor m is.number k (with_slot slot None m.slots) left s (without_doomed n s)
     leaves n e = record {
       was = λ q y at_q. (was q y at_q).1;
       stays = λ q y at_q has. object_set_other k u.place q None (λ same. gone (subst (λ p. HasSlot (with_slot slot None m.slots) (is.number p)) same has)) ∙ at_q;
       has = λ q y at_q.
           let before = was q y at_q in
           other (is.number q) (λ same. before.0 (stand.apart q u.place y x before.1 at same)) (slot_of m (is.number q) (stand.objects q y before.1).in_use.slots);
+      same_made = refl;
+      chunks = chunks_left;
       same_entries = entries_same n;
       same_doomed = doomed_same n e;
       was_doomed = doomed_was n;
@@ -169,8 +197,8 @@ module _
         ever None name file at_e = at_e
         ever (Some d) name file at_e = ever_removed s (Doomed d) (entry_place name) file at_e
 
-    pub last_in : KeepsWhere b (cache_at (with_object (with_use k slot None) u.place None) (let_go_by x s)) (history_of (released m slot) w)
-    last_in = left_in s (let_go_by x s) k m w is slot u at_slot small room reads (slice_set k.objects u.place None) (leaves x.doomed refl)
+    pub last_in : KeepsWhere b (cache_at left (let_go_by x s)) (history_of (released m slot) w)
+    last_in = left_in s (let_go_by x s) k m w is slot u at_slot small room reads (slice_set k.objects u.place None) (without_entry x.number k.chunks) (leaves x.doomed refl)
 
 -- The same by the place of the slot's use.
 module _
@@ -193,15 +221,15 @@ module _
       (shared_in s k m w is slot own.0 own.1.0 small room reads (ap (λ p. list_any (is_use_of p) (with_use k slot None).slots) own.1.1 ∙ ap (λ r. list_any (is_use_of p) (with_use k r None).slots) (sym same) ∙ any))
 
   pub last_given : (x : Object) (t : State) (after : Kept) → list_any (is_use_of p) (with_use k r None).slots ≡ false → object_at k p ≡ Some x → t ≡ let_go_by x s
-      → after ≡ with_object (with_use k r None) p None → KeepsWhere b (cache_at after t) (history_of (released m slot) w)
-  last_given x t after none at gone left =
+      → after ≡ without_chunks (with_object (with_use k r None) p None) x.number → KeepsWhere b (cache_at after t) (history_of (released m slot) w)
+  last_given x t after none at gone gone_from =
       let own = use_placed (use_at k slot) p placed in
       let last = last_in s k m w is slot own.0 own.1.0 small room reads
       (ap (λ p. list_any (is_use_of p) (with_use k slot None).slots) own.1.1 ∙ ap (λ r. list_any (is_use_of p) (with_use k r None).slots) (sym same) ∙ none) x (ap (object_at k) own.1.1 ∙ at) in
-      let here : with_object (with_use k slot None) own.0.place None ≡ after = (λ i. with_object (with_use k (sym same i) None) (own.1.1 i) None) ∙ sym left in
+      let here : without_chunks (with_object (with_use k slot None) own.0.place None) x.number ≡ after = (λ i. without_chunks (with_object (with_use k (sym same i) None) (own.1.1 i) None) x.number) ∙ sym gone_from in
       subst (λ (u : State). KeepsWhere b (cache_at after u) (history_of (released m slot) w)) (sym gone) (subst (λ (k : Kept). KeepsWhere b (cache_at k (let_go_by x s)) (history_of (released m slot) w)) here last)
 
   pub last_given_or : (x : Object) (t : State) (after : Kept) (d : Result (Unit {0}) DiskFault) → list_any (is_use_of p) (with_use k r None).slots ≡ false → object_at k p ≡ Some x → t ≡ if_done d (let_go_by x s) s
-      → after ≡ with_object (with_use k r None) p None → OnOk d (KeepsWhere b (cache_at after t) (history_of (released m slot) w))
-  last_given_or x t after (Ok v) none at gone left = last_given x t after none at gone left
-  last_given_or x t after (Err f) none at gone left = tt
+      → after ≡ without_chunks (with_object (with_use k r None) p None) x.number → OnOk d (KeepsWhere b (cache_at after t) (history_of (released m slot) w))
+  last_given_or x t after (Ok v) none at gone gone_from = last_given x t after none at gone gone_from
+  last_given_or x t after (Err f) none at gone gone_from = tt

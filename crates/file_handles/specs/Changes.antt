@@ -9,6 +9,7 @@ use Rattle.entry_file.specs.EntryFile.{fits}
 use Rattle.entry_file.specs.Version.{Version, file_of}
 use Rattle.file_handles.specs.Cache.{Cache}
 use Rattle.file_handles.specs.Held.{IsHeldAs, object_place}
+use Rattle.file_handles.specs.HeldChunks.{KeepsChunks}
 use Rattle.file_handles.specs.Kept.{object_at, with_object}
 use Rattle.file_handles.specs.declared.fault.HandleFault.{HandleFault}
 use Rattle.file_handles.specs.declared.object.Object.{Object}
@@ -25,13 +26,15 @@ pub record IsFiledAs (x : Object) (o : MachineObject) (s : State) : Type 0 where
   pub object : IsObject o
   pub file : standing s (object_place x) ≡ Some (object_file o)
 
--- the object that x becomes is that of a change of the machine's objects
-pub record Becomes (x y : Object) (o : MachineObject) (t : State) : Type 0 where
+-- the object that x becomes is that of a change of the machine's object from `o` to `next`
+pub record Becomes (x y : Object) (o next : MachineObject) (t : State) : Type 0 where
+  pub same_object : y.number ≡ x.number
+  pub keeps_chunks : KeepsChunks o next
   pub same_place : object_place y ≡ object_place x
   pub same_name : y.name ≡ x.name
   pub same_number : y.doomed ≡ x.doomed
-  pub as_held : IsHeldAs y o
-  pub file : standing t (object_place x) ≡ Some (object_file o)
+  pub as_held : IsHeldAs y next
+  pub file : standing t (object_place x) ≡ Some (object_file next)
 
 -- a call makes this change of every machine's object that x is: at every exit its file alone was
 -- written to, and after an Ok it is changed
@@ -39,7 +42,7 @@ pub record Changes (x : Object) (change : MachineObject → MachineObject)
     (changed : Result Object HandleFault) (s t : State) : Type 0 where
   pub writes : (o : MachineObject) → IsFiledAs x o s
       → WritesAt (object_place x) (IsMomentOf (change o)) s t
-  pub becomes : IfOk changed (λ y. (o : MachineObject) → IsFiledAs x o s → Becomes x y (change o) t)
+  pub becomes : IfOk changed (λ y. (o : MachineObject) → IsFiledAs x o s → Becomes x y o (change o) t)
 
 -- it makes it of the object at a place, and changes nothing else of the handles
 pub record ChangesAt {T : Type 0} (p : ℕ) (change : MachineObject → MachineObject)

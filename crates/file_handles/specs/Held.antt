@@ -24,8 +24,8 @@ abbrev pub object_place : Object → Place
 object_place x = place_of x.name x.doomed
 
 -- an object of these parts
-abbrev pub object_with : Name → Option ℕ → Entry → Object
-object_with name doomed e = record { name = name; doomed = doomed; entry = e }
+abbrev pub object_with : ℕ → Name → Option ℕ → Entry → Object
+object_with number name doomed e = record { number = number; name = name; doomed = doomed; entry = e }
 
 -- whether it is being written
 abbrev pub is_draft : Entry → Bool

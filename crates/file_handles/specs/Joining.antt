@@ -2,7 +2,7 @@
 use Rattle.std.specs.Prelude.{Bool, IfErr, None, OnOk, Result, Some, ℕ, ◌<◌, ◌≡◌}
 use Rattle.cache_base.specs.declared.limits.TheConstants.{SLOTS}
 use Rattle.file_handles.specs.Answers.{OnRefused}
-use Rattle.file_handles.specs.Kept.{Kept, object_at, with_object, with_use}
+use Rattle.file_handles.specs.Kept.{Kept, object_at, with_new, with_use}
 use Rattle.file_handles.specs.declared.fault.HandleFault.{HandleFault}
 use Rattle.file_handles.specs.declared.fault.HandleFault.TheVariants as fault
 use Rattle.file_handles.specs.declared.object.Object.{Object}
@@ -20,7 +20,8 @@ pub record Adds (slot : ℕ) (object : Object) (writes : Bool) (before after : K
   pub place : ℕ
   pub ranged : place < SLOTS
   pub free : object_at before place ≡ None
-  pub joins : JoinsAt slot place writes (with_object before place (Some object)) after
+  pub numbered : object.number ≡ before.made
+  pub joins : JoinsAt slot place writes (with_new before place object) after
 
 -- so it is after an Ok, and the only fault is that memory ran out
 pub record AddsTo (slot : ℕ) (object : Object) (writes : Bool)

@@ -1,7 +1,8 @@
--- What the handles keep: an object at some of the places, and a use for some of the slots.
-use Rattle.std.specs.Prelude.{Err, List, None, Ok, Option, Result, Some, if◌then◌else◌, option_and_then, slice_get, slice_set, unwrap_or, ℕ}
+-- What the handles keep: an object at some of the places, a use for some of the slots, and chunks of bodies.
+use Rattle.std.specs.Prelude.{Err, List, None, Ok, Option, Result, Some, if◌then◌else◌, option_and_then, slice_get, slice_set, unwrap_or, ℕ, ◌+◌}
 use Rattle.cache_theory.specs.declared.refusal.Refusal.{Refusal}
 use Rattle.cache_theory.specs.declared.refusal.Refusal.TheVariants as refused
+use Rattle.chunk_cache.specs.Cached.{CachedChunk, without_entry}
 use Rattle.file_handles.specs.declared.handles.Handles.{Handles}
 use Rattle.file_handles.specs.declared.object.Object.{Object}
 use Rattle.file_handles.specs.declared.object.Use.{Use}
@@ -9,9 +10,13 @@ use Rattle.file_handles.specs.declared.object.Use.{Use}
 pub record Kept : Type 0 where
   pub objects : List (Option Object)
   pub slots : List (Option Use)
+  -- how many objects were made so far
+  pub made : ℕ
+  -- the chunks that were read last, the most recent first
+  pub chunks : List CachedChunk
 
 abbrev pub kept : Handles → Kept
-kept h = record { objects = h.objects; slots = h.slots }
+kept h = record { objects = h.objects; slots = h.slots; made = h.made; chunks = h.chunks }
 
 -- the object at a place, the use of a slot, and the object of a slot
 abbrev pub object_at : Kept → ℕ → Option Object
@@ -26,6 +31,14 @@ object_in k s = option_and_then (λ u. object_at k u.place) (use_at k s)
 -- another object at a place, or none, and another use of a slot
 abbrev pub with_object : Kept → ℕ → Option Object → Kept
 with_object k p x = record k { objects = slice_set k.objects p x }
+
+-- a new object at a place
+abbrev pub with_new : Kept → ℕ → Object → Kept
+with_new k p x = record (with_object k p (Some x)) { made = k.made + 1 }
+
+-- no chunk of the object of this number
+abbrev pub without_chunks : Kept → ℕ → Kept
+without_chunks k number = record k { chunks = without_entry number k.chunks }
 
 abbrev pub with_use : Kept → ℕ → Option Use → Kept
 with_use k s u = record k { slots = slice_set k.slots s u }

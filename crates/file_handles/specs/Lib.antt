@@ -2,6 +2,7 @@ pub mod Answers
 pub mod Held
 pub mod Kept
 pub mod Cache
+pub mod HeldChunks
 pub mod Stands
 pub mod Carries
 pub mod Effects
@@ -18,4 +19,5 @@ pub mod Creating
 pub mod Joining
 pub mod Found
 pub mod Refuses
+pub mod Removing
 pub mod Users

@@ -10,6 +10,7 @@ use Rattle.disk_model.specs.Image.{Files}
 use Rattle.disk_model.specs.State.{standing}
 use Rattle.file_handles.specs.Cache.{Cache}
 use Rattle.file_handles.specs.Held.{IsHeldAs}
+use Rattle.file_handles.specs.HeldChunks.{ChunksStand}
 use Rattle.file_handles.specs.Kept.{Kept, object_at, use_at}
 use Rattle.file_handles.specs.declared.object.Object.{Object}
 use Rattle.file_handles.specs.declared.object.Use.{Use}
@@ -30,6 +31,7 @@ pub record HandlesStand (k : Kept) (m : Machine) (number : ℕ → ℕ) : Type 0
   pub objects : (p : ℕ) (x : Object) → object_at k p ≡ Some x → IsObjectOf m (number p) x
   pub apart : (p q : ℕ) (x y : Object) → object_at k p ≡ Some x → object_at k q ≡ Some y
       → number p ≡ number q → p ≡ q
+  pub chunks : ChunksStand k m number
 
 -- the machine's object of a number has this number among the doomed
 pub record IsAt (k : Kept) (number : ℕ → ℕ) (doomed i : ℕ) : Type 0 where

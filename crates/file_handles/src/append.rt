@@ -78,6 +78,7 @@ impl Handles {
         let object = self.take(place);
         let file = object.file_place();
         let Object {
+            number,
             name,
             doomed,
             entry,
@@ -99,7 +100,7 @@ impl Handles {
             key,
             elements,
         });
-        self.put_entry(place, name, doomed, entry);
+        self.put_entry(place, number, name, doomed, entry);
         Ok(())
     }
 

@@ -142,6 +142,7 @@ impl Handles {
         let object = self.take(place);
         let file = object.file_place();
         let Object {
+            number,
             name,
             doomed,
             entry,
@@ -155,7 +156,7 @@ impl Handles {
             }
         };
         let effect = learnt_of(&name, doomed, &entry);
-        self.put_entry(place, name, doomed, entry);
+        self.put_entry(place, number, name, doomed, entry);
         Ok(effect)
     }
 }

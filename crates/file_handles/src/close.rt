@@ -127,7 +127,10 @@ impl Handles {
             return Ok(());
         }
         match self.take_any(place) {
-            Some(object) => let_go(disk, &object),
+            Some(object) => {
+                self.chunks.forget(object.number);
+                let_go(disk, &object)
+            }
             None => Ok(()),
         }
     }

@@ -35,18 +35,19 @@ fn bytes_of(alloc: Global, b: &[u8]) -> Result<Bytes, NoMemory>
     Ok(bytes)
 }
 
-// A new draft of a key with this name, and its file, which is new and empty.
+// A new draft of a key with this number and name, and its file, which is new and empty.
 fn drafted<D: Disk>(
     alloc: Global,
     disk: &mut D,
+    number: u64,
     name: Name,
     key: &[u8],
     now: Moment,
 ) -> Result<Object, HandleFault>
     requires good { may_write_of key.now ≡ true }
     requires named { name.0 ≡ file_name key.now }
-    ensures draft { IfOk result (λ object. (object.name ≡ name)
-        × IsHeldAs object (fresh now key.now)) }
+    ensures draft { IfOk result (λ object. (object.number ≡ number)
+        × ((object.name ≡ name) × IsHeldAs object (fresh now key.now))) }
     ensures state { Told D.Disk (MayHaveMade (EntryAt name) result) disk.old disk.new }
     ensures refused { OnRefused result (λ _. ⊥) }
     ensures account { Accounts D.Disk (ending result) disk.old disk.new }
@@ -60,6 +61,7 @@ fn drafted<D: Disk>(
         elements: Elements::new(alloc),
     };
     Ok(Object {
+        number,
         name,
         doomed: None,
         entry: Entry::Draft(draft),
@@ -109,7 +111,7 @@ impl Handles {
         let name = name_of(key);
         self.doom_user(disk, &name)?;
         has_rows(&self.objects, &self.slots);
-        let object = drafted(alloc, disk, name, key, now)?;
+        let object = drafted(alloc, disk, self.made, name, key, now)?;
         self.add(slot, object, true)?;
         Ok(Effect::Gone(name))
     }

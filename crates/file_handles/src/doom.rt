@@ -78,9 +78,14 @@ impl Handles {
             return Err(HandleFault::Memory);
         }
         let object = self.take(place);
-        let number = move_to_doomed(disk, name, &doomed.numbers[..doomed.count])?;
-        let Object { name, entry, .. } = object;
-        self.put_entry(place, name, Some(number), entry);
+        let moved_to = move_to_doomed(disk, name, &doomed.numbers[..doomed.count])?;
+        let Object {
+            number,
+            name,
+            entry,
+            ..
+        } = object;
+        self.put_entry(place, number, name, Some(moved_to), entry);
         Ok(())
     }
 

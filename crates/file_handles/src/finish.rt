@@ -86,6 +86,7 @@ impl Handles {
         let object = self.take(place);
         let file = object.file_place();
         let Object {
+            number,
             name,
             doomed,
             entry,
@@ -106,7 +107,7 @@ impl Handles {
         let meta = body.finish(alloc, disk, &file, header, key, elements)?;
         let entry = Entry::Finished(meta);
         let effect = learnt_of(&name, doomed, &entry);
-        self.put_entry(place, name, doomed, entry);
+        self.put_entry(place, number, name, doomed, entry);
         Ok(effect)
     }
 

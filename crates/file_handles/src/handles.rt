@@ -8,6 +8,7 @@ ghost use Rattle.file_handles.specs.Finding.{is_free, is_user};
 use crate::object::{Entry, Object, Use};
 use cache_base::{Buffer, Name, NoMemory, SLOTS};
 use cache_theory::{Refusal, opens_proper};
+use chunk_cache::ChunkCache;
 use std::alloc::Global;
 
 /// The entries in use. After a call that changes them has answered `Disk` or `Memory` they may only be dropped.
@@ -15,7 +16,11 @@ use std::alloc::Global;
 pub struct Handles {
     pub(crate) objects: [Option<Object>; SLOTS],
     pub(crate) slots: [Option<Use>; SLOTS],
-    // The chunk that was read last.
+    // How many objects were made: so no number is used twice.
+    pub(crate) made: u64,
+    // The chunks that were read last, of objects in use.
+    pub(crate) chunks: ChunkCache,
+    // The chunk that is checked.
     pub(crate) chunk: Buffer,
 }
 
@@ -25,7 +30,8 @@ impl Handles {
     ghost use Rattle.file_handles.specs.Kept.{kept, object_at as object_kept_at, use_at, used as used_or, with_object, writing as writing_or};
     ghost use Rattle.file_handles.specs.Loading.{user_place};
 
-    /// Handles with no entry in use. The memory for a chunk is taken here.
+    /// Handles with no entry in use. The memory for the chunk that is checked is taken here; that for chunks that are read
+    /// is taken as they come.
     pub fn new(alloc: Global) -> Result<Handles, NoMemory>
         ensures { IfOk result (λ handles. Begins (kept handles)) }
     {
@@ -33,6 +39,8 @@ impl Handles {
         Ok(Handles {
             objects: no_objects(),
             slots: no_uses(),
+            made: 0,
+            chunks: ChunkCache::new(alloc)?,
             chunk: Buffer::new(alloc)?,
         })
     }
@@ -105,14 +113,22 @@ impl Handles {
     }
 
     /// Puts an object of these parts at a place.
-    pub(crate) fn put_entry(&mut self, place: usize, name: Name, doomed: Option<u32>, entry: Entry)
+    pub(crate) fn put_entry(
+        &mut self,
+        place: usize,
+        number: u64,
+        name: Name,
+        doomed: Option<u32>,
+        entry: Entry,
+    )
         requires { place < SLOTS }
         ensures { kept self.new
-            ≡ with_object (kept self.old) place (Some (object_with name doomed entry)) }
+            ≡ with_object (kept self.old) place (Some (object_with number name doomed entry)) }
     {
         self.put(
             place,
             Object {
+                number,
                 name,
                 doomed,
                 entry,

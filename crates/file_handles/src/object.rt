@@ -35,6 +35,8 @@ pub(crate) enum Entry {
 /// An entry that is in use.
 #[derive(Drop)]
 pub(crate) struct Object {
+    /// How many objects were made before it.
+    pub(crate) number: u64,
     pub(crate) name: Name,
     /// The number of its file, if it is doomed.
     pub(crate) doomed: Option<u32>,

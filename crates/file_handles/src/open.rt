@@ -33,14 +33,20 @@ impl Handles {
         self.slots[usize::from(slot)] = Some(Use { place, writes });
     }
 
-    /// Puts an object at the first free place, for a slot.
+    /// Puts a new object at the first free place, for a slot.
     pub(crate) fn add(&mut self, slot: u8, object: Object, writes: bool) -> Result<(), HandleFault>
         requires slot { slot < SLOTS }
+        requires numbered { object.number ≡ (kept self.old).made }
         ensures { AddsTo slot object writes result (kept self.old) (kept self.new) }
     {
         let Some(place) = self.free_place() else {
             return Err(HandleFault::Memory);
         };
+        // No run makes so many objects.
+        let Some(made) = self.made.checked_add(1) else {
+            return Err(HandleFault::Memory);
+        };
+        self.made = made;
         self.put(place, object);
         self.join(slot, place, writes);
         Ok(())
@@ -78,6 +84,7 @@ impl Handles {
         }
         let meta = load(alloc, disk, key, &name, &mut self.chunk)?;
         let object = Object {
+            number: self.made,
             name,
             doomed: None,
             entry: Entry::Finished(meta),

@@ -1,25 +1,36 @@
 //! Reads the body of the entry in a slot.
 
-ghost use Rattle.std.specs.Prelude.{ℕ, ◌≡◌, ◌<◌, IfErr, IfOk, IfSome, IsTrue, None, OnOk, Some, length, take, drop, ◌/◌, ◌≤◌};
+ghost use Rattle.std.specs.Prelude.{ℕ, ◌%◌, ◌≡◌, ◌<◌, ◌≤◌, IfErr, IfOk, IfSome, IsSome, IsTrue, None, Ok, OnOk, length, take, drop};
 ghost use Rattle.std.specs.Borrow.{sem};
-ghost use Rattle.cache_base.specs.Limits.{chunk_size};
+ghost use Rattle.cache_base.specs.Limits.{chunk_size, chunks};
 ghost use Rattle.cache_base.specs.declared.limits.TheConstants.{SLOTS};
-ghost use Rattle.chunk_store.specs.Chunks.{chunk as chunk_of};
 ghost use Rattle.cache_theory.specs.Command.Command.{ReadPart};
-ghost use Rattle.cache_theory.specs.Machine.{Object as MachineObject};
+ghost use Rattle.chunk_cache.specs.Cached.{StandsFirst, bytes_of, looked_at};
+ghost use Rattle.chunk_store.specs.Chunks.{chunk as chunk_of};
 ghost use Rattle.disk_model.specs.Account.{Looks};
 ghost use Rattle.disk_model.specs.State.{standing};
 ghost use Rattle.file_handles.specs.Answers.{OnRefused, ending};
-ghost use Rattle.file_handles.specs.Changes.{IsFiledAs};
 ghost use Rattle.file_handles.specs.Held.{body_len_in, rest_in};
-ghost use Rattle.file_handles.specs.Reading.{ForBody, ForBodyHeld, part_in, part_of_body};
+ghost use Rattle.file_handles.specs.Reading.{ForBody, ForBodyHeld, HasRead, HoldsAsBefore, IsPartHeld, IsStoredChunk, LosesNone, SameButChunks, part_of_body, rest_part};
 
 use crate::object::{Entry, Object};
 use crate::{HandleFault, Handles};
-use cache_base::{Buffer, CHUNK};
+use cache_base::{Bytes, CHUNK};
 use cache_theory::Refusal;
-use chunk_store::read_chunk;
+use chunk_store::read_chunk_into;
 use disk_model::{Disk, Place};
+use std::alloc::Global;
+
+/// A chunk of a body that is on the disk.
+#[derive(Clone, Copy)]
+pub(crate) struct StoredChunk {
+    /// The number of its object.
+    pub(crate) number: u64,
+    pub(crate) index: u32,
+    /// The file at whose front so many bytes of the body stand.
+    pub(crate) file: Place,
+    pub(crate) stored: u32,
+}
 
 impl Object {
     /// The number of bytes of its body.
@@ -55,51 +66,49 @@ fn part(b: &[u8], from: usize, len: u64) -> &[u8]
     }
 }
 
-// Reads the chunk of a part of a body into the buffer, if it is among the `stored` bytes that are on the disk.
-fn fetch<D: Disk>(
+// A part of what of an object's body is not on the disk.
+fn rest_of(object: &Object, from: u64, len: u64) -> &[u8]
+    ensures { result.now ≡ rest_part object.now.entry from len }
+{
+    if len == 0 || from >= u64::from(object.body_len()) {
+        return &[];
+    }
+    part(object.rest(), (from % CHUNK as u64) as usize, len)
+}
+
+// Reads a chunk over the bytes, by one call of the disk.
+fn read_over<D: Disk>(
     disk: &mut D,
-    place: &Place,
-    stored: u32,
-    chunk: &mut Buffer,
-    from: u64,
-    len: u64,
+    chunk: &StoredChunk,
+    bytes: &mut Bytes,
 ) -> Result<(), HandleFault>
-    ensures chunk { OnOk result (IsTrue D.tells → 0 < len → from < stored →
-        IfSome (standing (D.state disk.old) place.now) (λ file. stored ≤ length file →
-        chunk.new ≡ chunk_of (take stored file) (from / chunk_size))) }
+    requires { chunk.now.index < chunks chunk.now.stored }
+    ensures chunk { OnOk result (IsTrue D.tells →
+        IfSome (standing (D.state disk.old) chunk.now.file) (λ file.
+        chunk.now.stored ≤ length file →
+        bytes.new ≡ chunk_of (take chunk.now.stored file) chunk.now.index)) }
     ensures refused { OnRefused result (λ _. ⊥) }
     ensures looks { Looks D.Disk (ending result) disk.old disk.new }
 {
-    if len > 0 && from < u64::from(stored) {
-        let index = (from / CHUNK as u64) as u32;
-        read_chunk(disk, place, stored, index, chunk)?;
-    }
+    let len = CHUNK.min(chunk.stored as usize - chunk.index as usize * CHUNK);
+    bytes.set_len(len)?;
+    read_chunk_into(
+        disk,
+        &chunk.file,
+        chunk.stored,
+        chunk.index,
+        bytes.as_mut_slice(),
+    )?;
     Ok(())
-}
-
-// The part of the body of an object. The buffer holds its chunk, where that is on the disk.
-fn lend<'a>(object: &'a Object, chunk: &'a Buffer, from: u64, len: u64) -> &'a [u8]
-    ensures { result.now ≡ part_in object.now.entry chunk.now from len }
-{
-    let end = object.body_len();
-    let rest = object.rest();
-    if len == 0 || from >= u64::from(end) {
-        return &[];
-    }
-    let at = (from % CHUNK as u64) as usize;
-    if from >= u64::from(end) - rest.len() as u64 {
-        part(rest, at, len)
-    } else {
-        part(chunk.as_slice(), at, len)
-    }
 }
 
 impl Handles {
     ghost use Rattle.file_handles.specs.Cache.{cache};
     ghost use Rattle.file_handles.specs.Kept.{kept, object_at as object_kept_at};
+    ghost use Rattle.file_handles.specs.Reading.{HasChunkOf};
     ghost use Rattle.file_handles.specs.declared.object.Object.{Object};
     ghost use Rattle.file_handles.specs.Refuses.{Passes, Refuses};
-    ghost use Rattle.file_handles.specs.Resting.{RestsAsKept};
+    ghost use Rattle.file_handles.specs.Resting.{RestsWith};
     ghost use Rattle.file_handles.specs.Stands.{RepresentsSome};
 
     /// The length of the body of the entry in a slot. It takes no memory.
@@ -117,9 +126,11 @@ impl Handles {
     }
 
     /// At most `len` bytes of the body of the entry in a slot, from an offset up to the end of its chunk or of the body.
-    /// There are none exactly where `len` is 0 or the offset is at or after the end of the body.
+    /// There are none exactly where `len` is 0 or the offset is at or after the end of the body. The chunks that were read
+    /// last are held, and a chunk that is held is not read again; what a writer has not written yet is lent as it is.
     pub fn read_part<D: Disk>(
         &mut self,
+        alloc: Global,
         disk: &mut D,
         slot: u8,
         from: u64,
@@ -132,43 +143,105 @@ impl Handles {
             (λ body. part.now ≡ part_of_body body from len)) }
         ensures refused { OnRefused result (Refuses (kept self.old) (ReadPart slot from len)) }
         ensures passes { OnOk result (Passes (kept self.old) (ReadPart slot from len)) }
-        ensures* kept { sem 𝓛 (RestsAsKept self.entry) }
+        // Once the part is given back.
+        ensures* read { let before = cache D.Disk self.old disk.old in
+            sem 𝓛 (RestsWith self.entry (HasRead (IsTrue D.tells) slot from len result before)) }
+        ensures held { IsPartHeld (kept self.old) slot from len → disk.new ≡ disk.old }
         ensures looks { Looks D.Disk (ending result) disk.old disk.new }
     {
         let used = self.use_of(slot)?;
-        self.fetch_part(disk, used.place, from, len)?;
-        Ok(self.lend_part(used.place, from, len))
+        match self.chunk_of_part(used.place, from, len)? {
+            Some(chunk) => {
+                self.hold(alloc, disk, &chunk)?;
+                Ok(self.lend_chunk(&chunk, from, len))
+            }
+            None => Ok(self.lend_rest(used.place, from, len)),
+        }
     }
 
-    // Reads the chunk of a part of the body of the object at a place, where that is on the disk.
-    fn fetch_part<D: Disk>(
-        &mut self,
-        disk: &mut D,
+    // The chunk of a part of the body of the object at a place, if the part has bytes that are on the disk.
+    fn chunk_of_part(
+        &self,
         place: usize,
         from: u64,
         len: u64,
-    ) -> Result<(), HandleFault>
+    ) -> Result<Option<StoredChunk>, Refusal>
         requires { place < SLOTS }
-        ensures part { OnOk result (IsTrue D.tells → (x : Object) (o : MachineObject) →
-            object_kept_at (kept self.old) place ≡ Some x → IsFiledAs x o (D.state disk.old) →
-            part_in x.entry self.new.chunk from len ≡ part_of_body o.version.body from len) }
-        ensures refused { OnRefused result (λ _. object_kept_at (kept self.old) place ≡ None) }
-        ensures kept { kept self.new ≡ kept self.old }
-        ensures looks { Looks D.Disk (ending result) disk.old disk.new }
+        ensures chunk { IfOk result (λ chunk.
+            IfSome (object_kept_at (kept self.now) place) (λ x. HasChunkOf x from len chunk)) }
+        ensures index { IfOk result (λ chunk.
+            IfSome chunk (λ c. c.index < chunks c.stored)) }
+        ensures there { OnOk result (IsSome (object_kept_at (kept self.now) place)) }
+        ensures none { IfErr result (λ _. object_kept_at (kept self.now) place ≡ None) }
     {
         let object = self.object_at(place)?;
         let stored = object.body_len() - object.rest().len() as u32;
-        let stands_at = object.file_place();
-        fetch(disk, &stands_at, stored, &mut self.chunk, from, len)
+        if len == 0 || from >= u64::from(stored) {
+            return Ok(None);
+        }
+        Ok(Some(StoredChunk {
+            number: object.number,
+            index: (from / CHUNK as u64) as u32,
+            file: object.file_place(),
+            stored,
+        }))
     }
 
-    // The part of the body of the object at a place. Its chunk was read, where that is on the disk.
-    fn lend_part(&self, place: usize, from: u64, len: u64) -> &[u8]
+    // Makes a chunk the most recent of those that are held. It is read by one call of the disk where it was not held.
+    fn hold<D: Disk>(
+        &mut self,
+        alloc: Global,
+        disk: &mut D,
+        chunk: &StoredChunk,
+    ) -> Result<(), HandleFault>
+        requires { chunk.now.index < chunks chunk.now.stored }
+        ensures first { OnOk result
+            (StandsFirst chunk.now.number chunk.now.index (kept self.new).chunks) }
+        ensures found { OnOk result
+            (IsSome (bytes_of chunk.now.number chunk.now.index (kept self.new).chunks)) }
+        ensures same { SameButChunks (kept self.old) (kept self.new) }
+        ensures holds { (place : ℕ) (x : Object) (from len : ℕ) → IsTrue D.tells →
+            object_kept_at (kept self.old) place ≡ Some x → IsStoredChunk x from len chunk.now →
+            HoldsAsBefore (cache D.Disk self.old disk.old) (kept self.new) }
+        ensures held { IsSome (bytes_of chunk.now.number chunk.now.index (kept self.old).chunks) →
+            (result ≡ Ok tt) × ((disk.new ≡ disk.old) × LosesNone (kept self.old) (kept self.new)) }
+        ensures refused { OnRefused result (λ _. ⊥) }
+        ensures looks { Looks D.Disk (ending result) disk.old disk.new }
+    {
+        if self.chunks.look(chunk.number, chunk.index).is_some() {
+            return Ok(());
+        }
+        // The memory of a chunk that has to go is used again.
+        let mut bytes = match self.chunks.evict() {
+            Some(bytes) => bytes,
+            None => Bytes::new(alloc),
+        };
+        read_over(disk, chunk, &mut bytes)?;
+        self.chunks.keep(chunk.number, chunk.index, bytes)?;
+        Ok(())
+    }
+
+    // A part of a chunk that is held.
+    fn lend_chunk(&mut self, chunk: &StoredChunk, from: u64, len: u64) -> &[u8]
+        requires { IsSome (bytes_of chunk.now.number chunk.now.index (kept self.old).chunks) }
+        ensures part { IfSome (bytes_of chunk.now.number chunk.now.index (kept self.old).chunks)
+            (λ bytes. result.now ≡ take len (drop (from % chunk_size) bytes)) }
+        ensures* looked { sem 𝓛 (RestsWith self.entry (λ k.
+            k ≡ record (kept self.old) { chunks = looked_at chunk.now.number chunk.now.index (kept self.old).chunks })) }
+    {
+        match self.chunks.look(chunk.number, chunk.index) {
+            Some(bytes) => part(bytes, (from % CHUNK as u64) as usize, len),
+            None => unreachable!(),
+        }
+    }
+
+    // A part of what of the body of the object at a place is not on the disk.
+    fn lend_rest(&self, place: usize, from: u64, len: u64) -> &[u8]
         ensures { IfSome (object_kept_at (kept self.now) place)
-            (λ x. result.now ≡ part_in x.entry self.now.chunk from len) }
+            (λ x. result.now ≡ rest_part x.entry from len) }
     {
         match self.objects.get(place) {
-            Some(Some(object)) => lend(object, &self.chunk, from, len),
+            Some(Some(object)) => rest_of(object, from, len),
             _ => &[],
         }
     }

@@ -1,5 +1,6 @@
 //! The handles over a folder of the machine.
 
+mod chunks;
 mod doomed;
 mod elements;
 mod refusals;
@@ -11,7 +12,7 @@ use cache_base::{Moment, NoMemory};
 use entry_name::name_of;
 use index_record::{INITIALIZED, IndexRecord, NO_TIME};
 use real_disk::RealDisk;
-use std::alloc::AllocError;
+use std::alloc::{AllocError, Global};
 use std::fs;
 
 type HostDisk<'a> = RealDisk<'a, HostRuntime>;
@@ -65,6 +66,7 @@ fn has_len(rt: &HostRuntime, path: &str, len: u64) -> bool {
 
 // Whether a part of the body of a slot's entry has these bytes.
 fn reads(
+    alloc: Global,
     handles: &mut Handles,
     disk: &mut HostDisk<'_>,
     slot: u8,
@@ -75,7 +77,7 @@ fn reads(
     if slot >= 64 {
         return false;
     }
-    match handles.read_part(disk, slot, from, len) {
+    match handles.read_part(alloc, disk, slot, from, len) {
         Ok(part) => part == wanted,
         Err(_) => false,
     }

@@ -87,6 +87,18 @@ fn any_flag_but_0_is_dirty_and_kilobytes_are_not_read(rt: HostRuntime) -> Result
     Ok(())
 }
 
+// The same with a byte more, and with the hash 0.
+const TOO_LONG: &[u8] = b"\0\0\0\x0a\0\0\x03\xe8\0\0\0\0\0\0\0\0\xbd\x49\xd1\x0d\0";
+
+const NO_HASH: &[u8] = b"\0\0\0\x0a\0\0\x03\xe8\0\0\0\0\0\0\0\0\0\0\0\0";
+
+// The record of `ONE` twice.
+const TWICE: &[u8] = b"\0\0\0\x0a\0\0\x03\xe8\0\0\0\0\0\0\0\0\
+\x11\x11\x11\x11\x11\x11\x11\x11\x11\x11\x11\x11\x11\x11\x11\x11\x11\x11\x11\x11\0\0\x03\xe8\
+\xda\x39\xa3\xee\x5e\x6b\x4b\x0d\xff\xff\xff\xff\0\x80\0\0\x01\
+\x11\x11\x11\x11\x11\x11\x11\x11\x11\x11\x11\x11\x11\x11\x11\x11\x11\x11\x11\x11\0\0\x03\xe8\
+\xda\x39\xa3\xee\x5e\x6b\x4b\x0d\xff\xff\xff\xff\0\x80\0\0\x01\xc2\xbf\x23\x39";
+
 #[test]
 fn each_check_fails_in_its_turn(rt: HostRuntime) -> Result<(), Fail> {
     let alloc = rt.alloc();
@@ -95,6 +107,10 @@ fn each_check_fails_in_its_turn(rt: HostRuntime) -> Result<(), Fail> {
         (ONE, 3, 9, 1, IndexFault::Version),
         (ONE, 60, 0, 1, IndexFault::Length),
         (ONE, 60, 0, 0, IndexFault::Hash),
+        (EMPTY, 3, 9, 0, IndexFault::Version),
+        (TOO_LONG, 20, 0, 0, IndexFault::Length),
+        (NO_HASH, 19, 0, 0, IndexFault::Hash),
+        (TWICE, 97, 1, 0, IndexFault::Repeated),
     ] {
         let bytes = changed(alloc, bytes, at, to, cut)?;
         assert_eq!(rt; parse(alloc, bytes.as_slice()).err(), Some(fault));

@@ -87,6 +87,11 @@ fn each_check_fails_in_its_turn(rt: HostRuntime) -> Result<(), Fail> {
         parse(alloc, hash.as_slice()).err(),
         Some(JournalFault::Hash)
     );
+    assert_eq!(rt;
+        parse(alloc, b"\0\0\0\0\0").err(),
+        Some(JournalFault::Length)
+    );
+    assert_eq!(rt; parse(alloc, b"\0\0\0\0").err(), Some(JournalFault::Hash));
     assert_eq!(rt; parse(alloc, REPEATED).err(), Some(JournalFault::Repeated));
     Ok(())
 }

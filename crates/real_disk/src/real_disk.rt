@@ -3,7 +3,7 @@
 ghost use Rattle.std.specs.Prelude.{◌≡◌, IfOk, OnOk, IsErrOf, false};
 ghost use Rattle.cache_base.specs.Causes.{HasCause};
 ghost use Rattle.disk_model.specs.Calls.{no_counts};
-ghost use Rattle.real_disk.specs.Silent.{nothing, never, never_finite};
+ghost use Rattle.disk_model.specs.Silent.{nothing, never, never_finite};
 
 use crate::folder::Folder;
 use crate::listing::rising;

@@ -51,6 +51,6 @@ fn elements_are_read_anew(rt: HostRuntime) -> Result<(), Fail> {
     let mut later = handles_of(&rt)?;
     assert_eq!(rt; later.open(rt.alloc(), &mut disk, 3, X), Ok(()));
     assert_eq!(rt; later.element(3, b"name"), Ok(Some(b"value".as_slice())));
-    assert!(rt; reads(&mut later, &mut disk, 3, 0, 9, b"body"));
+    assert!(rt; reads(rt.alloc(), &mut later, &mut disk, 3, 0, 9, b"body"));
     Ok(())
 }

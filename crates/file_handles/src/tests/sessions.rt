@@ -14,7 +14,7 @@ fn a_reader_outlives_its_entry(rt: HostRuntime) -> Result<(), Fail> {
     assert!(rt; is_missing(&rt, X_PATH));
     assert_eq!(rt; handles.create(rt.alloc(), &mut disk, 2, X, 1000), gone());
     assert_eq!(rt; handles.append(&mut disk, 2, b"new"), Ok(()));
-    assert!(rt; reads(&mut handles, &mut disk, 1, 0, 10, b"old"));
+    assert!(rt; reads(rt.alloc(), &mut handles, &mut disk, 1, 0, 10, b"old"));
     assert_eq!(rt; handles.close(rt.alloc(), &mut disk, 2), wrote(1000));
     assert_eq!(rt; handles.close(rt.alloc(), &mut disk, 1), Ok(Effect::Same));
     assert!(rt; is_missing(&rt, "cache/doomed/0"));
@@ -51,16 +51,26 @@ fn a_draft_is_read(rt: HostRuntime) -> Result<(), Fail> {
     assert_eq!(rt; handles.append(&mut disk, 0, b"tail"), Ok(()));
     assert_eq!(rt; handles.open(rt.alloc(), &mut disk, 63, X), Ok(()));
     assert!(rt; has_len(&rt, X_PATH, 262_148));
-    assert!(rt; reads(&mut handles, &mut disk, 63, 262_140, 9, b"\x07\x07\x07\x07"));
-    assert!(rt; reads(&mut handles, &mut disk, 63, 262_144, 9, b"tail"));
-    assert!(rt; reads(&mut handles, &mut disk, 63, 262_146, 1, b"i"));
-    assert!(rt; reads(&mut handles, &mut disk, 63, 262_148, 1, b""));
+    assert!(rt;
+        reads(
+            rt.alloc(),
+            &mut handles,
+            &mut disk,
+            63,
+            262_140,
+            9,
+            b"\x07\x07\x07\x07"
+        )
+    );
+    assert!(rt; reads(rt.alloc(), &mut handles, &mut disk, 63, 262_144, 9, b"tail"));
+    assert!(rt; reads(rt.alloc(), &mut handles, &mut disk, 63, 262_146, 1, b"i"));
+    assert!(rt; reads(rt.alloc(), &mut handles, &mut disk, 63, 262_148, 1, b""));
     assert_eq!(rt;
         handles.close(rt.alloc(), &mut disk, 0),
         wrote_with(5, 0, 257)
     );
-    assert!(rt; reads(&mut handles, &mut disk, 63, 262_143, 2, b"\x07"));
-    assert!(rt; reads(&mut handles, &mut disk, 63, 262_145, 9, b"ail"));
+    assert!(rt; reads(rt.alloc(), &mut handles, &mut disk, 63, 262_143, 2, b"\x07"));
+    assert!(rt; reads(rt.alloc(), &mut handles, &mut disk, 63, 262_145, 9, b"ail"));
     Ok(())
 }
 

@@ -2,7 +2,8 @@ use Rattle.std.proofs.Common.{◌-◌, ◌≡◌, ◌≤◌, IsTrue, drop, take}
 use Rattle.disk_model.specs.Account.{IsCalm}
 use Rattle.file_handles.specs.Cache.{cache}
 use Rattle.file_handles.specs.Kept.{kept}
-use Rattle.file_handles.specs.Reading.{ForBody}
+use Rattle.file_handles.specs.Reading.{ForBody, HoldsAsBefore, LosesNone, SameButChunks}
+use Rattle.cache_store.specs.Reads.{AreHeld, LastIsFirst}
 use Rattle.cache_store.specs.Said.{saying}
 use Rattle.cache_store.specs.Saying.{SaysMore}
 use Rattle.cache_store.proofs.read.say_parts.Given as goal
@@ -13,7 +14,10 @@ invariant-loop-done g l = record {
   bound : l.done ≤ l.len;
   says : IsTrue g.D.Disk.tells → ForBody (cache g.D.Disk l.fn.handles l.fn.disk) l.slot (λ body.
       SaysMore (saying g.K.Sink l.fn.reply l.fn.sink) (saying g.K.Sink l.reply l.sink) (take l.done (drop l.from body)));
-  same : kept l.handles ≡ kept l.fn.handles;
+  same : SameButChunks (kept l.fn.handles) (kept l.handles);
+  holds : IsTrue g.D.Disk.tells → HoldsAsBefore (cache g.D.Disk l.fn.handles l.fn.disk) (kept l.handles);
+  held : AreHeld (kept l.fn.handles) l.slot l.from l.len → (l.disk ≡ l.fn.disk) × LosesNone (kept l.fn.handles) (kept l.handles);
+  recent : IsTrue g.D.Disk.tells → LastIsFirst (kept l.fn.handles) l.slot l.from l.done (kept l.handles);
   state : IsTrue g.D.Disk.tells → g.D.Disk.state l.disk ≡ g.D.Disk.state l.fn.disk;
   calm : IsCalm g.D.Disk l.fn.disk l.disk;
   sink : g.K.Sink.faults l.sink ≡ g.K.Sink.faults l.fn.sink;

@@ -7,7 +7,7 @@ use Rattle.cache_store.specs.Session.{session}
 use Rattle.cache_store.proofs.Represented.{represents}
 use Rattle.cache_theory.specs.History.{settled_at}
 use Rattle.cache_tool.specs.World.{output}
-use Rattle.cache_tool.proofs.DoneLaws.{done_where}
+use Rattle.cache_tool.proofs.DoneLaws.{done_right, done_where}
 use Rattle.cache_tool.proofs.EntryLooks.{nothing_to_read, reads_none}
 use Rattle.cache_tool.proofs.OneCommand.{came_open, performed_prints, unopened_prints}
 use Rattle.cache_tool.proofs.StayingLaws.{stays_done, stays_for}
@@ -27,13 +27,14 @@ returns-clause-answers g c = λ tells m is.
     let before = session g.D.Disk c.in-Ok.store c.open.new.disk in
     let last = session g.D.Disk c.command.new.self c.command.new.disk in
     let does = (c.command.ensures.performs tells).crash (settled_at m) keeps in
+    let done = done_right before (command_of c.args.command.now) m does.0 does.1.0 in
     let stays = stays_for (command_of c.args.command.now) c.command.result before last (λ spares. c.command.ensures.index spares tells) c.command.ensures.base in (
       does.0,
       (
-        done_where (opens.tells m is) (command_of c.args.command.now) m does.0 does.1.0,
+        done_where (opens.tells m is) (command_of c.args.command.now) m does.0 done,
         performed_prints m does.0 (output g.K.Sink g.D.Disk c.args.sink.now c.args.disk.now) (output g.K.Sink g.D.Disk c.command.new.sink c.end.new.disk) before
             last _ opens is (c.in-Ok.ensures.based tells) (c.end.ensures.ends tells) c.command.result c.map-came.result does.1.1.performs does.1.1.keeps
-            (λ had. stays_done (Tells before m) (command_of c.args.command.now) before m last does.0 does.1.0 (stays m (represents keeps) had)) (c.command.ensures.honest tells) c.map-came.ensures.cases c.end.ensures.same
+            (λ had. stays_done (Tells before m) (command_of c.args.command.now) before m last does.0 done (stays m (represents keeps) had)) (c.command.ensures.honest tells) c.map-came.ensures.cases c.end.ensures.same
             (λ not. let kept = c.end.ensures.dropped not in (kept.0, ap (λ d. g.D.Disk.state d) kept.1)),
       ),
     )

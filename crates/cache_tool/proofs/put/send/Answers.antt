@@ -3,6 +3,7 @@ use Rattle.cache_store.specs.Open.{Tells}
 use Rattle.cache_store.specs.Session.{session}
 use Rattle.cache_store.proofs.Represented.{represents}
 use Rattle.cache_tool.specs.HeldReply.{said_in}
+use Rattle.cache_tool.proofs.DoneLaws.{done_right}
 use Rattle.cache_tool.proofs.PutReplies.{sends_of}
 use Rattle.cache_tool.proofs.StayingLaws.{stays_done, stays_for}
 use Rattle.cache_tool.proofs.put.send.Goals as goal
@@ -13,12 +14,13 @@ returns-clause-sends g c = λ told. record {
       let before = session g.D.Disk c.args.store.now c.args.disk.now in
       let now = session g.D.Disk c.command.new.self c.command.new.disk in
       let does = (c.command.ensures.performs told).crash h keeps in
+      let done = done_right before (command_of c.args.c.now) h.machine does.0 does.1.0 in
       let stays = stays_for (command_of c.args.c.now) c.command.result before now (λ spares. c.command.ensures.index spares told) c.command.ensures.base in (
         does.0,
         (
-          does.1.0,
+          done,
           sends_of does.0 h _ _ _ (said_in c.clear.new.self) (said_in c.command.new.sink) c.clear.ensures does.1.1.performs does.1.1.keeps
-              (λ had. stays_done (Tells before h.machine) (command_of c.args.c.now) before h.machine now does.0 does.1.0 (stays h.machine (represents keeps) had)),
+              (λ had. stays_done (Tells before h.machine) (command_of c.args.c.now) before h.machine now does.0 done (stays h.machine (represents keeps) had)),
         ),
       );
 }

@@ -3,6 +3,8 @@ use Rattle.cache_script.specs.Command.{command_of}
 use Rattle.index_theory.proofs.UncleanLaws.{unclean_leaves_honest}
 use Rattle.cache_store.specs.Answering.{rest_of}
 use Rattle.cache_store.specs.IndexCalls.{IsFresh}
+use Rattle.file_handles.specs.Kept.{kept}
+use Rattle.cache_store.specs.Reads.{LastIsFirst}
 use Rattle.cache_store.specs.Said.{saying}
 use Rattle.cache_store.specs.Session.{Open, open_of, session}
 use Rattle.cache_store.specs.Verifying.{PrintsFound}
@@ -11,6 +13,7 @@ use Rattle.cache_store.proofs.PerformWhole.{does_performs, fails_performs}
 use Rattle.cache_store.proofs.PrintedLaws.{prints_found, prints_outcome}
 use Rattle.cache_store.proofs.SaidMore.{of_ok, when_ok}
 use Rattle.cache_store.proofs.TakenMore.{rest_takes}
+use Rattle.cache_store.proofs.ReadsHeld.{outcome_ok}
 use Rattle.cache_store.proofs.store.Store.command.Goals as goal
 
 pub returns-in_err-answered-clause-performs : goal.returns-in_err-answered-clause-performs
@@ -60,3 +63,8 @@ pub returns-clause-flushed : goal.returns-clause-flushed
 returns-clause-flushed g c = λ flush.
     when_ok c.finish_reply.result _
     (subst (λ (o : Open). o.index.update ≡ [] → IsFresh o.index.map) (sym c.finish_reply.ensures.open) (c.in_ok-answered.ensures.flushed flush))
+
+pub returns-clause-recent : goal.returns-clause-recent
+returns-clause-recent g c slot from len is ok told =
+    subst (λ (o : Open). LastIsFirst (kept c.args.self.now.handles) slot from len o.handles) (sym c.finish_reply.ensures.open)
+    (c.in_ok-answered.ensures.recent slot from len is (outcome_ok c.finish_reply.result c.in_ok-answered.answered ok c.finish_reply.ensures.outcome) told)

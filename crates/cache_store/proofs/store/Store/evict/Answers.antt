@@ -46,6 +46,7 @@ returns-in_err-remove_files-clause-does g c = λ told.
       same = c.in_ok-finish.ensures.looks.state told;
       ended = c.in_ok-finish.ensures.rest;
       base = c.in_ok-finish.ensures.base;
+      records = c.in_ok-finish.ensures.records told;
       tells = c.in_ok-finish.ensures.tells told;
     })
     c.in_ok-names.ensures
@@ -65,6 +66,7 @@ returns-in_err-say_names-clause-does g c = λ told.
       same = c.in_ok-finish.ensures.looks.state told;
       ended = c.in_ok-finish.ensures.rest;
       base = c.in_ok-finish.ensures.base;
+      records = c.in_ok-finish.ensures.records told;
       tells = c.in_ok-finish.ensures.tells told;
     })
     c.in_ok-names.ensures
@@ -87,6 +89,7 @@ returns-clause-does g c = λ told.
       same = c.in_ok-finish.ensures.looks.state told;
       ended = c.in_ok-finish.ensures.rest;
       base = c.in_ok-finish.ensures.base;
+      records = c.in_ok-finish.ensures.records told;
       tells = c.in_ok-finish.ensures.tells told;
     })
     c.in_ok-names.ensures

@@ -1,13 +1,19 @@
-use Rattle.std.proofs.Common.{refl, ap, subst, ◌∙◌}
+use Rattle.std.proofs.Common.{◌≡◌, IfOk, IsTrue, refl, sym, ap, subst, ◌∙◌}
 use Rattle.cache_script.specs.Command.{command_of}
 use Rattle.cache_theory.specs.Command.Command.{At, Append, Close, Create, Doom, ElementOf, Evict, Finish, Flush, Get, HasEntry, ListRecords, OpenKey, ReadPart, Rebuild, SetElement, StepUpdate, UnsetElement, UpdateState, UseEntry, Verify}
 use Rattle.cache_theory.specs.Given.{IsGiven}
+use Rattle.cache_store.specs.Answering.{outcome_in}
+use Rattle.cache_store.specs.Reads.{AreHeld, LastIsFirst}
 use Rattle.cache_store.specs.Said.{saying}
 use Rattle.cache_store.specs.Session.{session}
+use Rattle.cache_store.specs.declared.fault.Outcome.TheVariants as outcome
+use Rattle.file_handles.proofs.ReadKept.{read_keeps}
+use Rattle.file_handles.specs.Kept.{kept}
 use Rattle.cache_store.proofs.LearntAchieves.{append_achieves, close_achieves, create_achieves, doom_achieves, finish_achieves, open_achieves, set_achieves, unset_achieves, use_achieves}
-use Rattle.cache_store.proofs.PerformDoes.{as_command, at_does, by_name, done_unsaid, has_does, reading_does, state_does, unsaid_does, unsaid_done}
+use Rattle.cache_store.proofs.PerformDoes.{as_command, at_does, by_name, done_unsaid, has_does, reading_does, reading_does_with, state_does, unsaid_does, unsaid_done}
 use Rattle.cache_store.proofs.TakenMore.{open_takes}
 use Rattle.file_handles.proofs.IndexLeft.{same_left}
+use Rattle.cache_store.proofs.ReadsHeld.{same_read}
 use Rattle.cache_store.proofs.store.Store.perform.Goals as goal
 
 pub returns-in-At-clause-does : goal.returns-in-At-clause-does
@@ -87,7 +93,10 @@ returns-in-UseEntry-clause-does g c = λ told.
 pub returns-in-ReadPart-clause-does : goal.returns-in-ReadPart-clause-does
 returns-in-ReadPart-clause-does g c = λ told.
     as_command _ (ReadPart c.in-ReadPart.slot c.in-ReadPart.from c.in-ReadPart.len) _ _ _ _ _ (ap command_of c.in-ReadPart.is) (λ m. refl)
-    (reading_does (ReadPart c.in-ReadPart.slot c.in-ReadPart.from c.in-ReadPart.len) tt c.say_read.result (session g.D.Disk c.args.self.now c.args.disk.now) _ _ _ (c.say_read.ensures.looks.state told) c.say_read.ensures.open (c.say_read.ensures.answers told))
+    (reading_does_with (ReadPart c.in-ReadPart.slot c.in-ReadPart.from c.in-ReadPart.len) tt c.say_read.result (session g.D.Disk c.args.self.now c.args.disk.now) _ (kept c.say_read.new.self.handles) _ _
+    (c.say_read.ensures.looks.state told) c.say_read.ensures.open
+    (λ b h. read_keeps (g.D.Disk.state c.args.disk.now) (kept c.args.self.now.handles) (kept c.say_read.new.self.handles) c.say_read.ensures.same (c.say_read.ensures.holds told) h)
+    (c.say_read.ensures.answers told))
 
 pub returns-in-Get-clause-does : goal.returns-in-Get-clause-does
 returns-in-Get-clause-does g c = λ told.
@@ -150,3 +159,13 @@ pub returns-in-Get-clause-grows : goal.returns-in-Get-clause-grows
 returns-in-Get-clause-grows g c = λ told.
     open_takes (Get c.in-Get.key.now) c.say_get.result (session g.D.Disk c.args.self.now c.args.disk.now) (g.K.Sink.taken c.args.sink.now)
     (saying g.K.Sink c.say_get.new.self.reply c.say_get.new.sink) (c.requires.told told) (c.say_get.ensures.answers told)
+
+pub returns-in-ReadPart-clause-held : goal.returns-in-ReadPart-clause-held
+returns-in-ReadPart-clause-held g c slot from len is =
+    same_read c.in-ReadPart.slot c.in-ReadPart.from c.in-ReadPart.len slot from len (sym (ap command_of c.in-ReadPart.is) ∙ is)
+    (λ s f l. AreHeld (kept c.args.self.now.handles) s f l → c.say_read.new.disk ≡ c.args.disk.now) c.say_read.ensures.held
+
+pub returns-in-ReadPart-clause-recent : goal.returns-in-ReadPart-clause-recent
+returns-in-ReadPart-clause-recent g c slot from len is =
+    same_read c.in-ReadPart.slot c.in-ReadPart.from c.in-ReadPart.len slot from len (sym (ap command_of c.in-ReadPart.is) ∙ is)
+    (λ s f l. IfOk c.say_read.result (λ a. outcome_in a ≡ outcome.Ok → IsTrue g.D.Disk.tells → LastIsFirst (kept c.args.self.now.handles) s f l (kept c.say_read.new.self.handles))) c.say_read.ensures.recent

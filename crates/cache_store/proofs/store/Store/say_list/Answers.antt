@@ -20,6 +20,7 @@ returns-in_err-records-clause-does g c = λ told.
       same = c.in_ok-finish.ensures.looks.state told;
       ended = c.in_ok-finish.ensures.rest;
       base = c.in_ok-finish.ensures.base;
+      records = c.in_ok-finish.ensures.records told;
       tells = c.in_ok-finish.ensures.tells told;
     })
     c.from_residual-in_err-records.result _ (saying g.K.Sink c.args.self.now.reply c.args.sink.now) c.from_residual-in_err-records.ensures.1
@@ -33,6 +34,7 @@ returns-in_err-say_records-clause-does g c = λ told.
       same = c.in_ok-finish.ensures.looks.state told;
       ended = c.in_ok-finish.ensures.rest;
       base = c.in_ok-finish.ensures.base;
+      records = c.in_ok-finish.ensures.records told;
       tells = c.in_ok-finish.ensures.tells told;
     })
     c.in_ok-records.records c.in_ok-records.ensures.known c.in_ok-records.ensures.by_name s0 s1 c.requires.empty
@@ -48,6 +50,7 @@ returns-clause-does g c = λ told.
       same = c.in_ok-finish.ensures.looks.state told;
       ended = c.in_ok-finish.ensures.rest;
       base = c.in_ok-finish.ensures.base;
+      records = c.in_ok-finish.ensures.records told;
       tells = c.in_ok-finish.ensures.tells told;
     })
     c.in_ok-records.records c.in_ok-records.ensures.known c.in_ok-records.ensures.by_name s0 s1 c.requires.empty

@@ -7,12 +7,14 @@ use Rattle.cache_theory.specs.Command.Command.{ReadPart}
 use Rattle.cache_theory.specs.Machine.{object_of}
 use Rattle.cache_theory.specs.Step.{step}
 use Rattle.cache_theory.specs.Text.{with_bytes}
+use Rattle.file_handles.specs.Kept.{kept}
 use Rattle.cache_store.specs.Answering.{AnswersTo}
 use Rattle.cache_store.specs.Said.{saying}
 use Rattle.cache_store.specs.Saying.{CutsIn, SaysMore}
 use Rattle.cache_store.specs.declared.answered.Answered.TheVariants as answered
 use Rattle.cache_store.proofs.ReplyLaws.{bytes_cut, bytes_said}
 use Rattle.cache_store.proofs.PartRead.{all_of, count_is, read_reply, refused_reply}
+use Rattle.cache_store.proofs.ReadsHeld.{fewer_held, len_of, recent_count}
 use Rattle.cache_store.proofs.Unsaid.{unsaid_answers}
 use Rattle.cache_store.proofs.store.Store.say_read.Goals as goal
 
@@ -66,3 +68,36 @@ returns-clause-answers g c told m represents =
     (bytes_said was c.requires.empty now (take len (drop from body))
     (subst (λ (t : List ℕ). SaysMore was now (with_bytes (codes "data") t)) (all_of body at len c.min-count.result count ∙ ap (λ n. take len (drop n body)) same)
     (c.in_ok-say_bytes.ensures.says told m represents (count_is body at len c.min-count.result count))))
+
+pub returns-in_err-say_bytes-clause-held : goal.returns-in_err-say_bytes-clause-held
+returns-in_err-say_bytes-clause-held g c all =
+    let least = c.min-count.ensures in
+    let wide = c.from.ensures in
+    let same = c.from-3.ensures in
+    c.say_bytes.ensures.held (fewer_held (kept c.args.self.now.handles) c.args.slot c.args.from c.args.len c.min-count.result c.from-3.result (omega (arith, same)) (omega (arith, least, wide)) all)
+
+pub returns-clause-held : goal.returns-clause-held
+returns-clause-held g c all =
+    let least = c.min-count.ensures in
+    let wide = c.from.ensures in
+    let same = c.from-3.ensures in
+    c.say_bytes.ensures.held (fewer_held (kept c.args.self.now.handles) c.args.slot c.args.from c.args.len c.min-count.result c.from-3.result (omega (arith, same)) (omega (arith, least, wide)) all)
+
+pub returns-clause-recent : goal.returns-clause-recent
+returns-clause-recent g c ok told =
+    let some = c.requires.told told in
+    let m = some.0 in
+    let stands = some.1.1 in
+    let k = kept c.args.self.now.handles in
+    let at : ℕ = c.from-3.result in
+    let wide = c.from.ensures in
+    let wide-2 = c.from-2.ensures in
+    let wide-3 = c.from-3.ensures in
+    let least = c.min-count.ensures in
+    let minus = c.saturating_sub.ensures in
+    let end = c.in-Ok.ensures.len m some.1.0 stands.proper stands.handles in
+    recent_count k (kept c.say_bytes.new.handles) c.args.slot c.args.from c.args.len c.min-count.result at (omega (arith, wide-3))
+    (λ x own.
+    let long = len_of k m some.1.0 stands.handles c.args.slot c.requires.slot x own in
+    omega (arith, end, least, minus, wide, wide-2, wide-3, long))
+    (c.in_ok-say_bytes.ensures.recent told)

@@ -44,6 +44,7 @@ returns-clause-does g c = λ told.
       same = c.in_ok-found.ensures.looks.state told ∙ looked;
       ended = c.in_ok-finish.ensures.rest;
       base = c.in_ok-finish.ensures.base;
+      records = c.in_ok-finish.ensures.records told;
       tells = c.in_ok-finish.ensures.tells told;
     })
     c.in_ok-records.records c.in_ok-records.ensures.known c.in_ok-records.ensures.by_name c.in_ok-writing.writing c.in_ok-writing.ensures
@@ -60,6 +61,7 @@ returns-clause-found g c = λ told.
       same = c.in_ok-found.ensures.looks.state told ∙ looked;
       ended = c.in_ok-finish.ensures.rest;
       base = c.in_ok-finish.ensures.base;
+      records = c.in_ok-finish.ensures.records told;
       tells = c.in_ok-finish.ensures.tells told;
     })
     c.in_ok-records.records c.in_ok-records.ensures.known c.in_ok-records.ensures.by_name c.in_ok-writing.writing c.in_ok-writing.ensures

@@ -89,7 +89,7 @@ returns-clause-carried g c = λ tells. carries_out_at (λ b m w moment stand.
     in
     added_leaves s k c.args.slot c.args.key.now c.name_of-name.result may m w stand (g.D.Disk.state c.doom_user.new.disk) (g.D.Disk.state c.drafted.new.disk) (kept c.doom_user.new.self)
     (g.met.D.Disk.sound c.doom_user.new.disk tells) but (kept c.add.new.self) c.in_ok-object.object (all_below 256 c.args.key.now (λ i. omega (arith, c.type_inv.key i))) (c.in_ok-object.ensures.state tells).made
-    (subst (λ n. IsHeldAs c.in_ok-object.object (fresh n c.args.key.now)) (sym moment) c.in_ok-object.ensures.draft.1) c.in_ok-add.ensures.added (omega arith) (λ p lt. omega arith))
+    (subst (λ n. IsHeldAs c.in_ok-object.object (fresh n c.args.key.now)) (sym moment) c.in_ok-object.ensures.draft.1.1) c.in_ok-add.ensures.added (omega arith) (λ p lt. omega arith))
 
 pub returns-in_err-object-clause-index : goal.returns-in_err-object-clause-index
 returns-in_err-object-clause-index g c told =

@@ -21,14 +21,14 @@ take-object-requires-clause-there g c = user_is_there (kept c.args.self.now) c.a
 pub doom-requires-clause-told : goal.doom-requires-clause-told
 doom-requires-clause-told g c = λ tells. user_stands (g.D.Disk.state c.args.disk.now) (kept c.args.self.now) c.args.name.now c.args.place c.requires.user (c.requires.told tells)
 
-pub returns-in_err-number-clause-dooms : goal.returns-in_err-number-clause-dooms
-returns-in_err-number-clause-dooms g c = λ tells. record {
+pub returns-in_err-moved_to-clause-dooms : goal.returns-in_err-moved_to-clause-dooms
+returns-in_err-moved_to-clause-dooms g c = λ tells. record {
   leaves = λ b h touched stand.
       let m = h.machine in
       let w = h.marks in
       let s = g.D.Disk.state c.args.disk.now in
       let f = c.from_residual.ensures in
-      record { safe = λ on. dooms_not s (g.D.Disk.state c.doom.new.disk) w c.args.name.now _ c.in_err-number.field-0.0 (λ n least. c.in_err-number.ensures.state n least tells) touched (stand.crash_kept on).safe; next = IfOk-from_err c.from_residual.result (λ done. KeepsWhere b (cache_at (kept c.take-object.new.self) (g.D.Disk.state c.doom.new.disk)) (history_of (doomed_under m c.args.name.now.0) w)) f.0 };
+      record { safe = λ on. dooms_not s (g.D.Disk.state c.doom.new.disk) w c.args.name.now _ c.in_err-moved_to.field-0.0 (λ n least. c.in_err-moved_to.ensures.state n least tells) touched (stand.crash_kept on).safe; next = IfOk-from_err c.from_residual.result (λ done. KeepsWhere b (cache_at (kept c.take-object.new.self) (g.D.Disk.state c.doom.new.disk)) (history_of (doomed_under m c.args.name.now.0) w)) f.0 };
 }
 
 pub returns-clause-dooms : goal.returns-clause-dooms
@@ -36,36 +36,36 @@ returns-clause-dooms g c = λ tells. record {
   leaves = λ b h touched stand.
       let s = g.D.Disk.state c.args.disk.now in
       let k = kept c.args.self.now in
-      let free = subst (λ xs. IsLeastFree xs c.in_ok-number.number) c.doomed_numbers-doomed.ensures.numbers c.in_ok-number.ensures.number in
-      let done = dooms_there s (g.D.Disk.state c.doom.new.disk) k (kept c.take-object.new.self) (kept c.put_entry.new.self) c.args.name.now c.args.place c.take-object.result c.in_ok-number.number
+      let free = subst (λ xs. IsLeastFree xs c.in_ok-moved_to.moved_to) c.doomed_numbers-doomed.ensures.numbers c.in_ok-moved_to.ensures.number in
+      let done = dooms_there s (g.D.Disk.state c.doom.new.disk) k (kept c.take-object.new.self) (kept c.put_entry.new.self) c.args.name.now c.args.place c.take-object.result c.in_ok-moved_to.moved_to
       (g.met.D.Disk.sound c.args.disk.now tells) c.requires.user c.take-object.ensures.found free
-      (c.in_ok-number.ensures.state c.in_ok-number.number c.in_ok-number.ensures.number tells) c.take-object.ensures.kept c.put_entry.ensures h.machine h.marks touched stand in
+      (c.in_ok-moved_to.ensures.state c.in_ok-moved_to.moved_to c.in_ok-moved_to.ensures.number tells) c.take-object.ensures.kept c.put_entry.ensures h.machine h.marks touched stand in
       record { safe = done.0; next = done.1 };
 }
 
-pub returns-in_err-number-clause-numbered : goal.returns-in_err-number-clause-numbered
-returns-in_err-number-clause-numbered g c = λ tells.
+pub returns-in_err-moved_to-clause-numbered : goal.returns-in_err-moved_to-clause-numbered
+returns-in_err-moved_to-clause-numbered g c = λ tells.
     let k = kept c.args.self.now in
     let few : c.doomed_numbers-doomed.result.count < SLOTS = omega (arith, c.if-doomed-ge-SLOTS.false) in
     let l = least_free (numbers_in k.objects) in
-    let failed : Result ℕ DiskFault = Err c.in_err-number.field-0.0 in
+    let failed : Result ℕ DiskFault = Err c.in_err-moved_to.field-0.0 in
     takes_first (g.D.Disk.state c.args.disk.now) k (c.requires.told tells) c.args.name.now l.0 l.1
     (few_numbers _ _ _ c.doomed_numbers-doomed.ensures.numbers few)
     (g.D.Disk.state c.doom.new.disk) failed
-    (c.in_err-number.ensures.state l.0 (subst (λ xs. IsLeastFree xs l.0) (sym c.doomed_numbers-doomed.ensures.numbers) l.1) tells)
+    (c.in_err-moved_to.ensures.state l.0 (subst (λ xs. IsLeastFree xs l.0) (sym c.doomed_numbers-doomed.ensures.numbers) l.1) tells)
 
 pub returns-clause-numbered : goal.returns-clause-numbered
 returns-clause-numbered g c = λ tells.
     let k = kept c.args.self.now in
     let few : c.doomed_numbers-doomed.result.count < SLOTS = omega (arith, c.if-doomed-ge-SLOTS.false) in
-    let n = c.in_ok-number.number in
+    let n = c.in_ok-moved_to.moved_to in
     takes_first (g.D.Disk.state c.args.disk.now) k (c.requires.told tells) c.args.name.now n
-    (subst (λ xs. IsLeastFree xs n) c.doomed_numbers-doomed.ensures.numbers c.in_ok-number.ensures.number)
+    (subst (λ xs. IsLeastFree xs n) c.doomed_numbers-doomed.ensures.numbers c.in_ok-moved_to.ensures.number)
     (few_numbers _ _ _ c.doomed_numbers-doomed.ensures.numbers few)
-    (g.D.Disk.state c.doom.new.disk) (Ok n) (c.in_ok-number.ensures.state n c.in_ok-number.ensures.number tells)
+    (g.D.Disk.state c.doom.new.disk) (Ok n) (c.in_ok-moved_to.ensures.state n c.in_ok-moved_to.ensures.number tells)
 
-pub returns-in_err-number-clause-index : goal.returns-in_err-number-clause-index
-returns-in_err-number-clause-index g c told =
+pub returns-in_err-moved_to-clause-index : goal.returns-in_err-moved_to-clause-index
+returns-in_err-moved_to-clause-index g c told =
     doomed_left c.doom.result (g.D.Disk.state c.args.disk.now) (g.D.Disk.state c.doom.new.disk) c.args.name.now _ (g.met.D.Disk.sound c.args.disk.now told) (λ n least. c.doom.ensures.state n least told)
 
 pub returns-clause-index : goal.returns-clause-index

@@ -38,4 +38,4 @@ returns-clause-effect g c =
     let x = c.take-object.result in
     subst (λ (o : Option Object). IsLearntOf completed o c.learnt_of-effect.result) (sym c.take-object.ensures.found) (λ o held new.
     c.learnt_of-effect.ensures.held
-    ∙ held_is_learnt x.name x.doomed (Finished c.in_ok-meta.meta) (completed o) (completed_held x c.in-Draft.draft c.in-Draft.is c.in_ok-meta.meta c.in_ok-meta.ensures.meta o held) new)
+    ∙ held_is_learnt x.number x.name x.doomed (Finished c.in_ok-meta.meta) (completed o) (completed_held x c.in-Draft.draft c.in-Draft.is c.in_ok-meta.meta c.in_ok-meta.ensures.meta o held) new)

@@ -1,5 +1,5 @@
-use Rattle.std.proofs.Common.{None, sym, ◌∙◌, length-set}
-use Rattle.file_handles.specs.Kept.{kept}
+use Rattle.std.proofs.Common.{None, sym, ap, ◌∙◌, length-set}
+use Rattle.file_handles.specs.Kept.{kept, without_chunks}
 use Rattle.file_handles.proofs.ElementChecks.{not_there}
 use Rattle.file_handles.proofs.ReleasedSlot.{last_given_or, safe_may_go, shared_given}
 use Rattle.file_handles.proofs.IndexLeft.{let_go_left}
@@ -24,7 +24,8 @@ returns-in-Some-clause-gives_up g c tells = record {
     safe = λ on. safe_may_go c.let_go.result (g.D.Disk.state c.args.disk.now) (g.D.Disk.state c.let_go.new.disk) h.marks c.in-Some.object (c.let_go.ensures.state tells) (is.crash_kept on).safe;
     next = last_given_or (g.D.Disk.state c.args.disk.now) (kept c.args.self.now) c.args.slot c.args.place c.from.result c.requires.slot
         (sym (length-set c.args.self.now.slots c.from.result None) ∙ c.is_used.ensures.length) (c.requires.told tells).placed c.from.ensures h.machine h.marks reads is c.in-Some.object (g.D.Disk.state c.let_go.new.disk)
-        (kept c.take_any.new.self) c.let_go.result (sym c.is_used.ensures.used ∙ c.if-is_used.false) (sym c.take_any.ensures.found ∙ c.in-Some.is) (c.let_go.ensures.state tells) c.take_any.ensures.kept;
+        (record (kept c.take_any.new.self) { chunks = c.forget.new.self }) c.let_go.result (sym c.is_used.ensures.used ∙ c.if-is_used.false) (sym c.take_any.ensures.found ∙ c.in-Some.is) (c.let_go.ensures.state tells)
+        ((λ i. record (kept c.take_any.new.self) { chunks = c.forget.ensures.chunks i }) ∙ ap (λ k. without_chunks k c.in-Some.object.number) c.take_any.ensures.kept);
   };
 }
 

@@ -7,6 +7,7 @@ use Rattle.file_handles.specs.Refuses.{HasAt}
 use Rattle.file_handles.specs.Setting.{are_small}
 use Rattle.file_handles.proofs.ElementChecks.{at_object, bad_name, bad_value, empty_name, set_bad, set_ends_by, some_object}
 use Rattle.file_handles.proofs.ElementEntries.{small_has_room}
+use Rattle.file_handles.proofs.PartsSlots.{refused_on}
 use Rattle.file_handles.proofs.handles.Handles.may_set.Goals as goal
 use Rattle.file_handles.proofs.handles.Handles.may_set.Goals.{then-is_empty-via-then-is_empty, then-is_empty-via-else-is_empty+then-has_zero, then-is_empty-via-else-is_empty+else-has_zero+then-has_zero-2}
 
@@ -40,3 +41,6 @@ pub returns-else-may_have-clause-refused : goal.returns-else-may_have-clause-ref
 returns-else-may_have-clause-refused c =
     set_ends_by (kept c.args.self.now) c.args.slot c.requires c.args.name.now c.args.value.now c.in_ok-place.ensures.passes (sym c.if-is_empty.ensures) (sym c.if-has_zero.ensures) (sym c.if-has_zero-2.ensures)
     c.in_ok-place.place c.in_ok-object.object.now c.in_ok-object.ensures.found c.in_ok-place.ensures.object c.elements.result.now c.elements.ensures false c.if-may_have.ensures
+
+pub returns-in_err-place-clause-refused : goal.returns-in_err-place-clause-refused
+returns-in_err-place-clause-refused c = refused_on c.from_residual.result c.in_err-place.field-0.0 _ c.from_residual.ensures.1 (c.in_err-place.ensures.refused_set c.args.name.now c.args.value.now)

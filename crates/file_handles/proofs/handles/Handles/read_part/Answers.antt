@@ -1,18 +1,22 @@
-use Rattle.std.proofs.Common.{◌≡◌, ◌∙◌, ℕ, List, Bor, refl, sym, subst, ap}
+use Rattle.std.proofs.Common.{◌≡◌, ◌∙◌, ℕ, List, Bor, Option, Some, None, refl, sym, subst, ap}
 use Rattle.std.specs.Prelude.{IfSome}
 use Rattle.std.specs.Bool.{IsTrue}
 use Rattle.cache_theory.specs.Command.Command.{ReadPart}
 use Rattle.cache_theory.specs.declared.refusal.Refusal.{Refusal}
+use Rattle.chunk_cache.specs.Cached.{StandsFirst}
+use Rattle.chunk_cache.proofs.Properties.{look_puts_first}
 use Rattle.disk_model.specs.Account.{Ending, Looks}
 use Rattle.file_handles.specs.Answers.{ending}
 use Rattle.file_handles.specs.Cache.{cache_at}
 use Rattle.file_handles.specs.Kept.{Kept, kept, object_at, use_at}
-use Rattle.file_handles.specs.Reading.{ForBody, part_in, part_of_body}
+use Rattle.file_handles.specs.Reading.{ForBody, HasChunkOf, part_of_body, rest_part}
 use Rattle.file_handles.specs.Refuses.{Refuses}
 use Rattle.file_handles.specs.declared.fault.HandleFault.TheVariants as fault
+use Rattle.file_handles.specs.declared.read.StoredChunk.{StoredChunk}
 use Rattle.file_handles.proofs.Accounting.{looks_nowhere}
-use Rattle.file_handles.proofs.PartsSlots.{err_is, error_says, on_err, part_no_object, part_no_slot, part_passes, part_read}
 use Rattle.file_handles.proofs.ElementSlots.{use_found}
+use Rattle.file_handles.proofs.PartsSlots.{err_is, error_says, on_err, part_no_slot, part_passes}
+use Rattle.file_handles.proofs.ReadChunks.{chunk_first, chunk_held, chunk_lent, in_slot, looked_loses_none, looked_stands, none_first, one_there, rest_lent, same_looked}
 use Rattle.file_handles.proofs.handles.Handles.read_part.Goals as goal
 
 pub returns-in_err-used : goal.returns-in_err-used
@@ -27,51 +31,126 @@ returns-in_err-used g c =
     (λ r same.
     let one : f ≡ r = cc in
     subst (λ (q : Refusal). Refuses k (ReadPart c.args.slot c.args.from c.args.len) q) one (part_no_slot k c.args.slot c.requires.slot f (sym c.use_of.ensures ∙ c.in_err-used.was) c.args.from c.args.len)) in (
-      (refl, λ _. tt, refl),
+      (
+        refl,
+        λ _. tt,
+        record {
+          same = refl;
+          first = on_err _ c.from_residual.result (fault.Refused f) is;
+          none_lost = λ held n i some. some;
+          unread = λ none. refl;
+          holds = λ told m number stands. stands.handles.chunks;
+        },
+      ),
       record {
         part = says.0;
         refused = says.1;
         passes = on_err _ c.from_residual.result (fault.Refused f) is;
-        kept = tt;
+        read = tt;
+        held = λ _. refl;
         looks = looks_nowhere g.D.Disk _ _ (ap ending is);
       },
     )
 
-pub returns-in_err-fetch_part : goal.returns-in_err-fetch_part
-returns-in_err-fetch_part g c =
-    let s = g.D.Disk.state c.args.disk.now in
-    let k = kept c.args.self.now in
-    let e = c.in_err-fetch_part.field-0.0 in
-    let is = err_is c.from_residual-in_err-fetch_part.result e c.from_residual-in_err-fetch_part.ensures.1 in
-    let says = error_says c.from_residual-in_err-fetch_part.result e
-    (λ (part : Bor (List ℕ)). IsTrue g.D.Disk.tells → ForBody (cache_at k s) c.args.slot (λ body. part.now ≡ part_of_body body c.args.from c.args.len))
-    (λ (r : Refusal). Refuses k (ReadPart c.args.slot c.args.from c.args.len) r) is
-    (λ r same. part_no_object k c.args.slot c.requires.slot r c.in_ok-used.used (sym c.use_of.ensures ∙ c.in_ok-used.was) (c.in_err-fetch_part.ensures.refused r same) c.args.from c.args.len) in (
-      (refl, λ _. tt, c.fetch_part.ensures.kept),
-      record {
-        part = says.0;
-        refused = says.1;
-        passes = on_err _ c.from_residual-in_err-fetch_part.result e is;
-        kept = tt;
-        looks = subst (λ (a : Ending). Looks g.D.Disk a c.args.disk.now c.fetch_part.new.disk) (ap ending c.in_err-fetch_part.was ∙ sym (ap ending is)) c.fetch_part.ensures.looks;
-      },
-    )
-
-pub returns : goal.returns
-returns g c =
+pub returns-in_err-hold-in-Some : goal.returns-in_err-hold-in-Some
+returns-in_err-hold-in-Some g c =
     let s = g.D.Disk.state c.args.disk.now in
     let k = kept c.args.self.now in
     let u = c.in_ok-used.used in
-    let P : Kept → Type 0 = λ l. IfSome (object_at l u.place) (λ x. c.lend_part.result.now ≡ part_in x.entry c.fetch_part.new.self.chunk c.args.from c.args.len) in
-    let lent = subst P c.fetch_part.ensures.kept c.lend_part.ensures in (
-      (refl, λ _. tt, c.fetch_part.ensures.kept),
+    let found : use_at k c.args.slot ≡ Some u = use_found (use_at k c.args.slot) u (sym c.use_of.ensures ∙ c.in_ok-used.was) in
+    let chunk : StoredChunk = c.in-Some.chunk in
+    let there = one_there (object_at k u.place) (λ x. HasChunkOf x c.args.from c.args.len (Some chunk)) c.in_ok-chunk.ensures.there
+    (subst (λ (o : Option StoredChunk). IfSome (object_at k u.place) (λ x. HasChunkOf x c.args.from c.args.len o)) c.in-Some.is c.in_ok-chunk.ensures.chunk) in
+    let e = c.in_err-hold-in-Some.field-0.0 in
+    let is = err_is c.from_residual-in_err-hold-in-Some.result e c.from_residual-in_err-hold-in-Some.ensures.1 in
+    let says = error_says c.from_residual-in_err-hold-in-Some.result e
+    (λ (part : Bor (List ℕ)). IsTrue g.D.Disk.tells → ForBody (cache_at k s) c.args.slot (λ body. part.now ≡ part_of_body body c.args.from c.args.len))
+    (λ (r : Refusal). Refuses k (ReadPart c.args.slot c.args.from c.args.len) r) is
+    (λ r same. absurd (c.in_err-hold-in-Some.ensures.refused r same)) in (
+      (
+        refl,
+        λ _. tt,
+        record {
+          same = c.hold.ensures.same;
+          first = on_err _ c.from_residual-in_err-hold-in-Some.result e is;
+          none_lost = λ held. (c.hold.ensures.held (chunk_held k c.args.slot u found there.0 there.1.0 c.args.from c.args.len chunk there.1.1 held)).1.1;
+          unread = λ none. absurd (none there.0 chunk.number chunk.index (in_slot k c.args.slot u found there.0 there.1.0 c.args.from c.args.len) there.1.1.of_chunk);
+          holds = λ told. c.hold.ensures.holds u.place there.0 c.args.from c.args.len told there.1.0 there.1.1;
+        },
+      ),
+      record {
+        part = says.0;
+        refused = says.1;
+        passes = on_err _ c.from_residual-in_err-hold-in-Some.result e is;
+        read = tt;
+        held = λ held. (c.hold.ensures.held (chunk_held k c.args.slot u found there.0 there.1.0 c.args.from c.args.len chunk there.1.1 held)).1.0;
+        looks = subst (λ (a : Ending). Looks g.D.Disk a c.args.disk.now c.hold.new.disk) (ap ending c.in_err-hold-in-Some.was ∙ sym (ap ending is)) c.hold.ensures.looks;
+      },
+    )
+
+pub returns-in_ok-hold-in-Some : goal.returns-in_ok-hold-in-Some
+returns-in_ok-hold-in-Some g c =
+    let k = kept c.args.self.now in
+    let u = c.in_ok-used.used in
+    let found : use_at k c.args.slot ≡ Some u = use_found (use_at k c.args.slot) u (sym c.use_of.ensures ∙ c.in_ok-used.was) in
+    let chunk : StoredChunk = c.in-Some.chunk in
+    let there = one_there (object_at k u.place) (λ x. HasChunkOf x c.args.from c.args.len (Some chunk)) c.in_ok-chunk.ensures.there
+    (subst (λ (o : Option StoredChunk). IfSome (object_at k u.place) (λ x. HasChunkOf x c.args.from c.args.len o)) c.in-Some.is c.in_ok-chunk.ensures.chunk) in
+    let mid = kept c.hold.new.self in
+    let after = kept c.lend_chunk.follows.lender-at-none in
+    let looked = c.lend_chunk.follows.holds-at-none in (
+      (
+        refl,
+        λ _. tt,
+        record {
+          same = same_looked k mid after _ c.hold.ensures.same looked;
+          first = chunk_first k c.args.slot u found there.0 there.1.0 c.args.from c.args.len chunk there.1.1 after.chunks
+              (subst (λ (j : Kept). StandsFirst chunk.number chunk.index j.chunks) (sym looked) (look_puts_first chunk.number chunk.index mid.chunks c.in_ok-hold-in-Some.ensures.found));
+          none_lost = λ held.
+              looked_loses_none k mid after chunk.number chunk.index
+              (c.hold.ensures.held (chunk_held k c.args.slot u found there.0 there.1.0 c.args.from c.args.len chunk there.1.1 held)).1.1 looked;
+          unread = λ none. absurd (none there.0 chunk.number chunk.index (in_slot k c.args.slot u found there.0 there.1.0 c.args.from c.args.len) there.1.1.of_chunk);
+          holds = λ told m number stands.
+              looked_stands mid after m number chunk.number chunk.index looked (c.hold.ensures.holds u.place there.0 c.args.from c.args.len told there.1.0 there.1.1 m number stands);
+        },
+      ),
       record {
         part = λ told m stand.
-            part_read s k c.args.slot c.requires.slot u (sym c.use_of.ensures ∙ c.in_ok-used.was) c.lend_part.result.now c.fetch_part.new.self.chunk c.args.from c.args.len
-            (c.in_ok-fetch_part.ensures.part told) lent m stand.0 stand.1;
+            chunk_lent k c.args.slot u found there.0 there.1.0 c.args.from c.args.len m stand.0 stand.1.handles c.requires.slot chunk there.1.1 mid
+            (c.hold.ensures.holds u.place there.0 c.args.from c.args.len told there.1.0 there.1.1 m stand.0 stand.1) c.in_ok-hold-in-Some.ensures.found c.lend_chunk.result.now c.lend_chunk.ensures.part;
         refused = tt;
-        passes = part_passes k c.args.slot c.requires.slot u (use_found (use_at k c.args.slot) u (sym c.use_of.ensures ∙ c.in_ok-used.was)) c.args.from c.args.len;
-        kept = tt;
-        looks = subst (λ (a : Ending). Looks g.D.Disk a c.args.disk.now c.fetch_part.new.disk) (ap ending c.in_ok-fetch_part.was) c.fetch_part.ensures.looks;
+        passes = part_passes k c.args.slot c.requires.slot u found c.args.from c.args.len;
+        read = tt;
+        held = λ held. (c.hold.ensures.held (chunk_held k c.args.slot u found there.0 there.1.0 c.args.from c.args.len chunk there.1.1 held)).1.0;
+        looks = subst (λ (a : Ending). Looks g.D.Disk a c.args.disk.now c.hold.new.disk) (ap ending c.in_ok-hold-in-Some.was) c.hold.ensures.looks;
+      },
+    )
+
+pub returns-in-None : goal.returns-in-None
+returns-in-None g c =
+    let k = kept c.args.self.now in
+    let u = c.in_ok-used.used in
+    let found : use_at k c.args.slot ≡ Some u = use_found (use_at k c.args.slot) u (sym c.use_of.ensures ∙ c.in_ok-used.was) in
+    let there = one_there (object_at k u.place) (λ x. HasChunkOf x c.args.from c.args.len None) c.in_ok-chunk.ensures.there
+    (subst (λ (o : Option StoredChunk). IfSome (object_at k u.place) (λ x. HasChunkOf x c.args.from c.args.len o)) c.in-None.is c.in_ok-chunk.ensures.chunk) in
+    let lent = subst (λ o. IfSome o (λ x. c.lend_rest.result.now ≡ rest_part x.entry c.args.from c.args.len)) there.1.0 c.lend_rest.ensures in (
+      (
+        refl,
+        λ _. tt,
+        record {
+          same = refl;
+          first = none_first k c.args.slot u found there.0 there.1.0 c.args.from c.args.len there.1.1 k.chunks;
+          none_lost = λ held n i some. some;
+          unread = λ none. refl;
+          holds = λ told m number stands. stands.handles.chunks;
+        },
+      ),
+      record {
+        part = λ told m stand. rest_lent k c.args.slot u found there.0 there.1.0 c.args.from c.args.len m stand.0 stand.1.handles c.requires.slot there.1.1 c.lend_rest.result.now lent;
+        refused = tt;
+        passes = part_passes k c.args.slot c.requires.slot u found c.args.from c.args.len;
+        read = tt;
+        held = λ _. refl;
+        looks = looks_nowhere g.D.Disk _ _ refl;
       },
     )

@@ -1,0 +1,18 @@
+-- What a `read` finds held, and what it leaves so.
+use Rattle.std.specs.Prelude.{Some, min, ℕ, ◌+◌, ◌<◌, ◌≡◌, ◌≤◌}
+use Rattle.chunk_cache.specs.Cached.{StandsFirst}
+use Rattle.file_handles.specs.Held.{body_len_in}
+use Rattle.file_handles.specs.Kept.{Kept, object_in}
+use Rattle.file_handles.specs.Reading.{IsOfChunk, IsPartHeld}
+use Rattle.file_handles.specs.declared.object.Object.{Object}
+
+-- of these bytes of the body each that is on the disk is in a chunk that is held
+abbrev pub AreHeld : Kept → ℕ → ℕ → ℕ → Type 0
+AreHeld k slot from len = (at : ℕ) → from ≤ at → at < from + len → IsPartHeld k slot at 1
+
+-- the last of these bytes, as far as the body goes, is in the chunk that is the most recent, if it is on the disk
+abbrev pub LastIsFirst : Kept → ℕ → ℕ → ℕ → Kept → Type 0
+LastIsFirst before slot from len after =
+    (x : Object) (at number index : ℕ) → object_in before slot ≡ Some x → from ≤ at
+    → at + 1 ≡ min (from + len) (body_len_in x.entry) → IsOfChunk x at 1 number index
+    → StandsFirst number index after.chunks
