@@ -121,11 +121,10 @@ static uint32_t number_in(const char *text, uint32_t most, uint32_t none)
 }
 
 /* The record of a block, if it fits the name. */
-static int read_block(const uint8_t *name, const uint8_t *block, uint32_t len, uint32_t offset, uint64_t file_size)
+static int read_block(const uint8_t *name, const uint8_t *block, uint32_t len, uint32_t offset, uint64_t file_size, struct record *r)
 {
     uint32_t head = 4 + 2 * (uint32_t)(((uint64_t)offset + CHUNK - 1) / CHUNK), h[5], zeros = 0;
     const uint8_t *header = block + head, *key = header + 32;
-    struct record r;
     uint8_t named[20];
     int anonymous = 0;
 
@@ -137,7 +136,7 @@ static int read_block(const uint8_t *name, const uint8_t *block, uint32_t len, u
     const uint8_t *elements = key + size + 1, *end = block + len;
     for (const uint8_t *b = elements; b < end; b++)
         zeros += *b == 0;
-    if (!read_key(key, size, &anonymous, &r.origin) || (elements < end && end[-1] != 0) || zeros % 2 != 0)
+    if (!read_key(key, size, &anonymous, &r->origin) || (elements < end && end[-1] != 0) || zeros % 2 != 0)
         return 0;
     sha1(key, size, h);
     for (int i = 0; i < 5; i++)
@@ -146,14 +145,13 @@ static int read_block(const uint8_t *name, const uint8_t *block, uint32_t len, u
         return 0;
     uint64_t kb = (file_size + 1023) / 1024;
     uint32_t content = number_in(element(elements, end, "ctid"), 256, 0);
-    memcpy(r.name, name, 20);
-    r.frecency = big(header + 16);
-    r.on_start = (uint16_t)number_in(element(elements, end, "net-response-time-onstart"), 65534, 65535);
-    r.on_stop = (uint16_t)number_in(element(elements, end, "net-response-time-onstop"), 65534, 65535);
-    r.content = content > 255 ? 0 : (uint8_t)content;
-    r.flags = 0x80000000u | (anonymous ? 0x40000000u : 0) | (big(header + 28) & 1 ? 0x04000000u : 0);
-    r.flags |= (element(elements, end, "alt-data") != NULL ? 0x02000000u : 0) | (uint32_t)(kb > 0xffffff ? 0xffffff : kb);
-    put_record(&r);
+    memcpy(r->name, name, 20);
+    r->frecency = big(header + 16);
+    r->on_start = (uint16_t)number_in(element(elements, end, "net-response-time-onstart"), 65534, 65535);
+    r->on_stop = (uint16_t)number_in(element(elements, end, "net-response-time-onstop"), 65534, 65535);
+    r->content = content > 255 ? 0 : (uint8_t)content;
+    r->flags = 0x80000000u | (anonymous ? 0x40000000u : 0) | (big(header + 28) & 1 ? 0x04000000u : 0);
+    r->flags |= (element(elements, end, "alt-data") != NULL ? 0x02000000u : 0) | (uint32_t)(kb > 0xffffff ? 0xffffff : kb);
     return 1;
 }
 
@@ -163,11 +161,13 @@ static void path_of_name(char *to, size_t room, const char *dir, const uint8_t *
              big(name + 16));
 }
 
-static void read_entry(const char *dir, const uint8_t *name)
+/* The record of the file of this name, if it is that of an entry, and where `check` is given that what it says of the body. */
+static int read_entry_file(const char *dir, const uint8_t *name, struct record *r, int (*check)(int file, const uint8_t *block, uint32_t offset))
 {
     char path[4096];
     struct stat found;
     uint8_t last[4];
+    int fits = 0;
 
     path_of_name(path, sizeof path, dir, name);
     int file = open(path, O_RDONLY);
@@ -184,9 +184,20 @@ static void read_entry(const char *dir, const uint8_t *name)
                 exit(1);
             if (pread(file, block, len, offset) != (ssize_t)len)
                 exit(6);
-            read_block(name, block, len, offset, (uint64_t)found.st_size);
+            fits = read_block(name, block, len, offset, (uint64_t)found.st_size, r);
+            if (fits && check != NULL)
+                fits = check(file, block, offset);
             free(block);
         }
     }
     close(file);
+    return fits;
+}
+
+static void read_entry(const char *dir, const uint8_t *name)
+{
+    struct record r;
+
+    if (read_entry_file(dir, name, &r, NULL))
+        put_record(&r);
 }

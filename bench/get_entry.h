@@ -61,7 +61,10 @@ static int print_entry(const char *dir, const char *key)
            big(header + 8), big(header + 12), big(header + 16), big(header + 20), big(header + 28), elements, offset);
     fwrite(header + 32 + size + 1, 1, elements, stdout);
     putchar('\n');
-    for (uint32_t i = 0; i < count; i++)
+    /* The only chunk of a body is still there. */
+    if (count == 1)
+        fwrite(one_chunk, 1, offset, stdout);
+    for (uint32_t i = 0; count > 1 && i < count; i++)
         fwrite(one_chunk, 1, read_one_chunk(file, offset, i), stdout);
     putchar('\n');
     close(file);

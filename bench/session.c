@@ -1,4 +1,4 @@
-/* A plain program that does what `cache2 DIR NOW list`, `evict KB`, `rebuild`, `get KEY` and `put KEY` do in a directory that was
+/* A plain program that does what `cache2 DIR NOW list`, `verify`, `evict KB`, `rebuild`, `get KEY` and `put KEY` do in a directory that was
    closed clean, with the same changes and syncs: the index is taken into use, the command is performed, the journal is written,
    or the index where many records changed, and the flag cleared. The body of a `put` is shorter than a chunk. What
    bench/session.sh and bench/get.sh measure the proved program against. */
@@ -84,6 +84,39 @@ static void rebuild(const char *dir, uint32_t now)
     write_index(dir, now);
     sync_file(dir);
     printf("rebuilt %zu\n", count);
+}
+
+/* Whether each chunk of a body has the hash that the block says. */
+static int check_body(int file, const uint8_t *block, uint32_t offset)
+{
+    for (uint32_t i = 0; i < (uint32_t)(((uint64_t)offset + CHUNK - 1) / CHUNK); i++)
+        if ((hash(one_chunk, read_one_chunk(file, offset, i)) & 0xffff) != ((uint32_t)block[4 + 2 * i] << 8 | block[5 + 2 * i]))
+            return 0;
+    return 1;
+}
+
+static int is_same(const struct record *r, const struct record *s)
+{
+    return r->frecency == s->frecency && r->origin == s->origin && r->on_start == s->on_start && r->on_stop == s->on_stop
+           && r->content == s->content && r->flags == s->flags;
+}
+
+/* Every file is read with its body, and held against its record. Gives the status of the run. */
+static int verify(const char *dir)
+{
+    size_t findings = 0, both = 0;
+
+    list(dir);
+    for (size_t i = 0; i < listed; i++) {
+        struct record r;
+        int whole = read_entry_file(dir, names + 20 * i, &r, check_body);
+        uint32_t slot = *slot_of(names + 20 * i);
+        both += slot != 0;
+        findings += !whole || slot == 0 || !is_same(&r, &records[slot - 1]);
+    }
+    findings += count - both;
+    printf("findings %zu\n", findings);
+    return findings == 0 ? 0 : 7;
 }
 
 static uint64_t rank(const struct record *r)
@@ -230,6 +263,8 @@ int main(int argc, char **argv)
         printf("records %zu\n", count);
         fflush(stdout);
         say_records();
+    } else if (strcmp(argv[3], "verify") == 0) {
+        status = verify(argv[1]);
     } else if (strcmp(argv[3], "rebuild") == 0) {
         rebuild(argv[1], now);
     } else if (strcmp(argv[3], "evict") == 0 && argc == 5) {

@@ -1,5 +1,5 @@
 #!/usr/bin/env bash
-# Whole runs of `list`, `put`, `rebuild` and `evict` by the proved program against a plain one in C: see README.md.
+# Whole runs of `list`, `put`, `verify`, `rebuild` and `evict` by the proved program against a plain one in C: see README.md.
 set -euo pipefail
 
 here=$(cd "$(dirname "${BASH_SOURCE[0]}")" && pwd)
@@ -60,6 +60,7 @@ with open(sys.argv[1], "wb") as script:
 PYTHON
 "$work/cache2" "$work/full" 1000 run <"$work/script" >/dev/null
 runs=20
+measure "verify of $entries entries" "$work/full" 1001 verify
 measure "rebuild of $entries entries" "$work/full" 1001 rebuild
 
 # half of the KB of all entries

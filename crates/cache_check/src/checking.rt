@@ -108,7 +108,7 @@ fn rise(records: &[IndexRecord]) -> bool
     records.is_sorted_by(|a, b| a.name.cmp(&b.name).is_lt())
 }
 
-/// What is wrong under each name that has a file or a record and is not among `writing`, under rising names: a file
+/// What is wrong under each name that has a file or a record and is not among `writing`, in name order: a file
 /// that does not fit, each chunk of a file that fits and whose hash is not the stored one, a file without a record, a
 /// record without a file that fits, and a record that is not that of the file. The records may stand in any order. The
 /// disk is only looked at: once for the names of the files, and then for each file at most four times and once for each

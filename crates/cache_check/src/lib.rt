@@ -1,5 +1,5 @@
 //! Checks all entries: every file is read, with its whole body, and held against the record of its name. What is
-//! listed is exactly what is wrong, under rising names, and nothing of the entries that are being written.
+//! listed is exactly what is wrong, in name order, and nothing of the entries that are being written.
 #![tactic(auto)]
 
 mod body;

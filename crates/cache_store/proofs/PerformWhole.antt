@@ -23,7 +23,7 @@ use Rattle.cache_store.specs.declared.fault.StoreFault.TheVariants as fault
 use Rattle.cache_store.proofs.Represented.{keeps_bare, keeps_marked, keeps_to, represented}
 
 -- a command that had its effect, and is not acknowledged
-begun_stands : (c : Command) (h : History) (before after : Session) → KeepsTo before h → IsSafe after.disk (begun c h).marks → KeepsTo after (acked c h) → KeepsTo after (unanswered c h)
+pub begun_stands : (c : Command) (h : History) (before after : Session) → KeepsTo before h → IsSafe after.disk (begun c h).marks → KeepsTo after (acked c h) → KeepsTo after (unanswered c h)
 unfolding checks effect
 begun_stands Flush h before after is safe stands =
     let was = begun_in before.disk before.open_store.handles h.machine Flush h.marks (marked_in is.stands) in

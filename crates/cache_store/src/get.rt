@@ -2,6 +2,7 @@
 
 ghost use Rattle.std.specs.Prelude.{◌≡◌, ◌≢◌, [], Err, false, IfOk, IsErrOf, IsTrue, OnErr, OnOk};
 ghost use Rattle.cache_base.specs.Causes.{HasCause};
+ghost use Rattle.cache_base.specs.Limits.{chunks as chunks_of};
 ghost use Rattle.cache_store.specs.EntryText.{entry_text, head_text};
 ghost use Rattle.cache_store.specs.Faults.{ending};
 ghost use Rattle.cache_store.specs.Prefix.{ForPrefix};
@@ -10,19 +11,22 @@ ghost use Rattle.cache_store.specs.Said.{saying};
 ghost use Rattle.cache_store.specs.Saying.{CutsIn, SaysMore};
 ghost use Rattle.cache_theory.specs.Command.Command.{Get};
 ghost use Rattle.disk_model.specs.Account.{Looks};
+ghost use Rattle.disk_model.specs.State.{standing};
+ghost use Rattle.entry_file.specs.Held.{IsLastOf};
 ghost use Rattle.entry_metadata.specs.Meta.{meta_of};
+ghost use Rattle.file_handles.specs.Kept.{kept};
 
 use crate::StoreFault;
 use crate::answered::{Answered, fault_answer};
 use crate::pending::Pending;
 use crate::replies::head;
 use crate::store::Store;
-use cache_base::{Buffer, chunks};
+use cache_base::chunks;
 use cache_io::Sink;
-use chunk_store::read_chunk;
 use disk_model::{Disk, Place};
 use entry_metadata::Meta;
 use entry_name::name_of;
+use file_handles::Handles;
 use std::alloc::Global;
 
 // Says the numbers of an entry and its elements.
@@ -47,28 +51,31 @@ fn say_head<K: Sink>(
     Ok(())
 }
 
-// Says the body at the beginning of a file, a chunk at a time.
+// Says the body at the beginning of a file that was just found, a chunk at a time.
 fn say_chunks<D: Disk, K: Sink>(
     disk: &mut D,
     place: &Place,
     len: u32,
-    chunk: &mut Buffer,
+    handles: &mut Handles,
     reply: &mut Pending,
     sink: &mut K,
 ) -> Result<(), StoreFault>
+    requires held { IsTrue D.tells →
+        IsLastOf (chunks_of len) (standing (D.state disk.old) place.now) len handles.old.chunk }
     ensures said { let at = saying K.Sink in OnOk result (IsTrue D.tells →
         ForPrefix (D.state disk.old) place.now len (λ body.
         SaysMore (at reply.old sink.old) (at reply.new sink.new) body)) }
     ensures cut { let at = saying K.Sink in OnErr result (IsTrue D.tells →
         ForPrefix (D.state disk.old) place.now len (λ body.
         CutsIn (at reply.old sink.old) (K.taken sink.new) body)) }
+    ensures kept { kept handles.new ≡ kept handles.old }
     ensures looks { Looks D.Disk (ending result) disk.old disk.new }
     ensures sink { let failed = IsErrOf result StoreFault.Sink in
         HasCause failed (K.faults sink.old) (K.faults sink.new) }
 {
     for index in 0..chunks(u64::from(len)) as u32 {
-        read_chunk(disk, place, len, index, chunk)?;
-        reply.put(sink, chunk.as_slice())?;
+        handles.read_found(disk, place, len, index)?;
+        reply.put(sink, handles.chunk_read())?;
     }
     Ok(())
 }
@@ -79,7 +86,7 @@ impl Store {
     ghost use Rattle.file_handles.specs.Cache.{cache};
     ghost use Rattle.file_handles.specs.Stands.{RepresentsSome};
 
-    // Says the entry of these metadata, whose body is at the beginning of the file.
+    // Says the entry of these metadata that was just found, whose body is at the beginning of the file.
     fn say_entry<D: Disk, K: Sink>(
         &mut self,
         alloc: Global,
@@ -88,6 +95,8 @@ impl Store {
         meta: &Meta,
         sink: &mut K,
     ) -> Result<(), StoreFault>
+        requires held { IsTrue D.tells →
+            IsLastOf (chunks_of meta.now.offset) (standing (D.state disk.old) place.now) meta.now.offset self.old.handles.chunk }
         ensures said { let at = saying K.Sink in OnOk result (IsTrue D.tells →
             ForPrefix (D.state disk.old) place.now meta.now.offset (λ body.
             let text = entry_text (meta_of meta.now) body in
@@ -106,7 +115,7 @@ impl Store {
             disk,
             place,
             meta.offset,
-            &mut self.chunk,
+            &mut self.handles,
             &mut self.reply,
             sink,
         )?;

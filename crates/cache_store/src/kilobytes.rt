@@ -18,8 +18,6 @@ fn total_of(map: &RecordMap) -> u128
     ensures sum { result ≡ total_kb map.now.records }
     ensures known { IsKnown map.now }
 {
-    // No name stands twice, as this call says.
-    let _ = map.changed();
     map.totals().kilobytes
 }
 

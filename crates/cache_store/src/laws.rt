@@ -1,4 +1,4 @@
-//! What follows from the definitions.
+//! When an index is written, and by which records an eviction and a check go.
 
 ghost use Rattle.cache_store.specs.InUse.{FewAreSpared, FewStayInUse};
 ghost use Rattle.cache_store.specs.Records.{AtEndIsOne};

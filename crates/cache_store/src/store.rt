@@ -9,7 +9,7 @@ use crate::StoreFault;
 use crate::memory_index::MemoryIndex;
 use crate::opening::begin_index;
 use crate::pending::Pending;
-use cache_base::{Buffer, Moment};
+use cache_base::Moment;
 use disk_model::Disk;
 use doom_area::clear;
 use file_handles::Handles;
@@ -23,8 +23,6 @@ pub struct Store {
     pub(crate) handles: Handles,
     pub(crate) moment: Moment,
     pub(crate) index: MemoryIndex,
-    // The chunk of a body that is printed.
-    pub(crate) chunk: Buffer,
     // What of the reply is not out yet.
     pub(crate) reply: Pending,
     alloc: Global,
@@ -60,7 +58,6 @@ impl Store {
         ensures account { Accounts D.Disk (ending result) disk.old disk.new }
     {
         let handles = Handles::new(alloc)?;
-        let chunk = Buffer::new(alloc)?;
         let reply = Pending::new(alloc)?;
         clear(alloc, disk)?;
         let index = begin_index(alloc, disk)?;
@@ -68,7 +65,6 @@ impl Store {
             handles,
             moment: now,
             index,
-            chunk,
             reply,
             alloc,
         })

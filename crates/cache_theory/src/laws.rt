@@ -1,4 +1,4 @@
-//! What follows from the definitions.
+//! What commands keep: the shelf, the records, and what a crash may leave of the entries.
 
 ghost use Rattle.cache_theory.specs.Keeps.{BeginKeeps, CreateFilesOnce, CreateKeeps, QuietFilesOnce, QuietIsSafe, RemoveFilesOnce, RemoveKeeps, RenameFilesOnce, RenameKeeps, SafeIsCrashSafe, SyncFilesOnce, SyncKeeps, WholeIsFine, WriteFilesOnce, WriteKeeps};
 ghost use Rattle.cache_theory.specs.Laws.{BegunTouchesMore, ChangesAreTouched, ChangesLeaveRest, EntriesHaveRecords, EvictIsOfNames, EvictMeetsLimit, EvictTakesOff, EvictedMayGo, ShelfStaysTable, UnusedAreTakenOff, VerifyIsOfRecords};

@@ -1,4 +1,4 @@
-//! What follows from the definitions of a cache.
+//! What a look, a new chunk and a forgotten entry change in the cache, and what they leave.
 
 ghost use Rattle.chunk_cache.specs.Laws.{ForgetAddsNone, ForgetLeavesOthers, FoundExactly, KeepAddsOne, KeepAfterEvict, KeepEvictsLast, KeepLeavesOthers, KeepPutsFirst, KeepReplaces, LookAddsNone, LookLeavesBytes, LookPutsFirst, StaysCache};
 

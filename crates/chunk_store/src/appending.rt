@@ -1,4 +1,4 @@
-//! Chunks written behind one another.
+//! Chunks written one after another.
 
 ghost use Rattle.std.specs.Prelude.{◌≡◌, ◌*◌, ◌≤◌, ◌++◌, ◌<◌, ◌+◌, length, IsTrue, IsErrOf};
 ghost use Rattle.cache_base.specs.Causes.{HasCause};

@@ -1,4 +1,4 @@
-// What follows from the definitions, for each disk that tells.
+// A disk as it reads is one of the images that a crash may leave.
 
 ghost use Rattle.std.specs.Prelude.{◌≡◌, IsTrue};
 ghost use Rattle.disk_model.specs.State.{standing};

@@ -18,7 +18,7 @@ same_map : (f g : ℕ → ℕ) (n : ℕ) → ((i : ℕ) → i < n → f i ≡ g 
 same_map f g n same = fill_by_all g (map f (range_with_len 0 n)) n 0 (length-map-range_with_len f 0 n) (λ k lt. get_or-map-range_with_len f 0 n k k 0 lt (omega arith) ∙ same k lt)
 
 -- a part of the front of a list
-part_in_front : (size from : ℕ) (xs ys : List ℕ) → from + size ≤ length xs → take size (drop from (xs ++ ys)) ≡ take size (drop from xs)
+pub part_in_front : (size from : ℕ) (xs ys : List ℕ) → from + size ≤ length xs → take size (drop from (xs ++ ys)) ≡ take size (drop from xs)
 part_in_front size from xs ys le =
     let long = length-drop from xs in
     ap (take size) (drop-append-le from xs ys (omega (arith, le))) ∙ take-append-le size (drop from xs) ys (omega (arith, le, long))

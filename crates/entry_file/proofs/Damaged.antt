@@ -1,11 +1,14 @@
 -- The first damage of a body whose chunks are checked in order.
-use Rattle.std.proofs.Common.{◌≡◌, ◌≤◌, ◌<◌, ◌+◌, ◌-◌, ℕ, suc, List, take, Option, Some, None, refl, sym, ap, ◌∙◌, arith}
+use Rattle.std.proofs.Common.{◌≡◌, ◌≤◌, ◌<◌, ◌+◌, ◌-◌, ℕ, suc, List, take, Option, Some, None, refl, sym, ap, subst, ◌∙◌, arith}
 use Rattle.std.specs.Prelude.{filter_map, IfSome}
 use Rattle.std.specs.List.{cons_option, range_with_len}
 use Rattle.cache_base.specs.Limits.{chunks}
 use Rattle.chunk_store.specs.Chunks.{damage_at, damages}
 use Rattle.chunk_store.specs.declared.damage.Damage.{Damage}
 use Rattle.entry_file.specs.Damages.{first, first_damage}
+use Rattle.disk_model.specs.State.{State, standing}
+use Rattle.disk_model.specs.declared.place.Place.{Place}
+use Rattle.entry_file.specs.Held.{IsLastOf}
 use Rattle.entry_metadata.specs.Metadata.{Meta}
 
 -- the first of the damages of the chunks from i on, of n
@@ -45,3 +48,7 @@ of_content (Some c) P Q R f p q = f c p q
 pub each_content : (o : Option (List ℕ)) (P : List ℕ → Type 0) → ((c : List ℕ) → P c) → IfSome o P
 each_content None P f = tt
 each_content (Some c) P f = f c
+
+-- a chunk that is held of a file is held of it while the state is the same
+pub held_along : {s t : State} (bytes : List ℕ) (n : ℕ) (place : Place) (offset : ℕ) → s ≡ t → IsLastOf n (standing s place) offset bytes → IsLastOf n (standing t place) offset bytes
+held_along bytes n place offset same held = subst (λ (s : State). IsLastOf n (standing s place) offset bytes) same held

@@ -1,11 +1,12 @@
 //! The body of an entry's file against its hashes.
 
-ghost use Rattle.std.specs.Prelude.{◌≡◌, ◌<◌, ◌≤◌, ◌+◌, take, IfOk, IfSome, IsTrue, IsErrOf, None};
+ghost use Rattle.std.specs.Prelude.{◌≡◌, ◌<◌, ◌≤◌, ◌+◌, take, IfOk, IfSome, IsTrue, IsErrOf, None, OnOk};
 ghost use Rattle.cache_base.specs.Causes.{HasCause};
 ghost use Rattle.cache_base.specs.Limits.{chunks as chunks_of};
 ghost use Rattle.chunk_store.specs.Chunks.{damage_at};
 ghost use Rattle.disk_model.specs.State.{standing};
 ghost use Rattle.entry_file.specs.Damages.{first_damage, HasMeta};
+ghost use Rattle.entry_file.specs.Held.{IsLastOf};
 ghost use Rattle.entry_file.specs.Rewriting.{StoresBody};
 ghost use Rattle.entry_metadata.specs.Meta.{meta_of};
 
@@ -25,6 +26,7 @@ fn check_one<D: Disk>(
     requires index { index < chunks_of meta.now.offset }
     requires told { IsTrue D.tells → HasMeta (standing (D.state disk.old) place.now) (meta_of meta.now) }
     ensures damage { IfOk result (λ damage. IsTrue D.tells → IfSome (standing (D.state disk.old) place.now) (λ content. damage ≡ damage_at meta.now.hashes (take meta.now.offset content) index)) }
+    ensures held { OnOk result (IsTrue D.tells → IsLastOf (index + 1) (standing (D.state disk.old) place.now) meta.now.offset buf.new) }
     ensures state { IsTrue D.tells → D.state disk.new ≡ D.state disk.old }
     ensures calls { IsTrue D.tells → (D.counts disk.new).calls ≤ (D.counts disk.old).calls + 1 }
     ensures no_change { IsTrue D.tells → (D.counts disk.new).failed ≡ (D.counts disk.old).failed }
@@ -42,7 +44,8 @@ fn check_one<D: Disk>(
 }
 
 /// The first chunk that differs of the body that stands at the place with these metadata, or none. Each chunk up to
-/// that one is read into the buffer, by one call of the disk. Where none differs the file stores the body.
+/// that one is read into the buffer, by one call of the disk. Where none differs the file stores the body, and the buffer
+/// holds its last chunk.
 pub fn check_body<D: Disk>(
     disk: &mut D,
     place: &Place,
@@ -52,6 +55,7 @@ pub fn check_body<D: Disk>(
     requires { IsTrue D.tells → HasMeta (standing (D.state disk.old) place.now) (meta_of meta.now) }
     ensures damage { IfOk result (λ damage. IsTrue D.tells → IfSome (standing (D.state disk.old) place.now) (λ content. damage ≡ first_damage (meta_of meta.now) content)) }
     ensures stores { IfOk result (λ damage. IsTrue D.tells → damage ≡ None → StoresBody (standing (D.state disk.old) place.now) (meta_of meta.now)) }
+    ensures held { IfOk result (λ damage. IsTrue D.tells → damage ≡ None → IsLastOf (chunks_of meta.now.offset) (standing (D.state disk.old) place.now) meta.now.offset buf.new) }
     ensures state { IsTrue D.tells → D.state disk.new ≡ D.state disk.old }
     ensures calls { IsTrue D.tells → (D.counts disk.new).calls ≤ (D.counts disk.old).calls + chunks_of meta.now.offset }
     ensures no_change { IsTrue D.tells → (D.counts disk.new).failed ≡ (D.counts disk.old).failed }

@@ -1,4 +1,4 @@
-//! A body that is finished to a version.
+//! Finishes a new entry.
 
 ghost use Rattle.std.specs.Prelude.{◌≡◌, ◌≤◌, ◌==◌, ◌++◌, ◌*◌, ◌+◌, ◌∷◌, [], if◌then◌else◌, true, ℕ, List, length, IfOk, OnOk, IsTrue, IsErrOf, Some};
 ghost use Rattle.cache_base.specs.Bytes.{AreBytes, be32};

@@ -1,4 +1,4 @@
-//! A body that grows.
+//! Appends to the body of a new entry.
 
 ghost use Rattle.std.specs.Prelude.{◌≡◌, ◌≤◌, ◌<◌, ◌+◌, ◌*◌, ◌/◌, ◌++◌, ℕ, List, [], ◌∷◌, length, take, OnOk, IsTrue, IsErrOf, Some, Ok};
 ghost use Rattle.cache_base.specs.Causes.{HasCause};

@@ -1,4 +1,4 @@
-//! What follows from the definitions of entry files.
+//! A file that is written is read back as it was written, and a file that was not written so is found out.
 
 ghost use Rattle.entry_file.specs.EntryFile.{FileReadsWhole, FitsExactly, ReadsWholeExactly};
 ghost use Rattle.entry_file.specs.Rewriting.{ReadsByDamage, RewritesToVersion, StoresWhole};

@@ -1,4 +1,4 @@
-//! What follows from the definitions of keys.
+//! Every key reads in one way, or has one fault.
 
 ghost use Rattle.entry_key.specs.Laws.{FailsExactly, FailsOneWay, NeverBoth, ReadsExactly, ReadsOneWay, ReadsOrFails};
 

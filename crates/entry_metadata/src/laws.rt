@@ -1,4 +1,4 @@
-//! What follows from the definitions of metadata blocks.
+//! A metadata block that is written is read back, and only such a block passes the checks.
 
 ghost use Rattle.entry_metadata.specs.Laws.{BlockFitsExactly, BlockReadsBack};
 

@@ -1,4 +1,4 @@
-//! What follows from the definitions of headers and elements.
+//! Headers and elements that are written are read back, and each that is read has one spelling.
 
 ghost use Rattle.std.specs.Int.{w16, w32, w64};
 ghost use Rattle.entry_parts.specs.Elements.{ElementsReadBack, ElementsSpell};

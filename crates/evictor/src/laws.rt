@@ -1,4 +1,4 @@
-//! What follows from the definitions of the order and the victims.
+//! The order of eviction sorts the records, and no more of them go than must.
 
 ghost use Rattle.evictor.specs.Evict.{OrderSorts, VictimsSuffice};
 

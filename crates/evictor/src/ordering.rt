@@ -47,8 +47,8 @@ fn listed(alloc: Global, records: &[IndexRecord]) -> Result<Records, NoMemory>
     Ok(list)
 }
 
-/// Puts the records in the order of eviction: by rising frecency, those of frecency 0 last, and where frecencies are
-/// equal by rising name. After `NoMemory` the records are as they were.
+/// Puts the records in the order of eviction: by rising frecency, those of frecency 0 last, and equal ones in name
+/// order. After `NoMemory` the records are as they were.
 pub fn order(alloc: Global, records: &mut Records) -> Result<(), NoMemory>
     ensures ok { OnOk result (records.new ≡ spec.in_order records.old) }
     ensures err { OnErr result (records.new ≡ records.old) }

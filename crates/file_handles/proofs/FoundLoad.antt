@@ -1,13 +1,18 @@
 -- What a file of a key reads as, by its metadata and the first damage of its body.
-use Rattle.std.proofs.Common.{◌≡◌, ◌∙◌, ℕ, List, [], ◌∷◌, take, Bool, true, Option, Some, None, Ok, Err, refl, sym, ap, subst}
-use Rattle.std.specs.Prelude.{IfSome, if◌then◌else◌}
+use Rattle.std.proofs.Common.{◌≡◌, ◌≤◌, ◌∙◌, ℕ, length, List, [], ◌∷◌, take, Bool, true, Option, Some, None, Ok, Err, refl, sym, ap, subst}
+use Rattle.std.specs.Prelude.{IfOk, IfSome, Result, if◌then◌else◌}
 use Rattle.std.specs.Cmp.Lexicographic.{bytes_decides}
+use Rattle.cache_base.specs.Limits.{chunks}
+use Rattle.cache_base.specs.declared.name.Name.{Name}
 use Rattle.cache_theory.specs.declared.refusal.Refusal.TheVariants as refused
-use Rattle.chunk_store.specs.Chunks.{damages}
+use Rattle.chunk_store.specs.Chunks.{chunk, damages}
 use Rattle.chunk_store.specs.declared.damage.Damage.{Damage}
+use Rattle.disk_model.specs.State.{State, standing}
+use Rattle.disk_model.specs.declared.place.Place.TheVariants.{Entry as EntryAt}
 use Rattle.entry_file.specs.Damages.{HasMeta, first, first_damage}
 use Rattle.entry_file.specs.EntryFile.{Reading, body_in, by_damages, by_fault, file_fault, file_meta, fits, offset_in, read, read_for}
 use Rattle.entry_file.specs.EntryFile.Reading.{Whole, Damaged, Nothing}
+use Rattle.entry_file.specs.Held.{IsLastOf}
 use Rattle.entry_file.specs.NewEntry.{finished}
 use Rattle.entry_file.specs.Rewriting.{StoresBody, rewritten, whole_or}
 use Rattle.entry_file.specs.declared.entry_read.Unfit.{Unfit}
@@ -19,6 +24,7 @@ use Rattle.entry_metadata.specs.Metadata.{Meta as Said}
 use Rattle.entry_metadata.specs.Meta.{meta_of}
 use Rattle.entry_metadata.specs.declared.meta.Meta.{Meta}
 use Rattle.entry_name.specs.EntryName.{file_name}
+use Rattle.file_handles.specs.Found.{HoldsLast}
 use Rattle.file_handles.specs.Loading.{IsMetaFor, LoadsAs}
 use Rattle.file_handles.specs.declared.fault.HandleFault.TheVariants as fault
 
@@ -70,3 +76,17 @@ loads_damaged key (Some c) meta d is some =
     reads_by key c (meta_of meta) is.0 is.1.0 is.1.1 ∙ ap (λ d. whole_or d (rewritten (meta_of meta) c)) (sym some) in
     let P : Reading → Type 0 = λ r. LoadsAs r (Err (fault.Refused (refused.Damaged d))) in
     subst P (sym damaged) refl
+
+-- the last chunk of the file under a name is held as that of the key of the name, unless nothing was found
+pub held_for : {E : Type 0} (r : Result Meta E) (name : Name) (key : List ℕ) (s : State) (bytes : List ℕ) (told : Type 0) → name.0 ≡ file_name key
+    → IfOk r (λ meta. told → IsLastOf (chunks meta.offset) (standing s (EntryAt name)) meta.offset bytes)
+    → IfOk r (λ meta. told → HoldsLast s key meta.offset bytes)
+held_for (Ok meta) name key s bytes told is held = λ t other same.
+    subst (λ (d : List ℕ). IsLastOf (chunks meta.offset) (standing s (EntryAt (record { 0 = d }))) meta.offset bytes) (is ∙ sym same) (held t)
+held_for (Err e) name key s bytes told is held = tt
+
+-- the only chunk of a body is its first
+pub only_chunk : (file : Option (List ℕ)) (len index : ℕ) (bytes : List ℕ) → index ≡ 0 → IfSome file (λ c. bytes ≡ chunk (take len c) 0)
+    → IfSome file (λ c. len ≤ length c → bytes ≡ chunk (take len c) index)
+only_chunk None len index bytes first held = tt
+only_chunk (Some c) len index bytes first held = λ fits. held ∙ ap (chunk (take len c)) (sym first)

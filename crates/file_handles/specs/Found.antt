@@ -1,11 +1,15 @@
 -- What a `get` finds.
 use Rattle.std.specs.Prelude.{IfOk, List, Result, Some, ℕ, ◌≡◌}
+use Rattle.cache_base.specs.Limits.{chunks}
+use Rattle.cache_base.specs.declared.name.Name.{Name}
 use Rattle.cache_theory.specs.Command.Command.{Get}
 use Rattle.cache_theory.specs.Command.Reply.{Found, Refused}
 use Rattle.cache_theory.specs.Ever.{entries}
 use Rattle.cache_theory.specs.Machine.{Machine}
 use Rattle.cache_theory.specs.Step.{step}
 use Rattle.disk_model.specs.State.{State, standing}
+use Rattle.disk_model.specs.declared.place.Place.TheVariants.{Entry as EntryAt}
+use Rattle.entry_file.specs.Held.{IsLastOf}
 use Rattle.entry_file.specs.Version.{IsVersion, Version, file_of, version_meta}
 use Rattle.entry_metadata.specs.Meta.{meta_of}
 use Rattle.entry_metadata.specs.declared.meta.Meta.{Meta}
@@ -32,3 +36,8 @@ pub record FindsIn (key : List ℕ) (answer : Result Meta HandleFault) (s : Stat
 -- so it does, whatever machine is represented
 pub record Finds (key : List ℕ) (answer : Result Meta HandleFault) (now : Cache) : Type 0 where
   pub finds : (m : Machine) → Represents now m → FindsIn key answer now.disk m
+
+-- the bytes are the last chunk of the body of the file of a key, where the body has one
+abbrev pub HoldsLast : State → List ℕ → ℕ → List ℕ → Type 0
+HoldsLast s key offset bytes =
+    (name : Name) → name.0 ≡ file_name key → IsLastOf (chunks offset) (standing s (EntryAt name)) offset bytes

@@ -1,21 +1,25 @@
 //! Finds the entry of a key, and whether it is in use.
 
-ghost use Rattle.std.specs.Prelude.{◌≡◌, false, IfOk, IsTrue};
+ghost use Rattle.std.specs.Prelude.{◌≡◌, ◌<◌, ◌≤◌, false, IfOk, IfSome, IsTrue, OnOk, length, take};
+ghost use Rattle.cache_base.specs.Limits.{chunks as chunks_of};
 ghost use Rattle.cache_theory.specs.Machine.{is_entry};
 ghost use Rattle.cache_theory.specs.declared.refusal.Refusal.TheVariants as refused;
-ghost use Rattle.disk_model.specs.Account.{Looks};
+ghost use Rattle.chunk_store.specs.Chunks.{chunk as chunk_of};
+ghost use Rattle.disk_model.specs.Account.{Looks, ending as disk_ending};
 ghost use Rattle.disk_model.specs.State.{standing};
 ghost use Rattle.disk_model.specs.declared.place.Place.TheVariants.{Entry as EntryAt};
 ghost use Rattle.entry_file.specs.EntryFile.{read_for};
+ghost use Rattle.entry_file.specs.Held.{IsLastOf};
 ghost use Rattle.entry_name.specs.EntryName.{file_name};
 ghost use Rattle.file_handles.specs.Answers.{OnRefused, ending};
 ghost use Rattle.file_handles.specs.Loading.{IsMetaFor, LoadsAs};
 
 use crate::object::Entry;
 use crate::{HandleFault, Handles};
-use cache_base::{Buffer, Name};
+use cache_base::{Buffer, Name, chunks};
 use cache_theory::Refusal;
-use disk_model::{Disk, Place};
+use chunk_store::read_chunk;
+use disk_model::{Disk, DiskFault, Place};
 use entry_file::{EntryRead, check_body, read_meta};
 use entry_key::may_write;
 use entry_metadata::Meta;
@@ -43,7 +47,7 @@ pub(crate) fn look<D: Disk>(
     }
 }
 
-/// The metadata of the file of a key, every chunk of which is checked against its hash.
+/// The metadata of the file of a key, every chunk of which is checked against its hash. The last one is in the buffer.
 pub(crate) fn load<D: Disk>(
     alloc: Global,
     disk: &mut D,
@@ -54,6 +58,8 @@ pub(crate) fn load<D: Disk>(
     requires { name.now.0 ≡ file_name key.now }
     ensures loads { let file = standing (D.state disk.old) (EntryAt name.now) in
         IsTrue D.tells → LoadsAs (read_for key.now file) result }
+    ensures held { let file = standing (D.state disk.old) (EntryAt name.now) in
+        IfOk result (λ meta. IsTrue D.tells → IsLastOf (chunks_of meta.offset) file meta.offset chunk.new) }
     ensures looks { Looks D.Disk (ending result) disk.old disk.new }
 {
     let meta = look(alloc, disk, key, name)?;
@@ -65,7 +71,7 @@ pub(crate) fn load<D: Disk>(
 
 impl Handles {
     ghost use Rattle.file_handles.specs.Cache.{cache};
-    ghost use Rattle.file_handles.specs.Found.{Finds};
+    ghost use Rattle.file_handles.specs.Found.{Finds, HoldsLast};
     ghost use Rattle.file_handles.specs.Kept.{kept};
     ghost use Rattle.file_handles.specs.Loading.{is_writing as is_writing_in, used_place};
     ghost use Rattle.file_handles.specs.Stands.{RepresentsSome};
@@ -95,7 +101,7 @@ impl Handles {
     }
 
     /// The metadata of the finished entry of a key. Every chunk is checked against its hash. The file stands under its
-    /// name.
+    /// name, and the last chunk is held for `read_found`.
     pub fn find<D: Disk>(
         &mut self,
         alloc: Global,
@@ -104,6 +110,8 @@ impl Handles {
     ) -> Result<Meta, HandleFault>
         requires told { IsTrue D.tells → RepresentsSome (cache D.Disk self.old disk.old) }
         ensures finds { IsTrue D.tells → Finds key.now result (cache D.Disk self.old disk.old) }
+        ensures held { IfOk result (λ meta. IsTrue D.tells →
+            HoldsLast (D.state disk.old) key.now meta.offset self.new.chunk) }
         ensures kept { kept self.new ≡ kept self.old }
         ensures looks { Looks D.Disk (ending result) disk.old disk.new }
     {
@@ -115,5 +123,37 @@ impl Handles {
             return Err(HandleFault::Refused(Refusal::Unfinished));
         }
         load(alloc, disk, key, &name, &mut self.chunk)
+    }
+
+    /// Makes the chunk `index` of the body of an entry that was just found the one to be printed, by one call of the
+    /// disk. A body's only chunk is not read again: `find` read it to check it.
+    pub fn read_found<D: Disk>(
+        &mut self,
+        disk: &mut D,
+        place: &Place,
+        len: u32,
+        index: u32,
+    ) -> Result<(), DiskFault>
+        requires index { index < chunks_of len }
+        requires held { IsTrue D.tells → chunks_of len ≡ 1 →
+            IsLastOf 1 (standing (D.state disk.old) place.now) len self.old.chunk }
+        ensures chunk { OnOk result (IsTrue D.tells →
+            IfSome (standing (D.state disk.old) place.now) (λ file. len ≤ length file →
+            self.new.chunk ≡ chunk_of (take len file) index)) }
+        ensures once { chunks_of len ≡ 1 → disk.new ≡ disk.old }
+        ensures kept { kept self.new ≡ kept self.old }
+        ensures looks { Looks D.Disk (disk_ending result) disk.old disk.new }
+    {
+        if chunks(u64::from(len)) != 1 {
+            read_chunk(disk, place, len, index, &mut self.chunk)?;
+        }
+        Ok(())
+    }
+
+    /// The chunk that was checked or read last for an entry that was found.
+    pub fn chunk_read(&self) -> &[u8]
+        ensures { result.now ≡ self.now.chunk }
+    {
+        self.chunk.as_slice()
     }
 }

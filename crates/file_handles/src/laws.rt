@@ -1,4 +1,4 @@
-//! What follows from the definitions.
+//! What an index must learn of a command on entries is how a full scan changes.
 
 ghost use Rattle.file_handles.specs.Effects.{LearntIsScanned, LearntLeavesRest};
 

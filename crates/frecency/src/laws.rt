@@ -1,4 +1,4 @@
-// What follows from the definition.
+// The table of points rises, and the frecency after a use at known pairs.
 
 ghost use Rattle.std.specs.Prelude.{◌≡◌};
 ghost use Rattle.frecency.specs.Frecency.{next};

@@ -1,4 +1,4 @@
-//! What follows from the definitions of an index.
+//! An index that is written is read back, and only such a file passes the checks.
 
 ghost use Rattle.index_file.specs.Laws.{IndexFitsExactly, IndexReadsBack};
 

@@ -1,6 +1,6 @@
 //! The file `index` of the cache (`CacheIndex` of Firefox's CacheIndex.cpp): a header of four numbers, the records, and
 //! the hash of the records' bytes. What is parsed is what the bytes spell, and a fault is the first failing check. What
-//! is printed stands by rising name, and is parsed as the same again. A removed record of the file is checked like all
+//! is printed stands in name order, and is parsed as the same again. A removed record of the file is checked like all
 //! others and then left out.
 #![tactic(auto)]
 

@@ -25,7 +25,7 @@ fn header(timestamp: u32, dirty: bool) -> [u8; HEADER]
     out
 }
 
-/// The bytes of the file `index` with these records, by rising name. Fails only for want of memory.
+/// The bytes of the file `index` with these records, in name order. Fails only for want of memory.
 pub fn print(
     alloc: Global,
     records: &Records,

@@ -81,7 +81,7 @@ fn merged(
     Ok(records)
 }
 
-/// The records of an index after the changes of a journal, by rising name: the names that the journal says are gone are
+/// The records of an index after the changes of a journal, in name order: the names that the journal says are gone are
 /// not among them, and those that it has a record of have this record.
 pub fn apply(alloc: Global, index: &Records, journal: &Records) -> Result<Records, NoMemory>
     requires index { HasNames index.now }

@@ -1,4 +1,4 @@
-//! What follows from the definitions of a journal.
+//! A journal that is written is read back, and only such a file passes the checks.
 
 ghost use Rattle.index_journal.specs.Laws.{JournalFitsExactly, JournalReadsBack};
 

@@ -1,6 +1,6 @@
 //! The file `index.log` of the cache, the journal of Firefox's CacheIndex.cpp: records of what changed since the index
 //! was written, and the hash of the records' bytes. What is parsed is what the bytes spell, and a fault is the first
-//! failing check. What is printed stands by rising name, and is parsed as the same again. A journal that is applied to
+//! failing check. What is printed stands in name order, and is parsed as the same again. A journal that is applied to
 //! its index gives the records now.
 #![tactic(auto)]
 

@@ -1,4 +1,4 @@
-//! What follows from the definitions.
+//! Work on the index leaves the entries, and what a crash may leave of them, as they were.
 
 ghost use Rattle.index_keeps.specs.Keeps.{LeftIsFiledOnce, LeftIsSafe, SparedIsFiledOnce, SparedIsSafe, StandsScan};
 

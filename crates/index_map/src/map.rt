@@ -162,6 +162,7 @@ impl RecordMap {
     pub fn totals(&self) -> Totals
         ensures count { result.count ≡ length self.now.records }
         ensures kilobytes { result.kilobytes ≡ sum_by size_kb_of self.now.records }
+        ensures known { spec.IsKnown self.now }
     {
         let counts = self.table.counts();
         Totals {

@@ -1,4 +1,4 @@
-//! The table behind a map: a slot for each name, and the counts of the slots.
+//! The table under a map: a slot for each name, and the counts of the slots.
 
 ghost use Rattle.std.specs.Prelude.{◌≡◌, [], IfOk, OnOk, OnErr, None, Some};
 ghost use Rattle.std.specs.List.{filter_map};

@@ -1,4 +1,4 @@
-//! What follows from the definitions of records.
+//! A record that is written is read back, and any 41 bytes are those of one record.
 
 ghost use Rattle.index_record.specs.Record.{RecordReadsBack, RecordSpells};
 

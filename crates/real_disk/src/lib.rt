@@ -1,4 +1,4 @@
-//! The disk over a folder of the machine. Each place is a file there, and a sync makes last what has changed: the
+//! The disk over a folder of the machine. Each place is a file there, and a sync makes durable what has changed: the
 //! files first, and then the folders that name them. The first one covers what an earlier process may have left.
 //!
 //! Nothing is told of contents. What is proved is that each failure is counted, that what changes is noted until it

@@ -20,8 +20,12 @@ impl<R: Files + AllocGlobal + Clone + Drop> Tree<'_, R> {
         read_names(self.rt, path.as_str(), |text| read_text(text))
     }
 
+    /// Each opening lists these first. So what leads out of the folder of the cache is met here, before all else.
     pub(crate) fn doomed(&self) -> io::Result<BTreeSet<u32, Global>> {
+        let entries = path_of_area(self.rt, self.dir.as_str(), &Area::Entries)?;
         let path = path_of_area(self.rt, self.dir.as_str(), &Area::Doomed)?;
+        refuse_link(self.rt, entries.as_str())?;
+        refuse_link(self.rt, path.as_str())?;
         read_names(self.rt, path.as_str(), |text| number(text.as_bytes()))
     }
 
@@ -52,6 +56,16 @@ impl<R: Files + AllocGlobal + Clone + Drop> Tree<'_, R> {
             }
         }
         Ok(())
+    }
+}
+
+// Where a link stands in the place of a folder of the cache, the files behind it are not the cache's.
+fn refuse_link<R: Files>(rt: &R, path: &str) -> io::Result<()> {
+    match fs::symlink_metadata(rt, path) {
+        Ok(found) if found.is_symlink() => Err(ErrorKind::Other.into()),
+        Ok(_) => Ok(()),
+        Err(error) if error.kind() == ErrorKind::NotFound => Ok(()),
+        Err(error) => Err(error),
     }
 }
 

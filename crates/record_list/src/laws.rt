@@ -1,4 +1,4 @@
-//! What follows from the definitions of lists of records.
+//! Records that are written are read back, and changes that are applied give the records now.
 
 ghost use Rattle.record_list.specs.Change.{DiffThenApply};
 ghost use Rattle.record_list.specs.Laws.{ByNameKeeps, CleanReadsSame, RisingHasNames, StoredFitsExactly, StoredReadsBack};

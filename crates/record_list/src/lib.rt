@@ -1,6 +1,6 @@
 //! Lists of the index's records, as they stand in the files `index` and `index.log`: the bytes of the records, and a
 //! hash of these bytes. What is parsed is what the bytes spell, and a fault is the first failing check; what is printed
-//! stands by rising name. What a journal of changes says, applied to the records that changed, gives the records now.
+//! stands in name order. What a journal of changes says, applied to the records that changed, gives the records now.
 #![tactic(auto)]
 
 mod fault;

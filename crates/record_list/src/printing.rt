@@ -1,4 +1,4 @@
-//! Records by rising name, and their bytes.
+//! Records in name order, and their bytes.
 
 ghost use Rattle.std.specs.List.{AllByRecursion};
 ghost use Rattle.std.specs.Prelude.{◌≡◌, ◌≤◌, ◌++◌, IfOk, OnOk, List, drop, length};
@@ -19,7 +19,7 @@ fn sort(records: &mut Vec<IndexRecord>)
     records.sort_unstable_by_key(|record| record.name);
 }
 
-/// The records by rising name.
+/// The records in name order.
 pub fn by_name(alloc: Global, mut records: Vec<IndexRecord>) -> Result<Records, NoMemory>
     requires { HasNames records.items }
     ensures { IfOk result (IsByName records.items) }
@@ -58,7 +58,7 @@ fn room(front: usize, records: usize) -> usize {
         .saturating_add(4)
 }
 
-/// The front of a file, and behind it the records by rising name and their hash.
+/// The beginning of a file, and behind it the records in name order and their hash.
 pub fn print(alloc: Global, front: &[u8], records: &Records) -> Result<Bytes, NoMemory>
     requires distinct { HasNames records.now }
     requires clean { AreClean records.now }

@@ -10,7 +10,7 @@ ghost use Rattle.record_list.specs.Stored.{AreClean};
 ghost use Rattle.disk_model.specs.Account.{Looks, LooksAtNoEntry, ending};
 ghost use Rattle.startup_read.specs.Reads.{ReadsIndex, ReadsJournal};
 
-use crate::whole_file::read_whole;
+use crate::whole_file::{has_whole_records, read_sized};
 use crate::{IndexKind, LogKind};
 use cache_base::NoMemory;
 use disk_model::{Disk, DiskFault, Place};
@@ -18,6 +18,12 @@ use index_file::IndexFault;
 use index_journal::JournalFault;
 use index_record::Records;
 use std::alloc::Global;
+
+// What an index has beside its records: four numbers before them, and their hash.
+const INDEX_REST: u64 = 20;
+
+// A journal has their hash alone.
+const LOG_REST: u64 = 4;
 
 /// What stands at `index`, with the records of an index, or none.
 #[derive(Drop)]
@@ -41,6 +47,31 @@ fn no_records(alloc: Global) -> Records
     ensures present { HasNoRemoved result }
 {
     Records::new(alloc)
+}
+
+// An index of this kind without records.
+fn no_index(alloc: Global, kind: IndexKind) -> IndexRead
+    ensures kind { result.kind ≡ kind }
+    ensures distinct { HasNames result.records }
+    ensures clean { AreClean result.records }
+    ensures present { HasNoRemoved result.records }
+{
+    IndexRead {
+        kind,
+        records: no_records(alloc),
+    }
+}
+
+// A journal of this kind without records.
+fn no_log(alloc: Global, kind: LogKind) -> LogRead
+    ensures kind { result.kind ≡ kind }
+    ensures distinct { HasNames result.records }
+    ensures clean { AreClean result.records }
+{
+    LogRead {
+        kind,
+        records: no_records(alloc),
+    }
 }
 
 fn kind_of_flag(dirty: bool) -> IndexKind
@@ -67,10 +98,7 @@ fn parse_index(alloc: Global, b: &[u8]) -> Result<IndexRead, NoMemory>
         }),
         Err(fault) => match fault {
             IndexFault::Memory => Err(NoMemory),
-            _ => Ok(IndexRead {
-                kind: IndexKind::Invalid,
-                records: no_records(alloc),
-            }),
+            _ => Ok(no_index(alloc, IndexKind::Invalid)),
         },
     }
 }
@@ -88,10 +116,7 @@ fn parse_log(alloc: Global, b: &[u8]) -> Result<LogRead, NoMemory>
         }),
         Err(fault) => match fault {
             JournalFault::Memory => Err(NoMemory),
-            _ => Ok(LogRead {
-                kind: LogKind::Invalid,
-                records: no_records(alloc),
-            }),
+            _ => Ok(no_log(alloc, LogKind::Invalid)),
         },
     }
 }
@@ -106,13 +131,14 @@ pub(crate) fn read_index<D: Disk>(alloc: Global, disk: &mut D) -> Result<IndexRe
     ensures looks { Looks D.Disk (ending result) disk.old disk.new }
     ensures no_entry { LooksAtNoEntry D.Disk disk.old disk.new }
 {
-    match read_whole(alloc, disk, &Place::Index)? {
-        None => Ok(IndexRead {
-            kind: IndexKind::Missing,
-            records: no_records(alloc),
-        }),
-        Some(file) => Ok(parse_index(alloc, file.as_slice())?),
+    let Some(size) = disk.size(&Place::Index)? else {
+        return Ok(no_index(alloc, IndexKind::Missing));
+    };
+    if !has_whole_records(size, INDEX_REST) {
+        return Ok(no_index(alloc, IndexKind::Invalid));
     }
+    let file = read_sized(alloc, disk, &Place::Index, size)?;
+    Ok(parse_index(alloc, file.as_slice())?)
 }
 
 /// What stands at `index.log`.
@@ -124,11 +150,12 @@ pub(crate) fn read_log<D: Disk>(alloc: Global, disk: &mut D) -> Result<LogRead, 
     ensures looks { Looks D.Disk (ending result) disk.old disk.new }
     ensures no_entry { LooksAtNoEntry D.Disk disk.old disk.new }
 {
-    match read_whole(alloc, disk, &Place::Log)? {
-        None => Ok(LogRead {
-            kind: LogKind::Missing,
-            records: no_records(alloc),
-        }),
-        Some(file) => Ok(parse_log(alloc, file.as_slice())?),
+    let Some(size) = disk.size(&Place::Log)? else {
+        return Ok(no_log(alloc, LogKind::Missing));
+    };
+    if !has_whole_records(size, LOG_REST) {
+        return Ok(no_log(alloc, LogKind::Invalid));
     }
+    let file = read_sized(alloc, disk, &Place::Log, size)?;
+    Ok(parse_log(alloc, file.as_slice())?)
 }

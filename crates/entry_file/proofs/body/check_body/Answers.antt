@@ -6,7 +6,7 @@ use Rattle.chunk_store.specs.declared.damage.Damage.{Damage}
 use Rattle.disk_model.specs.State.{State, standing}
 use Rattle.entry_file.specs.Damages.{first_damage}
 use Rattle.entry_metadata.specs.Meta.{meta_of}
-use Rattle.entry_file.proofs.Damaged.{first_from, from_end, from_first, from_here, from_next, of_content, each_content}
+use Rattle.entry_file.proofs.Damaged.{first_from, from_end, from_first, from_here, from_next, of_content, each_content, held_along}
 use Rattle.entry_file.proofs.StoredBody.{undamaged_stores}
 use Rattle.entry_file.proofs.body.check_body.Goals as goal
 
@@ -15,6 +15,7 @@ loop-index-init g c =
     let meta = meta_of c.args.meta.now in
     let content = standing (g.D.Disk.state c.args.disk.now) c.args.place.now in (
       (λ told. each_content content (λ b. first_damage meta b ≡ first_from (damage_at meta.hashes (take meta.offset b)) 0 (chunks meta.offset)) (λ b. from_first meta b)),
+      (λ told none. absurd (search rules)),
       search rules,
       search rules,
       search rules,
@@ -31,7 +32,7 @@ returns-in-Some-clause-damage g c = λ told.
     let within : i < chunks meta.offset = search rules in
     let here : IfSome content (λ b. Some c.in-Some.damage ≡ test b i) =
     subst (λ (o : Option Damage). IfSome content (λ b. o ≡ test b i)) c.in-Some.is
-    (subst (λ (s : State). IfSome (standing s place) (λ b. c.in_ok-check_one.field-0 ≡ test b i)) (c.loop-index.invariant.1 told) (c.in_ok-check_one.ensures.damage told)) in
+    (subst (λ (s : State). IfSome (standing s place) (λ b. c.in_ok-check_one.field-0 ≡ test b i)) (c.loop-index.invariant.2 told) (c.in_ok-check_one.ensures.damage told)) in
     of_content content (λ b. first_damage meta b ≡ first_from (test b) i (chunks meta.offset)) (λ b. Some c.in-Some.damage ≡ test b i) (λ b. Some c.in-Some.damage ≡ first_damage meta b)
     (λ b so_far is. sym (so_far ∙ from_here (test b) i (chunks meta.offset) within c.in-Some.damage is)) (c.loop-index.invariant.0 told) here
 
@@ -56,9 +57,10 @@ loop-index-preserved g c =
       (λ told.
           let none : IfSome content (λ b. None ≡ test b i) =
           subst (λ (o : Option Damage). IfSome content (λ b. o ≡ test b i)) c.in-None.is
-          (subst (λ (s : State). IfSome (standing s place) (λ b. c.in_ok-check_one.field-0 ≡ test b i)) (c.loop-index.invariant.1 told) (c.in_ok-check_one.ensures.damage told)) in
+          (subst (λ (s : State). IfSome (standing s place) (λ b. c.in_ok-check_one.field-0 ≡ test b i)) (c.loop-index.invariant.2 told) (c.in_ok-check_one.ensures.damage told)) in
           of_content content (λ b. first_damage meta b ≡ first_from (test b) i (chunks meta.offset)) (λ b. None ≡ test b i) (λ b. first_damage meta b ≡ first_from (test b) (i + 1) (chunks meta.offset))
           (λ b so_far is. so_far ∙ from_next (test b) i (chunks meta.offset) within is) (c.loop-index.invariant.0 told) none),
+      (λ told. held_along _ (i + 1) place meta.offset (c.loop-index.invariant.2 told) (c.in_ok-check_one.ensures.held told)),
       search rules,
       search rules,
       search rules,

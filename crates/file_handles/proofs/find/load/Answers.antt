@@ -3,6 +3,8 @@ use Rattle.std.specs.Prelude.{IfSome}
 use Rattle.disk_model.specs.State.{State, standing}
 use Rattle.disk_model.specs.declared.place.Place.TheVariants.{Entry}
 use Rattle.chunk_store.specs.declared.damage.Damage.{Damage}
+use Rattle.cache_base.specs.Limits.{chunks}
+use Rattle.entry_file.proofs.Damaged.{held_along}
 use Rattle.entry_file.specs.Damages.{HasMeta, first_damage}
 use Rattle.entry_file.specs.Rewriting.{StoresBody}
 use Rattle.entry_metadata.specs.Meta.{meta_of}
@@ -35,3 +37,7 @@ returns-in-Some-clause-loads g c = λ told.
     let R : Option Damage → Type 0 = λ f. IfSome (standing (g.D.Disk.state c.args.disk.now) place) (λ d. f ≡ first_damage m d) in
     loads_damaged c.args.key.now (standing (g.D.Disk.state c.args.disk.now) place) c.in_ok-meta.meta c.in-Some.damage (c.in_ok-meta.ensures.found told)
     (subst R c.in-Some.is (subst P same (c.in_ok-check_body.ensures.damage told)))
+
+pub returns-in-None-clause-held : goal.returns-in-None-clause-held
+returns-in-None-clause-held g c = λ told. held_along _ (chunks c.in_ok-meta.meta.offset) (Entry c.args.name.now) c.in_ok-meta.meta.offset
+    (c.in_ok-meta.ensures.looks.state told) (c.in_ok-check_body.ensures.held told c.in-None.is)

@@ -9,9 +9,6 @@ use Rattle.cache_store.proofs.store.Store.open.Goals as goal
 pub returns-in_err-handles-clause-safe : goal.returns-in_err-handles-clause-safe
 returns-in_err-handles-clause-safe g c = λ told. opened_safe (g.D.Disk.state c.args.disk.now) c.args.now
 
-pub returns-in_err-chunk-clause-safe : goal.returns-in_err-chunk-clause-safe
-returns-in_err-chunk-clause-safe g c = λ told. opened_safe (g.D.Disk.state c.args.disk.now) c.args.now
-
 pub returns-in_err-reply-clause-safe : goal.returns-in_err-reply-clause-safe
 returns-in_err-reply-clause-safe g c = λ told. opened_safe (g.D.Disk.state c.args.disk.now) c.args.now
 
@@ -29,9 +26,6 @@ returns-clause-safe g c = λ told.
 pub returns-in_err-handles-clause-reopens : goal.returns-in_err-handles-clause-reopens
 returns-in_err-handles-clause-reopens g c = λ told. keeps_found (g.D.Disk.state c.args.disk.now) (g.D.Disk.state c.args.disk.now) c.args.now (g.met.D.Disk.finite c.args.disk.now told) (returns-in_err-handles-clause-safe g c told)
 
-pub returns-in_err-chunk-clause-reopens : goal.returns-in_err-chunk-clause-reopens
-returns-in_err-chunk-clause-reopens g c = λ told. keeps_found (g.D.Disk.state c.args.disk.now) (g.D.Disk.state c.args.disk.now) c.args.now (g.met.D.Disk.finite c.args.disk.now told) (returns-in_err-chunk-clause-safe g c told)
-
 pub returns-in_err-reply-clause-reopens : goal.returns-in_err-reply-clause-reopens
 returns-in_err-reply-clause-reopens g c = λ told. keeps_found (g.D.Disk.state c.args.disk.now) (g.D.Disk.state c.args.disk.now) c.args.now (g.met.D.Disk.finite c.args.disk.now told) (returns-in_err-reply-clause-safe g c told)
 
@@ -46,9 +40,6 @@ returns-clause-reopens g c = λ told. keeps_found (g.D.Disk.state c.args.disk.no
 
 pub returns-in_err-handles-clause-honest : goal.returns-in_err-handles-clause-honest
 returns-in_err-handles-clause-honest g c = λ told. cleared_honest (g.D.Disk.state c.args.disk.now) (g.D.Disk.state c.args.disk.now) (g.met.D.Disk.sound c.args.disk.now told) (nothing_removed (g.D.Disk.state c.args.disk.now))
-
-pub returns-in_err-chunk-clause-honest : goal.returns-in_err-chunk-clause-honest
-returns-in_err-chunk-clause-honest g c = λ told. cleared_honest (g.D.Disk.state c.args.disk.now) (g.D.Disk.state c.args.disk.now) (g.met.D.Disk.sound c.args.disk.now told) (nothing_removed (g.D.Disk.state c.args.disk.now))
 
 pub returns-in_err-reply-clause-honest : goal.returns-in_err-reply-clause-honest
 returns-in_err-reply-clause-honest g c = λ told. cleared_honest (g.D.Disk.state c.args.disk.now) (g.D.Disk.state c.args.disk.now) (g.met.D.Disk.sound c.args.disk.now told) (nothing_removed (g.D.Disk.state c.args.disk.now))
@@ -67,9 +58,6 @@ returns-clause-honest g c = λ told.
 pub returns-in_err-handles-clause-shelf : goal.returns-in_err-handles-clause-shelf
 returns-in_err-handles-clause-shelf g c = λ told. shelf_exists (g.D.Disk.state c.args.disk.now) (g.met.D.Disk.finite c.args.disk.now told)
 
-pub returns-in_err-chunk-clause-shelf : goal.returns-in_err-chunk-clause-shelf
-returns-in_err-chunk-clause-shelf g c = λ told. shelf_exists (g.D.Disk.state c.args.disk.now) (g.met.D.Disk.finite c.args.disk.now told)
-
 pub returns-in_err-reply-clause-shelf : goal.returns-in_err-reply-clause-shelf
 returns-in_err-reply-clause-shelf g c = λ told. shelf_exists (g.D.Disk.state c.args.disk.now) (g.met.D.Disk.finite c.args.disk.now told)
 
@@ -85,7 +73,7 @@ returns-clause-shelf g c = λ told. shelf_exists (g.D.Disk.state c.args.disk.now
 pub returns-clause-opens : goal.returns-clause-opens
 returns-clause-opens g c = λ told.
     opens (g.D.Disk.state c.args.disk.now) (g.D.Disk.state c.clear.new.disk) (g.D.Disk.state c.begin_index.new.disk) c.args.now
-    (open_of (record { handles = c.in_ok-handles.handles; moment = c.args.now; index = c.in_ok-index.index; chunk = c.in_ok-chunk.chunk; reply = c.in_ok-reply.reply; alloc = c.args.alloc }))
+    (open_of (record { handles = c.in_ok-handles.handles; moment = c.args.now; index = c.in_ok-index.index; reply = c.in_ok-reply.reply; alloc = c.args.alloc }))
     (c.clear.ensures.removes told) (c.in_ok-clear.ensures.cleared told) (g.met.D.Disk.sound c.clear.new.disk told) (c.in_ok-index.ensures.opened told) refl (omega arith) c.in_ok-handles.ensures
     (c.in_ok-index.ensures.rest told) (c.in_ok-index.ensures.tells told) (c.in_ok-index.ensures.holds told)
 

@@ -1,4 +1,8 @@
-use Rattle.std.proofs.Common.{Result}
+use Rattle.std.proofs.Common.{Result, subst, sym}
+use Rattle.cache_base.specs.Limits.{chunks}
+use Rattle.disk_model.specs.State.{State, standing}
+use Rattle.disk_model.specs.declared.place.Place.TheVariants.{Entry}
+use Rattle.entry_file.specs.Held.{IsLastOf}
 use Rattle.cache_store.specs.Answering.{AnswersTo}
 use Rattle.cache_store.specs.Said.{saying}
 use Rattle.cache_store.specs.declared.answered.Answered.{Answered}
@@ -8,6 +12,14 @@ use Rattle.cache_theory.specs.Step.{step}
 use Rattle.cache_store.proofs.Unsaid.{finds_reply, unsaid_answers, unsaid_by}
 use Rattle.cache_store.proofs.GetAnswers.{answers_cut, answers_found, by_fault}
 use Rattle.cache_store.proofs.store.Store.say_get.Goals as goal
+
+pub say_entry-requires : goal.say_entry-requires
+say_entry-requires g c =
+    let meta = c.in-Ok.meta in record {
+      held = λ told.
+          subst (λ (s : State). IsLastOf (chunks meta.offset) (standing s (Entry c.name_of.result)) meta.offset c.find.new.self.chunk) (sym (c.find.ensures.looks.state told))
+          (c.in-Ok.ensures.held told c.name_of.result c.name_of.ensures);
+    }
 
 pub returns-in_err-say_entry-in-Ok-clause-answers : goal.returns-in_err-say_entry-in-Ok-clause-answers
 returns-in_err-say_entry-in-Ok-clause-answers g c told m represents =

@@ -1,6 +1,8 @@
 use Rattle.std.proofs.Common.{◌∙◌, sym}
+use Rattle.std.specs.Bool.{IsTrue}
 use Rattle.file_handles.specs.Kept.{kept}
 use Rattle.file_handles.proofs.Found.{finds_bad_key, finds_loaded, finds_unfinished}
+use Rattle.file_handles.proofs.FoundLoad.{held_for}
 use Rattle.file_handles.proofs.handles.Handles.find.Goals as goal
 
 pub returns-then-not-may_write-clause-finds : goal.returns-then-not-may_write-clause-finds
@@ -15,3 +17,7 @@ pub returns-clause-finds : goal.returns-clause-finds
 returns-clause-finds g c = λ told.
     finds_loaded c.args.key.now (g.D.Disk.state c.args.disk.now) (kept c.args.self.now) c.name_of-name.result c.name_of-name.ensures (sym c.may_write.ensures ∙ c.if-not-may_write.false)
     (sym c.is_writing.ensures ∙ c.if-is_writing.false) c.load.result (c.load.ensures.loads told)
+
+pub returns-clause-held : goal.returns-clause-held
+returns-clause-held g c =
+    held_for c.load.result c.name_of-name.result c.args.key.now (g.D.Disk.state c.args.disk.now) c.load.new.chunk (IsTrue g.D.Disk.tells) c.name_of-name.ensures c.load.ensures.held
