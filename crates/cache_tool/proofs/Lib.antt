@@ -2,6 +2,11 @@ pub mod Accounted
 pub mod Begun
 pub mod DoneLaws
 pub mod EntryLooks
+pub mod FillEnds
+pub mod FillHalf
+pub mod FillRuns
+pub mod FillTexts
+pub mod FillWhole
 pub mod Growing
 pub mod Handed
 pub mod Moments

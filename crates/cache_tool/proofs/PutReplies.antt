@@ -30,6 +30,7 @@ sends_of c h answer first now before said none p kept stays = record {
   next = leads answer kept.next p.tells stays;
   outcome = p.outcome;
   replied = λ bare. held answer (p.printed (λ goes. absurd (true≢false (sym goes ∙ bare))));
+  told = λ told. held answer (p.printed (λ goes. told));
 }
   where
     leads : (a : Result Outcome StoreFault) → OnOk a (KeepsTo now (acked c h)) → (HadEffect a → ComesToTell c first h.machine → Tells now (step h.machine c).next)

@@ -1,13 +1,14 @@
 -- Words are read exactly where they are those of the table.
-use Rattle.std.proofs.Common.{◌≡◌, ◌⊎◌, inl, inr, ℕ, ◌<◌, ◌^◌, List, [], ◌∷◌, Bool, true, false, cond, Option, None, Some, IfSome, decimal, nat_eq, refl, sym, ap, ◌∙◌}
+use Rattle.std.proofs.Common.{◌≡◌, ◌⊎◌, inl, inr, ℕ, ◌<◌, ◌≤◌, ◌^◌, List, [], ◌∷◌, Bool, true, false, cond, ◌&&◌, Option, None, Some, IfSome, decimal, nat_eq, nat_le, nat_lt, refl, sym, ap, ◌∙◌, arith, le-leb, leb-true, lt-ltb, ltb-true}
 use Rattle.std.specs.Cmp.Lexicographic.{pointwise}
 use Rattle.std.specs.Option.{option_and_then, option_map}
 use Rattle.std.specs.Prelude.{codes}
+use Rattle.std.proofs.lemmas.Bool.{and_parts}
 use Rattle.std.proofs.lemmas.Slice.Eq.{bytes_eq-Decides}
 use Rattle.cache_base.specs.Numbers.{number_in}
 use Rattle.cache_base.proofs.NumberLaws.{number_read, number_spelled}
 use Rattle.cache_theory.specs.Command.Command.{Doom, Evict, Flush, Get, ListRecords, Rebuild, Verify}
-use Rattle.cache_tool.specs.Words.{AreOfOne, AreWords, Asked, WordsAreOfTable, alone, asked_by, verbs, with_word}
+use Rattle.cache_tool.specs.Words.{AreOfOne, AreWords, Asked, IsCount, WordsAreOfTable, alone, asked_by, fill_limit, fill_of, verbs, with_word, with_words}
 
 -- one test of a chain
 tested_some : (verb name : List ℕ) (some : Option Asked) (asked : Asked) (rest : Option Asked) → cond (pointwise nat_eq verb name) some rest ≡ Some asked
@@ -71,6 +72,55 @@ with_word_is now verb word asked e = elim (tested verb (codes "put") (Asked.Put 
   ]
 ]
 
+-- two words that are the numbers of a `fill`
+fill_is : (now count first : ℕ) (asked : Asked) → fill_of now count first ≡ Some asked → IsCount fill_limit count × (asked ≡ Asked.Fill now count first)
+fill_is now count first asked = go (nat_lt 0 count && nat_le count fill_limit) refl
+  where
+    go : (b : Bool) → nat_lt 0 count && nat_le count fill_limit ≡ b → cond b (Some (Asked.Fill now count first)) None ≡ Some asked
+        → IsCount fill_limit count × (asked ≡ Asked.Fill now count first)
+    go true e some = let parts = and_parts (nat_lt 0 count) (nat_le count fill_limit) e in ((ltb-true 0 count parts.0, leb-true count fill_limit parts.1), cc)
+    go false e some = absurd (cc)
+
+numbers_are : (now : ℕ) (count first : List ℕ) (asked : Asked)
+    → option_and_then (λ n. option_and_then (λ x. fill_of now n x) (number_in first)) (number_in count) ≡ Some asked
+    → (n : ℕ) × ((x : ℕ) × (IsCount fill_limit n × ((x < 2 ^ 32) × (((count ≡ decimal n) × (first ≡ decimal x)) × (asked ≡ Asked.Fill now n x)))))
+numbers_are now count first asked = go (number_in count) (number_in first) (number_spelled count) (number_spelled first)
+  where
+    go : (r s : Option ℕ) → IfSome r (λ n. (count ≡ decimal n) × (n < 2 ^ 32)) → IfSome s (λ x. (first ≡ decimal x) × (x < 2 ^ 32))
+        → option_and_then (λ n. option_and_then (λ x. fill_of now n x) s) r ≡ Some asked
+        → (n : ℕ) × ((x : ℕ) × (IsCount fill_limit n × ((x < 2 ^ 32) × (((count ≡ decimal n) × (first ≡ decimal x)) × (asked ≡ Asked.Fill now n x)))))
+    go None s of other e = absurd (cc)
+    go (Some n) None of other e = absurd (cc)
+    go (Some n) (Some x) of other e = let fills = fill_is now n x asked e in (n, (x, (fills.0, (other.1, ((of.0, other.0), fills.1)))))
+
+with_words_is : (now : ℕ) (verb count first : List ℕ) (asked : Asked) → with_words now verb count first ≡ Some asked
+    → AreOfOne (verb ∷ (count ∷ (first ∷ []))) now asked verbs
+with_words_is now verb count first asked e =
+    elim (tested_some verb (codes "fill") (option_and_then (λ n. option_and_then (λ x. fill_of now n x) (number_in first)) (number_in count)) asked None e) [
+      | inl fill ↦
+          let of = numbers_are now count first asked fill.1 in
+          let is = of.1.1.1.1 in
+          inr (inr (inr (inr (inr (inr (inr (inr (inr (inl (
+            of.0,
+            (
+              of.1.0,
+              (
+                of.1.1.0,
+                (
+                  of.1.1.1.0,
+                  (ap (λ w. w ∷ (count ∷ (first ∷ []))) fill.0 ∙ ap (λ w. codes "fill" ∷ (w ∷ (first ∷ []))) is.0.0 ∙ ap (λ w. codes "fill" ∷ (decimal of.0 ∷ (w ∷ []))) is.0.1, is.1),
+                ),
+              ),
+            ),
+          ))))))))))
+      | inr none ↦ absurd (cc)
+    ]
+
+-- and such numbers are read
+counted : (now n x : ℕ) → IsCount fill_limit n → fill_of now n x ≡ Some (Asked.Fill now n x)
+counted now n x count =
+    ap (λ b. cond b (Some (Asked.Fill now n x)) None) (ap (λ b. b && nat_le n fill_limit) (lt-ltb 0 n count.0) ∙ le-leb n fill_limit count.1)
+
 -- what follows a number
 module _ (word : List ℕ) (rest : List (List ℕ)) (asked : Asked) (asks : ℕ → Option Asked) (is : (now : ℕ) → asks now ≡ Some asked → AreOfOne rest now asked verbs) where
   numbered : option_and_then asks (number_in word) ≡ Some asked → AreWords (word ∷ rest) asked
@@ -85,9 +135,14 @@ read_is [] asked e = absurd (cc)
 read_is (now ∷ []) asked e = absurd (cc)
 read_is (now ∷ (verb ∷ [])) asked e = numbered now (verb ∷ []) asked (λ n. alone n verb) (λ n is. alone_is n verb asked is) e
 read_is (now ∷ (verb ∷ (word ∷ []))) asked e = numbered now (verb ∷ (word ∷ [])) asked (λ n. with_word n verb word) (λ n is. with_word_is n verb word asked is) e
-read_is (now ∷ (verb ∷ (key ∷ (x ∷ more)))) asked e = absurd (cc)
+read_is (now ∷ (verb ∷ (count ∷ (first ∷ [])))) asked e =
+    numbered now (verb ∷ (count ∷ (first ∷ []))) asked (λ n. with_words n verb count first) (λ n is. with_words_is n verb count first asked is) e
+read_is (now ∷ (verb ∷ (key ∷ (x ∷ (y ∷ more))))) asked e = absurd (cc)
 
 -- and the words of the table are read
+below_limit : (n : ℕ) → n ≤ fill_limit → n < 2 ^ 32
+below_limit n le = omega (arith, le)
+
 table_read : (now : ℕ) → now < 2 ^ 32 → (rest : List (List ℕ)) (asked : Asked) → AreOfOne rest now asked verbs → asked_by (decimal now ∷ rest) ≡ Some asked
 table_read now small rest asked (inl run) =
     ap (λ r. asked_by (decimal now ∷ r)) run.0 ∙ ap (option_and_then (λ n. alone n (codes "run"))) (number_read now small) ∙ ap Some (sym run.1)
@@ -108,7 +163,11 @@ table_read now small rest asked (inr (inr (inr (inr (inr (inr (inr (inl verify))
     ap (λ r. asked_by (decimal now ∷ r)) verify.0 ∙ ap (option_and_then (λ n. alone n (codes "verify"))) (number_read now small) ∙ ap Some (sym verify.1)
 table_read now small rest asked (inr (inr (inr (inr (inr (inr (inr (inr (inl rebuild))))))))) =
     ap (λ r. asked_by (decimal now ∷ r)) rebuild.0 ∙ ap (option_and_then (λ n. alone n (codes "rebuild"))) (number_read now small) ∙ ap Some (sym rebuild.1)
-table_read now small rest asked (inr (inr (inr (inr (inr (inr (inr (inr (inr none))))))))) = absurd none
+table_read now small rest asked (inr (inr (inr (inr (inr (inr (inr (inr (inr (inl (n, (x, (count, (bound, (words, is))))))))))))))) =
+    ap (λ r. asked_by (decimal now ∷ r)) words ∙ ap (option_and_then (λ k. with_words k (codes "fill") (decimal n) (decimal x))) (number_read now small)
+    ∙ ap (option_and_then (λ k. option_and_then (λ y. fill_of now k y) (number_in (decimal x)))) (number_read n (below_limit n count.1))
+    ∙ ap (option_and_then (λ y. fill_of now n y)) (number_read x bound) ∙ counted now n x count ∙ ap Some (sym is)
+table_read now small rest asked (inr (inr (inr (inr (inr (inr (inr (inr (inr (inr none)))))))))) = absurd none
 
 pub words_are_of_table : WordsAreOfTable
 words_are_of_table = λ words asked. (

@@ -2,6 +2,10 @@ pub mod AnyDisk
 pub mod Asked
 pub mod DoneFor
 pub mod Ending
+pub mod Fill
+pub mod Filled
+pub mod FillProgress
+pub mod FirstLine
 pub mod HeldReply
 pub mod Pieces
 pub mod Put

@@ -35,6 +35,8 @@ pub record IsSent (c : Command) (h : History) (answer : Result Outcome StoreFaul
   pub next : OnOk answer (LeadTo (c ∷ []) before h.machine now (acked c h))
   pub outcome : IfOk answer (λ r. r ≡ outcome_of (step h.machine c).reply)
   pub replied : goes_by_records c ≡ false → OnOk answer (said ≡ reply_text (step h.machine c).reply)
+  -- also where the reply goes by records that are right
+  pub told : Tells before h.machine → OnOk answer (said ≡ reply_text (step h.machine c).reply)
 
 -- whatever history the disk kept to, of what is done for it
 pub record SendsCommand (c : Command) (answer : Result Outcome StoreFault) (before now : Session)

@@ -1,6 +1,6 @@
 -- The words of the command line, each as its bytes.
 use Rattle.std.specs.Cmp.Lexicographic.{pointwise}
-use Rattle.std.specs.Prelude.{List, None, Some, [], codes, decimal, if◌then◌else◌, map, nat_eq, string_bytes, ℕ, ◌∷◌, ◌≡◌, ◌⊎◌, ◌<◌, ◌^◌, ◌↔◌}
+use Rattle.std.specs.Prelude.{List, None, Some, [], codes, decimal, if◌then◌else◌, map, nat_eq, nat_le, nat_lt, string_bytes, ℕ, ◌&&◌, ◌∷◌, ◌≡◌, ◌⊎◌, ◌<◌, ◌≤◌, ◌^◌, ◌↔◌}
 use Rattle.std.specs.Option.{option_and_then, option_map}
 use Rattle.std.specs.declared.alloc.Global.{Global}
 use Rattle.std.specs.declared.option.Option.{Option}
@@ -17,14 +17,22 @@ pub data Asked : Type 0 where
   Put : (now : ℕ) (key : List ℕ) → Asked
   -- one command
   One : (now : ℕ) (command : Command) → Asked
+  -- so many entries are made, the sizes of whose bodies follow from a first number; half of all is evicted, and all checked
+  Fill : (now count first : ℕ) → Asked
 
 -- The table of the verbs, and which words are those of the table.
 
--- a verb that stands alone, or one with a key or a number after it; and what it asks for at a moment
+-- a verb that stands alone, one with a key or a number after it, or one with two numbers, of which the first is from 1 up
+-- to a limit; and what it asks for at a moment
 pub data Verb : Type 0 where
   Alone : (name : List ℕ) (asks : ℕ → Asked) → Verb
   WithKey : (name : List ℕ) (asks : ℕ → List ℕ → Asked) → Verb
   WithNumber : (name : List ℕ) (asks : ℕ → ℕ → Asked) → Verb
+  WithNumbers : (name : List ℕ) (limit : ℕ) (asks : ℕ → ℕ → ℕ → Asked) → Verb
+
+-- a `fill` makes at most so many entries
+abbrev pub fill_limit : ℕ
+fill_limit = 100000
 
 abbrev pub verbs : List Verb
 verbs =
@@ -37,7 +45,12 @@ verbs =
     ∷ (Verb.Alone (codes "list") (λ now. Asked.One now ListRecords)
     ∷ (Verb.Alone (codes "verify") (λ now. Asked.One now Verify)
     ∷ (Verb.Alone (codes "rebuild") (λ now. Asked.One now Rebuild)
-    ∷ []))))))))
+    ∷ (Verb.WithNumbers (codes "fill") fill_limit (λ now count first. Asked.Fill now count first)
+    ∷ [])))))))))
+
+-- a number from 1 up to the limit
+abbrev pub IsCount : ℕ → ℕ → Type 0
+IsCount limit n = (0 < n) × (n ≤ limit)
 
 -- these words are the verb with what follows it, and ask for this
 abbrev pub AreOfVerb : List (List ℕ) → ℕ → Asked → Verb → Type 0
@@ -46,6 +59,9 @@ AreOfVerb words now asked (Verb.WithKey name asks) =
     (key : List ℕ) × ((words ≡ name ∷ (key ∷ [])) × (asked ≡ asks now key))
 AreOfVerb words now asked (Verb.WithNumber name asks) =
     (n : ℕ) × ((n < 2 ^ 32) × ((words ≡ name ∷ (decimal n ∷ [])) × (asked ≡ asks now n)))
+AreOfVerb words now asked (Verb.WithNumbers name limit asks) =
+    (n : ℕ) × ((first : ℕ) × (IsCount limit n × ((first < 2 ^ 32)
+    × ((words ≡ name ∷ (decimal n ∷ (decimal first ∷ []))) × (asked ≡ asks now n first)))))
 
 -- so it is for one of these verbs
 abbrev pub AreOfOne : List (List ℕ) → ℕ → Asked → List Verb → Type 0
@@ -82,10 +98,22 @@ with_word now verb word =
     else if pointwise nat_eq verb (codes "evict") then option_map (λ kb. Asked.One now (Evict kb)) (number_in word)
     else None
 
--- the words NOW and a verb that stands alone, and NOW, a verb and a word after it
+-- a `fill` of so many entries, if there may be so many
+abbrev pub fill_of : ℕ → ℕ → ℕ → Option Asked
+fill_of now count first = if nat_lt 0 count && nat_le count fill_limit then Some (Asked.Fill now count first) else None
+
+-- a verb with two numbers
+abbrev pub with_words : ℕ → List ℕ → List ℕ → List ℕ → Option Asked
+with_words now verb count first =
+    if pointwise nat_eq verb (codes "fill")
+    then option_and_then (λ n. option_and_then (λ x. fill_of now n x) (number_in first)) (number_in count)
+    else None
+
+-- the words NOW and a verb that stands alone, and NOW, a verb and one word or two after it
 abbrev pub asked_by : List (List ℕ) → Option Asked
 asked_by (now ∷ (verb ∷ [])) = option_and_then (λ n. alone n verb) (number_in now)
 asked_by (now ∷ (verb ∷ (word ∷ []))) = option_and_then (λ n. with_word n verb word) (number_in now)
+asked_by (now ∷ (verb ∷ (count ∷ (first ∷ [])))) = option_and_then (λ n. with_words n verb count first) (number_in now)
 asked_by _ = None
 
 -- words ask for something exactly where they are those of the table
@@ -97,7 +125,8 @@ WordsAreOfTable =
 abbrev pub asked_in : List (String Global) → Option Asked
 asked_in words = asked_by (map (λ w. string_bytes w) words)
 
--- P of the moment of a `run`, of the moment and the key of a `put`, and of the moment and the command of other words
+-- P of the moment of a `run`, of the moment and the key of a `put`, of the moment and the two numbers of a `fill`, and of
+-- the moment and the command of other words
 abbrev pub WhenRun : Option Asked → (ℕ → Type 0) → Type 0
 WhenRun (Some (Asked.Run now)) P = P now
 WhenRun _ P = Unit {0}
@@ -109,3 +138,7 @@ WhenPut _ P = Unit {0}
 abbrev pub WhenOne : Option Asked → (ℕ → Command → Type 0) → Type 0
 WhenOne (Some (Asked.One now c)) P = P now c
 WhenOne _ P = Unit {0}
+
+abbrev pub WhenFill : Option Asked → (ℕ → ℕ → ℕ → Type 0) → Type 0
+WhenFill (Some (Asked.Fill now count first)) P = P now count first
+WhenFill _ P = Unit {0}

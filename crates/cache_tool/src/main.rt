@@ -2,6 +2,7 @@
 //! output.
 #![tactic(auto)]
 
+mod fill;
 mod last_reply;
 mod laws;
 mod one;

@@ -1,15 +1,14 @@
 //! The verb `put`: an entry is made of its key and of the bytes of the source.
 
 ghost use Rattle.std.specs.Prelude.{◌≡◌, ◌≢◌, ◌≤◌, ◌<◌, ◌+◌, ◌⊎◌, [], length, false, Err, Ok, Some, IfOk, IsTrue, vec_len};
-ghost use Rattle.std.specs.Io.KnownBytes.{Appends, IsAtEnd};
+ghost use Rattle.std.specs.Io.KnownBytes.{IsAtEnd};
 ghost use Rattle.cache_base.specs.Causes.{HasCause, Rose};
 ghost use Rattle.cache_base.specs.declared.limits.TheConstants.{BODY_MAX as BODY_LEN, PIECE_MAX as PIECE_LEN};
 ghost use Rattle.cache_script.specs.Command.{command_of};
 ghost use Rattle.cache_store.specs.Faults.{ending};
 ghost use Rattle.cache_store.specs.Open.{IsOpen, LeavesOpen};
 ghost use Rattle.cache_store.specs.Printed.{HasBadKey, Prints, PrintsOk};
-ghost use Rattle.cache_store.specs.Said.{IsCut};
-ghost use Rattle.cache_store.specs.Saying.{IsPart, TakesMore};
+ghost use Rattle.cache_store.specs.Saying.{TakesMore};
 ghost use Rattle.cache_store.specs.Session.{session};
 ghost use Rattle.cache_theory.specs.Given.{IsGiven};
 ghost use Rattle.cache_tool.specs.AnyDisk.{HoldsRefusal, IsRefusalLine, PutRefuses, TakesAtMost, ok_line};
@@ -26,9 +25,9 @@ ghost use Rattle.index_theory.specs.Honest.{LeavesHonest};
 
 use crate::last_reply::LastReply;
 use crate::piece::{Ended, fill};
-use crate::session::{end, status_of, status_of_fault};
+use crate::session::{end, print_answer, status_of, status_of_fault};
 use cache_base::{BODY_MAX, Moment, NoMemory, PIECE_MAX, Status};
-use cache_io::{Sink, SinkFault, Source, write_whole};
+use cache_io::{Sink, Source};
 use cache_script::Command;
 use cache_store::{Outcome, Store, StoreFault};
 use disk_model::Disk;
@@ -37,8 +36,8 @@ use std::alloc::Global;
 // The slot by which the entry is written.
 const SLOT: u8 = 0;
 
-// Performs a command. Its reply is held.
-fn send<D: Disk>(
+/// Performs a command. Its reply is held.
+pub(crate) fn send<D: Disk>(
     alloc: Global,
     store: &mut Store,
     c: &Command<'_>,
@@ -189,25 +188,6 @@ fn perform_put<D: Disk, S: Source>(
     Ok(appended)
 }
 
-// Prints the reply that is held, which came with this status.
-fn print_reply<K: Sink>(status: Status, said: &LastReply, sink: &mut K) -> Status
-    requires answer { IsAnswer status }
-    ensures same { (result ≡ status) ⊎ ((result ≡ Status.Sink) ⊎ (result ≡ Status.Memory)) }
-    ensures all { IsAnswer result →
-        Appends (K.taken sink.old) (K.taken sink.new) (said_in said.now) }
-    ensures part { IsPart (K.taken sink.old) (K.taken sink.new) (said_in said.now) }
-    ensures cut { result ≡ Status.Sink →
-        IsCut (K.taken sink.old) (K.taken sink.new) (said_in said.now) }
-    ensures sink { result ≡ Status.Sink → Rose (K.faults sink.old) (K.faults sink.new) }
-    ensures calm { IsAnswer result → K.faults sink.new ≡ K.faults sink.old }
-{
-    match write_whole(sink, said.as_slice()) {
-        Ok(()) => status,
-        Err(SinkFault::Failed) => Status::Sink,
-        Err(SinkFault::Memory) => Status::Memory,
-    }
-}
-
 /// Makes an entry of the key and of the source's bytes, closes the store, and prints the last reply.
 pub(crate) fn put<D: Disk, S: Source, K: Sink>(
     alloc: Global,
@@ -243,8 +223,8 @@ pub(crate) fn put<D: Disk, S: Source, K: Sink>(
     let mut said = LastReply::new(alloc);
     let came = perform_put(alloc, &mut store, key, source, &mut said, disk);
     match end(store, came, disk) {
-        Status::Done => print_reply(Status::Done, &said, sink),
-        Status::No => print_reply(Status::No, &said, sink),
+        Status::Done => print_answer(Status::Done, said.as_slice(), sink),
+        Status::No => print_answer(Status::No, said.as_slice(), sink),
         other => other,
     }
 }

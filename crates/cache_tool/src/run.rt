@@ -8,10 +8,11 @@ ghost use Rattle.cache_store.specs.IndexCalls.{LooksAtNames};
 ghost use Rattle.cache_store.specs.Printed.{PrintsNo, PrintsOk, is_plain};
 ghost use Rattle.cache_store.specs.Saying.{TakesMore};
 ghost use Rattle.cache_tool.specs.AnyDisk.{PutRefuses, TakesAtMost};
+ghost use Rattle.cache_tool.specs.Filled.{FillsCache};
 ghost use Rattle.cache_tool.specs.Script.{HasBadCommand, HasScript, IsScript};
 ghost use Rattle.cache_tool.specs.Statuses.{IsAnswer, IsClosing};
 ghost use Rattle.cache_tool.specs.Verbs.{AnswersCommand, LooksAtNone, RunsScript, StoresEntry};
-ghost use Rattle.cache_tool.specs.Words.{WhenOne, WhenPut, WhenRun, asked_in};
+ghost use Rattle.cache_tool.specs.Words.{WhenFill, WhenOne, WhenPut, WhenRun, asked_in};
 ghost use Rattle.cache_tool.specs.World.{output, world};
 ghost use Rattle.disk_model.specs.Calls.{StopsAtFault};
 ghost use Rattle.disk_model.specs.Sound.{IsQuiet};
@@ -19,6 +20,7 @@ ghost use Rattle.disk_model.specs.State.{standing};
 ghost use Rattle.entry_key.specs.Writing.{may_write};
 ghost use Rattle.index_theory.specs.Start.{start_of};
 
+use crate::fill::fill;
 use crate::one::perform_one;
 use crate::put::put;
 use crate::script::run_script;
@@ -30,9 +32,11 @@ use std::alloc::Global;
 
 /// Does what the words say. These are the words after the directory: `NOW run` performs the script that the source has,
 /// `NOW put KEY` makes an entry of the key whose body the source has, `NOW get KEY` prints an entry, `NOW doom KEY`
-/// removes one, `NOW evict KB` removes the least valuable ones until all take at most so many KB, `NOW flush` syncs what
-/// was written, `NOW list` prints the records of all entries, `NOW verify` checks all entries and prints what is wrong, and
-/// `NOW rebuild` reads all entries anew and writes the index. Each opens the store at the moment NOW and closes it.
+/// removes one, `NOW evict KB` removes the least valuable ones until all take at most so many KB, `NOW flush` syncs
+/// what was written, `NOW list` prints the records of all entries, `NOW verify` checks all entries and prints what is
+/// wrong, and `NOW rebuild` reads all entries anew and writes the index. `NOW fill N FIRST` makes N entries, evicts
+/// half of all by their sizes, checks and lists the rest, and prints how many there were of each. Each opens the store
+/// at the moment NOW and closes it.
 ///
 /// The clauses on contents hold where the disk and the source tell theirs. Those on a crash hold where nothing was
 /// pending at the call, and speak of every exit, whatever the status. The replies to `list` and `has` go by the records in
@@ -64,6 +68,10 @@ pub fn run<D: Disk, S: Source, K: Sink>(
         WhenOne (asked_in words.now) (λ now c. IsTrue D.tells →
         AnswersCommand now c result (at sink.old disk.old) (at sink.new disk.new)) }
 
+    ensures fills { let at = output K.Sink D.Disk in
+        WhenFill (asked_in words.now) (λ now count first. IsTrue D.tells →
+        FillsCache now count first result (at sink.old disk.old) (at sink.new disk.new)) }
+
     // With `Done` a `run` and a `put` have read the source to its end, and for a `run` its bytes spell a script; with
     // `Script` they spell none. A `put` under a key that cannot be written reads nothing, and other verbs never do.
     ensures read { result ≡ Status.Done →
@@ -77,6 +85,7 @@ pub fn run<D: Disk, S: Source, K: Sink>(
     ensures taken { WhenPut (asked_in words.now) (λ now key.
         TakesAtMost (BODY_MAX + PIECE_MAX) (S.left source.old) (S.left source.new)) }
     ensures ignored { WhenOne (asked_in words.now) (λ now c. source.new ≡ source.old) }
+    ensures fill_ignored { WhenFill (asked_in words.now) (λ now count first. source.new ≡ source.old) }
 
     // On any disk, also on one that tells nothing, the status is that of the printed reply: `ok` with `Done`, for a `put`
     // and for a command whose reply is `ok` or a refusal; and with `No` a refusal, or for `verify` what was found, except
@@ -102,8 +111,10 @@ pub fn run<D: Disk, S: Source, K: Sink>(
     // A script alone is bad, and never refused; a source fails for a script and a `put` alone.
     ensures script_alone { result ≡ Status.Script →
         WhenPut (asked_in words.now) (λ now key. ⊥) × WhenOne (asked_in words.now) (λ now c. ⊥) }
+    ensures fill_alone { result ≡ Status.Script → WhenFill (asked_in words.now) (λ now count first. ⊥) }
     ensures never_no { WhenRun (asked_in words.now) (λ now. result ≢ Status.No) }
     ensures never_source { WhenOne (asked_in words.now) (λ now c. result ≢ Status.Source) }
+    ensures fill_source { WhenFill (asked_in words.now) (λ now count first. result ≢ Status.Source) }
 
     // A fault is answered only where its count rose, that of the disk before the others, and where the disk's rose
     // there is no other answer, unless memory ran out. After a change that failed no call follows.
@@ -127,6 +138,7 @@ pub fn run<D: Disk, S: Source, K: Sink>(
         Some(Asked::Run { now }) => run_script(alloc, now, source, sink, disk),
         Some(Asked::Put { now, key }) => put(alloc, now, key, source, sink, disk),
         Some(Asked::One { now, command }) => perform_one(alloc, now, &command, sink, disk),
+        Some(Asked::Fill { now, count, first }) => fill(alloc, now, count, first, sink, disk),
         None => Status::Words,
     }
 }

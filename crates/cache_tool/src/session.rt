@@ -1,16 +1,20 @@
-//! How a session ends.
+//! How a session ends, and how its answer is printed.
 
 ghost use Rattle.std.specs.Prelude.{◌≡◌, ◌⊎◌, Err, IfOk, IsTrue};
-ghost use Rattle.cache_base.specs.Causes.{HasCause};
+ghost use Rattle.std.specs.Io.KnownBytes.{Appends};
+ghost use Rattle.cache_base.specs.Causes.{HasCause, Rose};
 ghost use Rattle.cache_store.specs.Open.{LeavesOpen};
+ghost use Rattle.cache_store.specs.Said.{IsCut};
+ghost use Rattle.cache_store.specs.Saying.{IsPart};
 ghost use Rattle.cache_store.specs.Session.{session};
 ghost use Rattle.cache_tool.specs.Ending.{EndsSession};
-ghost use Rattle.cache_tool.specs.Statuses.{IsClosing, status_in, status_of as status_of_outcome};
+ghost use Rattle.cache_tool.specs.Statuses.{IsAnswer, IsClosing, status_in, status_of as status_of_outcome};
 ghost use Rattle.disk_model.specs.Account.{LooksAtNoEntry};
 ghost use Rattle.disk_model.specs.Calls.{StopsAtFault};
 ghost use Rattle.disk_model.specs.Sound.{IsQuiet};
 
 use cache_base::Status;
+use cache_io::{Sink, SinkFault, write_whole};
 use cache_store::{Outcome, Store, StoreFault};
 use disk_model::Disk;
 
@@ -60,5 +64,22 @@ pub(crate) fn end<D: Disk>(store: Store, came: Result<Status, StoreFault>, disk:
     match store.close(disk) {
         Ok(()) => status,
         Err(fault) => status_of_fault(fault),
+    }
+}
+
+/// Prints the text of an answer, which came with this status.
+pub(crate) fn print_answer<K: Sink>(status: Status, text: &[u8], sink: &mut K) -> Status
+    requires answer { IsAnswer status }
+    ensures same { (result ≡ status) ⊎ ((result ≡ Status.Sink) ⊎ (result ≡ Status.Memory)) }
+    ensures all { IsAnswer result → Appends (K.taken sink.old) (K.taken sink.new) text.now }
+    ensures part { IsPart (K.taken sink.old) (K.taken sink.new) text.now }
+    ensures cut { result ≡ Status.Sink → IsCut (K.taken sink.old) (K.taken sink.new) text.now }
+    ensures sink { result ≡ Status.Sink → Rose (K.faults sink.old) (K.faults sink.new) }
+    ensures calm { IsAnswer result → K.faults sink.new ≡ K.faults sink.old }
+{
+    match write_whole(sink, text) {
+        Ok(()) => status,
+        Err(SinkFault::Failed) => Status::Sink,
+        Err(SinkFault::Memory) => Status::Memory,
     }
 }

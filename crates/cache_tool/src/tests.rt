@@ -3,7 +3,10 @@
 mod chunks;
 mod crash;
 mod evict;
+mod fill;
 mod get;
+mod hostile;
+mod liar;
 mod one;
 mod put;
 mod script;

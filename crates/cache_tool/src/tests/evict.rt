@@ -29,7 +29,7 @@ fn four_entries(alloc: Global) -> Result<MemDisk, Fail> {
     Ok(disk)
 }
 
-// By rising frecency, equal ones by rising name, and frecency 0 last; no more than has to go.
+// By rising frecency, equal ones in name order, and frecency 0 last; no more than has to go.
 #[test]
 fn the_least_valuable_go_first(rt: HostRuntime) -> Result<(), Fail> {
     let alloc = rt.alloc();

@@ -116,12 +116,12 @@ fn the_entry_of_a_browser_is_found_whole(rt: HostRuntime) -> Result<(), Fail> {
     Ok(())
 }
 
-// After the opening the calls look for the size, the last four bytes and the block; the body is read to be checked, and
-// then to be printed. A short reply goes out as one.
+// After the opening the calls look for the size, the last four bytes and the block; the body is read once, to be checked,
+// and printed from there. A short reply goes out as one.
 #[test]
 fn each_failing_look_ends_the_run(rt: HostRuntime) -> Result<(), Fail> {
     let alloc = rt.alloc();
-    for number in 1..OPENING + 6 {
+    for number in 1..OPENING + 5 {
         let disk = disk_with(alloc, KEY, FILE)?;
         assert!(rt;
             fails_at(alloc, disk, GET, b"", number)?,
@@ -129,7 +129,7 @@ fn each_failing_look_ends_the_run(rt: HostRuntime) -> Result<(), Fail> {
         );
     }
     let disk = disk_with(alloc, KEY, FILE)?;
-    assert!(rt; !fails_at(alloc, disk, GET, b"", OPENING + 6)?);
+    assert!(rt; !fails_at(alloc, disk, GET, b"", OPENING + 5)?);
     Ok(())
 }
 

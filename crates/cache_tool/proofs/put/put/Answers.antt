@@ -1,12 +1,14 @@
-use Rattle.std.proofs.Common.{inl, inr, refl, ap}
+use Rattle.std.proofs.Common.{inl, inr, refl, ap, subst}
+use Rattle.std.specs.Io.KnownBytes.{Appends}
 use Rattle.std.specs.Prelude.{Err}
+use Rattle.cache_store.specs.Saying.{IsPart}
 use Rattle.cache_store.specs.Session.{session}
 use Rattle.cache_theory.specs.History.{settled_at}
 use Rattle.cache_tool.specs.HeldReply.{said_in}
 use Rattle.cache_tool.specs.Statuses.{status_in}
 use Rattle.cache_tool.specs.World.{output, supply, world}
 use Rattle.cache_tool.proofs.Growing.{takes_none, takes_part}
-use Rattle.cache_tool.proofs.PutEnds.{answered, disk_cause, ended_no_sink, never_others, never_sink, not_answered, not_opened, put_refuses, put_stops, source_came}
+use Rattle.cache_tool.proofs.PutEnds.{Printed, answered, disk_cause, ended_no_sink, never_others, never_sink, not_answered, not_opened, put_refuses, put_stops, source_came}
 use Rattle.cache_tool.proofs.StatusLaws.{no_answer}
 use Rattle.cache_tool.proofs.put.put.Goals as goal
 
@@ -22,16 +24,18 @@ returns-in-Done-clause-stores g c = λ told some m is.
     answered m c.args.key.now (supply g.S.Source c.args.source.now) (supply g.S.Source c.perform_put-came.new.source) (status_in c.perform_put-came.result) c.end.result (output g.K.Sink g.D.Disk c.args.sink.now c.args.disk.now)
     (session g.D.Disk c.in-Ok.store c.open.new.disk) (session g.D.Disk c.perform_put-came.new.store c.perform_put-came.new.disk) (g.D.Disk.state c.end.new.disk) (said_in c.perform_put-came.new.said)
     (c.in-Ok.ensures.opens told) is (c.in-Ok.ensures.based told) ((c.perform_put-came.ensures.performs told).each some (settled_at m) ((c.in-Ok.ensures.opens told).keeps m is)) (c.end.ensures.ends told) c.end.ensures.same
-    c.print_reply.result (g.K.Sink.taken c.print_reply.new.sink) (inl c.in-Done.is)
-    (record { same = rw c.in-Done.is c.print_reply.ensures.same; all = c.print_reply.ensures.all; part = c.print_reply.ensures.part; cut = c.print_reply.ensures.cut })
+    c.print_answer.result (g.K.Sink.taken c.print_answer.new.sink) (inl c.in-Done.is)
+    (subst (Printed c.end.result c.print_answer.result (g.K.Sink.taken c.args.sink.now) (g.K.Sink.taken c.print_answer.new.sink)) c.as_slice.ensures
+    (record { same = rw c.in-Done.is c.print_answer.ensures.same; all = c.print_answer.ensures.all; part = c.print_answer.ensures.part; cut = c.print_answer.ensures.cut }))
 
 pub returns-in-No-clause-stores : goal.returns-in-No-clause-stores
 returns-in-No-clause-stores g c = λ told some m is.
     answered m c.args.key.now (supply g.S.Source c.args.source.now) (supply g.S.Source c.perform_put-came.new.source) (status_in c.perform_put-came.result) c.end.result (output g.K.Sink g.D.Disk c.args.sink.now c.args.disk.now)
     (session g.D.Disk c.in-Ok.store c.open.new.disk) (session g.D.Disk c.perform_put-came.new.store c.perform_put-came.new.disk) (g.D.Disk.state c.end.new.disk) (said_in c.perform_put-came.new.said)
     (c.in-Ok.ensures.opens told) is (c.in-Ok.ensures.based told) ((c.perform_put-came.ensures.performs told).each some (settled_at m) ((c.in-Ok.ensures.opens told).keeps m is)) (c.end.ensures.ends told) c.end.ensures.same
-    c.print_reply-in-No.result (g.K.Sink.taken c.print_reply-in-No.new.sink) (inr c.in-No.is)
-    (record { same = rw c.in-No.is c.print_reply-in-No.ensures.same; all = c.print_reply-in-No.ensures.all; part = c.print_reply-in-No.ensures.part; cut = c.print_reply-in-No.ensures.cut })
+    c.print_answer-in-No.result (g.K.Sink.taken c.print_answer-in-No.new.sink) (inr c.in-No.is)
+    (subst (Printed c.end.result c.print_answer-in-No.result (g.K.Sink.taken c.args.sink.now) (g.K.Sink.taken c.print_answer-in-No.new.sink)) c.as_slice-in-No.ensures
+    (record { same = rw c.in-No.is c.print_answer-in-No.ensures.same; all = c.print_answer-in-No.ensures.all; part = c.print_answer-in-No.ensures.part; cut = c.print_answer-in-No.ensures.cut }))
 
 pub returns : goal.returns
 returns g c = record {
@@ -65,10 +69,12 @@ pub returns-in-No-clause-refused : goal.returns-in-No-clause-refused
 returns-in-No-clause-refused g c = λ is.
     let at = world g.S.Source g.K.Sink g.D.Disk in
     put_refuses c.perform_put-came.result c.end.result (said_in c.perform_put-came.new.said) (at c.args.source.now c.args.sink.now c.args.disk.now)
-    (at c.perform_put-came.new.source c.print_reply-in-No.new.sink c.end.new.disk) c.end.ensures.same c.in-No.is c.perform_put-came.ensures.refused (c.print_reply-in-No.ensures.all (inr is))
+    (at c.perform_put-came.new.source c.print_answer-in-No.new.sink c.end.new.disk) c.end.ensures.same c.in-No.is c.perform_put-came.ensures.refused (subst (Appends (g.K.Sink.taken c.args.sink.now) (g.K.Sink.taken c.print_answer-in-No.new.sink)) c.as_slice-in-No.ensures (c.print_answer-in-No.ensures.all (inr is)))
 
 pub returns-in-Done-clause-grows : goal.returns-in-Done-clause-grows
-returns-in-Done-clause-grows g c = takes_part (g.K.Sink.taken c.args.sink.now) (g.K.Sink.taken c.print_reply.new.sink) (said_in c.perform_put-came.new.said) c.print_reply.ensures.part
+returns-in-Done-clause-grows g c = takes_part (g.K.Sink.taken c.args.sink.now) (g.K.Sink.taken c.print_answer.new.sink) (said_in c.perform_put-came.new.said)
+    (subst (IsPart (g.K.Sink.taken c.args.sink.now) (g.K.Sink.taken c.print_answer.new.sink)) c.as_slice.ensures c.print_answer.ensures.part)
 
 pub returns-in-No-clause-grows : goal.returns-in-No-clause-grows
-returns-in-No-clause-grows g c = takes_part (g.K.Sink.taken c.args.sink.now) (g.K.Sink.taken c.print_reply-in-No.new.sink) (said_in c.perform_put-came.new.said) c.print_reply-in-No.ensures.part
+returns-in-No-clause-grows g c = takes_part (g.K.Sink.taken c.args.sink.now) (g.K.Sink.taken c.print_answer-in-No.new.sink) (said_in c.perform_put-came.new.said)
+    (subst (IsPart (g.K.Sink.taken c.args.sink.now) (g.K.Sink.taken c.print_answer-in-No.new.sink)) c.as_slice-in-No.ensures c.print_answer-in-No.ensures.part)
