@@ -13,7 +13,7 @@ gcc -O2 -Wall -o "$work/get_c" "$here/get.c"
 gcc -O2 -Wall -o "$work/peak" "$here/peak.c"
 head -c 52428800 /dev/urandom >"$work/body"
 "$cache2" "$work/cache" 1000 put "$key" <"$work/body" >/dev/null
-cp "$here/../crates/cache_tool/out/cache_tool" "$work/cache2"
+cp "$here/../crates/cache2/out/cache2" "$work/cache2"
 
 mkdir -p "$work/plain/entries"
 "$work/put_c" "$work/plain" 1000 put "$key" <"$work/body" >/dev/null

@@ -10,7 +10,7 @@ trap 'rm -rf "$work"' EXIT
 gcc -O2 -Wall -Wno-unused-function -o "$work/session_c" "$here/session.c"
 head -c 262144 /dev/urandom >"$work/body"
 "$cache2" "$work/cache" 1000 put :https://example.com/ <"$work/body" >/dev/null
-cp "$here/../crates/cache_tool/out/cache_tool" "$work/cache2"
+cp "$here/../crates/cache2/out/cache2" "$work/cache2"
 
 "$work/cache2" "$work/cache" 1000 get :https://example.com/ >"$work/one"
 "$work/session_c" "$work/cache" 1000 get :https://example.com/ >"$work/two"

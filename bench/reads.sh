@@ -8,7 +8,7 @@ work=$(mktemp -d -p /dev/shm)
 trap 'rm -rf "$work"' EXIT
 gcc -O2 -Wall -o "$work/reads_c" "$here/reads.c"
 "$cache2" "$work/cache" 1000 flush >/dev/null
-cp "$here/../crates/cache_tool/out/cache_tool" "$work/cache2"
+cp "$here/../crates/cache2/out/cache2" "$work/cache2"
 mkdir "$work/plain"
 
 script() {

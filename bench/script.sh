@@ -21,7 +21,7 @@ with open(sys.argv[1], "wb") as script:
     script.write(b"flush\n")
 PYTHON
 "$cache2" "$work/cache" 1000 run <"$work/script" >"$work/one"
-cp "$here/../crates/cache_tool/out/cache_tool" "$work/cache2"
+cp "$here/../crates/cache2/out/cache2" "$work/cache2"
 
 mkdir -p "$work/plain/entries"
 "$work/script_c" "$work/plain" 1000 run <"$work/script" >"$work/two"

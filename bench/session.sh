@@ -15,7 +15,7 @@ gcc -O2 -Wall -o "$work/script_c" "$here/script.c"
 printf hello >"$work/body"
 # Builds the program where it is not built yet.
 "$cache2" "$work/first" 1000 list >/dev/null
-cp "$here/../crates/cache_tool/out/cache_tool" "$work/cache2"
+cp "$here/../crates/cache2/out/cache2" "$work/cache2"
 
 # compare DIR WORD..: both programs have to print the same and to leave the same files.
 compare() {

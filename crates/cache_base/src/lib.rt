@@ -3,6 +3,7 @@
 #![tactic(auto)]
 
 mod buffer;
+mod bytes;
 mod items;
 mod laws;
 mod limits;
@@ -11,6 +12,7 @@ mod numbers;
 mod status;
 
 pub use buffer::Buffer;
+pub use bytes::bytes_fit;
 pub use items::{Bytes, Hashes, Items, Names, NoMemory, Numbers};
 pub use laws::limits_are;
 pub use limits::{
@@ -20,6 +22,3 @@ pub use limits::{
 pub use name::{Moment, Name};
 pub use numbers::number;
 pub use status::Status;
-
-#[cfg(test)]
-mod tests;

@@ -10,7 +10,7 @@ use Rattle.disk_model.specs.Calls.{Counts, counted}
 use Rattle.disk_model.specs.Listing.{AreEntries}
 use Rattle.disk_model.specs.State.{State, standing}
 use Rattle.disk_model.specs.declared.disk.DiskFault.{DiskFault}
-use Rattle.entry_file.specs.Looks.{Looks}
+use Rattle.entry_file.specs.Looks.{LooksAtMost}
 use Rattle.index_record.specs.declared.record.IndexRecord.{IndexRecord}
 use Rattle.index_theory.specs.Ever.{entries_on}
 use Rattle.cache_check.specs.Checks.{AllStand, LooksOnce, looks_over, table_of}
@@ -51,7 +51,7 @@ found_all Tells s t names es rs qs w v (Ok list) listed records writing found = 
     ∙ ap (λ ns. findings files rs ns) writing
 
 -- after one look more
-more_looks : (n : ℕ) (before mid now : Counts) → mid ≡ counted before → Looks n mid now → Looks (1 + n) before now
+more_looks : (n : ℕ) (before mid now : Counts) → mid ≡ counted before → LooksAtMost n mid now → LooksAtMost (1 + n) before now
 more_looks n before mid now one looks =
     let c : mid.calls ≡ min (before.calls + 1) (2 ^ 64 - 1) = ap (λ (k : Counts). k.calls) one in
     let d : mid.entry_reads ≡ before.entry_reads = ap (λ (k : Counts). k.entry_reads) one in
@@ -61,8 +61,8 @@ more_looks n before mid now one looks =
     record { calls = omega (arith, c, e); entry_reads = omega (arith, d, g); no_change = looks.no_change ∙ f }
 
 pub looked_once : (s t : State) (names es : List Name) (w v : List Name) (before mid now : Counts)
-    → Listed s t names es → v ≡ w → mid ≡ counted before → Looks (looks_over (table_of (standing t) es) v) mid now → LooksOnce (entries_on s) w before now
+    → Listed s t names es → v ≡ w → mid ≡ counted before → LooksAtMost (looks_over (table_of (standing t) es) v) mid now → LooksOnce (entries_on s) w before now
 looked_once s t names es w v before mid now listed writing one looks = λ files is_table.
     let n : looks_over (table_of (standing t) es) v ≡ looks_over files w =
     ap (λ f. looks_over f v) (one_table s t names es files listed is_table) ∙ ap (λ ns. looks_over files ns) writing in
-    more_looks (looks_over files w) before mid now one (subst (λ k. Looks k mid now) n looks)
+    more_looks (looks_over files w) before mid now one (subst (λ k. LooksAtMost k mid now) n looks)

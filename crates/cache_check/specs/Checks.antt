@@ -15,7 +15,7 @@ use Rattle.disk_model.specs.Image.{Files}
 use Rattle.disk_model.specs.State.{State, standing}
 use Rattle.disk_model.specs.declared.place.Place.TheVariants.{Entry}
 use Rattle.entry_file.specs.EntryFile.{file_meta, fits}
-use Rattle.entry_file.specs.Looks.{Looks}
+use Rattle.entry_file.specs.Looks.{LooksAtMost}
 use Rattle.entry_metadata.specs.Metadata.{Meta}
 use Rattle.evictor.specs.Evict.{has_name}
 use Rattle.index_record.specs.declared.record.IndexRecord.{IndexRecord}
@@ -71,4 +71,4 @@ files_of s names = table_of (standing s) names
 -- the names of the entries were asked for, and the entries that are not being written were looked at, each once
 abbrev pub LooksOnce : Entries → List Name → Counts → Counts → Type 0
 LooksOnce es writing before now = (files : Table (List ℕ)) → IsTableOf es files
-    → Looks (1 + looks_over files writing) before now
+    → LooksAtMost (1 + looks_over files writing) before now

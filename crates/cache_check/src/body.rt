@@ -4,7 +4,7 @@ ghost use Rattle.std.specs.Prelude.{◌≡◌, ◌<◌, map, option_to_list, IfO
 ghost use Rattle.cache_base.specs.Causes.{HasCause};
 ghost use Rattle.cache_base.specs.Limits.{chunks as chunks_of};
 ghost use Rattle.entry_file.specs.Damages.{HasMeta};
-ghost use Rattle.entry_file.specs.Looks.{Looks};
+ghost use Rattle.entry_file.specs.Looks.{LooksAtMost};
 ghost use Rattle.entry_metadata.specs.Meta.{meta_of};
 ghost use Rattle.cache_check.specs.Checks as spec;
 
@@ -28,7 +28,7 @@ fn check_one<D: Disk>(
         IfSome (spec.file_at (D.state disk.old) name.now) (λ content.
         damage ≡ spec.chunk_damage (meta_of meta.now) index content)) }
     ensures state { IsTrue D.tells → D.state disk.new ≡ D.state disk.old }
-    ensures looks { IsTrue D.tells → Looks 1 (D.counts disk.old) (D.counts disk.new) }
+    ensures looks { IsTrue D.tells → LooksAtMost 1 (D.counts disk.old) (D.counts disk.new) }
     ensures cause { HasCause (IsErrOf result DiskFault.Failed) (D.faults disk.old) (D.faults disk.new) }
 {
     read_chunk(disk, &Place::Entry(*name), meta.offset, index, buf)?;
@@ -68,7 +68,7 @@ pub(crate) fn add_damages<D: Disk>(
     ensures adds { OnOk result (IsTrue D.tells → IfSome (spec.file_at (D.state disk.old) name.now) (λ content.
         spec.Adds name.now (spec.damaged (meta_of meta.now) content) out.old out.new)) }
     ensures state { IsTrue D.tells → D.state disk.new ≡ D.state disk.old }
-    ensures looks { IsTrue D.tells → Looks (chunks_of meta.now.offset) (D.counts disk.old) (D.counts disk.new) }
+    ensures looks { IsTrue D.tells → LooksAtMost (chunks_of meta.now.offset) (D.counts disk.old) (D.counts disk.new) }
     ensures cause { HasCause (IsErrOf result DiskFault.Failed) (D.faults disk.old) (D.faults disk.new) }
 {
     for index in 0..chunks(u64::from(meta.offset)) as u32 {

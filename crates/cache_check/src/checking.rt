@@ -7,7 +7,7 @@ ghost use Rattle.cache_base.specs.Names.{AreRising, name_cmp};
 ghost use Rattle.cache_check.specs.Findings.{AreFindings, findings as findings_in};
 ghost use Rattle.disk_model.specs.Account.{Looks, ending};
 ghost use Rattle.disk_model.specs.State.{standing};
-ghost use Rattle.entry_file.specs.Looks.{Looks as LooksAtMost};
+ghost use Rattle.entry_file.specs.Looks.{LooksAtMost};
 ghost use Rattle.index_theory.specs.Ever.{entries_on};
 ghost use Rattle.record_list.specs.Lists.{AreRising as AreByName, HasNames};
 ghost use Rattle.cache_check.specs.Checks as spec;

@@ -4,7 +4,7 @@ ghost use Rattle.std.specs.Prelude.{◌≡◌, IfOk, OnOk, IsTrue, IsErrOf, opti
 ghost use Rattle.cache_base.specs.Causes.{HasCause};
 ghost use Rattle.cache_check.specs.Findings.{file_findings, record_findings};
 ghost use Rattle.index_theory.specs.Scan.{record_of};
-ghost use Rattle.entry_file.specs.Looks.{Looks};
+ghost use Rattle.entry_file.specs.Looks.{LooksAtMost};
 ghost use Rattle.cache_check.specs.Checks as spec;
 
 use crate::body::add_damages;
@@ -52,7 +52,7 @@ fn check_file<D: Disk>(
         filed ≡ option_and_then (record_of name.now) file) }
     ensures state { IsTrue D.tells → D.state disk.new ≡ D.state disk.old }
     ensures looks { IsTrue D.tells → let file = spec.file_at (D.state disk.old) name.now in
-        Looks (spec.looks_at name.now file) (D.counts disk.old) (D.counts disk.new) }
+        LooksAtMost (spec.looks_at name.now file) (D.counts disk.old) (D.counts disk.new) }
     ensures cause { HasCause (IsErrOf result DiskFault.Failed) (D.faults disk.old) (D.faults disk.new) }
 {
     match read_meta(alloc, disk, &Place::Entry(*name), name)? {
@@ -84,7 +84,7 @@ pub(crate) fn check_entry<D: Disk>(
         spec.Adds name.now (spec.findings_of name.now file known) out.old out.new) }
     ensures state { IsTrue D.tells → D.state disk.new ≡ D.state disk.old }
     ensures looks { IsTrue D.tells → let file = spec.file_at (D.state disk.old) name.now in
-        Looks (spec.looks_at name.now file) (D.counts disk.old) (D.counts disk.new) }
+        LooksAtMost (spec.looks_at name.now file) (D.counts disk.old) (D.counts disk.new) }
     ensures cause { HasCause (IsErrOf result DiskFault.Failed) (D.faults disk.old) (D.faults disk.new) }
 {
     let filed = check_file(alloc, disk, name, buf, out)?;

@@ -14,6 +14,3 @@ pub use checking::findings;
 pub use finding::{Finding, What};
 pub use finding_list::FindingList;
 pub use laws::{files_have_table, findings_agree, findings_are_exact, only_one_table};
-
-#[cfg(test)]
-mod tests;

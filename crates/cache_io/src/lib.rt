@@ -6,8 +6,6 @@ mod mem;
 mod sink;
 mod source;
 mod stdio;
-#[cfg(test)]
-mod tests;
 
 pub use mem::{MemSink, MemSource};
 pub use sink::{Sink, SinkFault, write_whole};

@@ -20,6 +20,3 @@ pub use laws::{bytes_have_commands, commands_are_one, none_begins_another};
 pub use reader::{Reader, ScriptFault};
 pub use records::{extend_record, record_text};
 pub use refusals::refusal_text;
-
-#[cfg(test)]
-mod tests;

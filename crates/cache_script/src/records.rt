@@ -2,23 +2,18 @@
 
 ghost use Rattle.std.specs.Prelude.{◌≡◌, ◌<◌, ◌≤◌, ◌^◌, ◌++◌, IfOk, OnOk, [], ◌∷◌, decimal, string_bytes};
 ghost use Rattle.std.specs.Int.{to_be_bytes, w64};
-ghost use Rattle.cache_base.specs.Bytes.{AreBytes, be32};
+ghost use Rattle.cache_base.specs.Bytes.{be32};
 ghost use Rattle.hex.specs.Hex.{encode_upper};
 ghost use Rattle.cache_script.specs.Numbers.{NumbersFit};
 ghost use Rattle.cache_theory.specs.Text.{record_words, spaced};
 
-use cache_base::{Bytes, NoMemory};
+use cache_base::{Bytes, NoMemory, bytes_fit};
 use index_record::IndexRecord;
 use itoa::Buffer;
 use std::alloc::Global;
 
 // The longest line: 40, 10, 16, 5, 5, 3 and 8 bytes, and six spaces.
 const LINE_LEN: usize = 93;
-
-// It tells that the elements of a slice are bytes.
-fn bytes_fit(b: &[u8])
-    ensures { AreBytes b.now }
-{}
 
 // Adds bytes in upper-case hexadecimal digits, at most 20 of them.
 fn extend_hex<const N: usize>(line: &mut Bytes, bytes: [u8; N]) -> Result<(), NoMemory>

@@ -13,21 +13,7 @@ pub record SaysFront {X : Type 0} (text : X → List ℕ) (xs left : List X) (wa
   pub says : SaysMore was now front
   pub whole : front ++ flat_map text left ≡ flat_map text xs
 
-module _ {X : Type 0} (text : X → List ℕ) (xs left more : List X) (x : X) (was now : Saying) (front : SaysFront text xs left was now) (first : left ≡ x ∷ more) where
-  with_next : (front.front ++ text x) ++ flat_map text more ≡ flat_map text xs
-  with_next = append_assoc front.front (text x) (flat_map text more) ∙ ap (λ ys. front.front ++ flat_map text ys) (sym first) ∙ front.whole
-
-  -- the next one too
-  pub says_next : (later : Saying) → SaysMore now later (text x) → SaysFront text xs more was later
-  says_next later says = record { front = front.front ++ text x; says = says_then was now later front.front (text x) front.says says; whole = with_next }
-
-  -- or it was cut
-  pub cuts_next : (out : Option (List ℕ)) → CutsIn now out (text x) → CutsIn was out (flat_map text xs)
-  cuts_next out cuts =
-      subst (λ (t : List ℕ). CutsIn was out t) with_next
-      (cuts_front was out (front.front ++ text x) (flat_map text more) (cuts_then was now out front.front (text x) front.says cuts))
-
--- and so with some next ones at once
+-- some next ones too, or they were cut
 module _ {X : Type 0} (text : X → List ℕ) (xs left part rest : List X) (was now : Saying) (front : SaysFront text xs left was now) (first : left ≡ part ++ rest) where
   with_part : (front.front ++ flat_map text part) ++ flat_map text rest ≡ flat_map text xs
   with_part =
@@ -56,4 +42,5 @@ pub cuts_before : {X : Type 0} (text words : X → List ℕ) (xs left : List X) 
     → CutsIn was now.taken (flat_map text xs)
 cuts_before text words xs [] was now is_line some front = absurd (omega (arith, some))
 cuts_before text words xs (x ∷ more) was now is_line some front =
-    cuts_next text xs (x ∷ more) more x was now front refl now.taken (subst (λ (t : List ℕ). CutsIn now now.taken t) (sym (is_line x)) (cuts_line now (words x)))
+    cuts_part text xs (x ∷ more) (x ∷ more) [] was now front (sym (append-nil (x ∷ more))) now.taken
+    (cuts_front now now.taken (text x) (flat_map text more) (subst (λ (t : List ℕ). CutsIn now now.taken t) (sym (is_line x)) (cuts_line now (words x))))

@@ -1,7 +1,7 @@
 //! Evicts entries, so that all take at most so many KB.
 
 ghost use Rattle.std.specs.List.{list_any};
-ghost use Rattle.std.specs.Prelude.{◌≡◌, ◌≢◌, [], ◌∷◌, Err, false, IfOk, IsErrOf, IsTrue, OnErr, OnOk, filter, flat_map, length, string_bytes};
+ghost use Rattle.std.specs.Prelude.{◌≡◌, [], false, IfOk, IsErrOf, IsTrue, filter, length};
 ghost use Rattle.cache_base.specs.Causes.{HasCause};
 ghost use Rattle.cache_base.specs.Names.{AreRising};
 ghost use Rattle.cache_store.specs.Evicting.{ArePicked, AreUnused, AreVictims, DoomsAll, HoldsFiles, LooksBeforeChanges, has_file};
@@ -9,28 +9,24 @@ ghost use Rattle.cache_store.specs.Faults.{ending};
 ghost use Rattle.cache_store.specs.IndexCalls.{LooksAtNames};
 ghost use Rattle.cache_store.specs.Printed.{lists_findings};
 ghost use Rattle.cache_store.specs.Said.{saying};
-ghost use Rattle.cache_store.specs.Saying.{CutsIn, SaysMore, TakesMore};
+ghost use Rattle.cache_store.specs.Saying.{TakesMore};
 ghost use Rattle.cache_theory.specs.Command.Command.{Evict};
-ghost use Rattle.cache_theory.specs.Text.{line, names_text};
 ghost use Rattle.disk_model.specs.Account.{Accounts, Looks, LooksAtNoEntry, ending as disk_ending};
 ghost use Rattle.disk_model.specs.Told.{Told};
 ghost use Rattle.file_handles.specs.Cache.{cache};
 ghost use Rattle.file_handles.specs.Kept.{kept};
 ghost use Rattle.file_handles.specs.Removing.{FailsInChange};
-ghost use Rattle.hex.specs.Hex.{encode_upper};
 ghost use Rattle.index_map.specs.Known.{SameBase};
 ghost use Rattle.index_theory.specs.Leaves.{LeavesIndex};
 ghost use Rattle.record_list.specs.Lists.{same_name};
 
 use crate::StoreFault;
 use crate::answered::Answered;
-use crate::pending::Pending;
-use crate::replies::counted;
+use crate::listing::say_listing;
 use crate::store::Store;
 use cache_base::{Name, Names, NoMemory};
 use cache_io::Sink;
 use disk_model::{Disk, DiskFault};
-use entry_name::text_of;
 use evictor::victims;
 use file_handles::Handles;
 use std::alloc::Global;
@@ -95,57 +91,6 @@ fn remove_files<D: Disk>(
     Ok(())
 }
 
-// The line of a name.
-fn name_line(alloc: Global, name: &Name) -> Result<String, NoMemory>
-    ensures { IfOk result (λ text. string_bytes text ≡ line (encode_upper name.now.0 ∷ [])) }
-{
-    let mut text = text_of(alloc, name)?;
-    text.push('\n')?;
-    Ok(text)
-}
-
-// Says a line of each name.
-fn say_lines<K: Sink>(
-    alloc: Global,
-    names: &[Name],
-    reply: &mut Pending,
-    sink: &mut K,
-) -> Result<(), StoreFault>
-    ensures says { let at = saying K.Sink in let text = flat_map (λ n. line (encode_upper n.0 ∷ [])) names.now in
-        OnOk result (SaysMore (at reply.old sink.old) (at reply.new sink.new) text) }
-    ensures cut { let at = saying K.Sink in let text = flat_map (λ n. line (encode_upper n.0 ∷ [])) names.now in
-        OnErr result (CutsIn (at reply.old sink.old) (K.taken sink.new) text) }
-    ensures no_disk { result ≢ Err StoreFault.Disk }
-    ensures sink { let failed = IsErrOf result StoreFault.Sink in
-        HasCause failed (K.faults sink.old) (K.faults sink.new) }
-{
-    for name in names {
-        let line = name_line(alloc, name)?;
-        reply.put(sink, line.as_bytes())?;
-    }
-    Ok(())
-}
-
-// Says the number of the names, and a line of each.
-fn say_names<K: Sink>(
-    alloc: Global,
-    names: &[Name],
-    reply: &mut Pending,
-    sink: &mut K,
-) -> Result<(), StoreFault>
-    ensures says { let at = saying K.Sink in let text = names_text names.now in
-        OnOk result (SaysMore (at reply.old sink.old) (at reply.new sink.new) text) }
-    ensures cut { let at = saying K.Sink in let text = names_text names.now in
-        OnErr result (CutsIn (at reply.old sink.old) (K.taken sink.new) text) }
-    ensures no_disk { result ≢ Err StoreFault.Disk }
-    ensures sink { let failed = IsErrOf result StoreFault.Sink in
-        HasCause failed (K.faults sink.old) (K.faults sink.new) }
-{
-    let head = counted(alloc, b"evicted", names.len() as u64)?;
-    reply.put(sink, head.as_slice())?;
-    say_lines(alloc, names, reply, sink)
-}
-
 impl Store {
     ghost use Rattle.cache_store.specs.Open.{IsOpen};
     ghost use Rattle.cache_store.specs.Performing.{DoesWhatIsDone, HadEffect};
@@ -191,7 +136,7 @@ impl Store {
         let files = standing(alloc, disk, names.as_slice())?;
         remove_files(&mut self.handles, disk, files.as_slice())?;
         self.index.forget(names.as_slice());
-        say_names(alloc, names.as_slice(), &mut self.reply, sink)?;
+        say_listing(alloc, b"evicted", names.as_slice(), &mut self.reply, sink)?;
         Ok(Answered::All)
     }
 }

@@ -1,6 +1,6 @@
 //! Performs the commands that go by the index.
 
-ghost use Rattle.std.specs.Prelude.{◌≡◌, ◌≢◌, [], Err, false, IfOk, IsErrOf, IsTrue, Ok, OnErr, OnOk, flat_map, length, take};
+ghost use Rattle.std.specs.Prelude.{◌≡◌, ◌≢◌, [], Err, false, IfOk, IsErrOf, IsTrue, Ok, OnOk, length, take};
 ghost use Rattle.cache_base.specs.Causes.{HasCause};
 ghost use Rattle.cache_store.specs.Answering.{HasOutcome};
 ghost use Rattle.cache_store.specs.Faults.{ending};
@@ -9,9 +9,8 @@ ghost use Rattle.cache_store.specs.InUse.{SparesIndex};
 ghost use Rattle.cache_store.specs.Kept.{HoldsIndex};
 ghost use Rattle.cache_store.specs.Printed.{lists_findings};
 ghost use Rattle.cache_store.specs.Said.{saying};
-ghost use Rattle.cache_store.specs.Saying.{CutsIn, SaysMore, TakesMore};
+ghost use Rattle.cache_store.specs.Saying.{TakesMore};
 ghost use Rattle.cache_theory.specs.Command.Command.{Flush, ListRecords, Rebuild, StepUpdate};
-ghost use Rattle.cache_theory.specs.Text.{line, record_words, records_text};
 ghost use Rattle.disk_model.specs.Account.{Accounts, Looks, LooksAtNoEntry, ending as disk_ending};
 ghost use Rattle.disk_model.specs.Sound.{IsQuiet};
 ghost use Rattle.disk_model.specs.Told.{Told};
@@ -23,15 +22,12 @@ ghost use Rattle.startup_read.specs.Spares.{SparesEntries};
 
 use crate::StoreFault;
 use crate::answered::Answered;
+use crate::listing::say_listing;
 use crate::memory_index::{MemoryIndex, scan};
-use crate::pending::Pending;
-use crate::replies::counted;
 use crate::store::Store;
-use cache_base::{Bytes, Moment, NoMemory};
+use cache_base::Moment;
 use cache_io::Sink;
-use cache_script::extend_record;
 use disk_model::{Disk, DiskFault};
-use index_record::IndexRecord;
 use startup_read::{refresh_index, write_index};
 use std::alloc::Global;
 
@@ -65,68 +61,6 @@ fn refresh<D: Disk>(
     }
 }
 
-// So many lines go out at once. None is longer than 93 bytes and a newline.
-const LINES: usize = 64;
-
-const LINES_LEN: usize = 94 * LINES;
-
-// The lines of some records.
-fn lines_of(alloc: Global, records: &[IndexRecord]) -> Result<Bytes, NoMemory>
-    ensures { IfOk result (λ text. text ≡ flat_map (λ r. line (record_words r)) records.now) }
-{
-    let mut lines = Bytes::with_room(alloc, LINES_LEN)?;
-    for r in records {
-        extend_record(&mut lines, r)?;
-        lines.push(b'\n')?;
-    }
-    Ok(lines)
-}
-
-// Says a line of each record.
-fn say_lines<K: Sink>(
-    alloc: Global,
-    records: &[IndexRecord],
-    reply: &mut Pending,
-    sink: &mut K,
-) -> Result<(), StoreFault>
-    ensures says { let at = saying K.Sink in let text = flat_map (λ r. line (record_words r)) records.now in
-        OnOk result (SaysMore (at reply.old sink.old) (at reply.new sink.new) text) }
-    ensures cut { let at = saying K.Sink in let text = flat_map (λ r. line (record_words r)) records.now in
-        OnErr result (CutsIn (at reply.old sink.old) (K.taken sink.new) text) }
-    ensures no_disk { result ≢ Err StoreFault.Disk }
-    ensures sink { let failed = IsErrOf result StoreFault.Sink in
-        HasCause failed (K.faults sink.old) (K.faults sink.new) }
-{
-    let mut left = records;
-    while !left.is_empty() {
-        let (part, rest) = left.split_at(left.len().min(LINES));
-        let lines = lines_of(alloc, part)?;
-        reply.put(sink, lines.as_slice())?;
-        left = rest;
-    }
-    Ok(())
-}
-
-// Says the number of the records, and a line of each.
-fn say_records<K: Sink>(
-    alloc: Global,
-    records: &[IndexRecord],
-    reply: &mut Pending,
-    sink: &mut K,
-) -> Result<(), StoreFault>
-    ensures says { let at = saying K.Sink in let text = records_text records.now in
-        OnOk result (SaysMore (at reply.old sink.old) (at reply.new sink.new) text) }
-    ensures cut { let at = saying K.Sink in let text = records_text records.now in
-        OnErr result (CutsIn (at reply.old sink.old) (K.taken sink.new) text) }
-    ensures no_disk { result ≢ Err StoreFault.Disk }
-    ensures sink { let failed = IsErrOf result StoreFault.Sink in
-        HasCause failed (K.faults sink.old) (K.faults sink.new) }
-{
-    let head = counted(alloc, b"records", records.len() as u64)?;
-    reply.put(sink, head.as_slice())?;
-    say_lines(alloc, records, reply, sink)
-}
-
 impl Store {
     ghost use Rattle.cache_store.specs.Open.{IsOpen};
     ghost use Rattle.cache_store.specs.Performing.{AchievesFor, DoesFor};
@@ -155,7 +89,7 @@ impl Store {
     {
         self.index.finish(disk)?;
         let records = self.index.map.records()?;
-        say_records(alloc, records.as_slice(), &mut self.reply, sink)?;
+        say_listing(alloc, b"records", records.as_slice(), &mut self.reply, sink)?;
         Ok(Answered::All)
     }
 

@@ -11,6 +11,7 @@ mod index_commands;
 mod kilobytes;
 mod laws;
 mod learning;
+mod listing;
 mod memory_index;
 mod opening;
 mod pending;
@@ -22,6 +23,3 @@ mod verify;
 pub use fault::{Outcome, StoreFault};
 pub use laws::{few_leave_index, records_at_end_are_one};
 pub use store::Store;
-
-#[cfg(test)]
-mod tests;

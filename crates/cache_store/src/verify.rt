@@ -1,6 +1,6 @@
 //! Checks all entries, and holds them against their records.
 
-ghost use Rattle.std.specs.Prelude.{◌≡◌, ◌≢◌, [], Err, IfOk, IsErrOf, IsTrue, Ok, OnErr, OnOk, flat_map, string_bytes, true};
+ghost use Rattle.std.specs.Prelude.{◌≡◌, ◌≢◌, [], Err, IfOk, IsErrOf, IsTrue, Ok, OnErr, OnOk, true};
 ghost use Rattle.cache_base.specs.Causes.{HasCause};
 ghost use Rattle.cache_store.specs.Answering.{outcome_of};
 ghost use Rattle.cache_store.specs.Faults.{ending};
@@ -8,52 +8,19 @@ ghost use Rattle.cache_store.specs.Printed.{lists_findings};
 ghost use Rattle.cache_store.specs.Said.{saying};
 ghost use Rattle.cache_store.specs.Saying.{CutsIn, SaysMore};
 ghost use Rattle.cache_theory.specs.Command.Reply.{Findings};
-ghost use Rattle.cache_theory.specs.Text.{finding_words, findings_text, line};
+ghost use Rattle.cache_theory.specs.Text.{findings_text};
 ghost use Rattle.disk_model.specs.Account.{Looks};
 ghost use Rattle.index_map.specs.Known.{SameBase};
 
 use crate::answered::Answered;
+use crate::listing::say_listing;
 use crate::pending::Pending;
-use crate::replies::counted;
 use crate::store::Store;
 use crate::{Outcome, StoreFault};
-use cache_base::NoMemory;
 use cache_check::{Finding, findings};
 use cache_io::Sink;
-use cache_script::finding_text;
 use disk_model::Disk;
 use std::alloc::Global;
-
-// The line of a finding.
-fn finding_line(alloc: Global, f: &Finding) -> Result<String, NoMemory>
-    ensures { IfOk result (λ text. string_bytes text ≡ line (finding_words f.now)) }
-{
-    let mut text = finding_text(alloc, f)?;
-    text.push('\n')?;
-    Ok(text)
-}
-
-// Says a line of each finding.
-fn say_lines<K: Sink>(
-    alloc: Global,
-    found: &[Finding],
-    reply: &mut Pending,
-    sink: &mut K,
-) -> Result<(), StoreFault>
-    ensures says { let at = saying K.Sink in let text = flat_map (λ f. line (finding_words f)) found.now in
-        OnOk result (SaysMore (at reply.old sink.old) (at reply.new sink.new) text) }
-    ensures cut { let at = saying K.Sink in let text = flat_map (λ f. line (finding_words f)) found.now in
-        OnErr result (CutsIn (at reply.old sink.old) (K.taken sink.new) text) }
-    ensures no_disk { result ≢ Err StoreFault.Disk }
-    ensures sink { let failed = IsErrOf result StoreFault.Sink in
-        HasCause failed (K.faults sink.old) (K.faults sink.new) }
-{
-    for f in found {
-        let line = finding_line(alloc, f)?;
-        reply.put(sink, line.as_bytes())?;
-    }
-    Ok(())
-}
 
 /// Says what was found, and tells whether that is anything.
 pub(crate) fn say_found<K: Sink>(
@@ -71,9 +38,7 @@ pub(crate) fn say_found<K: Sink>(
     ensures sink { let failed = IsErrOf result StoreFault.Sink in
         HasCause failed (K.faults sink.old) (K.faults sink.new) }
 {
-    let head = counted(alloc, b"findings", found.len() as u64)?;
-    reply.put(sink, head.as_slice())?;
-    say_lines(alloc, found, reply, sink)?;
+    say_listing(alloc, b"findings", found, reply, sink)?;
     match found {
         [] => Ok(Outcome::Ok),
         [_, ..] => Ok(Outcome::Refused),

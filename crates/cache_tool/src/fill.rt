@@ -2,7 +2,6 @@
 
 ghost use Rattle.std.specs.List.{range_with_len};
 ghost use Rattle.std.specs.Prelude.{◌≡◌, ◌≢◌, ◌≤◌, ◌<◌, ◌+◌, ◌++◌, ◌*◌, ◌%◌, ◌^◌, ◌⊎◌, [], ◌∷◌, codes, decimal, drop, length, take, map, Err, IfOk, IsTrue, Ok, OnOk, ℕ};
-ghost use Rattle.cache_base.specs.Bytes.{AreBytes};
 ghost use Rattle.cache_base.specs.Causes.{HasCause, Rose};
 ghost use Rattle.cache_store.specs.Faults.{ending};
 ghost use Rattle.cache_store.specs.Open.{IsOpen, LeavesOpen};
@@ -24,7 +23,7 @@ ghost use Rattle.index_theory.specs.Honest.{LeavesHonest};
 use crate::last_reply::LastReply;
 use crate::put::send;
 use crate::session::{end, print_answer, status_of, status_of_fault};
-use cache_base::{Bytes, Moment, NoMemory, Status};
+use cache_base::{Bytes, Moment, NoMemory, Status, bytes_fit};
 use cache_io::Sink;
 use cache_script::Command;
 use cache_store::{Store, StoreFault};
@@ -107,11 +106,6 @@ fn first_line(text: &[u8]) -> &[u8]
     }
     text
 }
-
-// The bytes are numbers below 256.
-fn bytes_fit(b: &[u8])
-    ensures { AreBytes b.now }
-{}
 
 // Makes the entry with this number.
 fn make_entry<D: Disk>(

@@ -4,7 +4,7 @@
 ghost use Rattle.std.specs.Prelude.{◌≢◌};
 ghost use Rattle.cache_tool.specs.Words.{WordsAreOfTable};
 
-use crate::run::run;
+use crate::program::run;
 use cache_base::Status;
 use cache_io::{Sink, Source};
 use disk_model::LiarDisk;

@@ -7,6 +7,3 @@ mod laws;
 
 pub use cache::ChunkCache;
 pub use laws::{forget_drops_all, found_exactly, keep_adds_one, look_only_moves, stays_cache};
-
-#[cfg(test)]
-mod tests;

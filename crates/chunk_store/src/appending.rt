@@ -1,8 +1,8 @@
 //! Chunks written one after another.
 
-ghost use Rattle.std.specs.Prelude.{◌≡◌, ◌*◌, ◌≤◌, ◌++◌, ◌<◌, ◌+◌, length, IsTrue, IsErrOf};
-ghost use Rattle.cache_base.specs.Causes.{HasCause};
+ghost use Rattle.std.specs.Prelude.{◌≡◌, ◌*◌, ◌≤◌, ◌++◌, ◌<◌, ◌+◌, length, IsTrue};
 ghost use Rattle.cache_base.specs.Limits.{chunk_size};
+ghost use Rattle.disk_model.specs.Account.{Accounts, ending};
 ghost use Rattle.disk_model.specs.State.{standing, wrote};
 ghost use Rattle.disk_model.specs.Calls.{counted_change, if_done, MayWriteAt};
 ghost use Rattle.chunk_store.specs.Stored.{stop_tail, chunk_write};
@@ -35,7 +35,7 @@ pub fn append_chunk<D: Disk>(
     ensures buf { buf.new ≡ buf.old }
     ensures state { IsTrue D.tells → D.state disk.new ≡ if_done result (wrote place.now (chunk_write index buf.old) (D.state disk.old)) (D.state disk.old) }
     ensures counts { IsTrue D.tells → D.counts disk.new ≡ counted_change result (D.counts disk.old) }
-    ensures cause { HasCause (IsErrOf result DiskFault.Failed) (D.faults disk.old) (D.faults disk.new) }
+    ensures account { Accounts D.Disk (ending result) disk.old disk.new }
 {
     push_tail(buf);
     let from = u64::from(index) * CHUNK as u64;

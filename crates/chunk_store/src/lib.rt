@@ -10,6 +10,3 @@ pub use appending::append_chunk;
 pub use checking::{ChunkAnswer, check_chunk};
 pub use damage::Damage;
 pub use reading::{read_chunk, read_chunk_into};
-
-#[cfg(test)]
-mod tests;

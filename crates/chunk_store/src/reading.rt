@@ -1,8 +1,8 @@
 //! Chunks read from the file of an entry.
 
-ghost use Rattle.std.specs.Prelude.{◌≡◌, ◌+◌, ◌-◌, ◌*◌, ◌<◌, ◌≤◌, ◌++◌, length, take, replicate, IfSome, OnOk, IsTrue, IsErrOf};
-ghost use Rattle.cache_base.specs.Causes.{HasCause};
+ghost use Rattle.std.specs.Prelude.{◌≡◌, ◌+◌, ◌-◌, ◌*◌, ◌<◌, ◌≤◌, ◌++◌, length, take, replicate, IfSome, OnOk, IsTrue};
 ghost use Rattle.cache_base.specs.Limits.{chunks};
+ghost use Rattle.disk_model.specs.Account.{Looks, ending};
 ghost use Rattle.disk_model.specs.State.{standing};
 ghost use Rattle.disk_model.specs.Calls.{counted_read};
 ghost use Rattle.chunk_store.specs.Chunks.{chunk};
@@ -24,10 +24,8 @@ pub fn read_chunk<D: Disk>(
     ensures len { OnOk result (length buf.new ≡ chunk_len offset index) }
     ensures bytes { OnOk result (IsTrue D.tells → buf.new ≡ read_as offset index (standing (D.state disk.old) place.now)) }
     ensures chunk { OnOk result (IsTrue D.tells → IfSome (standing (D.state disk.old) place.now) (λ content. offset ≤ length content → buf.new ≡ chunk (take offset content) index)) }
-    ensures state { IsTrue D.tells → D.state disk.new ≡ D.state disk.old }
     ensures counts { IsTrue D.tells → D.counts disk.new ≡ counted_read place.now (D.counts disk.old) }
-    ensures no_change { IsTrue D.tells → (D.counts disk.new).failed ≡ (D.counts disk.old).failed }
-    ensures cause { HasCause (IsErrOf result DiskFault.Failed) (D.faults disk.old) (D.faults disk.new) }
+    ensures looks { Looks D.Disk (ending result) disk.old disk.new }
 {
     let len = CHUNK.min(offset as usize - index as usize * CHUNK);
     buf.set_len(len);
@@ -56,9 +54,8 @@ pub fn read_chunk_into<D: Disk>(
     requires len { length buf.old ≡ chunk_len offset index }
     ensures bytes { OnOk result (IsTrue D.tells → buf.new ≡ read_as offset index (standing (D.state disk.old) place.now)) }
     ensures chunk { OnOk result (IsTrue D.tells → IfSome (standing (D.state disk.old) place.now) (λ content. offset ≤ length content → buf.new ≡ chunk (take offset content) index)) }
-    ensures state { IsTrue D.tells → D.state disk.new ≡ D.state disk.old }
     ensures counts { IsTrue D.tells → D.counts disk.new ≡ counted_read place.now (D.counts disk.old) }
-    ensures cause { HasCause (IsErrOf result DiskFault.Failed) (D.faults disk.old) (D.faults disk.new) }
+    ensures looks { Looks D.Disk (ending result) disk.old disk.new }
 {
     let n = disk.read(place, index as u64 * CHUNK as u64, buf)?;
     zero_from(buf, n);

@@ -19,6 +19,3 @@ pub use liar_disk::LiarDisk;
 pub use mem_disk::MemDisk;
 pub use mem_image::ImageFault;
 pub use place::{NameStep, Place};
-
-#[cfg(test)]
-mod tests;

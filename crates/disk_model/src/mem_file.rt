@@ -7,6 +7,7 @@ ghost use Rattle.disk_model.specs.State.{content};
 ghost use Rattle.disk_model.specs.Image.{shortest as shortest_of, longest as longest_of};
 ghost use Rattle.disk_model.specs.MemWrite.{history, newest_first, write_of, synced_in, least_end, Patches, IsPatched};
 
+use cache_base::bytes_fit;
 use std::alloc::{AllocError, Global};
 
 /// A write at an offset.
@@ -48,11 +49,6 @@ impl MemWrite {
         }
     }
 }
-
-// What stands in a slice of this type fits a byte.
-fn bytes_fit(b: &[u8])
-    ensures { AreBytes b.now }
-{}
 
 // Puts the bytes in the place of those at the offset.
 fn overwrite(buf: &mut [u8], from: usize, bytes: &[u8])

@@ -8,6 +8,3 @@ mod dooming;
 
 pub use clearing::clear;
 pub use dooming::{doom, release};
-
-#[cfg(test)]
-mod tests;

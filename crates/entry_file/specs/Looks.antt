@@ -3,7 +3,7 @@ use Rattle.std.specs.Prelude.{ℕ, ◌≡◌, ◌≤◌, ◌+◌}
 use Rattle.disk_model.specs.Calls.{Counts}
 
 -- at most n calls were made, and no change failed
-pub record Looks (n : ℕ) (before now : Counts) : Type 0 where
+pub record LooksAtMost (n : ℕ) (before now : Counts) : Type 0 where
   pub calls : now.calls ≤ before.calls + n
   pub entry_reads : now.entry_reads ≤ before.entry_reads + n
   pub no_change : now.failed ≡ before.failed

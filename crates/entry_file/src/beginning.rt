@@ -1,9 +1,9 @@
 //! A new entry.
 
-ghost use Rattle.std.specs.Prelude.{◌≡◌, [], IfOk, OnOk, IsTrue, IsErrOf};
-ghost use Rattle.cache_base.specs.Causes.{HasCause};
+ghost use Rattle.std.specs.Prelude.{◌≡◌, [], IfOk, OnOk, IsTrue};
+ghost use Rattle.disk_model.specs.Account.{Accounts, ending};
 ghost use Rattle.disk_model.specs.State.{created};
-ghost use Rattle.disk_model.specs.Calls.{StopsAtFault, counted, if_done};
+ghost use Rattle.disk_model.specs.Calls.{counted, if_done};
 ghost use Rattle.entry_file.specs.NewEntry.{HasBody};
 ghost use Rattle.entry_file.specs.Held.{held};
 
@@ -19,8 +19,7 @@ pub fn begin<D: Disk>(alloc: Global, disk: &mut D, place: &Place) -> Result<NewE
     ensures body { IfOk result (λ entry. HasBody (held entry) []) }
     ensures state { IsTrue D.tells → D.state disk.new ≡ if_done result (created place.now (D.state disk.old)) (D.state disk.old) }
     ensures calls { OnOk result (IsTrue D.tells → D.counts disk.new ≡ counted (D.counts disk.old)) }
-    ensures stops { IsTrue D.tells → StopsAtFault (D.counts disk.old) (D.counts disk.new) }
-    ensures cause { HasCause (IsErrOf result DiskFault.Failed) (D.faults disk.old) (D.faults disk.new) }
+    ensures account { Accounts D.Disk (ending result) disk.old disk.new }
 {
     let rest = Buffer::new(alloc)?;
     let hashes = ChunkHashes::new(alloc)?;

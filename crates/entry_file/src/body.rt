@@ -1,9 +1,9 @@
 //! The body of an entry's file against its hashes.
 
-ghost use Rattle.std.specs.Prelude.{◌≡◌, ◌<◌, ◌≤◌, ◌+◌, take, IfOk, IfSome, IsTrue, IsErrOf, None, OnOk};
-ghost use Rattle.cache_base.specs.Causes.{HasCause};
+ghost use Rattle.std.specs.Prelude.{◌≡◌, ◌<◌, ◌≤◌, ◌+◌, take, IfOk, IfSome, IsTrue, None, OnOk};
 ghost use Rattle.cache_base.specs.Limits.{chunks as chunks_of};
 ghost use Rattle.chunk_store.specs.Chunks.{damage_at};
+ghost use Rattle.disk_model.specs.Account.{Looks, ending};
 ghost use Rattle.disk_model.specs.State.{standing};
 ghost use Rattle.entry_file.specs.Damages.{first_damage, HasMeta};
 ghost use Rattle.entry_file.specs.Held.{IsLastOf};
@@ -27,10 +27,8 @@ fn check_one<D: Disk>(
     requires told { IsTrue D.tells → HasMeta (standing (D.state disk.old) place.now) (meta_of meta.now) }
     ensures damage { IfOk result (λ damage. IsTrue D.tells → IfSome (standing (D.state disk.old) place.now) (λ content. damage ≡ damage_at meta.now.hashes (take meta.now.offset content) index)) }
     ensures held { OnOk result (IsTrue D.tells → IsLastOf (index + 1) (standing (D.state disk.old) place.now) meta.now.offset buf.new) }
-    ensures state { IsTrue D.tells → D.state disk.new ≡ D.state disk.old }
     ensures calls { IsTrue D.tells → (D.counts disk.new).calls ≤ (D.counts disk.old).calls + 1 }
-    ensures no_change { IsTrue D.tells → (D.counts disk.new).failed ≡ (D.counts disk.old).failed }
-    ensures cause { HasCause (IsErrOf result DiskFault.Failed) (D.faults disk.old) (D.faults disk.new) }
+    ensures looks { Looks D.Disk (ending result) disk.old disk.new }
 {
     read_chunk(disk, place, meta.offset, index, buf)?;
     match check_chunk(meta.hashes.as_slice()[index as usize], buf.as_slice()) {
@@ -56,10 +54,8 @@ pub fn check_body<D: Disk>(
     ensures damage { IfOk result (λ damage. IsTrue D.tells → IfSome (standing (D.state disk.old) place.now) (λ content. damage ≡ first_damage (meta_of meta.now) content)) }
     ensures stores { IfOk result (λ damage. IsTrue D.tells → damage ≡ None → StoresBody (standing (D.state disk.old) place.now) (meta_of meta.now)) }
     ensures held { IfOk result (λ damage. IsTrue D.tells → damage ≡ None → IsLastOf (chunks_of meta.now.offset) (standing (D.state disk.old) place.now) meta.now.offset buf.new) }
-    ensures state { IsTrue D.tells → D.state disk.new ≡ D.state disk.old }
     ensures calls { IsTrue D.tells → (D.counts disk.new).calls ≤ (D.counts disk.old).calls + chunks_of meta.now.offset }
-    ensures no_change { IsTrue D.tells → (D.counts disk.new).failed ≡ (D.counts disk.old).failed }
-    ensures cause { HasCause (IsErrOf result DiskFault.Failed) (D.faults disk.old) (D.faults disk.new) }
+    ensures looks { Looks D.Disk (ending result) disk.old disk.new }
 {
     for index in 0..chunks(u64::from(meta.offset)) as u32 {
         match check_one(disk, place, meta, index, buf)? {

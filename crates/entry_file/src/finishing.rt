@@ -1,14 +1,14 @@
 //! Finishes a new entry.
 
-ghost use Rattle.std.specs.Prelude.{◌≡◌, ◌≤◌, ◌==◌, ◌++◌, ◌*◌, ◌+◌, ◌∷◌, [], if◌then◌else◌, true, ℕ, List, length, IfOk, OnOk, IsTrue, IsErrOf, Some};
+ghost use Rattle.std.specs.Prelude.{◌≡◌, ◌≤◌, ◌==◌, ◌++◌, ◌*◌, ◌+◌, ◌∷◌, [], if◌then◌else◌, true, ℕ, List, length, IfOk, OnOk, IsTrue, Some};
 ghost use Rattle.cache_base.specs.Bytes.{AreBytes, be32};
-ghost use Rattle.cache_base.specs.Causes.{HasCause};
 ghost use Rattle.cache_base.specs.Limits.{chunks};
 ghost use Rattle.cache_base.specs.declared.limits.TheConstants.{BLOCK_MAX, BODY_MAX, CHUNK};
 ghost use Rattle.chunk_store.specs.Stored.{unfinished_file};
+ghost use Rattle.disk_model.specs.Account.{Accounts, ending};
 ghost use Rattle.disk_model.specs.State.{standing, wrote};
 ghost use Rattle.disk_model.specs.Writes.{WritesAt};
-ghost use Rattle.disk_model.specs.Calls.{StopsAtFault, counted, if_done};
+ghost use Rattle.disk_model.specs.Calls.{counted, if_done};
 ghost use Rattle.entry_key.specs.Walk.{read_key, reads};
 ghost use Rattle.entry_metadata.specs.Meta.{meta_of};
 ghost use Rattle.entry_metadata.specs.Metadata.{block_bytes, block_length};
@@ -20,9 +20,8 @@ ghost use Rattle.entry_file.specs.Held.{held};
 ghost use Rattle.entry_file.specs.Version.{IsVersion, file_of, version_meta};
 
 use crate::NewEntry;
-use crate::bytes::bytes_fit;
 use crate::chunk_hashes::ChunkHashes;
-use cache_base::{Bytes, CHUNK, Hashes, NoMemory};
+use cache_base::{Bytes, CHUNK, Hashes, NoMemory, bytes_fit};
 use disk_model::{Disk, DiskFault, Place};
 use entry_metadata::Meta;
 use entry_parts::{Elements, Header};
@@ -102,8 +101,7 @@ impl NewEntry {
         ensures stands { OnOk result (IsTrue D.tells → (body : List ℕ) → HasBody (held self) body → standing (D.state disk.old) place.now ≡ Some (unfinished_file body)
             → standing (D.state disk.new) place.now ≡ Some (file_of (finished header key elements body))) }
         ensures calls { OnOk result (IsTrue D.tells → D.counts disk.new ≡ counted (D.counts disk.old)) }
-        ensures stops { IsTrue D.tells → StopsAtFault (D.counts disk.old) (D.counts disk.new) }
-        ensures cause { HasCause (IsErrOf result DiskFault.Failed) (D.faults disk.old) (D.faults disk.new) }
+        ensures account { Accounts D.Disk (ending result) disk.old disk.new }
     {
         self.makes_version(header, &key, &elements);
         let whole = self.hashes.as_slice().len() as u64 * CHUNK as u64;

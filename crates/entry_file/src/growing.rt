@@ -1,13 +1,13 @@
 //! Appends to the body of a new entry.
 
-ghost use Rattle.std.specs.Prelude.{◌≡◌, ◌≤◌, ◌<◌, ◌+◌, ◌*◌, ◌/◌, ◌++◌, ℕ, List, [], ◌∷◌, length, take, OnOk, IsTrue, IsErrOf, Some, Ok};
-ghost use Rattle.cache_base.specs.Causes.{HasCause};
+ghost use Rattle.std.specs.Prelude.{◌≡◌, ◌≤◌, ◌<◌, ◌+◌, ◌*◌, ◌/◌, ◌++◌, ℕ, List, [], ◌∷◌, length, take, OnOk, IsTrue, Some, Ok};
 ghost use Rattle.cache_base.specs.Limits.{chunk_size};
 ghost use Rattle.cache_base.specs.declared.limits.TheConstants.{BODY_MAX, BUFFER_MAX, CHUNK};
 ghost use Rattle.chunk_store.specs.Stored.{chunk_write, unfinished_file};
+ghost use Rattle.disk_model.specs.Account.{Accounts, ending};
 ghost use Rattle.disk_model.specs.State.{standing, wrote};
 ghost use Rattle.disk_model.specs.Writes.{WritesAt};
-ghost use Rattle.disk_model.specs.Calls.{MayWriteAt, StopsAtFault, if_done};
+ghost use Rattle.disk_model.specs.Calls.{MayWriteAt, if_done};
 ghost use Rattle.entry_file.specs.NewEntry.{HasBody, IsItsFile, grown_len};
 ghost use Rattle.entry_file.specs.Held.{held};
 ghost use Rattle.entry_file.specs.Unfinished.{IsUnfinished};
@@ -33,9 +33,7 @@ fn put_full<D: Disk>(
     ensures hashes { hashes.new ≡ hashes.old ++ hash16_of chunk.old ∷ [] }
     ensures state { IsTrue D.tells → D.state disk.new ≡ if_done result (wrote place.now (chunk_write (length hashes.old) chunk.old) (D.state disk.old)) (D.state disk.old) }
     ensures calls { IsTrue D.tells → (D.counts disk.new).calls ≤ (D.counts disk.old).calls + 1 }
-    ensures went_on { OnOk result (IsTrue D.tells → (D.counts disk.new).failed ≡ (D.counts disk.old).failed) }
-    ensures stops { IsTrue D.tells → StopsAtFault (D.counts disk.old) (D.counts disk.new) }
-    ensures cause { HasCause (IsErrOf result DiskFault.Failed) (D.faults disk.old) (D.faults disk.new) }
+    ensures account { Accounts D.Disk (ending result) disk.old disk.new }
 {
     let index = hashes.as_slice().len() as u32;
     hashes.push(hash16(chunk.as_slice()));
@@ -55,9 +53,7 @@ impl NewEntry {
             → standing (D.state disk.new) place.now ≡ Some (unfinished_file (body ++ b.now))) }
         ensures writes { IsTrue D.tells → WritesAt place.now IsUnfinished (D.state disk.old) (D.state disk.new) }
         ensures calls { IsTrue D.tells → (D.counts disk.new).calls ≤ (D.counts disk.old).calls + 1 }
-        ensures went_on { OnOk result (IsTrue D.tells → (D.counts disk.new).failed ≡ (D.counts disk.old).failed) }
-        ensures stops { IsTrue D.tells → StopsAtFault (D.counts disk.old) (D.counts disk.new) }
-        ensures cause { HasCause (IsErrOf result DiskFault.Failed) (D.faults disk.old) (D.faults disk.new) }
+        ensures account { Accounts D.Disk (ending result) disk.old disk.new }
     {
         self.rest.extend(b);
         let result = put_full(disk, place, &mut self.rest, &mut self.hashes);
@@ -85,9 +81,7 @@ impl NewEntry {
         // In any case this file alone was written to, and none of its new moments fits.
         ensures writes { IsTrue D.tells → WritesAt place.now IsUnfinished (D.state disk.old) (D.state disk.new) }
         ensures calls { IsTrue D.tells → (D.counts disk.new).calls ≤ (D.counts disk.old).calls + (length (held self.old).rest + length b.now) / chunk_size }
-        ensures went_on { OnOk result (IsTrue D.tells → (D.counts disk.new).failed ≡ (D.counts disk.old).failed) }
-        ensures stops { IsTrue D.tells → StopsAtFault (D.counts disk.old) (D.counts disk.new) }
-        ensures cause { HasCause (IsErrOf result DiskFault.Failed) (D.faults disk.old) (D.faults disk.new) }
+        ensures account { Accounts D.Disk (ending result) disk.old disk.new }
     {
         let mut left = b;
         while left.len() >= CHUNK - self.rest.as_slice().len() {

@@ -6,7 +6,6 @@
 
 mod beginning;
 mod body;
-mod bytes;
 mod chunk_hashes;
 mod entry_read;
 mod finishing;
@@ -27,6 +26,3 @@ pub use laws::{
 pub use new_entry::NewEntry;
 pub use reading::read_meta;
 pub use rewriting::rewrite_meta;
-
-#[cfg(test)]
-mod tests;

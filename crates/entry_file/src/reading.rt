@@ -4,18 +4,18 @@ ghost use Rattle.std.specs.Prelude.{◌≡◌, ◌≤◌, ◌<◌, ◌+◌, ◌-
 ghost use Rattle.std.specs.Option.{option_map};
 ghost use Rattle.cache_base.specs.Bytes.{AreBytes};
 ghost use Rattle.cache_base.specs.Causes.{HasCause};
+ghost use Rattle.disk_model.specs.Account.{Looks, ending};
 ghost use Rattle.disk_model.specs.State.{standing};
 ghost use Rattle.entry_file.specs.EntryFile.{offset_in, unfit_of};
 ghost use Rattle.entry_file.specs.Damages.{HasMeta};
 ghost use Rattle.entry_file.specs.EntryRead.{IfFits, Joins, ReadsAs};
 ghost use Rattle.entry_file.specs.BlockRead.{BlockReadsAs};
 ghost use Rattle.disk_model.specs.Calls.{Holds};
-ghost use Rattle.entry_file.specs.Looks.{Looks};
+ghost use Rattle.entry_file.specs.Looks.{LooksAtMost};
 ghost use Rattle.entry_metadata.specs.Metadata.{Spells};
 
-use crate::bytes::bytes_fit;
 use crate::{EntryRead, Unfit};
-use cache_base::{BLOCK_MAX, Name};
+use cache_base::{BLOCK_MAX, Name, bytes_fit};
 use disk_model::{Disk, DiskFault, Place};
 use entry_metadata::MetaFault;
 use entry_name::name_of;
@@ -71,7 +71,7 @@ fn last_offset<D: Disk>(disk: &mut D, place: &Place, end: u64) -> Result<u32, Di
     ensures offset { IfOk result (λ offset. IsTrue D.tells → IfSome (standing (D.state disk.old) place.now) (λ content. offset ≡ offset_in content)) }
     ensures bytes { OnOk result (IsTrue D.tells → IfSome (standing (D.state disk.old) place.now) (λ content. AreBytes (drop (length content - 4) content))) }
     ensures state { IsTrue D.tells → D.state disk.new ≡ D.state disk.old }
-    ensures looks { IsTrue D.tells → Looks 1 (D.counts disk.old) (D.counts disk.new) }
+    ensures looks { IsTrue D.tells → LooksAtMost 1 (D.counts disk.old) (D.counts disk.new) }
     ensures cause { HasCause (IsErrOf result DiskFault.Failed) (D.faults disk.old) (D.faults disk.new) }
 {
     let mut bytes = [0; 4];
@@ -91,7 +91,7 @@ fn part_at<D: Disk>(
     requires { IsTrue D.tells → Holds (standing (D.state disk.old) place.now) from len }
     ensures bytes { IfOk result (λ part. IsTrue D.tells → IfSome (standing (D.state disk.old) place.now) (λ content. part.items ≡ slice_range content from (from + len))) }
     ensures state { IsTrue D.tells → D.state disk.new ≡ D.state disk.old }
-    ensures looks { IsTrue D.tells → Looks 1 (D.counts disk.old) (D.counts disk.new) }
+    ensures looks { IsTrue D.tells → LooksAtMost 1 (D.counts disk.old) (D.counts disk.new) }
     ensures cause { HasCause (IsErrOf result DiskFault.Failed) (D.faults disk.old) (D.faults disk.new) }
 {
     let mut part = vec![in alloc; 0u8; len]?;
@@ -112,7 +112,7 @@ fn read_sized<D: Disk>(
     ensures has_meta { IfOk result (λ read. IsTrue D.tells → IfFits read (HasMeta (standing (D.state disk.old) place.now))) }
     ensures join { IfOk result (λ read. IsTrue D.tells → IfFits read (Joins name.now.0 (standing (D.state disk.old) place.now))) }
     ensures state { IsTrue D.tells → D.state disk.new ≡ D.state disk.old }
-    ensures looks { IsTrue D.tells → Looks 2 (D.counts disk.old) (D.counts disk.new) }
+    ensures looks { IsTrue D.tells → LooksAtMost 2 (D.counts disk.old) (D.counts disk.new) }
     ensures cause { HasCause (IsErrOf result DiskFault.Failed) (D.faults disk.old) (D.faults disk.new) }
 {
     if size < 4 {
@@ -144,11 +144,9 @@ pub fn read_meta<D: Disk>(
     ensures reads { IfOk result (λ read. IsTrue D.tells → ReadsAs name.now.0 (standing (D.state disk.old) place.now) read) }
     ensures has_meta { IfOk result (λ read. IsTrue D.tells → IfFits read (HasMeta (standing (D.state disk.old) place.now))) }
     ensures join { IfOk result (λ read. IsTrue D.tells → IfFits read (Joins name.now.0 (standing (D.state disk.old) place.now))) }
-    ensures state { IsTrue D.tells → D.state disk.new ≡ D.state disk.old }
     ensures calls { IsTrue D.tells → (D.counts disk.new).calls ≤ (D.counts disk.old).calls + 4 }
     ensures entry_reads { IsTrue D.tells → (D.counts disk.new).entry_reads ≤ (D.counts disk.old).entry_reads + 4 }
-    ensures no_change { IsTrue D.tells → (D.counts disk.new).failed ≡ (D.counts disk.old).failed }
-    ensures cause { HasCause (IsErrOf result DiskFault.Failed) (D.faults disk.old) (D.faults disk.new) }
+    ensures looks { Looks D.Disk (ending result) disk.old disk.new }
 {
     match disk.size(place)? {
         None => Ok(EntryRead::Absent),

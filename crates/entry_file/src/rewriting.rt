@@ -1,11 +1,11 @@
 //! The metadata of an entry's file, written anew.
 
-ghost use Rattle.std.specs.Prelude.{◌≡◌, ℕ, List, take, OnOk, IsTrue, IsErrOf, Some};
+ghost use Rattle.std.specs.Prelude.{◌≡◌, ℕ, List, take, OnOk, IsTrue, Some};
 ghost use Rattle.cache_base.specs.Bytes.{AreBytes};
-ghost use Rattle.cache_base.specs.Causes.{HasCause};
+ghost use Rattle.disk_model.specs.Account.{Accounts, ending};
 ghost use Rattle.disk_model.specs.State.{standing, wrote};
 ghost use Rattle.disk_model.specs.Writes.{WritesAt};
-ghost use Rattle.disk_model.specs.Calls.{StopsAtFault, counted, if_done};
+ghost use Rattle.disk_model.specs.Calls.{counted, if_done};
 ghost use Rattle.entry_metadata.specs.Meta.{meta_of};
 ghost use Rattle.entry_file.specs.Rewriting.{StoresBody, block_write, rewritten};
 ghost use Rattle.entry_file.specs.Version.{IsVersion, file_of, version_meta};
@@ -33,8 +33,7 @@ pub fn rewrite_meta<D: Disk>(
     ensures stands { OnOk result (IsTrue D.tells → (content : List ℕ) → standing (D.state disk.old) place.now ≡ Some content
         → standing (D.state disk.new) place.now ≡ Some (file_of (rewritten (meta_of meta.now) content))) }
     ensures calls { OnOk result (IsTrue D.tells → D.counts disk.new ≡ counted (D.counts disk.old)) }
-    ensures stops { IsTrue D.tells → StopsAtFault (D.counts disk.old) (D.counts disk.new) }
-    ensures cause { HasCause (IsErrOf result DiskFault.Failed) (D.faults disk.old) (D.faults disk.new) }
+    ensures account { Accounts D.Disk (ending result) disk.old disk.new }
 {
     let tail = entry_metadata::print(alloc, meta)?;
     disk.write_end(place, u64::from(meta.offset), tail.as_slice())?;

@@ -15,6 +15,3 @@ pub use laws::{reads_exactly, reads_or_fails};
 pub use origin::origin_hash;
 pub use tags::{KeyTags, parse};
 pub use writing::may_write;
-
-#[cfg(test)]
-mod tests;

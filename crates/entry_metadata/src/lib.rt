@@ -15,6 +15,3 @@ pub use laws::{block_fits_exactly, block_reads_back};
 pub use meta::Meta;
 pub use printing::{block_len, print};
 pub use reading::parse;
-
-#[cfg(test)]
-mod tests;

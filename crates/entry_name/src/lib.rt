@@ -17,9 +17,6 @@ use hex::FromHex;
 use sha1::Sha1;
 use std::alloc::Global;
 
-#[cfg(test)]
-mod tests;
-
 /// The name of a key's file. It takes no memory.
 pub fn name_of(key: &[u8]) -> Name
     ensures { result.0 ≡ file_name key.now }

@@ -14,6 +14,3 @@ pub use header::Header;
 pub use laws::{
     elements_read_back, elements_spell, header_reads_back, header_spells, numbers_spell,
 };
-
-#[cfg(test)]
-mod tests;

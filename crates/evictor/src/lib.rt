@@ -10,6 +10,3 @@ mod ordering;
 pub use choosing::{name_set, victims};
 pub use laws::{order_sorts, victims_suffice};
 pub use ordering::order;
-
-#[cfg(test)]
-mod tests;

@@ -1,9 +1,8 @@
 -- The account of calls in sequence, and of one whose answer is handed on.
 use Rattle.std.proofs.Common.{◌≡◌, ◌⊎◌, ◌∙◌, Result, Ok, Err, IsErrAnd, IsTrue, refl, sym, subst, arith}
-use Rattle.std.specs.Prelude.{IsErrOf}
 use Rattle.cache_base.specs.Causes.{HasCause}
 use Rattle.disk_model.specs.Account.{Accounts, Ending, IsCalm, Looks, ending as disk_ending, fault_ending as disk_fault_ending}
-use Rattle.disk_model.specs.Calls.{LastFails, StopsAtFault}
+use Rattle.disk_model.specs.Calls.{LastFails}
 use Rattle.disk_model.specs.declared.disk.Disk.{Ghosts}
 use Rattle.disk_model.specs.declared.disk.DiskFault.{DiskFault}
 use Rattle.disk_model.specs.declared.disk.DiskFault.TheVariants as disk
@@ -31,32 +30,15 @@ looks_nowhere D answer disk none = record {
 
 -- a fault of the disk that is handed on
 pub account_handed_on : {T X : Type 0} {Self : _} (D : Ghosts Self) (r : Result X DiskFault) (f : DiskFault) (out : Result T HandleFault) (before now : Self) → r ≡ Err f → IsErrAnd out (λ e. e ≡ fault_of f)
-    → HasCause (IsErrOf r disk.Failed) (D.faults before) (D.faults now) → (IsTrue D.tells → StopsAtFault (D.counts before) (D.counts now)) → Accounts D (ending out) before now
-account_handed_on D r f (Ok value) before now at is cause stops = absurd is
-account_handed_on {X = X} D r f (Err e) before now at is cause stops = subst (λ e. Accounts D (fault_ending e) before now) (sym is) (go f at)
+    → Accounts D (disk_ending r) before now → Accounts D (ending out) before now
+account_handed_on D r f (Ok value) before now at is account = absurd is
+account_handed_on D r f (Err e) before now at is account = subst (λ e. Accounts D (fault_ending e) before now) (sym is) (go f (subst (λ r. Accounts D (disk_ending r) before now) at account))
   where
-    go : (f : DiskFault) → r ≡ Err f → Accounts D (fault_ending (fault_of f)) before now
-    go disk.Failed at = record {
-      cause = record { later = cause.later; rose = λ failed. cause.rose at; kept = λ not. absurd (not refl) };
-      went_on = λ none. absurd cc;
-      stops = stops;
-    }
-    go disk.Memory at = record {
-      cause = record {
-        later = cause.later;
-        rose = λ failed. absurd cc;
-        kept = λ not. cause.kept (λ failed. let both : ◌≡◌ {A = Result X DiskFault} (Err disk.Memory) (Err disk.Failed) = sym at ∙ failed in cc);
-      };
-      went_on = λ none. absurd cc;
-      stops = stops;
-    }
+    go : (f : DiskFault) → Accounts D (disk_fault_ending f) before now → Accounts D (fault_ending (fault_of f)) before now
+    go disk.Failed account = account
+    go disk.Memory account = account
 
 -- the same after calls none of which failed
 pub account_then_handed_on : {T X : Type 0} {Self : _} (D : Ghosts Self) (r : Result X DiskFault) (f : DiskFault) (out : Result T HandleFault) (a b c : Self) → r ≡ Err f → IsErrAnd out (λ e. e ≡ fault_of f)
     → Accounts D Ending.NoneFailed a b → Accounts D (disk_ending r) b c → Accounts D (ending out) a c
-account_then_handed_on D r f (Ok value) a b c at is first last = absurd is
-account_then_handed_on D r f (Err e) a b c at is first last = subst (λ e. Accounts D (fault_ending e) a c) (sym is) (go f (subst (λ r. Accounts D (disk_ending r) b c) at last))
-  where
-    go : (f : DiskFault) → Accounts D (disk_fault_ending f) b c → Accounts D (fault_ending (fault_of f)) a c
-    go disk.Failed last = accounts_then D Ending.OneFailed a b c first last
-    go disk.Memory last = accounts_then D Ending.OutOfMemory a b c first last
+account_then_handed_on D r f out a b c at is first last = account_handed_on D r f out a c at is (accounts_then D (disk_ending r) a b c first last)

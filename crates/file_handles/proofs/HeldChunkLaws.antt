@@ -1,11 +1,11 @@
 -- The chunks that are held stay those of objects in use.
-use Rattle.std.proofs.Common.{◌≡◌, ℕ, ◌+◌, ◌-◌, ◌*◌, ◌≤◌, ◌/◌, List, ◌++◌, take, drop, length, length-append, false, cond, Some, refl, sym, ap, subst, ◌∙◌, arith}
+use Rattle.std.proofs.Common.{◌≡◌, ℕ, ◌*◌, ◌/◌, List, length, length-append, false, cond, Some, refl, sym, ap, subst, ◌∙◌, arith}
 use Rattle.std.specs.List.{All}
-use Rattle.std.proofs.lemmas.List.{drop-take, take-take, take_at}
 use Rattle.std.proofs.lemmas.List.Elements.{All-weaker}
 use Rattle.cache_theory.specs.Machine.{Machine, Object as MachineObject, object as object_of_number}
 use Rattle.cache_base.specs.Limits.{chunks}
 use Rattle.chunk_cache.specs.Cached.{CachedChunk}
+use Rattle.entry_file.proofs.Bodies.{part_in_front}
 use Rattle.file_handles.specs.Changes.{appended, completed}
 use Rattle.file_handles.specs.HeldChunks.{ChunksStand, IsChunkInUse, KeepsChunks, chunks_on_disk}
 use Rattle.file_handles.specs.Kept.{Kept, object_at}
@@ -14,12 +14,6 @@ use Rattle.file_handles.specs.declared.object.Object.{Object}
 -- an object keeps its own chunks
 pub keeps_own : (o next : MachineObject) → next ≡ o → KeepsChunks o next
 keeps_own o next same = subst (KeepsChunks o) (sym same) (record { more = omega arith; same = λ i lt. refl })
-
--- what lies in a prefix of a list
-pub in_front : (n from front : ℕ) (xs : List ℕ) → from + n ≤ front → take n (drop from (take front xs)) ≡ take n (drop from xs)
-in_front n from front xs le =
-    ap (λ k. take n (drop from (take k xs))) (let e : front ≡ from + (front - from) = omega (arith, le) in e)
-    ∙ ap (take n) (drop-take from (front - from) xs) ∙ take-take n (front - from) (drop from xs) (omega (arith, le))
 
 -- a draft keeps its whole chunks, when it gets bytes more and when it is finished
 draft_chunks : (o : MachineObject) → o.finished ≡ false → chunks_on_disk o ≡ length o.version.body / 262144
@@ -33,9 +27,7 @@ keeps_appended b o draft =
     let long = length-append body b in
     record {
       more = omega (arith, before, after, long);
-      same = λ i lt.
-          ap (λ xs. take 262144 (drop (i * 262144) xs)) (sym (take_at body b (length body) refl))
-          ∙ in_front 262144 (i * 262144) (length body) (body ++ b) (omega (arith, lt, before));
+      same = λ i lt. sym (part_in_front 262144 (i * 262144) body b (omega (arith, lt, before)));
     }
 
 pub keeps_completed : (o : MachineObject) → o.finished ≡ false → KeepsChunks o (completed o)

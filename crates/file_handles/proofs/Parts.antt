@@ -2,7 +2,7 @@
 use Rattle.std.proofs.Common.{◌≡◌, ◌∙◌, inl, inr, ℕ, ◌+◌, ◌-◌, ◌*◌, ◌/◌, ◌%◌, ◌<◌, ◌≤◌, List, [], ◌++◌, length, length-append, length-drop, min, take, drop, Bool, true, false, cond, refl, sym, ap, arith}
 use Rattle.std.proofs.Common.{◌⊎◌, None, Result, Ok, Err, eqb-true}
 use Rattle.std.specs.Prelude.{◌==◌, ◌||◌, OnOk, nat_le}
-use Rattle.std.proofs.lemmas.List.{drop-drop, drop-take, drop_all, length-take, take-take, take_all, take_at}
+use Rattle.std.proofs.lemmas.List.{drop-drop, drop-take, drop_all, length-take, length-take-le, take-append-drop, take-take, take_all, take_at}
 use Rattle.std.proofs.lemmas.Bool.{cases_Bool, eqb-false, leb-false, leb-true}
 use Rattle.std.proofs.Common.{leb}
 use Rattle.cache_theory.specs.Machine.{Object as MachineObject}
@@ -14,10 +14,9 @@ use Rattle.entry_file.specs.Held.{held}
 use Rattle.cache_base.specs.Bytes.{be32}
 use Rattle.cache_base.specs.Limits.{chunks}
 use Rattle.entry_file.specs.Version.{file_of, version_meta}
-use Rattle.entry_file.proofs.Bodies.{rest_long, unfinished_front, unfinished_long}
+use Rattle.entry_file.proofs.Bodies.{part_in_front, rest_long, unfinished_front, unfinished_long}
 use Rattle.entry_metadata.specs.Metadata.{block_bytes}
 use Rattle.file_handles.proofs.ElementEntries.{body_len_is}
-use Rattle.file_handles.proofs.HeldChunkLaws.{in_front}
 use Rattle.file_handles.specs.Held.{IsEntryOf, body_len_in, rest_in}
 use Rattle.file_handles.specs.HeldChunks.{chunks_on_disk}
 use Rattle.file_handles.specs.Reading.{HasChunkOf, part_of_body, rest_part, stored_in}
@@ -88,10 +87,13 @@ stored_chunk (entry.Draft d) o is from before =
     let body : List ℕ = o.version.body in
     let long = rest_long (held d.body) body is.1.body in
     let whole : stored_of (entry.Draft d) o ≡ whole_len body = omega (arith, long) in
-    let file : take (stored_of (entry.Draft d) o) (object_file o) ≡ take (whole_len body) body =
+    let front : List ℕ = take (whole_len body) body in
+    let front_long = length-take-le (whole_len body) body (omega arith) in
+    let file : take (stored_of (entry.Draft d) o) (object_file o) ≡ front =
     (λ i. take (whole i) (unfinished_file_is o is.0 i)) ∙ unfinished_front body in
     ap (λ c. chunk c (from / 262144)) file
-    ∙ in_front 262144 (from / 262144 * 262144) (whole_len body) body (omega (arith, before, whole))
+    ∙ sym (part_in_front 262144 (from / 262144 * 262144) front (drop (whole_len body) body) (omega (arith, before, whole, front_long)))
+    ∙ ap (λ c. chunk c (from / 262144)) (take-append-drop (whole_len body) body)
 stored_chunk (entry.Finished meta) o is from before =
     let body : List ℕ = o.version.body in
     ap (λ c. chunk c (from / 262144))

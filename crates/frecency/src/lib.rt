@@ -10,6 +10,3 @@ mod points;
 
 pub use after_use::next;
 pub use laws::{known_frecencies, table_rises};
-
-#[cfg(test)]
-mod tests;

@@ -21,6 +21,3 @@ pub const VERSION: u32 = 0xA;
 
 /// The bytes of an index's header.
 pub const HEADER: usize = 16;
-
-#[cfg(test)]
-mod tests;

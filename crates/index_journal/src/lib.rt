@@ -15,6 +15,3 @@ pub use fault::JournalFault;
 pub use laws::{journal_fits_exactly, journal_reads_back};
 pub use printing::print;
 pub use reading::parse;
-
-#[cfg(test)]
-mod tests;

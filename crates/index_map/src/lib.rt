@@ -13,6 +13,3 @@ mod table;
 
 pub use counts::Totals;
 pub use map::RecordMap;
-
-#[cfg(test)]
-mod tests;

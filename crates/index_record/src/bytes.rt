@@ -7,7 +7,7 @@ ghost use Rattle.index_record.specs.Record.{IsRecord, cleared, record_bytes, rec
 
 use crate::record::{DIRTY, FRESH, IndexRecord};
 use byteorder::{BigEndian, ByteOrder};
-use cache_base::Name;
+use cache_base::{Name, bytes_fit};
 
 // The flags that go to a file.
 const STORED: u32 = !(DIRTY | FRESH);
@@ -80,16 +80,12 @@ fn joined(name: &[u8; 20], numbers: &[u8; 21]) -> [u8; 41]
     out
 }
 
-fn are_bytes(b: &[u8])
-    ensures { AreBytes b.now }
-{}
-
 // A name is 20 bytes.
 fn name_fits(name: &[u8; 20])
     ensures length { length name.now ≡ 20 }
     ensures bytes { AreBytes name.now }
 {
-    are_bytes(name);
+    bytes_fit(name);
 }
 
 // What stands in a number of its type fits its bytes.

@@ -17,6 +17,3 @@ pub use record::{
     SIZE_MAX, is_pinned, is_removed, removed, size_kb,
 };
 pub use records::Records;
-
-#[cfg(test)]
-mod tests;

@@ -5,7 +5,7 @@ use Rattle.std.proofs.lemmas.List.Elements.{Contains-append_left, Contains-push,
 use Rattle.cache_base.specs.declared.name.Name.{Name}
 use Rattle.disk_model.specs.Calls.{Counts}
 use Rattle.disk_model.specs.State.{State, standing}
-use Rattle.entry_file.specs.Looks.{Looks}
+use Rattle.entry_file.specs.Looks.{LooksAtMost}
 use Rattle.index_map.specs.Known.{Known, SameBase, Sets}
 use Rattle.index_record.specs.declared.record.IndexRecord.{IndexRecord}
 use Rattle.index_theory.specs.Ever.{entries}
@@ -70,10 +70,10 @@ base_kept k = record { records = λ name. refl; has_base = refl }
 pub base_then : (k l m : Known) → SameBase k l → SameBase l m → SameBase k m
 base_then k l m one two = record { records = λ name. two.records name ∙ one.records name; has_base = two.has_base ∙ one.has_base }
 
-pub looks_none : (c : Counts) → Looks (4 * 0) c c
+pub looks_none : (c : Counts) → LooksAtMost (4 * 0) c c
 looks_none c = record { calls = omega arith; entry_reads = omega arith; no_change = refl }
 
-pub looks_more : (i : ℕ) (before mid now : Counts) → Looks (4 * i) before mid → Looks 4 mid now → Looks (4 * (i + 1)) before now
+pub looks_more : (i : ℕ) (before mid now : Counts) → LooksAtMost (4 * i) before mid → LooksAtMost 4 mid now → LooksAtMost (4 * (i + 1)) before now
 looks_more i before mid now one more = record {
   calls = let a = one.calls in let b = more.calls in omega (arith, a, b);
   entry_reads = let a = one.entry_reads in let b = more.entry_reads in omega (arith, a, b);
@@ -81,7 +81,7 @@ looks_more i before mid now one more = record {
 }
 
 -- at a call that fails there were at most so many as for all names
-pub looks_all : (i n : ℕ) (before mid now : Counts) → i < n → Looks (4 * i) before mid → Looks 4 mid now → Looks (4 * n) before now
+pub looks_all : (i n : ℕ) (before mid now : Counts) → i < n → LooksAtMost (4 * i) before mid → LooksAtMost 4 mid now → LooksAtMost (4 * n) before now
 looks_all i n before mid now low one more = record {
   calls = let a = one.calls in let b = more.calls in omega (arith, a, b, low);
   entry_reads = let a = one.entry_reads in let b = more.entry_reads in omega (arith, a, b, low);

@@ -5,7 +5,7 @@ use Rattle.cache_base.specs.declared.name.Name.{Name}
 use Rattle.disk_model.specs.Account.{Ending}
 use Rattle.disk_model.specs.Account.Ending.{OneFailed}
 use Rattle.disk_model.specs.declared.disk.Disk.{Ghosts}
-use Rattle.entry_file.specs.Looks.{Looks}
+use Rattle.entry_file.specs.Looks.{LooksAtMost}
 use Rattle.index_map.specs.Known.{Known}
 use Rattle.index_theory.specs.Ever.{Entries}
 use Rattle.index_update.specs.Reads.{ReadsIn}
@@ -22,4 +22,4 @@ pub record ReadsSlice (es : Entries) (first rest left : List Name) (old new : Kn
 pub record LooksAtNames {Self : _} (D : Ghosts Self) (answer : Ending) (names : ℕ) (before now : Self) : Type 0 where
   pub cause : HasCause (answer ≡ OneFailed) (D.faults before) (D.faults now)
   pub state : IsTrue D.tells → D.state now ≡ D.state before
-  pub looks : IsTrue D.tells → Looks (4 * names) (D.counts before) (D.counts now)
+  pub looks : IsTrue D.tells → LooksAtMost (4 * names) (D.counts before) (D.counts now)

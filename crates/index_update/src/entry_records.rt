@@ -3,7 +3,7 @@
 ghost use Rattle.std.specs.Prelude.{◌≡◌, ◌*◌, IfOk, IfSome, IsErrOf, IsTrue, OnErr, OnOk, length};
 ghost use Rattle.cache_base.specs.Causes.{HasCause};
 ghost use Rattle.disk_model.specs.declared.disk.DiskFault.TheVariants.{Failed};
-ghost use Rattle.entry_file.specs.Looks.{Looks};
+ghost use Rattle.entry_file.specs.Looks.{LooksAtMost};
 ghost use Rattle.entry_metadata.specs.Meta.{meta_of};
 ghost use Rattle.index_map.specs.Known.{IsPlain, SameBase, Sets};
 ghost use Rattle.index_record.specs.Filling.{record_of_meta};
@@ -35,7 +35,7 @@ fn look<D: Disk>(alloc: Global, disk: &mut D, name: &Name) -> Result<Option<Inde
     ensures named { IfOk result (λ found. IfSome found (λ r. r.name ≡ name.now)) }
     ensures plain { IfOk result (λ found. IfSome found IsPlain) }
     ensures state { IsTrue D.tells → D.state disk.new ≡ D.state disk.old }
-    ensures looks { IsTrue D.tells → Looks 4 (D.counts disk.old) (D.counts disk.new) }
+    ensures looks { IsTrue D.tells → LooksAtMost 4 (D.counts disk.old) (D.counts disk.new) }
     ensures cause { HasCause (IsErrOf result DiskFault.Failed) (D.faults disk.old) (D.faults disk.new) }
 {
     match read_meta(alloc, disk, &Place::Entry(*name), name)? {
@@ -57,7 +57,7 @@ fn read_one<D: Disk>(
     ensures base { SameBase map.old map.new }
     ensures kept { OnErr result (map.new ≡ map.old) }
     ensures state { IsTrue D.tells → D.state disk.new ≡ D.state disk.old }
-    ensures looks { IsTrue D.tells → Looks 4 (D.counts disk.old) (D.counts disk.new) }
+    ensures looks { IsTrue D.tells → LooksAtMost 4 (D.counts disk.old) (D.counts disk.new) }
     ensures cause { HasCause (IsErrOf result DiskFault.Failed) (D.faults disk.old) (D.faults disk.new) }
 {
     match look(alloc, disk, name)? {
@@ -81,7 +81,7 @@ pub(crate) fn read_each<D: Disk>(
         ReadsSome (entries_on (D.state disk.old)) names.now map.old map.new) }
     ensures base { SameBase map.old map.new }
     ensures state { IsTrue D.tells → D.state disk.new ≡ D.state disk.old }
-    ensures looks { IsTrue D.tells → Looks (4 * length names.now) (D.counts disk.old) (D.counts disk.new) }
+    ensures looks { IsTrue D.tells → LooksAtMost (4 * length names.now) (D.counts disk.old) (D.counts disk.new) }
     ensures cause { HasCause (IsErrOf result DiskFault.Failed) (D.faults disk.old) (D.faults disk.new) }
 {
     for name in names {

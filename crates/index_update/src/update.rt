@@ -1,13 +1,11 @@
 //! The names that an update has still to read.
 
 ghost use Rattle.std.specs.List.{list_any};
-ghost use Rattle.std.specs.Prelude.{◌≡◌, ◌≢◌, ◌↔◌, [], IfOk, IsErrOf, IsTrue, OnErr, OnOk, drop, length, take};
-ghost use Rattle.cache_base.specs.Causes.{HasCause};
+ghost use Rattle.std.specs.Prelude.{◌≡◌, ◌≢◌, ◌↔◌, [], IfOk, IsTrue, OnErr, OnOk, drop, length, take};
 ghost use Rattle.cache_base.specs.Names.{AreRising};
-ghost use Rattle.disk_model.specs.Account.{ending};
+ghost use Rattle.disk_model.specs.Account.{Looks, ending};
 ghost use Rattle.disk_model.specs.Calls.{counted};
 ghost use Rattle.disk_model.specs.Listing.{AreEntries};
-ghost use Rattle.disk_model.specs.declared.disk.DiskFault.TheVariants.{Failed};
 ghost use Rattle.index_map.specs.Known.{SameBase};
 ghost use Rattle.record_list.specs.Lists.{same_name};
 ghost use Rattle.index_theory.specs.Ever.{entries_on};
@@ -71,9 +69,8 @@ impl Update {
         ensures rest { IfOk result (λ update. IsTrue D.tells →
             AreEntries (D.state disk.old) update) }
         ensures rising { IfOk result (λ update. AreRising update) }
-        ensures state { IsTrue D.tells → D.state disk.new ≡ D.state disk.old }
         ensures counts { IsTrue D.tells → D.counts disk.new ≡ counted (D.counts disk.old) }
-        ensures cause { HasCause (IsErrOf result DiskFault.Failed) (D.faults disk.old) (D.faults disk.new) }
+        ensures looks { Looks D.Disk (ending result) disk.old disk.new }
     {
         let mut listed = Names::new(alloc);
         disk.entries(&mut listed)?;

@@ -16,8 +16,6 @@ mod paths;
 mod real_disk;
 mod standing;
 mod syncing;
-#[cfg(test)]
-mod tests;
 mod tree;
 
 pub use real_disk::RealDisk;

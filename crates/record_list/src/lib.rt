@@ -15,6 +15,3 @@ pub use laws::{
 };
 pub use printing::{by_name, print};
 pub use reading::{parse, parse_present};
-
-#[cfg(test)]
-mod tests;

@@ -21,6 +21,3 @@ pub use start_table::{IndexKind, LogKind, Start, decide};
 
 // Where the flag stands in an index.
 const FLAG_AT: u64 = 8;
-
-#[cfg(test)]
-mod tests;

@@ -56,10 +56,10 @@ returns-in_err-remove_files-clause-does g c = λ told.
     (c.remove_files.ensures.dooms told) (c.remove_files.ensures.index told))
     c.from_residual-in_err-remove_files.result _ c.from_residual-in_err-remove_files.ensures.1 (λ f is sink. no_sink _ (sym is ∙ sink)) c.finish.new.self (saying g.K.Sink c.args.self.now.reply c.args.sink.now)
 
-pub returns-in_err-say_names-clause-does : goal.returns-in_err-say_names-clause-does
-returns-in_err-say_names-clause-does g c = λ told.
+pub returns-in_err-say_listing-clause-does : goal.returns-in_err-say_listing-clause-does
+returns-in_err-say_listing-clause-does g c = λ told.
     let s0 = saying g.K.Sink c.args.self.now.reply c.args.sink.now in
-    let s1 = saying g.K.Sink c.say_names.new.reply c.say_names.new.sink in
+    let s1 = saying g.K.Sink c.say_listing.new.reply c.say_listing.new.sink in
     evict_stops c.args.kb (kept c.args.self.now.handles) (kept c.remove_files.new.handles) c.args.self.now.moment
     (g.D.Disk.state c.args.disk.now) (g.D.Disk.state c.finish.new.disk) (g.D.Disk.state c.remove_files.new.disk) c.args.self.now.index c.finish.new.self c.in_ok-names.names (Ok tt)
     (record {
@@ -76,13 +76,13 @@ returns-in_err-say_names-clause-does g c = λ told.
     (c.in_ok-remove_files.ensures.dooms told) (c.in_ok-remove_files.ensures.index told))
     tt refl c.forget.new.self
     (subst (λ (ns : List Name). Forgets ns c.finish.new.self.map c.forget.new.self.map) c.as_slice-3.ensures c.forget.ensures.forgets) c.forget.ensures.rest
-    s0 s1 c.requires.empty c.from_residual-in_err-say_names.result _ c.from_residual-in_err-say_names.ensures.1
-    (subst (λ (ns : List Name). CutsIn s0 s1.taken (names_text ns)) c.as_slice-4.ensures c.in_err-say_names.ensures.cut)
+    s0 s1 c.requires.empty c.from_residual-in_err-say_listing.result _ c.from_residual-in_err-say_listing.ensures.1
+    (subst (λ (ns : List Name). CutsIn s0 s1.taken (names_text ns)) c.as_slice-4.ensures c.in_err-say_listing.ensures.cut)
 
 pub returns-clause-does : goal.returns-clause-does
 returns-clause-does g c = λ told.
     let s0 = saying g.K.Sink c.args.self.now.reply c.args.sink.now in
-    let s1 = saying g.K.Sink c.say_names.new.reply c.say_names.new.sink in
+    let s1 = saying g.K.Sink c.say_listing.new.reply c.say_listing.new.sink in
     evict_does c.args.kb (kept c.args.self.now.handles) (kept c.remove_files.new.handles) c.args.self.now.moment
     (g.D.Disk.state c.args.disk.now) (g.D.Disk.state c.finish.new.disk) (g.D.Disk.state c.remove_files.new.disk) c.args.self.now.index c.finish.new.self c.in_ok-names.names (Ok tt)
     (record {
@@ -100,12 +100,12 @@ returns-clause-does g c = λ told.
     tt refl c.forget.new.self
     (subst (λ (ns : List Name). Forgets ns c.finish.new.self.map c.forget.new.self.map) c.as_slice-3.ensures c.forget.ensures.forgets) c.forget.ensures.rest
     s0 s1 c.requires.empty
-    (subst (λ (ns : List Name). SaysMore s0 s1 (names_text ns)) c.as_slice-4.ensures c.in_ok-say_names.ensures.says)
+    (subst (λ (ns : List Name). SaysMore s0 s1 (names_text ns)) c.as_slice-4.ensures c.in_ok-say_listing.ensures.says)
 
-pub returns-in_err-say_names-clause-grows : goal.returns-in_err-say_names-clause-grows
-returns-in_err-say_names-clause-grows g c =
-    cuts_takes (saying g.K.Sink c.args.self.now.reply c.args.sink.now) (g.K.Sink.taken c.say_names.new.sink) _ c.requires.empty c.in_err-say_names.ensures.cut
+pub returns-in_err-say_listing-clause-grows : goal.returns-in_err-say_listing-clause-grows
+returns-in_err-say_listing-clause-grows g c =
+    cuts_takes (saying g.K.Sink c.args.self.now.reply c.args.sink.now) (g.K.Sink.taken c.say_listing.new.sink) _ c.requires.empty c.in_err-say_listing.ensures.cut
 
 pub returns-clause-grows : goal.returns-clause-grows
 returns-clause-grows g c =
-    says_takes (saying g.K.Sink c.args.self.now.reply c.args.sink.now) (saying g.K.Sink c.say_names.new.reply c.say_names.new.sink) _ c.requires.empty c.in_ok-say_names.ensures.says
+    says_takes (saying g.K.Sink c.args.self.now.reply c.args.sink.now) (saying g.K.Sink c.say_listing.new.reply c.say_listing.new.sink) _ c.requires.empty c.in_ok-say_listing.ensures.says

@@ -25,10 +25,10 @@ returns-in_err-records-clause-does g c = λ told.
     })
     c.from_residual-in_err-records.result _ (saying g.K.Sink c.args.self.now.reply c.args.sink.now) c.from_residual-in_err-records.ensures.1
 
-pub returns-in_err-say_records-clause-does : goal.returns-in_err-say_records-clause-does
-returns-in_err-say_records-clause-does g c = λ told.
+pub returns-in_err-say_listing-clause-does : goal.returns-in_err-say_listing-clause-does
+returns-in_err-say_listing-clause-does g c = λ told.
     let s0 = saying g.K.Sink c.args.self.now.reply c.args.sink.now in
-    let s1 = saying g.K.Sink c.say_records.new.reply c.say_records.new.sink in
+    let s1 = saying g.K.Sink c.say_listing.new.reply c.say_listing.new.sink in
     list_stops (kept c.args.self.now.handles) c.args.self.now.moment (g.D.Disk.state c.args.disk.now) (g.D.Disk.state c.finish.new.disk) c.args.self.now.index c.finish.new.self
     (record {
       same = c.in_ok-finish.ensures.looks.state told;
@@ -38,13 +38,13 @@ returns-in_err-say_records-clause-does g c = λ told.
       tells = c.in_ok-finish.ensures.tells told;
     })
     c.in_ok-records.records c.in_ok-records.ensures.known c.in_ok-records.ensures.by_name s0 s1 c.requires.empty
-    c.from_residual-in_err-say_records.result _ c.from_residual-in_err-say_records.ensures.1
-    (subst (λ (rs : List IndexRecord). CutsIn s0 s1.taken (records_text rs)) c.as_slice.ensures c.in_err-say_records.ensures.cut)
+    c.from_residual-in_err-say_listing.result _ c.from_residual-in_err-say_listing.ensures.1
+    (subst (λ (rs : List IndexRecord). CutsIn s0 s1.taken (records_text rs)) c.as_slice.ensures c.in_err-say_listing.ensures.cut)
 
 pub returns-clause-does : goal.returns-clause-does
 returns-clause-does g c = λ told.
     let s0 = saying g.K.Sink c.args.self.now.reply c.args.sink.now in
-    let s1 = saying g.K.Sink c.say_records.new.reply c.say_records.new.sink in
+    let s1 = saying g.K.Sink c.say_listing.new.reply c.say_listing.new.sink in
     list_does (kept c.args.self.now.handles) c.args.self.now.moment (g.D.Disk.state c.args.disk.now) (g.D.Disk.state c.finish.new.disk) c.args.self.now.index c.finish.new.self
     (record {
       same = c.in_ok-finish.ensures.looks.state told;
@@ -54,12 +54,12 @@ returns-clause-does g c = λ told.
       tells = c.in_ok-finish.ensures.tells told;
     })
     c.in_ok-records.records c.in_ok-records.ensures.known c.in_ok-records.ensures.by_name s0 s1 c.requires.empty
-    (subst (λ (rs : List IndexRecord). SaysMore s0 s1 (records_text rs)) c.as_slice.ensures c.in_ok-say_records.ensures.says)
+    (subst (λ (rs : List IndexRecord). SaysMore s0 s1 (records_text rs)) c.as_slice.ensures c.in_ok-say_listing.ensures.says)
 
-pub returns-in_err-say_records-clause-grows : goal.returns-in_err-say_records-clause-grows
-returns-in_err-say_records-clause-grows g c =
-    cuts_takes (saying g.K.Sink c.args.self.now.reply c.args.sink.now) (g.K.Sink.taken c.say_records.new.sink) _ c.requires.empty c.in_err-say_records.ensures.cut
+pub returns-in_err-say_listing-clause-grows : goal.returns-in_err-say_listing-clause-grows
+returns-in_err-say_listing-clause-grows g c =
+    cuts_takes (saying g.K.Sink c.args.self.now.reply c.args.sink.now) (g.K.Sink.taken c.say_listing.new.sink) _ c.requires.empty c.in_err-say_listing.ensures.cut
 
 pub returns-clause-grows : goal.returns-clause-grows
 returns-clause-grows g c =
-    says_takes (saying g.K.Sink c.args.self.now.reply c.args.sink.now) (saying g.K.Sink c.say_records.new.reply c.say_records.new.sink) _ c.requires.empty c.in_ok-say_records.ensures.says
+    says_takes (saying g.K.Sink c.args.self.now.reply c.args.sink.now) (saying g.K.Sink c.say_listing.new.reply c.say_listing.new.sink) _ c.requires.empty c.in_ok-say_listing.ensures.says

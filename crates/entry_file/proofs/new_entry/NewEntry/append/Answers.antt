@@ -1,4 +1,4 @@
-use Rattle.std.proofs.Common.{◌++◌, length, ap, ◌∙◌, arith, take-append-drop}
+use Rattle.std.proofs.Common.{◌++◌, length, ap, ◌∙◌, arith, refl, take-append-drop}
 use Rattle.entry_file.specs.Held.{held}
 use Rattle.entry_file.specs.Unfinished.{IsUnfinished}
 use Rattle.entry_file.proofs.Midway.{has_whole, stands_whole, went_on}
@@ -35,8 +35,8 @@ loop-left-preserved g c =
           c.in_ok-put_chunk.ensures.body (λ s. c.in_ok-put_chunk.ensures.stands s.0);
       writes = λ told. written_twice c.args.place.now IsUnfinished _ _ _ (old.writes told) (c.put_chunk.ensures.writes told);
       calls = λ told. let before = old.calls told in let one = c.put_chunk.ensures.calls told in omega (arith, before, one, long, short, test, test_long, none, behind);
-      went_on = λ told. c.in_ok-put_chunk.ensures.went_on told ∙ old.went_on told;
-      faults = c.in_ok-put_chunk.ensures.cause.kept (λ e. cc) ∙ old.faults;
+      went_on = λ told. c.in_ok-put_chunk.ensures.account.went_on refl told ∙ old.went_on told;
+      faults = c.in_ok-put_chunk.ensures.account.cause.kept (λ e. cc) ∙ old.faults;
     }
 
 pub returns-clause-body : goal.returns-clause-body

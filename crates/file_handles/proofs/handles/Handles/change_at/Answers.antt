@@ -61,7 +61,7 @@ pub returns-in_err-rewrite_meta-in-Finished-clause-account :
     goal.returns-in_err-rewrite_meta-in-Finished-clause-account
 returns-in_err-rewrite_meta-in-Finished-clause-account g c =
     account_handed_on g.D.Disk c.rewrite_meta.result c.in_err-rewrite_meta-in-Finished.field-0.0 c.from_residual-in_err-rewrite_meta-in-Finished.result _ _
-    c.in_err-rewrite_meta-in-Finished.was c.from_residual-in_err-rewrite_meta-in-Finished.ensures.1 c.rewrite_meta.ensures.cause c.rewrite_meta.ensures.stops
+    c.in_err-rewrite_meta-in-Finished.was c.from_residual-in_err-rewrite_meta-in-Finished.ensures.1 c.rewrite_meta.ensures.account
 
 pub returns-clause-changes : goal.returns-clause-changes
 returns-clause-changes g c told =

@@ -1,0 +1,124 @@
+//! What a first sync covers. Where it goes over all that stands it fails in these folders, since `entries` is a file.
+
+use super::*;
+use std::test::Fail;
+
+// The starts of an index: its version, a moment and the flag.
+const CLEAN: [u8; 12] = [0, 0, 0, 10, 0, 0, 3, 232, 0, 0, 0, 0];
+
+const DIRTY: [u8; 12] = [0, 0, 0, 10, 0, 0, 3, 232, 0, 0, 0, 1];
+
+// A folder with these files in it.
+fn make_folder(rt: &HostRuntime, folder: &str, files: &[(&str, &[u8])]) -> bool {
+    fs::create_dir(rt, folder).is_ok()
+        && files
+            .iter()
+            .all(|file| fs::write(rt, file.0, file.1).is_ok())
+}
+
+// Whether a first sync goes over all that stands.
+fn goes_over_all(rt: &HostRuntime, folder: &str) -> Result<bool, AllocError> {
+    let mut disk = disk_in(rt, folder)?;
+    Ok(disk.sync().is_err())
+}
+
+#[test]
+fn a_missing_folder_was_not_closed(rt: HostRuntime) -> Result<(), Fail> {
+    let mut disk = disk_in(&rt, "never")?;
+    assert_eq!(rt; disk.sync(), Ok(()));
+    assert!(rt; is_missing(&rt, "never"));
+    Ok(())
+}
+
+#[test]
+fn the_index_tells_whether_the_cache_was_closed(rt: HostRuntime) -> Result<(), Fail> {
+    assert!(rt; make_folder(&rt, "told", &[("told/entries", b"no folder")]));
+    assert!(rt; goes_over_all(&rt, "told")?);
+    assert!(rt; fs::write(&rt, "told/index.log", b"journal").is_ok());
+    assert!(rt; goes_over_all(&rt, "told")?);
+    for (index, goes) in [
+        (CLEAN.as_slice(), false),
+        (DIRTY.as_slice(), true),
+        (&CLEAN[..11], true),
+        (b"", true),
+        (b"\x00\x00\x00\x0A\x00\x00\x03\xE8\x01\x00\x00\x00", true),
+        (
+            b"\x00\x00\x00\x0A\x00\x00\x03\xE8\x00\x00\x00\x00more",
+            false,
+        ),
+    ] {
+        assert!(rt; fs::write(&rt, "told/index", index).is_ok());
+        assert_eq!(rt; goes_over_all(&rt, "told")?, goes);
+    }
+    assert!(rt; fs::write(&rt, "told/index.tmp", b"").is_ok());
+    assert!(rt; goes_over_all(&rt, "told")?);
+    assert!(rt; fs::remove_file(&rt, "told/index.tmp").is_ok());
+    assert!(rt; !goes_over_all(&rt, "told")?);
+    assert!(rt; fs::remove_file(&rt, "told/index.log").is_ok());
+    assert!(rt; goes_over_all(&rt, "told")?);
+    Ok(())
+}
+
+const KILLED: &[Row<'static>] = &[
+    (Call::MakeFolder("killed"), Answer::Done),
+    (
+        Call::WriteFile("killed/entries", b"no folder"),
+        Answer::Done,
+    ),
+    (Call::Make(Place::Log, b"journal"), Answer::Done),
+    (Call::Make(Place::Index, &CLEAN), Answer::Done),
+    (Call::Sync, Answer::Failed),
+    (Call::Sync, Answer::Failed),
+    (Call::RemoveFile("killed/entries"), Answer::Done),
+    (Call::Sync, Answer::Done),
+    (
+        Call::WriteFile("killed/entries", b"no folder"),
+        Answer::Done,
+    ),
+    (Call::Sync, Answer::Done),
+];
+
+#[test]
+fn a_first_sync_goes_over_all_until_it_succeeds(rt: HostRuntime) -> Result<(), Fail> {
+    assert!(rt; rows_answered(&rt, "killed", KILLED)? == KILLED.len());
+    Ok(())
+}
+
+const CLOSED: &[Row<'static>] = &[
+    (Call::MakeFolder("closed"), Answer::Done),
+    (
+        Call::WriteFile("closed/entries", b"no folder"),
+        Answer::Done,
+    ),
+    (Call::WriteFile("closed/index", &CLEAN), Answer::Done),
+    (
+        Call::WriteFile("closed/index.log", b"journal"),
+        Answer::Done,
+    ),
+    (Call::Remove(Place::Log), Answer::Done),
+    (Call::Sync, Answer::Done),
+];
+
+#[test]
+fn a_closed_cache_is_not_gone_over(rt: HostRuntime) -> Result<(), Fail> {
+    assert!(rt; rows_answered(&rt, "closed", CLOSED)? == CLOSED.len());
+    assert!(rt; goes_over_all(&rt, "closed")?);
+    Ok(())
+}
+
+const MIXED: &[Row<'static>] = &[
+    (Call::Make(FIRST, b"first"), Answer::Done),
+    (Call::Make(Place::Doomed(3), b"doomed"), Answer::Done),
+    (Call::MakeFolder("mixed/index"), Answer::Done),
+    (Call::MakeFolder("mixed/doomed/7"), Answer::Done),
+    (Call::Link("nowhere", "mixed/index.log"), Answer::Done),
+    (Call::Link("nowhere", "mixed/doomed/8"), Answer::Done),
+];
+
+#[test]
+fn what_is_no_file_is_not_synced(rt: HostRuntime) -> Result<(), Fail> {
+    assert!(rt; rows_answered(&rt, "mixed", MIXED)? == MIXED.len());
+    assert!(rt; !goes_over_all(&rt, "mixed")?);
+    assert!(rt; holds(&rt, "mixed/doomed/3", b"doomed"));
+    Ok(())
+}

@@ -1,0 +1,108 @@
+use super::*;
+use cache_base::Numbers;
+use std::test::Fail;
+
+// The same with other elements.
+const NO_LAST_ZERO: &[u8] = b"hello\xbc\xf7\xa9\xf8\x39\x9e\
+    \0\0\0\x03\0\0\0\x01\0\0\x03\xe8\0\0\x03\xe8\0\0\x03\xe8\xff\xff\xff\xff\0\0\0\x15\0\0\0\0\
+    :https://example.com/\0a\0b\0\0\0\x05";
+
+const THREE_ZEROS: &[u8] = b"hello\xc3\x32\x0e\x52\x39\x9e\
+    \0\0\0\x03\0\0\0\x01\0\0\x03\xe8\0\0\x03\xe8\0\0\x03\xe8\xff\xff\xff\xff\0\0\0\x15\0\0\0\0\
+    :https://example.com/\0a\0b\0c\0\0\0\0\x05";
+
+// Blocks of 37 bytes at the offset 0: of zeros, with a long key, and with an empty key below a wrong and a right hash.
+const NO_VERSION: &[u8] = b"\0\0\0\0\
+    \0\0\0\0\0\0\0\0\0\0\0\0\0\0\0\0\0\0\0\0\0\0\0\0\0\0\0\0\0\0\0\0\0\
+    \0\0\0\0";
+
+const LONG_KEY: &[u8] = b"\0\0\0\0\
+    \0\0\0\x03\0\0\0\0\0\0\0\0\0\0\0\0\0\0\0\0\0\0\0\0\xff\xff\xff\xff\0\0\0\0\0\
+    \0\0\0\0";
+
+const WRONG_HASH: &[u8] = b"\x88\x00\x03\xe1\
+    \0\0\0\x03\0\0\0\0\0\0\0\0\0\0\0\0\0\0\0\0\0\0\0\0\0\0\0\0\0\0\0\0\0\
+    \0\0\0\0";
+
+const NO_KEY: &[u8] = b"\x88\x00\x03\xe0\
+    \0\0\0\x03\0\0\0\0\0\0\0\0\0\0\0\0\0\0\0\0\0\0\0\0\0\0\0\0\0\0\0\0\0\
+    \0\0\0\0";
+
+// What is read under a name where these bytes stand.
+fn read_of(alloc: Global, bytes: &[u8], name: &Name) -> Result<Seen, DiskFault> {
+    let mut disk = disk_with(alloc, bytes)?;
+    look(alloc, &mut disk, &PLACE, name)
+}
+
+// What is read of `hello` where the call of this number fails.
+fn failing_at(alloc: Global, call: u32) -> Result<Seen, DiskFault> {
+    let mut calls = Numbers::new(alloc);
+    calls.push(call)?;
+    let mut disk = disk_with(alloc, HELLO)?;
+    disk.fail_at(calls);
+    look(alloc, &mut disk, &PLACE, &NAME)
+}
+
+// Whether `hello` is read by three calls, with its lengths and its key.
+fn reads_hello(alloc: Global, disk: &mut MemDisk) -> bool {
+    match read_meta(alloc, disk, &PLACE, &NAME) {
+        Ok(EntryRead::Fits { meta, size }) => {
+            size == 69
+                && meta.offset == 5
+                && meta.key.as_slice() == b":https://example.com/".as_slice()
+                && disk.calls() == 3
+        }
+        _ => false,
+    }
+}
+
+#[test]
+fn a_file_that_fits_is_read(rt: HostRuntime) -> Result<(), Fail> {
+    let mut disk = disk_with(rt.alloc(), HELLO)?;
+    assert!(rt; reads_hello(rt.alloc(), &mut disk));
+    Ok(())
+}
+
+#[test]
+fn no_file_is_absent(rt: HostRuntime) {
+    let mut disk = MemDisk::new(rt.alloc());
+    assert!(rt; look(rt.alloc(), &mut disk, &PLACE, &NAME) == Ok(Seen::Absent));
+}
+
+#[test]
+fn each_check_has_a_file_that_fails_it(rt: HostRuntime) -> Result<(), Fail> {
+    let zeros = vec![in rt.alloc(); 0u8; 262_149]?;
+    let rows = [
+        (b"".as_slice(), Unfit::Short),
+        (b"\xff\xff\xff\xff", Unfit::Short),
+        (b"\0\0\0\0", Unfit::Short),
+        (b"\0\0\0\x01", Unfit::Short),
+        (b"\xff\xff\xff\xfe", Unfit::Short),
+        (&zeros, Unfit::TooBig),
+        (NO_VERSION, Unfit::Version),
+        (LONG_KEY, Unfit::KeyEnd),
+        (WRONG_HASH, Unfit::Hash),
+        (NO_KEY, Unfit::KeyForm),
+        (NO_LAST_ZERO, Unfit::Elements),
+        (THREE_ZEROS, Unfit::Elements),
+    ];
+    for index in 0..rows.len() {
+        let (bytes, check) = rows[index];
+        let read = read_of(rt.alloc(), bytes, &NAME);
+        assert!(rt; read == Ok(Seen::Unfit(check)), "row {index}");
+    }
+    let other = read_of(rt.alloc(), HELLO, &Name([7; 20]));
+    assert!(rt; other == Ok(Seen::Unfit(Unfit::WrongName)));
+    Ok(())
+}
+
+#[test]
+fn a_call_that_fails_is_answered(rt: HostRuntime) {
+    for call in 1..4 {
+        assert!(rt;
+            failing_at(rt.alloc(), call) == Err(DiskFault::Failed),
+            "call {call}"
+        );
+    }
+    assert!(rt; failing_at(rt.alloc(), 4) == Ok(Seen::Fits(5, 69)));
+}

@@ -1,0 +1,5 @@
+//! Tests of the script language.
+#![tactic(auto)]
+
+#[cfg(test)]
+mod reading;
