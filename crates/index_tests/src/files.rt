@@ -2,15 +2,13 @@ ghost use Rattle.record_list.specs.Change.{HasNoRemoved};
 ghost use Rattle.record_list.specs.Lists.{HasNames};
 ghost use Rattle.record_list.specs.Stored.{AreClean};
 
+use crate::examples::CLEAN;
 use cache_base::{Bytes, NoMemory};
 use index_file::{IndexFault, IndexImage, index_fits_exactly, index_reads_back, parse, print};
 use std::alloc::Global;
 use std::test::Fail;
 
-// An index of the moment 1000 without records, as 20 bytes.
-const EMPTY: &[u8] = b"\0\0\0\x0a\0\0\x03\xe8\0\0\0\0\0\0\0\0\xbd\x49\xd1\x0d";
-
-// One of the moment 1000 with the first record, as 61 bytes.
+// One of the moment 1000 with a record, as 61 bytes.
 const ONE: &[u8] = b"\0\0\0\x0a\0\0\x03\xe8\0\0\0\0\0\0\0\0\
 \x11\x11\x11\x11\x11\x11\x11\x11\x11\x11\x11\x11\x11\x11\x11\x11\x11\x11\x11\x11\0\0\x03\xe8\
 \xda\x39\xa3\xee\x5e\x6b\x4b\x0d\xff\xff\xff\xff\0\x80\0\0\x01\xfc\xcb\x86\x9b";
@@ -24,7 +22,7 @@ const THREE: &[u8] = b"\0\0\0\x0a\x12\x34\x56\x78\0\0\0\x01\0\0\0\0\
 \x33\x33\x33\x33\x33\x33\x33\x33\x33\x33\x33\x33\x33\x33\x33\x33\x33\x33\x33\x33\0\0\0\x07\
 \xda\x39\xa3\xee\x5e\x6b\x4b\x0d\0\x01\0\x02\x03\xc2\0\x01\x01\xaf\x0c\x25\x31";
 
-// The empty one with a byte more, and with the hash 0.
+// The one without records with a byte more, and with the hash 0.
 const TOO_LONG: &[u8] = b"\0\0\0\x0a\0\0\x03\xe8\0\0\0\0\0\0\0\0\xbd\x49\xd1\x0d\0";
 
 const NO_HASH: &[u8] = b"\0\0\0\x0a\0\0\x03\xe8\0\0\0\0\0\0\0\0\0\0\0\0";
@@ -89,7 +87,7 @@ fn reads_as(alloc: Global, bytes: &[u8], due: Image) -> Result<bool, Fail> {
 #[test]
 fn indexes_are_read_and_printed(rt: HostRuntime) -> Result<(), Fail> {
     for (bytes, image) in [
-        (EMPTY, (20, 1000, false, 0, EMPTY)),
+        (CLEAN, (20, 1000, false, 0, CLEAN)),
         (ONE, (61, 1000, false, 1, ONE)),
         (THREE, (143, 0x1234_5678, true, 3, THREE)),
         // removed records and two bits are left out
@@ -135,11 +133,11 @@ fn fault_of(
 #[test]
 fn each_check_fails_in_its_turn(rt: HostRuntime) {
     for (bytes, at, to, cut, fault) in [
-        (EMPTY, 3, 9, 1, IndexFault::Short),
+        (CLEAN, 3, 9, 1, IndexFault::Short),
         (ONE, 3, 9, 1, IndexFault::Version),
         (ONE, 60, 0, 1, IndexFault::Length),
         (ONE, 60, 0, 0, IndexFault::Hash),
-        (EMPTY, 3, 9, 0, IndexFault::Version),
+        (CLEAN, 3, 9, 0, IndexFault::Version),
         (TOO_LONG, 20, 0, 0, IndexFault::Length),
         (NO_HASH, 19, 0, 0, IndexFault::Hash),
         (TWICE, 97, 1, 0, IndexFault::Repeated),

@@ -6,6 +6,8 @@ mod checks;
 #[cfg(test)]
 mod evictions;
 #[cfg(test)]
+mod examples;
+#[cfg(test)]
 mod files;
 #[cfg(test)]
 mod journals;

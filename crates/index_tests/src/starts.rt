@@ -3,6 +3,7 @@ ghost use Rattle.disk_model.specs.Sound.{IsQuiet};
 ghost use Rattle.disk_model.specs.State.{State};
 ghost use Rattle.startup_read.specs.Kept.{KeepsIndex};
 
+use crate::examples::{CHANGES, CLEAN, NOTHING};
 use cache_base::{Bytes, Moment, Name, NoMemory, Numbers};
 use disk_model::{Disk, DiskFault, MemDisk, Place};
 use index_map::RecordMap;
@@ -16,12 +17,7 @@ mod session;
 mod starts;
 mod stops;
 
-// An index without records, clean, of the moment 1000, and a journal that says nothing.
-const CLEAN: &[u8] = b"\0\0\0\x0a\0\0\x03\xe8\0\0\0\0\0\0\0\0\xbd\x49\xd1\x0d";
-
-const NOTHING: &[u8] = b"\xbd\x49\xd1\x0d";
-
-// The same index with the flag 1.
+// The index without records with the flag 1.
 const DIRTY: &[u8] = b"\0\0\0\x0a\0\0\x03\xe8\0\0\0\x01\0\0\0\0\xbd\x49\xd1\x0d";
 
 const FIRST: Name = Name([0x11; 20]);
@@ -37,14 +33,6 @@ const TWO: &[u8] = b"\0\0\0\x0a\0\0\x03\xe8\0\0\0\0\0\0\0\0\
 \x22\x22\x22\x22\x22\x22\x22\x22\x22\x22\x22\x22\x22\x22\x22\x22\x22\x22\x22\x22\
 \0\0\x01\xf4\x01\x02\x03\x04\x05\x06\x07\x08\0\x0c\0\x0f\x05\x84\0\0\x02\
 \x2f\xd8\x8c\x3e";
-
-// A journal by which the first name is gone, and the third has a record.
-const CHANGES: &[u8] =
-    b"\x11\x11\x11\x11\x11\x11\x11\x11\x11\x11\x11\x11\x11\x11\x11\x11\x11\x11\x11\x11\
-\0\0\0\0\0\0\0\0\0\0\0\0\xff\xff\xff\xff\0\xa0\0\0\0\
-\x33\x33\x33\x33\x33\x33\x33\x33\x33\x33\x33\x33\x33\x33\x33\x33\x33\x33\x33\x33\
-\0\0\0\x07\xda\x39\xa3\xee\x5e\x6b\x4b\x0d\0\x01\0\x02\x03\xc2\0\x01\x01\
-\xa8\x14\xb0\xff";
 
 // What stands in the files `index`, `index.log` and `index.tmp`, if they stand.
 type Files<'a> = (Option<&'a [u8]>, Option<&'a [u8]>, Option<&'a [u8]>);

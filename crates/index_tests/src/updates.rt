@@ -1,11 +1,12 @@
-ghost use Rattle.std.specs.Prelude.{◌≡◌, IfOk};
+ghost use Rattle.std.specs.Prelude.{IfOk};
 ghost use Rattle.record_list.specs.Lists.{HasNames};
 ghost use Rattle.index_map.specs.Known.{ArePlain, IsPlain};
 
+use crate::examples::record;
 use cache_base::{Name, NoMemory, Numbers};
 use disk_model::{Disk, DiskFault, MemDisk, Place};
 use index_map::RecordMap;
-use index_record::{IndexRecord, NO_TIME, Records};
+use index_record::{IndexRecord, Records};
 use index_update::Update;
 use std::alloc::Global;
 use std::mem;
@@ -54,22 +55,6 @@ const SIXTH: Name = Name(
 
 const SIXTH_FILE: &[u8] =
     b"\xa2\xad\x5a\x83\0\0\0\x03\0\0\0\x01\0\0\x03\xe8\0\0\x03\xe8\0\0\x03\xe8\xff\xff\xff\xff\0\0\0\x02\0\0\0\0:f\0\0\0\0\0";
-
-// The record of each of them, but for its frecency.
-fn record(name: Name, frecency: u32) -> IndexRecord
-    ensures name { result.name ≡ name }
-    ensures plain { IsPlain result }
-{
-    IndexRecord {
-        name,
-        frecency,
-        origin: 0xda39_a3ee_5e6b_4b0d,
-        on_start: NO_TIME,
-        on_stop: NO_TIME,
-        content: 0,
-        flags: 0x8000_0001,
-    }
-}
 
 fn make<D: Disk>(disk: &mut D, name: Name, bytes: &[u8]) -> Result<(), DiskFault> {
     disk.create(&Place::Entry(name))?;

@@ -406,79 +406,80 @@ fn a_command_ends_within_the_limit(rt: HostRuntime) -> Result<(), Fail> {
     Ok(())
 }
 
+// How many of these commands are given one after the other, up to the first that is not.
+fn commands_given(
+    reader: &mut Reader,
+    source: &mut MemSource,
+    due: &[Option<Command<'_>>],
+) -> usize {
+    for index in 0..due.len() {
+        if reader.next_command(source) != Ok(due[index]) {
+            return index;
+        }
+    }
+    due.len()
+}
+
+// The same of a script of which one read gives no more than four bytes.
+fn commands_of(
+    alloc: Global,
+    script: &[u8],
+    due: &[Option<Command<'_>>],
+) -> Result<usize, NoMemory> {
+    let mut source = source_of(alloc, script, 4)?;
+    let mut reader = Reader::new(alloc)?;
+    Ok(commands_given(&mut reader, &mut source, due))
+}
+
+const FIELDS: &[Option<Command<'static>>] = &[
+    Some(Command::Create {
+        slot: 63,
+        key: b":x ",
+    }),
+    Some(Command::Append {
+        slot: 7,
+        bytes: b"\n ",
+    }),
+    Some(Command::SetElement {
+        slot: 1,
+        name: b"na me",
+        value: b"v",
+    }),
+    Some(Command::ReadPart {
+        slot: 2,
+        from: 3,
+        len: 4,
+    }),
+    Some(Command::Element { slot: 5, name: b"" }),
+    Some(Command::Flush),
+    None,
+    None,
+];
+
 #[test]
 fn commands_have_their_fields(rt: HostRuntime) -> Result<(), Fail> {
     let script =
         b"create 63 :x \nappend 7 2\n\n \nset 1 1 na me\nv\nread 2 3 4\nelement 5 \nflush\n";
-    let mut source = source_of(rt.alloc(), script, 4)?;
-    let mut reader = Reader::new(rt.alloc())?;
-    let key = b":x ".as_slice();
-    assert_eq!(rt;
-        reader.next_command(&mut source),
-        Ok(Some(Command::Create { slot: 63, key }))
-    );
-    let bytes = b"\n ".as_slice();
-    assert_eq!(rt;
-        reader.next_command(&mut source),
-        Ok(Some(Command::Append { slot: 7, bytes }))
-    );
-    let (name, value) = (b"na me".as_slice(), b"v".as_slice());
-    assert_eq!(rt;
-        reader.next_command(&mut source),
-        Ok(Some(Command::SetElement {
-            slot: 1,
-            name,
-            value
-        }))
-    );
-    assert_eq!(rt;
-        reader.next_command(&mut source),
-        Ok(Some(Command::ReadPart {
-            slot: 2,
-            from: 3,
-            len: 4
-        }))
-    );
-    let name = b"".as_slice();
-    assert_eq!(rt;
-        reader.next_command(&mut source),
-        Ok(Some(Command::Element { slot: 5, name }))
-    );
-    assert_eq!(rt; reader.next_command(&mut source), Ok(Some(Command::Flush)));
-    assert_eq!(rt; reader.next_command(&mut source), Ok(None));
-    assert_eq!(rt; reader.next_command(&mut source), Ok(None));
+    assert!(rt; commands_of(rt.alloc(), script, FIELDS)? == FIELDS.len());
     Ok(())
 }
+
+const FIELDS_OF_THE_INDEX: &[Option<Command<'static>>] = &[
+    Some(Command::UseEntry { slot: 7 }),
+    Some(Command::Has { key: b"a key" }),
+    Some(Command::List),
+    Some(Command::Evict { kb: 9 }),
+    Some(Command::Step { n: 5 }),
+    Some(Command::State),
+    Some(Command::Verify),
+    Some(Command::Rebuild),
+];
 
 #[test]
 fn commands_of_the_index_have_their_fields(rt: HostRuntime) -> Result<(), Fail> {
     let script = b"use 7\nhas a key\nlist\nevict 9\nstep 5\nstate\nverify\nrebuild\n";
-    let mut source = source_of(rt.alloc(), script, 4)?;
-    let mut reader = Reader::new(rt.alloc())?;
-    assert_eq!(rt;
-        reader.next_command(&mut source),
-        Ok(Some(Command::UseEntry { slot: 7 }))
-    );
-    let key = b"a key".as_slice();
-    assert_eq!(rt;
-        reader.next_command(&mut source),
-        Ok(Some(Command::Has { key }))
-    );
-    assert_eq!(rt; reader.next_command(&mut source), Ok(Some(Command::List)));
-    assert_eq!(rt;
-        reader.next_command(&mut source),
-        Ok(Some(Command::Evict { kb: 9 }))
-    );
-    assert_eq!(rt;
-        reader.next_command(&mut source),
-        Ok(Some(Command::Step { n: 5 }))
-    );
-    assert_eq!(rt; reader.next_command(&mut source), Ok(Some(Command::State)));
-    assert_eq!(rt; reader.next_command(&mut source), Ok(Some(Command::Verify)));
-    assert_eq!(rt;
-        reader.next_command(&mut source),
-        Ok(Some(Command::Rebuild))
-    );
+    let given = commands_of(rt.alloc(), script, FIELDS_OF_THE_INDEX)?;
+    assert!(rt; given == FIELDS_OF_THE_INDEX.len());
     Ok(())
 }
 

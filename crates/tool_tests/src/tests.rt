@@ -176,6 +176,33 @@ fn rows_so(alloc: Global, disk: &mut MemDisk, rows: &[Row<'_>]) -> Result<usize,
     Ok(rows.len())
 }
 
+// Whether all rows come to what they say, and then this file stands at the place of the key, or none.
+fn rows_leave(
+    alloc: Global,
+    disk: &mut MemDisk,
+    rows: &[Row<'_>],
+    key: &str,
+    file: Option<&[u8]>,
+) -> Result<bool, Fail> {
+    let count = rows_so(alloc, disk, rows)?;
+    Ok(count == rows.len() && holds(disk, key, file))
+}
+
+// The same on a disk on which nothing stood, or only a file at that place.
+fn rows_turn(
+    alloc: Global,
+    key: &str,
+    before: Option<&[u8]>,
+    rows: &[Row<'_>],
+    after: Option<&[u8]>,
+) -> Result<bool, Fail> {
+    let mut disk = MemDisk::new(alloc);
+    if let Some(file) = before {
+        put_file(alloc, &mut disk, place_of(key), file)?;
+    }
+    rows_leave(alloc, &mut disk, rows, key, after)
+}
+
 // What `put` makes of this body.
 fn put_on(alloc: Global, disk: &mut MemDisk, body: &[u8]) -> Result<Bytes, Fail> {
     ends(alloc, disk, PUT, body)?;

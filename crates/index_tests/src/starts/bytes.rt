@@ -1,7 +1,5 @@
-ghost use Rattle.index_map.specs.Known.{IsPlain};
-
 use super::*;
-use index_record::{IndexRecord, NO_TIME};
+use crate::examples::record;
 use startup_read::{refresh_index, write_index};
 
 // The name of the key `:https://example.com/`, and a dirty index of the moment 1000 with its record.
@@ -23,20 +21,6 @@ const THREE_RECORDS: &[u8] = b"\0\0\0\x0a\0\0\x03\xe8\0\0\0\x01\0\0\0\0\
 \x33\x33\x33\x33\x33\x33\x33\x33\x33\x33\x33\x33\x33\x33\x33\x33\x33\x33\x33\x33\
 \0\0\x03\xea\xda\x39\xa3\xee\x5e\x6b\x4b\x0d\xff\xff\xff\xff\0\x80\0\0\x01\
 \x67\x4f\xf3\xeb";
-
-fn record(name: Name, frecency: u32) -> IndexRecord
-    ensures { IsPlain result }
-{
-    IndexRecord {
-        name,
-        frecency,
-        origin: 0xda39_a3ee_5e6b_4b0d,
-        on_start: NO_TIME,
-        on_stop: NO_TIME,
-        content: 0,
-        flags: 0x8000_0001,
-    }
-}
 
 #[derive(Clone, Copy)]
 enum How {

@@ -1,3 +1,6 @@
+ghost use Rattle.disk_model.specs.MemDisk.{state_in};
+ghost use Rattle.disk_model.specs.Sound.{IsQuiet};
+
 use super::*;
 use std::test::Fail;
 
@@ -20,69 +23,72 @@ const PINNED: &[u8] =
     b"\xe4\xa04|\0\0\0\x03\0\0\0\x01\0\0\x03\xe8\0\0\x03\xe8\0\0\x03\xe8\xff\xff\xff\xff\
     \0\0\0\x02\0\0\0\x01:x\0\0\0\0\0";
 
-// A disk with four empty entries of 1 KB each, made at the moments 0, 5, 3 and 5.
-fn four_entries(alloc: Global) -> Result<MemDisk, Fail> {
-    let mut disk = MemDisk::new(alloc);
-    for line in ["0 put :a", "5 put :b", "3 put :c", "5 put :d"] {
-        ends(alloc, &mut disk, line, b"")?;
-    }
-    Ok(disk)
+// Four empty entries of 1 KB each, made at the moments 0, 5, 3 and 5.
+const FOUR_ENTRIES: [Row<'static>; 4] = [
+    ("0 put :a", b"", Status::Done, b"ok\n"),
+    ("5 put :b", b"", Status::Done, b"ok\n"),
+    ("3 put :c", b"", Status::Done, b"ok\n"),
+    ("5 put :d", b"", Status::Done, b"ok\n"),
+];
+
+const EVICT_BY_AND_BY: [Row<'static>; 7] = [
+    ("1000 evict 4294967295", b"", Status::Done, NONE),
+    ("1000 evict 4", b"", Status::Done, NONE),
+    ("1000 evict 2", b"", Status::Done, C_AND_D),
+    ("1000 evict 1", b"", Status::Done, B),
+    ("1000 evict 0", b"", Status::Done, A),
+    ("1000 evict 0", b"", Status::Done, NONE),
+    ("1000 list", b"", Status::Done, b"records 0\n"),
+];
+
+fn go_by_and_by(alloc: Global, disk: &mut MemDisk) -> Result<bool, Fail> {
+    let made = rows_so(alloc, disk, &FOUR_ENTRIES)?;
+    Ok(made == 4 && rows_leave(alloc, disk, &EVICT_BY_AND_BY, ":a", None)?)
 }
 
 // By rising frecency, equal ones in name order, and frecency 0 last; no more than has to go.
 #[test]
 fn the_least_valuable_go_first(rt: HostRuntime) -> Result<(), Fail> {
-    let alloc = rt.alloc();
-    let mut disk = four_entries(alloc)?;
-    let rows = [
-        ("1000 evict 4294967295", b"".as_slice(), Status::Done, NONE),
-        ("1000 evict 4", b"", Status::Done, NONE),
-        ("1000 evict 2", b"", Status::Done, C_AND_D),
-        ("1000 evict 1", b"", Status::Done, B),
-        ("1000 evict 0", b"", Status::Done, A),
-        ("1000 evict 0", b"", Status::Done, NONE),
-        ("1000 list", b"", Status::Done, b"records 0\n"),
-    ];
-    assert_eq!(rt; rows_so(alloc, &mut disk, &rows)?, 7);
-    assert!(rt; disk.file(&place_of(":a")).is_none());
+    let mut disk = MemDisk::new(rt.alloc());
+    assert!(rt; go_by_and_by(rt.alloc(), &mut disk)?);
     Ok(())
 }
+
+const EVICT_BESIDE_PINNED: [Row<'static>; 3] = [
+    ("5 put :b", b"", Status::Done, b"ok\n"),
+    ("1000 evict 1", b"", Status::Done, B),
+    ("1000 evict 0", b"", Status::Done, NONE),
+];
 
 // A pinned entry stays whatever the limit, and its size counts.
 #[test]
 fn pinned_entries_stay(rt: HostRuntime) -> Result<(), Fail> {
-    let alloc = rt.alloc();
-    let mut disk = disk_with(alloc, ":x", PINNED)?;
-    let rows = [
-        ("5 put :b", b"".as_slice(), Status::Done, b"ok\n".as_slice()),
-        ("1000 evict 1", b"", Status::Done, B),
-        ("1000 evict 0", b"", Status::Done, NONE),
-    ];
-    assert_eq!(rt; rows_so(alloc, &mut disk, &rows)?, 3);
-    assert!(rt; holds(&disk, ":x", Some(PINNED)));
+    let pinned = Some(PINNED);
+    assert!(rt; rows_turn(rt.alloc(), ":x", pinned, &EVICT_BESIDE_PINNED, pinned)?);
     Ok(())
 }
 
-// The index of a disk with the four entries, and the files of two of them.
-fn two_without_files(alloc: Global) -> Result<MemDisk, Fail> {
-    let full = four_entries(alloc)?;
-    let mut disk = MemDisk::new(alloc);
-    copy_index(alloc, &full, &mut disk)?;
-    copy_file(alloc, &full, &mut disk, place_of(":b"))?;
-    copy_file(alloc, &full, &mut disk, place_of(":d"))?;
-    Ok(disk)
+const EVICT_WITHOUT_FILES: [Row<'static>; 2] = [
+    ("1000 evict 1", b"", Status::Done, ALL_BUT_A),
+    ("1000 evict 0", b"", Status::Done, A),
+];
+
+// On a disk with the index of the four entries, and the files of two of them.
+fn go_without_files(alloc: Global, full: &mut MemDisk, disk: &mut MemDisk) -> Result<bool, Fail>
+    requires { IsQuiet (state_in disk.old) }
+{
+    let made = rows_so(alloc, full, &FOUR_ENTRIES)?;
+    copy_index(alloc, full, disk)?;
+    copy_file(alloc, full, disk, place_of(":b"))?;
+    copy_file(alloc, full, disk, place_of(":d"))?;
+    Ok(made == 4 && rows_leave(alloc, disk, &EVICT_WITHOUT_FILES, ":b", None)?)
 }
 
 // A record whose file does not stand goes as well, and is named.
 #[test]
 fn records_without_files_go(rt: HostRuntime) -> Result<(), Fail> {
-    let alloc = rt.alloc();
-    let mut disk = two_without_files(alloc)?;
-    let rows = [
-        ("1000 evict 1", b"".as_slice(), Status::Done, ALL_BUT_A),
-        ("1000 evict 0", b"", Status::Done, A),
-    ];
-    assert_eq!(rt; rows_so(alloc, &mut disk, &rows)?, 2);
-    assert!(rt; disk.file(&place_of(":b")).is_none());
+    let mut full = MemDisk::new(rt.alloc());
+    let mut disk = MemDisk::new(rt.alloc());
+    assert!(rt; go_without_files(rt.alloc(), &mut full, &mut disk)?);
     Ok(())
 }

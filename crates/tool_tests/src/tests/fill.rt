@@ -10,58 +10,35 @@ const MANY: &[u8] = b"made 200\nevicted 99\nfindings 0\nrecords 101\n";
 
 const THOUSANDS: &[u8] = b"made 2000\nevicted 1011\nfindings 0\nrecords 989\n";
 
-// A disk on which nothing stands: the status, and what is printed.
-fn fills(alloc: Global, line: &str) -> Result<(Status, Bytes), Fail> {
+// Each on a disk on which nothing stands.
+const FILLS: [Row<'static>; 13] = [
+    ("1000 fill 1 1", b"", Status::Done, ONE),
+    // The longer body goes: 17 KB and 6 KB stand, and half of them is 11.
+    ("1000 fill 2 1", b"", Status::Done, TWO),
+    // It comes out the same twice.
+    ("1000 fill 200 7", b"", Status::Done, MANY),
+    ("1000 fill 200 7", b"", Status::Done, MANY),
+    ("1000 fill 2000 7", b"", Status::Done, THOUSANDS),
+    // Other words are malformed.
+    ("1000 fill", b"", Status::Words, b""),
+    ("1000 fill 1", b"", Status::Words, b""),
+    ("1000 fill 0 1", b"", Status::Words, b""),
+    ("1000 fill 100001 1", b"", Status::Words, b""),
+    ("1000 fill 1 1 1", b"", Status::Words, b""),
+    ("1000 fill 01 1", b"", Status::Words, b""),
+    ("1000 fill 1 4294967296", b"", Status::Words, b""),
+    ("1000 fill -1 1", b"", Status::Words, b""),
+];
+
+fn fills_so(alloc: Global, row: &Row<'_>) -> Result<bool, Fail> {
     let mut disk = MemDisk::new(alloc);
-    ends(alloc, &mut disk, line, b"")
-}
-
-fn prints(alloc: Global, line: &str, text: &[u8]) -> Result<bool, Fail> {
-    let (status, printed) = fills(alloc, line)?;
-    Ok(status == Status::Done && printed.as_slice() == text)
+    comes_so(alloc, &mut disk, row)
 }
 
 #[test]
-fn one_entry_is_evicted(rt: HostRuntime) -> Result<(), Fail> {
-    assert!(rt; prints(rt.alloc(), "1000 fill 1 1", ONE)?);
-    Ok(())
-}
-
-// The longer body goes: 17 KB and 6 KB stand, and half of them is 11.
-#[test]
-fn one_of_two_entries_is_evicted(rt: HostRuntime) -> Result<(), Fail> {
-    assert!(rt; prints(rt.alloc(), "1000 fill 2 1", TWO)?);
-    Ok(())
-}
-
-#[test]
-fn many_entries_come_out_the_same_twice(rt: HostRuntime) -> Result<(), Fail> {
-    assert!(rt; prints(rt.alloc(), "1000 fill 200 7", MANY)?);
-    assert!(rt; prints(rt.alloc(), "1000 fill 200 7", MANY)?);
-    Ok(())
-}
-
-#[test]
-fn thousands_of_entries(rt: HostRuntime) -> Result<(), Fail> {
-    assert!(rt; prints(rt.alloc(), "1000 fill 2000 7", THOUSANDS)?);
-    Ok(())
-}
-
-#[test]
-fn other_words_are_malformed(rt: HostRuntime) -> Result<(), Fail> {
-    let lines = [
-        "1000 fill",
-        "1000 fill 1",
-        "1000 fill 0 1",
-        "1000 fill 100001 1",
-        "1000 fill 1 1 1",
-        "1000 fill 01 1",
-        "1000 fill 1 4294967296",
-        "1000 fill -1 1",
-    ];
-    for line in lines {
-        let (status, printed) = fills(rt.alloc(), line)?;
-        assert!(rt; status == Status::Words && printed.as_slice().is_empty());
+fn half_is_evicted_and_other_words_are_malformed(rt: HostRuntime) -> Result<(), Fail> {
+    for index in 0..FILLS.len() {
+        assert!(rt; fills_so(rt.alloc(), &FILLS[index])?, "row {index}");
     }
     Ok(())
 }

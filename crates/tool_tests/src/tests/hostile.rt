@@ -55,58 +55,55 @@ const CREATE_EACH: &[u8] =
 const EACH_IS_SOUND: &[u8] =
     b"ok\nok\nok\nok\nok\nok\nok\nok\nok\nok\nok\nok\nok\nok\nok\nok\nok\nok\nok\nok\nok\nok\nok\nok\nfindings 0\n";
 
-// Files that end in no offset of a block.
-fn put_short(alloc: Global, disk: &mut MemDisk) -> Result<(), NoMemory>
-    requires { IsQuiet (state_in disk.old) }
-    ensures { IsQuiet (state_in disk.new) }
-{
-    put_file(alloc, disk, place_of(":none"), b"")?;
-    put_file(alloc, disk, place_of(":stop"), b"\xff\xff\xff\xff")?;
-    put_file(alloc, disk, place_of(":zeros"), b"\0\0\0\0")?;
-    put_file(alloc, disk, place_of(":one"), b"\0\0\0\x01")?;
-    put_file(alloc, disk, place_of(":far"), b"\xff\xff\xff\xfe")
-}
+// Keys, and what stands at their places: files that end in no offset of a block, files with a block that is none, and one
+// whose key has another name.
+const FILES: [(&str, &[u8]); 11] = [
+    (":none", b""),
+    (":stop", b"\xff\xff\xff\xff"),
+    (":zeros", b"\0\0\0\0"),
+    (":one", b"\0\0\0\x01"),
+    (":far", b"\xff\xff\xff\xfe"),
+    (":old", NO_VERSION),
+    (":long", LONG_KEY),
+    (":flipped", WRONG_HASH),
+    (":empty", NO_KEY),
+    (":odd", NO_LAST_ZERO),
+    (":other", FILE),
+];
 
-// Files with a block that is none, and one whose key has another name.
-fn put_blocks(alloc: Global, disk: &mut MemDisk) -> Result<(), NoMemory>
+fn put_files(alloc: Global, disk: &mut MemDisk) -> Result<(), NoMemory>
     requires { IsQuiet (state_in disk.old) }
-    ensures { IsQuiet (state_in disk.new) }
 {
-    put_file(alloc, disk, place_of(":old"), NO_VERSION)?;
-    put_file(alloc, disk, place_of(":long"), LONG_KEY)?;
-    put_file(alloc, disk, place_of(":flipped"), WRONG_HASH)?;
-    put_file(alloc, disk, place_of(":empty"), NO_KEY)?;
-    put_file(alloc, disk, place_of(":odd"), NO_LAST_ZERO)?;
-    put_file(alloc, disk, place_of(":other"), FILE)
-}
-
-fn disk_of_harm(alloc: Global) -> Result<MemDisk, Fail> {
-    let zeros = vec![in alloc; 0; TOO_BIG]?;
-    let mut disk = MemDisk::new(alloc);
-    put_file(alloc, &mut disk, place_of(":big"), &zeros)?;
-    put_short(alloc, &mut disk)?;
-    put_blocks(alloc, &mut disk)?;
-    Ok(disk)
+    for index in 0..FILES.len() {
+        let (key, file) = FILES[index];
+        put_file(alloc, disk, place_of(key), file)?;
+    }
+    Ok(())
 }
 
 // None has a record, each is named with its fault, and an entry of its name takes its place.
+const ALL_HARM: [Row<'static>; 6] = [
+    ("1000 list", b"", Status::Done, b"records 0\n"),
+    ("1000 verify", b"", Status::No, FAULTS),
+    ("1000 get :odd", b"", Status::No, ABSENT),
+    ("1000 doom :odd", b"", Status::No, ABSENT),
+    ("1000 run", CREATE_EACH, Status::Done, EACH_IS_SOUND),
+    ("1000 rebuild", b"", Status::Done, b"rebuilt 12\n"),
+];
+
+// How many rows come so where all those files stand.
+fn harmed(alloc: Global, disk: &mut MemDisk, big: &[u8]) -> Result<usize, Fail>
+    requires { IsQuiet (state_in disk.old) }
+{
+    put_file(alloc, disk, place_of(":big"), big)?;
+    put_files(alloc, disk)?;
+    rows_so(alloc, disk, &ALL_HARM)
+}
+
 #[test]
 fn files_that_are_no_entries(rt: HostRuntime) -> Result<(), Fail> {
-    let alloc = rt.alloc();
-    let mut disk = disk_of_harm(alloc)?;
-    let rows = [
-        (
-            "1000 list",
-            b"".as_slice(),
-            Status::Done,
-            b"records 0\n".as_slice(),
-        ),
-        ("1000 verify", b"", Status::No, FAULTS),
-        ("1000 get :odd", b"", Status::No, ABSENT),
-        ("1000 doom :odd", b"", Status::No, ABSENT),
-        ("1000 run", CREATE_EACH, Status::Done, EACH_IS_SOUND),
-        ("1000 rebuild", b"", Status::Done, b"rebuilt 12\n"),
-    ];
-    assert_eq!(rt; rows_so(alloc, &mut disk, &rows)?, 6);
+    let zeros = vec![in rt.alloc(); 0; TOO_BIG]?;
+    let mut disk = MemDisk::new(rt.alloc());
+    assert!(rt; harmed(rt.alloc(), &mut disk, &zeros)? == 6);
     Ok(())
 }

@@ -1,13 +1,16 @@
 use super::*;
 use std::test::Fail;
 
+// Whether a `put` of `hello` is answered, and writes its file.
+fn puts_hello(alloc: Global, disk: &mut MemDisk) -> Result<bool, Fail> {
+    let so = comes_so(alloc, disk, &(PUT, b"hello", Status::Done, b"ok\n"))?;
+    Ok(so && holds(disk, KEY, Some(FILE)))
+}
+
 #[test]
 fn a_put_writes_the_entry_file(rt: HostRuntime) -> Result<(), Fail> {
-    let alloc = rt.alloc();
-    let mut disk = MemDisk::new(alloc);
-    let row = (PUT, b"hello".as_slice(), Status::Done, b"ok\n".as_slice());
-    assert!(rt; comes_so(alloc, &mut disk, &row)?);
-    assert!(rt; holds(&disk, KEY, Some(FILE)));
+    let mut disk = MemDisk::new(rt.alloc());
+    assert!(rt; puts_hello(rt.alloc(), &mut disk)?);
     Ok(())
 }
 
@@ -30,6 +33,13 @@ const MALFORMED: [&str; 16] = [
     "1000 put :x y",
 ];
 
+// Whether no words are malformed, too.
+fn no_words_are(alloc: Global, disk: &mut MemDisk) -> Result<bool, Fail> {
+    let mut source = MemSource::new(alloc, bytes(alloc, b"hello")?);
+    let mut sink = MemSink::new(alloc);
+    Ok(call(alloc, disk, &[], &mut source, &mut sink) == Status::Words)
+}
+
 // Whether each of the lines is malformed, and so are no words.
 fn are_malformed(alloc: Global, disk: &mut MemDisk) -> Result<bool, Fail> {
     for line in MALFORMED {
@@ -37,59 +47,52 @@ fn are_malformed(alloc: Global, disk: &mut MemDisk) -> Result<bool, Fail> {
             return Ok(false);
         }
     }
-    let mut source = MemSource::new(alloc, bytes(alloc, b"hello")?);
-    let mut sink = MemSink::new(alloc);
-    Ok(call(alloc, disk, &[], &mut source, &mut sink) == Status::Words)
+    no_words_are(alloc, disk)
 }
 
 #[test]
 fn malformed_words_call_nothing(rt: HostRuntime) -> Result<(), Fail> {
     let mut disk = MemDisk::new(rt.alloc());
-    assert!(rt; are_malformed(rt.alloc(), &mut disk)?);
-    assert_eq!(rt; disk.calls(), 0);
+    assert!(rt; are_malformed(rt.alloc(), &mut disk)? && disk.calls() == 0);
     Ok(())
 }
 
-// Puts a body of so many bytes: what is answered, what is printed, and the size of the file.
-fn put_long_on(
-    alloc: Global,
-    disk: &mut MemDisk,
-    len: usize,
-) -> Result<(Status, Bytes, Option<usize>), Fail> {
-    let body = vec![in alloc; 7u8; len]?;
-    let (status, printed) = ends(alloc, disk, PUT, &body)?;
-    let size = match disk.file(&place_of(KEY)) {
+// The length of a body, and what comes of a `put`: what is answered, what is printed, and the size
+// of the file.
+type Long<'a> = (usize, Status, &'a [u8], Option<usize>);
+
+const LONG: [Long<'static>; 5] = [
+    (0, Status::Done, b"ok\n", Some(62)),
+    (262_144, Status::Done, b"ok\n", Some(262_208)),
+    (262_145, Status::Done, b"ok\n", Some(262_211)),
+    (52_428_800, Status::Done, b"ok\n", Some(52_429_262)),
+    (52_428_801, Status::No, b"too large\n", None),
+];
+
+fn size_on(disk: &MemDisk) -> Option<usize> {
+    match disk.file(&place_of(KEY)) {
         Some(file) => Some(file.len()),
         None => None,
-    };
-    Ok((status, printed, size))
+    }
+}
+
+// Whether a row comes so.
+fn puts_long_on(alloc: Global, disk: &mut MemDisk, row: &Long<'_>) -> Result<bool, Fail> {
+    let (len, status, text, size) = *row;
+    let body = vec![in alloc; 7u8; len]?;
+    Ok(comes_so(alloc, disk, &(PUT, &body, status, text))? && size_on(disk) == size)
 }
 
 // The same over an entry that stands.
-fn put_long(alloc: Global, len: usize) -> Result<(Status, Bytes, Option<usize>), Fail> {
+fn puts_long(alloc: Global, row: &Long<'_>) -> Result<bool, Fail> {
     let mut disk = disk_with(alloc, KEY, FILE)?;
-    put_long_on(alloc, &mut disk, len)
+    puts_long_on(alloc, &mut disk, row)
 }
 
 #[test]
 fn a_body_has_at_most_52428800_bytes(rt: HostRuntime) -> Result<(), Fail> {
-    let alloc = rt.alloc();
-    for (len, want, text, size) in [
-        (0, Status::Done, b"ok\n".as_slice(), Some(62)),
-        (262_144, Status::Done, b"ok\n".as_slice(), Some(262_208)),
-        (262_145, Status::Done, b"ok\n".as_slice(), Some(262_211)),
-        (
-            52_428_800,
-            Status::Done,
-            b"ok\n".as_slice(),
-            Some(52_429_262),
-        ),
-        (52_428_801, Status::No, b"too large\n".as_slice(), None),
-    ] {
-        let (status, printed, found) = put_long(alloc, len)?;
-        assert_eq!(rt; status, want, "of {len} bytes");
-        assert_eq!(rt; printed.as_slice(), text, "of {len} bytes");
-        assert_eq!(rt; found, size, "of {len} bytes");
+    for index in 0..LONG.len() {
+        assert!(rt; puts_long(rt.alloc(), &LONG[index])?, "row {index}");
     }
     Ok(())
 }
@@ -106,101 +109,132 @@ fn put_under(alloc: Global, key: &str) -> Result<Status, Fail> {
     put_hello(alloc, &mut disk, key)
 }
 
-#[test]
-fn keys_are_refused_by_their_bytes(rt: HostRuntime) -> Result<(), Fail> {
-    let alloc = rt.alloc();
-    for (key, status) in [
-        ("", Status::No),
-        ("x", Status::No),
-        ("a:x", Status::No),
-        ("a,", Status::No),
-        (":x\0", Status::No),
-        (":x\ny", Status::No),
-        (":", Status::Done),
-        ("a,~x,,y,:https://x/", Status::Done),
-    ] {
-        assert_eq!(rt; put_under(alloc, key)?, status, "under {key}");
-    }
-    let mut key = String::from_str(alloc, ":")?;
-    for _ in 0..16_383u32 {
+const KEYS: [(&str, Status); 8] = [
+    ("", Status::No),
+    ("x", Status::No),
+    ("a:x", Status::No),
+    ("a,", Status::No),
+    (":x\0", Status::No),
+    (":x\ny", Status::No),
+    (":", Status::Done),
+    ("a,~x,,y,:https://x/", Status::Done),
+];
+
+fn add_letters(key: &mut String, len: u32) -> Result<(), Fail> {
+    for _ in 0..len {
         key.push('x')?;
     }
-    assert_eq!(rt; put_under(alloc, key.as_str())?, Status::Done);
-    key.push('x')?;
-    assert_eq!(rt; put_under(alloc, key.as_str())?, Status::No);
     Ok(())
+}
+
+// Puts `hello` under a key with so many letters behind the colon.
+fn put_under_long(alloc: Global, len: u32) -> Result<Status, Fail> {
+    let mut key = String::from_str(alloc, ":")?;
+    add_letters(&mut key, len)?;
+    put_under(alloc, key.as_str())
+}
+
+#[test]
+fn keys_are_refused_by_their_bytes(rt: HostRuntime) -> Result<(), Fail> {
+    for index in 0..KEYS.len() {
+        let (key, status) = KEYS[index];
+        assert!(rt; put_under(rt.alloc(), key)? == status, "key {index}");
+    }
+    assert!(rt; put_under_long(rt.alloc(), 16_383)? == Status::Done);
+    assert!(rt; put_under_long(rt.alloc(), 16_384)? == Status::No);
+    Ok(())
+}
+
+// Whether the source's second call fails, and no entry stands.
+fn starves(alloc: Global, disk: &mut MemDisk) -> Result<bool, Fail> {
+    let (status, printed) = ends_starved(alloc, disk, PUT, b"hello", 2, 3)?;
+    Ok(status == Status::Source && printed.as_slice().is_empty() && holds(disk, KEY, None))
 }
 
 #[test]
 fn a_failing_source_leaves_no_entry(rt: HostRuntime) -> Result<(), Fail> {
     let mut disk = MemDisk::new(rt.alloc());
-    let (status, printed) = ends_starved(rt.alloc(), &mut disk, PUT, b"hello", 2, 3)?;
-    assert!(rt; status == Status::Source && printed.as_slice().is_empty());
-    assert!(rt; holds(&disk, KEY, None));
+    assert!(rt; starves(rt.alloc(), &mut disk)?);
     Ok(())
+}
+
+// Whether the sink's first call fails, and the entry stands.
+fn is_cut(alloc: Global, disk: &mut MemDisk) -> Result<bool, Fail> {
+    let (status, printed) = ends_cut(alloc, disk, PUT, b"hello", 1)?;
+    Ok(status == Status::Sink && printed.as_slice().is_empty() && holds(disk, KEY, Some(FILE)))
 }
 
 #[test]
 fn a_failing_sink_leaves_the_entry(rt: HostRuntime) -> Result<(), Fail> {
     let mut disk = MemDisk::new(rt.alloc());
-    let (status, printed) = ends_cut(rt.alloc(), &mut disk, PUT, b"hello", 1)?;
-    assert!(rt; status == Status::Sink && printed.as_slice().is_empty());
-    assert!(rt; holds(&disk, KEY, Some(FILE)));
+    assert!(rt; is_cut(rt.alloc(), &mut disk)?);
     Ok(())
+}
+
+// How many calls a `put` of `hello` makes.
+fn calls_of_put(alloc: Global) -> Result<u64, Fail> {
+    let mut disk = MemDisk::new(alloc);
+    ends(alloc, &mut disk, PUT, b"hello")?;
+    Ok(disk.calls())
 }
 
 // Each call of the disk ends the run: those of the opening, those that make and write the entry, and those of the closing.
 // The reply goes out after that.
 #[test]
 fn each_failing_disk_call_ends_the_run(rt: HostRuntime) -> Result<(), Fail> {
-    let alloc = rt.alloc();
-    let mut disk = MemDisk::new(alloc);
-    ends(alloc, &mut disk, PUT, b"hello")?;
+    let calls = calls_of_put(rt.alloc())?;
     for number in 1..100u32 {
-        if u64::from(number) > disk.calls() {
+        if u64::from(number) > calls {
             break;
         }
-        let disk = MemDisk::new(alloc);
-        assert!(rt;
-            fails_at(alloc, disk, PUT, b"hello", number)?,
-            "at call {number}"
-        );
+        let disk = MemDisk::new(rt.alloc());
+        let so = fails_at(rt.alloc(), disk, PUT, b"hello", number)?;
+        assert!(rt; so, "at call {number}");
     }
     Ok(())
 }
 
-// What stands of a `put` of this body where the disk's call of that number fails.
-fn left_on(
+// Whether a file of this size stands that is empty or ends with the stop tail.
+fn is_left(disk: &MemDisk, size: usize) -> bool {
+    match disk.file(&place_of(KEY)) {
+        Some(file) => file.len() == size
+            && (file.is_empty() || file.ends_with(b"\xff\xff\xff\xff")),
+        None => false,
+    }
+}
+
+// Whether a `put` of this body ends with the disk's call of that number, and leaves so much.
+fn leaves_on(
     alloc: Global,
     disk: &mut MemDisk,
     body: &[u8],
     number: u32,
-) -> Result<(Status, Bytes), Fail> {
+    size: usize,
+) -> Result<bool, Fail> {
     disk.fail_at(one_number(alloc, number)?);
     let (status, _) = ends(alloc, disk, PUT, body)?;
-    Ok((status, file_of(alloc, disk, KEY)?))
+    Ok(status == Status::Disk && is_left(disk, size))
 }
 
-fn left_at(alloc: Global, body: &[u8], number: u32) -> Result<(Status, Bytes), Fail> {
+fn leaves(alloc: Global, body: &[u8], number: u32, size: usize) -> Result<bool, Fail> {
     let mut disk = MemDisk::new(alloc);
-    left_on(alloc, &mut disk, body, number)
+    leaves_on(alloc, &mut disk, body, number, size)
 }
+
+const LEFT: [(u32, usize); 3] = [
+    (OPENING + 1, 0),
+    (OPENING + 2, 262_148),
+    (OPENING + 3, 524_292),
+];
 
 // What stands after each call of a `put` of two chunks that a stop ends: nothing that has been finished.
 #[test]
 fn a_stop_leaves_an_unfinished_file(rt: HostRuntime) -> Result<(), Fail> {
-    let alloc = rt.alloc();
-    let body = vec![in alloc; 7u8; 524_289]?;
-    for (number, size) in [
-        (OPENING + 1, 0),
-        (OPENING + 2, 262_148),
-        (OPENING + 3, 524_292),
-    ] {
-        let (status, left) = left_at(alloc, &body, number)?;
-        let file = left.as_slice();
-        assert_eq!(rt; status, Status::Disk, "at call {number}");
-        assert_eq!(rt; file.len(), size, "at call {number}");
-        assert!(rt; file.is_empty() || file.ends_with(b"\xff\xff\xff\xff"));
+    let body = vec![in rt.alloc(); 7u8; 524_289]?;
+    for index in 0..LEFT.len() {
+        let (number, size) = LEFT[index];
+        let so = leaves(rt.alloc(), &body, number, size)?;
+        assert!(rt; so, "at call {number}");
     }
     Ok(())
 }

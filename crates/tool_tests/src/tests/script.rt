@@ -12,6 +12,12 @@ fn runs(
     comes_so(alloc, disk, &("1000 run", script, status, text))
 }
 
+// Whether it does on an empty disk.
+fn runs_on_empty(alloc: Global, script: &[u8], status: Status, text: &[u8]) -> Result<bool, Fail> {
+    let mut disk = MemDisk::new(alloc);
+    runs(alloc, &mut disk, script, status, text)
+}
+
 // A reader reads on in an entry that was doomed and made anew.
 const A_READER_OUTLIVES_ITS_ENTRY: (&[u8], &[u8]) = (
     b"create 0 :https://x/\nappend 0 3\nold\nclose 0\nopen 1 :https://x/\ndoom :https://x/\ncreate 2 :https://x/\n\
@@ -65,140 +71,179 @@ const THREE_RECORDS: (&[u8], &[u8]) = (
     b"ok\nok\nok\nok\nok\nok\nrebuilt 3\n",
 );
 
+const SCRIPTS: [(&[u8], &[u8]); 12] = [
+    (b"", b""),
+    (b"list\n", b"records 0\n"),
+    (b"rebuild\n", b"rebuilt 0\n"),
+    (b"state\nstep 1\n", b"ready\nready\n"),
+    THERE,
+    THREE_RECORDS,
+    A_READER_OUTLIVES_ITS_ENTRY,
+    ELEMENTS,
+    USES,
+    OPEN_ENTRIES_STAY,
+    MOMENTS,
+    REFUSALS,
+];
+
+// Whether a script comes to its end with this text, and leaves no doomed file and no name that is
+// not synced.
+fn answers_on(alloc: Global, disk: &mut MemDisk, script: &[u8], text: &[u8]) -> Result<bool, Fail> {
+    Ok(
+        runs(alloc, disk, script, Status::Done, text)?
+            && disk.file(&Place::Doomed(0)).is_none()
+            && disk.name_steps() == 0,
+    )
+}
+
+fn answers(alloc: Global, script: &[u8], text: &[u8]) -> Result<bool, Fail> {
+    let mut disk = MemDisk::new(alloc);
+    answers_on(alloc, &mut disk, script, text)
+}
+
 #[test]
 fn scripts_are_answered(rt: HostRuntime) -> Result<(), Fail> {
-    let alloc = rt.alloc();
-    for (script, text) in [
-        (b"".as_slice(), b"".as_slice()),
-        (b"list\n", b"records 0\n"),
-        (b"rebuild\n", b"rebuilt 0\n"),
-        (b"state\nstep 1\n", b"ready\nready\n"),
-        THERE,
-        THREE_RECORDS,
-        A_READER_OUTLIVES_ITS_ENTRY,
-        ELEMENTS,
-        USES,
-        OPEN_ENTRIES_STAY,
-        MOMENTS,
-        REFUSALS,
-    ] {
-        let mut disk = MemDisk::new(alloc);
-        let so = runs(alloc, &mut disk, script, Status::Done, text)?;
-        assert!(rt; so, "to {script:?}");
-        assert!(rt; disk.file(&Place::Doomed(0)).is_none());
-        assert_eq!(rt; disk.name_steps(), 0);
+    for index in 0..SCRIPTS.len() {
+        let (script, text) = SCRIPTS[index];
+        assert!(rt; answers(rt.alloc(), script, text)?, "script {index}");
     }
     Ok(())
+}
+
+const BAD_AFTER_OTHERS: [(&[u8], &[u8]); 2] = [
+    (b"at 5\nfly\n", b"ok\nscript 2\n"),
+    (
+        b"create 63 :x\ncreate 63 :y\nclose 3\ncreate 64 :x\nclose 63\n",
+        b"ok\nslot taken\nno slot\nscript 4\n",
+    ),
+];
+
+// Whether the entry that was finished stands, and not the one whose bytes are too many.
+fn leaves_the_finished(alloc: Global, disk: &mut MemDisk) -> Result<bool, Fail> {
+    let script =
+        b"create 0 :https://example.com/\nappend 0 5\nhello\nclose 0\ncreate 1 :x\nappend 1 1\nab\n";
+    let text = b"ok\nok\nok\nok\nscript 5\n";
+    Ok(
+        runs(alloc, disk, script, Status::Script, text)?
+            && holds(disk, KEY, Some(FILE))
+            && holds(disk, ":x", None),
+    )
 }
 
 // The commands before a bad one are performed, and what they leave stands.
 #[test]
 fn a_bad_command_ends_the_script(rt: HostRuntime) -> Result<(), Fail> {
-    let alloc = rt.alloc();
-    for (script, text) in [
-        (b"at 5\nfly\n".as_slice(), b"ok\nscript 2\n".as_slice()),
-        (
-            b"create 63 :x\ncreate 63 :y\nclose 3\ncreate 64 :x\nclose 63\n",
-            b"ok\nslot taken\nno slot\nscript 4\n",
-        ),
-    ] {
-        let mut disk = MemDisk::new(alloc);
-        let so = runs(alloc, &mut disk, script, Status::Script, text)?;
-        assert!(rt; so, "to {script:?}");
+    for index in 0..BAD_AFTER_OTHERS.len() {
+        let (script, text) = BAD_AFTER_OTHERS[index];
+        let so = runs_on_empty(rt.alloc(), script, Status::Script, text)?;
+        assert!(rt; so, "script {index}");
     }
-    let mut disk = MemDisk::new(alloc);
-    let script =
-        b"create 0 :https://example.com/\nappend 0 5\nhello\nclose 0\ncreate 1 :x\nappend 1 1\nab\n";
-    let text = b"ok\nok\nok\nok\nscript 5\n";
-    assert!(rt; runs(alloc, &mut disk, script, Status::Script, text)?);
-    assert!(rt; holds(&disk, KEY, Some(FILE)));
-    assert!(rt; disk.file(&place_of(":x")).is_none());
+    let mut disk = MemDisk::new(rt.alloc());
+    assert!(rt; leaves_the_finished(rt.alloc(), &mut disk)?);
     Ok(())
 }
 
+const MALFORMED: [&[u8]; 34] = [
+    b"\n",
+    b"fly\n",
+    b"flush",
+    b"flush \n",
+    b"flush\r\n",
+    b" flush\n",
+    b"FLUSH\n",
+    b"at\n",
+    b"at 05\n",
+    b"at -1\n",
+    b"at 5 \n",
+    b"at 4294967296\n",
+    b"create 64 :x\n",
+    b"create 00 :x\n",
+    b"create 0\n",
+    b"append 0 1048577\n",
+    b"append 0 3\nab",
+    b"append 0 3\nabcd\n",
+    b"set 0 65537 a\n",
+    b"set 0 1\nb\n",
+    b"read 0 1\n",
+    b"close 0 \n",
+    b"doom\n",
+    b"get\n",
+    b"has\n",
+    b"list \n",
+    b"step\n",
+    b"step -1\n",
+    b"state \n",
+    b"rebuild \n",
+    b"use\n",
+    b"use 64\n",
+    b"evict\n",
+    b"evict 4294967296\n",
+];
+
 #[test]
 fn malformed_lines_are_named(rt: HostRuntime) -> Result<(), Fail> {
-    let alloc = rt.alloc();
-    for script in [
-        b"\n".as_slice(),
-        b"fly\n",
-        b"flush",
-        b"flush \n",
-        b"flush\r\n",
-        b" flush\n",
-        b"FLUSH\n",
-        b"at\n",
-        b"at 05\n",
-        b"at -1\n",
-        b"at 5 \n",
-        b"at 4294967296\n",
-        b"create 64 :x\n",
-        b"create 00 :x\n",
-        b"create 0\n",
-        b"append 0 1048577\n",
-        b"append 0 3\nab",
-        b"append 0 3\nabcd\n",
-        b"set 0 65537 a\n",
-        b"set 0 1\nb\n",
-        b"read 0 1\n",
-        b"close 0 \n",
-        b"doom\n",
-        b"get\n",
-        b"has\n",
-        b"list \n",
-        b"step\n",
-        b"step -1\n",
-        b"state \n",
-        b"rebuild \n",
-        b"use\n",
-        b"use 64\n",
-        b"evict\n",
-        b"evict 4294967296\n",
-    ] {
-        let mut disk = MemDisk::new(alloc);
-        let so = runs(alloc, &mut disk, script, Status::Script, b"script 1\n")?;
-        assert!(rt; so, "to {script:?}");
+    for index in 0..MALFORMED.len() {
+        let so = runs_on_empty(rt.alloc(), MALFORMED[index], Status::Script, b"script 1\n")?;
+        assert!(rt; so, "line {index}");
     }
     Ok(())
+}
+
+// Adds a `get` of so many bytes.
+fn add_get(script: &mut Bytes, len: usize) -> Result<(), NoMemory> {
+    script.extend(b"get ")?;
+    for _ in 0..len {
+        script.push(b'x')?;
+    }
+    script.push(b'\n')
+}
+
+// Whether a script of a `get` of so many bytes ends so.
+fn gets_long(alloc: Global, len: usize, status: Status, text: &[u8]) -> Result<bool, Fail> {
+    let mut script = Bytes::new(alloc);
+    add_get(&mut script, len)?;
+    runs_on_empty(alloc, script.as_slice(), status, text)
 }
 
 // A line may have 20,000 bytes.
 #[test]
 fn long_lines_are_bad(rt: HostRuntime) -> Result<(), Fail> {
-    let alloc = rt.alloc();
-    for (len, status, text) in [
-        (19_996, Status::Done, b"bad key\n".as_slice()),
-        (19_997, Status::Script, b"script 1\n"),
-    ] {
-        let mut script = bytes(alloc, b"get ")?;
-        script.extend(&vec![in alloc; b'x'; len]?)?;
-        script.push(b'\n')?;
-        let mut disk = MemDisk::new(alloc);
-        let so = runs(alloc, &mut disk, script.as_slice(), status, text)?;
-        assert!(rt; so, "with {len} bytes");
-    }
+    let fits = gets_long(rt.alloc(), 19_996, Status::Done, b"bad key\n")?;
+    let is_bad = gets_long(rt.alloc(), 19_997, Status::Script, b"script 1\n")?;
+    assert!(rt; fits && is_bad, "{fits} {is_bad}");
     Ok(())
+}
+
+// Whether the two commands before the third call of the source are answered.
+fn answers_starved(alloc: Global, disk: &mut MemDisk) -> Result<bool, Fail> {
+    let script = b"at 5\nat 6\nat 7\n";
+    let (status, printed) = ends_starved(alloc, disk, "1000 run", script, 3, 6)?;
+    Ok(status == Status::Source && printed.as_slice() == b"ok\nok\n".as_slice())
 }
 
 // The commands that the source gave whole are performed.
 #[test]
 fn a_failing_source_ends_the_script(rt: HostRuntime) -> Result<(), Fail> {
     let mut disk = MemDisk::new(rt.alloc());
-    let script = b"at 5\nat 6\nat 7\n";
-    let (status, printed) = ends_starved(rt.alloc(), &mut disk, "1000 run", script, 3, 6)?;
-    assert_eq!(rt; status, Status::Source);
-    assert_eq!(rt; printed.as_slice(), b"ok\nok\n".as_slice());
+    assert!(rt; answers_starved(rt.alloc(), &mut disk)?);
     Ok(())
+}
+
+// Whether one reply is printed, and the entry stands that the third command would doom.
+fn answers_cut(alloc: Global, disk: &mut MemDisk) -> Result<bool, Fail> {
+    let script = b"create 0 :x\nclose 0\ndoom :x\n";
+    let (status, printed) = ends_cut(alloc, disk, "1000 run", script, 2)?;
+    Ok(
+        status == Status::Sink
+            && printed.as_slice() == b"ok\n".as_slice()
+            && disk.file(&place_of(":x")).is_some(),
+    )
 }
 
 // The command whose reply was cut has had its effect, and none follows.
 #[test]
 fn a_failing_sink_ends_the_script(rt: HostRuntime) -> Result<(), Fail> {
     let mut disk = MemDisk::new(rt.alloc());
-    let script = b"create 0 :x\nclose 0\ndoom :x\n";
-    let (status, printed) = ends_cut(rt.alloc(), &mut disk, "1000 run", script, 2)?;
-    assert_eq!(rt; status, Status::Sink);
-    assert_eq!(rt; printed.as_slice(), b"ok\n".as_slice());
-    assert!(rt; disk.file(&place_of(":x")).is_some());
+    assert!(rt; answers_cut(rt.alloc(), &mut disk)?);
     Ok(())
 }
