@@ -8,34 +8,40 @@ work=$(mktemp -d -p /dev/shm)
 trap 'rm -rf "$work"' EXIT
 key=:https://example.com/
 
-gcc -O2 -Wall -o "$work/put_c" "$here/put.c"
+gcc -O2 -Wall -Wno-unused-function -o "$work/put_c" "$here/session.c"
 gcc -O2 -Wall -o "$work/get_c" "$here/get.c"
+gcc -O2 -Wall -Wno-unused-function -o "$work/open_index_c" "$here/open_index.c"
 gcc -O2 -Wall -o "$work/peak" "$here/peak.c"
 head -c 52428800 /dev/urandom >"$work/body"
 "$cache2" "$work/cache" 1000 put "$key" <"$work/body" >/dev/null
 cp "$here/../crates/cache2/out/cache2" "$work/cache2"
 
-mkdir -p "$work/plain/entries"
-"$work/put_c" "$work/plain" 1000 put "$key" <"$work/body" >/dev/null
-diff -r "$work/cache/entries" "$work/plain/entries"
+source "$here/compare.sh"
+closed "$work/empty"
+compare "$work/empty" "$work/body" "$work/cache2" "$work/put_c" 1000 put "$key"
+rm -r "$work/one"
 "$work/cache2" "$work/cache" 1000 get "$key" >"$work/one"
 "$work/get_c" "$work/cache" 1000 get "$key" >"$work/two"
 cmp "$work/one" "$work/two"
 rm "$work/one" "$work/two"
-rm -r "$work/plain"
 
 # peak INPUT WORD ..: the peak of the proved program's memory, in KiB.
 peak() {
     "$work/peak" "$work/cache2" "${@:2}" <"$1" 2>&1 >/dev/null
 }
 
-status=0
-start=$(peak /dev/null)
-for verb in put get; do
-    echo "$verb"
-    python3 "$here/costs.py" 1.3 5 "$work/body" "rattle=$work/cache2" "c=$work/${verb}_c" -- "$work/cache" 1000 "$verb" "$key" || status=1
-    above=$(($(peak "$work/body" "$work/cache" 1000 "$verb" "$key") - start))
+# measure VERB LIMIT FOLDER
+measure() {
+    local above
+    echo "$1"
+    python3 "$here/costs.py" "$2" 25 "$work/body" "rattle=$work/cache2" "c=$work/${1}_c" -- "$3" 1000 "$1" "$key" || status=1
+    above=$(($(peak "$work/body" "$work/cache" 1000 "$1" "$key") - start))
     echo "memory above that of a run without words: $above KiB, which is to be at most 4096"
     ((above <= 4096)) || status=1
-done
+}
+
+status=0
+start=$(peak /dev/null)
+FRESH=$work/empty measure put 1.2 "$work/one"
+measure get 1.3 "$work/cache"
 exit "$status"

@@ -12,13 +12,13 @@ head -c 262144 /dev/urandom >"$work/body"
 "$cache2" "$work/cache" 1000 put :https://example.com/ <"$work/body" >/dev/null
 cp "$here/../crates/cache2/out/cache2" "$work/cache2"
 
-"$work/cache2" "$work/cache" 1000 get :https://example.com/ >"$work/one"
-"$work/session_c" "$work/cache" 1000 get :https://example.com/ >"$work/two"
-cmp "$work/one" "$work/two"
+source "$here/compare.sh"
+compare "$work/cache" /dev/null "$work/cache2" "$work/session_c" 1000 get :https://example.com/
+rm -r "$work/one"
 
 status=0
 echo "a get as a whole run"
-python3 "$here/costs.py" 1.3 300 /dev/null "rattle=$work/cache2" "c=$work/session_c" -- "$work/cache" 1000 get :https://example.com/ || status=1
+python3 "$here/costs.py" 1.3 600 /dev/null "rattle=$work/cache2" "c=$work/session_c" -- "$work/cache" 1000 get :https://example.com/ || status=1
 
 gcc -O2 -Wall -o "$work/get_c" "$here/get.c"
 python3 - "$work" <<'PYTHON'
@@ -39,5 +39,5 @@ PYTHON
 "$work/get_c" "$work/many" 1000 run <"$work/gets" >"$work/two"
 cmp "$work/one" "$work/two"
 echo "2,000 gets in one run"
-python3 "$here/costs.py" 1.15 2 "$work/gets" "rattle=$work/cache2" "c=$work/get_c" -- "$work/many" 1000 run || status=1
+python3 "$here/costs.py" 1.15 12 "$work/gets" "rattle=$work/cache2" "c=$work/get_c" -- "$work/many" 1000 run || status=1
 exit "$status"

@@ -1,5 +1,5 @@
-/* What the plain programs share that print an entry: the metadata of the key's file are read, their hash and the key are checked, and
-   so is each chunk of the body, before it is printed chunk by chunk. */
+/* What the plain programs share that read an entry: the metadata of the key's file are read, their hash and the key are checked, and
+   so is each chunk of the body, before it is used. */
 #pragma once
 
 #include "plain.h"
@@ -8,12 +8,6 @@
 #include <unistd.h>
 
 static uint8_t one_chunk[CHUNK];
-
-static int fail(const char *what)
-{
-    puts(what);
-    return 7;
-}
 
 static uint32_t read_one_chunk(int file, uint32_t offset, uint32_t i)
 {
@@ -24,50 +18,73 @@ static uint32_t read_one_chunk(int file, uint32_t offset, uint32_t i)
     return n;
 }
 
-/* Prints the entry of the key, or why there is none. Gives the status of the run. */
-static int print_entry(const char *dir, const char *key)
+/* An entry whose body was found whole. The header stands in the block. */
+struct found_entry {
+    int file;
+    uint8_t *block, *header;
+    uint32_t chunks, size, elements, offset;
+};
+
+/* Opens the entry of the key. Gives why there is none, or NULL. */
+static const char *open_entry(const char *dir, const char *key, struct found_entry *e)
 {
-    char entry[4096];
+    char name[4096];
     struct stat found;
     uint8_t last[4];
 
     size_t key_len = strlen(key);
-    path_of(entry, sizeof entry, dir, key);
-    int file = open(entry, O_RDONLY);
-    if (file < 0 || fstat(file, &found) < 0 || found.st_size < 4)
-        return fail("absent");
-    if (pread(file, last, 4, found.st_size - 4) != 4)
-        return 6;
-    uint32_t offset = big(last);
-    if (offset == 0xffffffff || offset > found.st_size - 4 || found.st_size - 4 - offset > 262144)
-        return fail("absent");
-    uint32_t len = (uint32_t)(found.st_size - 4 - offset), count = (uint32_t)(((uint64_t)offset + CHUNK - 1) / CHUNK);
-    uint8_t *block = malloc(len + 1);
-    if (block == NULL)
-        return 1;
-    if (pread(file, block, len, offset) != (ssize_t)len)
-        return 6;
-    uint8_t *header = block + 4 + 2 * count;
-    uint32_t size = len >= 4 + 2 * count + 33 ? big(header + 24) : 0xffffffff;
-    if (len < 4 + 2 * count + 33 || big(header) != 3 || size >= len - (4 + 2 * count + 32) || header[32 + size] != 0)
-        return fail("absent");
-    if (big(block) != hash(block + 4, len - 4) || size != key_len || memcmp(header + 32, key, size) != 0)
-        return fail("absent");
-    for (uint32_t i = 0; i < count; i++)
-        if ((hash(one_chunk, read_one_chunk(file, offset, i)) & 0xffff) != ((uint32_t)block[4 + 2 * i] << 8 | block[5 + 2 * i]))
-            return fail("damaged");
-    uint32_t elements = len - (4 + 2 * count + 32 + size + 1);
-    printf("found %" PRIu32 " %" PRIu32 " %" PRIu32 " %" PRIu32 " %" PRIu32 " %" PRIu32 " %" PRIu32 " %" PRIu32 "\n", big(header + 4),
-           big(header + 8), big(header + 12), big(header + 16), big(header + 20), big(header + 28), elements, offset);
-    fwrite(header + 32 + size + 1, 1, elements, stdout);
+    path_of(name, sizeof name, dir, key);
+    e->file = open(name, O_RDONLY);
+    if (e->file < 0 || fstat(e->file, &found) < 0 || found.st_size < 4)
+        return "absent";
+    if (pread(e->file, last, 4, found.st_size - 4) != 4)
+        exit(6);
+    e->offset = big(last);
+    if (e->offset == 0xffffffff || e->offset > found.st_size - 4 || found.st_size - 4 - e->offset > 262144)
+        return "absent";
+    uint32_t len = (uint32_t)(found.st_size - 4 - e->offset), head = 4 + 2 * (uint32_t)(((uint64_t)e->offset + CHUNK - 1) / CHUNK);
+    e->chunks = (head - 4) / 2;
+    e->block = malloc(len + 1);
+    if (e->block == NULL)
+        exit(1);
+    if (pread(e->file, e->block, len, e->offset) != (ssize_t)len)
+        exit(6);
+    e->header = e->block + head;
+    e->size = len >= head + 33 ? big(e->header + 24) : 0xffffffff;
+    if (len < head + 33 || big(e->header) != 3 || e->size >= len - (head + 32) || e->header[32 + e->size] != 0)
+        return "absent";
+    if (big(e->block) != hash(e->block + 4, len - 4) || e->size != key_len || memcmp(e->header + 32, key, e->size) != 0)
+        return "absent";
+    for (uint32_t i = 0; i < e->chunks; i++) {
+        uint32_t wanted = (uint32_t)e->block[4 + 2 * i] << 8 | e->block[5 + 2 * i];
+        if ((hash(one_chunk, read_one_chunk(e->file, e->offset, i)) & 0xffff) != wanted)
+            return "damaged";
+    }
+    e->elements = len - (head + 32 + e->size + 1);
+    return NULL;
+}
+
+/* Prints the entry of the key, or why there is none. Gives the status of the run. */
+static int print_entry(const char *dir, const char *key)
+{
+    struct found_entry e;
+    const char *fault = open_entry(dir, key, &e);
+
+    if (fault != NULL) {
+        puts(fault);
+        return 7;
+    }
+    printf("found %" PRIu32 " %" PRIu32 " %" PRIu32 " %" PRIu32 " %" PRIu32 " %" PRIu32 " %" PRIu32 " %" PRIu32 "\n", big(e.header + 4),
+           big(e.header + 8), big(e.header + 12), big(e.header + 16), big(e.header + 20), big(e.header + 28), e.elements, e.offset);
+    fwrite(e.header + 32 + e.size + 1, 1, e.elements, stdout);
     putchar('\n');
     /* The only chunk of a body is still there. */
-    if (count == 1)
-        fwrite(one_chunk, 1, offset, stdout);
-    for (uint32_t i = 0; count > 1 && i < count; i++)
-        fwrite(one_chunk, 1, read_one_chunk(file, offset, i), stdout);
+    if (e.chunks == 1)
+        fwrite(one_chunk, 1, e.offset, stdout);
+    for (uint32_t i = 0; e.chunks > 1 && i < e.chunks; i++)
+        fwrite(one_chunk, 1, read_one_chunk(e.file, e.offset, i), stdout);
     putchar('\n');
-    close(file);
-    free(block);
+    close(e.file);
+    free(e.block);
     return fflush(stdout) == 0 ? 0 : 5;
 }

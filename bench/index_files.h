@@ -1,9 +1,9 @@
 /* What the plain programs on a folder share: the files `index` and `index.log` are read with the checks of the proved program,
-   and the index is taken into use with the same changes and syncs. */
+   the index is taken into use, and written and closed again, with the same changes and syncs. */
 #pragma once
 
+#include "changes.h"
 #include "records.h"
-#include <fcntl.h>
 #include <sys/stat.h>
 
 #define HEADER 16u
@@ -111,12 +111,77 @@ static void change(const char *dir)
 {
     static const uint8_t in_use[4] = {0, 0, 0, 1};
 
-    if (rename(at(path, dir, "index.log"), at(other, dir, "index.tmp")) != 0)
-        exit(6);
+    move(at(path, dir, "index.log"), TOP, at(other, dir, "index.tmp"), TOP);
     int index = open(at(path, dir, "index"), O_RDWR);
-    if (index < 0 || pwrite(index, in_use, 4, 8) != 4 || fsync(index) != 0 || close(index) != 0)
+    if (index < 0)
         exit(6);
-    int folder = open(dir, O_RDONLY);
-    if (folder < 0 || fsync(folder) != 0 || close(folder) != 0 || unlink(other) != 0)
+    write_at(index, in_use, 4, 8);
+    sync_all(dir, index);
+    if (unlink(other) != 0)
         exit(6);
+    has_changed[TOP] = 1;
+}
+
+static void put_bytes(uint8_t *b, const struct record *r)
+{
+    memcpy(b, r->name, 20);
+    put_big(b + 20, r->frecency, 4);
+    put_big(b + 24, r->origin, 8);
+    put_big(b + 32, r->on_start, 2);
+    put_big(b + 34, r->on_stop, 2);
+    b[36] = r->content;
+    put_big(b + 37, r->flags, 4);
+}
+
+/* The records by name, behind a front of so many bytes, with their hash. */
+static uint8_t *print_records(const struct record *some, size_t n, size_t front, size_t *size)
+{
+    *size = front + RECORD * n + 4;
+    uint8_t *file = calloc(*size, 1);
+    if (file == NULL)
+        exit(1);
+    for (size_t i = 0; i < n; i++)
+        put_bytes(file + front + RECORD * i, &some[i]);
+    put_big(file + *size - 4, hash(file + front, (uint32_t)(RECORD * n)), 4);
+    return file;
+}
+
+/* The index is written whole, and takes its name after a sync. */
+static void write_index(const char *dir, uint32_t now)
+{
+    size_t size;
+
+    struct record *sorted = malloc(count * sizeof *sorted + 1);
+    if (sorted == NULL)
+        exit(1);
+    memcpy(sorted, records, count * sizeof *sorted);
+    qsort(sorted, count, sizeof *sorted, by_name);
+    uint8_t *bytes = print_records(sorted, count, HEADER, &size);
+    free(sorted);
+    put_big(bytes, 10, 4);
+    put_big(bytes + 4, now, 4);
+    put_big(bytes + 8, 1, 4);
+    int file = make(at(path, dir, "index.tmp"), TOP);
+    write_at(file, bytes, size, 0);
+    free(bytes);
+    sync_all(dir, file);
+    move(path, TOP, at(other, dir, "index"), TOP);
+}
+
+/* The journal is written and synced, and then the flag of the index is cleared. */
+static void close_index(const char *dir, const struct record *changed, size_t n)
+{
+    static const uint8_t clean[4] = {0, 0, 0, 0};
+    size_t size;
+    uint8_t *bytes = print_records(changed, n, 0, &size);
+
+    int log = make(at(path, dir, "index.log"), TOP);
+    write_at(log, bytes, size, 0);
+    free(bytes);
+    sync_all(dir, log);
+    int index = open(at(path, dir, "index"), O_RDWR);
+    if (index < 0)
+        exit(6);
+    write_at(index, clean, 4, 8);
+    sync_all(dir, index);
 }

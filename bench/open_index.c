@@ -12,7 +12,7 @@ static void write_file(const char *name, const uint8_t *bytes, size_t size)
 }
 
 /* An index of so many records by a cheap generator, and an empty journal. */
-static int make(const char *dir, size_t n, int sorted)
+static int make_index(const char *dir, size_t n, int sorted)
 {
     size_t size = HEADER + RECORD * n + 4;
     uint8_t *file = calloc(size, 1), log[4];
@@ -44,7 +44,7 @@ int main(int argc, char **argv)
     if (argc == 1)
         return 0;
     if (argc == 4)
-        return make(argv[1], strtoul(argv[2], NULL, 10), strcmp(argv[3], "sorted") == 0);
+        return make_index(argv[1], strtoul(argv[2], NULL, 10), strcmp(argv[3], "sorted") == 0);
     if (stat(at(path, argv[1], "index.tmp"), &found) == 0)
         return 3;
     read_index(argv[1]);

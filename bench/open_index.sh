@@ -25,13 +25,13 @@ use lines::say;
 use real_disk::RealDisk;
 use startup_read::open_index;
 use std::process::ExitCode;
-use std::{env, rt::HostRuntime};
+use std::{env, io, rt::HostRuntime};
 
 fn list(rt: &HostRuntime, dir: String) -> Option<()> {
     let mut disk = RealDisk::new(rt, dir);
     let opened = open_index(rt.alloc(), &mut disk).ok()?;
     let records = opened.map.records().ok()?;
-    say(rt.alloc(), records.as_slice(), &mut StdSink::new(rt))
+    say(rt.alloc(), records.as_slice(), &mut StdSink::new(io::writer(rt)))
 }
 
 fn main(rt: HostRuntime) -> ExitCode {
@@ -63,7 +63,7 @@ for order in sorted shuffled; do
         (cd "$disk/cache" && sha1sum *) >>"$disk/$program.txt"
     done
     cmp "$disk/rattle.txt" "$disk/c.txt"
-    python3 "$here/least.py" "$disk/$order" 1.5 20 "$work/peak" 200 "$records" "rattle=$work/rattle" "c=$work/c" -- "$disk/cache" ||
+    python3 "$here/least.py" "$disk/$order" 1.5 20 "$work/peak" 110 "$records" "rattle=$work/rattle" "c=$work/c" -- "$disk/cache" ||
         status=1
 done
 exit "$status"

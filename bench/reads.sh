@@ -6,10 +6,14 @@ here=$(cd "$(dirname "${BASH_SOURCE[0]}")" && pwd)
 cache2=$here/../cache2
 work=$(mktemp -d -p /dev/shm)
 trap 'rm -rf "$work"' EXIT
-gcc -O2 -Wall -o "$work/reads_c" "$here/reads.c"
-"$cache2" "$work/cache" 1000 flush >/dev/null
+gcc -O2 -Wall -Wno-unused-function -o "$work/reads_c" "$here/reads.c"
+gcc -O2 -Wall -Wno-unused-function -o "$work/open_index_c" "$here/open_index.c"
+# Builds the program where it is not built yet.
+"$cache2" "$work/first" 1000 list >/dev/null
 cp "$here/../crates/cache2/out/cache2" "$work/cache2"
-mkdir "$work/plain"
+source "$here/compare.sh"
+closed "$work/empty"
+export FRESH=$work/empty
 
 script() {
     python3 - "$@" <<'PYTHON'
@@ -34,14 +38,11 @@ for row in "4 100000 2" "50 20000 1.3"; do
     script "$work/script" "$mib" "$count"
     script "$work/bare" "$mib" 0
     for input in script bare; do
-        rm -rf "$work/cache"
-        "$work/cache2" "$work/cache" 1000 run <"$work/$input" >"$work/one"
-        "$work/reads_c" "$work/plain" 1000 run <"$work/$input" >"$work/two"
-        cmp "$work/one" "$work/two"
+        compare "$work/empty" "$work/$input" "$work/cache2" "$work/reads_c" 1000 run
     done
     echo "$count reads of 4 KiB within $mib MiB, and the entry made and opened:"
-    python3 "$here/costs.py" "$limit" 1 "$work/script" "rattle=$work/cache2" "c=$work/reads_c" -- "$work/cache" 1000 run || status=1
+    python3 "$here/costs.py" "$limit" 12 "$work/script" "rattle=$work/cache2" "c=$work/reads_c" -- "$work/one" 1000 run || status=1
     echo "the entry made and opened alone:"
-    python3 "$here/costs.py" 100 1 "$work/bare" "rattle=$work/cache2" "c=$work/reads_c" -- "$work/cache" 1000 run
+    python3 "$here/costs.py" 100 20 "$work/bare" "rattle=$work/cache2" "c=$work/reads_c" -- "$work/one" 1000 run
 done
 exit "$status"

@@ -1,145 +1,108 @@
 /* A plain program that does what `cache2 DIR NOW run` does with a script of `create 0 KEY`, `append 0 LEN`, `close 0` and
-   `flush`, in a directory that is there, for bodies of less than a chunk: each entry is made anew and written by one write
-   when it is closed, each reply goes out before the next command is read, and a flush syncs the files that were written
-   and their folder. What bench/script.sh measures the proved program against. */
-#include "plain.h"
-#include <fcntl.h>
-#include <unistd.h>
+   `flush` in a directory that was closed clean, for keys that differ and bodies of less than a chunk, with the same changes and syncs:
+   each entry is written by one write when it is closed, synced, and moved to its name, and each reply goes out before the next
+   command is read. With the word `at-once` behind the others each file is made under its name, and first synced by a flush. What
+   bench/script.sh measures the proved program against. */
+#include "new_entry.h"
+#include "script_input.h"
 
-#define FILES 100000
+#define ENTRIES_MAX 100000
+#define CHANGED_MAX 300
 
-static uint8_t input[2 * 1048576 + 65536];
-static size_t from, to;
-static uint8_t chunk[CHUNK + 70000];
-static char folder[2048], key[20001];
-static char *written[FILES];
-static uint32_t now, held, count;
-static int file = -1;
-
-static void put_big(uint8_t *b, uint32_t n)
-{
-    b[0] = n >> 24; b[1] = n >> 16; b[2] = n >> 8; b[3] = n;
-}
-
-static int more(void)
-{
-    if (from > 0) {
-        memmove(input, input + from, to - from);
-        to -= from;
-        from = 0;
-    }
-    ssize_t n = read(0, input + to, 65536);
-    if (n < 0)
-        exit(4);
-    to += (size_t)n;
-    return n > 0;
-}
-
-/* The next line, or NULL at the end. */
-static char *next_line(void)
-{
-    size_t looked = 0;
-
-    for (;;) {
-        uint8_t *end = memchr(input + from + looked, '\n', to - from - looked);
-        if (end != NULL) {
-            char *line = (char *)input + from;
-            *end = 0;
-            from = (size_t)(end + 1 - input);
-            return line;
-        }
-        looked = to - from;
-        if (!more())
-            return NULL;
-    }
-}
+static const char *dir;
+static char key[20001];
+static uint32_t now;
+static int is_at_once;
+/* The files that a flush is to sync, and the records that the index does not have yet. */
+static char *written[ENTRIES_MAX];
+static struct record changed[ENTRIES_MAX];
+static size_t written_count, changed_count;
 
 static void create(const char *of)
 {
-    char path[4096];
-
     strcpy(key, of);
-    path_of(path, sizeof path, folder, key);
-    unlink(path);
-    file = open(path, O_RDWR | O_CREAT | O_EXCL, 0600);
-    if (file < 0 || count == FILES)
-        exit(6);
-    written[count++] = strdup(path);
-    held = 0;
+    if (!is_at_once) {
+        begin_entry(dir, key);
+        return;
+    }
+    name_entry(dir, key);
+    new_file = make(entry, ENTRIES);
 }
 
 static void append(size_t len)
 {
-    while (to - from < len + 1)
-        if (!more())
-            exit(3);
-    if (held + len >= CHUNK || input[from + len] != '\n')
+    const uint8_t *bytes = next_bytes(len);
+
+    if (filled + len >= CHUNK)
         exit(3);
-    memcpy(chunk + held, input + from, len);
-    held += (uint32_t)len;
-    from += len + 1;
+    memcpy(chunk + filled, bytes, len);
+    filled += (uint32_t)len;
 }
 
 static void finish(void)
 {
-    uint32_t size = (uint32_t)strlen(key);
-    uint8_t *block = chunk + held, *at = block + 4;
-
-    if (held > 0) {
-        uint32_t h = hash(chunk, held);
-        at[0] = h >> 8; at[1] = (uint8_t)h;
-        at += 2;
+    if (changed_count == ENTRIES_MAX)
+        exit(1);
+    changed[changed_count++] = write_rest(now, key);
+    if (!is_at_once) {
+        publish(dir);
+        return;
     }
-    const uint32_t header[8] = {3, 1, now, now, now, 0xffffffff, size, 0};
-    for (int i = 0; i < 8; i++, at += 4)
-        put_big(at, header[i]);
-    memcpy(at, key, size + 1);
-    at += size + 1;
-    put_big(block, hash(block + 4, (uint32_t)(at - block) - 4));
-    put_big(at, held);
-    if (pwrite(file, chunk, (size_t)(at + 4 - chunk), 0) != at + 4 - chunk || close(file) != 0)
+    if (written_count == ENTRIES_MAX || close(new_file) != 0)
         exit(6);
+    written[written_count++] = strdup(entry);
 }
 
-static void flush(void)
+static void sync_written(void)
 {
-    char path[4096];
-
-    for (uint32_t i = 0; i < count; i++) {
+    for (size_t i = 0; i < written_count; i++) {
         int one = open(written[i], O_RDWR);
         if (one < 0 || fsync(one) != 0 || close(one) != 0)
             exit(6);
         free(written[i]);
     }
-    count = 0;
-    snprintf(path, sizeof path, "%s/entries", folder);
-    int names = open(path, O_RDONLY);
-    if (names < 0 || fsync(names) != 0 || close(names) != 0)
-        exit(6);
+    written_count = 0;
+}
+
+/* Where many records changed the index is written anew. */
+static void refresh(void)
+{
+    sync_written();
+    if (changed_count >= CHANGED_MAX) {
+        write_index(dir, now);
+        changed_count = 0;
+    }
 }
 
 int main(int argc, char **argv)
 {
     char *line;
 
-    if (argc != 4)
+    if (argc != 4 && argc != 5)
         return 2;
-    snprintf(folder, sizeof folder, "%s", argv[1]);
+    dir = argv[1];
     now = (uint32_t)strtoul(argv[2], NULL, 10);
+    is_at_once = argc == 5 && strcmp(argv[4], "at-once") == 0;
+    read_index(dir);
+    apply_journal(dir);
+    change(dir);
     while ((line = next_line()) != NULL) {
-        if (strncmp(line, "create 0 ", 9) == 0)
+        if (strncmp(line, "create 0 ", 9) == 0) {
             create(line + 9);
-        else if (strncmp(line, "append 0 ", 9) == 0)
+        } else if (strncmp(line, "append 0 ", 9) == 0) {
             append(strtoul(line + 9, NULL, 10));
-        else if (strcmp(line, "close 0") == 0)
+        } else if (strcmp(line, "close 0") == 0) {
             finish();
-        else if (strcmp(line, "flush") == 0)
-            flush();
-        else
+        } else if (strcmp(line, "flush") == 0) {
+            refresh();
+            sync_folders(dir);
+        } else {
             return 3;
-        if (write(1, "ok\n", 3) != 3)
-            return 5;
+        }
+        say("ok\n", 3);
     }
-    flush();
+    refresh();
+    qsort(changed, changed_count, sizeof *changed, by_name);
+    close_index(dir, changed, changed_count);
     return 0;
 }

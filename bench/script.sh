@@ -7,7 +7,11 @@ cache2=$here/../cache2
 work=$(mktemp -d -p /dev/shm)
 trap 'rm -rf "$work"' EXIT
 
-gcc -O2 -Wall -o "$work/script_c" "$here/script.c"
+gcc -O2 -Wall -Wno-unused-function -o "$work/script_c" "$here/script.c"
+gcc -O2 -Wall -Wno-unused-function -o "$work/open_index_c" "$here/open_index.c"
+# Builds the program where it is not built yet.
+"$cache2" "$work/first" 1000 list >/dev/null
+cp "$here/../crates/cache2/out/cache2" "$work/cache2"
 python3 - "$work/script" <<'PYTHON'
 import random
 import sys
@@ -20,11 +24,10 @@ with open(sys.argv[1], "wb") as script:
         script.write(b"close 0\n")
     script.write(b"flush\n")
 PYTHON
-"$cache2" "$work/cache" 1000 run <"$work/script" >"$work/one"
-cp "$here/../crates/cache2/out/cache2" "$work/cache2"
 
-mkdir -p "$work/plain/entries"
-"$work/script_c" "$work/plain" 1000 run <"$work/script" >"$work/two"
-cmp "$work/one" "$work/two"
-diff -r "$work/cache/entries" "$work/plain/entries"
-python3 "$here/costs.py" 1.5 1 "$work/script" "rattle=$work/cache2" "c=$work/script_c" -- "$work/cache" 1000 run
+source "$here/compare.sh"
+closed "$work/empty"
+compare "$work/empty" "$work/script" "$work/cache2" "$work/script_c" 1000 run
+export FRESH=$work/empty
+python3 "$here/costs.py" 1.3 40 "$work/script" "rattle=$work/cache2" "c=$work/script_c" "at once=$work/script_c at-once" -- \
+    "$work/one" 1000 run

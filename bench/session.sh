@@ -11,22 +11,12 @@ entries=2000
 
 gcc -O2 -Wall -Wno-unused-function -o "$work/session_c" "$here/session.c"
 gcc -O2 -Wall -Wno-unused-function -o "$work/open_index_c" "$here/open_index.c"
-gcc -O2 -Wall -o "$work/script_c" "$here/script.c"
 printf hello >"$work/body"
 # Builds the program where it is not built yet.
 "$cache2" "$work/first" 1000 list >/dev/null
 cp "$here/../crates/cache2/out/cache2" "$work/cache2"
 
-# compare DIR WORD..: both programs have to print the same and to leave the same files.
-compare() {
-    for program in cache2 session_c; do
-        rm -rf "$work/one"
-        cp -r "$1" "$work/one"
-        "$work/$program" "$work/one" "${@:2}" <"$work/body" >"$work/$program.txt"
-        (cd "$work/one" && find . -type f -exec sha1sum {} + | sort -k 2) >>"$work/$program.txt"
-    done
-    cmp "$work/cache2.txt" "$work/session_c.txt"
-}
+source "$here/compare.sh"
 
 # The sum of the KB in the lines of records.
 kilobytes() {
@@ -36,14 +26,15 @@ kilobytes() {
 # measure NAME DIR WORD..
 measure() {
     echo "$1"
-    compare "${@:2}"
+    compare "$2" "$work/body" "$work/cache2" "$work/session_c" "${@:3}"
     python3 "$here/costs.py" 1.5 "$runs" "$work/body" "rattle=$work/cache2" "c=$work/session_c" -- "${@:2}" || status=1
 }
 
 status=0
-mkdir -p "$work/large/entries" "$work/full/entries"
+closed "$work/full"
+mkdir -p "$work/large/entries" "$work/large/doomed"
 "$work/open_index_c" "$work/large" "$records" sorted
-runs=10
+runs=40
 measure "list of $records records" "$work/large" 1001 list
 measure "put of 5 bytes beside $records records" "$work/large" 1001 put :https://example.com/
 
@@ -59,21 +50,21 @@ with open(sys.argv[1], "wb") as script:
         script.write(b"close 0\n")
 PYTHON
 "$work/cache2" "$work/full" 1000 run <"$work/script" >/dev/null
-runs=20
+runs=80
 measure "verify of $entries entries" "$work/full" 1001 verify
 measure "rebuild of $entries entries" "$work/full" 1001 rebuild
 
 # half of the KB of all entries
-compare "$work/full" 1001 evict 4294967295
+compare "$work/full" "$work/body" "$work/cache2" "$work/session_c" 1001 evict 4294967295
 half=$(("$("$work/cache2" "$work/full" 1001 list | kilobytes)" / 2))
-runs=4
+runs=20
 export FRESH=$work/full
-compare "$work/full" 1001 evict "$half"
+compare "$work/full" "$work/body" "$work/cache2" "$work/session_c" 1001 evict "$half"
 echo "evict half of $entries entries"
 python3 "$here/costs.py" 1.5 "$runs" "$work/body" "rattle=$work/cache2" "c=$work/session_c" -- "$work/one" 1001 evict "$half" || status=1
 # how it grows: the two columns are one program
 for many in $((records / 10)) "$records"; do
-    mkdir -p "$work/rows/entries"
+    mkdir -p "$work/rows/entries" "$work/rows/doomed"
     "$work/open_index_c" "$work/rows" "$many" shuffled
     FRESH=$work/rows
     echo "evict of $many records whose files do not stand"

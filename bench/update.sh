@@ -27,14 +27,14 @@ use index_update::Update;
 use lines::say;
 use real_disk::RealDisk;
 use std::process::ExitCode;
-use std::{env, rt::HostRuntime};
+use std::{env, io, rt::HostRuntime};
 
 fn read_all(rt: &HostRuntime, dir: String, lists: bool) -> Option<()> {
     let mut disk = RealDisk::new(rt, dir);
     let mut update = Update::begin(rt.alloc(), &mut disk).ok()?;
     let mut map = RecordMap::new(rt.alloc());
     update.step(&mut disk, u32::MAX, &mut map).ok()?;
-    let mut sink = StdSink::new(rt);
+    let mut sink = StdSink::new(io::writer(rt));
     if lists {
         let records = map.records().ok()?;
         return say(rt.alloc(), records.as_slice(), &mut sink);
@@ -60,7 +60,8 @@ fn main(rt: HostRuntime) -> ExitCode {
 RATTLE
 build update_bench
 gcc -O2 -Wall -Wno-unused-function -o "$work/c" "$here/update.c"
-gcc -O2 -Wall -o "$work/script_c" "$here/script.c"
+gcc -O2 -Wall -Wno-unused-function -o "$work/script_c" "$here/script.c"
+gcc -O2 -Wall -Wno-unused-function -o "$work/open_index_c" "$here/open_index.c"
 gcc -O2 -Wall -o "$work/peak" "$here/peak.c"
 
 # the files that bench/script.sh has the proved program make, by the plain program whose files are equal to them
@@ -75,7 +76,8 @@ with open(sys.argv[1], "wb") as script:
         script.write(b"append 0 16384\n" + random.randbytes(16384) + b"\n")
         script.write(b"close 0\n")
 PYTHON
-mkdir -p "$disk/cache/entries"
+source "$here/compare.sh"
+closed "$disk/cache"
 "$work/script_c" "$disk/cache" 1000 run <"$disk/script" >/dev/null
 "$work/rattle" "$disk/cache" list >"$disk/rattle.txt"
 "$work/c" "$disk/cache" list >"$disk/c.txt"

@@ -1,6 +1,9 @@
 use cache_base::{Bytes, NoMemory, Numbers};
-use cache_io::{MemSink, MemSource, Sink, SinkFault, Source, SourceFault, write_whole};
+use cache_io::{
+    MemSink, MemSource, Sink, SinkFault, Source, SourceFault, StdSink, StdSource, write_whole,
+};
 use std::alloc::Global;
+use std::io::{self, Write};
 use std::test::Fail;
 
 fn bytes(alloc: Global, of: &[u8]) -> Result<Bytes, NoMemory> {
@@ -25,7 +28,7 @@ fn write_once<K: Sink>(sink: &mut K) -> Result<usize, SinkFault> {
 }
 
 // What three reads answer, and the buffer after the first.
-fn three_reads(source: &mut MemSource) -> ([Result<usize, SourceFault>; 3], [u8; 4]) {
+fn three_reads<S: Source>(source: &mut S) -> ([Result<usize, SourceFault>; 3], [u8; 4]) {
     let mut buf = [0; 4];
     let first = read_once(source, &mut buf);
     let front = buf;
@@ -70,4 +73,37 @@ fn planned_writes_fail_and_take_nothing(rt: HostRuntime) -> Result<(), Fail> {
     let written = [write_once(&mut sink), write_once(&mut sink)];
     assert!(rt; written == [Err(SinkFault::Failed), Ok(5)]);
     Ok(())
+}
+
+#[test]
+fn a_reader_is_a_source(rt: HostRuntime) {
+    let mut source = StdSource::new(b"hello".as_slice());
+    let seen = three_reads(&mut source);
+    assert!(rt; seen == ([Ok(4), Ok(1), Ok(0)], *b"hell"));
+}
+
+// Takes no more than two bytes a call, and none at all once it is full.
+#[derive(Drop)]
+struct Narrow {
+    room: usize,
+}
+
+impl Write for Narrow {
+    fn write(&mut self, bytes: &[u8]) -> io::Result<usize> {
+        let taken = bytes.len().min(self.room.min(2));
+        self.room -= taken;
+        Ok(taken)
+    }
+
+    fn flush(&mut self) -> io::Result<()> {
+        Ok(())
+    }
+}
+
+#[test]
+fn a_writer_is_a_sink(rt: HostRuntime) {
+    let mut sink = StdSink::new(Narrow { room: 7 });
+    assert_eq!(rt; write_whole(&mut sink, b"hello"), Ok(()));
+    assert_eq!(rt; write_once(&mut sink), Ok(2));
+    assert_eq!(rt; write_once(&mut sink), Err(SinkFault::Failed));
 }

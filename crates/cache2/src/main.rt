@@ -7,7 +7,7 @@ use cache_io::{StdSink, StdSource};
 use cache_tool::run;
 use real_disk::RealDisk;
 use std::process::ExitCode;
-use std::{env, fs};
+use std::{env, fs, io};
 
 // The status where the system does not give what `main` begins with. `run` never ends so.
 const NOT_BEGUN: u8 = 8;
@@ -40,8 +40,9 @@ fn main(rt: HostRuntime) -> ExitCode {
         return ExitCode::from(Status::Memory.code());
     };
     let mut disk = RealDisk::new(&rt, dir);
-    let mut source = StdSource::new(&rt);
-    let mut sink = StdSink::new(&rt);
+    let mut source = StdSource::new(rt.reader());
+    let mut sink = StdSink::new(io::writer(&rt));
     let status = run(rt.alloc(), &words, &mut source, &mut sink, &mut disk);
+    disk.leave();
     ExitCode::from(status.code())
 }

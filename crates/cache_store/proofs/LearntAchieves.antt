@@ -97,6 +97,7 @@ module _ (now : ℕ) (k : Kept) (c : Command) (of : IsOfEntries c) where
 
   in_fault : StaysUnlessDone c → (f : HandleFault) → TeachesAt now k c (done_or {T = Unit {0}} (Err f)) effects.Same
   in_fault stays (handle.Refused r) m number moment proper stand is = other_teaches stays (Refused r) (λ e. cc) m number moment proper stand is
+  in_fault stays handle.Read m number moment proper stand is = tt
   in_fault stays handle.Disk m number moment proper stand is = tt
   in_fault stays handle.Memory m number moment proper stand is = tt
 

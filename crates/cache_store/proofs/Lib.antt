@@ -5,6 +5,7 @@ pub mod Closed
 pub mod ClosedInUse
 pub mod CountedChanges
 pub mod EvictDoes
+pub mod FaultLine
 pub mod FilesAmong
 pub mod Forgotten
 pub mod FoundOnShelf
@@ -47,6 +48,7 @@ pub mod Shelves
 pub mod Spared
 pub mod SparedIndex
 pub mod StartAlong
+pub mod Stays
 pub mod TakenMore
 pub mod TellsAlike
 pub mod Unsaid

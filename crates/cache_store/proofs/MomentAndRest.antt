@@ -1,12 +1,11 @@
 -- What the handles and the disk represent hangs neither on the moment nor on the names that the update has still to read.
-use Rattle.std.proofs.Common.{◌∙◌, Bool, ℕ, List, refl, sym}
+use Rattle.std.proofs.Common.{Bool, ℕ, List, refl}
 use Rattle.cache_theory.specs.Crash.{IsCrashKept}
 use Rattle.cache_theory.specs.History.{History}
 use Rattle.cache_theory.specs.Machine.{Machine}
 use Rattle.cache_theory.specs.Marks.{Marks}
 use Rattle.cache_theory.specs.Proper.{IsProper}
-use Rattle.cache_theory.specs.Stands.{DoomedStand, IsHeldDoomed}
-use Rattle.cache_theory.proofs.EntryFiles.{entry_along}
+use Rattle.cache_theory.specs.Stands.{AsideStand, IsHeldAside}
 use Rattle.disk_model.specs.Image.{Files}
 use Rattle.disk_model.specs.State.{State, standing}
 use Rattle.file_handles.proofs.HeldChunkLaws.{chunks_on}
@@ -19,11 +18,11 @@ abbrev pub with_both : Machine → ℕ → List (List ℕ) → Machine
 with_both m now rest = record m { moment = now; rest = rest }
 
 module _ (m : Machine) (now : ℕ) (rest : List (List ℕ)) where
-  held_after : (i : ℕ) → IsHeldDoomed m i → IsHeldDoomed (with_both m now rest) i
-  held_after i h = record { slots = h.slots; doomed = h.doomed }
+  held_after : (i : ℕ) → IsHeldAside m i → IsHeldAside (with_both m now rest) i
+  held_after i h = record { slots = h.slots; aside = h.aside }
 
-  held_before : (i : ℕ) → IsHeldDoomed (with_both m now rest) i → IsHeldDoomed m i
-  held_before i h = record { slots = h.slots; doomed = h.doomed }
+  held_before : (i : ℕ) → IsHeldAside (with_both m now rest) i → IsHeldAside m i
+  held_before i h = record { slots = h.slots; aside = h.aside }
 
   both_handles : (k : Kept) (number : ℕ → ℕ) → HandlesStand k m number → HandlesStand k (with_both m now rest) number
   both_handles k number stand = record {
@@ -36,8 +35,8 @@ module _ (m : Machine) (now : ℕ) (rest : List (List ℕ)) where
     chunks = chunks_on k k m (with_both m now rest) number (λ q y at. at) (λ q y at. at) (λ i. refl) refl refl refl stand.chunks;
   }
 
-  both_doomed : (files : Files) (At : ℕ → ℕ → Type 0) → DoomedStand files m At → DoomedStand files (with_both m now rest) At
-  both_doomed files At stand = record {
+  both_aside : (files : Files) (At : ℕ → ℕ → Type 0) → AsideStand files m At → AsideStand files (with_both m now rest) At
+  both_aside files At stand = record {
     held = λ i h. stand.held i (held_before i h);
     only = λ k some. let there = stand.only k some in (there.0, (there.1.0, held_after there.0 there.1.1));
     one_object = stand.one_object;
@@ -48,7 +47,7 @@ module _ (m : Machine) (now : ℕ) (rest : List (List ℕ)) where
   both_kept s w At kept = record {
     safe = kept.safe;
     once = kept.once;
-    doomed = λ k i file name at h names ever. kept.doomed k i file name at (held_before i h) names ever;
+    aside = λ k i file name at h names ever. kept.aside k i file name at (held_before i h) names ever;
     unburied = kept.unburied;
     young = kept.young;
   }
@@ -62,8 +61,8 @@ both_in now rest at h proper is =
       stands = record {
         proper = proper;
         handles = both_handles m now rest at.handles is.number is.stands.handles;
-        entries = λ name. is.stands.entries name ∙ sym (entry_along m (with_both m now rest) name refl refl (λ i at. refl));
-        doomed = both_doomed m now rest (standing at.disk) (IsAt at.handles is.number) is.stands.doomed;
+        entries = is.stands.entries;
+        aside = both_aside m now rest (standing at.disk) (IsAt at.handles is.number) is.stands.aside;
       };
       crash_kept = λ on. both_kept m now rest at.disk h.marks (IsAt at.handles is.number) (is.crash_kept on);
     }

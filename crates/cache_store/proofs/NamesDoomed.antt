@@ -11,7 +11,6 @@ use Rattle.cache_store.specs.Evicting.{AreUnused, DoomsAll, HoldsFiles}
 use Rattle.cache_theory.specs.History.{History}
 use Rattle.cache_theory.specs.Machine.{Machine}
 use Rattle.cache_theory.specs.Marks.{is_touched}
-use Rattle.cache_theory.specs.Stands.{file_under}
 use Rattle.cache_theory.specs.Step.{doomed_under}
 use Rattle.cache_theory.specs.Table.{get}
 use Rattle.cache_theory.proofs.Names.{get-remove_other}
@@ -70,7 +69,7 @@ module _ (now : Cache) (m : Machine) (is : Represents now m) (name : Name) (unus
 
   -- and has what is on the shelf
   pub shelf_there : standing now.disk (Entry name) ≡ get m.shelf name.0
-  shelf_there = is.1.entries name.0 ∙ ap (file_under m name.0) not_in_use
+  shelf_there = is.1.entries name.0
 
 apart : (name q : Name) → same_name name q ≡ false → name.0 ≢ q.0
 apart name q differs same = let eq : same_name name q ≡ true = (bytes_eq-Decides name.0 q.0).1 same in absurd (cc)
@@ -78,7 +77,7 @@ apart name q differs same = let eq : same_name name q ≡ true = (bytes_eq-Decid
 module _ (name : Name) (now next : Cache) (x : Unit {0}) (same : next.handles ≡ now.handles) (dooms : DoomsUnder {E = DiskFault} name.0 (Ok x) now next) where
   -- a history in whose marks the name is touched
   abbrev alone : Machine → History
-  alone m = record { machine = m; marks = record { marked = m; touched = name.0 ∷ []; since = [] } }
+  alone m = record { machine = m; marks = record { marked = m; touched = name.0 ∷ []; since = []; in_place = [] } }
 
   own : (m : Machine) → is_touched (alone m).marks name.0 ≡ true
   own m = or_left (bytes_eq name.0 name.0) false (same_itself name)

@@ -1,14 +1,14 @@
 -- What the handles and the disk represent, where the moment is set and where the disk is synced.
-use Rattle.std.proofs.Common.{◌≡◌, ◌∙◌, ℕ, List, Bool, false, Option, Some, ap, arith}
+use Rattle.std.proofs.Common.{◌≡◌, ◌∙◌, ℕ, List, Bool, false, Option, Some, sym, ap, subst, arith}
 use Rattle.std.specs.Prelude.{option_map, slice_get, unwrap_or}
 use Rattle.cache_theory.specs.Ever.{EverAt, entries, entry_place}
 use Rattle.cache_theory.specs.History.{History, settled_at}
-use Rattle.cache_theory.specs.Machine.{Machine, Object as MachineObject}
+use Rattle.cache_theory.specs.Machine.{Machine, Object as MachineObject, object}
+use Rattle.cache_theory.specs.Stands.{HasObjectFile}
 use Rattle.cache_theory.specs.Marks.{is_buried, marks_of}
 use Rattle.cache_theory.specs.Proper.{IsProper}
 use Rattle.cache_theory.specs.Table.{get}
 use Rattle.cache_theory.proofs.Crashes.{quiet_is_safe}
-use Rattle.cache_theory.proofs.EntryFiles.{found_on_shelf}
 use Rattle.cache_theory.proofs.EverSteps.{ever_settled}
 use Rattle.cache_theory.proofs.FiledOnce.{sync_files_once}
 use Rattle.disk_model.specs.Sound.{IsSound}
@@ -40,24 +40,23 @@ module _ (s : State) (sound : IsSound s) (k : Kept) (m : Machine) where
   settled_found : (number : ℕ → ℕ) → Stands (standing s) k m number → (key : List ℕ) → found (entries (standing (settled s))) key ≡ found (get m.shelf) key
   settled_found number stands key =
       ap (λ c. whole_in (read_for key c)) (settled_same s (entry_place (file_name key)) ∙ stands.entries (file_name key))
-      ∙ found_on_shelf m stands.proper key
 
   settled_stands : (number : ℕ → ℕ) → Stands (standing s) k m number → Stands (standing (settled s)) k m number
   settled_stands number stands = record {
     proper = stands.proper;
     handles = stands.handles;
     entries = λ name. settled_same s (entry_place name) ∙ stands.entries name;
-    doomed = record {
-      held = λ i h. let there = stands.doomed.held i h in (there.0, (there.1.0, settled_same s (Doomed there.0) ∙ there.1.1));
-      only = λ d some. stands.doomed.only d (λ none. some (settled_same s (Doomed d) ∙ none));
-      one_object = stands.doomed.one_object;
-      one_number = stands.doomed.one_number;
+    aside = record {
+      held = λ i h. let there = stands.aside.held i h in (there.0, (there.1.0, subst (HasObjectFile (object m i)) (sym (settled_same s (Doomed there.0))) there.1.1));
+      only = λ d some. stands.aside.only d (λ none. some (settled_same s (Doomed d) ∙ none));
+      one_object = stands.aside.one_object;
+      one_number = stands.aside.one_number;
     };
   }
 
-  -- no file of a doomed object stands under a name
-  apart_doomed : (d file : ℕ) (name : List ℕ) (P : Type 0) → names_now (settled s) (Doomed d) ≡ Some file → EverAt (settled s) (entry_place name) file → P
-  apart_doomed d file name P at ever =
+  -- no file that stands aside stands under a name
+  apart_aside : (d file : ℕ) (name : List ℕ) (P : Type 0) → names_now (settled s) (Doomed d) ≡ Some file → EverAt (settled s) (entry_place name) file → P
+  apart_aside d file name P at ever =
       let same = sound.one_place 0 (Doomed d) (entry_place name) file at (ever_settled s (entry_place name) file ever) in
       absurd (cc)
 
@@ -71,7 +70,7 @@ settled_in at sound h is =
       crash_kept = λ on. record {
         safe = quiet_is_safe (settled s) m (settled_quiet s) (settled_found s sound at.handles m is.number is.stands);
         once = sync_files_once s (is.crash_kept on).once;
-        doomed = λ d i file name placed held names ever. apart_doomed s sound at.handles m d file name _ names ever;
+        aside = λ d i file name placed held names ever. apart_aside s sound at.handles m d file name _ names ever;
         unburied = never_buried m;
         young = omega arith;
       };

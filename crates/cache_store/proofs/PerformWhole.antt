@@ -35,7 +35,7 @@ begun_stands Flush h before after is safe stands =
         crash_kept = record {
           safe = safe;
           once = kept.once;
-          doomed = λ k i file name at held names ever. let touched = (kept.doomed k i file name at held names ever).touched in absurd (cc);
+          aside = λ k i file name at held names ever. let touched = (kept.aside k i file name at held names ever).touched in absurd (cc);
           unburied = (was.crash_kept refl).unburied;
           young = (was.crash_kept refl).young;
         };

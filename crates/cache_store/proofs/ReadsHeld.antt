@@ -1,17 +1,19 @@
 -- Parts that are read one after the other, and the chunks that are held.
-use Rattle.std.proofs.Common.{◌≡◌, ◌∙◌, ℕ, ◌+◌, ◌-◌, ◌/◌, ◌%◌, ◌<◌, ◌≤◌, List, length, length-drop, min, drop, Option, None, Some, Result, Ok, refl, sym, ap, subst, arith}
-use Rattle.std.specs.Prelude.{IfOk, option_and_then}
+use Rattle.std.proofs.Common.{Bool, true, ◌≡◌, ◌∙◌, ℕ, ◌+◌, ◌-◌, ◌/◌, ◌%◌, ◌<◌, ◌≤◌, List, [], ◌∷◌, length, length-drop, min, drop, Option, None, Some, Result, Ok, Err, refl, sym, ap, subst, arith}
+use Rattle.std.specs.Prelude.{IfOk, IsSome, option_and_then, ◌&&◌, ◌==◌}
+use Rattle.std.proofs.lemmas.Bool.{cond_both, eq-eqb}
 use Rattle.std.proofs.lemmas.List.{length-take}
 use Rattle.cache_base.specs.declared.limits.TheConstants.{SLOTS}
 use Rattle.cache_theory.specs.Command.Command.{ReadPart}
 use Rattle.cache_theory.specs.Machine.{Machine, object_of}
-use Rattle.chunk_cache.specs.Cached.{StandsFirst}
+use Rattle.chunk_cache.specs.Cached.{CachedChunk, StandsFirst, bytes_of}
 use Rattle.disk_model.specs.State.{State, standing}
 use Rattle.file_handles.specs.Cache.{cache_at}
 use Rattle.file_handles.specs.Held.{body_len_in}
 use Rattle.file_handles.specs.Kept.{Kept, object_at, object_in, use_at, used}
-use Rattle.file_handles.specs.Reading.{HoldsAsBefore, IsOfChunk, IsOfNone, IsPartHeld, LosesNone, SameButChunks, part_of_body}
+use Rattle.file_handles.specs.Reading.{HasReadOrNot, HoldsAsBefore, IsOfChunk, IsOfNone, IsPartHeld, LosesNone, SameButChunks, part_of_body}
 use Rattle.file_handles.specs.Stands.{HandlesStand, Represents, Stands}
+use Rattle.file_handles.specs.declared.fault.HandleFault.{HandleFault}
 use Rattle.file_handles.specs.declared.object.Object.{Object}
 use Rattle.file_handles.specs.declared.object.Use.{Use}
 use Rattle.file_handles.proofs.PartsSlots.{part_len}
@@ -60,7 +62,38 @@ pub held_on : (k j : Kept) (slot from len : ℕ) → SameButChunks k j → Loses
 held_on k j slot from len same none held x number index own of_chunk =
     none number index (held x number index (sym (ap (λ (i : Kept). object_in i slot) same) ∙ own) of_chunk)
 
+-- the first part of bytes that are held
+pub held_first : (k : Kept) (slot from len : ℕ) → AreHeld k slot from len → IsPartHeld k slot from len
+held_first k slot from len held x number index own of_chunk =
+    let some = of_chunk.some in
+    held from (omega arith) (omega (arith, some)) x number index own (record { some = omega arith; stored = of_chunk.stored; numbered = of_chunk.numbered; index_is = of_chunk.index_is })
+
+-- the most recent chunk is held
+first_some : (number index : ℕ) (chunks : List CachedChunk) → StandsFirst number index chunks → IsSome (bytes_of number index chunks)
+first_some number index [] stands = absurd stands
+first_some number index (chunk ∷ chunks) stands =
+    let own_entry : (number == chunk.entry) ≡ true = eq-eqb number chunk.entry (sym stands.0) in
+    let own_index : (index == chunk.index) ≡ true = eq-eqb index chunk.index (sym stands.1) in
+    cond_both ((number == chunk.entry) && (index == chunk.index)) (Some chunk.bytes) (bytes_of number index chunks) IsSome (λ is. refl)
+    (λ other. absurd (let own : ((number == chunk.entry) && (index == chunk.index)) ≡ true = ap (λ (a : Bool). a && (index == chunk.index)) own_entry ∙ own_index in cc))
+
+-- and so is the chunk that was read
+pub read_is_held : {T : Type 0} {tells : Type 0} (r : Result T HandleFault) (x : T) → r ≡ Ok x → (k j : Kept) (s : State) (slot from len : ℕ) → HasReadOrNot tells slot from len r (cache_at k s) j
+    → IsPartHeld j slot from len
+read_is_held (Err f) x is k j s slot from len has = absurd (cc)
+read_is_held (Ok y) x is k j s slot from len has = λ object number index own of_chunk.
+    first_some number index j.chunks (has.has_read.first object number index (sym (ap (λ (i : Kept). object_in i slot) has.has_read.same) ∙ own) of_chunk)
+
+-- all of them, by handles that lost none
+pub held_after : (k j : Kept) (slot from len : ℕ) → SameButChunks k j → LosesNone k j → AreHeld k slot from len → AreHeld j slot from len
+held_after k j slot from len same none held at past before = held_on k j slot at 1 same none (held at past before)
+
 -- ---- the chunk of the last byte
+
+-- of the same object
+pub recent_along : (k j l : Kept) (slot from len : ℕ) → SameButChunks k j → LastIsFirst j slot from len l → LastIsFirst k slot from len l
+recent_along k j l slot from len same recent x at number index own past last of_chunk =
+    recent x at number index (ap (λ (i : Kept). object_in i slot) same ∙ own) past last of_chunk
 
 -- how long the body is
 pub len_of : (k : Kept) (m : Machine) (number : ℕ → ℕ) → HandlesStand k m number → (slot : ℕ) → slot < SLOTS → (x : Object) → object_in k slot ≡ Some x → body_len_in x.entry ≡ length (object_of m slot).version.body

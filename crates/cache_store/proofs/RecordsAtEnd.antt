@@ -1,9 +1,9 @@
 -- The records in memory once the update has ended: there are such records, and where they were right they are the scan.
-use Rattle.std.proofs.Common.{◌≡◌, ◌≢◌, ◌∙◌, ℕ, zero, suc, ◌+◌, ◌≤◌, Bool, true, false, cond, List, [], ◌∷◌, Option, None, Some, option_and_then, Result, Ok, Err, OnOk, get_or, inl, inr, length, take, refl, sym, ap, subst, arith}
+use Rattle.std.proofs.Common.{◌≡◌, ◌≢◌, ◌<◌, ◌∙◌, Contains, ℕ, zero, suc, ◌+◌, ◌≤◌, Bool, true, false, cond, List, [], ◌∷◌, Option, None, Some, option_and_then, Result, Ok, Err, OnOk, get_or, inl, inr, length, take, refl, sym, ap, subst, arith}
 use Rattle.std.proofs.lemmas.List.{take_all}
 use Rattle.cache_base.specs.declared.name.Name.{Name}
 use Rattle.cache_store.specs.Performing.{GoesBy}
-use Rattle.cache_store.specs.Records.{AreAtEnd, AtEndIsOne, EndsWith, TellsOf}
+use Rattle.cache_store.specs.Records.{AreAtEnd, AtEndIsOne, EndsWith, TellsAtEnd, TellsOf}
 use Rattle.cache_store.specs.declared.memory_index.MemoryIndex.{MemoryIndex}
 use Rattle.cache_store.proofs.IndexAchieves.{goes_on_telling, session_at}
 use Rattle.cache_theory.specs.Machine.{Machine}
@@ -20,7 +20,9 @@ use Rattle.index_theory.specs.Ever.{Entries, entries_on}
 use Rattle.index_theory.specs.Scan.{record_of, scan, scanned}
 use Rattle.index_theory.proofs.ScanLaws.{record_named, scan_is_one, table_is_scanned}
 use Rattle.index_update.specs.Reads.{Reads, ReadsIn}
+use Rattle.index_update.specs.Rest.{name_bytes}
 use Rattle.index_update.specs.Slices.{ReadsSlice}
+use Rattle.index_update.specs.Tells.{TellsSeen}
 use Rattle.index_update.proofs.ReadMore.{reads_more, reads_none}
 use Rattle.index_update.proofs.Telling.{from_bytes, in_or_out}
 use Rattle.record_list.specs.Lists.{IsByName, record_at, same_name}
@@ -192,6 +194,42 @@ goes_by k now s index m stand records at_end = record {
       seen = λ q out. ends_told (entries_on s) index records at_end.same told q;
       all = λ over q. ends_told (entries_on s) index records at_end.same told q;
     }
+
+-- ---- the update is ended, and its names are left as they were
+
+-- all names are read, of which some were left
+at_end : (es : Entries) (old : MemoryIndex) (new : Known) → EndsWith es old new.records → new.records ≡ new.seen → TellsOf es old → TellsAtEnd es new
+at_end es old new ends same told = record {
+  seen = λ q out. sym (ap (λ rs. record_at rs q) same) ∙ ends_told es old new.records ends told q;
+  all = λ q. ends_told es old new.records ends told q;
+}
+
+pub apart_ends : (es : Entries) (old : MemoryIndex) (copy left : List Name) (new : Known) → copy ≡ old.update → old.update ≢ [] → ReadsSlice es copy copy left old.map new → new.records ≡ new.seen
+    → TellsOf es old → TellsAtEnd es new
+apart_ends es old copy left new is some slice same told =
+    let whole = subst (λ names. ReadsSlice es names names left old.map new) is slice in
+    let ends : EndsWith es old new.records = record {
+      ended = λ over. absurd (some over);
+      read = λ l. subst (λ rs. ReadsIn es old.update old.map.seen rs) (sym same) whole.seen;
+    } in
+    at_end es old new ends same told
+
+-- it goes on to tell, with whatever names
+pub ended_stays : (es : Entries) (new : MemoryIndex) → TellsAtEnd es new.map → TellsOf es new
+ended_stays es new at_end = record {
+  seen = λ q out. at_end.seen q (λ has. absurd (none_has q.0 has));
+  all = λ over. at_end.all;
+}
+  where
+    none_has : (name : List ℕ) → Contains [] name → ⊥
+    none_has name (i, lt, is) = omega (arith, lt)
+
+-- and where reading broke off
+pub broken_stays : (es : Entries) (old new : MemoryIndex) → old.update ≢ [] → new.update ≡ old.update → TellsSeen es new.map (name_bytes old.update) → TellsOf es new
+broken_stays es old new some same seen = record {
+  seen = subst (λ names. TellsSeen es new.map (name_bytes names)) (sym same) seen;
+  all = λ over. absurd (some (sym same ∙ over));
+}
 
 -- ---- the update is ended
 

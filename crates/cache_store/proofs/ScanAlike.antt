@@ -15,7 +15,7 @@ use Rattle.index_theory.specs.Scan.{scanned}
 
 module _ (at : Cache) (m : Machine) (index : MemoryIndex) where
   shelf_alike : Represents at m → (name : Name) → scanned (entries_on at.disk) name ≡ scanned (get m.shelf) name
-  shelf_alike (number, stands) name = stands_scan (standing at.disk) m name stands.proper stands.entries
+  shelf_alike (number, stands) name = stands_scan (standing at.disk) m name stands.entries
 
   pub tells_on_disk : Represents at m → TellsOf (get m.shelf) index → TellsOf (entries_on at.disk) index
   tells_on_disk is tells = tells_alike (get m.shelf) (entries_on at.disk) index (shelf_alike is) tells

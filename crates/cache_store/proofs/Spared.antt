@@ -1,7 +1,9 @@
 -- What the handles and the disk represent, where the entries are spared, and where the update has read other names.
-use Rattle.std.proofs.Common.{Bool, ◌∙◌, ℕ, List}
+use Rattle.std.proofs.Common.{Bool, ◌∙◌, ℕ, List, sym, subst}
 use Rattle.cache_theory.specs.Ever.{entry_place}
 use Rattle.cache_theory.specs.History.{History}
+use Rattle.cache_theory.specs.Machine.{object}
+use Rattle.cache_theory.specs.Stands.{HasObjectFile}
 use Rattle.cache_theory.proofs.Rested.{proper_rested, with_rest}
 use Rattle.disk_model.specs.State.{State}
 use Rattle.disk_model.specs.declared.place.Place.TheVariants.{Doomed}
@@ -22,11 +24,11 @@ spared_in k s t h spares is = record {
     proper = is.stands.proper;
     handles = is.stands.handles;
     entries = λ name. spared_stands s t spares (entry_place name) (λ of. of) ∙ is.stands.entries name;
-    doomed = record {
-      held = λ i h. let there = is.stands.doomed.held i h in (there.0, (there.1.0, spared_stands s t spares (Doomed there.0) (λ of. of) ∙ there.1.1));
-      only = λ d some. is.stands.doomed.only d (λ none. some (spared_stands s t spares (Doomed d) (λ of. of) ∙ none));
-      one_object = is.stands.doomed.one_object;
-      one_number = is.stands.doomed.one_number;
+    aside = record {
+      held = λ i has. let there = is.stands.aside.held i has in (there.0, (there.1.0, subst (HasObjectFile (object h.machine i)) (sym (spared_stands s t spares (Doomed there.0) (λ of. of))) there.1.1));
+      only = λ d some. is.stands.aside.only d (λ none. some (spared_stands s t spares (Doomed d) (λ of. of) ∙ none));
+      one_object = is.stands.aside.one_object;
+      one_number = is.stands.aside.one_number;
     };
   };
   crash_kept = λ on. spared_is_crash_kept s t h.machine h.marks (IsAt k is.number) spares (is.crash_kept on);

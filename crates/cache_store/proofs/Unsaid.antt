@@ -82,4 +82,5 @@ pub finds_reply : (key : List ℕ) (f : HandleFault) (s : State) (m : Machine) �
     → IfSome (replied answer) (λ q. q ≡ (step m (Get key)).reply)
 finds_reply key (handle.Refused r) s m finds answer is = subst (λ (o : Option Reply). IfSome o (λ q. q ≡ (step m (Get key)).reply)) (sym is) (sym (finds.none r refl))
 finds_reply key handle.Disk s m finds answer is = subst (λ (o : Option Reply). IfSome o (λ q. q ≡ (step m (Get key)).reply)) (sym is) tt
+finds_reply key handle.Read s m finds answer is = subst (λ (o : Option Reply). IfSome o (λ q. q ≡ (step m (Get key)).reply)) (sym is) tt
 finds_reply key handle.Memory s m finds answer is = subst (λ (o : Option Reply). IfSome o (λ q. q ≡ (step m (Get key)).reply)) (sym is) tt

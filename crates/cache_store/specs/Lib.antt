@@ -3,6 +3,7 @@ pub mod DoneFor
 pub mod EndsUpdate
 pub mod EntryText
 pub mod Evicting
+pub mod Faulting
 pub mod Faults
 pub mod IndexCalls
 pub mod InUse

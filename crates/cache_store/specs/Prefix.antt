@@ -1,7 +1,13 @@
 -- What a file begins with.
-use Rattle.std.specs.Prelude.{List, Some, length, take, ℕ, ◌≡◌, ◌≤◌}
+use Rattle.std.specs.Prelude.{IfSome, List, Option, Some, length, take, ℕ, ◌≡◌, ◌≤◌}
+use Rattle.chunk_store.specs.Chunks.{chunk}
 use Rattle.disk_model.specs.State.{State, standing}
 use Rattle.disk_model.specs.declared.place.Place.{Place}
+
+-- the bytes are this chunk of the body of so many bytes at the beginning of the file, if there is one that has so many
+abbrev pub HasChunkAt : Option (List ℕ) → ℕ → ℕ → List ℕ → Type 0
+HasChunkAt file len index bytes =
+    IfSome file (λ content. len ≤ length content → bytes ≡ chunk (take len content) index)
 
 -- P of the first bytes of the file at the place, if one stands there that has so many
 abbrev pub ForPrefix : State → Place → ℕ → (List ℕ → Type 0) → Type 0

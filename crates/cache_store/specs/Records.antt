@@ -25,6 +25,11 @@ pub record TellsOf (es : Entries) (index : MemoryIndex) : Type 0 where
   pub seen : TellsSeen es index.map (name_bytes index.update)
   pub all : index.update ≡ [] → TellsAll es index.map
 
+-- what was seen is right of every name, and there is no other record
+pub record TellsAtEnd (es : Entries) (map : Known) : Type 0 where
+  pub seen : TellsSeen es map []
+  pub all : TellsAll es map
+
 -- no record was seen
 abbrev pub SeesNone : Known → Type 0
 SeesNone map = (name : Name) → record_at map.seen name ≡ None

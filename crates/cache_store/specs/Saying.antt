@@ -39,6 +39,12 @@ abbrev pub SendsAll : Saying → Option (List ℕ) → Type 0
 SendsAll was now =
     (before : Option (List ℕ)) (text : List ℕ) → Said before was text → Appends before now text
 
+-- it did, with this after it, and maybe more
+abbrev pub SendsFront : Saying → Option (List ℕ) → List ℕ → Type 0
+SendsFront was now front =
+    (before : Option (List ℕ)) (text : List ℕ) → Said before was text
+    → (more : List ℕ) × Appends before now ((text ++ front) ++ more)
+
 -- or was cut
 abbrev pub CutsAll : Saying → Option (List ℕ) → Type 0
 CutsAll was now =

@@ -48,6 +48,7 @@ pub(crate) fn fault_answer(fault: HandleFault) -> Result<Answered, StoreFault>
 {
     match fault {
         HandleFault::Refused(refusal) => Ok(Answered::Refused(refusal)),
+        HandleFault::Read => Err(StoreFault::Disk),
         HandleFault::Disk => Err(StoreFault::Disk),
         HandleFault::Memory => Err(StoreFault::Memory),
     }

@@ -1,22 +1,25 @@
 //! Performs one command, and writes its reply.
 
 ghost use Rattle.std.specs.Prelude.{ℕ, ◌≡◌, ◌≢◌, ◌<◌, [], Err, Ok, true, false, IfOk, IfSome, IsErrOf, IsTrue, OnErr, OnOk, codes};
+ghost use Rattle.std.specs.Io.KnownBytes.{Appends};
 ghost use Rattle.cache_base.specs.Causes.{HasCause};
 ghost use Rattle.cache_base.specs.declared.limits.TheConstants.{SLOTS};
 ghost use Rattle.cache_script.specs.Command.{command_of};
 ghost use Rattle.cache_store.specs.Answering.{outcome_in, rest_of};
 ghost use Rattle.cache_store.specs.Evicting.{IsEviction, LooksBeforeChanges};
+ghost use Rattle.cache_store.specs.Faulting.{FailsForGood, LooksAtNothing, StaysAs};
 ghost use Rattle.cache_store.specs.Faults.{ending};
 ghost use Rattle.cache_store.specs.IndexCalls.{IsFresh, IsWritten, LooksAtNames, WritesIndex, names_read};
 ghost use Rattle.cache_store.specs.InUse.{SparesIndex};
 ghost use Rattle.cache_store.specs.Printed.{HasBadKey, IsPlain, Prints, is_check, is_plain, lists_findings};
 ghost use Rattle.cache_store.specs.Reads.{AreHeld, LastIsFirst};
-ghost use Rattle.cache_store.specs.Said.{saying};
+ghost use Rattle.cache_store.specs.Said.{IsCut, saying};
 ghost use Rattle.cache_store.specs.Saying.{CutsIn, SaysMore, TakesMore};
 ghost use Rattle.cache_theory.specs.Command.Command.{ElementOf, Flush, ReadPart, Rebuild, Verify};
+ghost use Rattle.cache_theory.specs.Faulted.{fault_line};
 ghost use Rattle.cache_theory.specs.Given.{IsGiven};
 ghost use Rattle.cache_theory.specs.Text.{with_bytes};
-ghost use Rattle.disk_model.specs.Account.{Accounts};
+ghost use Rattle.disk_model.specs.Account.{Accounts, Ending, Looks};
 ghost use Rattle.disk_model.specs.Sound.{IsQuiet};
 ghost use Rattle.disk_model.specs.Told.{Told};
 ghost use Rattle.index_map.specs.Known.{SameBase};
@@ -25,6 +28,7 @@ ghost use Rattle.index_theory.specs.Leaves.{LeavesIndex};
 ghost use Rattle.index_theory.specs.Unclean.{IsUnclean};
 
 use crate::answered::{Answered, answer_of};
+use crate::faulting::has_failed;
 use crate::pending::Pending;
 use crate::replies::counted;
 use crate::store::Store;
@@ -120,6 +124,7 @@ impl Store {
     ghost use Rattle.cache_store.specs.Performing.{DoesWhatIsDone, HadEffect, PerformsFor};
     ghost use Rattle.cache_store.specs.Session.{open_of, session};
     ghost use Rattle.cache_store.specs.Verifying.{IsFoundIn, PrintsFound};
+    ghost use Rattle.file_handles.specs.Cache.{cache};
     ghost use Rattle.file_handles.specs.Kept.{kept};
 
     // Says the value of an element.
@@ -139,6 +144,7 @@ impl Store {
         ensures still_empty { IfOk result (λ a.
             a ≢ Answered.All → self.new.reply.held ≡ []) }
         ensures open { open_of self.new ≡ open_of self.old }
+        ensures calm { self.new.faulting ≡ self.old.faulting }
         ensures no_disk { result ≢ Err StoreFault.Disk }
         ensures sink { let failed = IsErrOf result StoreFault.Sink in
             HasCause failed (K.faults sink.old) (K.faults sink.new) }
@@ -163,6 +169,7 @@ impl Store {
     ) -> Result<Answered, StoreFault>
         requires given { IsGiven (command_of c.now) }
         requires empty { self.old.reply.held ≡ [] }
+        requires calm { self.old.faulting ≡ false }
         requires told { IsTrue D.tells → IsOpen (session D.Disk self.old disk.old) }
         ensures does { let at = session D.Disk in IsTrue D.tells →
             DoesWhatIsDone (command_of c.now) result (at self.old disk.old) (at self.new disk.new)
@@ -189,6 +196,20 @@ impl Store {
         ensures flushed { command_of c.now ≡ Flush → OnOk result
             (self.new.index.update ≡ [] → IsFresh self.new.index.map) }
         ensures rebuilt { command_of c.now ≡ Rebuild → OnOk result (IsWritten self.new.index.map) }
+        // Where a look failed before anything was said, all is as before. Where the disk failed in another way, it was in a
+        // change or a sync, or the reply is out up to its first chunk.
+        ensures faulted { self.new.faulting ≡ true → result ≡ Err StoreFault.Disk }
+        ensures looked { self.new.faulting ≡ true → Looks D.Disk Ending.OneFailed disk.old disk.new }
+        ensures stays { let at = session D.Disk in self.new.faulting ≡ true → IsTrue D.tells →
+            StaysAs (at self.old disk.old) (at self.new disk.new) }
+        ensures same_base { self.new.faulting ≡ true →
+            SameBase self.old.index.map self.new.index.map }
+        ensures silent { self.new.faulting ≡ true →
+            (sink.new ≡ sink.old) × (self.new.reply.held ≡ []) }
+        ensures change { let at = cache D.Disk self.old.handles disk.old in
+            self.new.faulting ≡ false → result ≡ Err StoreFault.Disk → IsTrue D.tells →
+            FailsForGood (D.counts disk.new) (command_of c.now) at (K.taken sink.old) (K.taken sink.new) }
+        ensures bare { LooksAtNothing (command_of c.now) → self.new.faulting ≡ false }
         ensures held { (slot from len : ℕ) → command_of c.now ≡ ReadPart slot from len →
             AreHeld (kept self.old.handles) slot from len → disk.new ≡ disk.old }
         ensures recent { (slot from len : ℕ) → command_of c.now ≡ ReadPart slot from len →
@@ -206,9 +227,14 @@ impl Store {
             Command::Create { slot, key } => {
                 let now = self.moment;
                 let answer = self.handles.create(alloc, disk, slot, key, now);
+                self.faulting = has_failed(&answer);
                 self.index.learn_of(answer)
             }
-            Command::OpenKey { slot, key } => answer_of(self.handles.open(alloc, disk, slot, key)),
+            Command::OpenKey { slot, key } => {
+                let answer = self.handles.open(alloc, disk, slot, key);
+                self.faulting = has_failed(&answer);
+                answer_of(answer)
+            }
             Command::Append { slot, bytes } => answer_of(self.handles.append(disk, slot, bytes)),
             Command::Finish { slot } => {
                 let answer = self.handles.finish(alloc, disk, slot);
@@ -237,6 +263,7 @@ impl Store {
             }
             Command::Doom { key } => {
                 let answer = self.handles.doom(alloc, disk, key);
+                self.faulting = has_failed(&answer);
                 self.index.learn_of(answer)
             }
             Command::Get { key } => self.say_get(alloc, disk, key, sink),
@@ -264,6 +291,7 @@ impl Store {
             OnErr result (CutsRest (rest_of answered) was (K.taken sink.new)) }
         ensures outcome { IfOk result (λ o. o ≡ outcome_in answered) }
         ensures open { open_of self.new ≡ open_of self.old }
+        ensures calm { self.new.faulting ≡ self.old.faulting }
         ensures no_disk { result ≢ Err StoreFault.Disk }
         ensures sink { let failed = IsErrOf result StoreFault.Sink in
             HasCause failed (K.faults sink.old) (K.faults sink.new) }
@@ -330,9 +358,41 @@ impl Store {
         ensures account { Accounts D.Disk (ending result) disk.old disk.new }
         ensures sink { let failed = IsErrOf result StoreFault.Sink in
             HasCause failed (K.faults sink.old) (K.faults sink.new) }
+
+        // Where a look failed before anything of the reply was out, `faulting` tells it, and all is as it was. Where the disk
+        // failed in another way, it was in a change or a sync, as the last call, or the reply is out up to its first chunk.
+        // A command that makes no look never fails in one.
+        ensures faulted { self.new.faulting ≡ true → result ≡ Err StoreFault.Disk }
+        ensures looked { self.new.faulting ≡ true → Looks D.Disk Ending.OneFailed disk.old disk.new }
+        ensures stays { let at = session D.Disk in self.new.faulting ≡ true → IsTrue D.tells →
+            StaysAs (at self.old disk.old) (at self.new disk.new) }
+        ensures same_base { self.new.faulting ≡ true →
+            SameBase self.old.index.map self.new.index.map }
+        ensures silent { self.new.faulting ≡ true → sink.new ≡ sink.old }
+        ensures fails { let at = cache D.Disk self.old.handles disk.old in
+            self.new.faulting ≡ false → result ≡ Err StoreFault.Disk → IsTrue D.tells →
+            FailsForGood (D.counts disk.new) (command_of c.now) at (K.taken sink.old) (K.taken sink.new) }
+        ensures bare { LooksAtNothing (command_of c.now) → self.new.faulting ≡ false }
     {
         self.reply.clear();
+        self.faulting = false;
         let answered = self.perform(alloc, disk, c, sink)?;
         self.finish_reply(alloc, answered, sink)
+    }
+
+    /// Says the line `fault`, which is the reply to a command that ended in a failed look at the disk, as `faulting` tells.
+    pub fn say_fault<K: Sink>(&mut self, sink: &mut K) -> Result<(), StoreFault>
+        ensures printed { OnOk result (Appends (K.taken sink.old) (K.taken sink.new) fault_line) }
+        ensures cut { OnErr result (IsCut (K.taken sink.old) (K.taken sink.new) fault_line) }
+        ensures open { open_of self.new ≡ open_of self.old }
+        ensures calm { self.new.faulting ≡ self.old.faulting }
+        ensures no_disk { result ≢ Err StoreFault.Disk }
+        ensures sink { let failed = IsErrOf result StoreFault.Sink in
+            HasCause failed (K.faults sink.old) (K.faults sink.new) }
+    {
+        self.reply.clear();
+        self.reply.put(sink, b"fault\n")?;
+        self.reply.send(sink)?;
+        Ok(())
     }
 }

@@ -1,7 +1,7 @@
 //! Evicts entries, so that all take at most so many KB.
 
 ghost use Rattle.std.specs.List.{list_any};
-ghost use Rattle.std.specs.Prelude.{◌≡◌, [], false, IfOk, IsErrOf, IsTrue, filter, length};
+ghost use Rattle.std.specs.Prelude.{◌≡◌, [], Err, false, true, IfOk, IsErrOf, IsTrue, filter, length};
 ghost use Rattle.cache_base.specs.Causes.{HasCause};
 ghost use Rattle.cache_base.specs.Names.{AreRising};
 ghost use Rattle.cache_store.specs.Evicting.{ArePicked, AreUnused, AreVictims, DoomsAll, HoldsFiles, LooksBeforeChanges, has_file};
@@ -11,7 +11,7 @@ ghost use Rattle.cache_store.specs.Printed.{lists_findings};
 ghost use Rattle.cache_store.specs.Said.{saying};
 ghost use Rattle.cache_store.specs.Saying.{TakesMore};
 ghost use Rattle.cache_theory.specs.Command.Command.{Evict};
-ghost use Rattle.disk_model.specs.Account.{Accounts, Looks, LooksAtNoEntry, ending as disk_ending};
+ghost use Rattle.disk_model.specs.Account.{Accounts, Ending, Looks, LooksAtNoEntry, ending as disk_ending};
 ghost use Rattle.disk_model.specs.Told.{Told};
 ghost use Rattle.file_handles.specs.Cache.{cache};
 ghost use Rattle.file_handles.specs.Kept.{kept};
@@ -22,6 +22,7 @@ ghost use Rattle.record_list.specs.Lists.{same_name};
 
 use crate::StoreFault;
 use crate::answered::Answered;
+use crate::faulting::look_fault;
 use crate::listing::say_listing;
 use crate::store::Store;
 use cache_base::{Name, Names, NoMemory};
@@ -92,6 +93,7 @@ fn remove_files<D: Disk>(
 }
 
 impl Store {
+    ghost use Rattle.cache_store.specs.Faulting.{StaysAs};
     ghost use Rattle.cache_store.specs.Open.{IsOpen};
     ghost use Rattle.cache_store.specs.Performing.{DoesWhatIsDone, HadEffect};
     ghost use Rattle.cache_store.specs.Session.{session};
@@ -116,6 +118,7 @@ impl Store {
         sink: &mut K,
     ) -> Result<Answered, StoreFault>
         requires empty { self.old.reply.held ≡ [] }
+        requires calm { self.old.faulting ≡ false }
         requires told { IsTrue D.tells → IsOpen (session D.Disk self.old disk.old) }
         ensures does { let at = session D.Disk in IsTrue D.tells →
             DoesWhatIsDone (Evict kb) result (at self.old disk.old) (at self.new disk.new)
@@ -127,13 +130,30 @@ impl Store {
         ensures all { IfOk result (λ a. a ≡ Answered.All) }
         ensures names { LooksAtNames D.Disk (length self.old.index.update) disk.old disk.new }
         ensures looks_first { LooksBeforeChanges D.Disk (ending result) disk.old disk.new }
+        ensures faulted { self.new.faulting ≡ true → result ≡ Err StoreFault.Disk }
+        ensures looked { self.new.faulting ≡ true → Looks D.Disk Ending.OneFailed disk.old disk.new }
+        ensures stays { let at = session D.Disk in self.new.faulting ≡ true → IsTrue D.tells →
+            StaysAs (at self.old disk.old) (at self.new disk.new) }
+        ensures same_base { self.new.faulting ≡ true →
+            SameBase self.old.index.map self.new.index.map }
+        ensures silent { self.new.faulting ≡ true →
+            (sink.new ≡ sink.old) × (self.new.reply.held ≡ []) }
+        ensures change { self.new.faulting ≡ false → FailsInChange D.Disk (ending result) disk.new }
         ensures account { Accounts D.Disk (ending result) disk.old disk.new }
         ensures sink { let failed = IsErrOf result StoreFault.Sink in
             HasCause failed (K.faults sink.old) (K.faults sink.new) }
     {
-        self.index.finish(disk)?;
+        let ended = match self.index.finish_apart(disk) {
+            Ok(ended) => ended,
+            Err(fault) => return Err(look_fault(fault, &mut self.faulting)),
+        };
         let names = self.names_to_evict(alloc, kb)?;
-        let files = standing(alloc, disk, names.as_slice())?;
+        let files = match standing(alloc, disk, names.as_slice()) {
+            Ok(files) => files,
+            Err(fault) => return Err(look_fault(fault, &mut self.faulting)),
+        };
+        // No look follows that could fail.
+        self.index.update = ended;
         remove_files(&mut self.handles, disk, files.as_slice())?;
         self.index.forget(names.as_slice());
         say_listing(alloc, b"evicted", names.as_slice(), &mut self.reply, sink)?;

@@ -1,6 +1,6 @@
 //! Performs the commands that go by the index.
 
-ghost use Rattle.std.specs.Prelude.{◌≡◌, ◌≢◌, [], Err, false, IfOk, IsErrOf, IsTrue, Ok, OnOk, length, take};
+ghost use Rattle.std.specs.Prelude.{◌≡◌, ◌≢◌, ◌↔◌, [], Err, false, true, IfOk, IsErrOf, IsTrue, Ok, OnOk, length, take};
 ghost use Rattle.cache_base.specs.Causes.{HasCause};
 ghost use Rattle.cache_store.specs.Answering.{HasOutcome};
 ghost use Rattle.cache_store.specs.Faults.{ending};
@@ -11,7 +11,7 @@ ghost use Rattle.cache_store.specs.Printed.{lists_findings};
 ghost use Rattle.cache_store.specs.Said.{saying};
 ghost use Rattle.cache_store.specs.Saying.{TakesMore};
 ghost use Rattle.cache_theory.specs.Command.Command.{Flush, ListRecords, Rebuild, StepUpdate};
-ghost use Rattle.disk_model.specs.Account.{Accounts, Looks, LooksAtNoEntry, ending as disk_ending};
+ghost use Rattle.disk_model.specs.Account.{Accounts, Ending, FailsInChange, Looks, LooksAtNoEntry, ending as disk_ending};
 ghost use Rattle.disk_model.specs.Sound.{IsQuiet};
 ghost use Rattle.disk_model.specs.Told.{Told};
 ghost use Rattle.index_theory.specs.Apart.{IsApart};
@@ -22,6 +22,7 @@ ghost use Rattle.startup_read.specs.Spares.{SparesEntries};
 
 use crate::StoreFault;
 use crate::answered::Answered;
+use crate::faulting::look_fault;
 use crate::listing::say_listing;
 use crate::memory_index::{MemoryIndex, scan};
 use crate::store::Store;
@@ -52,6 +53,7 @@ fn refresh<D: Disk>(
     ensures entries { Told D.Disk (λ s t. IsApart s → SparesEntries s t) disk.old disk.new }
     ensures unclean { Told D.Disk (λ s t. IsApart s → IsUnclean s → IsUnclean t) disk.old disk.new }
     ensures account { Accounts D.Disk (disk_ending result) disk.old disk.new }
+    ensures change { FailsInChange D.Disk (disk_ending result) disk.new }
     ensures no_entry { LooksAtNoEntry D.Disk disk.old disk.new }
 {
     if index.update.ended() {
@@ -63,8 +65,9 @@ fn refresh<D: Disk>(
 
 impl Store {
     ghost use Rattle.cache_store.specs.Open.{IsOpen};
+    ghost use Rattle.cache_store.specs.Faulting.{StaysAs};
     ghost use Rattle.cache_store.specs.Performing.{AchievesFor, DoesFor};
-    ghost use Rattle.cache_store.specs.Session.{session};
+    ghost use Rattle.cache_store.specs.Session.{open_of, session};
 
     /// Ends the update, and says the records of all entries in name order.
     pub(crate) fn say_list<D: Disk, K: Sink>(
@@ -74,6 +77,7 @@ impl Store {
         sink: &mut K,
     ) -> Result<Answered, StoreFault>
         requires empty { self.old.reply.held ≡ [] }
+        requires calm { self.old.faulting ≡ false }
         requires told { IsTrue D.tells → IsOpen (session D.Disk self.old disk.old) }
         ensures does { let at = session D.Disk in IsTrue D.tells →
             DoesFor ListRecords result (at self.old disk.old) (at self.new disk.new)
@@ -82,12 +86,21 @@ impl Store {
         ensures base { SameBase self.old.index.map self.new.index.map }
         ensures unlisted { IfOk result (λ a. lists_findings a ≡ false) }
         ensures all { IfOk result (λ a. a ≡ Answered.All) }
+        ensures faulted { (self.new.faulting ≡ true) ↔ (result ≡ Err StoreFault.Disk) }
+        ensures stays { let at = session D.Disk in self.new.faulting ≡ true → IsTrue D.tells →
+            StaysAs (at self.old disk.old) (at self.new disk.new) }
+        ensures silent { self.new.faulting ≡ true →
+            (sink.new ≡ sink.old) × (self.new.reply.held ≡ []) }
         ensures looks { Looks D.Disk (ending result) disk.old disk.new }
         ensures names { LooksAtNames D.Disk (length self.old.index.update) disk.old disk.new }
         ensures sink { let failed = IsErrOf result StoreFault.Sink in
             HasCause failed (K.faults sink.old) (K.faults sink.new) }
     {
-        self.index.finish(disk)?;
+        let ended = match self.index.finish_apart(disk) {
+            Ok(ended) => ended,
+            Err(fault) => return Err(look_fault(fault, &mut self.faulting)),
+        };
+        self.index.update = ended;
         let records = self.index.map.records()?;
         say_listing(alloc, b"records", records.as_slice(), &mut self.reply, sink)?;
         Ok(Answered::All)
@@ -95,6 +108,7 @@ impl Store {
 
     /// Lets the update read the files of n names more.
     pub(crate) fn step<D: Disk>(&mut self, disk: &mut D, n: u32) -> Result<Answered, StoreFault>
+        requires calm { self.old.faulting ≡ false }
         requires told { IsTrue D.tells → IsOpen (session D.Disk self.old disk.old) }
         ensures does { let at = session D.Disk in IsTrue D.tells →
             AchievesFor (StepUpdate n) result (at self.old disk.old) (at self.new disk.new) }
@@ -103,12 +117,17 @@ impl Store {
         ensures not_said { result ≢ Ok Answered.All }
         ensures no_sink { result ≢ Err StoreFault.Sink }
         ensures held { self.new.reply.held ≡ self.old.reply.held }
+        ensures faulted { (self.new.faulting ≡ true) ↔ (result ≡ Err StoreFault.Disk) }
+        ensures stays { let at = session D.Disk in self.new.faulting ≡ true → IsTrue D.tells →
+            StaysAs (at self.old disk.old) (at self.new disk.new) }
         ensures looks { Looks D.Disk (ending result) disk.old disk.new }
         ensures names { let names = length (take n self.old.index.update) in
             LooksAtNames D.Disk names disk.old disk.new }
     {
-        self.index.step(disk, n)?;
-        Ok(self.index.state())
+        match self.index.step(disk, n) {
+            Ok(()) => Ok(self.index.state()),
+            Err(fault) => Err(look_fault(fault, &mut self.faulting)),
+        }
     }
 
     /// Syncs the disk. Where the update has ended and no index was written yet, or too many records differ from it, the
@@ -130,6 +149,8 @@ impl Store {
         ensures index { SparesIndex Flush self.old.index → Told D.Disk LeavesIndex disk.old disk.new }
         ensures quiet { OnOk result (IsTrue D.tells → IsQuiet (D.state disk.new)) }
         ensures unclean { IsTrue D.tells → IsUnclean (D.state disk.new) }
+        ensures calm { self.new.faulting ≡ self.old.faulting }
+        ensures change { FailsInChange D.Disk (ending result) disk.new }
         ensures account { Accounts D.Disk (ending result) disk.old disk.new }
         ensures no_entry { LooksAtNoEntry D.Disk disk.old disk.new }
     {
@@ -144,6 +165,7 @@ impl Store {
         alloc: Global,
         disk: &mut D,
     ) -> Result<Answered, StoreFault>
+        requires calm { self.old.faulting ≡ false }
         requires told { IsTrue D.tells → IsOpen (session D.Disk self.old disk.old) }
         ensures does { let at = session D.Disk in IsTrue D.tells →
             AchievesFor Rebuild result (at self.old disk.old) (at self.new disk.new) }
@@ -155,9 +177,16 @@ impl Store {
         ensures written { OnOk result (IsWritten self.new.index.map) }
         ensures quiet { OnOk result (IsTrue D.tells → IsQuiet (D.state disk.new)) }
         ensures unclean { IsTrue D.tells → IsUnclean (D.state disk.new) }
+        ensures faulted { self.new.faulting ≡ true → result ≡ Err StoreFault.Disk }
+        ensures looked { self.new.faulting ≡ true → Looks D.Disk Ending.OneFailed disk.old disk.new }
+        ensures stays { self.new.faulting ≡ true → open_of self.new ≡ open_of self.old }
+        ensures change { self.new.faulting ≡ false → FailsInChange D.Disk (ending result) disk.new }
         ensures account { Accounts D.Disk (ending result) disk.old disk.new }
     {
-        self.index = scan(alloc, disk)?;
+        self.index = match scan(alloc, disk) {
+            Ok(index) => index,
+            Err(fault) => return Err(look_fault(fault, &mut self.faulting)),
+        };
         write_index(alloc, disk, &mut self.index.map, self.moment)?;
         disk.sync()?;
         Ok(Answered::Rebuilt(self.index.map.totals().count))

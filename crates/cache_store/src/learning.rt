@@ -1,6 +1,6 @@
 //! Learns of a command on entries, for the index in memory.
 
-ghost use Rattle.std.specs.Prelude.{◌≡◌, false, IfOk};
+ghost use Rattle.std.specs.Prelude.{◌≡◌, false, IfErr, IfOk};
 ghost use Rattle.cache_store.specs.Faults.{EndsAs, ending};
 ghost use Rattle.cache_store.specs.Learnt.{IsLearnt, effect_of, effect_of_some};
 ghost use Rattle.cache_store.specs.Printed.{IsPlain, lists_findings};
@@ -22,6 +22,7 @@ impl MemoryIndex {
         ensures learnt { IsLearnt (done_or answer) (effect_of answer) result self.old self.new }
         ensures plain { IfOk result IsPlain }
         ensures unlisted { IfOk result (λ a. lists_findings a ≡ false) }
+        ensures unlearnt { IfErr answer (λ f. self.new ≡ self.old) }
         ensures ending { EndsAs (handle_ending answer) (ending result) }
     {
         match answer {

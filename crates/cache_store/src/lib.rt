@@ -6,6 +6,7 @@ mod answered;
 mod command;
 mod evict;
 mod fault;
+mod faulting;
 mod get;
 mod index_commands;
 mod kilobytes;

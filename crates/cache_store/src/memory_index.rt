@@ -1,10 +1,10 @@
 //! The index in memory: the records of the entries, and the update that reads those which are not known yet.
 
-ghost use Rattle.std.specs.Prelude.{◌≡◌, ◌≢◌, [], IfOk, IsTrue, OnOk, Some, drop, false, length, take};
+ghost use Rattle.std.specs.Prelude.{◌≡◌, ◌≢◌, [], IfOk, IsTrue, OnErr, OnOk, Some, drop, false, length, take};
 ghost use Rattle.cache_store.specs.Answering.{HasOutcome};
 ghost use Rattle.cache_store.specs.Evicting.{Forgets};
 ghost use Rattle.cache_store.specs.Printed.{lists_findings};
-ghost use Rattle.cache_store.specs.Records.{AnswersHas, EndsWith, Learns, TakenOff, TellsOf};
+ghost use Rattle.cache_store.specs.Records.{AnswersHas, EndsWith, Learns, TakenOff, TellsAtEnd, TellsOf};
 ghost use Rattle.cache_store.specs.Replied.{reply_of};
 ghost use Rattle.cache_theory.specs.Command.Command.{HasEntry};
 ghost use Rattle.cache_theory.specs.Step.{state_reply};
@@ -88,16 +88,22 @@ impl MemoryIndex {
         }
     }
 
-    /// Reads the files of the first n names that are left.
+    /// Reads the files of the first n names that are left. Where that fails the names are left as they were, and the records
+    /// that were read are right, and stay.
     pub(crate) fn step<D: Disk>(&mut self, disk: &mut D, n: u32) -> Result<(), DiskFault>
         ensures rest { OnOk result (self.new.update ≡ drop n self.old.update) }
         ensures base { SameBase self.old.map self.new.map }
+        ensures left { OnErr result (self.new.update ≡ self.old.update) }
         ensures tells { let es = entries_on (D.state disk.old) in
-            OnOk result (IsTrue D.tells → TellsOf es self.old → TellsOf es self.new) }
+            IsTrue D.tells → TellsOf es self.old → TellsOf es self.new }
         ensures looks { let names = length (take n self.old.update) in
             LooksAtNames D.Disk (ending result) names disk.old disk.new }
     {
-        self.update.step(disk, n, &mut self.map)
+        if self.update.ended() {
+            return Ok(());
+        }
+        self.update.step(disk, n, &mut self.map)?;
+        Ok(())
     }
 
     /// Reads the files of all names that are left.
@@ -115,6 +121,30 @@ impl MemoryIndex {
             return Ok(());
         }
         self.update.finish(disk, &mut self.map)
+    }
+
+    /// Reads the files of all names that are left, as `finish` does, and gives the update that has ended so. The names are
+    /// left as they were, so that the caller may look at more: where that fails, the records that were read are right, and
+    /// stay.
+    pub(crate) fn finish_apart<D: Disk>(&mut self, disk: &mut D) -> Result<Update, DiskFault>
+        ensures ended { IfOk result (λ update. update ≡ []) }
+        ensures rest { self.new.update ≡ self.old.update }
+        ensures base { SameBase self.old.map self.new.map }
+        ensures records { let es = entries_on (D.state disk.old) in
+            OnOk result (IsTrue D.tells → EndsWith es self.old self.new.map.records) }
+        ensures tells { let es = entries_on (D.state disk.old) in
+            OnOk result (IsTrue D.tells → TellsOf es self.old → TellsAtEnd es self.new.map) }
+        ensures stays { let es = entries_on (D.state disk.old) in
+            IsTrue D.tells → TellsOf es self.old → TellsOf es self.new }
+        ensures looks { let names = length self.old.update in
+            LooksAtNames D.Disk (ending result) names disk.old disk.new }
+    {
+        let mut update = self.update.copy()?;
+        if update.ended() {
+            return Ok(update);
+        }
+        update.finish(disk, &mut self.map)?;
+        Ok(update)
     }
 
     /// How far the update is.

@@ -1,6 +1,6 @@
 //! Holds back what of a reply is not out yet.
 
-ghost use Rattle.std.specs.Prelude.{◌≡◌, [], OnErr, OnOk, IfOk, IsErrOf};
+ghost use Rattle.std.specs.Prelude.{◌≡◌, [], OnErr, OnOk, IfOk, IsErrOf, true};
 ghost use Rattle.cache_base.specs.declared.limits.TheConstants.{BUFFER_MAX};
 ghost use Rattle.cache_base.specs.Causes.{HasCause};
 
@@ -63,6 +63,19 @@ impl Pending {
         write_whole(sink, self.held.as_slice())?;
         self.held.set_len(0);
         Ok(())
+    }
+
+    /// All that is held goes out where more is still to be said.
+    pub(crate) fn send_before<K: Sink>(&mut self, sink: &mut K, more: bool) -> Result<(), SinkFault>
+        ensures said { let at = saying K.Sink in
+            OnOk result (SaysMore (at self.old sink.old) (at self.new sink.new) []) }
+        ensures cut { let at = saying K.Sink in
+            OnErr result (CutsAll (at self.old sink.old) (K.taken sink.new)) }
+        ensures sent { more ≡ true → OnOk result (self.new.held ≡ []) }
+        ensures cause { let failed = IsErrOf result SinkFault.Failed in
+            HasCause failed (K.faults sink.old) (K.faults sink.new) }
+    {
+        if more { self.send(sink) } else { Ok(()) }
     }
 
     /// All that is held is dropped, as after a reply that was cut.

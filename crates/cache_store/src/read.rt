@@ -1,23 +1,26 @@
 //! Replies to a `read`.
 
-ghost use Rattle.std.specs.Prelude.{◌≡◌, ◌≢◌, ◌<◌, ◌≤◌, ◌+◌, ◌^◌, [], false, IfOk, IsErrOf, IsTrue, OnErr, OnOk, codes, drop, length, take};
+ghost use Rattle.std.specs.Prelude.{◌≡◌, ◌≢◌, ◌<◌, ◌≤◌, ◌+◌, ◌++◌, ◌^◌, [], Err, false, true, IfOk, IsErrOf, IsTrue, OnErr, OnOk, codes, drop, length, take};
 ghost use Rattle.cache_base.specs.Causes.{HasCause};
 ghost use Rattle.cache_base.specs.declared.limits.TheConstants.{SLOTS};
 ghost use Rattle.cache_store.specs.Answering.{outcome_in};
+ghost use Rattle.cache_store.specs.Faulting.{SendsFrontFor};
 ghost use Rattle.cache_store.specs.Faults.{ending};
 ghost use Rattle.cache_store.specs.Printed.{lists_findings};
 ghost use Rattle.cache_store.specs.Reads.{AreHeld, LastIsFirst};
 ghost use Rattle.cache_store.specs.Said.{saying};
-ghost use Rattle.cache_store.specs.Saying.{CutsIn, SaysMore, SaysPart, StopsIn};
+ghost use Rattle.cache_store.specs.Saying.{CutsIn, SaysMore, SaysPart, SendsFront, StopsIn};
 ghost use Rattle.cache_theory.specs.Command.Command.{ReadPart};
-ghost use Rattle.cache_theory.specs.Text.{with_bytes};
+ghost use Rattle.cache_theory.specs.Text.{with_bytes, with_number};
 ghost use Rattle.disk_model.specs.Account.{Looks};
+ghost use Rattle.file_handles.specs.Answers.{ending as handle_ending};
 ghost use Rattle.file_handles.specs.Cache.{cache};
 ghost use Rattle.file_handles.specs.Kept.{kept};
-ghost use Rattle.file_handles.specs.Reading.{ForBody, HasRead, HoldsAsBefore, IsPartHeld, SameButChunks, part_of_body};
+ghost use Rattle.file_handles.specs.Reading.{ForBody, HasRead, HasReadOrNot, HoldsAsBefore, IsPartHeld, SameButChunks, part_of_body};
 ghost use Rattle.file_handles.specs.Stands.{RepresentsSome};
 
 use crate::answered::Answered;
+use crate::faulting::{handles_fault, is_failed};
 use crate::pending::Pending;
 use crate::replies::counted;
 use crate::store::Store;
@@ -27,7 +30,7 @@ use disk_model::Disk;
 use file_handles::{HandleFault, Handles};
 use std::alloc::Global;
 
-// Says one part of the body, and gives its length.
+// Says one part of the body, and gives its length. Where more is to be said, all that was said is out.
 fn say_part<D: Disk, K: Sink>(
     handles: &mut Handles,
     alloc: Global,
@@ -49,9 +52,13 @@ fn say_part<D: Disk, K: Sink>(
         let part = part_of_body body from len in
         StopsIn (at reply.old sink.old) (K.taken sink.new) part)) }
     ensures bound { IfOk result (λ n. n ≤ len) }
+    ensures sent { IfOk result (λ n. n < len → reply.new.held ≡ []) }
+    ensures unsaid { result ≡ Err StoreFault.Disk →
+        (sink.new ≡ sink.old) × (reply.new.held ≡ reply.old.held) }
     ensures read { let before = cache D.Disk handles.old disk.old in
         HasRead (IsTrue D.tells) slot from len result before (kept handles.new) }
-    ensures held { IsPartHeld (kept handles.old) slot from len → disk.new ≡ disk.old }
+    ensures held { IsPartHeld (kept handles.old) slot from len →
+        (disk.new ≡ disk.old) × (result ≢ Err StoreFault.Disk) }
     ensures looks { Looks D.Disk (ending result) disk.old disk.new }
     ensures sink { let failed = IsErrOf result StoreFault.Sink in
         HasCause failed (K.faults sink.old) (K.faults sink.new) }
@@ -60,15 +67,38 @@ fn say_part<D: Disk, K: Sink>(
         Ok(part) => {
             let n = len.min(part.len() as u64);
             reply.put(sink, part)?;
+            reply.send_before(sink, n < len)?;
             Ok(n)
         }
-        Err(HandleFault::Disk) => Err(StoreFault::Disk),
-        Err(HandleFault::Memory) => Err(StoreFault::Memory),
-        Err(HandleFault::Refused(_)) => Err(StoreFault::Memory),
+        Err(fault) => Err(handles_fault(fault)),
     }
 }
 
-// Says the bytes of the body from a place on, part by part.
+// Reads the chunk of the first part of some bytes, which is held from then on.
+fn fetch<D: Disk>(
+    handles: &mut Handles,
+    alloc: Global,
+    disk: &mut D,
+    slot: u8,
+    from: u64,
+    len: u64,
+) -> Result<(), HandleFault>
+    requires slot { slot < SLOTS }
+    requires told { IsTrue D.tells → RepresentsSome (cache D.Disk handles.old disk.old) }
+    ensures read { let before = cache D.Disk handles.old disk.old in
+        HasReadOrNot (IsTrue D.tells) slot from len result before (kept handles.new) }
+    ensures fetched { OnOk result (IsPartHeld (kept handles.new) slot from len) }
+    ensures held { IsPartHeld (kept handles.old) slot from len → disk.new ≡ disk.old }
+    ensures no_change { result ≢ Err HandleFault.Disk }
+    ensures looks { Looks D.Disk (handle_ending result) disk.old disk.new }
+{
+    match handles.read_part(alloc, disk, slot, from, len) {
+        Ok(_) => Ok(()),
+        Err(fault) => Err(fault),
+    }
+}
+
+// Says the bytes of the body from a place on, part by part. The first part is held.
 fn say_parts<D: Disk, K: Sink>(
     handles: &mut Handles,
     alloc: Global,
@@ -81,11 +111,17 @@ fn say_parts<D: Disk, K: Sink>(
 ) -> Result<(), StoreFault>
     requires slot { slot < SLOTS }
     requires small { from + len < 2 ^ 64 }
+    requires first { IsPartHeld (kept handles.old) slot from len }
     requires told { IsTrue D.tells → RepresentsSome (cache D.Disk handles.old disk.old) }
     ensures says { let at = saying K.Sink in OnOk result (IsTrue D.tells →
         ForBody (cache D.Disk handles.old disk.old) slot (λ body.
         let bytes = take len (drop from body) in
         SaysMore (at reply.old sink.old) (at reply.new sink.new) bytes)) }
+    // Where the disk failed the first part is out.
+    ensures front { let at = saying K.Sink in result ≡ Err StoreFault.Disk → IsTrue D.tells →
+        ForBody (cache D.Disk handles.old disk.old) slot (λ body.
+        let part = part_of_body body from len in
+        SendsFront (at reply.old sink.old) (K.taken sink.new) part) }
     ensures stops { let at = saying K.Sink in OnErr result (IsTrue D.tells →
         ForBody (cache D.Disk handles.old disk.old) slot (λ body.
         let bytes = take len (drop from body) in
@@ -120,7 +156,7 @@ fn say_parts<D: Disk, K: Sink>(
     Ok(())
 }
 
-// Says so many bytes of the body from a place on, if it has them, after a line with their number.
+// Says so many bytes of the body from a place on, if it has them, after a line with their number. The first part is held.
 fn say_bytes<D: Disk, K: Sink>(
     handles: &mut Handles,
     alloc: Global,
@@ -133,6 +169,7 @@ fn say_bytes<D: Disk, K: Sink>(
 ) -> Result<(), StoreFault>
     requires slot { slot < SLOTS }
     requires small { from + len < 2 ^ 64 }
+    requires first { IsPartHeld (kept handles.old) slot from len }
     requires told { IsTrue D.tells → RepresentsSome (cache D.Disk handles.old disk.old) }
     ensures says { let at = saying K.Sink in OnOk result (IsTrue D.tells →
         ForBody (cache D.Disk handles.old disk.old) slot (λ body.
@@ -145,6 +182,11 @@ fn say_bytes<D: Disk, K: Sink>(
         let bytes = take len (drop from body) in
         let text = with_bytes (codes "data") bytes in
         len ≡ length bytes → CutsIn (at reply.old sink.old) (K.taken sink.new) text)) }
+    // Where the disk failed the line and the first part are out.
+    ensures front { let at = saying K.Sink in result ≡ Err StoreFault.Disk → IsTrue D.tells →
+        ForBody (cache D.Disk handles.old disk.old) slot (λ body.
+        let front = with_number (codes "data") len ++ part_of_body body from len in
+        SendsFront (at reply.old sink.old) (K.taken sink.new) front) }
     ensures same { SameButChunks (kept handles.old) (kept handles.new) }
     ensures holds { IsTrue D.tells →
         HoldsAsBefore (cache D.Disk handles.old disk.old) (kept handles.new) }
@@ -166,7 +208,7 @@ impl Store {
     ghost use Rattle.cache_store.specs.Answering.{AnswersFor};
     ghost use Rattle.cache_store.specs.Session.{open_of};
 
-    /// Says the part of a body, unless the command is refused.
+    /// Says the part of a body, unless the command is refused. The first chunk is read before anything is said.
     pub(crate) fn say_read<D: Disk, K: Sink>(
         &mut self,
         alloc: Global,
@@ -178,6 +220,7 @@ impl Store {
     ) -> Result<Answered, StoreFault>
         requires slot { slot < SLOTS }
         requires empty { self.old.reply.held ≡ [] }
+        requires calm { self.old.faulting ≡ false }
         requires told { IsTrue D.tells → RepresentsSome (cache D.Disk self.old.handles disk.old) }
         ensures answers { IsTrue D.tells →
             AnswersFor (cache D.Disk self.old.handles disk.old) (ReadPart slot from len) result
@@ -194,6 +237,15 @@ impl Store {
         ensures held { AreHeld (kept self.old.handles) slot from len → disk.new ≡ disk.old }
         ensures recent { IfOk result (λ a. outcome_in a ≡ Outcome.Ok → IsTrue D.tells →
             LastIsFirst (kept self.old.handles) slot from len (kept self.new.handles)) }
+        // Where a look failed before anything was said, all is as before; and else where the disk failed the reply is out up
+        // to its first chunk.
+        ensures faulted { self.new.faulting ≡ true → result ≡ Err StoreFault.Disk }
+        ensures stays { self.new.faulting ≡ true → kept self.new.handles ≡ kept self.old.handles }
+        ensures silent { self.new.faulting ≡ true →
+            (sink.new ≡ sink.old) × (self.new.reply.held ≡ []) }
+        ensures front { self.new.faulting ≡ false → result ≡ Err StoreFault.Disk → IsTrue D.tells →
+            SendsFrontFor (cache D.Disk self.old.handles disk.old) (ReadPart slot from len)
+            (K.taken sink.old) (K.taken sink.new) }
         ensures looks { Looks D.Disk (ending result) disk.old disk.new }
         ensures sink { let failed = IsErrOf result StoreFault.Sink in
             HasCause failed (K.faults sink.old) (K.faults sink.new) }
@@ -203,12 +255,17 @@ impl Store {
             Err(refusal) => return Ok(Answered::Refused(refusal)),
         };
         let count = u64::from(len).min(u64::from(end.saturating_sub(from)));
+        let at = u64::from(from);
+        if let Err(fault) = fetch(&mut self.handles, alloc, disk, slot, at, count) {
+            self.faulting = is_failed(&fault);
+            return Err(handles_fault(fault));
+        }
         say_bytes(
             &mut self.handles,
             alloc,
             disk,
             slot,
-            u64::from(from),
+            at,
             count,
             &mut self.reply,
             sink,

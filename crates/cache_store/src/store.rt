@@ -1,6 +1,6 @@
 //! Opens the cache, and closes it.
 
-ghost use Rattle.std.specs.Prelude.{◌≢◌, IfOk, IsTrue, OnOk, Err};
+ghost use Rattle.std.specs.Prelude.{◌≡◌, ◌≢◌, IfOk, IsTrue, OnOk, Err};
 ghost use Rattle.disk_model.specs.Account.{Accounts, LooksAtNoEntry};
 ghost use Rattle.disk_model.specs.Sound.{IsQuiet};
 ghost use Rattle.disk_model.specs.Told.{Told};
@@ -25,6 +25,8 @@ pub struct Store {
     pub(crate) index: MemoryIndex,
     // What of the reply is not out yet.
     pub(crate) reply: Pending,
+    // A look at the disk failed before anything of the last reply was said.
+    pub(crate) faulting: bool,
     alloc: Global,
 }
 
@@ -66,8 +68,17 @@ impl Store {
             moment: now,
             index,
             reply,
+            faulting: false,
             alloc,
         })
+    }
+
+    /// Whether the last command ended in a look at the disk that failed before anything of its reply was out. It has had no
+    /// effect then, and the store is as it was.
+    pub fn faulting(&self) -> bool
+        ensures { result ≡ self.now.faulting }
+    {
+        self.faulting
     }
 
     /// Closes the cache: all slots are given up, what is not finished and what is doomed leaves no file, and the index is

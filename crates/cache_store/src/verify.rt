@@ -1,6 +1,6 @@
 //! Checks all entries, and holds them against their records.
 
-ghost use Rattle.std.specs.Prelude.{◌≡◌, ◌≢◌, [], Err, IfOk, IsErrOf, IsTrue, Ok, OnErr, OnOk, true};
+ghost use Rattle.std.specs.Prelude.{◌≡◌, ◌≢◌, ◌↔◌, [], Err, IfOk, IsErrOf, IsTrue, Ok, OnErr, OnOk, false, true};
 ghost use Rattle.cache_base.specs.Causes.{HasCause};
 ghost use Rattle.cache_store.specs.Answering.{outcome_of};
 ghost use Rattle.cache_store.specs.Faults.{ending};
@@ -13,6 +13,7 @@ ghost use Rattle.disk_model.specs.Account.{Looks};
 ghost use Rattle.index_map.specs.Known.{SameBase};
 
 use crate::answered::Answered;
+use crate::faulting::look_fault;
 use crate::listing::say_listing;
 use crate::pending::Pending;
 use crate::store::Store;
@@ -46,6 +47,7 @@ pub(crate) fn say_found<K: Sink>(
 }
 
 impl Store {
+    ghost use Rattle.cache_store.specs.Faulting.{StaysAs};
     ghost use Rattle.cache_store.specs.Open.{IsOpen};
     ghost use Rattle.cache_store.specs.Performing.{AchievesWhatIsDone};
     ghost use Rattle.cache_store.specs.Session.{session};
@@ -59,6 +61,7 @@ impl Store {
         alloc: Global,
         disk: &mut D,
     ) -> Result<Answered, StoreFault>
+        requires calm { self.old.faulting ≡ false }
         requires told { IsTrue D.tells → IsOpen (session D.Disk self.old disk.old) }
         ensures does { let at = session D.Disk in IsTrue D.tells →
             AchievesWhatIsDone Verify result (at self.old disk.old) (at self.new disk.new) }
@@ -66,15 +69,26 @@ impl Store {
             IsFoundIn (session D.Disk self.old disk.old) self.new.index.map a) }
         ensures lists { IfOk result (λ a. lists_findings a ≡ true) }
         ensures base { SameBase self.old.index.map self.new.index.map }
+        ensures faulted { (self.new.faulting ≡ true) ↔ (result ≡ Err StoreFault.Disk) }
+        ensures stays { let at = session D.Disk in self.new.faulting ≡ true → IsTrue D.tells →
+            StaysAs (at self.old disk.old) (at self.new disk.new) }
         ensures not_said { result ≢ Ok Answered.All }
         ensures no_sink { result ≢ Err StoreFault.Sink }
         ensures held { self.new.reply.held ≡ self.old.reply.held }
         ensures looks { Looks D.Disk (ending result) disk.old disk.new }
     {
-        self.index.finish(disk)?;
+        let ended = match self.index.finish_apart(disk) {
+            Ok(ended) => ended,
+            Err(fault) => return Err(look_fault(fault, &mut self.faulting)),
+        };
         let records = self.index.map.records()?;
         let writing = self.handles.writing_names(alloc)?;
-        let found = findings(alloc, disk, &records, &writing)?;
+        let found = match findings(alloc, disk, &records, &writing) {
+            Ok(found) => found,
+            Err(fault) => return Err(look_fault(fault, &mut self.faulting)),
+        };
+        // No look follows that could fail.
+        self.index.update = ended;
         Ok(Answered::Checked(found))
     }
 }

@@ -2,6 +2,7 @@ pub mod TableLaws
 pub mod MachineLaws
 pub mod EverSteps
 pub mod FiledOnce
+pub mod Unpublished
 pub mod Kept
 pub mod Readings
 pub mod Begins
@@ -22,8 +23,8 @@ pub mod Entering
 pub mod Releasing
 pub mod Reading
 pub mod Changes
+pub mod HeldAside
 pub mod EntryFiles
-pub mod HeldDoomed
 pub mod Rested
 pub mod Proper
 pub mod Waiting
@@ -35,9 +36,18 @@ pub mod EvictNames
 pub mod WritingNames
 pub mod Acked
 pub mod RepliesLong
+pub mod TextsApart
+pub mod RepliesApart
+pub mod FaultedSteps
+pub mod FaultedTold
+pub mod FaultedCuts
+pub mod FaultedRead
+pub mod FaultedOn
+pub mod FaultedMarks
 pub mod WordedFronts
 pub mod WordedFlush
 pub mod WordedSteps
 pub mod WordedNames
 pub mod WordedVersions
+pub mod WordedInPlace
 pub mod Worded

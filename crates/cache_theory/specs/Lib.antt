@@ -5,6 +5,7 @@ pub mod Checks
 pub mod Step
 pub mod Laws
 pub mod Text
+pub mod Faulted
 pub mod Given
 pub mod Proper
 pub mod Marks

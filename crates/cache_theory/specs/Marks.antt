@@ -1,5 +1,5 @@
--- What a stop may lose: the state of the last acknowledged flush, the names that were touched since, and what was
--- written since.
+-- What a stop may lose: the state of the last acknowledged flush, the names that were touched since, what was written
+-- since, and where metadata were rewritten in place since.
 use Rattle.std.specs.List.{list_any}
 use Rattle.std.specs.Prelude.{Any, Bool, List, None, Option, Some, [], false, if◌then◌else◌, is_some, map, not, option_map, slice_get, unwrap_or, ℕ, ◌&&◌, ◌++◌, ◌∷◌, ◌≡◌, ◌⊎◌}
 use Rattle.std.specs.Str.{bytes_eq}
@@ -28,10 +28,12 @@ pub record Marks : Type 0 where
   pub touched : List (List ℕ)
   -- the versions that were written since, through objects that were undoomed then or came later
   pub since : List Written
+  -- the names of such objects whose metadata were rewritten since, after they were finished
+  pub in_place : List (List ℕ)
 
 -- at a flush, and at the opening
 abbrev pub marks_of : Machine → Marks
-marks_of m = record { marked = m; touched = []; since = [] }
+marks_of m = record { marked = m; touched = []; since = []; in_place = [] }
 
 -- the object was doomed at the mark
 abbrev pub is_buried : Marks → ℕ → Bool
@@ -45,6 +47,13 @@ rewritten m (UnsetElement s name) = if (object_of m s).finished && is_some (elem
 rewritten m (UseEntry s) = if (object_of m s).finished then Some (number_of m s) else None
 rewritten m (Close s) = if is_writer m s && not (object_of m s).finished then Some (number_of m s) else None
 rewritten m _ = None
+
+-- the number of the finished object whose metadata a command rewrites
+abbrev pub rewritten_in_place : Machine → Command → Option ℕ
+rewritten_in_place m (SetElement s name value) = rewritten m (SetElement s name value)
+rewritten_in_place m (UnsetElement s name) = rewritten m (UnsetElement s name)
+rewritten_in_place m (UseEntry s) = rewritten m (UseEntry s)
+rewritten_in_place m _ = None
 
 -- the name of an object, if it is undoomed
 abbrev pub undoomed_name : Object → List (List ℕ)
@@ -75,9 +84,18 @@ put_out w next (Some i) =
     let v = (object next i).version in
     if is_buried w i then [] else record { name = file_name v.key; version = v } ∷ []
 
+-- the name of an object, unless the object was doomed at the mark
+abbrev pub unburied_name : Marks → Machine → Option ℕ → List (List ℕ)
+unburied_name w m None = []
+unburied_name w m (Some i) = if is_buried w i then [] else file_name (object m i).version.key ∷ []
+
 -- the marks when a command whose checks hold has begun
 abbrev pub went_out : Machine → Command → Marks → Marks
-went_out m c w = record w { touched = touches m c ++ w.touched; since = put_out w (effect m c).next (rewritten m c) ++ w.since }
+went_out m c w = record w {
+  touched = touches m c ++ w.touched;
+  since = put_out w (effect m c).next (rewritten m c) ++ w.since;
+  in_place = unburied_name w m (rewritten_in_place m c) ++ w.in_place;
+}
 
 abbrev pub begun_by : Option Refusal → Machine → Command → Marks → Marks
 begun_by None m c w = went_out m c w
@@ -104,6 +122,10 @@ all_begun m (c ∷ cs) w = all_begun (step m c).next cs (begun m c w)
 -- the name was touched since the mark
 abbrev pub is_touched : Marks → List ℕ → Bool
 is_touched w name = list_any (bytes_eq name) w.touched
+
+-- metadata were rewritten in place under the name since the mark
+abbrev pub is_in_place : Marks → List ℕ → Bool
+is_in_place w name = list_any (bytes_eq name) w.in_place
 
 -- the version was written under the name since the mark
 abbrev pub IsSince : Marks → List ℕ → Version → Type 0

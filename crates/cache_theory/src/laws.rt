@@ -1,10 +1,11 @@
 //! What commands keep: the shelf, the records, and what a crash may leave of the entries.
 
-ghost use Rattle.cache_theory.specs.Keeps.{BeginKeeps, CreateFilesOnce, CreateKeeps, QuietFilesOnce, QuietIsSafe, RemoveFilesOnce, RemoveKeeps, RenameFilesOnce, RenameKeeps, SafeIsCrashSafe, SyncFilesOnce, SyncKeeps, WholeIsFine, WriteFilesOnce, WriteKeeps};
+ghost use Rattle.cache_theory.specs.Faulted.{CutIsTold, FaultCutIsTold, FaultedIsRead, FaultedIsTold, FaultsAreInFront, FaultsAreWithin, FrontIsTold, KeptAreCounted, NextMayFault, NoReplyIsFault, WholeIsTold};
+ghost use Rattle.cache_theory.specs.Keeps.{BeginKeeps, CreateFilesOnce, CreateKeeps, CreateLeavesUnpublished, CreateUnpublished, PublishFilesOnce, PublishKeeps, PublishLeavesUnpublished, QuietFilesOnce, QuietIsSafe, QuietUnpublished, RemoveFilesOnce, RemoveKeeps, RemoveLeavesUnpublished, RenameFilesOnce, RenameKeeps, RenameLeavesUnpublished, SafeIsCrashSafe, SyncFilesOnce, SyncKeeps, SyncLeavesUnpublished, WholeIsFine, WriteAsideKeeps, WriteFilesOnce, WriteKeeps, WriteLeavesUnpublished};
 ghost use Rattle.cache_theory.specs.Laws.{BegunTouchesMore, ChangesAreTouched, ChangesLeaveRest, EntriesHaveRecords, EvictIsOfNames, EvictMeetsLimit, EvictTakesOff, EvictedMayGo, ShelfStaysTable, UnusedAreTakenOff, VerifyIsOfRecords};
 ghost use Rattle.cache_theory.specs.Proper.{OpensProper, StaysProper};
 ghost use Rattle.cache_theory.specs.Refiled.{EntriesAreRefiled};
-ghost use Rattle.cache_theory.specs.Session.{AckedIsOne, CutIsAcked, WholeIsAcked};
+ghost use Rattle.cache_theory.specs.Session.{AckedIsOne, CutIsAcked, MarksAreOfKept, WholeIsAcked};
 ghost use Rattle.cache_theory.specs.Text.{ReplyIsNotEmpty};
 ghost use Rattle.cache_theory.specs.Wording.{MarksAreWorded};
 
@@ -77,8 +78,10 @@ pub fn changes_keep_safe()
     ensures begin { BeginKeeps }
     ensures whole { WholeIsFine }
     ensures write { WriteKeeps }
+    ensures aside { WriteAsideKeeps }
     ensures create { CreateKeeps }
     ensures rename { RenameKeeps }
+    ensures publish { PublishKeeps }
     ensures remove { RemoveKeeps }
     ensures sync { SyncKeeps }
 {}
@@ -89,8 +92,21 @@ pub fn changes_file_once()
     ensures write { WriteFilesOnce }
     ensures create { CreateFilesOnce }
     ensures rename { RenameFilesOnce }
+    ensures publish { PublishFilesOnce }
     ensures remove { RemoveFilesOnce }
     ensures sync { SyncFilesOnce }
+{}
+
+/// A file that is new among the doomed stands at no entry place, and so it stays until it is published.
+pub fn changes_leave_unpublished()
+    ensures new { CreateUnpublished }
+    ensures create { CreateLeavesUnpublished }
+    ensures write { WriteLeavesUnpublished }
+    ensures rename { RenameLeavesUnpublished }
+    ensures publish { PublishLeavesUnpublished }
+    ensures remove { RemoveLeavesUnpublished }
+    ensures sync { SyncLeavesUnpublished }
+    ensures quiet { QuietUnpublished }
 {}
 
 /// Each reply has some bytes.
@@ -103,6 +119,28 @@ pub fn replies_tell_acked()
     ensures whole { WholeIsAcked }
     ensures cut { CutIsAcked }
     ensures one { AckedIsOne }
+{}
+
+/// No reply begins with `fault`. So what went out tells how many commands are answered, and which of them by `fault`;
+/// and that is what it begins with.
+pub fn faults_are_told()
+    ensures reply { NoReplyIsFault }
+    ensures told { FaultedIsTold }
+    ensures whole { WholeIsTold }
+    ensures front { FrontIsTold }
+    ensures cut { CutIsTold }
+    ensures fault_cut { FaultCutIsTold }
+    ensures read { FaultedIsRead }
+{}
+
+/// Commands that are answered `fault` are left out: the later ones go by the state that the others left, and so do the
+/// marks.
+pub fn faults_are_left_out()
+    ensures front { FaultsAreInFront }
+    ensures next { NextMayFault }
+    ensures counted { KeptAreCounted }
+    ensures within { FaultsAreWithin }
+    ensures marks { MarksAreOfKept }
 {}
 
 /// The marks, which are a fold over the commands, say what was touched and what was written since the last flush that

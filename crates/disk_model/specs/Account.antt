@@ -1,7 +1,7 @@
 -- How an answer is tied to what a disk counts.
 use Rattle.std.specs.Prelude.{Err, IsTrue, Ok, Result, ◌≡◌}
 use Rattle.cache_base.specs.Causes.{HasCause}
-use Rattle.disk_model.specs.Calls.{StopsAtFault}
+use Rattle.disk_model.specs.Calls.{LastFails, StopsAtFault}
 use Rattle.disk_model.specs.declared.disk.Disk.{Ghosts}
 use Rattle.disk_model.specs.declared.disk.DiskFault.{DiskFault}
 use Rattle.disk_model.specs.declared.disk.DiskFault.TheVariants.{Failed, Memory}
@@ -34,6 +34,10 @@ pub record Looks {Self : _} (D : Ghosts Self) (answer : Ending) (before now : Se
   pub cause : HasCause (answer ≡ Ending.OneFailed) (D.faults before) (D.faults now)
   pub state : IsTrue D.tells → D.state now ≡ D.state before
   pub no_change : IsTrue D.tells → (D.counts now).failed ≡ (D.counts before).failed
+
+-- where the disk failed, its last call was a change or a sync that failed
+abbrev pub FailsInChange : {Self : _} → Ghosts Self → Ending → Self → Type 0
+FailsInChange D answer now = answer ≡ Ending.OneFailed → IsTrue D.tells → LastFails (D.counts now)
 
 -- no call failed in between, as at each turn of a loop
 pub record IsCalm {Self : _} (D : Ghosts Self) (before now : Self) : Type 0 where

@@ -39,12 +39,13 @@ enum Call<'a> {
     Create(Place),
     WriteEnd(Place, u64, &'a [u8]),
     Patch(Place, u64, &'a [u8]),
-    // Four bytes, or as many as there are.
+    // Four bytes.
     Read(Place, u64),
     Size(Place),
     Rename(Place, Place),
     Remove(Place),
     Sync,
+    Leave,
     // By the system, at a path.
     File(&'a str),
     Mode(&'a str, u32),
@@ -94,6 +95,11 @@ fn is_read(disk: &mut HostDisk<'_>, place: &Place, from: u64, wanted: &Answer<'_
     }
 }
 
+fn is_left(disk: &mut HostDisk<'_>, wanted: &Answer<'_>) -> bool {
+    disk.leave();
+    matches!(*wanted, Answer::Done)
+}
+
 // Whether a call of the disk is answered so.
 fn disk_answers(disk: &mut HostDisk<'_>, call: &Call<'_>, wanted: &Answer<'_>) -> bool {
     match *call {
@@ -110,6 +116,7 @@ fn disk_answers(disk: &mut HostDisk<'_>, call: &Call<'_>, wanted: &Answer<'_>) -
         Call::Rename(from, to) => is_done(disk.rename(&from, &to), wanted),
         Call::Remove(place) => is_done(disk.remove(&place), wanted),
         Call::Sync => is_done(disk.sync(), wanted),
+        Call::Leave => is_left(disk, wanted),
         _ => false,
     }
 }

@@ -1,7 +1,7 @@
 //! An entry that loses its name, and later its file.
 
 ghost use Rattle.std.specs.Prelude.{◌≡◌, ◌<◌, ℕ, length, IfOk, IsTrue, IsSome};
-ghost use Rattle.disk_model.specs.Account.{Accounts, ending};
+ghost use Rattle.disk_model.specs.Account.{Accounts, FailsInChange, ending};
 ghost use Rattle.disk_model.specs.State.{standing, renamed, removed};
 ghost use Rattle.disk_model.specs.Calls.{counted_change, if_done};
 ghost use Rattle.disk_model.specs.declared.place.Place.TheVariants.{Entry, Doomed};
@@ -11,13 +11,13 @@ ghost use Rattle.doom_area.specs.DoomArea.{IsLeastFree};
 use cache_base::Name;
 use disk_model::{Disk, DiskFault, Place};
 
-// The least number that is not in the list.
-fn least_free(numbers: &[u32]) -> u32
-    requires { length numbers.now < 64 }
-    ensures { IsLeastFree numbers.now result }
+/// The least number that is not in use. It takes no memory.
+pub fn least(in_use: &[u32]) -> u32
+    requires { length in_use.now < 64 }
+    ensures { IsLeastFree in_use.now result }
 {
     let mut number: u32 = 0;
-    while numbers.contains(&number) {
+    while in_use.contains(&number) {
         number += 1;
     }
     number
@@ -33,8 +33,9 @@ pub fn doom<D: Disk>(disk: &mut D, name: &Name, in_use: &[u32]) -> Result<u32, D
         Told D.Disk (λ s t. t ≡ if_done result (renamed (Entry name.now) (Doomed number) s) s) disk.old disk.new }
     ensures counts { IsTrue D.tells → D.counts disk.new ≡ counted_change result (D.counts disk.old) }
     ensures account { Accounts D.Disk (ending result) disk.old disk.new }
+    ensures change { FailsInChange D.Disk (ending result) disk.new }
 {
-    let number = least_free(in_use);
+    let number = least(in_use);
     disk.rename(&Place::Entry(*name), &Place::Doomed(number))?;
     Ok(number)
 }
@@ -45,6 +46,7 @@ pub fn release<D: Disk>(disk: &mut D, number: u32) -> Result<(), DiskFault>
     ensures state { Told D.Disk (λ s t. t ≡ if_done result (removed (Doomed number) s) s) disk.old disk.new }
     ensures counts { IsTrue D.tells → D.counts disk.new ≡ counted_change result (D.counts disk.old) }
     ensures account { Accounts D.Disk (ending result) disk.old disk.new }
+    ensures change { FailsInChange D.Disk (ending result) disk.new }
 {
     disk.remove(&Place::Doomed(number))
 }

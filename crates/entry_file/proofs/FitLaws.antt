@@ -1,5 +1,5 @@
 -- A content that passes the checks of a file is a join of a body, a block and the block's offset.
-use Rattle.std.proofs.Common.{◌≡◌, ℕ, ◌+◌, ◌-◌, ◌^◌, ◌<◌, ◌≤◌, List, ◌++◌, length, take, drop, true, refl, sym, ap, ◌∙◌, arith, length-take, length-drop}
+use Rattle.std.proofs.Common.{◌≡◌, ℕ, ◌+◌, ◌-◌, ◌^◌, ◌<◌, ◌≤◌, List, ◌++◌, length, take, drop, true, refl, sym, ap, subst, ◌∙◌, arith, length-take, length-drop}
 use Rattle.std.specs.Prelude.{Option, None, Some, is_none}
 use Rattle.std.proofs.lemmas.List.{take-append-drop}
 use Rattle.std.proofs.lemmas.Slice.Eq.{bytes_eq-Decides}
@@ -32,13 +32,14 @@ joined name c none tail_bytes spelled =
     let tail_spelled : be32 (offset_in c) ≡ tail =
     four tail tail_bytes (omega (arith, tail_long)) ∙ ap (λ n. take n tail) (sym tail_long) ∙ take-length tail in
     let place : offset_in c + (length c - 4 - offset_in c) ≡ length c - 4 = omega (arith, within) in
+    let ends : length (take (offset_in c) c) ≡ offset_in c = length-take (offset_in c) c ∙ omega (arith, within) in
     record {
-      meta = spelled.meta;
-      named = (bytes_eq-Decides (file_name (file_meta c).key) name).0 rows.2;
       body = take (offset_in c) c;
-      ends = length-take (offset_in c) c ∙ omega (arith, within);
+      block = block_in c;
+      spells = subst (λ n. Spells (block_in c) n (file_meta c)) (sym ends) spelled;
+      named = (bytes_eq-Decides (file_name (file_meta c).key) name).0 rows.2;
       bytes = sym (
-          (λ i. take (offset_in c) c ++ (sym spelled.bytes i ++ tail_spelled i))
+          (λ i. take (offset_in c) c ++ (block_in c ++ (ap be32 ends ∙ tail_spelled) i))
           ∙ ap (λ n. take (offset_in c) c ++ (block_in c ++ drop n c)) (sym place)
           ∙ ap (λ ys. take (offset_in c) c ++ ys) (cut c (offset_in c) (length c - 4 - offset_in c))
           ∙ take-append-drop (offset_in c) c);

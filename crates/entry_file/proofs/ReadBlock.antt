@@ -7,7 +7,7 @@ use Rattle.entry_metadata.specs.declared.meta.Meta.{Meta}
 use Rattle.entry_metadata.specs.Checks.{meta_in}
 use Rattle.entry_metadata.specs.Meta.{meta_of}
 use Rattle.entry_metadata.specs.Metadata.{Meta as Said, Spells}
-use Rattle.entry_metadata.proofs.SpelledLaws.{Spells-passes, block_reads_back}
+use Rattle.entry_metadata.proofs.SpelledLaws.{Spells-passes, Spells-says}
 use Rattle.entry_file.specs.declared.entry_read.EntryRead.TheVariants as reads
 use Rattle.entry_file.specs.declared.entry_read.Unfit.TheVariants as unfit
 use Rattle.entry_file.specs.EntryFile.{named_fault}
@@ -15,7 +15,7 @@ use Rattle.entry_file.specs.BlockRead.{BlockReadsAs, block_check}
 
 -- what is spelled is what the block says
 said : (block : List ℕ) (offset : ℕ) (m : Said) → Spells block offset m → m ≡ meta_in block offset
-said block offset m s = sym ((λ i. meta_in (s.bytes i) (sym s.at i)) ∙ (block_reads_back m s.meta).1)
+said block offset m s = sym (Spells-says block offset m s)
 
 -- and its name decides
 by_name : (name block : List ℕ) (offset : ℕ) (m : Said) (b : Bool) → Spells block offset m → bytes_eq (file_name m.key) name ≡ b → block_check name block offset ≡ named_fault None b

@@ -63,7 +63,7 @@ module _ (name : List ℕ) (o : Option (List ℕ)) (size : ℕ) (told : Some siz
           let t = length-take (length c - 4 - offset_in c) (drop (offset_in c) c) in let d = length-drop (offset_in c) c in
           omega (arith, t, d, e, long, within, enough) in
           let fault : block_fault (block_in c) (offset_in c) ≡ Some faults.TooBig =
-          first.too_big (block_in c) (offset_in c) (chunks (offset_in c)) refl (omega (arith, block_long, big, word, e)) (omega (arith, block_long, big)) in
+          first.larger (block_in c) (offset_in c) (chunks (offset_in c)) refl (omega (arith, block_long, big, word, e)) (omega (arith, block_long, big)) in
           by_block name c (has c at long) ∙ ap (λ (f : Option MetaFault). named_fault f (bytes_eq (file_name (file_meta c).key) name)) fault)
 
       -- what the block reads as, the file reads as

@@ -1,5 +1,5 @@
 -- A file that stores the body of its metadata, and its version.
-use Rattle.std.proofs.Common.{◌≡◌, ◌<◌, ℕ, List, [], ◌∷◌, ◌++◌, length, length-append, take, Option, None, Some, Result, refl, sym, ap, subst, ◌∙◌, arith}
+use Rattle.std.proofs.Common.{◌≡◌, ◌<◌, ℕ, List, [], ◌∷◌, ◌++◌, length, take, Option, None, Some, Result, refl, sym, ap, subst, ◌∙◌, arith}
 use Rattle.std.specs.Prelude.{IfSome}
 use Rattle.std.proofs.lemmas.List.{length-take-le, take_at}
 use Rattle.std.proofs.lemmas.List.FromFn.{fill_by_all}
@@ -15,10 +15,11 @@ use Rattle.disk_model.specs.Writes.{WritesAt}
 use Rattle.disk_model.specs.declared.disk.DiskFault.{DiskFault}
 use Rattle.disk_model.specs.declared.place.Place.{Place}
 use Rattle.disk_model.proofs.Standing.{wrote_puts}
-use Rattle.entry_metadata.specs.Metadata.{Meta, IsMeta, block_bytes}
+use Rattle.entry_metadata.specs.Metadata.{Meta, IsMeta, block_as, block_bytes}
 use Rattle.entry_file.specs.Damages.{HasMeta, first, first_damage}
 use Rattle.entry_file.specs.Rewriting.{StoresBody, StoresWhole, RewritesToVersion, block_write, rewritten}
 use Rattle.entry_file.specs.Version.{version_meta, IsVersion, file_of}
+use Rattle.entry_file.proofs.EntryLaws.{file_begins}
 use Rattle.entry_file.proofs.Writing.{written_by, written_same}
 use Rattle.jenkins_hash.specs.Hash.{hash16_of}
 
@@ -66,16 +67,20 @@ module _ (m : Meta) (c : List ℕ) (stores : StoresBody (Some c) m) where
 
 pub stores_whole : StoresWhole
 stores_whole name c m fits stores =
-    let body : fits.body ≡ take m.offset c = sym (ap (take m.offset) fits.bytes ∙ take_at fits.body (block_bytes m ++ be32 m.offset) m.offset fits.ends) in
-    fits.bytes ∙ ap (λ (b : List ℕ). b ++ (block_bytes m ++ be32 m.offset)) body ∙ block_written m c stores
+    let ends : length fits.body ≡ m.offset = sym fits.spells.at in
+    let front : fits.body ≡ take m.offset c = sym (ap (take m.offset) fits.bytes ∙ take_at fits.body (fits.block ++ be32 (length fits.body)) m.offset ends) in
+    record {
+      format = fits.spells.format;
+      can = fits.spells.can;
+      bytes = fits.bytes ∙ (λ i. front i ++ ((fits.spells.bytes ∙ ap (block_as fits.spells.format) (sym (same_meta m c stores))) i ++ be32 (length (front i))));
+    }
 
 pub rewrites_to_version : RewritesToVersion
-unfolding file_of
-rewrites_to_version v w same =
-    let tail : List ℕ = block_bytes (version_meta w) ++ be32 (length w.body) in
-    let front : take (length v.body) (file_of w) ≡ v.body = take_at w.body tail (length v.body) (ap length (sym same)) ∙ sym same in
-    let long = length-append w.body tail in
-    let lengths = ap length same in (
+rewrites_to_version v w c same f =
+    let begins = file_begins w c f in
+    let lengths : length v.body ≡ length w.body = ap length same in
+    let front : take (length v.body) c ≡ v.body = ap (λ n. take n c) lengths ∙ begins.1 ∙ sym same in
+    let long = begins.0 in (
       (omega (arith, long, lengths), ap chunk_hashes (sym front)),
       (λ i. record { header = v.header; key = v.key; elements = v.elements; body = front i }),
     )

@@ -1,5 +1,5 @@
--- A content reads as a whole version exactly where it is the file of that version.
-use Rattle.std.proofs.Common.{◌≡◌, ℕ, ◌≤◌, List, [], ◌∷◌, length, take, refl, sym, ap, subst, ◌∙◌}
+-- A content reads as a whole version exactly where it is a file of that version.
+use Rattle.std.proofs.Common.{◌≡◌, ℕ, ◌≤◌, List, [], ◌∷◌, length, take, refl, ap, subst, ◌∙◌}
 use Rattle.std.specs.Prelude.{Option, None, Some, is_none}
 use Rattle.std.proofs.lemmas.List.{length-take-le}
 use Rattle.cache_base.specs.Bytes.{AreBytes}
@@ -13,8 +13,8 @@ use Rattle.entry_file.specs.declared.entry_read.Unfit.{Unfit}
 use Rattle.entry_file.specs.EntryFile.{body_in, offset_in, file_fault, file_meta, Fits, Reading, Whole, Damaged, Nothing, by_damages, by_fault, read, ReadsWholeExactly}
 use Rattle.entry_file.specs.Damages.{first}
 use Rattle.entry_file.specs.Rewriting.{ReadsByDamage, StoresBody, whole_or}
-use Rattle.entry_file.specs.Version.{Version, IsVersion, file_of}
-use Rattle.entry_file.proofs.EntryLaws.{fits-Fits, fits_meta, read-file_of}
+use Rattle.entry_file.specs.Version.{Version, IsFileOf, IsVersion}
+use Rattle.entry_file.proofs.EntryLaws.{file_reads_whole, fits-Fits, fits_meta}
 use Rattle.entry_file.proofs.Faults.{offset_within}
 use Rattle.entry_file.proofs.FitLaws.{Fits-fits, none_of}
 use Rattle.entry_file.proofs.StoredBody.{hashes_same, is_version, stores_whole}
@@ -39,22 +39,22 @@ faultless : (c : List ℕ) (o : Option Unfit) (v : Version) → by_fault o c ≡
 faultless c None v e = let parts = undamaged (file_meta c) (body_in c) _ v e in (refl, parts.0, parts.1)
 faultless c (Some f) v e = absurd (cc)
 
-whole_is_file : (name c : List ℕ) (v : Version) → AreBytes c → read name c ≡ Whole v → IsVersion v × (file_name v.key ≡ name) × (c ≡ file_of v)
-unfolding read file_of meta_in
+whole_is_file : (name c : List ℕ) (v : Version) → AreBytes c → read name c ≡ Whole v → IsVersion v × (file_name v.key ≡ name) × IsFileOf v c
+unfolding read meta_in
 whole_is_file name c v bytes e =
     let parts = faultless c (file_fault name c) v e in
     let fit : Fits name c (file_meta c) = Fits-fits name c bytes (ap is_none parts.0) in
     let m : Meta = file_meta c in
     let front : List ℕ = body_in c in
     let within : offset_in c ≤ length c = offset_within name c parts.0 in
-    let stores : StoresBody (Some c) m = (within, hashes_same m front fit.meta.hashes (length-take-le (offset_in c) c within) parts.1) in
-    subst (λ w. IsVersion w × (file_name w.key ≡ name) × (c ≡ file_of w)) parts.2
-    (is_version m c stores fit.meta (bytes_take (offset_in c) c bytes), fit.named, stores_whole name c m fit stores)
+    let stores : StoresBody (Some c) m = (within, hashes_same m front fit.spells.meta.hashes (length-take-le (offset_in c) c within) parts.1) in
+    subst (λ w. IsVersion w × (file_name w.key ≡ name) × IsFileOf w c) parts.2
+    (is_version m c stores fit.spells.meta (bytes_take (offset_in c) c bytes), fit.named, stores_whole name c m fit stores)
 
 pub reads_whole_exactly : ReadsWholeExactly
 reads_whole_exactly name c v bytes = (
   whole_is_file name c v bytes,
-  λ h. subst (λ x. read name x ≡ Whole v) (sym h.2) (subst (λ n. read n (file_of v) ≡ Whole v) h.1 (read-file_of v h.0)),
+  λ h. subst (λ n. read n c ≡ Whole v) h.1 (file_reads_whole v c h.0 h.2),
 )
 
 -- ---- by the first damage

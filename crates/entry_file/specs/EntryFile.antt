@@ -5,11 +5,11 @@ use Rattle.cache_base.specs.Bytes.{AreBytes, be32, be32_at}
 use Rattle.chunk_store.specs.Chunks.{damages}
 use Rattle.chunk_store.specs.declared.damage.Damage.{Damage}
 use Rattle.entry_name.specs.EntryName.{file_name}
-use Rattle.entry_metadata.specs.Metadata.{IsMeta, Meta, block_bytes}
+use Rattle.entry_metadata.specs.Metadata.{Meta, Spells}
 use Rattle.entry_metadata.specs.Checks.{block_fault, meta_in}
 use Rattle.entry_metadata.specs.declared.fault.MetaFault.{MetaFault}
 use Rattle.entry_metadata.specs.declared.fault.MetaFault.TheVariants as faults
-use Rattle.entry_file.specs.Version.{Version, IsVersion, file_of}
+use Rattle.entry_file.specs.Version.{Version, IsFileOf, IsVersion}
 use Rattle.entry_file.specs.declared.entry_read.Unfit.{Unfit}
 use Rattle.entry_file.specs.declared.entry_read.Unfit.TheVariants as unfit
 
@@ -57,13 +57,13 @@ file_fault name c =
 abbrev pub fits : List ℕ → List ℕ → Bool
 fits name c = is_none (file_fault name c)
 
--- the same as a join of parts: a body, a block that spells m, and the block's offset
+-- the same as a join of parts: a body, a block that spells m there, and the block's offset
 pub record Fits (name c : List ℕ) (m : Meta) : Type 0 where
-  pub meta : IsMeta m
-  pub named : file_name m.key ≡ name
   pub body : List ℕ
-  pub ends : length body ≡ m.offset
-  pub bytes : c ≡ body ++ (block_bytes m ++ be32 m.offset)
+  pub block : List ℕ
+  pub spells : Spells block (length body) m
+  pub bytes : c ≡ body ++ (block ++ be32 (length body))
+  pub named : file_name m.key ≡ name
 
 -- what a file reads as: a version, an entry whose first damaged chunk this is, or nothing
 pub data Reading : Type 0 where
@@ -99,14 +99,14 @@ whole_in Nothing = None
 abbrev pub found : (List ℕ → Option (List ℕ)) → List ℕ → Option Version
 found files key = whole_in (read_for key (files (file_name key)))
 
--- the file of a version reads as that version, whole
+-- a file of a version reads as that version, whole
 abbrev pub FileReadsWhole : Type 0
-FileReadsWhole = (v : Version) → IsVersion v → read (file_name v.key) (file_of v) ≡ Whole v
+FileReadsWhole = (v : Version) (c : List ℕ) → IsVersion v → IsFileOf v c → read (file_name v.key) c ≡ Whole v
 
 -- a content of bytes passes the checks of a file exactly where it is a join of a body, a block and the block's offset
 abbrev pub FitsExactly : Type 0
 FitsExactly = (name c : List ℕ) → AreBytes c → (fits name c ≡ true) ↔ ((m : Meta) × Fits name c m)
 
--- a content of bytes reads as a whole version exactly where it is the file of that version
+-- a content of bytes reads as a whole version exactly where it is a file of that version
 abbrev pub ReadsWholeExactly : Type 0
-ReadsWholeExactly = (name c : List ℕ) (v : Version) → AreBytes c → (read name c ≡ Whole v) ↔ (IsVersion v × (file_name v.key ≡ name) × (c ≡ file_of v))
+ReadsWholeExactly = (name c : List ℕ) (v : Version) → AreBytes c → (read name c ≡ Whole v) ↔ (IsVersion v × (file_name v.key ≡ name) × IsFileOf v c)

@@ -19,7 +19,7 @@ IfFits Absent P = Unit {0}
 IfFits (Unfit check) P = Unit {0}
 IfFits (Fits meta size) P = P (meta_of meta)
 
--- what stands there is a body, the block that spells m, and the block's offset
+-- what stands there is a body, a block that spells m, and the block's offset
 abbrev pub Joins : List ℕ → Option (List ℕ) → Meta → Type 0
 Joins name None m = ⊥
 Joins name (Some c) m = IsJoin name c m

@@ -9,7 +9,7 @@ use Rattle.entry_metadata.specs.Metadata.{Meta, block_bytes}
 use Rattle.entry_file.specs.Damages.{first_damage}
 use Rattle.entry_file.specs.EntryFile.{Fits, Reading, Whole, Damaged, read}
 use Rattle.entry_file.specs.NewEntry.{finished}
-use Rattle.entry_file.specs.Version.{Version, file_of, version_meta}
+use Rattle.entry_file.specs.Version.{IsFileOf, Version, version_meta}
 
 -- a file stands there, and the chunks of its first n bytes have these hashes
 abbrev pub HasChunks : Option (List ℕ) → ℕ → List ℕ → Type 0
@@ -37,10 +37,10 @@ whole_or (Some damage) v = Damaged damage
 abbrev pub ReadsByDamage : Type 0
 ReadsByDamage = (name c : List ℕ) (m : Meta) → Fits name c m → read name c ≡ whole_or (first_damage m c) (rewritten m c)
 
--- a content that fits, and whose body has the hashes of its metadata, is the file of the version that it stores
+-- a content that fits, and whose body has the hashes of its metadata, is a file of the version that it stores
 abbrev pub StoresWhole : Type 0
-StoresWhole = (name c : List ℕ) (m : Meta) → Fits name c m → StoresBody (Some c) m → c ≡ file_of (rewritten m c)
+StoresWhole = (name c : List ℕ) (m : Meta) → Fits name c m → StoresBody (Some c) m → IsFileOf (rewritten m c) c
 
--- the file of a version, rewritten with the metadata of another one of the same body, is the file of that one
+-- a file of a version stores the body of another one of the same body, and is rewritten to that one
 abbrev pub RewritesToVersion : Type 0
-RewritesToVersion = (v w : Version) → v.body ≡ w.body → StoresBody (Some (file_of w)) (version_meta v) × (rewritten (version_meta v) (file_of w) ≡ v)
+RewritesToVersion = (v w : Version) (c : List ℕ) → v.body ≡ w.body → IsFileOf w c → StoresBody (Some c) (version_meta v) × (rewritten (version_meta v) c ≡ v)

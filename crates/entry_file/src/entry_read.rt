@@ -8,9 +8,9 @@ use entry_metadata::Meta;
 pub enum Unfit {
     /// The file ends before its block can, or has no final offset within it.
     Short,
-    /// The block has more than `BLOCK_MAX` bytes.
+    /// The block has more than `BLOCK_MAX` bytes, or would have as version 3.
     TooBig,
-    /// The header's version is not 3.
+    /// The header's version is not 1, 2 or 3.
     Version,
     /// No zero byte stands behind the key.
     KeyEnd,

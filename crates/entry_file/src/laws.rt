@@ -3,8 +3,14 @@
 ghost use Rattle.entry_file.specs.EntryFile.{FileReadsWhole, FitsExactly, ReadsWholeExactly};
 ghost use Rattle.entry_file.specs.Rewriting.{ReadsByDamage, RewritesToVersion, StoresWhole};
 ghost use Rattle.entry_file.specs.Unfinished.{StopTailIsShort, UnfinishedIsShort};
+ghost use Rattle.entry_file.specs.Version.{FileBegins};
 
-/// The file of a version reads as that version, whole.
+/// A file of a version begins with its body.
+pub fn file_begins()
+    ensures { FileBegins }
+{}
+
+/// A file of a version reads as that version, whole, whichever version of the format its block has.
 pub fn file_reads_whole()
     ensures { FileReadsWhole }
 {}
@@ -14,7 +20,7 @@ pub fn fits_exactly()
     ensures { FitsExactly }
 {}
 
-/// A content reads as a whole version exactly where it is the file of that version.
+/// A content reads as a whole version exactly where it is a file of that version.
 pub fn reads_whole_exactly()
     ensures { ReadsWholeExactly }
 {}
@@ -24,12 +30,12 @@ pub fn reads_by_damage()
     ensures { ReadsByDamage }
 {}
 
-/// A content that fits, and whose body has the hashes of its metadata, is the file of the version that it stores.
+/// A content that fits, and whose body has the hashes of its metadata, is a file of the version that it stores.
 pub fn stores_whole()
     ensures { StoresWhole }
 {}
 
-/// The file of a version, rewritten with the metadata of another version of the same body, is the file of that one.
+/// A file of a version, rewritten with the metadata of another version of the same body, is the file of that one.
 pub fn rewrites_to_version()
     ensures { RewritesToVersion }
 {}

@@ -1,3 +1,4 @@
+pub mod FormatLaws
 pub mod BlockLaws
 pub mod SpelledLaws
 pub mod FirstFault

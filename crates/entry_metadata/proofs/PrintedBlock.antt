@@ -1,5 +1,5 @@
 -- What is printed is the block of what may stand in one.
-use Rattle.std.proofs.Common.{◌≡◌, ℕ, ◌-◌, ◌^◌, ◌<◌, ◌≤◌, List, ◌∷◌, ◌++◌, length, length-append, true, subst, ◌∙◌, arith}
+use Rattle.std.proofs.Common.{◌≡◌, ℕ, ◌-◌, ◌^◌, ◌<◌, ◌≤◌, List, ◌∷◌, ◌++◌, length, true, subst, ◌∙◌, arith}
 use Rattle.std.specs.Prelude.{IfOk, Result, Ok, Err, flat_map}
 use Rattle.std.specs.List.{AllByRecursion}
 use Rattle.cache_base.specs.Bytes.{AreBytes, be16}
@@ -10,16 +10,14 @@ use Rattle.entry_key.specs.Walk.{read_key, reads}
 use Rattle.entry_parts.specs.Elements.{AreElements, elements_bytes}
 use Rattle.entry_parts.specs.Header.{IsHeader, header_bytes}
 use Rattle.entry_metadata.specs.Fields.{FieldsFit}
-use Rattle.entry_metadata.specs.Metadata.{IsMeta, Meta, block_bytes, block_length, block_rest}
-use Rattle.entry_metadata.proofs.BlockLaws.{length_hashes}
+use Rattle.entry_metadata.specs.Metadata.{IsMeta, Meta, Third, block_bytes, block_length, block_rest}
+use Rattle.entry_metadata.proofs.BlockLaws.{length-block_as}
 use Rattle.entry_metadata.proofs.SpelledLaws.{reading}
 
 pub length-block : (m : Meta) → length (block_bytes m) ≡ block_length (length m.hashes) (length m.key) (length (elements_bytes m.elements))
 length-block m =
-    let a = length-append (flat_map be16 m.hashes) (header_bytes m.header ++ (m.key ++ 0 ∷ elements_bytes m.elements)) in
-    let b = length-append m.key (0 ∷ elements_bytes m.elements) in
-    let d = length_hashes m.hashes in
-    omega (arith, a, b, d)
+    let a = length-block_as Third m in
+    omega (arith, a)
 
 -- numbers that fit, under other names
 pub fit_along : {h k e h' k' e' : List ℕ} → h ≡ h' → k ≡ k' → e ≡ e' → FieldsFit h k e → FieldsFit h' k' e'

@@ -1,6 +1,6 @@
 -- What is read of a block that passes its checks.
 use Rattle.std.proofs.Common.{◌≡◌, ℕ, ◌+◌, ◌-◌, ◌*◌, ◌^◌, ◌<◌, ◌≤◌, List, length, length-drop, length-take, drop, Bool, true, false, cond, refl, sym, ap, subst, ◌∙◌, arith}
-use Rattle.std.specs.Prelude.{IfOk, IfErr, OnOk, Some, None, Result, Ok, Err, slice_range, map}
+use Rattle.std.specs.Prelude.{IfOk, IfErr, OnOk, Some, None, Result, Ok, Err, if◌then◌else◌, slice_range, map}
 use Rattle.std.specs.List.{range_with_len}
 use Rattle.std.proofs.lemmas.List.FromFn.{length-map-range_with_len}
 use Rattle.cache_base.specs.Bytes.{AreBytes, be16_at}
@@ -15,10 +15,11 @@ use Rattle.entry_parts.proofs.SpelledLaws.{elements_spelled}
 use Rattle.entry_metadata.specs.declared.fault.MetaFault.{MetaFault}
 use Rattle.entry_metadata.specs.declared.fault.MetaFault.TheVariants as faults
 use Rattle.entry_metadata.specs.declared.meta.Meta.{Meta}
-use Rattle.entry_metadata.specs.Checks.{IsFirstFault, block_fault, meta_in}
+use Rattle.entry_metadata.specs.Checks.{IsFirstFault, block_fault, block_max, header_len, meta_in}
 use Rattle.entry_metadata.specs.Meta.{meta_of}
-use Rattle.entry_metadata.specs.Metadata.{Meta as Said, Spells, block_length}
+use Rattle.entry_metadata.specs.Metadata.{Format, Meta as Said, Spells, block_length}
 use Rattle.entry_metadata.specs.Passed.{PassedAt}
+use Rattle.entry_metadata.proofs.FormatLaws.{bytes_of, format_of, header_len-number, number, small_out}
 use Rattle.entry_metadata.proofs.FirstFault.{all_behind}
 use Rattle.entry_metadata.proofs.SpelledLaws.{Spells-passes, passes-Spells}
 
@@ -39,52 +40,64 @@ pub record Read (block : List ℕ) (o : ℕ) (h : Header) (key : List ℕ) (es :
   pub hash_count : length hs ≡ chunks o
   pub small : block_length (length hs) (length key) (length (elements_bytes es)) ≤ BLOCK_MAX
 
-module _ (block : List ℕ) (o n : ℕ) (h : Header) (e : n ≡ chunks o) (p : PassedAt block o (chunks o) h) where
+-- a header of k bytes
+module _ (block : List ℕ) (o n k : ℕ) (h : Header) (e : n ≡ chunks o) (len : k ≡ header_len h.version) (p : PassedAt block o (chunks o) h) where
   at_n : PassedAt block o n h
-  at_n = subst (λ k. PassedAt block o k h) (sym e) p
+  at_n = subst (λ c. PassedAt block o c h) (sym e) p
+
+  within : 4 + 2 * n + k + h.key_size < length block
+  within = subst (λ j. 4 + 2 * n + j + h.key_size < length block) (sym len) at_n.within
+
+  -- its version
+  format : (f : Format) × (number f ≡ h.version)
+  format = format_of h.version at_n.version
 
   module _ (key : List ℕ) (es : List Element) (hs : List ℕ)
-      (k : key ≡ slice_range block (4 + 2 * n + 32) (4 + 2 * n + 32 + h.key_size))
-      (y : es ≡ elements_of (slice_range block (4 + 2 * n + 32 + h.key_size + 1) (length block)))
-      (bad : have_form (slice_range block (4 + 2 * n + 32 + h.key_size + 1) (length block)) ≡ false → ◌≡◌ {A = Result (List Element) PartsFault} (Ok es) (Err parts.BadForm))
+      (c : key ≡ slice_range block (4 + 2 * n + k) (4 + 2 * n + k + h.key_size))
+      (y : es ≡ elements_of (slice_range block (4 + 2 * n + k + h.key_size + 1) (length block)))
+      (bad : have_form (slice_range block (4 + 2 * n + k + h.key_size + 1) (length block)) ≡ false → ◌≡◌ {A = Result (List Element) PartsFault} (Ok es) (Err parts.BadForm))
       (s : hs ≡ map (λ i. be16_at block (4 + 2 * i)) (range_with_len 0 n)) where
-    form : have_form (drop (4 + 2 * n + 32 + h.key_size + 1) block) ≡ true
-    form = ap have_form (sym (all_behind block (4 + 2 * n + 32 + h.key_size + 1))) ∙ formed (slice_range block (4 + 2 * n + 32 + h.key_size + 1) (length block)) es bad
+    form : have_form (drop (4 + 2 * n + k + h.key_size + 1) block) ≡ true
+    form = ap have_form (sym (all_behind block (4 + 2 * n + k + h.key_size + 1))) ∙ formed (slice_range block (4 + 2 * n + k + h.key_size + 1) (length block)) es bad
 
-    elements_behind : es ≡ elements_of (drop (4 + 2 * n + 32 + h.key_size + 1) block)
-    elements_behind = y ∙ ap elements_of (all_behind block (4 + 2 * n + 32 + h.key_size + 1))
+    elements_behind : es ≡ elements_of (drop (4 + 2 * n + k + h.key_size + 1) block)
+    elements_behind = y ∙ ap elements_of (all_behind block (4 + 2 * n + k + h.key_size + 1))
 
-    says : record { header = h; key = key; elements = es; hashes = hs; offset = o } ≡ meta_in block o
+    says : record { header = record h { version = 3 }; key = key; elements = es; hashes = hs; offset = o } ≡ meta_in block o
     unfolding meta_in
     says = λ i. record {
-      header = p.header i;
-      key = (k ∙ ap (λ m. slice_range block (4 + 2 * m + 32) (4 + 2 * m + 32 + h.key_size)) e ∙ (λ j. slice_range block (4 + 2 * chunks o + 32) (4 + 2 * chunks o + 32 + (p.header j).key_size))) i;
-      elements = (elements_behind ∙ ap (λ m. elements_of (drop (4 + 2 * m + 32 + h.key_size + 1) block)) e ∙ (λ j. elements_of (drop (4 + 2 * chunks o + 32 + (p.header j).key_size + 1) block))) i;
+      header = record (p.header i) { version = 3 };
+      key = (c ∙ (λ j. slice_range block (4 + 2 * e j + len j) (4 + 2 * e j + len j + h.key_size))
+          ∙ (λ j. slice_range block (4 + 2 * chunks o + header_len (p.header j).version) (4 + 2 * chunks o + header_len (p.header j).version + (p.header j).key_size))) i;
+      elements = (elements_behind ∙ (λ j. elements_of (drop (4 + 2 * e j + len j + h.key_size + 1) block))
+          ∙ (λ j. elements_of (drop (4 + 2 * chunks o + header_len (p.header j).version + (p.header j).key_size + 1) block))) i;
       hashes = (s ∙ ap (λ m. map (λ i. be16_at block (4 + 2 * i)) (range_with_len 0 m)) e) i;
       offset = o;
     }
 
     key_size_is : h.key_size ≡ length key
     key_size_is =
-        let l = at_n.within in let a = length-drop (4 + 2 * n + 32) block in
-        let b = length-take (4 + 2 * n + 32 + h.key_size - (4 + 2 * n + 32)) (drop (4 + 2 * n + 32) block) in
-        let c = ap length k in
-        omega (arith, l, a, b, c)
+        let l = within in let a = length-drop (4 + 2 * n + k) block in
+        let b = length-take (4 + 2 * n + k + h.key_size - (4 + 2 * n + k)) (drop (4 + 2 * n + k) block) in
+        let d = ap length c in
+        omega (arith, l, a, b, d)
 
     small_is : block_length (length hs) (length key) (length (elements_bytes es)) ≤ BLOCK_MAX
     small_is =
         let a = ap length s ∙ length-map-range_with_len (λ i. be16_at block (4 + 2 * i)) 0 n in
         let b = key_size_is in
-        let d = ap length (ap elements_bytes elements_behind ∙ elements_spelled _ form) ∙ length-drop (4 + 2 * n + 32 + h.key_size + 1) block in
-        let l = at_n.within in let m = at_n.small in
-        omega (arith, a, b, d, l, m)
+        let d = ap length (ap elements_bytes elements_behind ∙ elements_spelled _ form) ∙ length-drop (4 + 2 * n + k + h.key_size + 1) block in
+        let l = within in
+        let own : k ≡ bytes_of format.0 = len ∙ sym (ap header_len format.1) ∙ header_len-number format.0 in
+        let m : length block + 32 ≤ BLOCK_MAX + bytes_of format.0 = small_out format.0 (length block) (subst (λ v. length block ≤ block_max v) (sym format.1) at_n.small) in
+        omega (arith, a, b, d, l, m, own)
 
-    pub read : Read block o h key es hs
+    pub read : Read block o (record h { version = 3 }) key es hs
     read = record {
-      passes = at_n.fault ∙ ap (λ (b : Bool). cond b None (Some faults.Elements)) form;
+      passes = at_n.fault ∙ ap (λ j. if have_form (drop (4 + 2 * n + j + h.key_size + 1) block) then None else Some faults.Elements) (sym len) ∙ ap (λ (b : Bool). cond b None (Some faults.Elements)) form;
       says = says;
       key_size = key_size_is;
-      grammar = ap (λ ys. reads (read_key ys)) k ∙ at_n.grammar;
+      grammar = ap (λ ys. reads (read_key ys)) (c ∙ (λ i. slice_range block (4 + 2 * n + len i) (4 + 2 * n + len i + h.key_size))) ∙ at_n.grammar;
       hash_count = ap length s ∙ length-map-range_with_len (λ i. be16_at block (4 + 2 * i)) 0 n ∙ e;
       small = small_is;
     }

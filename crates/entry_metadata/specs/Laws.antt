@@ -2,11 +2,11 @@
 use Rattle.std.specs.Prelude.{ℕ, ◌≡◌, ◌↔◌, ◌<◌, ◌-◌, ◌^◌, List, None}
 use Rattle.cache_base.specs.Bytes.{AreBytes}
 use Rattle.entry_metadata.specs.Checks.{block_fault, meta_in}
-use Rattle.entry_metadata.specs.Metadata.{IsMeta, Meta, Spells, block_bytes}
+use Rattle.entry_metadata.specs.Metadata.{CanSay, Format, IsMeta, Meta, Spells, block_as}
 
--- a block that is written passes its checks, and is read back
+-- a block of any version passes its checks, and is read back
 abbrev pub BlockReadsBack : Type 0
-BlockReadsBack = (m : Meta) → IsMeta m → (block_fault (block_bytes m) m.offset ≡ None) × (meta_in (block_bytes m) m.offset ≡ m)
+BlockReadsBack = (format : Format) (m : Meta) → IsMeta m → CanSay format m.header → (block_fault (block_as format m) m.offset ≡ None) × (meta_in (block_as format m) m.offset ≡ m)
 
 -- bytes pass the checks of a block exactly where they spell metadata
 abbrev pub BlockFitsExactly : Type 0

@@ -7,7 +7,7 @@ use Rattle.cache_base.specs.declared.limits.TheConstants.{BLOCK_MAX}
 use Rattle.jenkins_hash.specs.Hash.{hash_of}
 use Rattle.entry_key.specs.Key.{KeyReads, Tag}
 use Rattle.entry_parts.specs.Elements.{AreElements, Element, elements_bytes}
-use Rattle.entry_parts.specs.Header.{IsHeader, header_bytes}
+use Rattle.entry_parts.specs.Header.{IsHeader, header_bytes, short_header_bytes}
 use Rattle.entry_parts.specs.declared.header.Header.{Header}
 
 -- what a block says: the key and the elements, the hashes of the body's chunks, and the body's length
@@ -18,19 +18,45 @@ pub record Meta : Type 0 where
   pub hashes : List ℕ
   pub offset : ℕ
 
--- the block past its hash
-abbrev pub block_rest : Meta → List ℕ
-block_rest m = flat_map be16 m.hashes ++ (header_bytes m.header ++ (m.key ++ 0 ∷ elements_bytes m.elements))
+-- the versions of the format: the first has no flags, and the third is the one that is written
+pub data Format : Type 0 where
+  First : Format
+  Second : Format
+  Third : Format
 
--- the block: the hash of what follows it, and what follows
+-- a header as a block of this version has it
+abbrev pub header_as : Format → Header → List ℕ
+header_as First h = short_header_bytes (record h { version = 1 })
+header_as Second h = header_bytes (record h { version = 2 })
+header_as Third h = header_bytes h
+
+-- a header that a block of this version can say
+abbrev pub CanSay : Format → Header → Type 0
+CanSay First h = h.flags ≡ 0
+CanSay Second h = Unit {0}
+CanSay Third h = Unit {0}
+
+-- the block past its hash, in this version
+abbrev pub block_rest_as : Format → Meta → List ℕ
+block_rest_as format m = flat_map be16 m.hashes ++ (header_as format m.header ++ (m.key ++ 0 ∷ elements_bytes m.elements))
+
+-- the block in this version: the hash of what follows it, and what follows
+abbrev pub block_as : Format → Meta → List ℕ
+block_as format m = be32 (hash_of (block_rest_as format m)) ++ block_rest_as format m
+
+-- the same as they are written
+abbrev pub block_rest : Meta → List ℕ
+block_rest m = block_rest_as Third m
+
 abbrev pub block_bytes : Meta → List ℕ
-block_bytes m = be32 (hash_of (block_rest m)) ++ block_rest m
+block_bytes m = block_as Third m
 
 -- the length of a block with so many hashes of chunks, and so many bytes of a key and of elements
 abbrev pub block_length : ℕ → ℕ → ℕ → ℕ
 block_length hashes key elements = 4 + 2 * hashes + 32 + key + 1 + elements
 
--- what may stand in a block
+-- what may stand in a block. Its header has version 3, whichever version the block has, and the block as it is written is not too
+-- big: one of version 1 is four bytes shorter
 pub record IsMeta (m : Meta) : Type 0 where
   pub header : IsHeader m.header
   pub version : m.header.version ≡ 3
@@ -44,8 +70,10 @@ pub record IsMeta (m : Meta) : Type 0 where
   pub offset : m.offset < 2 ^ 32 - 1
   pub small : length (block_bytes m) ≤ BLOCK_MAX
 
--- the block of a body of this length spells m
+-- the block of a body of this length spells m, in one of the versions of the format
 pub record Spells (block : List ℕ) (offset : ℕ) (m : Meta) : Type 0 where
   pub meta : IsMeta m
   pub at : m.offset ≡ offset
-  pub bytes : block ≡ block_bytes m
+  pub format : Format
+  pub can : CanSay format m.header
+  pub bytes : block ≡ block_as format m

@@ -10,11 +10,11 @@ use entry_parts::PartsFault;
 /// The first failing check of a block, in this order, or want of memory.
 #[derive(Clone, Copy, Debug, PartialEq, Eq)]
 pub enum MetaFault {
-    /// The block ends before its key can.
+    /// The block ends before its key can, whichever version it has.
     Short,
-    /// The block has more than `BLOCK_MAX` bytes.
+    /// The block has more than `BLOCK_MAX` bytes, or would have as version 3.
     TooBig,
-    /// The header's version is not 3.
+    /// The header's version is not 1, 2 or 3.
     Version,
     /// No zero byte stands behind the key.
     KeyEnd,

@@ -1,8 +1,8 @@
-//! A metadata block that is written is read back, and only such a block passes the checks.
+//! A metadata block is read back, and only such a block passes the checks.
 
 ghost use Rattle.entry_metadata.specs.Laws.{BlockFitsExactly, BlockReadsBack};
 
-/// A block that is written passes its checks, and is read back.
+/// A block of any version passes its checks, and is read back.
 pub fn block_reads_back()
     ensures { BlockReadsBack }
 {}

@@ -67,7 +67,7 @@ fn with_ends(alloc: Global, rest: &[u8], offset: u32) -> Result<Bytes, NoMemory>
     Ok(out)
 }
 
-/// The block, and behind it the final offset in four bytes. Fails only for want of memory.
+/// The block of version 3, and behind it the final offset in four bytes. Fails only for want of memory.
 pub fn print(alloc: Global, meta: &Meta) -> Result<Bytes, NoMemory>
     ensures meta { IsMeta (meta_of meta.now) }
     ensures bytes { IfOk result (λ out. out ≡ block_bytes (meta_of meta.now) ++ be32 meta.now.offset) }
@@ -76,7 +76,7 @@ pub fn print(alloc: Global, meta: &Meta) -> Result<Bytes, NoMemory>
     with_ends(alloc, rest.as_slice(), meta.offset)
 }
 
-/// The number of bytes of the block, without the final offset.
+/// The number of bytes of the block as it is printed, without the final offset.
 pub fn block_len(meta: &Meta) -> usize
     ensures { result ≡ length (block_bytes (meta_of meta.now)) }
 {

@@ -8,11 +8,11 @@ ghost use Rattle.entry_metadata.specs.Meta.{meta_of};
 ghost use Rattle.entry_metadata.specs.Metadata.{Meta as Said, Spells};
 ghost use Rattle.entry_metadata.specs.declared.fault.MetaFault.TheVariants.{Memory};
 
-use crate::checks::{check, hash_count};
+use crate::checks::{check, hash_count, header_len};
 use crate::{Meta, MetaFault};
 use byteorder::{BigEndian, ByteOrder};
 use cache_base::{Bytes, Hashes, NoMemory};
-use entry_parts::Elements;
+use entry_parts::{Elements, Header};
 use std::alloc::Global;
 
 fn hash_at(block: &[u8], at: usize) -> u16
@@ -50,13 +50,16 @@ fn read_all(alloc: Global, block: &[u8], offset: u32) -> Result<Meta, MetaFault>
 {
     let header = check(block, offset)?;
     let count = hash_count(offset);
-    let key_place = 4 + 2 * count + 32;
+    let key_place = 4 + 2 * count + header_len(header.version);
     let key_end = key_place + header.key_size as usize;
     let elements = Elements::parse(alloc, &block[key_end + 1..])?;
     let hashes = hashes_in(alloc, block, count)?;
     let key = bytes_from(alloc, &block[key_place..key_end])?;
     Ok(Meta {
-        header,
+        header: Header {
+            version: 3,
+            ..header
+        },
         key,
         elements,
         hashes,
@@ -64,8 +67,9 @@ fn read_all(alloc: Global, block: &[u8], offset: u32) -> Result<Meta, MetaFault>
     })
 }
 
-/// What the metadata block of a body of `offset` bytes says, or the first failing check of the block. An offset of
-/// 2^32 - 1 stands in the file of an unfinished entry, which has no block.
+/// What the metadata block of a body of `offset` bytes says, or the first failing check of the block. The block has
+/// version 1, 2 or 3, and what it says has version 3. An offset of 2^32 - 1 stands in the file of an unfinished entry, which
+/// has no block.
 pub fn parse(alloc: Global, block: &[u8], offset: u32) -> Result<Meta, MetaFault>
     requires { offset < 2 ^ 32 - 1 }
     // What is read is what the block spells.

@@ -1,4 +1,4 @@
--- The header of an entry's metadata, and its bytes.
+-- The header of an entry's metadata, and its bytes: with flags, or without them in files of version 1.
 use Rattle.std.specs.Prelude.{min, ℕ, ◌≡◌, ◌<◌, ◌≤◌, ◌+◌, ◌^◌, List, ◌++◌, length, take}
 use Rattle.cache_base.specs.Bytes.{AreBytes, be32, be32_at}
 use Rattle.entry_parts.specs.declared.header.Header.{Header}
@@ -20,6 +20,25 @@ header_in xs = record {
   expiration = be32_at xs 20;
   key_size = be32_at xs 24;
   flags = be32_at xs 28;
+}
+
+-- the 28 bytes of a header without its flags
+abbrev pub short_header_bytes : Header → List ℕ
+short_header_bytes h =
+    be32 h.version ++ be32 h.fetch_count ++ be32 h.last_fetched ++ be32 h.last_modified
+    ++ be32 h.frecency ++ be32 h.expiration ++ be32 h.key_size
+
+-- the header in the first 28 bytes, whose flags are 0
+abbrev pub short_header_in : List ℕ → Header
+short_header_in xs = record {
+  version = be32_at xs 0;
+  fetch_count = be32_at xs 4;
+  last_fetched = be32_at xs 8;
+  last_modified = be32_at xs 12;
+  frecency = be32_at xs 16;
+  expiration = be32_at xs 20;
+  key_size = be32_at xs 24;
+  flags = 0;
 }
 
 -- each number fits four bytes
@@ -57,3 +76,10 @@ HeaderReadsBack = (h : Header) (rest : List ℕ) → IsHeader h → header_in (h
 -- 32 bytes or more begin with the bytes of the header in them
 abbrev pub HeaderSpells : Type 0
 HeaderSpells = (xs : List ℕ) → AreBytes xs → 32 ≤ length xs → IsHeader (header_in xs) × (header_bytes (header_in xs) ≡ take 32 xs)
+
+-- the same of a header without flags
+abbrev pub ShortHeaderReadsBack : Type 0
+ShortHeaderReadsBack = (h : Header) (rest : List ℕ) → IsHeader h → h.flags ≡ 0 → short_header_in (short_header_bytes h ++ rest) ≡ h
+
+abbrev pub ShortHeaderSpells : Type 0
+ShortHeaderSpells = (xs : List ℕ) → AreBytes xs → 28 ≤ length xs → IsHeader (short_header_in xs) × (short_header_bytes (short_header_in xs) ≡ take 28 xs)

@@ -1,7 +1,7 @@
 //! The header of an entry's metadata (`CacheFileMetadataHeader` of Firefox's CacheFileMetadata.h).
 
 ghost use Rattle.std.specs.Prelude.{◌≡◌};
-ghost use Rattle.entry_parts.specs.Header.{IsHeader, header_bytes, header_in};
+ghost use Rattle.entry_parts.specs.Header.{IsHeader, header_bytes, header_in, short_header_in};
 
 use byteorder::{BigEndian, ByteOrder};
 use cache_base::Moment;
@@ -9,7 +9,7 @@ use cache_base::Moment;
 /// The numbers of an entry's metadata. In a file each is four big-endian bytes, in this order.
 #[derive(Clone, Copy, Debug, PartialEq, Eq)]
 pub struct Header {
-    /// The version of the format, which is 3.
+    /// The version of the format: 3 in what is written, 1 or 2 in an old file.
     pub version: u32,
     /// How often the entry was opened.
     pub fetch_count: u32,
@@ -43,6 +43,22 @@ impl Header {
             expiration: BigEndian::read_u32(&b[20..]),
             key_size: BigEndian::read_u32(&b[24..]),
             flags: BigEndian::read_u32(&b[28..]),
+        }
+    }
+
+    /// The header in the 28 bytes that it has in a file of version 1, which has no flags.
+    pub fn read_short(b: &[u8; 28]) -> Header
+        ensures { result ≡ short_header_in b.now }
+    {
+        Header {
+            version: BigEndian::read_u32(b),
+            fetch_count: BigEndian::read_u32(&b[4..]),
+            last_fetched: BigEndian::read_u32(&b[8..]),
+            last_modified: BigEndian::read_u32(&b[12..]),
+            frecency: BigEndian::read_u32(&b[16..]),
+            expiration: BigEndian::read_u32(&b[20..]),
+            key_size: BigEndian::read_u32(&b[24..]),
+            flags: 0,
         }
     }
 

@@ -2,17 +2,19 @@
 
 ghost use Rattle.std.specs.Int.{w16, w32, w64};
 ghost use Rattle.entry_parts.specs.Elements.{ElementsReadBack, ElementsSpell};
-ghost use Rattle.entry_parts.specs.Header.{HeaderReadsBack, HeaderSpells};
+ghost use Rattle.entry_parts.specs.Header.{HeaderReadsBack, HeaderSpells, ShortHeaderReadsBack, ShortHeaderSpells};
 ghost use Rattle.entry_parts.specs.Numbers.{NumberSpells};
 
-/// A header that is written is read back.
+/// A header that is written is read back, also without its flags where these are 0.
 pub fn header_reads_back()
-    ensures { HeaderReadsBack }
+    ensures whole { HeaderReadsBack }
+    ensures short { ShortHeaderReadsBack }
 {}
 
-/// 32 bytes are the bytes of the header in them.
+/// 32 bytes are the bytes of the header in them, and 28 bytes those of the header without flags in them.
 pub fn header_spells()
-    ensures { HeaderSpells }
+    ensures whole { HeaderSpells }
+    ensures short { ShortHeaderSpells }
 {}
 
 /// Elements that are written are read back.

@@ -31,6 +31,24 @@ const NO_ADDRESS: &[u8] = b"\x6a\x31\x73\x9b\x39\x9e\
     \0\0\0\x03\0\0\0\x01\0\0\x03\xe8\0\0\x03\xe8\0\0\x03\xe8\xff\xff\xff\xff\0\0\0\x15\0\0\0\0\
     https://example.com/x\0";
 
+// The same block in versions 1 and 2, and in one that there is not.
+const FIRST: &[u8] = b"\x42\x4d\x09\x3d\x39\x9e\
+    \0\0\0\x01\0\0\0\x01\0\0\x03\xe8\0\0\x03\xe8\0\0\x03\xe8\xff\xff\xff\xff\0\0\0\x15\
+    :https://example.com/\0";
+
+const SECOND: &[u8] = b"\x29\xd6\x32\xf8\x39\x9e\
+    \0\0\0\x02\0\0\0\x01\0\0\x03\xe8\0\0\x03\xe8\0\0\x03\xe8\xff\xff\xff\xff\0\0\0\x15\0\0\0\0\
+    :https://example.com/\0";
+
+const FOURTH: &[u8] = b"\xb2\xab\x53\xb4\x39\x9e\
+    \0\0\0\x04\0\0\0\x01\0\0\x03\xe8\0\0\x03\xe8\0\0\x03\xe8\xff\xff\xff\xff\0\0\0\x15\0\0\0\0\
+    :https://example.com/\0";
+
+// The block of version 1 with another byte behind its key.
+const FIRST_NO_ZERO: &[u8] = b"\xcd\x85\xa6\x3f\x39\x9e\
+    \0\0\0\x01\0\0\0\x01\0\0\x03\xe8\0\0\x03\xe8\0\0\x03\xe8\xff\xff\xff\xff\0\0\0\x15\
+    :https://example.com/\x01";
+
 // The block of a body of two chunks.
 const TWO_CHUNKS: &[u8] = b"\x91\xcb\x25\x14\x12\x34\xab\xcd\
     \0\0\0\x03\0\0\0\x01\0\0\x03\xe8\0\0\x03\xe8\0\0\x03\xe8\xff\xff\xff\xff\0\0\0\x15\0\0\0\0\
@@ -134,7 +152,7 @@ fn says(meta: &Meta, said: &Said<'_>) -> bool {
         && block_len(meta) == said.len
 }
 
-// Whether the block is printed as it stands, with the offset behind it.
+// Whether this block is printed, with the offset behind it.
 fn is_printed(alloc: Global, meta: &Meta, block: &[u8], said: &Said<'_>) -> Result<bool, NoMemory> {
     let bytes = print(alloc, meta)?;
     let (front, end) = bytes
@@ -143,14 +161,21 @@ fn is_printed(alloc: Global, meta: &Meta, block: &[u8], said: &Said<'_>) -> Resu
     Ok(front == block && end == said.end.as_slice())
 }
 
-// Whether the block of a body of so many bytes says this.
-fn is_parsed(alloc: Global, block: &[u8], offset: u32, said: &Said<'_>) -> bool
+// Whether the block of a body of so many bytes says this, and is printed as the other.
+fn is_parsed_as(alloc: Global, block: &[u8], offset: u32, said: &Said<'_>, printed: &[u8]) -> bool
     requires { offset < 2 ^ 32 - 1 }
 {
     match parse(alloc, block, offset) {
-        Ok(meta) => says(&meta, said) && is_printed(alloc, &meta, block, said) == Ok(true),
+        Ok(meta) => says(&meta, said) && is_printed(alloc, &meta, printed, said) == Ok(true),
         Err(_) => false,
     }
+}
+
+// The same of a block that is printed as it stands.
+fn is_parsed(alloc: Global, block: &[u8], offset: u32, said: &Said<'_>) -> bool
+    requires { offset < 2 ^ 32 - 1 }
+{
+    is_parsed_as(alloc, block, offset, said, block)
 }
 
 #[test]
@@ -159,6 +184,13 @@ fn blocks_are_parsed_and_printed(rt: HostRuntime) {
     assert!(rt; is_parsed(rt.alloc(), BROWSER, 1000, &BROWSER_SAID));
     assert!(rt; is_parsed(rt.alloc(), TWO_CHUNKS, 262_145, &TWO_CHUNKS_SAID));
     assert!(rt; is_parsed(rt.alloc(), REPEATED, 5, &REPEATED_SAID));
+}
+
+#[test]
+fn old_blocks_are_parsed_and_printed_as_version_3(rt: HostRuntime) {
+    assert!(rt; FIRST.len() == 56 && SECOND.len() == 60);
+    assert!(rt; is_parsed_as(rt.alloc(), FIRST, 5, &BLOCK_SAID, &BLOCK));
+    assert!(rt; is_parsed_as(rt.alloc(), SECOND, 5, &BLOCK_SAID, &BLOCK));
 }
 
 // Whether the block of a body of so few bytes fails this check first.
@@ -182,8 +214,13 @@ fn fails_with(alloc: Global, at: usize, x: u8, fault: MetaFault) -> bool {
 fn each_check_has_a_fault(rt: HostRuntime) -> Result<(), Fail> {
     let long = vec![in rt.alloc(); 0u8; 262_145]?;
     let rows = [
-        (&BLOCK[..38], 5, MetaFault::Short),
+        (&BLOCK[..34], 5, MetaFault::Short),
         (&long, 5, MetaFault::TooBig),
+        (FOURTH, 5, MetaFault::Version),
+        // No header of version 3 has a key so early.
+        (&BLOCK[..35], 5, MetaFault::KeyEnd),
+        (&BLOCK[..38], 5, MetaFault::KeyEnd),
+        (FIRST_NO_ZERO, 5, MetaFault::KeyEnd),
         (NO_ADDRESS, 5, MetaFault::KeyForm),
         (NO_LAST_ZERO, 5, MetaFault::Elements),
         (THREE_ZEROS, 5, MetaFault::Elements),
@@ -197,10 +234,40 @@ fn each_check_has_a_fault(rt: HostRuntime) -> Result<(), Fail> {
     Ok(())
 }
 
+// So many bytes, which are zero but for a number at the offset 4.
+fn zeros(alloc: Global, len: usize, version: u8) -> Result<Vec<u8>, NoMemory> {
+    let mut bytes = vec![in alloc; 0u8; len]?;
+    if let Some(there) = bytes.get_mut(7) {
+        *there = version;
+    }
+    Ok(bytes)
+}
+
+#[test]
+fn a_block_of_version_1_fits_as_version_3(rt: HostRuntime) -> Result<(), Fail> {
+    let rows = [
+        (1, 262_141, MetaFault::TooBig),
+        (1, 262_140, MetaFault::Hash),
+        (2, 262_145, MetaFault::TooBig),
+        (2, 262_144, MetaFault::Hash),
+        (3, 262_144, MetaFault::Hash),
+        (4, 262_144, MetaFault::Version),
+    ];
+    for index in 0..rows.len() {
+        let (version, len, fault) = rows[index];
+        let block = zeros(rt.alloc(), len, version)?;
+        assert!(rt; fails(rt.alloc(), &block, 0, fault), "row {index}");
+    }
+    Ok(())
+}
+
 #[test]
 fn the_first_failing_check_is_answered(rt: HostRuntime) {
     let rows = [
-        (9, 2, MetaFault::Version),
+        (9, 0, MetaFault::Version),
+        // As version 2 its hash is another, and as version 1 its key ends elsewhere.
+        (9, 2, MetaFault::Hash),
+        (9, 1, MetaFault::KeyEnd),
         (33, 22, MetaFault::KeyEnd),
         (33, 20, MetaFault::KeyEnd),
         (5, 0x9f, MetaFault::Hash),

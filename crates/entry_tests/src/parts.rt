@@ -25,6 +25,27 @@ fn a_header_is_read_and_written(rt: HostRuntime) {
     assert!(rt; Header::read(&HEADER) == header && header.write() == HEADER);
 }
 
+// The same of version 1.
+const SHORT: [u8; 28] = [
+    0, 0, 0, 1, 0, 0, 0, 1, 0, 0, 3, 0xe8, 0, 0, 3, 0xe9, 0, 0, 1, 0xf4, 0xff, 0xff, 0xff, 0xff, 0,
+    0, 0, 21,
+];
+
+#[test]
+fn a_header_without_flags_is_read(rt: HostRuntime) {
+    let header = Header {
+        version: 1,
+        fetch_count: 1,
+        last_fetched: 1000,
+        last_modified: 1001,
+        frecency: 500,
+        expiration: 0xffff_ffff,
+        key_size: 21,
+        flags: 0,
+    };
+    assert!(rt; Header::read_short(&SHORT) == header);
+}
+
 #[test]
 fn a_new_entry_was_fetched_once_and_never_expires(rt: HostRuntime) {
     let header = Header {

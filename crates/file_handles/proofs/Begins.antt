@@ -8,7 +8,7 @@ use Rattle.std.proofs.lemmas.List.Elements.{All-nil}
 use Rattle.std.proofs.lemmas.Option.{slice_get_past, unwrap_or-slice_get}
 use Rattle.cache_theory.specs.Machine.{opened}
 use Rattle.cache_theory.specs.Proper.{OpensProper}
-use Rattle.cache_theory.specs.Stands.{IsHeldDoomed}
+use Rattle.cache_theory.specs.Stands.{IsHeldAside}
 use Rattle.cache_theory.specs.Table.{Table}
 use Rattle.cache_theory.proofs.Slots.{slot_of as slot_with}
 use Rattle.file_handles.specs.Carries.{Begins}
@@ -46,7 +46,7 @@ module _ (k : Kept) (objects : (p : ℕ) → object_at k p ≡ None) (uses : (t 
   no_use : (t : ℕ) (u : Use) → use_at k t ≡ Some u → ⊥
   no_use t u at = never_some ⊥ u (sym (uses t) ∙ at)
 
-  none_held : (now : ℕ) (shelf : Table (List ℕ)) (rest : List (List ℕ)) (i : ℕ) → IsHeldDoomed (opened now shelf rest) i → ⊥
+  none_held : (now : ℕ) (shelf : Table (List ℕ)) (rest : List (List ℕ)) (i : ℕ) → IsHeldAside (opened now shelf rest) i → ⊥
   none_held now shelf rest i h = let slot = slot_with (opened now shelf rest) i h.slots in never_some ⊥ _ slot.at
 
   none_there : (now : ℕ) (shelf : Table (List ℕ)) (rest : List (List ℕ)) → HandlesStand k (opened now shelf rest) (λ p. 0)
@@ -66,7 +66,7 @@ module _ (k : Kept) (objects : (p : ℕ) → object_at k p ≡ None) (uses : (t 
         proper = proper_opens now shelf rest small is.table is.bytes;
         handles = none_there now shelf rest;
         entries = is.entries_are;
-        doomed = record {
+        aside = record {
           held = λ i h. absurd (none_held now shelf rest i h);
           only = λ d some. absurd (some (no_doomed d));
           one_object = λ d i j a b. absurd (no_object a.place a.object a.at_place);
@@ -78,7 +78,7 @@ module _ (k : Kept) (objects : (p : ℕ) → object_at k p ≡ None) (uses : (t 
       crash_kept once safe = record {
         safe = safe;
         once = once;
-        doomed = λ d i file name a h now ever. absurd (no_object a.place a.object a.at_place);
+        aside = λ d i file name a h now ever. absurd (no_object a.place a.object a.at_place);
         unburied = λ i o at un. never_some _ o at;
         young = omega arith;
       }

@@ -9,10 +9,9 @@ use Rattle.cache_theory.specs.Ever.{IsKept, entries, entry_place}
 use Rattle.cache_theory.specs.Machine.{Machine, Object as MachineObject, object}
 use Rattle.cache_theory.specs.Marks.{Marks, is_touched}
 use Rattle.cache_theory.specs.Proper.{IsInUse}
-use Rattle.cache_theory.specs.Stands.{entry_file, file_under, object_file}
 use Rattle.cache_theory.specs.Table.{get}
 use Rattle.cache_theory.proofs.DiskChanges.{moment_synced, remove_keeps}
-use Rattle.cache_theory.proofs.EntryFiles.{entry_unused, unfinished_file_is}
+use Rattle.cache_theory.proofs.EntryFiles.{file_there, no_file_there}
 use Rattle.cache_theory.proofs.FiledOnce.{one_name as one_place_name}
 use Rattle.cache_theory.proofs.Readings.{unfit_reads}
 use Rattle.cache_theory.proofs.Slots.{HasSlot, same_use, slot_of as slot_with, use_of}
@@ -33,7 +32,7 @@ use Rattle.entry_file.specs.EntryFile.Reading.{Nothing}
 use Rattle.entry_file.proofs.StopLaws.{unfinished_is_short}
 use Rattle.entry_name.specs.EntryName.{file_name}
 use Rattle.file_handles.specs.Cache.{cache_at}
-use Rattle.file_handles.specs.Closing.{ClosesAll, IsClosed, dropped}
+use Rattle.file_handles.specs.Closing.{ClosesAll, IsClosed, let_go_by, without_doomed}
 use Rattle.file_handles.specs.Held.{IsEntryOf, is_draft, object_place, place_of}
 use Rattle.file_handles.specs.Kept.{Kept, object_at, use_at}
 use Rattle.file_handles.specs.Stands.{KeepsTo, RepresentsSome, Stands, slot_of}
@@ -43,32 +42,43 @@ use Rattle.file_handles.specs.declared.object.Object.{Object}
 use Rattle.file_handles.specs.declared.object.Use.{Use}
 use Rattle.file_handles.proofs.Histories.{history_of}
 use Rattle.file_handles.proofs.KeptLaws.{place_within}
-use Rattle.file_handles.proofs.Places.{doomed_at, file_stands, undoomed_is, undoomed_place}
+use Rattle.file_handles.proofs.Places.{aside_at, file_stands, published_place, published_there}
 use Rattle.file_handles.proofs.Released.{some_object}
 
--- the file of an object outlasts the handles
+-- the file of an object outlasts the handles: it does not stand aside
 abbrev pub stays : Object → Bool
-stays x = is_none x.doomed && not (is_draft x.entry)
+stays x = is_none x.aside
 
--- nothing is lost with this file: where it is an entry's, its name is touched, or nothing was found there at the mark
-abbrev pub MayDrop : Marks → Object → Type 0
-MayDrop w x = (name : List ℕ) → object_place x ≡ entry_place name
-    → (is_touched w name ≡ true) ⊎ ((key : List ℕ) → file_name key ≡ name → found (get w.marked.shelf) key ≡ None)
-
--- the files of the objects before this place that do not outlast the handles are gone, and all else is as before
+-- the files that stand aside of the objects before this place are gone, and all else is as before
 pub record IsDroppedTo (k : Kept) (i : ℕ) (before now : State) : Type 0 where
   pub gone : (j : ℕ) (x : Object) → j < i → object_at k j ≡ Some x → stays x ≡ false → standing now (object_place x) ≡ None
   pub others : (q : Place) → ((j : ℕ) (x : Object) → j < i → object_at k j ≡ Some x → stays x ≡ false → q ≢ object_place x) → standing now q ≡ standing before q
-  pub safe : (w : Marks) → ((j : ℕ) (x : Object) → object_at k j ≡ Some x → stays x ≡ false → MayDrop w x) → IsSafe before w → IsSafe now w
+  pub safe : (w : Marks) → IsSafe before w → IsSafe now w
 
 pub dropped_none : (k : Kept) (s : State) → IsDroppedTo k 0 s s
-dropped_none k s = record { gone = λ j x lt at no_stay. absurd (omega (arith, lt)); others = λ q apart. refl; safe = λ w may safe. safe }
+dropped_none k s = record { gone = λ j x lt at no_stay. absurd (omega (arith, lt)); others = λ q apart. refl; safe = λ w safe. safe }
 
-dropped_is : (x : Object) (s : State) → stays x ≡ false → dropped x s ≡ removed (object_place x) s
-dropped_is x s not_stays = ap (λ (b : Bool). if b then s else removed (object_place x) s) not_stays
+dropped_is : (x : Object) (s : State) → stays x ≡ false → let_go_by x s ≡ removed (object_place x) s
+dropped_is x s not_stays = go x.aside not_stays
+  where
+    go : (n : Option ℕ) → is_none n ≡ false → without_doomed n s ≡ removed (place_of x.name n) s
+    go None e = absurd (cc)
+    go (Some d) e = refl
 
-stays_is : (x : Object) (s : State) → stays x ≡ true → dropped x s ≡ s
-stays_is x s stay = ap (λ (b : Bool). if b then s else removed (object_place x) s) stay
+stays_is : (x : Object) (s : State) → stays x ≡ true → let_go_by x s ≡ s
+stays_is x s stay = go x.aside stay
+  where
+    go : (n : Option ℕ) → is_none n ≡ true → without_doomed n s ≡ s
+    go None e = refl
+    go (Some d) e = absurd (cc)
+
+-- no entry stands there
+no_entry : (x : Object) (name : List ℕ) → stays x ≡ false → object_place x ≡ entry_place name → ⊥
+no_entry x name not_stays = go x.aside not_stays
+  where
+    go : (n : Option ℕ) → is_none n ≡ false → place_of x.name n ≡ entry_place name → ⊥
+    go None e same = cc
+    go (Some d) e same = cc
 
 -- one place more, where nothing is removed
 same_at : (k : Kept) (i : ℕ) (s t : State) → ((x : Object) → object_at k i ≡ Some x → stays x ≡ true) → IsDroppedTo k i s t → IsDroppedTo k (i + 1) s t
@@ -105,7 +115,7 @@ removed_one k i x s t at_x not_stays before = record {
     | inr apart ↦ puts.others (object_place y) apart ∙ before.gone j y (earlier j y lt at apart) at no_stay
   ];
   others = λ q apart. puts.others q (apart i x (omega arith) at_x not_stays) ∙ before.others q (λ j y lt at no_stay. apart j y (omega (arith, lt)) at no_stay);
-  safe = λ w may safe. remove_keeps t w (object_place x) (may i x at_x not_stays) (before.safe w may safe);
+  safe = λ w safe. remove_keeps t w (object_place x) (λ name same. absurd (no_entry x name not_stays same)) (before.safe w safe);
 }
   where
     puts : Puts (object_place x) None t (removed (object_place x) t)
@@ -117,7 +127,7 @@ removed_one k i x s t at_x not_stays before = record {
       | inr other ↦ omega (arith, lt, other)
     ]
 
-pub one_dropped : (k : Kept) (i : ℕ) (x : Object) (s t u : State) → object_at k i ≡ Some x → u ≡ dropped x t → IsDroppedTo k i s t → IsDroppedTo k (i + 1) s u
+pub one_dropped : (k : Kept) (i : ℕ) (x : Object) (s t u : State) → object_at k i ≡ Some x → u ≡ let_go_by x t → IsDroppedTo k i s t → IsDroppedTo k (i + 1) s u
 one_dropped k i x s t u at_x is before = subst (IsDroppedTo k (i + 1) s) (sym is) (elim (cases_Bool (stays x)) [
   | inl stay ↦ subst (IsDroppedTo k (i + 1) s) (sym (stays_is x t stay))
       (same_at k i s t (λ y at. let both : Some x ≡ Some y = sym at_x ∙ at in let one : x ≡ y = cc in ap stays (sym one) ∙ stay) before)
@@ -129,176 +139,83 @@ pub no_fault : {T : Type 0} (value : T) → IsErrOf {T = T} (Ok value) Failed �
 no_fault value is = cc
 
 -- A call that may have failed is one of the two.
-pub safe_done : {T : Type 0} (k : Kept) (i : ℕ) (x : Object) (r : Result T DiskFault) (s t u : State) → object_at k i ≡ Some x → u ≡ if_done r (dropped x t) t → IsDroppedTo k i s t
-    → (w : Marks) → ((j : ℕ) (x : Object) → object_at k j ≡ Some x → stays x ≡ false → MayDrop w x) → IsSafe s w → IsSafe u w
-safe_done k i x (Ok value) s t u at_x is before w may safe = (one_dropped k i x s t u at_x is before).safe w may safe
-safe_done k i x (Err Failed) s t u at_x is before w may safe = (one_dropped k i x s t u at_x is before).safe w may safe
-safe_done k i x (Err Memory) s t u at_x is before w may safe = subst (λ (v : State). IsSafe v w) (sym is) (before.safe w may safe)
+pub safe_done : {T : Type 0} (k : Kept) (i : ℕ) (x : Object) (r : Result T DiskFault) (s t u : State) → object_at k i ≡ Some x → u ≡ if_done r (let_go_by x t) t → IsDroppedTo k i s t
+    → (w : Marks) → IsSafe s w → IsSafe u w
+safe_done k i x (Ok value) s t u at_x is before w safe = (one_dropped k i x s t u at_x is before).safe w safe
+safe_done k i x (Err Failed) s t u at_x is before w safe = (one_dropped k i x s t u at_x is before).safe w safe
+safe_done k i x (Err Memory) s t u at_x is before w safe = subst (λ (v : State). IsSafe v w) (sym is) (before.safe w safe)
 
 -- The places of the objects, by what they stand for.
 module _ (s : State) (k : Kept) (m : Machine) (number : ℕ → ℕ) (stands : Stands (standing s) k m number) where
   -- an entry's place is that of the user of its name
-  entry_user : (p : ℕ) (x : Object) (name : List ℕ) → object_at k p ≡ Some x → object_place x ≡ entry_place name → (x.doomed ≡ None) × (get m.in_use name ≡ Some (number p))
-  entry_user p x name at place = go x.doomed refl
+  entry_user : (p : ℕ) (x : Object) (name : List ℕ) → object_at k p ≡ Some x → object_place x ≡ entry_place name → get m.in_use name ≡ Some (number p)
+  entry_user p x name at place = go x.aside refl
     where
-      go : (n : Option ℕ) → x.doomed ≡ n → (x.doomed ≡ None) × (get m.in_use name ≡ Some (number p))
+      go : (n : Option ℕ) → x.aside ≡ n → get m.in_use name ≡ Some (number p)
       go None e =
-          let named : file_name (object m (number p)).version.key ≡ name = one_place_name (file_name (object m (number p)).version.key) name (sym (undoomed_place s k m number stands p x at e) ∙ place) in
-          (e, ap (get m.in_use) (sym named) ∙ undoomed_user m stands.proper (number p) (stands.handles.objects p x at).in_use (undoomed_is s k m number stands p x at e))
+          let named : file_name (object m (number p)).version.key ≡ name = one_place_name (file_name (object m (number p)).version.key) name (sym (published_place s k m number stands p x at e) ∙ place) in
+          ap (get m.in_use) (sym named) ∙ undoomed_user m stands.proper (number p) (stands.handles.objects p x at).in_use (published_there s k m number stands p x at e).1
       go (Some d) e = absurd (let both : Doomed d ≡ entry_place name = sym (ap (place_of x.name) e) ∙ place in cc)
 
   -- two objects have two places
   two_places : (p q : ℕ) (x y : Object) → object_at k p ≡ Some x → object_at k q ≡ Some y → object_place x ≡ object_place y → p ≡ q
-  two_places p q x y at_x at_y same = stands.handles.apart p q x y at_x at_y (go x.doomed refl)
+  two_places p q x y at_x at_y same = stands.handles.apart p q x y at_x at_y (go x.aside refl)
     where
-      go : (n : Option ℕ) → x.doomed ≡ n → number p ≡ number q
+      go : (n : Option ℕ) → x.aside ≡ n → number p ≡ number q
       go None e =
           let name : List ℕ = file_name (object m (number p)).version.key in
-          let place : object_place x ≡ entry_place name = undoomed_place s k m number stands p x at_x e in
-          same_number (number p) (number q) (sym (entry_user p x name at_x place).1 ∙ (entry_user q y name at_y (sym same ∙ place)).1)
-      go (Some d) e = other y.doomed refl
+          let place : object_place x ≡ entry_place name = published_place s k m number stands p x at_x e in
+          same_number (number p) (number q) (sym (entry_user p x name at_x place) ∙ entry_user q y name at_y (sym same ∙ place))
+      go (Some d) e = other y.aside refl
         where
-          other : (n : Option ℕ) → y.doomed ≡ n → number p ≡ number q
+          other : (n : Option ℕ) → y.aside ≡ n → number p ≡ number q
           other None f =
-              absurd (let both : Doomed d ≡ entry_place (file_name (object m (number q)).version.key) = sym (ap (place_of x.name) e) ∙ same ∙ undoomed_place s k m number stands q y at_y f in cc)
+              absurd (let both : Doomed d ≡ entry_place (file_name (object m (number q)).version.key) = sym (ap (place_of x.name) e) ∙ same ∙ published_place s k m number stands q y at_y f in cc)
           other (Some c) f =
               let both : Doomed c ≡ Doomed d = sym (ap (place_of y.name) f) ∙ sym same ∙ ap (place_of x.name) e in
               let one : c ≡ d = cc in
-              stands.doomed.one_object d (number p) (number q) (doomed_at s k m number stands p x at_x d e) (doomed_at s k m number stands q y at_y d (f ∙ ap (λ n. Some n) one))
+              stands.aside.one_object d (number p) (number q) (aside_at s k m number stands p x at_x d e) (aside_at s k m number stands q y at_y d (f ∙ ap (λ n. Some n) one))
 
   -- the file of the next object stands
   pub next_stands : (i : ℕ) (x : Object) (t : State) → object_at k i ≡ Some x → IsDroppedTo k i s t → IsSome (standing t (object_place x))
   next_stands i x t at to =
-      let same : standing t (object_place x) ≡ Some (object_file (object m (number i))) =
-      to.others (object_place x) (λ j y lt at_y no_stay same. let one = two_places i j x y at at_y same in omega (arith, lt, one)) ∙ file_stands s k m number stands i x at in
-      subst IsSome (sym same) refl
-
-  -- an object in use has a place
-  used_place : (i : ℕ) → IsInUse m i → (p : ℕ) × ((x : Object) × ((object_at k p ≡ Some x) × (number p ≡ i)))
-  used_place i used =
-      let has = slot_with m i used.slots in
-      go has (use_at k has.slot) refl
-    where
-      go : (has : HasSlot m.slots i) (o : Option Use) → use_at k has.slot ≡ o → (p : ℕ) × ((x : Object) × ((object_at k p ≡ Some x) × (number p ≡ i)))
-      go has None at = absurd (let never : None ≡ use_of i has.writes = sym (ap (option_map (slot_of number)) at) ∙ sym (stands.handles.slots has.slot has.small) ∙ has.at in cc)
-      go has (Some u) at =
-          let same = same_use (number u.place) i u.writes has.writes (sym (ap (option_map (slot_of number)) at) ∙ sym (stands.handles.slots has.slot has.small) ∙ has.at) in
-          let there = some_object (object_at k u.place) (stands.handles.used has.slot u at) in
-          (u.place, (there.0, (there.1, same.0)))
-
-  -- an undoomed object whose file does not outlast the handles is not finished
-  draft_unfinished : (e : Entry) (o : MachineObject) → IsEntryOf e o → not (is_draft e) ≡ false → o.finished ≡ false
-  draft_unfinished (entry.Draft d) o is no_stay = is.0
-  draft_unfinished (entry.Finished meta) o is no_stay = absurd (cc)
-
-  finished_stays : (e : Entry) (o : MachineObject) → IsEntryOf e o → o.finished ≡ false → is_draft e ≡ true
-  finished_stays (entry.Draft d) o is un = refl
-  finished_stays (entry.Finished meta) o is un = absurd (let both : true ≡ false = sym is.0 ∙ un in cc)
-
-  unfinished_by : (p : ℕ) (x : Object) → object_at k p ≡ Some x → x.doomed ≡ None → stays x ≡ false → (object m (number p)).finished ≡ false
-  unfinished_by p x at none no_stay =
-      draft_unfinished x.entry (object m (number p)) (stands.handles.objects p x at).as_held.held_entry (ap (λ n. is_none n && not (is_draft x.entry)) (sym none) ∙ no_stay)
+      let same : standing t (object_place x) ≡ standing s (object_place x) =
+      to.others (object_place x) (λ j y lt at_y no_stay same. let one = two_places i j x y at at_y same in omega (arith, lt, one)) in
+      subst IsSome (sym same) (file_there (object m (number i)) _ (file_stands s k m number stands i x at))
 
   module _ (t : State) (n : ℕ) (all : length k.objects ≤ n) (to : IsDroppedTo k n s t) where
     within : (p : ℕ) (x : Object) → object_at k p ≡ Some x → p < n
     within p x at = let lt = place_within k p x at in omega (arith, lt, all)
 
     entries_left : (name : List ℕ) → entries (standing t) name ≡ get m.shelf name
-    entries_left name = go (get m.in_use name) refl
-      where
-        same_file : ((p : ℕ) (x : Object) → object_at k p ≡ Some x → stays x ≡ false → object_place x ≡ entry_place name → ⊥) → entries (standing t) name ≡ entry_file m name
-        same_file none = to.others (entry_place name) (λ j x lt at no_stay same. none j x at no_stay (sym same)) ∙ stands.entries name
-
-        go : (o : Option ℕ) → get m.in_use name ≡ o → entries (standing t) name ≡ get m.shelf name
-        go None at =
-            same_file (λ p x at_x no_stay place. let both : None ≡ Some (number p) = sym at ∙ (entry_user p x name at_x place).1 in cc)
-            ∙ entry_unused m name at
-        go (Some i) at = elim (cases_Bool (object m i).finished) [
-          | inl done ↦
-              same_file (λ p x at_x no_stay place.
-              let user = entry_user p x name at_x place in
-              let one : number p ≡ i = same_number (number p) i (sym user.1 ∙ at) in
-              let both : true ≡ false = sym done ∙ ap (λ j. (object m j).finished) (sym one) ∙ unfinished_by p x at_x user.0 no_stay in
-              cc)
-              ∙ ap (file_under m name) at
-              ∙ ap (λ (b : Bool). if b then get m.shelf name else Some (object_file (object m i))) done
-          | inr un ↦
-              let user = stands.proper.user name i at in
-              let used = used_place i user.in_use in
-              let x : Object = used.1.0 in
-              let held = (stands.handles.objects used.0 x used.1.1.0).as_held in
-              let is_unfinished : (object m (number used.0)).finished ≡ false = ap (λ j. (object m j).finished) used.1.1.1 ∙ un in
-              let is_undoomed : is_some x.doomed ≡ false = held.doomed ∙ ap (λ j. (object m j).doomed) used.1.1.1 ∙ user.undoomed in
-              let none : x.doomed ≡ None = no_number x.doomed is_undoomed in
-              let draft = finished_stays x.entry (object m (number used.0)) held.held_entry is_unfinished in
-              let not_stays : stays x ≡ false = λ j. is_none (none j) && not (draft j) in
-              let place : object_place x ≡ entry_place name =
-              undoomed_place s k m number stands used.0 x used.1.1.0 none ∙ ap (λ j. entry_place (file_name (object m j).version.key)) used.1.1.1 ∙ ap entry_place user.named in
-              ap (standing t) (sym place) ∙ to.gone used.0 x (within used.0 x used.1.1.0) used.1.1.0 not_stays ∙ sym (stands.proper.unstored name i at un)
-        ]
-          where
-            no_number : (o : Option ℕ) → is_some o ≡ false → o ≡ None
-            no_number None e = refl
-            no_number (Some d) e = absurd (cc)
+    entries_left name = to.others (entry_place name) (λ j x lt at no_stay same. no_entry x name no_stay (sym same)) ∙ stands.entries name
 
     none_doomed : (d : ℕ) → standing t (Doomed d) ≡ None
     none_doomed d = go (standing s (Doomed d)) refl
       where
         go : (o : Option (List ℕ)) → standing s (Doomed d) ≡ o → standing t (Doomed d) ≡ None
         go None e =
-            to.others (Doomed d) (λ j x lt at no_stay same.
-            let both : None ≡ Some (object_file (object m (number j))) = sym e ∙ ap (standing s) same ∙ file_stands s k m number stands j x at in cc)
+            to.others (Doomed d) (λ j x lt at no_stay same. no_file_there (object m (number j)) _ (file_stands s k m number stands j x at) (sym (ap (standing s) same) ∙ e))
             ∙ e
         go (Some c) e =
-            let a = (stands.doomed.only d (λ none. let both : None ≡ Some c = sym none ∙ e in cc)).1.0 in
-            ap (λ o. standing t (place_of a.object.name o)) (sym a.is_doomed)
-            ∙ to.gone a.place a.object (within a.place a.object a.at_place) a.at_place (ap (λ o. is_none o && not (is_draft a.object.entry)) a.is_doomed)
+            let a = (stands.aside.only d (λ none. let both : None ≡ Some c = sym none ∙ e in cc)).1.0 in
+            ap (λ o. standing t (place_of a.object.name o)) (sym a.set_aside)
+            ∙ to.gone a.place a.object (within a.place a.object a.at_place) a.at_place (ap (λ o. is_none o) a.set_aside)
 
     pub closed : IsClosed (standing t) m
     closed = record { entries_are = entries_left; no_doomed = none_doomed }
-
--- What is found of an unfinished entry.
-
-unfinished_found : (key body : List ℕ) → whole_in (read_for key (Some (unfinished_file body))) ≡ None
-unfinished_found key body =
-    ap whole_in
-    (cond_both (bytes_eq (file_meta (unfinished_file body)).key key) (read (file_name key) (unfinished_file body)) Nothing (λ r. r ≡ Nothing)
-    (λ same. unfit_reads (file_name key) (unfinished_file body) (ap is_none (unfinished_is_short (file_name key) body)))
-    (λ other. refl))
-
--- so nothing is lost with any file that is removed
-pub may_drop : (s : State) (k : Kept) (m : Machine) (w : Marks) (is : KeepsTo (cache_at k s) (history_of m w)) (p : ℕ) (x : Object) → object_at k p ≡ Some x → stays x ≡ false → MayDrop w x
-may_drop s k m w is p x at no_stay name place = elim (cases_Bool (is_touched w name)) [
-  | inl touched ↦ inl touched
-  | inr un ↦ inr (go (names_now s (entry_place name)) refl (is.crash_kept.safe.untouched name un))
-]
-  where
-    stands : standing s (entry_place name) ≡ Some (unfinished_file (object m (is.number p)).version.body)
-    stands =
-        let user = entry_user s k m is.number is.stands p x name at place in
-        ap (standing s) (sym place) ∙ file_stands s k m is.number is.stands p x at
-        ∙ ap (λ c. Some c) (unfinished_file_is (object m (is.number p)) (unfinished_by s k m is.number is.stands p x at user.0 no_stay))
-
-    go : (f : Option ℕ) → names_now s (entry_place name) ≡ f → IsKept s (entry_place name) (IsAsMarked w name) → (key : List ℕ) → file_name key ≡ name → found (get w.marked.shelf) key ≡ None
-    go None now kept key named =
-        absurd (let both : None ≡ Some (unfinished_file (object m (is.number p)).version.body) = ap (content_of s.files) (sym now) ∙ stands in cc)
-    go (Some file) now kept key named =
-        let both : Some (content (s.files file)) ≡ Some (unfinished_file (object m (is.number p)).version.body) = ap (content_of s.files) (sym now) ∙ stands in
-        let holds : content (s.files file) ≡ unfinished_file (object m (is.number p)).version.body = cc in
-        let synced : (s.files file).synced ≡ unfinished_file (object m (is.number p)).version.body = sym (moment_synced (s.files file) 0 (kept.unwritten file (0, now))) ∙ holds in
-        sym (kept.some file (0, now) key named) ∙ ap (λ c. whole_in (read_for key (Some c))) synced ∙ unfinished_found key (object m (is.number p)).version.body
 
 -- All that is closed.
 
 pub all_closed : (s t : State) (k : Kept) (n : ℕ) → length k.objects ≤ n → IsDroppedTo k n s t → ClosesAll (Ok tt) (cache_at k s) t
 all_closed s t k n all to = record {
   closed = λ m stand. closed s k m stand.0 stand.1 t n all to;
-  crash = λ h is. to.safe h.marks (may_drop s k h.machine h.marks is) is.crash_kept.safe;
+  crash = λ h is. to.safe h.marks is.crash_kept.safe;
 }
 
-pub all_failed : {T : Type 0} (k : Kept) (i : ℕ) (x : Object) (r : Result T DiskFault) (s t u : State) → object_at k i ≡ Some x → u ≡ if_done r (dropped x t) t → IsDroppedTo k i s t
+pub all_failed : {T : Type 0} (k : Kept) (i : ℕ) (x : Object) (r : Result T DiskFault) (s t u : State) → object_at k i ≡ Some x → u ≡ if_done r (let_go_by x t) t → IsDroppedTo k i s t
     → (m : Machine) (w : Marks) → KeepsTo (cache_at k s) (history_of m w) → IsSafe u w
-all_failed k i x r s t u at_x is to m w stands = safe_done k i x r s t u at_x is to w (may_drop s k m w stands) stands.crash_kept.safe
+all_failed k i x r s t u at_x is to m w stands = safe_done k i x r s t u at_x is to w stands.crash_kept.safe
 
 -- the next file stands, whatever the machine is
 pub next_somehow : (s t : State) (k : Kept) (i : ℕ) (x : Object) → RepresentsSome (cache_at k s) → object_at k i ≡ Some x → IsDroppedTo k i s t → IsSome (standing t (object_place x))

@@ -1,6 +1,6 @@
 -- A slot is closed: its writer finishes its object first.
 use Rattle.std.proofs.Common.{◌≡◌, ℕ, ◌<◌, Bool, true, false, not, ◌&&◌, Option, Some, None, IsSome, Result, Ok, Err, refl, sym, ap, subst, ◌∙◌, IsTrue}
-use Rattle.std.specs.Prelude.{IfOk, IsErrAnd, IsOkAnd, IsSomeAnd, OnOk, if◌then◌else◌, option_map}
+use Rattle.std.specs.Prelude.{IsErrAnd, IsOkAnd, IsSomeAnd, OnOk, if◌then◌else◌, option_map}
 use Rattle.std.proofs.lemmas.Bool.{and_parts, cond-false, cond-true, not-true}
 use Rattle.cache_base.specs.Checks.{first_failing}
 use Rattle.cache_base.specs.declared.limits.TheConstants.{SLOTS}
@@ -8,8 +8,9 @@ use Rattle.cache_theory.specs.Checks.{checks}
 use Rattle.cache_theory.specs.Command.Command.{Close}
 use Rattle.cache_theory.specs.Command.Reply.{Done}
 use Rattle.cache_theory.specs.Crash.{IsSafe}
+use Rattle.cache_theory.proofs.EntryFiles.{file_there}
 use Rattle.cache_theory.specs.Machine.{Machine, Object as MachineObject, is_slot, is_writer, number_of, object, object_of}
-use Rattle.cache_theory.specs.Marks.{Marks, begun, rewritten}
+use Rattle.cache_theory.specs.Marks.{Marks, begun, marks_of, rewritten}
 use Rattle.cache_theory.specs.Step.{Answer, answer, effect, finished_by, released, step, stepped, stored}
 use Rattle.cache_theory.specs.declared.refusal.Refusal.{Refusal}
 use Rattle.cache_theory.specs.declared.refusal.Refusal.TheVariants.{NoSlot}
@@ -21,10 +22,11 @@ use Rattle.disk_model.specs.State.{State, standing}
 use Rattle.disk_model.specs.declared.disk.DiskFault.{DiskFault}
 use Rattle.file_handles.specs.Answers.{done_or, reply_in}
 use Rattle.file_handles.specs.Cache.{cache_at}
-use Rattle.file_handles.specs.Changes.{Becomes, ChangesAt, ChangesThere, IsFiledAs, completed}
+use Rattle.file_handles.specs.Changes.{completed}
 use Rattle.file_handles.specs.Closing.{GivesUp, MayGiveUp, is_some_draft}
 use Rattle.file_handles.specs.Held.{IsEntryOf, is_draft, object_place}
 use Rattle.file_handles.specs.Kept.{Kept, object_at, use_at, used, with_object}
+use Rattle.file_handles.specs.Publishing.{CompletesAt, CompletesThere}
 use Rattle.file_handles.specs.Refuses.{Refuses}
 use Rattle.file_handles.specs.Stands.{HandlesStand, KeepsWhere, RepresentsSome, Stands}
 use Rattle.file_handles.specs.declared.fault.HandleFault.{HandleFault}
@@ -34,15 +36,15 @@ use Rattle.file_handles.specs.declared.object.Entry.TheVariants as entry
 use Rattle.file_handles.specs.declared.object.Object.{Object}
 use Rattle.file_handles.specs.declared.object.Use.{Use}
 use Rattle.file_handles.proofs.Begun.{begun_in}
-use Rattle.file_handles.proofs.Changed.{MayGoOut, changed_in_safe, changed_safe}
-use Rattle.file_handles.proofs.ElementMarks.{goes_out}
+use Rattle.file_handles.proofs.ElementMarks.{finishes_out}
 use Rattle.file_handles.proofs.ElementSlots.{no_slot, no_use_found, slot_is, slot_number, slot_writes}
+use Rattle.file_handles.proofs.FinishCarried.{completed_in, completed_safe}
 use Rattle.file_handles.proofs.Histories.{history_of}
-use Rattle.file_handles.proofs.KeptLaws.{object_set_here, place_within}
-use Rattle.file_handles.proofs.Places.{file_stands, is_filed}
+use Rattle.file_handles.proofs.Places.{file_stands}
+use Rattle.file_handles.proofs.Published.{MayFinish}
 use Rattle.file_handles.proofs.Refused.{refused_where}
 use Rattle.file_handles.proofs.Released.{released_objects, some_object}
-use Rattle.file_handles.proofs.Where.{LeavesWhere}
+use Rattle.file_handles.proofs.Where.{LeavesWhere, bare_in}
 
 -- A slot that is not in use.
 
@@ -68,6 +70,7 @@ no_reply : {T : Type 0} (r : Result T HandleFault) (f : HandleFault) → IsErrAn
 no_reply r f is none = reply_is r f is ∙ go f none
   where
     go : (f : HandleFault) → ((refusal : Refusal) → f ≡ fault.Refused refusal → ⊥) → reply_in f ≡ None
+    go fault.Read none = refl
     go fault.Disk none = refl
     go fault.Memory none = refl
     go (fault.Refused refusal) none = absurd (none refusal refl)
@@ -113,16 +116,16 @@ module _ (k : Kept) (slot : ℕ) (small : slot < SLOTS) (u : Use) (at : use_at k
   unfolding effect
   close_step = ap (stepped m (Close slot)) close_passes
 
-module _ (s : State) (k : Kept) (slot : ℕ) (small : slot < SLOTS) (u : Use) (at : use_at k slot ≡ Some u) where
-  -- an object that is not finished by the slot has its file
-  pub may_give_up : (m : Machine) (number : ℕ → ℕ) → Stands (standing s) k m number → MayGiveUp slot u.place (cache_at k s)
-  may_give_up m number stands =
-      let x = object_there k slot small u at m number stands.handles in
-      record {
-        placed = ap (option_map (λ (v : Use). v.place)) at;
-        there = subst (λ o. IsSomeAnd o (λ x. IsSome (standing s (object_place x)))) (sym x.1) (subst IsSome (sym (file_stands s k m number stands u.place x.0 x.1)) refl);
-      }
+-- the object of a slot has its file
+pub may_give_up : (s : State) (k : Kept) (slot : ℕ) → slot < SLOTS → (u : Use) → use_at k slot ≡ Some u → (m : Machine) (number : ℕ → ℕ) → Stands (standing s) k m number → MayGiveUp slot u.place (cache_at k s)
+may_give_up s k slot small u at m number stands =
+    let x = object_there k slot small u at m number stands.handles in
+    record {
+      placed = ap (option_map (λ (v : Use). v.place)) at;
+      there = subst (λ o. IsSomeAnd o (λ x. IsSome (standing s (object_place x)))) (sym x.1) (file_there (object m (number u.place)) _ (file_stands s k m number stands u.place x.0 x.1));
+    }
 
+module _ (s : State) (k : Kept) (slot : ℕ) (small : slot < SLOTS) (u : Use) (at : use_at k slot ≡ Some u) where
   -- Nothing is to be finished.
   module _ (not_finishes : (u.writes && is_some_draft (object_at k u.place)) ≡ false) {b : Bool} (m : Machine) (w : Marks) (is : KeepsWhere b (cache_at k s) (history_of m w)) where
     pub unchanged_in : KeepsWhere b (cache_at k s) (history_of (finished_by m slot) (begun m (Close slot) w))
@@ -131,7 +134,7 @@ module _ (s : State) (k : Kept) (slot : ℕ) (small : slot < SLOTS) (u : Use) (a
         subst (λ (n : Machine). KeepsWhere b (cache_at k s) (history_of n (begun m (Close slot) w))) (sym same) (begun_in s k m (Close slot) w is)
 
   -- The object is finished.
-  module _ (to_finish : (u.writes && is_some_draft (object_at k u.place)) ≡ true) {T : Type 0} (r : Result T HandleFault) (t : State) (after : Kept) (changes : ChangesThere u.place completed r (cache_at k s) (cache_at after t)) where
+  module _ (to_finish : (u.writes && is_some_draft (object_at k u.place)) ≡ true) {T : Type 0} (r : Result T HandleFault) (t : State) (after : Kept) (completes : CompletesThere u.place r (cache_at k s) (cache_at after t)) where
     module _ {b : Bool} (m : Machine) (w : Marks) (is : KeepsWhere b (cache_at k s) (history_of m (begun m (Close slot) w))) where
       writes : (is_writer m slot && not (object_of m slot).finished) ≡ true
       writes = finishes k slot small u at m is.number is.stands.handles ∙ to_finish
@@ -155,19 +158,22 @@ module _ (s : State) (k : Kept) (slot : ℕ) (small : slot < SLOTS) (u : Use) (a
           ∙ ap (λ (n : Machine). object n (number_of m slot)) finished_is
           ∙ stored_here m (number_of m slot) (completed (object_of m slot)) is.stands.proper may_here (number_of m slot) refl
 
-      out : MayGoOut (begun m (Close slot) w) (is.number u.place) (completed (object m (is.number u.place)))
+      un : (object m (is.number u.place)).finished ≡ false
+      un = ap (λ j. (object m j).finished) (sym (numbered k slot small u at m is.number is.stands.handles)) ∙ unfinished
+
+      out : MayFinish (begun m (Close slot) w) (is.number u.place) (completed (object m (is.number u.place)))
       out =
           let writes_it : rewritten m (Close slot) ≡ Some (number_of m slot) = ap (λ (b : Bool). if b then Some (number_of m slot) else None) writes in
-          subst (λ j. MayGoOut (begun m (Close slot) w) j (completed (object m j))) (numbered k slot small u at m is.number is.stands.handles)
-          (goes_out m (Close slot) w (close_passes k slot small u at m is.number is.stands.handles) (number_of m slot) (completed (object_of m slot)) writes_it refl becomes refl refl)
+          subst (λ j. MayFinish (begun m (Close slot) w) j (completed (object m j))) (numbered k slot small u at m is.number is.stands.handles)
+          (finishes_out m (Close slot) w (close_passes k slot small u at m is.number is.stands.handles) (number_of m slot) (completed (object_of m slot)) writes_it refl becomes refl refl)
 
-      there : ChangesAt u.place completed r (cache_at k s) (cache_at after t) (object_there k slot small u at m is.number is.stands.handles).0
-      there = let x = object_there k slot small u at m is.number is.stands.handles in changes x.0 x.1
+      there : CompletesAt u.place r (cache_at k s) (cache_at after t) (object_there k slot small u at m is.number is.stands.handles).0
+      there = let x = object_there k slot small u at m is.number is.stands.handles in completes x.0 x.1
 
       pub finished_safe : IsTrue b → IsSafe t (begun m (Close slot) w)
       finished_safe =
           let x = object_there k slot small u at m is.number is.stands.handles in
-          changed_safe s t k m (begun m (Close slot) w) is u.place x.0 completed there.changed x.1 there.changes may out
+          completed_safe s t k m (begun m (Close slot) w) is u.place x.0 there.changed x.1 there.completes un may out
 
       finished_when : IsSound s → IsOkAnd there.changed (λ y. after ≡ with_object k u.place (Some y)) → KeepsWhere b (cache_at after t) (history_of (finished_by m slot) (begun m (Close slot) w))
       finished_when sound put = go there.changed refl put
@@ -177,7 +183,7 @@ module _ (s : State) (k : Kept) (slot : ℕ) (small : slot < SLOTS) (u : Use) (a
           go (Ok y) e put =
               let x = object_there k slot small u at m is.number is.stands.handles in
               let stands : KeepsWhere b (cache_at (with_object k u.place (Some y)) t) (history_of (stored m (is.number u.place) (completed (object m (is.number u.place)))) (begun m (Close slot) w)) =
-              changed_in_safe s t k m (begun m (Close slot) w) is u.place x.0 y completed there.changed sound x.1 there.changes e may finished_safe in
+              completed_in s t k m (begun m (Close slot) w) is u.place x.0 y there.changed sound x.1 there.completes e un may out in
               let same : stored m (is.number u.place) (completed (object m (is.number u.place))) ≡ finished_by m slot = ap (λ j. stored m j (completed (object m j))) (sym (numbered k slot small u at m is.number is.stands.handles)) ∙ sym finished_is in
               subst (λ (l : Kept). KeepsWhere b (cache_at l t) (history_of (finished_by m slot) (begun m (Close slot) w))) (sym put)
               (subst (λ (n : Machine). KeepsWhere b (cache_at (with_object k u.place (Some y)) t) (history_of n (begun m (Close slot) w))) same stands)
@@ -189,27 +195,21 @@ module _ (s : State) (k : Kept) (slot : ℕ) (small : slot < SLOTS) (u : Use) (a
           go (Ok value) put = finished_when sound put
           go (Err f) put = tt
 
-    -- and its file stands where it stood
-    still_there : (m : Machine) (number : ℕ → ℕ) (stands : Stands (standing s) k m number) (x : Object) (at_x : object_at k u.place ≡ Some x) (change : ChangesAt u.place completed r (cache_at k s) (cache_at after t) x)
-        → (changed : Result Object HandleFault) → change.changed ≡ changed → IsOkAnd changed (λ y. after ≡ with_object k u.place (Some y)) → MayGiveUp slot u.place (cache_at after t)
-    still_there m number stands x at_x change (Err f) e put = absurd put
-    still_there m number stands x at_x change (Ok y) e put =
-        let filed = is_filed s k m number stands u.place x at_x in
-        let ok : IfOk {E = HandleFault} (Ok y) (λ y. (o : MachineObject) → IsFiledAs x o s → Becomes x y o (completed o) t) =
-        subst (λ (changed : Result Object HandleFault). IfOk changed (λ y. (o : MachineObject) → IsFiledAs x o s → Becomes x y o (completed o) t)) e change.changes.becomes in
-        let becomes : Becomes x y (object m (number u.place)) (completed (object m (number u.place))) t = ok (object m (number u.place)) filed in
-        let placed : object_at after u.place ≡ Some y = ap (λ (l : Kept). object_at l u.place) put ∙ object_set_here k u.place u.place (Some y) (place_within k u.place x at_x) refl in
-        record {
-          placed = ap (λ (l : Kept). option_map (λ (v : Use). v.place) (use_at l slot)) put ∙ ap (option_map (λ (v : Use). v.place)) at;
-          there = subst (λ o. IsSomeAnd o (λ x. IsSome (standing t (object_place x)))) (sym placed) (subst IsSome (sym (ap (standing t) becomes.same_place ∙ becomes.file)) refl);
-        }
+    -- and its file stands where it should
+    same_use : (changed : Result Object HandleFault) → IsOkAnd changed (λ y. after ≡ with_object k u.place (Some y)) → use_at after slot ≡ Some u
+    same_use (Err f) put = absurd put
+    same_use (Ok y) put = ap (λ (l : Kept). use_at l slot) put ∙ at
 
-    pub finished_may : RepresentsSome (cache_at k s) → OnOk r (MayGiveUp slot u.place (cache_at after t))
-    finished_may (m, (number, stands)) = go r (let x = object_there k slot small u at m number stands.handles in changes x.0 x.1).put_back
-      where
-        go : (r' : Result T HandleFault) → OnOk r' (IsOkAnd (let x = object_there k slot small u at m number stands.handles in changes x.0 x.1).changed (λ y. after ≡ with_object k u.place (Some y))) → OnOk r' (MayGiveUp slot u.place (cache_at after t))
-        go (Ok value) put = let x = object_there k slot small u at m number stands.handles in still_there m number stands x.0 x.1 (changes x.0 x.1) (changes x.0 x.1).changed refl put
-        go (Err f) put = tt
+    still_there : (r' : Result T HandleFault) (m : Machine) (w : Marks) (changed : Result Object HandleFault) → OnOk r' (IsOkAnd changed (λ y. after ≡ with_object k u.place (Some y)))
+        → OnOk r' (KeepsWhere false (cache_at after t) (history_of m w)) → OnOk r' (MayGiveUp slot u.place (cache_at after t))
+    still_there (Err f) m w changed put keeps = tt
+    still_there (Ok value) m w changed put keeps = may_give_up t after slot small u (same_use changed put) m keeps.number keeps.stands
+
+    pub finished_may : IsSound s → RepresentsSome (cache_at k s) → OnOk r (MayGiveUp slot u.place (cache_at after t))
+    finished_may sound (m, stands) =
+        let w : Marks = marks_of m in
+        let is : KeepsWhere false (cache_at k s) (history_of m (begun m (Close slot) w)) = bare_in {h = history_of m (begun m (Close slot) w)} stands in
+        still_there r (finished_by m slot) (begun m (Close slot) w) (there m w is).changed (there m w is).put_back (finished_in m w is sound)
 
   -- The slot is given up then.
   module _ (t : State) (mid after : Kept) {b : Bool} (m : Machine) (w : Marks) (is : KeepsWhere b (cache_at k s) (history_of m w)) (stands : KeepsWhere b (cache_at mid t) (history_of (finished_by m slot) (begun m (Close slot) w))) (v : State) where

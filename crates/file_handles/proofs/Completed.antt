@@ -1,7 +1,9 @@
 -- A draft that is finished.
-use Rattle.std.proofs.Common.{◌≡◌, inr, ℕ, List, Some, refl, sym, ap, subst, ◌∙◌}
+use Rattle.std.proofs.Common.{◌≡◌, inr, ℕ, List, Bool, true, false, ◌||◌, Some, is_some, refl, sym, ap, subst, ◌∙◌}
 use Rattle.cache_theory.specs.Machine.{Object as MachineObject}
-use Rattle.cache_theory.proofs.EntryFiles.{finished_file_is, unfinished_file_is}
+use Rattle.cache_theory.specs.Stands.{is_aside, object_file}
+use Rattle.cache_theory.proofs.EntryFiles.{finished_file_is, unfinished_there}
+use Rattle.cache_theory.proofs.HeldAside.{doomed_aside}
 use Rattle.chunk_store.specs.Stored.{unfinished_file}
 use Rattle.disk_model.specs.State.{State, names_now, standing}
 use Rattle.disk_model.specs.Writes.{WritesAt}
@@ -11,7 +13,8 @@ use Rattle.entry_file.specs.NewEntry.{HasBody, finished}
 use Rattle.entry_file.specs.Version.{file_of, version_meta}
 use Rattle.entry_metadata.specs.Meta.{meta_of}
 use Rattle.entry_metadata.specs.declared.meta.Meta.{Meta}
-use Rattle.file_handles.specs.Changes.{Becomes, IsFiledAs, IsMomentOf, completed}
+use Rattle.file_handles.specs.Changes.{IsFiledAs, IsMomentOf, completed}
+use Rattle.file_handles.specs.Publishing.{BecomesWhole, aside_by}
 use Rattle.file_handles.specs.Held.{IsEntryOf, IsHeldAs, object_place, object_with}
 use Rattle.file_handles.specs.declared.object.Draft.{Draft}
 use Rattle.file_handles.specs.declared.object.Entry.TheVariants as entry
@@ -30,20 +33,29 @@ module _ (x : Object) (d : Draft) (is : x.entry ≡ entry.Draft d) where
   version_is : (o : MachineObject) → IsEntryOf (entry.Draft d) o → finished d.header d.key d.elements o.version.body ≡ o.version
   version_is o was = λ i. finished (was.1.header i) (was.1.key i) (was.1.elements i) o.version.body
 
+  -- it stands aside where it is doomed
+  aside_then : (o : MachineObject) → IsHeldAs x o → is_some (aside_by x.doomed x.aside) ≡ is_aside (completed o)
+  aside_then o as_held = go x.doomed refl
+    where
+      go : (b : Bool) → x.doomed ≡ b → is_some (aside_by b x.aside) ≡ is_aside (completed o)
+      go true e = as_held.aside ∙ doomed_aside o (sym as_held.doomed ∙ e) ∙ sym (doomed_aside (completed o) (sym as_held.doomed ∙ e))
+      go false e = sym (ap (λ b. b || false) (sym as_held.doomed ∙ e))
+
   -- it is held as the finished object
   pub completed_held : (meta : Meta) → ((body : List ℕ) → HasBody (held d.body) body → meta_of meta ≡ version_meta (finished d.header d.key d.elements body)) → (o : MachineObject) → IsHeldAs x o
-      → IsHeldAs (object_with x.number x.name x.doomed (entry.Finished meta)) (completed o)
+      → IsHeldAs (object_with x.number x.name x.doomed (aside_by x.doomed x.aside) (entry.Finished meta)) (completed o)
   completed_held meta metas o as_held =
       let was = draft_of o as_held in
       record {
         named = as_held.named;
         doomed = as_held.doomed;
+        aside = aside_then o as_held;
         held_entry = (refl, metas o.version.body was.1.body ∙ ap version_meta (version_is o was));
       }
 
   module _ (s t : State) (place : Place) (at : place ≡ object_place x) where
     stood : (o : MachineObject) → IsFiledAs x o s → standing s place ≡ Some (unfinished_file o.version.body)
-    stood o filed = ap (standing s) at ∙ filed.file ∙ ap (λ c. Some c) (unfinished_file_is o (was_draft o s filed).0)
+    stood o filed = ap (standing s) at ∙ unfinished_there o (standing s (object_place x)) (was_draft o s filed).0 filed.file
 
     -- its file gets the moment of that version
     pub completed_writes : ((body : List ℕ) → HasBody (held d.body) body → standing s place ≡ Some (unfinished_file body) → WritesAt place (λ c. c ≡ file_of (finished d.header d.key d.elements body)) s t)
@@ -53,22 +65,27 @@ module _ (x : Object) (d : Draft) (is : x.entry ≡ entry.Draft d) where
         writes_weaker s t file (λ c. c ≡ file_of (finished d.header d.key d.elements o.version.body)) (IsMomentOf (completed o)) (λ c e. inr (refl, e ∙ ap file_of (version_is o was)))
         (writes o.version.body was.1.body (stood o filed) file (ap (names_now s) at ∙ now))
 
+    -- which it then is
+    pub completed_stands : ((body : List ℕ) → HasBody (held d.body) body → standing s place ≡ Some (unfinished_file body) → standing t place ≡ Some (file_of (finished d.header d.key d.elements body)))
+        → (o : MachineObject) → IsFiledAs x o s → standing t (object_place x) ≡ Some (object_file (completed o))
+    completed_stands stands o filed =
+        let was = was_draft o s filed in
+        ap (standing t) (sym at)
+        ∙ stands o.version.body was.1.body (stood o filed)
+        ∙ ap (λ v. Some (file_of v)) (version_is o was)
+        ∙ ap (λ c. Some c) (sym (finished_file_is (completed o) refl))
+
     -- and it is the finished entry
     pub completed_becomes : (meta : Meta) → ((body : List ℕ) → HasBody (held d.body) body → meta_of meta ≡ version_meta (finished d.header d.key d.elements body))
         → ((body : List ℕ) → HasBody (held d.body) body → standing s place ≡ Some (unfinished_file body) → standing t place ≡ Some (file_of (finished d.header d.key d.elements body)))
-        → (o : MachineObject) → IsFiledAs x o s → Becomes x (record { number = x.number; name = x.name; doomed = x.doomed; entry = entry.Finished meta }) o (completed o) t
+        → (o : MachineObject) → IsFiledAs x o s → BecomesWhole x (object_with x.number x.name x.doomed (aside_by x.doomed x.aside) (entry.Finished meta)) o t
     completed_becomes meta metas stands o filed =
         let was = was_draft o s filed in
         record {
           same_object = refl;
           keeps_chunks = keeps_completed o was.0;
-          same_place = refl;
           same_name = refl;
-          same_number = refl;
+          aside = refl;
           as_held = completed_held meta metas o filed.as_held;
-          file =
-              ap (standing t) (sym at)
-              ∙ stands o.version.body was.1.body (stood o filed)
-              ∙ ap (λ v. Some (file_of v)) (version_is o was)
-              ∙ ap (λ c. Some c) (sym (finished_file_is (completed o) refl));
+          file = completed_stands stands o filed;
         }

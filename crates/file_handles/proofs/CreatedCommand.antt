@@ -1,6 +1,6 @@
 -- What a `create` leaves at each exit.
 use Rattle.std.proofs.Common.{◌≡◌, ◌≢◌, ◌⊎◌, ℕ, ◌<◌, List, [], ◌∷◌, length, Bool, true, false, not, Option, Some, None, Result, Ok, Err, is_ok, refl, sym, ap, subst, ◌∙◌, IsTrue}
-use Rattle.std.specs.List.{position}
+use Rattle.std.specs.List.{Contains}
 use Rattle.cache_base.specs.Bytes.{AreBytes}
 use Rattle.cache_base.specs.Checks.{first_failing}
 use Rattle.cache_base.specs.declared.limits.TheConstants.{SLOTS}
@@ -15,32 +15,31 @@ use Rattle.cache_theory.specs.Step.{doomed_under, effect, entered, fresh}
 use Rattle.cache_theory.specs.declared.refusal.Refusal.{Refusal}
 use Rattle.cache_theory.specs.declared.refusal.Refusal.TheVariants as refused
 use Rattle.cache_theory.proofs.Changes.{may_create}
-use Rattle.disk_model.specs.declared.place.Place.TheVariants.{Entry}
+use Rattle.disk_model.specs.declared.place.Place.TheVariants.{Doomed}
 use Rattle.disk_model.specs.Sound.{IsSound}
 use Rattle.disk_model.specs.State.{State, created}
 use Rattle.entry_key.specs.Writing.{may_write}
 use Rattle.entry_name.specs.EntryName.{file_name}
 use Rattle.file_handles.specs.Cache.{cache_at}
 use Rattle.file_handles.specs.Carries.{CarriesOutAt}
-use Rattle.file_handles.specs.Dooming.{DoomsUnder}
-use Rattle.file_handles.specs.Finding.{is_user}
+use Rattle.file_handles.specs.Dooming.{DoomsUnder, numbers_in}
 use Rattle.file_handles.specs.Held.{IsHeldAs}
 use Rattle.file_handles.specs.Joining.{Adds}
 use Rattle.file_handles.specs.Kept.{Kept, use_at, used}
-use Rattle.file_handles.specs.Stands.{KeepsWhere}
+use Rattle.file_handles.specs.Stands.{KeepsWhere, RepresentsSome}
 use Rattle.file_handles.specs.declared.fault.HandleFault.{HandleFault}
+use Rattle.file_handles.specs.declared.fault.HandleFault.TheVariants as fault
 use Rattle.file_handles.specs.declared.object.Object.{Object}
 use Rattle.file_handles.specs.declared.object.Use.{Use}
 use Rattle.file_handles.proofs.Begun.{begun_in}
-use Rattle.file_handles.proofs.CreatedIn.{after_doom, created_in, made_safe}
-use Rattle.file_handles.proofs.DoomedBut.{IsInBut}
-use Rattle.file_handles.proofs.DoomedCarried.{done_in, touches_name}
+use Rattle.file_handles.proofs.CreatedIn.{created_in, made_safe}
+use Rattle.file_handles.proofs.DoomedCarried.{done_in, touched_first, touches_name}
 use Rattle.file_handles.proofs.ElementSlots.{no_slot, slot_is}
 use Rattle.file_handles.proofs.Histories.{history_of}
 use Rattle.file_handles.proofs.JoinedObject.{MayAdd}
 use Rattle.file_handles.proofs.JoinedOpen.{used_none}
 use Rattle.file_handles.proofs.Refused.{refused_where}
-use Rattle.file_handles.proofs.Where.{LeavesWhere, carries_out_at}
+use Rattle.file_handles.proofs.Where.{LeavesWhere, bare_in, carries_out_at}
 
 -- The checks, with what they test.
 
@@ -95,28 +94,25 @@ module _ (s : State) (k : Kept) (slot : ℕ) (key : List ℕ) (name : Name) (may
   here : KeepsWhere b (cache_at k s) (history_of m (begun m (Create slot key) w))
   here = begun_in s k m (Create slot key) w stand
 
-  -- who was in use could not be doomed
-  pub doom_fails : (u : State) (after : Kept) (f : HandleFault) → (position (is_user name) k.objects ≢ None → DoomsUnder {T = Bool} name.0 (Err f) (cache_at k s) (cache_at after u)) → (position (is_user name) k.objects ≢ None)
-      → IsTrue b → IsSafe u (begun m (Create slot key) w)
-  doom_fails u after f dooms some = ((dooms some).leaves b (history_of m (begun m (Create slot key) w)) touched here).safe
+  -- what stood there could not be doomed
+  pub doom_fails : (u : State) (after : Kept) (f : HandleFault) → DoomsUnder {T = Unit {0}} name.0 (Err f) (cache_at k s) (cache_at after u) → IsTrue b → IsSafe u (begun m (Create slot key) w)
+  doom_fails u after f dooms = (dooms.leaves b (history_of m (begun m (Create slot key) w)) touched here).safe
 
-  -- or is doomed, if there was one
-  pub doom_done : {D X : Type 0} (state : D → State) (d e : D) (after : Kept) (some_ : Bool) → state d ≡ s → (position (is_user name) k.objects ≢ None → DoomsUnder {T = Bool} {E = HandleFault} name.0 (Ok some_) (cache_at k s) (cache_at after (state e)))
-      → (position (is_user name) k.objects ≡ None → X × ((e ≡ d) × (after ≡ k))) → IsInBut b name.0 (state e) after (doomed_under m name.0) (begun m (Create slot key) w)
-  doom_done state d e after some_ is dooms still =
-      after_doom s (state e) k after name m (begun m (Create slot key) w) here (λ some. ((dooms some).leaves b (history_of m (begun m (Create slot key) w)) touched here).next)
-      (λ bare. let same = (still bare).1 in (ap state same.0 ∙ is, same.1))
+  -- or is doomed
+  pub doom_done : (u : State) (after : Kept) → DoomsUnder {T = Unit {0}} {E = HandleFault} name.0 (Ok tt) (cache_at k s) (cache_at after u)
+      → KeepsWhere b (cache_at after u) (history_of (doomed_under m name.0) (begun m (Create slot key) w))
+  doom_done u after dooms = (dooms.leaves b (history_of m (begun m (Create slot key) w)) touched here).next
 
-  module _ (u t : State) (before : Kept) (sound : IsSound u) (but : IsInBut b name.0 u before (doomed_under m name.0) (begun m (Create slot key) w)) where
+  module _ (u t : State) (before : Kept) (d : ℕ) (sound : IsSound u) (stands : KeepsWhere b (cache_at before u) (history_of (doomed_under m name.0) (begun m (Create slot key) w))) where
     -- its file may be made
-    pub draft_safe : (t ≡ created (Entry name) u) ⊎ (t ≡ u) → IsTrue b → IsSafe t (begun m (Create slot key) w)
-    draft_safe either on = made_safe u name sound (begun m (Create slot key) w) touched t either (but.crash_kept on).safe
+    pub draft_safe : (t ≡ created (Doomed d) u) ⊎ (t ≡ u) → IsTrue b → IsSafe t (begun m (Create slot key) w)
+    draft_safe either on = made_safe u t d (begun m (Create slot key) w) sound either (stands.crash_kept on).safe
 
     -- and its object is added
-    pub added_leaves : (after : Kept) (x : Object) → AreBytes key → t ≡ created (Entry name) u → IsHeldAs x (fresh m.moment key) → Adds slot x true before after → slot < length before.slots
+    pub added_leaves : (after : Kept) (x : Object) → AreBytes key → t ≡ created (Doomed d) u → x.aside ≡ Some d → ¬ Contains (numbers_in before.objects) d → IsHeldAs x (fresh m.moment key) → Adds slot x true before after → slot < length before.slots
         → ((p : ℕ) → p < SLOTS → p < length before.objects) → LeavesWhere b (Create slot key) (history_of m w) (Some Done) (cache_at after t)
     unfolding effect
-    added_leaves after x bytes is held adds within places =
+    added_leaves after x bytes is numbered free held adds within places =
         let v : Marks = begun m (Create slot key) w in
         let use_ : Use = adds.joins.use_ in
         let next : Machine = doomed_under m (file_name key) in
@@ -132,7 +128,18 @@ module _ (s : State) (k : Kept) (slot : ℕ) (key : List ℕ) (name : Name) (may
           writing = adds.joins.writing;
         }
         in
-        let but_key : IsInBut b name.0 u before next v = subst (λ n. IsInBut b name.0 u before (doomed_under m n) v) may.named but in
-        let done = created_in u name sound v touched before next slot m.moment key x adds.place use_ may.named add but_key in
-        let kept_so : KeepsWhere b (cache_at after (created (Entry name) u)) (history_of last v) = subst (λ (a : Kept). KeepsWhere b (cache_at a (created (Entry name) u)) (history_of last v)) (sym adds.joins.same) done in
+        let stands_key : KeepsWhere b (cache_at before u) (history_of next v) = subst (λ n. KeepsWhere b (cache_at before u) (history_of (doomed_under m n) v)) may.named stands in
+        let done = created_in u d sound before next v slot m.moment key x adds.place use_ add numbered free stands_key in
+        let kept_so : KeepsWhere b (cache_at after (created (Doomed d) u)) (history_of last v) = subst (λ (a : Kept). KeepsWhere b (cache_at a (created (Doomed d) u)) (history_of last v)) (sym adds.joins.same) done in
         done_in t after (Create slot key) m w passes refl refl (subst (λ z. KeepsWhere b (cache_at after z) (history_of last v)) (sym is) kept_so)
+
+-- the number is that of a machine, whatever the history
+pub doom_numbered : (s u : State) (k after : Kept) (name : Name) → RepresentsSome (cache_at k s) → DoomsUnder {T = Unit {0}} {E = HandleFault} name.0 (Ok tt) (cache_at k s) (cache_at after u) → RepresentsSome (cache_at after u)
+doom_numbered s u k after name (m, stands) dooms =
+    let h = history_of m (record { marked = m; touched = name.0 ∷ []; since = []; in_place = [] }) in
+    let next = (dooms.leaves false h (touched_first name.0 []) (bare_in {h = h} stands)).next in
+    (doomed_under m name.0, (next.number, next.stands))
+
+-- out of memory is no refusal
+pub memory_only : (f : HandleFault) (refusal : Refusal) → f ≡ fault.Memory → f ≡ fault.Refused refusal → ⊥
+memory_only f refusal is same = let both : fault.Memory ≡ fault.Refused refusal = sym is ∙ same in cc

@@ -7,18 +7,17 @@ use Rattle.cache_theory.specs.Ever.{entries, entry_place}
 use Rattle.cache_theory.specs.Machine.{Machine, Object as MachineObject, object}
 use Rattle.cache_theory.specs.Marks.{Marks, is_touched}
 use Rattle.cache_theory.specs.Proper.{IsInUse, IsProper}
-use Rattle.cache_theory.specs.Stands.{DoomedStand, IsHeldDoomed, entry_file, object_file}
+use Rattle.cache_theory.specs.Stands.{AsideStand, HasObjectFile, IsHeldAside}
 use Rattle.cache_theory.specs.Step.{doomed_at, doomed_under}
 use Rattle.cache_theory.specs.Table.{get}
 use Rattle.cache_theory.proofs.DiskChanges.{remove_keeps}
 use Rattle.cache_theory.proofs.Dooming.{doomed_length, doomed_there, proper_doomed_under}
-use Rattle.cache_theory.proofs.EntryFiles.{entry_doomed_other}
 use Rattle.cache_theory.proofs.EverSteps.{ever_removed}
 use Rattle.cache_theory.proofs.FiledOnce.{one_name as one_place, remove_files_once}
-use Rattle.cache_theory.proofs.HeldDoomed.{held_before_doomed, held_doomed}
-use Rattle.cache_theory.proofs.Names.{one_name}
+use Rattle.cache_theory.proofs.HeldAside.{held_before_doomed, held_doomed}
+use Rattle.cache_theory.proofs.Names.{get-remove_other, one_name}
 use Rattle.cache_theory.proofs.Users.{in_use_along}
-use Rattle.disk_model.specs.declared.place.Place.TheVariants.{Entry}
+use Rattle.disk_model.specs.declared.place.Place.TheVariants.{Doomed, Entry}
 use Rattle.disk_model.specs.Image.{Files}
 use Rattle.disk_model.specs.Standing.{Puts}
 use Rattle.disk_model.specs.State.{State, removed, standing}
@@ -34,8 +33,8 @@ use Rattle.file_handles.proofs.Histories.{history_of}
 pub record StandsBut (name : List ℕ) (files : Files) (k : Kept) (m : Machine) (number : ℕ → ℕ) : Type 0 where
   pub proper : IsProper m
   pub handles : HandlesStand k m number
-  pub entries_but : (q : List ℕ) → name ≢ q → entries files q ≡ entry_file m q
-  pub doomed : DoomedStand files m (IsAt k number)
+  pub entries_but : (q : List ℕ) → name ≢ q → entries files q ≡ get m.shelf q
+  pub aside : AsideStand files m (IsAt k number)
 
 pub record IsInBut (b : Bool) (name : List ℕ) (s : State) (k : Kept) (m : Machine) (w : Marks) : Type 0 where
   pub number : ℕ → ℕ
@@ -46,7 +45,7 @@ pub record IsInBut (b : Bool) (name : List ℕ) (s : State) (k : Kept) (m : Mach
 pub in_but : {b : Bool} (name : List ℕ) (s : State) (k : Kept) (m : Machine) (w : Marks) → KeepsWhere b (cache_at k s) (history_of m w) → IsInBut b name s k m w
 in_but name s k m w is = record {
   number = is.number;
-  stands = record { proper = is.stands.proper; handles = is.stands.handles; entries_but = λ q apart. is.stands.entries q; doomed = is.stands.doomed };
+  stands = record { proper = is.stands.proper; handles = is.stands.handles; entries_but = λ q apart. is.stands.entries q; aside = is.stands.aside };
   crash_kept = is.crash_kept;
 }
 
@@ -59,7 +58,7 @@ module _ (name : List ℕ) (s : State) (k : Kept) (m : Machine) (w : Marks) (unu
   same_object : (i : ℕ) → object (doomed_under m name) i ≡ object m i
   same_object i = doomed_there m name i (never_used i)
 
-  was_held : (i : ℕ) → IsHeldDoomed (doomed_under m name) i → IsHeldDoomed m i
+  was_held : (i : ℕ) → IsHeldAside (doomed_under m name) i → IsHeldAside m i
   was_held i h = elim (held_before_doomed m name i h) [ inl at ↦ absurd (never_used i at) | inr old ↦ old ]
 
   in_use_next : (i : ℕ) → IsInUse m i → IsInUse (doomed_under m name) i
@@ -77,12 +76,12 @@ module _ (name : List ℕ) (s : State) (k : Kept) (m : Machine) (w : Marks) (unu
       apart = stands.handles.apart;
       chunks = chunks_on k k m (doomed_under m name) number (λ q y at. at) (λ q y at. at) same_object (doomed_length m name) refl refl stands.handles.chunks;
     };
-    entries_but = λ q apart. stands.entries q ∙ sym (entry_doomed_other m name q stands.proper apart);
-    doomed = record {
-      held = λ i h. let old = stands.doomed.held i (was_held i h) in (old.0, (old.1.0, old.1.1 ∙ ap (λ o. Some (object_file o)) (sym (same_object i))));
-      only = λ d some. let old = stands.doomed.only d some in (old.0, (old.1.0, held_doomed m name stands.proper old.0 old.1.1));
-      one_object = stands.doomed.one_object;
-      one_number = stands.doomed.one_number;
+    entries_but = λ q apart. stands.entries q ∙ sym (get-remove_other m.shelf name q apart);
+    aside = record {
+      held = λ i h. let old = stands.aside.held i (was_held i h) in (old.0, (old.1.0, subst (λ o. HasObjectFile o (standing s (Doomed old.0))) (sym (same_object i)) old.1.1));
+      only = λ d some. let old = stands.aside.only d some in (old.0, (old.1.0, held_doomed m name stands.proper old.0 old.1.1));
+      one_object = stands.aside.one_object;
+      one_number = stands.aside.one_number;
     };
   }
 
@@ -93,7 +92,7 @@ module _ (name : List ℕ) (s : State) (k : Kept) (m : Machine) (w : Marks) (unu
   crash_but number kept = record {
     safe = kept.safe;
     once = kept.once;
-    doomed = λ d i file q at held names ever. subst (λ o. WasUnder w i o q) (sym (same_object i)) (kept.doomed d i file q at (was_held i held) names ever);
+    aside = λ d i file q at held names ever. subst (λ o. WasUnder w i o q) (sym (same_object i)) (kept.aside d i file q at (was_held i held) names ever);
     unburied = λ i o at un. kept.unburied i o (ap (λ (l : List MachineObject). slice_get l i) (sym same_objects) ∙ at) un;
     young = (let l = doomed_length m name in let y = kept.young in omega (arith, l, y));
   }
@@ -103,7 +102,7 @@ module _ (name : List ℕ) (s : State) (k : Kept) (m : Machine) (w : Marks) (unu
 
 -- Once its file is removed all stands.
 
-module _ (name : Name) (s : State) (k : Kept) (m : Machine) (w : Marks) (none : entry_file m name.0 ≡ None) (touched : is_touched w name.0 ≡ true) where
+module _ (name : Name) (s : State) (k : Kept) (m : Machine) (w : Marks) (none : get m.shelf name.0 ≡ None) (touched : is_touched w name.0 ≡ true) where
   gone : Puts (Entry name) None s (removed (Entry name) s)
   gone = removed_puts (Entry name) s
 
@@ -112,14 +111,14 @@ module _ (name : Name) (s : State) (k : Kept) (m : Machine) (w : Marks) (none : 
     proper = but.proper;
     handles = but.handles;
     entries = λ q. elim (one_name name.0 q) [
-      | inl e ↦ ap (entries (standing (removed (Entry name) s))) (sym e) ∙ gone.here ∙ sym none ∙ ap (entry_file m) e
+      | inl e ↦ ap (entries (standing (removed (Entry name) s))) (sym e) ∙ gone.here ∙ sym none ∙ ap (get m.shelf) e
       | inr apart ↦ gone.others (entry_place q) (λ e. apart (sym (one_place q name.0 e))) ∙ but.entries_but q apart
     ];
-    doomed = record {
-      held = λ i h. but.doomed.held i h;
-      only = λ d some. but.doomed.only d some;
-      one_object = but.doomed.one_object;
-      one_number = but.doomed.one_number;
+    aside = record {
+      held = λ i h. but.aside.held i h;
+      only = λ d some. but.aside.only d some;
+      one_object = but.aside.one_object;
+      one_number = but.aside.one_number;
     };
   }
 
@@ -127,10 +126,26 @@ module _ (name : Name) (s : State) (k : Kept) (m : Machine) (w : Marks) (none : 
   crash_gone number kept = record {
     safe = remove_keeps s w (Entry name) (λ q e. inl (ap (is_touched w) (sym (one_place name.0 q e)) ∙ touched)) kept.safe;
     once = remove_files_once s (Entry name) kept.once;
-    doomed = λ d i file q at held names ever. kept.doomed d i file q at held names (ever_removed s (Entry name) (entry_place q) file ever);
+    aside = λ d i file q at held names ever. kept.aside d i file q at held names (ever_removed s (Entry name) (entry_place q) file ever);
     unburied = kept.unburied;
     young = kept.young;
   }
 
   pub removed_in : {b : Bool} → IsInBut b name.0 s k m w → KeepsWhere b (cache_at k (removed (Entry name) s)) (history_of m w)
   removed_in but = record { number = but.number; stands = stands_gone but.number but.stands; crash_kept = λ on. crash_gone but.number (but.crash_kept on) }
+
+  -- and so it does where there was none
+  pub none_in : {b : Bool} → standing s (Entry name) ≡ None → IsInBut b name.0 s k m w → KeepsWhere b (cache_at k s) (history_of m w)
+  none_in empty but = record {
+    number = but.number;
+    stands = record {
+      proper = but.stands.proper;
+      handles = but.stands.handles;
+      entries = λ q. elim (one_name name.0 q) [
+        | inl e ↦ ap (entries (standing s)) (sym e) ∙ empty ∙ sym none ∙ ap (get m.shelf) e
+        | inr apart ↦ but.stands.entries_but q apart
+      ];
+      aside = but.stands.aside;
+    };
+    crash_kept = but.crash_kept;
+  }

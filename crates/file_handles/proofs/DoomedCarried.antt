@@ -48,7 +48,7 @@ done_in {b} t after c m w passes acks replies is = record {
   next = subst (λ (v : Marks). KeepsWhere b (cache_at after t) (history_of (step m c).next v)) (sym acks) (subst (λ (n : Machine). KeepsWhere b (cache_at after t) (history_of n (begun m c w))) (ap (λ o. (stepped m c o).next) (sym passes)) is);
 }
 
-touched_first : (name : List ℕ) (names : List (List ℕ)) → list_any (bytes_eq name) (name ∷ names) ≡ true
+pub touched_first : (name : List ℕ) (names : List (List ℕ)) → list_any (bytes_eq name) (name ∷ names) ≡ true
 touched_first name names = ap (λ b. b || list_any (bytes_eq name) names) ((bytes_decides name name).1 refl)
 
 -- the name that a command touches first

@@ -63,7 +63,7 @@ module _ (s : State) (k : Kept) (key : List ℕ) (name : Name) (named : name.0 �
 
   -- what stands reads as the shelf does
   read_same : (m : Machine) (number : ℕ → ℕ) → Stands (standing s) k m number → is_entry (on_shelf m key) ≡ is_entry (read_for key (standing s (Entry name)))
-  read_same m number stands = ap is_entry (sym (ap (λ n. read_for key (entries (standing s) n)) named ∙ shelf_read (standing s) m stands.proper stands.entries key))
+  read_same m number stands = ap is_entry (sym (ap (λ n. read_for key (entries (standing s) n)) named ∙ shelf_read (standing s) m stands.entries key))
 
   mapped : (number : ℕ → ℕ) (o : Option ℕ) → is_some (option_map number o) ≡ is_some o
   mapped number None = refl

@@ -16,7 +16,7 @@ use Rattle.cache_theory.specs.Marks.{Marks, begun, is_touched}
 use Rattle.cache_theory.specs.Step.{doomed_under, effect}
 use Rattle.cache_theory.specs.Table.{get}
 use Rattle.cache_theory.proofs.DiskChanges.{remove_keeps}
-use Rattle.cache_theory.proofs.EntryFiles.{entry_doomed}
+use Rattle.cache_theory.proofs.Dooming.{unshelved_under}
 use Rattle.cache_theory.proofs.FiledOnce.{one_name as one_place}
 use Rattle.cache_theory.specs.declared.refusal.Refusal.{Refusal}
 use Rattle.disk_model.specs.Calls.{if_done}
@@ -52,6 +52,7 @@ pub refused_on_leaves : {T : Type 0} {b : Bool} (r : Result T HandleFault) (f : 
 refused_on_leaves (Ok value) f s t k c is ends same m w stand = absurd is
 refused_on_leaves {b = b} (Err (fault.Refused q)) f s t k c is ends same m w stand =
     subst (λ u. LeavesWhere b c (history_of m w) (Some (Refused q)) (cache_at k u)) (sym same) (refused_in s k c q m w stand (ends q (sym is) m (stand.number, stand.stands)))
+refused_on_leaves (Err fault.Read) f s t k c is ends same m w stand = failed_in t k c m w (λ on. subst (λ u. IsSafe u (begun m c w)) (sym same) ((begun_in s k m c w stand).crash_kept on).safe)
 refused_on_leaves (Err fault.Disk) f s t k c is ends same m w stand = failed_in t k c m w (λ on. subst (λ u. IsSafe u (begun m c w)) (sym same) ((begun_in s k m c w stand).crash_kept on).safe)
 refused_on_leaves (Err fault.Memory) f s t k c is ends same m w stand = failed_in t k c m w (λ on. subst (λ u. IsSafe u (begun m c w)) (sym same) ((begun_in s k m c w stand).crash_kept on).safe)
 
@@ -60,6 +61,7 @@ pub failed_on_leaves : {T : Type 0} {b : Bool} (r : Result T HandleFault) (f : H
     → ((refusal : Refusal) → f ≡ fault.Refused refusal → ⊥) → (m : Machine) (w : Marks) → (IsTrue b → IsSafe t (begun m c w)) → LeavesWhere b c (history_of m w) (done_or r) (cache_at after t)
 failed_on_leaves (Ok value) f t after c is never m w safe = absurd is
 failed_on_leaves (Err (fault.Refused q)) f t after c is never m w safe = absurd (never q (sym is))
+failed_on_leaves (Err fault.Read) f t after c is never m w safe = failed_in t after c m w safe
 failed_on_leaves (Err fault.Disk) f t after c is never m w safe = failed_in t after c m w safe
 failed_on_leaves (Err fault.Memory) f t after c is never m w safe = failed_in t after c m w safe
 
@@ -99,7 +101,7 @@ bare_stands s k key name named bare passes (m, (number, stands)) =
     let there = ended_there (may_write key) (is_some (used_by m key) || is_entry (on_shelf m key)) (sym (doom_checks m key) ∙ passes m (number, stands)) in
     let shelved : is_entry (on_shelf m key) ≡ true = ap (λ o. is_some o || is_entry (on_shelf m key)) (sym unused) ∙ there in
     let read : is_entry (read_for key (standing s (Entry name))) ≡ true =
-    ap (λ n. is_entry (read_for key (entries (standing s) n))) named ∙ ap is_entry (shelf_read (standing s) m stands.proper stands.entries key) ∙ shelved
+    ap (λ n. is_entry (read_for key (entries (standing s) n))) named ∙ ap is_entry (shelf_read (standing s) m stands.entries key) ∙ shelved
     in
     some_file key (standing s (Entry name)) read
 
@@ -127,7 +129,7 @@ module _ (s u : State) (k : Kept) (key : List ℕ) (name : Name) (named : name.0
       let unused = no_user_there k m stand.number stand.stands.proper stand.stands.handles name bare in
       let but = undoomed_but name.0 s k m v unused (begun_in s k m (Doom key) w stand) in
       doomed_leaves (removed (Entry name) s) k key name.0 m w named fine
-      (removed_in name s k (doomed_under m name.0) v (entry_doomed m name.0) (doom_touches key name.0 m w named fine) but)
+      (removed_in name s k (doomed_under m name.0) v (unshelved_under m name.0) (doom_touches key name.0 m w named fine) but)
 
   pub removed_leaves : (t : State) (after : Kept) → t ≡ removed (Entry name) u → after ≡ k → {b : Bool} (m : Machine) (w : Marks) → KeepsWhere b (cache_at k s) (history_of m w) → LeavesWhere b (Doom key) (history_of m w) (Some Done) (cache_at after t)
   removed_leaves t after is still {b} m w stand =

@@ -1,29 +1,21 @@
--- The handles stand for the machine in which the object in use of a name is doomed, once its file has moved.
-use Rattle.std.proofs.Common.{◌≡◌, ◌≢◌, ◌⊎◌, inl, inr, ℕ, ◌<◌, length, Option, Some, None, IsSome, true, refl, sym, ap, subst, ◌∙◌, arith}
-use Rattle.std.specs.List.{Contains}
+-- The handles stand for the machine in which the object in use of a name is doomed, once its file stands aside.
+use Rattle.std.proofs.Common.{◌≡◌, ◌≢◌, ◌⊎◌, inl, inr, ℕ, ◌<◌, List, length, Option, Some, None, IsSome, true, false, refl, sym, ap, subst, ◌∙◌, arith}
 use Rattle.std.proofs.lemmas.Bool.{cases_eq}
 use Rattle.std.proofs.lemmas.List.Elements.{All-weaker}
 use Rattle.cache_base.specs.declared.name.Name.{Name}
-use Rattle.cache_theory.specs.Ever.{entries, entry_place}
+use Rattle.cache_theory.specs.Ever.{entries}
 use Rattle.cache_theory.specs.Machine.{Machine, Object as MachineObject, object}
 use Rattle.cache_theory.specs.Proper.{IsInUse, IsProper}
-use Rattle.cache_theory.specs.Stands.{DoomedStand, EntriesStand, entry_file, object_file}
+use Rattle.cache_theory.specs.Stands.{AsideStand, EntriesStand, HasObjectFile, IsHeldAside}
 use Rattle.cache_theory.specs.Step.{doomed_under}
 use Rattle.cache_theory.specs.Table.{get}
-use Rattle.cache_theory.proofs.Dooming.{doomed_here, doomed_length, doomed_there, proper_doomed_under}
-use Rattle.cache_theory.proofs.EntryFiles.{entry_doomed, entry_doomed_other, entry_used}
-use Rattle.cache_theory.proofs.FiledOnce.{one_name as one_place}
-use Rattle.cache_theory.proofs.HeldDoomed.{held_before_doomed, held_doomed, held_new}
-use Rattle.cache_theory.proofs.Names.{one_name}
+use Rattle.cache_theory.proofs.Dooming.{doomed_here, doomed_length, doomed_there, proper_doomed_under, unshelved_under}
+use Rattle.cache_theory.proofs.HeldAside.{held_before_doomed, held_doomed, held_new}
+use Rattle.cache_theory.proofs.Names.{get-remove_other, one_name}
 use Rattle.cache_theory.proofs.Users.{in_use_along, same_number}
 use Rattle.chunk_cache.specs.Cached.{CachedChunk}
-use Rattle.disk_model.specs.declared.place.Place.{Place}
-use Rattle.disk_model.specs.declared.place.Place.TheVariants.{Doomed, Entry, Index, Log, Tmp}
-use Rattle.disk_model.specs.Sound.{IsSound}
-use Rattle.disk_model.specs.Standing.{Moves}
-use Rattle.disk_model.specs.State.{State, renamed, standing}
-use Rattle.disk_model.proofs.Standing.{renamed_moves}
-use Rattle.file_handles.specs.Dooming.{number_in, numbers_in}
+use Rattle.disk_model.specs.declared.place.Place.TheVariants.{Doomed}
+use Rattle.disk_model.specs.State.{State, standing}
 use Rattle.file_handles.specs.Held.{IsEntryOf, IsHeldAs}
 use Rattle.file_handles.specs.HeldChunks.{ChunksStand, IsChunkInUse, KeepsChunks}
 use Rattle.file_handles.specs.Kept.{Kept, object_at, with_object}
@@ -31,44 +23,38 @@ use Rattle.file_handles.specs.Stands.{HandlesStand, IsAt, IsObjectOf, Stands}
 use Rattle.file_handles.specs.declared.object.Entry.{Entry as HeldEntry}
 use Rattle.file_handles.specs.declared.object.Entry.TheVariants as entry
 use Rattle.file_handles.specs.declared.object.Object.{Object}
-use Rattle.file_handles.proofs.DoomedNumbers.{number_of_doomed}
 use Rattle.file_handles.proofs.HeldChunkLaws.{chunk_on, keeps_own}
 use Rattle.file_handles.proofs.KeptLaws.{object_set_here, object_set_other}
 
--- the object with this number among the doomed
+-- the object doomed, with this number among the doomed
 abbrev pub doomed_as : Object → ℕ → Object
-doomed_as x n = record x { doomed = Some n }
+doomed_as x n = record x { doomed = true; aside = Some n }
+
+-- its file is the same
+doomed_file_there : (o : MachineObject) (c : Option (List ℕ)) → HasObjectFile o c → HasObjectFile (record o { doomed = true }) c
+doomed_file_there o None h = absurd h
+doomed_file_there o (Some c) h = record { finished = h.finished; unfinished = h.unfinished }
 
 doomed_entry : (e : HeldEntry) (o : MachineObject) → IsEntryOf e o → IsEntryOf e (record o { doomed = true })
 doomed_entry (entry.Draft d) o h = h
 doomed_entry (entry.Finished meta) o h = h
 
-number_at : Place → ℕ
-number_at (Entry name) = 0
-number_at (Doomed k) = k
-number_at Index = 0
-number_at Log = 0
-number_at Tmp = 0
-
--- the place of a doomed file is one number's
-pub one_doomed : (d e : ℕ) → Doomed d ≡ Doomed e → d ≡ e
-unfolding number_at
-one_doomed d e same = ap number_at same
-
--- the undoomed object in use of a name is at a place, and a number is free
-pub record MayDoom (s : State) (k : Kept) (m : Machine) (number : ℕ → ℕ) (name : Name) (p : ℕ) (x : Object) (n : ℕ) : Type 0 where
-  pub sound : IsSound s
+-- the undoomed object in use of a name is at a place, and its file has a number of its own among the doomed then, and no
+-- name any more
+pub record MayDoom (s t : State) (k : Kept) (m : Machine) (number : ℕ → ℕ) (name : Name) (p : ℕ) (x : Object) (n : ℕ) : Type 0 where
   pub stands : Stands (standing s) k m number
   pub ranged : p < length k.objects
   pub at_place : object_at k p ≡ Some x
-  pub undoomed : x.doomed ≡ None
+  pub undoomed : x.doomed ≡ false
   pub used : get m.in_use name.0 ≡ Some (number p)
-  pub free : ¬ Contains (numbers_in k.objects) n
+  pub others : (d i : ℕ) → IsAt k number d i → i ≢ number p → d ≢ n
+  pub own : (d : ℕ) → x.aside ≡ Some d → d ≡ n
+  pub gone : entries (standing t) name.0 ≡ None
+  pub stay : (q : List ℕ) → name.0 ≢ q → entries (standing t) q ≡ entries (standing s) q
+  pub moved : HasObjectFile (object m (number p)) (standing t (Doomed n))
+  pub same : (d : ℕ) → d ≢ n → standing t (Doomed d) ≡ standing s (Doomed d)
 
-module _ (s : State) (k : Kept) (m : Machine) (number : ℕ → ℕ) (name : Name) (p : ℕ) (x : Object) (n : ℕ) (may : MayDoom s k m number name p x n) where
-  abbrev pub t : State
-  t = renamed (Entry name) (Doomed n) s
-
+module _ (s t : State) (k : Kept) (m : Machine) (number : ℕ → ℕ) (name : Name) (p : ℕ) (x : Object) (n : ℕ) (may : MayDoom s t k m number name p x n) where
   abbrev pub after : Kept
   after = with_object k p (Some (doomed_as x n))
 
@@ -104,7 +90,7 @@ module _ (s : State) (k : Kept) (m : Machine) (number : ℕ → ℕ) (name : Nam
   apart_numbers q z at apart same = apart (may.stands.handles.apart q p z x at may.at_place same)
 
   entry_is : (o : MachineObject) → IsHeldAs x o → IsHeldAs (doomed_as x n) (record o { doomed = true })
-  entry_is o held = record { named = held.named; doomed = refl; held_entry = doomed_entry x.entry o held.held_entry }
+  entry_is o held = record { named = held.named; doomed = refl; aside = refl; held_entry = doomed_entry x.entry o held.held_entry }
 
   object_p : IsObjectOf next (number p) (doomed_as x n)
   object_p =
@@ -167,82 +153,82 @@ module _ (s : State) (k : Kept) (m : Machine) (number : ℕ → ℕ) (name : Nam
     chunks = chunks_next;
   }
 
-  moves : Moves (Entry name) (Doomed n) s t
-  moves = renamed_moves (Entry name) (Doomed n) s (λ e. cc) may.sound
-
   entries_next : EntriesStand (standing t) next
   entries_next q = elim (one_name name.0 q) [
-    | inl e ↦ ap (entries (standing t)) (sym e) ∙ moves.gone ∙ sym (entry_doomed m name.0) ∙ ap (entry_file next) e
-    | inr apart ↦
-        moves.others (entry_place q) (λ e. apart (sym (one_place q name.0 e))) (λ e. cc) ∙ may.stands.entries q
-        ∙ sym (entry_doomed_other m name.0 q proper apart)
+    | inl e ↦ ap (entries (standing t)) (sym e) ∙ may.gone ∙ sym (unshelved_under m name.0) ∙ ap (get next.shelf) e
+    | inr apart ↦ may.stay q apart ∙ may.stands.entries q ∙ sym (get-remove_other m.shelf name.0 q apart)
   ]
 
   -- what has a number among the doomed had it before, or is the user
-  pub was_doomed : (d i : ℕ) → IsAt after number d i → ((d ≡ n) × (i ≡ number p)) ⊎ IsAt k number d i
+  pub was_doomed : (d i : ℕ) → IsAt after number d i → ((d ≡ n) × (i ≡ number p)) ⊎ ((i ≢ number p) × IsAt k number d i)
   was_doomed d i at =
       let was = was_at at.place at.object at.at_place in
       elim was.1.1 [
-        | inl new ↦ inl (same_number d n (sym at.is_doomed ∙ ap (λ (y : Object). y.doomed) new.1), sym at.numbered ∙ ap number new.0)
-        | inr same ↦ inr (record { place = at.place; object = was.0; at_place = was.1.0; is_doomed = ap (λ (y : Object). y.doomed) (sym same.1) ∙ at.is_doomed; numbered = at.numbered })
+        | inl new ↦ inl (same_number d n (sym at.set_aside ∙ ap (λ (y : Object). y.aside) new.1), sym at.numbered ∙ ap number new.0)
+        | inr same ↦ inr (
+          λ e. apart_numbers at.place was.0 was.1.0 same.0 (at.numbered ∙ e),
+          record { place = at.place; object = was.0; at_place = was.1.0; set_aside = ap (λ (y : Object). y.aside) (sym same.1) ∙ at.set_aside; numbered = at.numbered },
+        )
       ]
 
-  not_user : (d i : ℕ) (at : IsAt k number d i) → at.place ≢ p
-  not_user d i at e =
-      let same : Some at.object ≡ Some x = sym at.at_place ∙ ap (object_at k) e ∙ may.at_place in
-      let one : at.object ≡ x = cc in
-      let never : Some d ≡ None = sym at.is_doomed ∙ ap (λ (y : Object). y.doomed) one ∙ may.undoomed in
-      cc
-
-  pub still_at : (d i : ℕ) → IsAt k number d i → IsAt after number d i
-  still_at d i at = record { place = at.place; object = at.object; at_place = there at.place (not_user d i at) ∙ at.at_place; is_doomed = at.is_doomed; numbered = at.numbered }
+  pub still_at : (d i : ℕ) → IsAt k number d i → i ≢ number p → IsAt after number d i
+  still_at d i at apart = record {
+    place = at.place;
+    object = at.object;
+    at_place = there at.place (λ e. apart (sym at.numbered ∙ ap number e)) ∙ at.at_place;
+    set_aside = at.set_aside;
+    numbered = at.numbered;
+  }
 
   pub user_at_n : IsAt after number n (number p)
-  user_at_n = record { place = p; object = doomed_as x n; at_place = here; is_doomed = refl; numbered = refl }
+  user_at_n = record { place = p; object = doomed_as x n; at_place = here; set_aside = refl; numbered = refl }
 
-  -- the number was free, and the object is not the user
-  pub other_number : (d i : ℕ) → IsAt k number d i → d ≢ n
-  other_number d i at e =
-      let some = number_of_doomed k.objects at.place d (ap number_in at.at_place ∙ at.is_doomed) in
-      may.free (subst (λ a. Contains (numbers_in k.objects) a) e some)
-
-  pub other_object : (d i : ℕ) → IsAt k number d i → i ≢ number p
-  other_object d i at e = apart_numbers at.place at.object at.at_place (not_user d i at) (at.numbered ∙ e)
+  -- a number of the user is that one
+  own_number : (d : ℕ) → IsAt k number d (number p) → d ≡ n
+  own_number d at =
+      let place : at.place ≡ p = may.stands.handles.apart at.place p at.object x at.at_place may.at_place at.numbered in
+      let both : Some at.object ≡ Some x = sym at.at_place ∙ ap (object_at k) place ∙ may.at_place in
+      let one : at.object ≡ x = cc in
+      may.own d (sym (ap (λ (y : Object). y.aside) one) ∙ at.set_aside)
 
   -- the file of the user has the number now
-  held_user : (i : ℕ) → i ≡ number p → (d : ℕ) × (IsAt after number d i × (standing t (Doomed d) ≡ Some (object_file (object next i))))
+  held_user : (i : ℕ) → i ≡ number p → (d : ℕ) × (IsAt after number d i × HasObjectFile (object next i) (standing t (Doomed d)))
   held_user i e =
-      let file : standing t (Doomed n) ≡ Some (object_file (object next (number p))) =
-      moves.moved ∙ may.stands.entries name.0 ∙ entry_used m name.0 (number p) proper may.used ∙ ap (λ o. Some (object_file o)) (sym user_next)
-      in
-      (n, (subst (λ a. IsAt after number n a) (sym e) user_at_n, file ∙ ap (λ a. Some (object_file (object next a))) (sym e)))
+      let file : HasObjectFile (object next (number p)) (standing t (Doomed n)) =
+      subst (λ o. HasObjectFile o (standing t (Doomed n))) (sym user_next) (doomed_file_there (object m (number p)) (standing t (Doomed n)) may.moved) in
+      (n, (subst (λ a. IsAt after number n a) (sym e) user_at_n, subst (λ a. HasObjectFile (object next a) (standing t (Doomed n))) (sym e) file))
 
-  doomed_next : DoomedStand (standing t) next (IsAt after number)
-  doomed_next = record {
-    held = λ i h. elim (held_before_doomed m name.0 i h) [
-      | inl at ↦ held_user i (same_number i (number p) (sym at ∙ may.used))
-      | inr old ↦
-          let is = may.stands.doomed.held i old in
-          let apart = other_number is.0 i is.1.0 in
-          let file =
-          moves.others (Doomed is.0) (λ e. cc) (λ e. apart (one_doomed is.0 n e)) ∙ is.1.1
-          ∙ ap (λ o. Some (object_file o)) (sym (other_next i (other_object is.0 i is.1.0)))
-          in
-          (is.0, (still_at is.0 i is.1.0, file))
+  held_other : (i : ℕ) → IsHeldAside m i → i ≢ number p → (d : ℕ) × (IsAt after number d i × HasObjectFile (object next i) (standing t (Doomed d)))
+  held_other i h apart =
+      let is = may.stands.aside.held i h in
+      let file =
+      subst (HasObjectFile (object next i)) (sym (may.same is.0 (may.others is.0 i is.1.0 apart)))
+      (subst (λ o. HasObjectFile o (standing s (Doomed is.0))) (sym (other_next i apart)) is.1.1) in
+      (is.0, (still_at is.0 i is.1.0 apart, file))
+
+  aside_next : AsideStand (standing t) next (IsAt after number)
+  aside_next = record {
+    held = λ i h. elim (cases_eq i (number p)) [
+      | inl e ↦ held_user i e
+      | inr apart ↦ elim (held_before_doomed m name.0 i h) [
+        | inl at ↦ absurd (apart (same_number i (number p) (sym at ∙ may.used)))
+        | inr old ↦ held_other i old apart
+      ]
     ];
     only = λ d some. elim (cases_eq d n) [
       | inl e ↦ (number p, (subst (λ a. IsAt after number a (number p)) (sym e) user_at_n, held_new m name.0 (number p) proper may.used))
       | inr apart ↦
-          let old = may.stands.doomed.only d (λ none. some (moves.others (Doomed d) (λ e. cc) (λ e. apart (one_doomed d n e)) ∙ none)) in
-          (old.0, (still_at d old.0 old.1.0, held_doomed m name.0 proper old.0 old.1.1))
+          let old = may.stands.aside.only d (λ none. some (may.same d apart ∙ none)) in
+          let other : old.0 ≢ number p = λ e. apart (own_number d (subst (λ a. IsAt k number d a) e old.1.0)) in
+          (old.0, (still_at d old.0 old.1.0 other, held_doomed m name.0 proper old.0 old.1.1))
     ];
     one_object = λ d i j at_i at_j. elim (was_doomed d i at_i) [
-      | inl a ↦ elim (was_doomed d j at_j) [ inl b ↦ a.1 ∙ sym b.1 | inr b ↦ absurd (other_number d j b a.0) ]
-      | inr a ↦ elim (was_doomed d j at_j) [ inl b ↦ absurd (other_number d i a b.0) | inr b ↦ may.stands.doomed.one_object d i j a b ]
+      | inl a ↦ elim (was_doomed d j at_j) [ inl b ↦ a.1 ∙ sym b.1 | inr b ↦ absurd (may.others d j b.1 b.0 a.0) ]
+      | inr a ↦ elim (was_doomed d j at_j) [ inl b ↦ absurd (may.others d i a.1 a.0 b.0) | inr b ↦ may.stands.aside.one_object d i j a.1 b.1 ]
     ];
     one_number = λ d e i at_d at_e. elim (was_doomed d i at_d) [
-      | inl a ↦ elim (was_doomed e i at_e) [ inl b ↦ a.0 ∙ sym b.0 | inr b ↦ absurd (other_object e i b a.1) ]
-      | inr a ↦ elim (was_doomed e i at_e) [ inl b ↦ absurd (other_object d i a b.1) | inr b ↦ may.stands.doomed.one_number d e i a b ]
+      | inl a ↦ elim (was_doomed e i at_e) [ inl b ↦ a.0 ∙ sym b.0 | inr b ↦ absurd (b.0 a.1) ]
+      | inr a ↦ elim (was_doomed e i at_e) [ inl b ↦ absurd (a.0 b.1) | inr b ↦ may.stands.aside.one_number d e i a.1 b.1 ]
     ];
   }
 
@@ -251,5 +237,5 @@ module _ (s : State) (k : Kept) (m : Machine) (number : ℕ → ℕ) (name : Nam
     proper = proper_doomed_under m name.0 proper;
     handles = handles_next;
     entries = entries_next;
-    doomed = doomed_next;
+    aside = aside_next;
   }

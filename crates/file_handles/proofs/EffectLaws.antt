@@ -8,7 +8,7 @@ use Rattle.cache_base.specs.declared.name.Name.{Name}
 use Rattle.cache_theory.specs.Command.{Command}
 use Rattle.cache_theory.specs.Command.Command.{Close}
 use Rattle.cache_theory.specs.Machine.{Machine, Object as MachineObject, is_writer, number_of, object, object_of}
-use Rattle.cache_theory.specs.Marks.{rewritten}
+use Rattle.cache_theory.specs.Marks.{Marks, rewritten}
 use Rattle.cache_theory.specs.Proper.{IsObject, IsProper}
 use Rattle.cache_theory.specs.Step.{Answer, finished_by, step, stepped, stored}
 use Rattle.cache_theory.proofs.Changes.{object_is}
@@ -16,7 +16,7 @@ use Rattle.cache_theory.proofs.Objects.{nth, nth-set_same}
 use Rattle.cache_theory.proofs.Versions.{object_finished}
 use Rattle.entry_file.specs.EntryFile.{Fits, file_meta}
 use Rattle.entry_file.specs.Version.{IsVersion, Version, file_of, version_meta}
-use Rattle.entry_file.proofs.EntryLaws.{fits-Fits, fits_meta}
+use Rattle.entry_file.proofs.EntryLaws.{fits-Fits, fits_meta, is_file_of, joined_file}
 use Rattle.entry_metadata.specs.Metadata.{block_bytes}
 use Rattle.entry_name.specs.EntryName.{file_name}
 use Rattle.entry_parts.specs.Elements.{element}
@@ -35,7 +35,7 @@ use Rattle.file_handles.specs.declared.object.Entry.{Entry}
 use Rattle.file_handles.specs.declared.object.Entry.TheVariants as entry
 use Rattle.file_handles.specs.declared.object.Object.{Object}
 use Rattle.file_handles.specs.declared.object.Use.{Use}
-use Rattle.file_handles.proofs.Carried.{MakesChange, MakesChangeAt}
+use Rattle.file_handles.proofs.Carried.{MakesChangeAt}
 use Rattle.file_handles.proofs.ClosedSlot.{close_step, finishes, has_slot, numbered, object_there}
 use Rattle.file_handles.proofs.ElementChecks.{if_object}
 use Rattle.file_handles.proofs.ElementReads.{there_elements}
@@ -53,8 +53,7 @@ module _ (v : Version) where
       omega (arith, whole, tail)
 
   joined : IsVersion v → Fits (file_name v.key) (file_of v) (version_meta v)
-  unfolding file_of
-  joined is = record { meta = is.meta; named = refl; body = v.body; ends = refl; bytes = refl }
+  joined is = joined_file v (file_of v) is (is_file_of v)
 
   record_is : IsVersion v → record_of (name_of v.key) (file_of v) ≡ Some (record_of_meta (name_of v.key) (version_meta v) (file_len (version_meta v)))
   record_is is =
@@ -87,10 +86,10 @@ learnt_whole : (o : MachineObject) → o.finished ≡ true → o.doomed ≡ fals
 unfolding learnt_if
 learnt_whole o done undoomed is = (λ i. learnt_if o (done i && not (undoomed i))) ∙ ap (learnt_under (object_name o)) (record_is o.version is)
 
-pub held_is_learnt : (n : ℕ) (name : Name) (doomed : Option ℕ) (e : Entry) (o : MachineObject) → IsHeldAs (object_with n name doomed e) o → IsObject o → learnt_of_held name doomed e ≡ learnt_of o
-held_is_learnt n name (Some number) e o held is = sym (learnt_doomed o (sym held.doomed))
-held_is_learnt n name None (entry.Draft d) o held is = sym (learnt_unfinished o held.held_entry.0)
-held_is_learnt n name None (entry.Finished meta) o held is =
+pub held_is_learnt : (n : ℕ) (name : Name) (doomed : Bool) (aside : Option ℕ) (e : Entry) (o : MachineObject) → IsHeldAs (object_with n name doomed aside e) o → IsObject o → learnt_of_held name doomed e ≡ learnt_of o
+held_is_learnt n name true aside e o held is = sym (learnt_doomed o (sym held.doomed))
+held_is_learnt n name false aside (entry.Draft d) o held is = sym (learnt_unfinished o held.held_entry.0)
+held_is_learnt n name false aside (entry.Finished meta) o held is =
     (λ i. effect.Wrote (record_of_meta (record { 0 = held.named i }) (held.held_entry.1 i) (file_len (held.held_entry.1 i))))
     ∙ sym (learnt_whole o held.held_entry.0 (sym held.doomed) (is.version held.held_entry.0))
 
@@ -104,8 +103,8 @@ at_finished m i o there = go o.finished refl
 
 -- The effect of a command that changes the object of a slot.
 
-module _ (At : Machine → Type 0) (k : Kept) (c : Command) (slot : ℕ) (small : slot < SLOTS) (p : ℕ) (x : Object) (has : HasAt k slot p x) (change : MachineObject → MachineObject) (Writes : MachineObject → Type 0)
-    (makes : MakesChangeAt At k c slot change Writes) where
+module _ (At : Machine → Type 0) {Out : Marks → ℕ → MachineObject → Type 0} (k : Kept) (c : Command) (slot : ℕ) (small : slot < SLOTS) (p : ℕ) (x : Object) (has : HasAt k slot p x) (change : MachineObject → MachineObject) (Writes : MachineObject → Type 0)
+    (makes : MakesChangeAt At Out k c slot change Writes) where
   effect_where : (e : Effect) → ((m : Machine) → learnt m c ≡ learnt_at (step m c).next (rewritten m c))
       → ((m : Machine) (number : ℕ → ℕ) → HandlesStand k m number → rewritten m c ≡ (if (change (object_of m slot)).finished then Some (number_of m slot) else None))
       → IsLearntOf change (object_at k p) e → (m : Machine) (number : ℕ → ℕ) → At m → IsProper m → HandlesStand k m number → e ≡ learnt m c
@@ -123,15 +122,15 @@ module _ (At : Machine → Type 0) (k : Kept) (c : Command) (slot : ℕ) (small 
       ∙ sym (by_step m ∙ ap (learnt_at (step m c).next) (writes m number stand) ∙ at_finished (step m c).next i o there)
 
 -- in every machine, and in those of a moment
-pub change_effect : (k : Kept) (c : Command) (slot : ℕ) → slot < SLOTS → (p : ℕ) (x : Object) → HasAt k slot p x → (change : MachineObject → MachineObject) (Writes : MachineObject → Type 0)
-    → MakesChange k c slot change Writes → (e : Effect) → ((m : Machine) → learnt m c ≡ learnt_at (step m c).next (rewritten m c))
+pub change_effect : {Out : Marks → ℕ → MachineObject → Type 0} (k : Kept) (c : Command) (slot : ℕ) → slot < SLOTS → (p : ℕ) (x : Object) → HasAt k slot p x → (change : MachineObject → MachineObject) (Writes : MachineObject → Type 0)
+    → MakesChangeAt (λ m. Unit {0}) Out k c slot change Writes → (e : Effect) → ((m : Machine) → learnt m c ≡ learnt_at (step m c).next (rewritten m c))
     → ((m : Machine) (number : ℕ → ℕ) → HandlesStand k m number → rewritten m c ≡ (if (change (object_of m slot)).finished then Some (number_of m slot) else None))
     → IsLearntOf change (object_at k p) e → HasEffect k c e
 change_effect k c slot small p x has change Writes makes e by_step writes is m number proper stand =
     effect_where (λ m. Unit {0}) k c slot small p x has change Writes makes e by_step writes is m number tt proper stand
 
-pub change_effect_at : (now : ℕ) (k : Kept) (c : Command) (slot : ℕ) → slot < SLOTS → (p : ℕ) (x : Object) → HasAt k slot p x → (change : MachineObject → MachineObject) (Writes : MachineObject → Type 0)
-    → MakesChangeAt (λ m. m.moment ≡ now) k c slot change Writes → (e : Effect) → ((m : Machine) → learnt m c ≡ learnt_at (step m c).next (rewritten m c))
+pub change_effect_at : {Out : Marks → ℕ → MachineObject → Type 0} (now : ℕ) (k : Kept) (c : Command) (slot : ℕ) → slot < SLOTS → (p : ℕ) (x : Object) → HasAt k slot p x → (change : MachineObject → MachineObject) (Writes : MachineObject → Type 0)
+    → MakesChangeAt (λ m. m.moment ≡ now) Out k c slot change Writes → (e : Effect) → ((m : Machine) → learnt m c ≡ learnt_at (step m c).next (rewritten m c))
     → ((m : Machine) (number : ℕ → ℕ) → HandlesStand k m number → rewritten m c ≡ (if (change (object_of m slot)).finished then Some (number_of m slot) else None))
     → IsLearntOf change (object_at k p) e → HasEffectAt now k c e
 change_effect_at now k c slot small p x has change Writes makes = effect_where (λ m. m.moment ≡ now) k c slot small p x has change Writes makes

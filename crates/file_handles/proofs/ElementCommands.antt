@@ -58,7 +58,7 @@ set_makes k slot name value name_bytes value_bytes passes = record {
   unfinished = λ o un. un;
   out = λ m w number stand fine done becomes.
       goes_out m (SetElement slot name value) w fine (number_of m slot) (with_elements (with_element name value) (object_of m slot))
-      (ap (λ (b : Bool). if b then Some (number_of m slot) else None) done) refl becomes refl refl;
+      (ap (λ (b : Bool). if b then Some (number_of m slot) else None) done) refl refl becomes refl refl;
 }
 
 module _ (k : Kept) (slot : ℕ) (small : slot < SLOTS) (p : ℕ) (x : Object) (has : HasAt k slot p x) (name value : List ℕ) (some : element name (elements_in x.entry) ≡ Some value) (passes : Passes k (UnsetElement slot name)) where
@@ -80,7 +80,7 @@ module _ (k : Kept) (slot : ℕ) (small : slot < SLOTS) (p : ℕ) (x : Object) (
     unfinished = λ o un. un;
     out = λ m w number stand fine done becomes.
         goes_out m (UnsetElement slot name) w fine (number_of m slot) (with_elements (without_element name) (object_of m slot))
-        (λ i. if done i && is_some (element_there m number stand i) then Some (number_of m slot) else None) refl becomes refl refl;
+        (λ i. if done i && is_some (element_there m number stand i) then Some (number_of m slot) else None) refl refl becomes refl refl;
   }
 
 module _ (s t : State) (sound : IsSound s) (k after : Kept) (slot : ℕ) (small : slot < SLOTS) (p : ℕ) (x : Object) (has : HasAt k slot p x) (name : List ℕ) {T : Type 0} (r : Result T HandleFault)

@@ -1,8 +1,9 @@
 -- An entry whose header and elements are changed, and its file.
 use Rattle.std.proofs.Common.{◌≡◌, inr, ℕ, List, Option, Some, true, refl, sym, ap, subst, ◌∙◌, arith}
 use Rattle.cache_theory.specs.Machine.{Object as MachineObject}
-use Rattle.cache_theory.specs.Stands.{object_file}
-use Rattle.cache_theory.proofs.EntryFiles.{finished_file_is, unfinished_file_is}
+use Rattle.cache_theory.specs.Stands.{IsObjectFile, object_file}
+use Rattle.cache_theory.proofs.EntryFiles.{finished_file_is, unfinished_file_is, unfinished_there}
+use Rattle.cache_theory.proofs.Reading.{some_of}
 use Rattle.disk_model.specs.State.{State, standing}
 use Rattle.disk_model.specs.Writes.{WritesAt}
 use Rattle.disk_model.specs.declared.place.Place.{Place}
@@ -55,13 +56,14 @@ module _ (hs : Header → Header) (es : List Element → List Element) where
   with_changed o = with_version with_parts o
 
   -- the object is held as it is with these
-  pub meta_held : (x : Object) (o : MachineObject) → IsHeldAs x o → (old new : Meta) → x.entry ≡ Finished old → IsMetaWith hs es old new → IsHeldAs (object_with x.number x.name x.doomed (Finished new)) (with_changed o)
+  pub meta_held : (x : Object) (o : MachineObject) → IsHeldAs x o → (old new : Meta) → x.entry ≡ Finished old → IsMetaWith hs es old new → IsHeldAs (object_with x.number x.name x.doomed x.aside (Finished new)) (with_changed o)
   meta_held x o held old new is with =
       let was : IsEntryOf (Finished old) o = subst (λ (e : Entry). IsEntryOf e o) is held.held_entry in
       let old_is = was.1 in
       record {
         named = held.named;
         doomed = held.doomed;
+        aside = held.aside;
         held_entry = (
           was.0,
           λ i. record {
@@ -74,12 +76,13 @@ module _ (hs : Header → Header) (es : List Element → List Element) where
         );
       }
 
-  pub draft_held : (x : Object) (o : MachineObject) → IsHeldAs x o → (old new : DraftOf) → x.entry ≡ Draft old → IsDraftWith hs es old new → IsHeldAs (object_with x.number x.name x.doomed (Draft new)) (with_changed o)
+  pub draft_held : (x : Object) (o : MachineObject) → IsHeldAs x o → (old new : DraftOf) → x.entry ≡ Draft old → IsDraftWith hs es old new → IsHeldAs (object_with x.number x.name x.doomed x.aside (Draft new)) (with_changed o)
   draft_held x o held old new is with =
       let was : IsEntryOf (Draft old) o = subst (λ (e : Entry). IsEntryOf e o) is held.held_entry in
       record {
         named = held.named;
         doomed = held.doomed;
+        aside = held.aside;
         held_entry = (
           was.0,
           record {
@@ -93,14 +96,14 @@ module _ (hs : Header → Header) (es : List Element → List Element) where
 
   -- what becomes of an object with another entry
   entry_becomes : (x : Object) (o : MachineObject) (s t : State) (e : Entry) → IsFiledAs x o s → IsEntryOf e (with_changed o) → standing t (object_place x) ≡ Some (object_file (with_changed o))
-      → Becomes x (record { number = x.number; name = x.name; doomed = x.doomed; entry = e }) o (with_changed o) t
+      → Becomes x (record { number = x.number; name = x.name; doomed = x.doomed; aside = x.aside; entry = e }) o (with_changed o) t
   entry_becomes x o s t e filed is file = record {
     same_object = refl;
     keeps_chunks = record { more = omega arith; same = λ i lt. refl };
     same_place = refl;
     same_name = refl;
     same_number = refl;
-    as_held = record { named = filed.as_held.named; doomed = filed.as_held.doomed; held_entry = is };
+    as_held = record { named = filed.as_held.named; doomed = filed.as_held.doomed; aside = filed.as_held.aside; held_entry = is };
     file = file;
   }
 
@@ -112,36 +115,48 @@ module _ (hs : Header → Header) (es : List Element → List Element) where
     pub meta_is : meta_of new ≡ version_meta (with_parts o.version)
     meta_is = (meta_held x o filed.as_held old new is with).held_entry.1
 
-    pub stands_whole : standing s (object_place x) ≡ Some (file_of o.version)
-    stands_whole = filed.file ∙ ap Some (finished_file_is o entry_is.0)
+    -- a file of it stands, in some version of the format
+    its_file : (c : List ℕ) × ((standing s (object_place x) ≡ Some c) × IsObjectFile o c)
+    its_file = some_of (standing s (object_place x)) filed.file
+
+    old_file : List ℕ
+    old_file = its_file.0
+
+    stands_whole : standing s (object_place x) ≡ Some old_file
+    unfolding old_file
+    stands_whole = its_file.1.0
+
+    becomes_new : StoresBody (Some old_file) (version_meta (with_parts o.version)) × (rewritten (version_meta (with_parts o.version)) old_file ≡ with_parts o.version)
+    unfolding old_file
+    becomes_new = rewrites_to_version (with_parts o.version) o.version its_file.0 refl (its_file.1.1.finished entry_is.0)
 
     -- its file has the body of the new metadata
     pub stores : (place : Place) → place ≡ object_place x → StoresBody (standing s place) (meta_of new)
     stores place same =
         subst (λ (c : Option (List ℕ)). StoresBody c (meta_of new)) (sym (ap (standing s) same ∙ stands_whole))
-        (subst (λ (m : Said). StoresBody (Some (file_of o.version)) m) (sym meta_is) (rewrites_to_version (with_parts o.version) o.version refl).0)
+        (subst (λ (m : Said). StoresBody (Some old_file) m) (sym meta_is) becomes_new.0)
 
-    whole : file_of (rewritten (meta_of new) (file_of o.version)) ≡ file_of (with_parts o.version)
-    whole = ap file_of (ap (λ (m : Said). rewritten m (file_of o.version)) meta_is ∙ (rewrites_to_version (with_parts o.version) o.version refl).1)
+    whole : file_of (rewritten (meta_of new) old_file) ≡ file_of (with_parts o.version)
+    whole = ap file_of (ap (λ (m : Said). rewritten m old_file) meta_is ∙ becomes_new.1)
 
     module _ (t : State) (place : Place) (same : place ≡ object_place x) where
       pub meta_writes : ((content : List ℕ) → standing s place ≡ Some content → WritesAt place (λ c. c ≡ file_of (rewritten (meta_of new) content)) s t)
           → WritesAt (object_place x) (IsMomentOf (with_changed o)) s t
       meta_writes writes =
           subst (λ (q : Place). WritesAt q (IsMomentOf (with_changed o)) s t) same
-          (writes_at_weaker place (λ c. c ≡ file_of (rewritten (meta_of new) (file_of o.version))) (IsMomentOf (with_changed o)) s t (λ c is. inr (entry_is.0, is ∙ whole))
-          (writes (file_of o.version) (ap (standing s) same ∙ stands_whole)))
+          (writes_at_weaker place (λ c. c ≡ file_of (rewritten (meta_of new) old_file)) (IsMomentOf (with_changed o)) s t (λ c is. inr (entry_is.0, is ∙ whole))
+          (writes old_file (ap (standing s) same ∙ stands_whole)))
 
       pub meta_becomes : ((content : List ℕ) → standing s place ≡ Some content → standing t place ≡ Some (file_of (rewritten (meta_of new) content)))
-          → Becomes x (record { number = x.number; name = x.name; doomed = x.doomed; entry = Finished new }) o (with_changed o) t
+          → Becomes x (record { number = x.number; name = x.name; doomed = x.doomed; aside = x.aside; entry = Finished new }) o (with_changed o) t
       meta_becomes stands =
           entry_becomes x o s t (Finished new) filed (entry_is.0, meta_is)
-          (ap (standing t) (sym same) ∙ stands (file_of o.version) (ap (standing s) same ∙ stands_whole) ∙ ap Some (whole ∙ sym (finished_file_is (with_changed o) entry_is.0)))
+          (ap (standing t) (sym same) ∙ stands old_file (ap (standing s) same ∙ stands_whole) ∙ ap Some (whole ∙ sym (finished_file_is (with_changed o) entry_is.0)))
 
   -- one that is being written
   pub draft_becomes : (x : Object) (o : MachineObject) (s : State) → IsFiledAs x o s → (old new : DraftOf) → x.entry ≡ Draft old → IsDraftWith hs es old new
-      → Becomes x (record { number = x.number; name = x.name; doomed = x.doomed; entry = Draft new }) o (with_changed o) s
+      → Becomes x (record { number = x.number; name = x.name; doomed = x.doomed; aside = x.aside; entry = Draft new }) o (with_changed o) s
   draft_becomes x o s filed old new is with =
       let was = subst (λ (e : Entry). IsEntryOf e o) is filed.as_held.held_entry in
       entry_becomes x o s s (Draft new) filed (draft_held x o filed.as_held old new is with).held_entry
-      (filed.file ∙ ap Some (unfinished_file_is o was.0 ∙ sym (unfinished_file_is (with_changed o) was.0)))
+      (unfinished_there o (standing s (object_place x)) was.0 filed.file ∙ ap Some (sym (unfinished_file_is (with_changed o) was.0)))

@@ -4,7 +4,7 @@ use Rattle.cache_base.specs.declared.name.Name.{Name}
 use Rattle.cache_theory.specs.History.{History}
 use Rattle.cache_theory.specs.Marks.{is_touched}
 use Rattle.cache_theory.specs.Step.{doomed_under}
-use Rattle.cache_theory.proofs.EntryFiles.{entry_doomed}
+use Rattle.cache_theory.proofs.Dooming.{unshelved_under}
 use Rattle.disk_model.specs.Calls.{if_done}
 use Rattle.disk_model.specs.State.{State, removed}
 use Rattle.disk_model.specs.declared.disk.DiskFault.{DiskFault}
@@ -31,7 +31,7 @@ module _ (s : State) (k : Kept) (name : Name) (unused : users_of k name ≡ 0) (
       let proper = keeps.stands.proper in
       let bare = unused_none k h.machine keeps.number proper handles name unused in
       let not_used = no_user_there k h.machine keeps.number proper handles name bare in
-      removed_in name s k (doomed_under h.machine name.0) h.marks (entry_doomed h.machine name.0) touched
+      removed_in name s k (doomed_under h.machine name.0) h.marks (unshelved_under h.machine name.0) touched
       (undoomed_but name.0 s k h.machine h.marks not_used keeps)
 
   leaves : (r : Result (Unit {0}) DiskFault) (t : State) → t ≡ if_done r (removed (Entry name) s) s

@@ -1,6 +1,6 @@
 -- What a `get` finds.
 use Rattle.std.proofs.Common.{◌≡◌, ◌∙◌, ℕ, List, [], ◌∷◌, Bool, true, false, not, Option, Some, None, Result, Ok, Err, is_some, refl, sym, ap, subst}
-use Rattle.std.specs.Prelude.{option_map, unwrap_or, ◌||◌}
+use Rattle.std.specs.Prelude.{IsSomeAnd, option_map, unwrap_or, ◌||◌}
 use Rattle.std.proofs.lemmas.Bool.{or_right}
 use Rattle.cache_base.specs.Checks.{first_failing}
 use Rattle.cache_base.specs.declared.name.Name.{Name}
@@ -9,14 +9,16 @@ use Rattle.cache_theory.specs.Command.Command.{Get}
 use Rattle.cache_theory.specs.Command.Reply.{Refused}
 use Rattle.cache_theory.specs.Ever.{entries}
 use Rattle.cache_theory.specs.Machine.{Machine, is_entry, object, on_shelf, used_by}
+use Rattle.cache_theory.specs.Table.{get}
 use Rattle.cache_theory.specs.Step.{effect, found_reply, step, stepped}
 use Rattle.cache_theory.specs.declared.refusal.Refusal.{Refusal}
 use Rattle.cache_theory.specs.declared.refusal.Refusal.TheVariants as refused
-use Rattle.cache_theory.proofs.Reading.{whole_is_shelved}
+use Rattle.cache_theory.proofs.Reading.{some_of, whole_is_shelved}
 use Rattle.disk_model.specs.State.{State, standing}
 use Rattle.disk_model.specs.declared.place.Place.TheVariants.{Entry}
 use Rattle.entry_file.specs.EntryFile.{Reading, read_for}
 use Rattle.entry_file.specs.EntryFile.Reading.{Whole, Damaged, Nothing}
+use Rattle.entry_file.specs.Version.{IsFileOf}
 use Rattle.entry_key.specs.Writing.{may_write}
 use Rattle.entry_metadata.specs.declared.meta.Meta.{Meta}
 use Rattle.entry_name.specs.EntryName.{file_name}
@@ -76,7 +78,7 @@ module _ (key : List ℕ) (s : State) (k : Kept) (name : Name) (named : name.0 �
 
     -- what stands reads as the shelf does
     read_same : read_for key (standing s (Entry name)) ≡ on_shelf m key
-    read_same = ap (λ n. read_for key (entries (standing s) n)) named ∙ shelf_read (standing s) m stands.proper stands.entries key
+    read_same = ap (λ n. read_for key (entries (standing s) n)) named ∙ shelf_read (standing s) m stands.entries key
 
     passes : (r : Reading) → on_shelf m key ≡ r → first_failing (checks m (Get key)) ≡ checked true true (is_some (used_by m key) || is_entry r) r
     passes r is = get_checks m key ∙ (λ i. checked (good i) (done i) (is_some (used_by m key) || is_entry (is i)) (is i))
@@ -106,7 +108,9 @@ module _ (key : List ℕ) (s : State) (k : Kept) (name : Name) (named : name.0 �
                 ap (λ o. (stepped m (Get key) o).reply) (passes (Whole v) is ∙ ap (λ b. checked true true b (Whole v)) (there (Whole v) refl))
                 ∙ ap found_reply is;
             of_meta = loads;
-            file = shelf_stands (standing s) m stands.proper stands.entries (file_name key) _ shelved.file;
+            file =
+                let there = some_of (get m.shelf (file_name key)) shelved.file in
+                subst (λ c. IsSomeAnd c (IsFileOf v)) (sym (shelf_stands (standing s) m stands.entries (file_name key) there.0 there.1.0)) there.1.1;
           };
           none = tt;
         }
@@ -117,6 +121,7 @@ module _ (key : List ℕ) (s : State) (k : Kept) (name : Name) (named : name.0 �
         refuses m key r s (passes (Damaged d) is ∙ ap (λ b. checked true true b (Damaged d)) (there (Damaged d) refl) ∙ ap Some (sym loads))
     by_reading Nothing (Err (fault.Refused r)) is loads =
         refuses m key r s (passes Nothing is ∙ ap (λ b. checked true true (b || false) Nothing) (unused is) ∙ ap Some (sym loads))
+    by_reading r (Err fault.Read) is loads = record { some = tt; none = λ q same. absurd (cc) }
     by_reading r (Err fault.Disk) is loads = record { some = tt; none = λ q same. absurd (cc) }
     by_reading r (Err fault.Memory) is loads = record { some = tt; none = λ q same. absurd (cc) }
 

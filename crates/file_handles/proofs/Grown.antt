@@ -1,7 +1,7 @@
 -- A draft that gets bytes more.
 use Rattle.std.proofs.Common.{◌≡◌, refl, inl, List, ◌++◌, Some, sym, ap, subst, ◌∙◌, ℕ}
 use Rattle.cache_theory.specs.Machine.{Object as MachineObject}
-use Rattle.cache_theory.proofs.EntryFiles.{unfinished_file_is}
+use Rattle.cache_theory.proofs.EntryFiles.{unfinished_file_is, unfinished_there}
 use Rattle.chunk_store.specs.Stored.{unfinished_file}
 use Rattle.disk_model.specs.State.{State, names_now, standing}
 use Rattle.disk_model.specs.Writes.{WritesAt}
@@ -26,7 +26,7 @@ module _ (x : Object) (d : Draft) (is : x.entry ≡ entry.Draft d) (b : List ℕ
   pub grown_becomes : (e : Draft) → e.header ≡ d.header → e.key ≡ d.key → e.elements ≡ d.elements
       → ((body : List ℕ) → HasBody (held d.body) body → HasBody (held e.body) (body ++ b))
       → ((body : List ℕ) → HasBody (held d.body) body → standing s place ≡ Some (unfinished_file body) → standing t place ≡ Some (unfinished_file (body ++ b)))
-      → (o : MachineObject) → IsFiledAs x o s → Becomes x (record { number = x.number; name = x.name; doomed = x.doomed; entry = entry.Draft e }) o (appended b o) t
+      → (o : MachineObject) → IsFiledAs x o s → Becomes x (record { number = x.number; name = x.name; doomed = x.doomed; aside = x.aside; entry = entry.Draft e }) o (appended b o) t
   grown_becomes e header key elements body stands o filed =
       let was : IsEntryOf (entry.Draft d) o = subst (λ z. IsEntryOf z o) is filed.as_held.held_entry in
       let now : IsDraftOf e (appended b o).version = record {
@@ -41,9 +41,9 @@ module _ (x : Object) (d : Draft) (is : x.entry ≡ entry.Draft d) (b : List ℕ
         same_place = refl;
         same_name = refl;
         same_number = refl;
-        as_held = record { named = filed.as_held.named; doomed = filed.as_held.doomed; held_entry = (was.0, now) };
+        as_held = record { named = filed.as_held.named; doomed = filed.as_held.doomed; aside = filed.as_held.aside; held_entry = (was.0, now) };
         file =
             ap (standing t) (sym at)
-            ∙ stands o.version.body was.1.body (ap (standing s) at ∙ filed.file ∙ ap (λ c. Some c) (unfinished_file_is o was.0))
+            ∙ stands o.version.body was.1.body (ap (standing s) at ∙ unfinished_there o (standing s (object_place x)) was.0 filed.file)
             ∙ ap (λ c. Some c) (sym (unfinished_file_is (appended b o) was.0));
       }

@@ -1,29 +1,32 @@
 -- The changes of the files of entries leave the index alone.
-use Rattle.std.proofs.Common.{◌≡◌, ⊎_elim, ℕ, List, [], ◌∷◌, Option, Some, None, Result, Ok, Err, not, ◌&&◌, refl, sym, subst}
-use Rattle.std.specs.Prelude.{is_none}
-use Rattle.std.proofs.lemmas.Bool.{cond_both}
+use Rattle.std.proofs.Common.{◌≡◌, ⊎_elim, inl, inr, ℕ, List, [], ◌∷◌, Bool, true, false, Option, Some, None, Result, Ok, Err, refl, sym, subst}
 use Rattle.cache_base.specs.declared.name.Name.{Name}
 use Rattle.cache_theory.specs.Machine.{Object as MachineObject}
+use Rattle.cache_theory.proofs.Reading.{some_of}
 use Rattle.disk_model.specs.Calls.{if_done, if_ok}
 use Rattle.disk_model.specs.Sound.{IsSound}
 use Rattle.disk_model.specs.State.{File, State, content_of, created, names_now, removed, renamed, settled}
 use Rattle.disk_model.specs.declared.disk.DiskFault.{DiskFault}
 use Rattle.disk_model.specs.declared.disk.DiskFault.TheVariants.{Failed, Memory}
 use Rattle.disk_model.specs.declared.place.Place.TheVariants.{Doomed, Entry}
-use Rattle.doom_area.specs.DoomArea.{IsLeastFree, RemovesDoomed, removed_each}
+use Rattle.doom_area.specs.DoomArea.{RemovesDoomed, removed_each}
 use Rattle.index_theory.specs.Apart.{IsOfIndex}
 use Rattle.index_theory.specs.Leaves.{LeavesIndex}
 use Rattle.index_theory.proofs.LeavesLaws.{both_leave_index, create_leaves_index, nothing_leaves_index, remove_leaves_index, rename_leaves_index, sync_leaves_index, writes_leave_index}
 use Rattle.file_handles.specs.Cache.{cache_at}
 use Rattle.file_handles.specs.Changes.{ChangesThere, IsFiledAt}
-use Rattle.file_handles.specs.Closing.{dropped, let_go_by, without_doomed}
-use Rattle.file_handles.specs.Creating.{MayHaveMade}
-use Rattle.file_handles.specs.Held.{is_draft, object_place, place_of}
+use Rattle.file_handles.specs.Closing.{let_go_by, without_doomed}
+use Rattle.file_handles.specs.Creating.{MayHaveMade, MayHaveRemoved}
+use Rattle.file_handles.specs.Dooming.{SetsAside}
+use Rattle.file_handles.specs.Held.{object_place, place_of}
 use Rattle.file_handles.specs.Kept.{Kept, object_at}
+use Rattle.file_handles.specs.Publishing.{CompletesThere, IsAmidPublishing, published_by}
+use Rattle.file_handles.specs.Publishing.IsAmidPublishing.{Published, Synced, Unsynced}
 use Rattle.file_handles.specs.declared.fault.HandleFault.{HandleFault}
 use Rattle.file_handles.specs.declared.object.Object.{Object}
 use Rattle.file_handles.proofs.Changed.{writes_weaker}
 use Rattle.file_handles.proofs.DoomedUser.{least_free}
+use Rattle.file_handles.proofs.IndexPublished.{published_leaves_index}
 
 -- where nothing changed
 pub same_left : {s t : State} → t ≡ s → LeavesIndex s t
@@ -54,24 +57,62 @@ pub change_left : {T : Type 0} (s t : State) (k after : Kept) (p : ℕ) (x : Obj
     → IsFiledAt (cache_at k s) p → ChangesThere p change r (cache_at k s) (cache_at after t) → LeavesIndex s t
 change_left s t k after p x change r sound at filed changes =
     let o = filed x at in
-    let there = named_file s.files (names_now s (object_place x)) _ o.1.file in
-    writes_leave_index s t (object_place x) there.0 (no_index x.name x.doomed) sound there.1
+    let file = some_of (content_of s.files (names_now s (object_place x))) o.1.file in
+    let there = named_file s.files (names_now s (object_place x)) file.0 file.1.0 in
+    writes_leave_index s t (object_place x) there.0 (no_index x.name x.aside) sound there.1
     (writes_weaker s t there.0 _ (λ c. Unit {0}) (λ c is. tt) ((changes x at).changes.writes o.0 o.1 there.0 there.1))
+
+-- One that is finished: its file alone is written to, and then all is synced and the file moved.
+pub completed_left : {T : Type 0} (s t : State) (k after : Kept) (p : ℕ) (x : Object) (r : Result T HandleFault) → IsSound s → object_at k p ≡ Some x
+    → IsFiledAt (cache_at k s) p → CompletesThere p r (cache_at k s) (cache_at after t) → LeavesIndex s t
+completed_left s t k after p x r sound at filed completes =
+    let o = filed x at in
+    let file = some_of (content_of s.files (names_now s (object_place x))) o.1.file in
+    let there = named_file s.files (names_now s (object_place x)) file.0 file.1.0 in
+    let does = (completes x at).completes in
+    let u : State = does.written in
+    let written : LeavesIndex s u =
+    writes_leave_index s u (object_place x) there.0 (no_index x.name x.aside) sound there.1
+    (writes_weaker s u there.0 _ (λ c. Unit {0}) (λ c is. tt) (does.writes o.0 o.1 there.0 there.1)) in
+    elim does.amid [
+      | inl same ↦ subst (LeavesIndex s) (sym same) written
+      | inr amid ↦ then_left s u t written (amid_left x.name x.doomed x.aside u t does.sound amid.0)
+    ]
+  where
+    published_left : (name : Name) (doomed : Bool) (aside : Option ℕ) (u : State) → IsSound u → LeavesIndex u (published_by name doomed aside u)
+    published_left name true aside u sound = nothing_leaves_index u
+    published_left name false None u sound = nothing_leaves_index u
+    published_left name false (Some d) u sound = published_leaves_index u d name sound
+
+    amid_left : (name : Name) (doomed : Bool) (aside : Option ℕ) (u t : State) → IsSound u → IsAmidPublishing name doomed aside u t → LeavesIndex u t
+    amid_left name doomed aside u t sound amid = elim amid [
+      | Unsynced same ↦ same_left same
+      | Synced undoomed same ↦ subst (LeavesIndex u) (sym same) (sync_leaves_index u sound)
+      | Published same ↦ subst (LeavesIndex u) (sym same) (published_left name doomed aside u sound)
+    ]
 
 -- An entry that is made, or doomed.
 
-made_by : (s t : State) (name : Name) → IsSound s → t ≡ created (Entry name) s → LeavesIndex s t
-made_by s t name sound is = subst (LeavesIndex s) (sym is) (create_leaves_index s (Entry name) (λ of. of) sound)
+made_by : (s t : State) (d : ℕ) → IsSound s → t ≡ created (Doomed d) s → LeavesIndex s t
+made_by s t d sound is = subst (LeavesIndex s) (sym is) (create_leaves_index s (Doomed d) (λ of. of) sound)
 
-pub made_left : {T : Type 0} (r : Result T HandleFault) (s t : State) (name : Name) → IsSound s → MayHaveMade (Entry name) r s t → LeavesIndex s t
-made_left (Ok value) s t name sound may = made_by s t name sound may.made
-made_left (Err fault) s t name sound may = ⊎_elim (made_by s t name sound) (λ same. same_left same) may.either
+pub made_left : {T : Type 0} (r : Result T HandleFault) (s t : State) (d : ℕ) → IsSound s → MayHaveMade (Doomed d) r s t → LeavesIndex s t
+made_left (Ok value) s t d sound may = made_by s t d sound may.made
+made_left (Err fault) s t d sound may = ⊎_elim (made_by s t d sound) (λ same. same_left same) may.either
 
-pub doomed_left : (r : Result ℕ DiskFault) (s t : State) (name : Name) (numbers : List ℕ) → IsSound s
-    → ((n : ℕ) → IsLeastFree numbers n → t ≡ if_done r (renamed (Entry name) (Doomed n) s) s) → LeavesIndex s t
-doomed_left r s t name numbers sound moved =
+gone_by : (s t : State) (name : Name) → t ≡ removed (Entry name) s → LeavesIndex s t
+gone_by s t name is = subst (LeavesIndex s) (sym is) (remove_leaves_index s (Entry name) (λ of. of))
+
+-- or whose file is removed, where there is one
+pub gone_left : {T : Type 0} (r : Result T HandleFault) (s t : State) (name : Name) → MayHaveRemoved (Entry name) r s t → LeavesIndex s t
+gone_left (Ok value) s t name may = ⊎_elim (gone_by s t name) (λ same. same_left same.0) may.done
+gone_left (Err fault) s t name may = ⊎_elim (gone_by s t name) (λ same. same_left same) may.either
+
+pub doomed_left : (r : Result ℕ DiskFault) (s t : State) (name : Name) (aside : Option ℕ) (numbers : List ℕ) → IsSound s → SetsAside name aside numbers r s t → LeavesIndex s t
+doomed_left r s t name None numbers sound sets =
     let l = least_free numbers in
-    done_left r s (renamed (Entry name) (Doomed l.0) s) t (rename_leaves_index s (Entry name) (Doomed l.0) (λ of. of) (λ of. of) (λ of. of) sound) (moved l.0 l.1)
+    done_left r s (renamed (Entry name) (Doomed l.0) s) t (rename_leaves_index s (Entry name) (Doomed l.0) (λ of. of) (λ of. of) (λ of. of) sound) (sets.moves refl l.0 l.1)
+doomed_left r s t name (Some n) numbers sound sets = same_left (sets.stays n refl).1
 
 pub removed_left : {T : Type 0} (r : Result T DiskFault) (s t : State) (name : Name) → t ≡ if_done r (removed (Entry name) s) s → LeavesIndex s t
 removed_left r s t name is = done_left r s (removed (Entry name) s) t (remove_leaves_index s (Entry name) (λ of. of)) is
@@ -79,17 +120,11 @@ removed_left r s t name is = done_left r s (removed (Entry name) s) t (remove_le
 -- An object that is given up.
 
 pub let_go_left : {T : Type 0} (r : Result T DiskFault) (s t : State) (x : Object) → t ≡ if_done r (let_go_by x s) s → LeavesIndex s t
-let_go_left r s t x is = done_left r s (let_go_by x s) t (go x.doomed) is
+let_go_left r s t x is = done_left r s (let_go_by x s) t (go x.aside) is
   where
     go : (n : Option ℕ) → LeavesIndex s (without_doomed n s)
     go None = nothing_leaves_index s
     go (Some n) = remove_leaves_index s (Doomed n) (λ of. of)
-
-pub dropped_left : {T : Type 0} (r : Result T DiskFault) (s t : State) (x : Object) → t ≡ if_done r (dropped x s) s → LeavesIndex s t
-dropped_left r s t x is = done_left r s (dropped x s) t
-    (cond_both (is_none x.doomed && not (is_draft x.entry)) s (removed (object_place x) s) (LeavesIndex s) (λ stays. nothing_leaves_index s)
-    (λ goes. remove_leaves_index s (object_place x) (no_index x.name x.doomed)))
-    is
 
 -- The doomed files that an earlier run left, and a sync.
 

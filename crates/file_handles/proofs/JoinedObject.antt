@@ -1,29 +1,41 @@
 -- An object more, at a place that was free, and the slot that uses it.
-use Rattle.std.proofs.Common.{◌≡◌, ◌≢◌, inl, inr, ℕ, ◌<◌, [], ◌∷◌, ◌++◌, length, Option, Some, None, is_some, Bool, true, false, cond, IsSome, refl, sym, ap, subst, ◌∙◌, arith, eq-eqb}
+use Rattle.std.proofs.Common.{◌≡◌, ◌≢◌, ◌⊎◌, inl, inr, ℕ, ◌<◌, List, [], ◌∷◌, ◌++◌, length, Option, Some, None, is_some, Bool, true, false, not, ◌||◌, cond, IsSome, refl, sym, ap, subst, ◌∙◌, arith, eq-eqb}
 use Rattle.std.specs.Prelude.{◌==◌, if◌then◌else◌, option_map, slice_get, unwrap_or}
 use Rattle.std.proofs.lemmas.Bool.{cases_eq, ne_eqb}
 use Rattle.std.proofs.lemmas.Option.{slice_get_past, slice_get_within}
 use Rattle.std.proofs.lemmas.List.Elements.{All-weaker}
 use Rattle.cache_theory.specs.Crash.{IsCrashKept, WasUnder}
-use Rattle.cache_theory.specs.Machine.{Machine, Object as MachineObject}
+use Rattle.cache_theory.specs.Ever.{EverAt, entry_place}
+use Rattle.cache_theory.specs.Machine.{Machine, Object as MachineObject, object}
 use Rattle.cache_theory.specs.Marks.{Marks, is_buried}
 use Rattle.cache_theory.specs.Proper.{IsProper}
-use Rattle.cache_theory.specs.Stands.{DoomedStand, IsHeldDoomed, object_file}
+use Rattle.cache_theory.specs.Stands.{AsideStand, HasObjectFile, IsHeldAside, IsObjectFile, is_aside, object_file}
 use Rattle.cache_theory.specs.Step.{entered}
+use Rattle.cache_theory.proofs.DiskChanges.{create_keeps}
 use Rattle.cache_theory.proofs.Entering.{MayEnter, entered_here, entered_there}
-use Rattle.cache_theory.proofs.HeldDoomed.{held_before_entered, held_entered, held_number}
+use Rattle.cache_theory.proofs.EntryFiles.{written_is_file}
+use Rattle.cache_theory.proofs.EverSteps.{ever_created}
+use Rattle.cache_theory.proofs.FiledOnce.{create_files_once}
+use Rattle.cache_theory.proofs.HeldAside.{held_before_entered, held_before_entered_finished, held_entered, held_fresh, held_number}
 use Rattle.cache_theory.proofs.Objects.{length_more, nth, nth-append_old, nth_is, nth_there}
 use Rattle.cache_theory.proofs.Slots.{free_is_none, has_slots_of, slot_kept, slot_of as slot_with, use_of, with_slot_other, with_slot_same}
+use Rattle.cache_theory.proofs.Unpublished.{create_unpublished}
 use Rattle.cache_theory.proofs.Users.{in_use_along}
 use Rattle.chunk_cache.specs.Cached.{CachedChunk}
+use Rattle.disk_model.specs.declared.place.Place.TheVariants.{Doomed}
 use Rattle.disk_model.specs.Image.{Files}
-use Rattle.disk_model.specs.State.{State}
+use Rattle.disk_model.specs.Sound.{IsSound}
+use Rattle.disk_model.specs.Standing.{Puts}
+use Rattle.disk_model.specs.State.{State, created, names_now, standing}
+use Rattle.disk_model.specs.declared.place.Place.TheVariants.{Doomed}
+use Rattle.disk_model.proofs.Places.{is_same-apart, is_same-refl}
 use Rattle.file_handles.specs.Held.{IsHeldAs}
 use Rattle.file_handles.specs.HeldChunks.{ChunksStand, IsChunkInUse}
 use Rattle.file_handles.specs.Kept.{Kept, object_at, use_at, with_new, with_object, with_use}
 use Rattle.file_handles.specs.Stands.{HandlesStand, IsAt, IsObjectOf, slot_of}
 use Rattle.file_handles.specs.declared.object.Object.{Object}
 use Rattle.file_handles.specs.declared.object.Use.{Use}
+use Rattle.file_handles.proofs.AsidePlaces.{one_doomed}
 use Rattle.file_handles.proofs.HeldChunkLaws.{chunk_on, keeps_own}
 use Rattle.file_handles.proofs.JoinedSlots.{same_place, use_set_here, use_set_other}
 use Rattle.file_handles.proofs.KeptLaws.{object_set_here, object_set_other}
@@ -168,39 +180,32 @@ module _ (k : Kept) (m : Machine) (number : ℕ → ℕ) (proper : IsProper m) (
     chunks = chunks_next;
   }
 
-  -- The doomed objects are the same.
+  -- The objects whose files stand aside.
 
   at_on : (d i : ℕ) → IsAt k number d i → IsAt after numbers d i
   at_on d i a =
       let apart = not_free a.place a.object a.at_place in
-      record { place = a.place; object = a.object; at_place = there a.place apart ∙ a.at_place; is_doomed = a.is_doomed; numbered = old_number a.place apart ∙ a.numbered }
+      record { place = a.place; object = a.object; at_place = there a.place apart ∙ a.at_place; set_aside = a.set_aside; numbered = old_number a.place apart ∙ a.numbered }
 
-  new_undoomed : (d i : ℕ) (a : IsAt after numbers d i) → a.place ≢ p
-  new_undoomed d i a e =
-      let same = one_object_there a.place a.object a.at_place e in
-      let never : true ≡ false = sym (ap is_some a.is_doomed) ∙ ap (λ (y : Object). is_some y.doomed) same ∙ may.as_held.doomed ∙ may.enters.undoomed in
-      cc
+  -- they are those before, and the new one
+  was_at : (d i : ℕ) → IsAt after numbers d i → ((x.aside ≡ Some d) × (i ≡ length m.objects)) ⊎ IsAt k number d i
+  was_at d i a = elim (cases_eq a.place p) [
+    | inl e ↦
+        let same = one_object_there a.place a.object a.at_place e in
+        inl (ap (λ (y : Object). y.aside) (sym same) ∙ a.set_aside, sym a.numbered ∙ new_number a.place e)
+    | inr apart ↦ inr (record { place = a.place; object = a.object; at_place = sym (there a.place apart) ∙ a.at_place; set_aside = a.set_aside; numbered = sym (old_number a.place apart) ∙ a.numbered })
+  ]
 
-  pub at_off : (d i : ℕ) → IsAt after numbers d i → IsAt k number d i
-  at_off d i a =
-      let apart = new_undoomed d i a in
-      record { place = a.place; object = a.object; at_place = sym (there a.place apart) ∙ a.at_place; is_doomed = a.is_doomed; numbered = sym (old_number a.place apart) ∙ a.numbered }
+  at_below : (d i : ℕ) → IsAt k number d i → i < length m.objects
+  at_below d i a = let lt = number_below a.place a.object a.at_place in let e = a.numbered in omega (arith, lt, e)
 
-  held_below : (i : ℕ) → IsHeldDoomed m i → i < length m.objects
+  held_below : (i : ℕ) → IsHeldAside m i → i < length m.objects
   held_below i h = held_number m i proper (slot_with m i h.slots)
 
-  pub doomed_added : (files : Files) → DoomedStand files m (IsAt k number) → DoomedStand files next (IsAt after numbers)
-  doomed_added files doomed = record {
-    held = λ i h.
-        let was = held_before_entered m slot writes o proper may.enters i h in
-        let old = doomed.held i was in
-        (old.0, (at_on old.0 i old.1.0, old.1.1 ∙ ap (λ (y : MachineObject). Some (object_file y)) (sym (entered_there m slot writes o proper may.enters i (held_below i was)))));
-    only = λ d some. let old = doomed.only d some in (old.0, (at_on d old.0 old.1.0, held_entered m slot writes o proper may.enters old.0 old.1.1));
-    one_object = λ d i j a b. doomed.one_object d i j (at_off d i a) (at_off d j b);
-    one_number = λ d e i a b. doomed.one_number d e i (at_off d i a) (at_off e i b);
-  }
+  same_file : (i : ℕ) → IsHeldAside m i → (c : Option (List ℕ)) → HasObjectFile (object m i) c → HasObjectFile (object next i) c
+  same_file i h c = subst (λ (y : MachineObject). HasObjectFile y c) (sym (entered_there m slot writes o proper may.enters i (held_below i h)))
 
-  -- And what a crash may leave.
+  -- What a crash may leave.
 
   unburied_next : (w : Marks) (s : State) → IsCrashKept s m w (IsAt k number) → (i : ℕ) (y : MachineObject) → slice_get (m.objects ++ o ∷ []) i ≡ Some y → y.doomed ≡ false → is_buried w i ≡ false
   unburied_next w s kept i y at un = elim (cases_eq i (length m.objects)) [
@@ -215,13 +220,118 @@ module _ (k : Kept) (m : Machine) (number : ℕ → ℕ) (proper : IsProper m) (
         kept.unburied i (nth m.objects i) (nth_there m.objects i lt) (ap (λ (a : MachineObject). a.doomed) same ∙ un)
   ]
 
-  pub crash_added : (w : Marks) (s : State) → IsCrashKept s m w (IsAt k number) → IsCrashKept s next w (IsAt after numbers)
-  crash_added w s kept = record {
-    safe = kept.safe;
-    once = kept.once;
-    doomed = λ d i file name a h now ever.
-        let was = held_before_entered m slot writes o proper may.enters i h in
-        subst (λ y. WasUnder w i y name) (sym (entered_there m slot writes o proper may.enters i (held_below i was))) (kept.doomed d i file name (at_off d i a) was now ever);
-    unburied = unburied_next w s kept;
-    young = (let young = kept.young in let long = length_more m.objects o in omega (arith, young, long));
-  }
+  under_next : (w : Marks) (i : ℕ) (name : List ℕ) → IsHeldAside m i → WasUnder w i (object m i) name → WasUnder w i (object next i) name
+  under_next w i name h was = subst (λ y. WasUnder w i y name) (sym (entered_there m slot writes o proper may.enters i (held_below i h))) was
+
+  -- One that is finished is read from its file: those that stand aside are the same.
+  module _ (done : o.finished ≡ true) where
+    none_aside : (d : ℕ) → x.aside ≡ Some d → ⊥
+    none_aside d e =
+        let out : is_aside o ≡ false = λ i. may.enters.undoomed i || not (done i) in
+        let both : true ≡ false = sym (ap is_some e) ∙ may.as_held.aside ∙ out in
+        cc
+
+    at_off : (d i : ℕ) → IsAt after numbers d i → IsAt k number d i
+    at_off d i a = elim (was_at d i a) [ inl new ↦ absurd (none_aside d new.0) | inr old ↦ old ]
+
+    was_held : (i : ℕ) → IsHeldAside next i → IsHeldAside m i
+    was_held i h = held_before_entered_finished m slot writes o proper may.enters done i h
+
+    pub aside_added : (files : Files) → AsideStand files m (IsAt k number) → AsideStand files next (IsAt after numbers)
+    aside_added files aside = record {
+      held = λ i h.
+          let was = was_held i h in
+          let old = aside.held i was in
+          (old.0, (at_on old.0 i old.1.0, same_file i was (files (Doomed old.0)) old.1.1));
+      only = λ d some. let old = aside.only d some in (old.0, (at_on d old.0 old.1.0, held_entered m slot writes o proper may.enters old.0 old.1.1));
+      one_object = λ d i j a b. aside.one_object d i j (at_off d i a) (at_off d j b);
+      one_number = λ d e i a b. aside.one_number d e i (at_off d i a) (at_off e i b);
+    }
+
+    pub crash_added : (w : Marks) (s : State) → IsCrashKept s m w (IsAt k number) → IsCrashKept s next w (IsAt after numbers)
+    crash_added w s kept = record {
+      safe = kept.safe;
+      once = kept.once;
+      aside = λ d i file name a h now ever. let was = was_held i h in under_next w i name was (kept.aside d i file name (at_off d i a) was now ever);
+      unburied = unburied_next w s kept;
+      young = (let young = kept.young in let long = length_more m.objects o in omega (arith, young, long));
+    }
+
+  -- One that is not gets a file, under a number that was free.
+  module _ (un : o.finished ≡ false) (d : ℕ) (is_at : x.aside ≡ Some d) (free : (i : ℕ) → IsAt k number d i → ⊥) where
+    new_at : IsAt after numbers d (length m.objects)
+    new_at = record { place = p; object = x; at_place = here p refl; set_aside = is_at; numbered = new_number p refl }
+
+    its_number : (e : ℕ) → x.aside ≡ Some e → e ≡ d
+    its_number e at = let both : Some e ≡ Some d = sym at ∙ is_at in cc
+
+    other_number : (e i : ℕ) → IsAt k number e i → e ≢ d
+    other_number e i a same = free i (subst (λ c. IsAt k number c i) same a)
+
+    aside_apart : (e : ℕ) → e ≢ d → Doomed e ≢ Doomed d
+    aside_apart e apart same = apart (one_doomed e d same)
+
+    pub aside_created : (s t : State) → Puts (Doomed d) (Some (object_file o)) s t → AsideStand (standing s) m (IsAt k number) → AsideStand (standing t) next (IsAt after numbers)
+    aside_created s t puts aside = record {
+      held = λ i h. elim (held_before_entered m slot writes o proper may.enters i h) [
+        | inl new ↦
+            let at : IsAt after numbers d i = subst (λ j. IsAt after numbers d j) (sym new.0) new_at in
+            let file : HasObjectFile (object next i) (Some (object_file o)) =
+            subst (λ (y : MachineObject). IsObjectFile y (object_file o)) (sym (entered_here m slot writes o proper may.enters i new.0)) (written_is_file o) in
+            (d, (at, subst (HasObjectFile (object next i)) (sym puts.here) file))
+        | inr was ↦
+            let old = aside.held i was in (
+              old.0,
+              (
+                at_on old.0 i old.1.0,
+                subst (HasObjectFile (object next i)) (sym (puts.others (Doomed old.0) (aside_apart old.0 (other_number old.0 i old.1.0)))) (same_file i was (standing s (Doomed old.0)) old.1.1),
+              ),
+            )
+      ];
+      only = λ e some. elim (cases_eq e d) [
+        | inl same ↦ (length m.objects, (subst (λ c. IsAt after numbers c (length m.objects)) (sym same) new_at, held_fresh m slot writes o proper may.enters un))
+        | inr apart ↦
+            let old = aside.only e (λ none. some (puts.others (Doomed e) (aside_apart e apart) ∙ none)) in
+            (old.0, (at_on e old.0 old.1.0, held_entered m slot writes o proper may.enters old.0 old.1.1))
+      ];
+      one_object = λ e i j a b. elim (was_at e i a) [
+        | inl new ↦ elim (was_at e j b) [ inl too ↦ new.1 ∙ sym too.1 | inr old ↦ absurd (other_number e j old (its_number e new.0)) ]
+        | inr old ↦ elim (was_at e j b) [ inl new ↦ absurd (other_number e i old (its_number e new.0)) | inr too ↦ aside.one_object e i j old too ]
+      ];
+      one_number = λ e f i a b. elim (was_at e i a) [
+        | inl new ↦ elim (was_at f i b) [
+          | inl too ↦ its_number e new.0 ∙ sym (its_number f too.0)
+          | inr old ↦ let lt = at_below f i old in let at = new.1 in absurd (omega (arith, lt, at))
+        ]
+        | inr old ↦ elim (was_at f i b) [
+          | inl new ↦ let lt = at_below e i old in let at = new.1 in absurd (omega (arith, lt, at))
+          | inr too ↦ aside.one_number e f i old too
+        ]
+      ];
+    }
+
+    names_here : (s : State) → names_now (created (Doomed d) s) (Doomed d) ≡ Some s.made
+    names_here s = ap (λ (b : Bool). if b then Some s.made else names_now s (Doomed d)) (is_same-refl (Doomed d))
+
+    names_there : (s : State) (e : ℕ) → e ≢ d → names_now (created (Doomed d) s) (Doomed e) ≡ names_now s (Doomed e)
+    names_there s e apart = ap (λ (b : Bool). if b then Some s.made else names_now s (Doomed e)) (is_same-apart (Doomed e) (Doomed d) (aside_apart e apart))
+
+    pub crash_created : (w : Marks) (s : State) → IsSound s → IsCrashKept s m w (IsAt k number) → IsCrashKept (created (Doomed d) s) next w (IsAt after numbers)
+    crash_created w s sound kept = record {
+      safe = create_keeps s w d sound kept.safe;
+      once = create_files_once s (Doomed d) sound kept.once;
+      aside = λ e i file name a h now ever. elim (was_at e i a) [
+        | inl new ↦
+            let both : Some s.made ≡ Some file = sym (names_here s) ∙ ap (λ c. names_now (created (Doomed d) s) (Doomed c)) (sym (its_number e new.0)) ∙ now in
+            let one : file ≡ s.made = cc in
+            absurd (create_unpublished s d sound name (subst (EverAt (created (Doomed d) s) (entry_place name)) one ever))
+        | inr old ↦ elim (held_before_entered m slot writes o proper may.enters i h) [
+          | inl new ↦ let lt = at_below e i old in let at = new.0 in absurd (omega (arith, lt, at))
+          | inr was ↦
+              let stood : EverAt s (entry_place name) file = elim (ever_created s (Doomed d) (entry_place name) file ever) [ inl fresh ↦ absurd (cc fresh.0) | inr before ↦ before ] in
+              under_next w i name was (kept.aside e i file name old was (sym (names_there s e (other_number e i old)) ∙ now) stood)
+        ]
+      ];
+      unburied = unburied_next w s kept;
+      young = (let young = kept.young in let long = length_more m.objects o in omega (arith, young, long));
+    }

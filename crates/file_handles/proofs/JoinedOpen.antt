@@ -15,7 +15,6 @@ use Rattle.cache_theory.specs.Step.{effect, joined, step, stepped}
 use Rattle.cache_theory.specs.declared.refusal.Refusal.{Refusal}
 use Rattle.cache_theory.specs.declared.refusal.Refusal.TheVariants as refused
 use Rattle.cache_theory.proofs.Changes.{may_join, read_object}
-use Rattle.cache_theory.proofs.EntryFiles.{entry_entered_finished}
 use Rattle.cache_theory.proofs.Entering.{proper_entered}
 use Rattle.cache_theory.proofs.Reading.{used_by_is, whole_is_shelved}
 use Rattle.cache_theory.proofs.Slots.{slot_free}
@@ -46,7 +45,7 @@ use Rattle.file_handles.proofs.ElementSlots.{no_slot, slot_is}
 use Rattle.file_handles.proofs.FoundShelf.{shelf_read}
 use Rattle.file_handles.proofs.FoundUser.{used_at, used_same}
 use Rattle.file_handles.proofs.Histories.{history_of}
-use Rattle.file_handles.proofs.JoinedObject.{MayAdd, crash_added, doomed_added, handles_added, numbers}
+use Rattle.file_handles.proofs.JoinedObject.{MayAdd, aside_added, crash_added, handles_added, numbers}
 use Rattle.file_handles.proofs.JoinedReader.{MayRead, reader_in}
 use Rattle.file_handles.proofs.Refused.{refused_leaves}
 use Rattle.file_handles.proofs.Where.{CarriesOutWhere, LeavesWhere, carries_out}
@@ -131,14 +130,12 @@ module _ (s : State) (k : Kept) (slot : ℕ) (key : List ℕ) (small : slot < SL
           let stand = here.stands.handles in
           let there = used_at k name key p at in
           let uses : used_by m key ≡ Some (here.number p) = used_same k name key m here.number here.stands.proper stand named ∙ ap (option_map here.number) at in
-          let user = here.stands.proper.user (file_name key) (here.number p) (used_by_is m key (here.number p) uses).at in
           let may : MayRead k m here.number slot p joins.use_ = record {
             small = small;
             within = within;
             free = slot_free m slot (slot_is_free m here.number stand);
             reader = there.user.object;
             at_place = there.user.at_place;
-            undoomed = user.undoomed;
             placed = joins.placed;
             reads = joins.writing;
           } in
@@ -155,7 +152,7 @@ module _ (s : State) (k : Kept) (slot : ℕ) (key : List ℕ) (small : slot < SL
         shelf_is : (m : Machine) (number : ℕ → ℕ) → Stands (standing s) k m number → (answer : Result Meta HandleFault) → LoadsAs (read_for key (standing s (Entry name))) answer → LoadsAs (on_shelf m key) answer
         shelf_is m number stands answer loads =
             let same : read_for key (standing s (Entry name)) ≡ on_shelf m key =
-            ap (λ n. read_for key (entries (standing s) n)) named ∙ shelf_read (standing s) m stands.proper stands.entries key in
+            ap (λ n. read_for key (entries (standing s) n)) named ∙ shelf_read (standing s) m stands.entries key in
             let P : Reading → Type 0 = λ r. LoadsAs r answer in
             subst P same loads
 
@@ -173,6 +170,7 @@ module _ (s : State) (k : Kept) (slot : ℕ) (key : List ℕ) (small : slot < SL
             go Nothing at loaded = refused_here s k slot key r m w is (checks_at m is.number is.stands.handles None Nothing none at ∙ ap Some (sym loaded))
 
         pub unread_leaves : (e : HandleFault) → LoadsAs (read_for key (standing s (Entry name))) (Err e) → CarriesOut (OpenKey slot key) (reply_in e) (cache_at k s) (cache_at k s)
+        unread_leaves fault.Read loads = fails_leaves s k slot key
         unread_leaves fault.Disk loads = fails_leaves s k slot key
         unread_leaves fault.Memory loads = fails_leaves s k slot key
         unread_leaves (fault.Refused r) loads = carries_out (refused_so r loads)
@@ -183,7 +181,7 @@ module _ (s : State) (k : Kept) (slot : ℕ) (key : List ℕ) (small : slot < SL
         unread_answer (Err f) e is loads = subst (λ (a : HandleFault). CarriesOut (OpenKey slot key) (reply_in a) (cache_at k s) (cache_at k s)) (sym is) (unread_leaves e loads)
 
         -- an entry that is read
-        module _ (meta : Meta) (x : Object) (is_object : x ≡ record { number = x.number; name = name; doomed = None; entry = entry.Finished meta }) (loads : LoadsAs (read_for key (standing s (Entry name))) (Ok meta)) where
+        module _ (meta : Meta) (x : Object) (is_object : x ≡ record { number = x.number; name = name; doomed = false; aside = None; entry = entry.Finished meta }) (loads : LoadsAs (read_for key (standing s (Entry name))) (Ok meta)) where
           enters_in : {b : Bool} (after : Kept) (m : Machine) (w : Marks) (is : KeepsWhere b (cache_at k s) (history_of m w)) → Adds slot x false k after → (p_within : (p : ℕ) → p < SLOTS → p < length k.objects)
               → (v : Version) → on_shelf m key ≡ Whole v → meta_of meta ≡ version_meta v → KeepsWhere b (cache_at after s) (history_of (joined m slot None (Whole v)) w)
           enters_in {b} after m w is adds p_within v at same =
@@ -194,7 +192,7 @@ module _ (s : State) (k : Kept) (slot : ℕ) (key : List ℕ) (small : slot < SL
               let shelved = whole_is_shelved m key v proper at in
               let may : MayAdd k m slot false (read_object v) x adds.place adds.joins.use_ = record {
                 enters = enters;
-                as_held = subst (λ y. IsHeldAs y (read_object v)) (sym is_object) (record { named = named ∙ sym shelved.named; doomed = refl; held_entry = (refl, same) });
+                as_held = subst (λ y. IsHeldAs y (read_object v)) (sym is_object) (record { named = named ∙ sym shelved.named; doomed = refl; aside = refl; held_entry = (refl, same) });
                 numbered = adds.numbered;
                 free = adds.free;
                 ranged = p_within adds.place adds.ranged;
@@ -209,10 +207,10 @@ module _ (s : State) (k : Kept) (slot : ℕ) (key : List ℕ) (small : slot < SL
                 stands = record {
                   proper = proper_entered m slot false (read_object v) proper enters;
                   handles = handles_added k m is.number proper stand slot false (read_object v) x adds.place adds.joins.use_ may;
-                  entries = λ q. is.stands.entries q ∙ sym (entry_entered_finished m slot false (read_object v) proper enters refl q);
-                  doomed = doomed_added k m is.number proper stand slot false (read_object v) x adds.place adds.joins.use_ may (standing s) is.stands.doomed;
+                  entries = is.stands.entries;
+                  aside = aside_added k m is.number proper stand slot false (read_object v) x adds.place adds.joins.use_ may refl (standing s) is.stands.aside;
                 };
-                crash_kept = λ on. crash_added k m is.number proper stand slot false (read_object v) x adds.place adds.joins.use_ may w s (is.crash_kept on);
+                crash_kept = λ on. crash_added k m is.number proper stand slot false (read_object v) x adds.place adds.joins.use_ may refl w s (is.crash_kept on);
               } in
               subst (λ (a : Kept). KeepsWhere b (cache_at a s) (history_of next w)) (sym adds.joins.same) result
 
@@ -243,5 +241,6 @@ module _ (s : State) (k : Kept) (slot : ℕ) (key : List ℕ) (small : slot < SL
               → CarriesOut (OpenKey slot key) (done_or answer) (cache_at k s) (cache_at after s)
           added_leaves (Ok done) after adds p_within = carries_out (enters_leaves after adds.added p_within)
           added_leaves (Err (fault.Refused r)) after adds p_within = absurd (adds.refused r refl)
+          added_leaves (Err fault.Read) after adds p_within = absurd (let never : fault.Read ≡ fault.Memory = adds.memory in cc)
           added_leaves (Err fault.Disk) after adds p_within = absurd (let never : fault.Disk ≡ fault.Memory = adds.memory in cc)
           added_leaves (Err fault.Memory) after adds p_within = no_place after

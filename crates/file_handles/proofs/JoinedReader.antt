@@ -1,14 +1,13 @@
--- A reader more of an undoomed object in use.
-use Rattle.std.proofs.Common.{◌≡◌, inl, inr, ℕ, ◌<◌, length, Option, Some, None, false, IsSome, refl, sym, ap, subst, ◌∙◌, arith, Bool}
+-- A reader more of an object in use.
+use Rattle.std.proofs.Common.{◌≡◌, inl, inr, ℕ, ◌<◌, length, Option, Some, None, true, IsSome, false, refl, sym, ap, subst, ◌∙◌, arith, Bool}
 use Rattle.std.specs.Prelude.{option_map}
 use Rattle.std.proofs.lemmas.Bool.{cases_eq}
 use Rattle.cache_base.specs.declared.limits.TheConstants.{SLOTS}
-use Rattle.cache_theory.specs.Machine.{Machine, object}
+use Rattle.cache_theory.specs.Machine.{Machine, has_slots}
 use Rattle.cache_theory.specs.Marks.{Marks}
-use Rattle.cache_theory.specs.Stands.{DoomedStand}
-use Rattle.cache_theory.proofs.EntryFiles.{entry_along}
+use Rattle.cache_theory.specs.Stands.{AsideStand}
 use Rattle.cache_theory.proofs.Entering.{proper_reader, with_reader}
-use Rattle.cache_theory.proofs.HeldDoomed.{held_before_reader, held_reader}
+use Rattle.cache_theory.proofs.HeldAside.{held_before_reader, held_reader}
 use Rattle.cache_theory.proofs.Slots.{free_is_none, slot_kept, use_of, with_slot_other, with_slot_same}
 use Rattle.cache_theory.proofs.Users.{in_use_along}
 use Rattle.disk_model.specs.State.{State, standing}
@@ -28,7 +27,6 @@ pub record MayRead (k : Kept) (m : Machine) (number : ℕ → ℕ) (slot p : ℕ
   pub free : m.slots slot ≡ None
   pub reader : Object
   pub at_place : object_at k p ≡ Some reader
-  pub undoomed : (object m (number p)).doomed ≡ false
   pub placed : u.place ≡ p
   pub reads : u.writes ≡ false
 
@@ -69,17 +67,20 @@ module _ {b : Bool} (s : State) (k : Kept) (m : Machine) (w : Marks) (is : Keeps
   }
 
   at_on : (d i : ℕ) → IsAt k is.number d i → IsAt after is.number d i
-  at_on d i a = record { place = a.place; object = a.object; at_place = a.at_place; is_doomed = a.is_doomed; numbered = a.numbered }
+  at_on d i a = record { place = a.place; object = a.object; at_place = a.at_place; set_aside = a.set_aside; numbered = a.numbered }
 
   at_off : (d i : ℕ) → IsAt after is.number d i → IsAt k is.number d i
-  at_off d i a = record { place = a.place; object = a.object; at_place = a.at_place; is_doomed = a.is_doomed; numbered = a.numbered }
+  at_off d i a = record { place = a.place; object = a.object; at_place = a.at_place; set_aside = a.set_aside; numbered = a.numbered }
 
-  doomed_next : DoomedStand (standing s) next (IsAt after is.number)
-  doomed_next = record {
-    held = λ i h. let old = is.stands.doomed.held i (held_before_reader m slot (is.number p) may.undoomed i h) in (old.0, (at_on old.0 i old.1.0, old.1.1));
-    only = λ d some. let old = is.stands.doomed.only d some in (old.0, (at_on d old.0 old.1.0, held_reader m slot (is.number p) may.free old.0 old.1.1));
-    one_object = λ d i j a b. is.stands.doomed.one_object d i j (at_off d i a) (at_off d j b);
-    one_number = λ d e i a b. is.stands.doomed.one_number d e i (at_off d i a) (at_off e i b);
+  used : has_slots m (is.number p) ≡ true
+  used = (stand.objects p may.reader may.at_place).in_use.slots
+
+  aside_next : AsideStand (standing s) next (IsAt after is.number)
+  aside_next = record {
+    held = λ i h. let old = is.stands.aside.held i (held_before_reader m slot (is.number p) used i h) in (old.0, (at_on old.0 i old.1.0, old.1.1));
+    only = λ d some. let old = is.stands.aside.only d some in (old.0, (at_on d old.0 old.1.0, held_reader m slot (is.number p) may.free old.0 old.1.1));
+    one_object = λ d i j a b. is.stands.aside.one_object d i j (at_off d i a) (at_off d j b);
+    one_number = λ d e i a b. is.stands.aside.one_number d e i (at_off d i a) (at_off e i b);
   }
 
   pub reader_in : KeepsWhere b (cache_at after s) (history_of next w)
@@ -88,15 +89,15 @@ module _ {b : Bool} (s : State) (k : Kept) (m : Machine) (w : Marks) (is : Keeps
     stands = record {
       proper = proper_reader m slot (is.number p) is.stands.proper may.small may.free (stand.objects p may.reader may.at_place).in_use;
       handles = handles_next;
-      entries = λ q. is.stands.entries q ∙ sym (entry_along m next q refl refl (λ j at. refl));
-      doomed = doomed_next;
+      entries = is.stands.entries;
+      aside = aside_next;
     };
     crash_kept = λ on.
         let was = is.crash_kept on in
         record {
           safe = was.safe;
           once = was.once;
-          doomed = λ d i file name a h now ever. was.doomed d i file name (at_off d i a) (held_before_reader m slot (is.number p) may.undoomed i h) now ever;
+          aside = λ d i file name a h now ever. was.aside d i file name (at_off d i a) (held_before_reader m slot (is.number p) used i h) now ever;
           unburied = was.unburied;
           young = was.young;
         };

@@ -6,7 +6,10 @@ pub mod Places
 pub mod Where
 pub mod Begun
 pub mod Refused
+pub mod AsidePlaces
+pub mod ChangedHandles
 pub mod Changed
+pub mod Published
 pub mod ElementLengths
 pub mod ElementEntries
 pub mod ElementSlots
@@ -18,6 +21,7 @@ pub mod PutBack
 pub mod Grown
 pub mod Completed
 pub mod Carried
+pub mod FinishCarried
 pub mod WriterCommands
 pub mod EntryChanged
 pub mod ElementReads
@@ -29,6 +33,7 @@ pub mod DoomedNumbers
 pub mod DoomedStands
 pub mod DoomedKeeps
 pub mod DoomedUser
+pub mod IndexPublished
 pub mod IndexLeft
 pub mod FirstFree
 pub mod FoundFile
@@ -46,6 +51,7 @@ pub mod JoinedObject
 pub mod JoinedReader
 pub mod JoinedOpen
 pub mod Begins
+pub mod GoneUnder
 pub mod CreatedIn
 pub mod CreatedCommand
 pub mod Released

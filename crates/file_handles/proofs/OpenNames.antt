@@ -1,6 +1,6 @@
 -- The names of the undoomed objects in use, and of those that are being written, and the machine's.
 use Rattle.std.proofs.Common.{◌≡◌, ℕ, ◌+◌, ◌<◌, List, [], ◌∷◌, length, map, get_or, take, Bool, true, false, cond, not, ◌&&◌, Option, Some, None, Result, Ok, Err, IfOk, is_some, T, refl, sym, ap, subst, ◌∙◌}
-use Rattle.std.specs.Prelude.{is_none, unwrap_or, ◌||◌}
+use Rattle.std.specs.Prelude.{unwrap_or, ◌||◌}
 use Rattle.std.specs.FinMap.{is_sorted}
 use Rattle.std.specs.FinMap.Entries.{below_all}
 use Rattle.std.specs.List.{AllByRecursion, list_any, position}
@@ -200,9 +200,9 @@ module _ (k : Kept) (m : Machine) (number : ℕ → ℕ) (proper : IsProper m) (
       → is_counted asked.Drafts q o ≡ true → passes_there (is_unfinished m) (get m.in_use q.0) ≡ true
   draft_there q p None lt at is = absurd (cc)
   draft_there q p (Some x) lt at is =
-      let parts = and_parts (is_draft x.entry && is_none x.doomed) (bytes_eq x.name.0 q.0) is in
-      let kinds = and_parts (is_draft x.entry) (is_none x.doomed) parts.0 in
-      let user = and_from (is_none x.doomed) (bytes_eq x.name.0 q.0) kinds.1 parts.1 in
+      let parts = and_parts (is_draft x.entry && not x.doomed) (bytes_eq x.name.0 q.0) is in
+      let kinds = and_parts (is_draft x.entry) (not x.doomed) parts.0 in
+      let user = and_from (not x.doomed) (bytes_eq x.name.0 q.0) kinds.1 parts.1 in
       ap (passes_there (is_unfinished m)) (user_there k m number proper stand q p (user_at k q p (Some x) lt at user))
       ∙ draft_is x.entry (object m (number p)) (stand.objects p x at).as_held.held_entry
       ∙ kinds.0
@@ -227,10 +227,10 @@ module _ (k : Kept) (m : Machine) (number : ℕ → ℕ) (proper : IsProper m) (
       let held = (stand.objects p x there.at_place).as_held.held_entry in
       let draft : is_draft x.entry ≡ true =
       sym (draft_is x.entry (object m (number p)) held) ∙ ap (is_unfinished m) found.1.1 ∙ writing in
-      let undoomed : is_none x.doomed ≡ true = ap (λ (o : Option ℕ). is_none o) there.undoomed in
+      let undoomed : not x.doomed ≡ true = ap not there.undoomed in
       let counted : is_counted asked.Drafts q (Some x) ≡ true =
-      and_from (is_draft x.entry && is_none x.doomed) (bytes_eq x.name.0 q.0)
-      (and_from (is_draft x.entry) (is_none x.doomed) draft undoomed)
+      and_from (is_draft x.entry && not x.doomed) (bytes_eq x.name.0 q.0)
+      (and_from (is_draft x.entry) (not x.doomed) draft undoomed)
       ((bytes_eq-Decides x.name.0 q.0).1 there.named) in
       list_any_at (is_counted asked.Drafts q) k.objects p None there.ranged
       (ap (is_counted asked.Drafts q) (sym (unwrap_or-slice_get k.objects p None) ∙ there.at_place) ∙ counted)

@@ -6,16 +6,13 @@ use Rattle.std.proofs.lemmas.List.{drop-drop, drop-take, drop_all, length-take, 
 use Rattle.std.proofs.lemmas.Bool.{cases_Bool, eqb-false, leb-false, leb-true}
 use Rattle.std.proofs.Common.{leb}
 use Rattle.cache_theory.specs.Machine.{Object as MachineObject}
-use Rattle.cache_theory.specs.Stands.{object_file}
-use Rattle.cache_theory.proofs.EntryFiles.{finished_file_is, unfinished_file_is}
+use Rattle.cache_theory.specs.Stands.{IsObjectFile}
 use Rattle.chunk_store.specs.Chunks.{chunk}
 use Rattle.chunk_store.specs.Stored.{whole_len}
 use Rattle.entry_file.specs.Held.{held}
-use Rattle.cache_base.specs.Bytes.{be32}
 use Rattle.cache_base.specs.Limits.{chunks}
-use Rattle.entry_file.specs.Version.{file_of, version_meta}
+use Rattle.entry_file.proofs.EntryLaws.{file_begins}
 use Rattle.entry_file.proofs.Bodies.{part_in_front, rest_long, unfinished_front, unfinished_long}
-use Rattle.entry_metadata.specs.Metadata.{block_bytes}
 use Rattle.file_handles.proofs.ElementEntries.{body_len_is}
 use Rattle.file_handles.specs.Held.{IsEntryOf, body_len_in, rest_in}
 use Rattle.file_handles.specs.HeldChunks.{chunks_on_disk}
@@ -80,24 +77,23 @@ held_part (entry.Draft d) o is from len within past =
 held_part (entry.Finished meta) o is from len within past = absurd (omega (arith, within, past))
 
 -- and else it is in a chunk on the disk, which is that of the body
-pub stored_chunk : (e : Entry) (o : MachineObject) → IsEntryOf e o → (from : ℕ) → from < stored_of e o
-    → chunk (take (stored_of e o) (object_file o)) (from / 262144) ≡ chunk o.version.body (from / 262144)
-unfolding file_of
-stored_chunk (entry.Draft d) o is from before =
+pub stored_chunk : (e : Entry) (o : MachineObject) → IsEntryOf e o → (c : List ℕ) → IsObjectFile o c → (from : ℕ) → from < stored_of e o
+    → chunk (take (stored_of e o) c) (from / 262144) ≡ chunk o.version.body (from / 262144)
+stored_chunk (entry.Draft d) o is c file_is from before =
     let body : List ℕ = o.version.body in
     let long = rest_long (held d.body) body is.1.body in
     let whole : stored_of (entry.Draft d) o ≡ whole_len body = omega (arith, long) in
     let front : List ℕ = take (whole_len body) body in
     let front_long = length-take-le (whole_len body) body (omega arith) in
-    let file : take (stored_of (entry.Draft d) o) (object_file o) ≡ front =
-    (λ i. take (whole i) (unfinished_file_is o is.0 i)) ∙ unfinished_front body in
+    let file : take (stored_of (entry.Draft d) o) c ≡ front =
+    (λ i. take (whole i) (file_is.unfinished is.0 i)) ∙ unfinished_front body in
     ap (λ c. chunk c (from / 262144)) file
     ∙ sym (part_in_front 262144 (from / 262144 * 262144) front (drop (whole_len body) body) (omega (arith, before, whole, front_long)))
     ∙ ap (λ c. chunk c (from / 262144)) (take-append-drop (whole_len body) body)
-stored_chunk (entry.Finished meta) o is from before =
+stored_chunk (entry.Finished meta) o is c file_is from before =
     let body : List ℕ = o.version.body in
-    ap (λ c. chunk c (from / 262144))
-    (ap (take (stored_of (entry.Finished meta) o)) (finished_file_is o is.0) ∙ take_at body _ (stored_of (entry.Finished meta) o) (omega arith))
+    let all : stored_of (entry.Finished meta) o ≡ length body = omega arith in
+    ap (λ d. chunk d (from / 262144)) (ap (λ n. take n c) all ∙ (file_begins o.version c (file_is.finished is.0)).1)
 
 pub stored_on_disk : (e : Entry) (o : MachineObject) → IsEntryOf e o → (from : ℕ) → from < stored_of e o → from / 262144 < chunks_on_disk o
 stored_on_disk (entry.Draft d) o is from before =
@@ -112,18 +108,16 @@ stored_on_disk (entry.Finished meta) o is from before =
 pub chunk_part : (body : List ℕ) (from len : ℕ) → take len (drop (from % 262144) (chunk body (from / 262144))) ≡ part_of_body body from len
 chunk_part body from len = in_piece 262144 len from (from / 262144 * 262144) (from % 262144) (omega arith) body (omega arith)
 
-pub stored_long : (e : Entry) (o : MachineObject) → IsEntryOf e o → stored_of e o ≤ length (object_file o)
-unfolding file_of
-stored_long (entry.Draft d) o is =
+pub stored_long : (e : Entry) (o : MachineObject) → IsEntryOf e o → (c : List ℕ) → IsObjectFile o c → stored_of e o ≤ length c
+stored_long (entry.Draft d) o is c file_is =
     let body : List ℕ = o.version.body in
     let long = rest_long (held d.body) body is.1.body in
-    let file = ap length (unfinished_file_is o is.0) in
+    let file = ap length (file_is.unfinished is.0) in
     let front = unfinished_long body in
     omega (arith, long, file, front)
-stored_long (entry.Finished meta) o is =
-    let file = ap length (finished_file_is o is.0) in
-    let all = length-append o.version.body (block_bytes (version_meta o.version) ++ be32 (length o.version.body)) in
-    omega (arith, file, all)
+stored_long (entry.Finished meta) o is c file_is =
+    let long = (file_begins o.version c (file_is.finished is.0)).0 in
+    omega (arith, long)
 
 -- what of the body is on the disk, by what is held
 pub stored_is : (e : Entry) (o : MachineObject) → IsEntryOf e o → stored_in e ≡ stored_of e o

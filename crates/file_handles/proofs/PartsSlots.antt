@@ -1,5 +1,5 @@
 -- Whose body a slot reads.
-use Rattle.std.proofs.Common.{◌≡◌, ◌∙◌, ℕ, ◌<◌, length, cond, Some, None, Result, Ok, Err, IfErr, IsErrAnd, sym, ap, subst, OnOk}
+use Rattle.std.proofs.Common.{◌≡◌, ◌≢◌, ◌∙◌, ℕ, ◌<◌, length, cond, Some, None, Result, Ok, Err, IfErr, IsErrAnd, sym, ap, subst, OnOk}
 use Rattle.std.specs.Prelude.{IfOk, is_some, option_map}
 use Rattle.cache_base.specs.declared.limits.TheConstants.{SLOTS}
 use Rattle.cache_theory.specs.Checks.{checks}
@@ -7,7 +7,7 @@ use Rattle.cache_theory.specs.Command.Command.{ReadPart}
 use Rattle.cache_theory.specs.Machine.{Machine, object, object_of}
 use Rattle.cache_theory.specs.declared.refusal.Refusal.{Refusal}
 use Rattle.cache_theory.specs.declared.refusal.Refusal.TheVariants.{NoSlot}
-use Rattle.file_handles.specs.Answers.{OnRefused}
+use Rattle.file_handles.specs.Answers.{OnRead, OnRefused}
 use Rattle.file_handles.specs.Held.{body_len_in}
 use Rattle.file_handles.specs.Kept.{Kept, object_at, use_at, used}
 use Rattle.file_handles.specs.Refuses.{Passes, Refuses}
@@ -60,6 +60,20 @@ pub error_says : {T : Type 0} (r : Result T HandleFault) (e : HandleFault) (Q : 
 error_says {T = T} (Ok x) e Q P is refuses = absurd (cc)
 error_says {T = T} (Err d) e Q P is refuses =
     (tt, λ f same. refuses f (let both : ◌≡◌ {A = Result T HandleFault} (Err d) (Err e) = is in let one : d ≡ e = cc in sym one ∙ same))
+
+-- an error that is no failed look, and one that is no failed change
+pub error_reads : {T : Type 0} (r : Result T HandleFault) (e : HandleFault) (P : Type 0) → r ≡ Err e → (e ≡ fault.Read → P) → OnRead r P
+error_reads {T = T} r e P is reads = subst (λ (a : Result T HandleFault). OnRead a P) (sym is) reads
+
+pub error_changes : {T : Type 0} (r : Result T HandleFault) (e : HandleFault) → r ≡ Err e → e ≢ fault.Disk → r ≢ Err fault.Disk
+error_changes {T = T} r e is other failed = other (let both : ◌≡◌ {A = Result T HandleFault} (Err e) (Err fault.Disk) = sym is ∙ failed in cc)
+
+pub error_unread : {T : Type 0} (r : Result T HandleFault) (e : HandleFault) → r ≡ Err e → e ≢ fault.Read → r ≢ Err fault.Read
+error_unread {T = T} r e is other failed = other (let both : ◌≡◌ {A = Result T HandleFault} (Err e) (Err fault.Read) = sym is ∙ failed in cc)
+
+-- an answer is not both
+pub never_both : {T E : Type 0} (r : Result T E) (x : T) (e : E) → r ≡ Ok x → r ≡ Err e → ⊥
+never_both {T = T} {E = E} r x e good bad = let never : ◌≡◌ {A = Result T E} (Ok x) (Err e) = sym good ∙ bad in cc
 
 -- nothing that is said of an answer is said of an error
 pub on_err : {T E : Type 0} (P : Type 0) (r : Result T E) (e : E) → r ≡ Err e → OnOk r P

@@ -1,9 +1,10 @@
 -- Where the file of an object stands.
-use Rattle.std.proofs.Common.{◌≡◌, ℕ, List, Option, Some, None, is_some, false, refl, sym, ap, ◌∙◌}
+use Rattle.std.proofs.Common.{◌≡◌, ℕ, List, Option, Some, None, is_some, true, false, refl, sym, ap, subst, ◌∙◌}
 use Rattle.cache_theory.specs.Ever.{entry_place}
 use Rattle.cache_theory.specs.Machine.{Machine, object}
-use Rattle.cache_theory.specs.Stands.{IsHeldDoomed, object_file}
+use Rattle.cache_theory.specs.Stands.{HasObjectFile, IsHeldAside, is_aside}
 use Rattle.cache_theory.proofs.EntryFiles.{entry_used}
+use Rattle.cache_theory.proofs.HeldAside.{published_is}
 use Rattle.cache_theory.proofs.Objects.{object_at as machine_object_at}
 use Rattle.cache_theory.proofs.Users.{undoomed_user}
 use Rattle.disk_model.specs.State.{State, standing}
@@ -21,31 +22,39 @@ module _ (s : State) (k : Kept) (m : Machine) (number : ℕ → ℕ) (stands : S
   is_object = stands.handles.objects p x at
 
   -- an undoomed object is the machine's under the name
-  pub undoomed_is : x.doomed ≡ None → (object m (number p)).doomed ≡ false
-  undoomed_is none = sym is_object.as_held.doomed ∙ ap is_some none
+  pub undoomed_is : x.doomed ≡ false → (object m (number p)).doomed ≡ false
+  undoomed_is undoomed = sym is_object.as_held.doomed ∙ undoomed
 
-  pub undoomed_place : x.doomed ≡ None → object_place x ≡ entry_place (file_name (object m (number p)).version.key)
-  undoomed_place none = ap (place_of x.name) none ∙ ap entry_place is_object.as_held.named
+  -- one that does not stand aside is finished, undoomed and under its name
+  pub not_aside : x.aside ≡ None → is_aside (object m (number p)) ≡ false
+  not_aside none = sym is_object.as_held.aside ∙ ap is_some none
 
-  -- a doomed one has its number
-  pub doomed_at : (d : ℕ) → x.doomed ≡ Some d → IsAt k number d (number p)
-  doomed_at d e = record { place = p; object = x; at_place = at; is_doomed = e; numbered = refl }
+  pub published_there : x.aside ≡ None → ((object m (number p)).finished ≡ true) × ((object m (number p)).doomed ≡ false)
+  published_there none = published_is (object m (number p)) (not_aside none)
 
-  pub doomed_is : (d : ℕ) → x.doomed ≡ Some d → IsHeldDoomed m (number p)
-  doomed_is d e = record { slots = is_object.in_use.slots; doomed = sym is_object.as_held.doomed ∙ ap is_some e }
+  pub published_place : x.aside ≡ None → object_place x ≡ entry_place (file_name (object m (number p)).version.key)
+  published_place none = ap (place_of x.name) none ∙ ap entry_place is_object.as_held.named
+
+  -- one that stands aside has its number
+  pub aside_at : (d : ℕ) → x.aside ≡ Some d → IsAt k number d (number p)
+  aside_at d e = record { place = p; object = x; at_place = at; set_aside = e; numbered = refl }
+
+  pub aside_is : (d : ℕ) → x.aside ≡ Some d → IsHeldAside m (number p)
+  aside_is d e = record { slots = is_object.in_use.slots; aside = sym is_object.as_held.aside ∙ ap is_some e }
 
   -- its file stands there
-  pub file_stands : standing s (object_place x) ≡ Some (object_file (object m (number p)))
-  file_stands = go x.doomed refl
+  pub file_stands : HasObjectFile (object m (number p)) (standing s (object_place x))
+  file_stands = go x.aside refl
     where
-      go : (d : Option ℕ) → x.doomed ≡ d → standing s (object_place x) ≡ Some (object_file (object m (number p)))
+      go : (d : Option ℕ) → x.aside ≡ d → HasObjectFile (object m (number p)) (standing s (object_place x))
       go None none =
           let name : List ℕ = file_name (object m (number p)).version.key in
-          ap (standing s) (undoomed_place none) ∙ stands.entries name
-          ∙ entry_used m name (number p) stands.proper (undoomed_user m stands.proper (number p) is_object.in_use (undoomed_is none))
+          subst (HasObjectFile (object m (number p))) (sym (ap (standing s) (published_place none) ∙ stands.entries name))
+          (entry_used m name (number p) stands.proper (undoomed_user m stands.proper (number p) is_object.in_use (published_there none).1) (published_there none).0)
       go (Some d) e =
-          let held = stands.doomed.held (number p) (doomed_is d e) in
-          ap (λ n. standing s (place_of x.name n)) e ∙ ap (λ n. standing s (Doomed n)) (stands.doomed.one_number d held.0 (number p) (doomed_at d e) held.1.0) ∙ held.1.1
+          let held = stands.aside.held (number p) (aside_is d e) in
+          subst (HasObjectFile (object m (number p)))
+          (sym (ap (λ n. standing s (place_of x.name n)) e ∙ ap (λ n. standing s (Doomed n)) (stands.aside.one_number d held.0 (number p) (aside_at d e) held.1.0))) held.1.1
 
   -- so it is the machine's object, with its file
   pub is_filed : IsFiledAs x (object m (number p)) s

@@ -1,15 +1,18 @@
 -- An object that is taken out of the table, changed, and put back.
-use Rattle.std.proofs.Common.{◌≡◌, ℕ, Option, Some, None, Result, Ok, Err, sym, ap, subst, ◌∙◌, set-set}
+use Rattle.std.proofs.Common.{◌≡◌, ◌⊎◌, ℕ, Option, Some, None, Result, Ok, Err, sym, ap, subst, ◌∙◌, set-set}
 use Rattle.std.specs.Prelude.{IsOkAnd, OnOk}
 use Rattle.std.specs.Result.{IsErr}
 use Rattle.std.proofs.lemmas.Result.{IfOk-from_err}
 use Rattle.cache_theory.specs.Machine.{Object as MachineObject}
-use Rattle.disk_model.specs.State.{State}
+use Rattle.cache_theory.specs.Stands.{object_file}
+use Rattle.disk_model.specs.Sound.{IsSound}
+use Rattle.disk_model.specs.State.{State, standing}
 use Rattle.disk_model.specs.Writes.{WritesAt}
 use Rattle.file_handles.specs.Cache.{cache_at}
-use Rattle.file_handles.specs.Changes.{Becomes, ChangesAt, IsFiledAs, IsMomentOf}
+use Rattle.file_handles.specs.Changes.{Becomes, ChangesAt, IsFiledAs, IsMomentOf, completed}
 use Rattle.file_handles.specs.Held.{object_place}
 use Rattle.file_handles.specs.Kept.{Kept, object_at, with_object}
+use Rattle.file_handles.specs.Publishing.{BecomesWhole, CompletesAt, IsAmidPublishing, published_by}
 use Rattle.file_handles.specs.declared.fault.HandleFault.{HandleFault}
 use Rattle.file_handles.specs.declared.fault.HandleFault.TheVariants as fault
 use Rattle.file_handles.specs.declared.object.Object.{Object}
@@ -37,6 +40,29 @@ module _ {T : Type 0} (p : ℕ) (change : MachineObject → MachineObject) (answ
   changes_done y becomes put z also = subst (ChangesAt p change answer (cache_at before s) (cache_at after t)) (one_object before p x z at also) (record {
     changed = Ok y;
     changes = record { writes = writes; becomes = becomes };
+    put_back = on_ok answer;
+  })
+    where
+      on_ok : (r : Result T HandleFault) → OnOk r (IsOkAnd {E = HandleFault} (Ok y) (λ y. after ≡ with_object before p (Some y)))
+      on_ok (Ok v) = put
+      on_ok (Err e) = tt
+
+-- The same of a call that finishes it.
+module _ {T : Type 0} (p : ℕ) (answer : Result T HandleFault) (s t u : State) (before after : Kept) (x : Object) (at : object_at before p ≡ Some x)
+    (writes : (o : MachineObject) → IsFiledAs x o s → WritesAt (object_place x) (IsMomentOf (completed o)) s u) (sound : IsSound u)
+    (amid : (t ≡ u) ⊎ (IsAmidPublishing x.name x.doomed x.aside u t × ((o : MachineObject) → IsFiledAs x o s → standing u (object_place x) ≡ Some (object_file (completed o))))) where
+  pub completes_failed : IsErr answer → (z : Object) → object_at before p ≡ Some z → CompletesAt p answer (cache_at before s) (cache_at after t) z
+  completes_failed failed z also = subst (CompletesAt p answer (cache_at before s) (cache_at after t)) (one_object before p x z at also) (record {
+    changed = Err fault.Memory;
+    completes = record { written = u; writes = writes; sound = sound; amid = amid; becomes = tt };
+    put_back = IfOk-from_err answer (λ v. IsOkAnd {E = HandleFault} (Err fault.Memory) (λ y. after ≡ with_object before p (Some y))) failed;
+  })
+
+  pub completes_done : (y : Object) → t ≡ published_by x.name x.doomed x.aside u → ((o : MachineObject) → IsFiledAs x o s → BecomesWhole x y o u) → after ≡ with_object before p (Some y) → (z : Object) → object_at before p ≡ Some z
+      → CompletesAt p answer (cache_at before s) (cache_at after t) z
+  completes_done y is becomes put z also = subst (CompletesAt p answer (cache_at before s) (cache_at after t)) (one_object before p x z at also) (record {
+    changed = Ok y;
+    completes = record { written = u; writes = writes; sound = sound; amid = amid; becomes = (is, becomes) };
     put_back = on_ok answer;
   })
     where

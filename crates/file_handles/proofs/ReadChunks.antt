@@ -4,13 +4,14 @@ use Rattle.std.specs.List.{All}
 use Rattle.std.specs.Prelude.{option_and_then}
 use Rattle.cache_base.specs.declared.limits.TheConstants.{SLOTS}
 use Rattle.cache_theory.specs.Machine.{Machine, Object as MachineObject, object as object_of_number, object_of}
-use Rattle.cache_theory.specs.Stands.{object_file}
+use Rattle.cache_theory.proofs.Reading.{some_of}
 use Rattle.chunk_cache.specs.Cached.{CachedChunk, StandsFirst, bytes_of, cached, looked_at}
 use Rattle.chunk_cache.proofs.Lookups.{look_leaves}
 use Rattle.chunk_cache.proofs.Properties.{All-bytes_of, All-looked_at}
 use Rattle.chunk_store.specs.Chunks.{chunk}
 use Rattle.disk_model.specs.State.{State, standing}
 use Rattle.file_handles.specs.Changes.{IsFiledAs}
+use Rattle.file_handles.specs.Held.{object_place}
 use Rattle.file_handles.specs.HeldChunks.{ChunksStand, HasChunk, IsChunkInUse}
 use Rattle.file_handles.specs.Kept.{Kept, object_at, object_in, use_at}
 use Rattle.file_handles.specs.Reading.{HasChunkOf, IsOfChunk, IsPartHeld, IsStoredChunk, LosesNone, SameButChunks, part_of_body, rest_part}
@@ -34,14 +35,15 @@ read_has_chunk x o s filed from len c is bytes read =
     let entry = filed.as_held.held_entry in
     let same : c.stored ≡ stored_of x.entry o = is.of_body ∙ stored_is x.entry o entry in
     let before : from < stored_of x.entry o = (let lt = is.of_chunk.stored in let e = stored_is x.entry o entry in omega (arith, lt, e)) in
-    let stands : standing s c.file ≡ Some (object_file o) = ap (standing s) is.of_file ∙ filed.file in
-    let long = stored_long x.entry o entry in
+    let there = some_of (standing s (object_place x)) filed.file in
+    let stands : standing s c.file ≡ Some there.0 = ap (standing s) is.of_file ∙ there.1.0 in
+    let long = stored_long x.entry o entry there.0 there.1.1 in
     record {
       on_disk = (let lt = stored_on_disk x.entry o entry from before in let e = is.of_chunk.index_is in omega (arith, lt, e));
       bytes_are =
           subst (IsReadFrom c bytes) stands read (omega (arith, same, long))
-          ∙ (λ i. chunk (take (same i) (object_file o)) (is.of_chunk.index_is i))
-          ∙ stored_chunk x.entry o entry from before
+          ∙ (λ i. chunk (take (same i) there.0) (is.of_chunk.index_is i))
+          ∙ stored_chunk x.entry o entry there.0 there.1.1 from before
           ∙ ap (chunk o.version.body) (sym is.of_chunk.index_is);
     }
 

@@ -15,10 +15,10 @@ use Rattle.file_handles.proofs.ReadChunks.{with_list}
 
 module _ (s : State) (k : Kept) (chunks : List CachedChunk) (m : Machine) (number : ℕ → ℕ) where
   at_on : (d i : ℕ) → IsAt k number d i → IsAt (with_list k chunks) number d i
-  at_on d i a = record { place = a.place; object = a.object; at_place = a.at_place; is_doomed = a.is_doomed; numbered = a.numbered }
+  at_on d i a = record { place = a.place; object = a.object; at_place = a.at_place; set_aside = a.set_aside; numbered = a.numbered }
 
   at_off : (d i : ℕ) → IsAt (with_list k chunks) number d i → IsAt k number d i
-  at_off d i a = record { place = a.place; object = a.object; at_place = a.at_place; is_doomed = a.is_doomed; numbered = a.numbered }
+  at_off d i a = record { place = a.place; object = a.object; at_place = a.at_place; set_aside = a.set_aside; numbered = a.numbered }
 
   stands_with : ChunksStand (with_list k chunks) m number → Stands (standing s) k m number → Stands (standing s) (with_list k chunks) m number
   stands_with held is = record {
@@ -31,11 +31,11 @@ module _ (s : State) (k : Kept) (chunks : List CachedChunk) (m : Machine) (numbe
       chunks = held;
     };
     entries = is.entries;
-    doomed = record {
-      held = λ i h. let old = is.doomed.held i h in (old.0, (at_on old.0 i old.1.0, old.1.1));
-      only = λ d some. let old = is.doomed.only d some in (old.0, (at_on d old.0 old.1.0, old.1.1));
-      one_object = λ d i j a b. is.doomed.one_object d i j (at_off d i a) (at_off d j b);
-      one_number = λ d e i a b. is.doomed.one_number d e i (at_off d i a) (at_off e i b);
+    aside = record {
+      held = λ i h. let old = is.aside.held i h in (old.0, (at_on old.0 i old.1.0, old.1.1));
+      only = λ d some. let old = is.aside.only d some in (old.0, (at_on d old.0 old.1.0, old.1.1));
+      one_object = λ d i j a b. is.aside.one_object d i j (at_off d i a) (at_off d j b);
+      one_number = λ d e i a b. is.aside.one_number d e i (at_off d i a) (at_off e i b);
     };
   }
 
@@ -43,7 +43,7 @@ module _ (s : State) (k : Kept) (chunks : List CachedChunk) (m : Machine) (numbe
   crash_with w is = record {
     safe = is.safe;
     once = is.once;
-    doomed = λ d i file name a held names ever. is.doomed d i file name (at_off d i a) held names ever;
+    aside = λ d i file name a held names ever. is.aside d i file name (at_off d i a) held names ever;
     unburied = is.unburied;
     young = is.young;
   }

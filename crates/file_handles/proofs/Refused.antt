@@ -1,5 +1,5 @@
 -- A command that is refused changes nothing.
-use Rattle.std.proofs.Common.{◌≡◌, inl, inr, Option, Some, None, Result, Ok, Err, IsErrAnd, sym, ap, subst}
+use Rattle.std.proofs.Common.{◌≡◌, inl, inr, [], Option, Some, None, Result, Ok, Err, IsErrAnd, sym, ap, subst}
 use Rattle.cache_base.specs.Checks.{first_failing}
 use Rattle.cache_theory.specs.Checks.{checks}
 use Rattle.cache_theory.specs.Command.{Command}
@@ -14,7 +14,7 @@ use Rattle.cache_theory.specs.declared.refusal.Refusal.{Refusal}
 use Rattle.cache_theory.proofs.EverSteps.{ever_created, ever_made}
 use Rattle.cache_theory.proofs.Kept.{kept_created}
 use Rattle.disk_model.specs.Sound.{IsSound}
-use Rattle.disk_model.specs.State.{State, created, empty_file}
+use Rattle.disk_model.specs.State.{File, State, created, empty_file}
 use Rattle.disk_model.specs.declared.place.Place.TheVariants.{Index}
 use Rattle.disk_model.proofs.Files.{with_file-below}
 use Rattle.file_handles.specs.Answers.{done_or, done_or_none, reply_in}
@@ -80,6 +80,10 @@ index_safe s w sound safe = record {
   touched = λ name is f at. elim (ever_created s Index (entry_place name) f at) [
     | inl new ↦ absurd (let same = new.0 in cc)
     | inr old ↦ subst (MayBeFiled w name) (sym (with_file-below s.made f empty_file s.files (ever_made s (entry_place name) f sound old))) (safe.touched name is f old)
+  ];
+  published = λ name is out f at. elim (ever_created s Index (entry_place name) f at) [
+    | inl new ↦ absurd (let same = new.0 in cc)
+    | inr old ↦ subst (λ (file : File). file.writes ≡ []) (sym (with_file-below s.made f empty_file s.files (ever_made s (entry_place name) f sound old))) (safe.published name is out f old)
   ];
 }
 

@@ -8,10 +8,10 @@ use Rattle.cache_theory.specs.Ever.{EverAt, IsFiledOnce, entries, entry_place}
 use Rattle.cache_theory.specs.Machine.{Machine, Object as MachineObject, Slot, is_slot, is_writer, object, object_of}
 use Rattle.cache_theory.specs.Marks.{Marks}
 use Rattle.cache_theory.specs.Proper.{IsInUse}
-use Rattle.cache_theory.specs.Stands.{DoomedStand, IsHeldDoomed, object_file}
+use Rattle.cache_theory.specs.Stands.{AsideStand, HasObjectFile, IsHeldAside}
 use Rattle.cache_theory.specs.Step.{released, with_slot}
 use Rattle.cache_theory.proofs.EntryFiles.{entry_released}
-use Rattle.cache_theory.proofs.HeldDoomed.{held_before_released, held_kept}
+use Rattle.cache_theory.proofs.HeldAside.{held_before_released, held_kept}
 use Rattle.cache_theory.proofs.Objects.{nth}
 use Rattle.cache_theory.proofs.Releasing.{proper_released}
 use Rattle.cache_theory.proofs.Slots.{HasSlot}
@@ -43,11 +43,11 @@ pub record LeavesFor (m : Machine) (number : ℕ → ℕ) (k : Kept) (slots : �
   -- and each chunk that is held is of one of these objects
   pub same_made : after.made ≡ k.made
   pub chunks : All (IsChunkInUse k m) k.chunks → All (IsChunkInUse after m) after.chunks
-  -- the files of the entries, and those of the doomed objects that keep a slot, are as before, and no other doomed file stands
+  -- the files of the entries, and those that stand aside of objects that keep a slot, are as before, and no other file stands aside
   pub same_entries : (name : List ℕ) → entries (standing now) name ≡ entries (standing before) name
   pub same_doomed : (d i : ℕ) → IsAt k number d i → HasSlot slots i → standing now (Doomed d) ≡ standing before (Doomed d)
   pub was_doomed : (d : ℕ) → standing now (Doomed d) ≢ None → standing before (Doomed d) ≢ None
-  pub held : (d i : ℕ) → IsAt k number d i → IsHeldDoomed m i → standing now (Doomed d) ≢ None → HasSlot slots i
+  pub held : (d i : ℕ) → IsAt k number d i → IsHeldAside m i → standing now (Doomed d) ≢ None → HasSlot slots i
   -- and no name was given
   pub safe : (w : Marks) → IsSafe before w → IsSafe now w
   pub once : IsFiledOnce before → IsFiledOnce now
@@ -101,38 +101,44 @@ module _
   }
 
   was_at : (d i : ℕ) → IsAt (left_with k slot objects chunks) is.number d i → IsAt k is.number d i
-  was_at d i a = record { place = a.place; object = a.object; at_place = leaves.was a.place a.object a.at_place; is_doomed = a.is_doomed; numbered = a.numbered }
+  was_at d i a = record { place = a.place; object = a.object; at_place = leaves.was a.place a.object a.at_place; set_aside = a.set_aside; numbered = a.numbered }
 
   still_at : (d i : ℕ) → HasSlot (with_slot slot None m.slots) i → IsAt k is.number d i → IsAt (left_with k slot objects chunks) is.number d i
   still_at d i has a = record {
     place = a.place;
     object = a.object;
     at_place = leaves.stays a.place a.object a.at_place (subst (HasSlot (with_slot slot None m.slots)) (sym a.numbered) has);
-    is_doomed = a.is_doomed;
+    set_aside = a.set_aside;
     numbered = a.numbered;
   }
 
-  doomed_stand : DoomedStand (standing t) (released m slot) (IsAt (left_with k slot objects chunks) is.number)
-  doomed_stand = record {
+  aside_stand : AsideStand (standing t) (released m slot) (IsAt (left_with k slot objects chunks) is.number)
+  aside_stand = record {
     held = λ i h.
         let before = held_before_released m slot i h in
-        let old = is.stands.doomed.held i before.0 in
-        (old.0, (still_at old.0 i before.1 old.1.0, leaves.same_doomed old.0 i old.1.0 before.1 ∙ old.1.1 ∙ ap (λ o. Some (object_file o)) (sym (same_object i))));
+        let old = is.stands.aside.held i before.0 in (
+          old.0,
+          (
+            still_at old.0 i before.1 old.1.0,
+            subst (HasObjectFile (object (released m slot) i)) (sym (leaves.same_doomed old.0 i old.1.0 before.1))
+                (subst (λ o. HasObjectFile o (standing s (Doomed old.0))) (sym (same_object i)) old.1.1),
+          ),
+        );
     only = λ d some.
-        let old = is.stands.doomed.only d (leaves.was_doomed d some) in
+        let old = is.stands.aside.only d (leaves.was_doomed d some) in
         let has = leaves.held d old.0 old.1.0 old.1.1 some in
         (old.0, (still_at d old.0 has old.1.0, held_kept m slot old.0 has old.1.1));
-    one_object = λ d i j a b. is.stands.doomed.one_object d i j (was_at d i a) (was_at d j b);
-    one_number = λ d e i a b. is.stands.doomed.one_number d e i (was_at d i a) (was_at e i b);
+    one_object = λ d i j a b. is.stands.aside.one_object d i j (was_at d i a) (was_at d j b);
+    one_number = λ d e i a b. is.stands.aside.one_number d e i (was_at d i a) (was_at e i b);
   }
 
   crash_kept : IsTrue b → IsCrashKept t (released m slot) w (IsAt (left_with k slot objects chunks) is.number)
   crash_kept on = record {
     safe = leaves.safe w (is.crash_kept on).safe;
     once = leaves.once (is.crash_kept on).once;
-    doomed = λ d i file name a held now ever.
+    aside = λ d i file name a held now ever.
         subst (λ o. WasUnder w i o name) (sym (same_object i))
-        ((is.crash_kept on).doomed d i file name (was_at d i a) (held_before_released m slot i held).0 (leaves.named d file now) (leaves.ever name file ever));
+        ((is.crash_kept on).aside d i file name (was_at d i a) (held_before_released m slot i held).0 (leaves.named d file now) (leaves.ever name file ever));
     unburied = λ i o at un. (is.crash_kept on).unburied i o (ap (λ (objects : List MachineObject). slice_get objects i) (sym (released_objects m slot)) ∙ at) un;
     young = let same = ap (λ (objects : List MachineObject). length objects) (released_objects m slot) in let young = (is.crash_kept on).young in omega (arith, same, young);
   }
@@ -143,8 +149,8 @@ module _
     stands = record {
       proper = proper_released m slot is.stands.proper has_slot reads;
       handles = handles;
-      entries = λ name. leaves.same_entries name ∙ is.stands.entries name ∙ sym (entry_released m slot is.stands.proper has_slot reads name);
-      doomed = doomed_stand;
+      entries = λ name. leaves.same_entries name ∙ is.stands.entries name ∙ sym (entry_released m slot name);
+      aside = aside_stand;
     };
     crash_kept = crash_kept;
   }

@@ -9,7 +9,7 @@ use Rattle.cache_theory.specs.Crash.{IsSafe}
 use Rattle.cache_theory.specs.Ever.{EverAt, IsFiledOnce, entries, entry_place}
 use Rattle.cache_theory.specs.Machine.{Machine, is_writer, object_of}
 use Rattle.cache_theory.specs.Marks.{Marks}
-use Rattle.cache_theory.specs.Stands.{IsHeldDoomed}
+use Rattle.cache_theory.specs.Stands.{IsHeldAside}
 use Rattle.cache_theory.specs.Step.{released, with_slot}
 use Rattle.cache_theory.proofs.DiskChanges.{remove_keeps}
 use Rattle.cache_theory.proofs.EverSteps.{ever_removed}
@@ -34,11 +34,11 @@ use Rattle.file_handles.specs.declared.object.Use.{Use}
 use Rattle.file_handles.proofs.HeldChunkLaws.{all_on, chunk_on, keeps_own}
 use Rattle.file_handles.proofs.Histories.{history_of}
 use Rattle.file_handles.proofs.KeptLaws.{object_set_here, object_set_other, place_within}
-use Rattle.file_handles.proofs.Places.{doomed_at}
+use Rattle.file_handles.proofs.Places.{aside_at}
 use Rattle.file_handles.proofs.Released.{no_other, other_left, other_use, use_placed}
 use Rattle.file_handles.proofs.ReleasedFiles.{LeavesFor, left_in}
 
--- the doomed file of this number is removed
+-- the file of this number among the doomed is removed
 pub safe_without : (s : State) (w : Marks) (d : ℕ) → IsSafe s w → IsSafe (removed (Doomed d) s) w
 safe_without s w d safe = remove_keeps s w (Doomed d) (λ name same. absurd (cc)) safe
 
@@ -48,8 +48,8 @@ safe_let_go s w (Some d) safe = safe_without s w d safe
 
 -- and the same after a call that may have failed
 pub safe_may_go : {T : Type 0} (r : Result T DiskFault) (s t : State) (w : Marks) (x : Object) → t ≡ if_done r (let_go_by x s) s → IsSafe s w → IsSafe t w
-safe_may_go (Ok value) s t w x is safe = subst (λ (u : State). IsSafe u w) (sym is) (safe_let_go s w x.doomed safe)
-safe_may_go (Err Failed) s t w x is safe = subst (λ (u : State). IsSafe u w) (sym is) (safe_let_go s w x.doomed safe)
+safe_may_go (Ok value) s t w x is safe = subst (λ (u : State). IsSafe u w) (sym is) (safe_let_go s w x.aside safe)
+safe_may_go (Err Failed) s t w x is safe = subst (λ (u : State). IsSafe u w) (sym is) (safe_let_go s w x.aside safe)
 safe_may_go (Err Memory) s t w x is safe = subst (λ (u : State). IsSafe u w) (sym is) safe
 
 other_doomed : (d e : ℕ) → d ≢ e → Doomed d ≢ Doomed e
@@ -109,17 +109,17 @@ module _
     other : (i : ℕ) → i ≢ is.number u.place → HasSlot m.slots i → HasSlot (with_slot slot None m.slots) i
     other i apart has = other_left m is.number k stand slot u at_slot room i apart has
 
-    -- the number of its file, if it is doomed
-    own_number : (d : ℕ) → IsAt k is.number d (is.number u.place) → x.doomed ≡ Some d
+    -- the number of its file, if that stands aside
+    own_number : (d : ℕ) → IsAt k is.number d (is.number u.place) → x.aside ≡ Some d
     own_number d a =
         let same : a.place ≡ u.place = stand.apart a.place u.place a.object x a.at_place at a.numbered in
         let both : Some a.object ≡ Some x = sym a.at_place ∙ ap (object_at k) same ∙ at in
         let one : a.object ≡ x = cc in
-        sym (ap (λ (y : Object). y.doomed) one) ∙ a.is_doomed
+        sym (ap (λ (y : Object). y.aside) one) ∙ a.set_aside
 
-    other_number : (d n i : ℕ) → x.doomed ≡ Some n → IsAt k is.number d i → HasSlot (with_slot slot None m.slots) i → Doomed d ≢ Doomed n
+    other_number : (d n i : ℕ) → x.aside ≡ Some n → IsAt k is.number d i → HasSlot (with_slot slot None m.slots) i → Doomed d ≢ Doomed n
     other_number d n i e a has = other_doomed d n (λ same. gone (subst (HasSlot (with_slot slot None m.slots))
-        (is.stands.doomed.one_object d i (is.number u.place) a (doomed_at s k m is.number is.stands u.place x at d (e ∙ ap Some (sym same)))) has))
+        (is.stands.aside.one_object d i (is.number u.place) a (aside_at s k m is.number is.stands u.place x at d (e ∙ ap Some (sym same)))) has))
 
     abbrev left : Kept
     left = without_chunks (with_object (with_use k slot None) u.place None) x.number
@@ -140,7 +140,7 @@ module _
         (λ c in_left. let was = forget_adds_none x.number k.chunks c in_left in chunk_left c was.0 (All-contains (IsChunkInUse k m) k.chunks c held was.1))
         left.chunks (All-contains_itself left.chunks)
 
-    leaves : (n : Option ℕ) → x.doomed ≡ n → LeavesFor m is.number k (with_slot slot None m.slots) left s (without_doomed n s)
+    leaves : (n : Option ℕ) → x.aside ≡ n → LeavesFor m is.number k (with_slot slot None m.slots) left s (without_doomed n s)
     leaves n e = record {
       was = λ q y at_q. (was q y at_q).1;
       stays = λ q y at_q has. object_set_other k u.place q None (λ same. gone (subst (λ p. HasSlot (with_slot slot None m.slots) (is.number p)) same has)) ∙ at_q;
@@ -163,7 +163,7 @@ module _
         entries_same None name = refl
         entries_same (Some d) name = (removed_puts (Doomed d) s).others (entry_place name) (λ same. cc)
 
-        doomed_same : (n : Option ℕ) → x.doomed ≡ n → (d i : ℕ) → IsAt k is.number d i → HasSlot (with_slot slot None m.slots) i → standing (without_doomed n s) (Doomed d) ≡ standing s (Doomed d)
+        doomed_same : (n : Option ℕ) → x.aside ≡ n → (d i : ℕ) → IsAt k is.number d i → HasSlot (with_slot slot None m.slots) i → standing (without_doomed n s) (Doomed d) ≡ standing s (Doomed d)
         doomed_same None e d i a has = refl
         doomed_same (Some c) e d i a has = (removed_puts (Doomed c) s).others (Doomed d) (other_number d c i e a has)
 
@@ -174,7 +174,7 @@ module _
           | inr apart ↦ some ((removed_puts (Doomed c) s).others (Doomed d) (other_doomed d c apart) ∙ none)
         ]
 
-        held : (n : Option ℕ) → x.doomed ≡ n → (d i : ℕ) → IsAt k is.number d i → IsHeldDoomed m i → standing (without_doomed n s) (Doomed d) ≢ None → HasSlot (with_slot slot None m.slots) i
+        held : (n : Option ℕ) → x.aside ≡ n → (d i : ℕ) → IsAt k is.number d i → IsHeldAside m i → standing (without_doomed n s) (Doomed d) ≢ None → HasSlot (with_slot slot None m.slots) i
         held n e d i a h some = elim (cases_eq i (is.number u.place)) [
           | inl same ↦
               let own : n ≡ Some d = sym e ∙ own_number d (subst (IsAt k is.number d) same a) in
@@ -198,7 +198,7 @@ module _
         ever (Some d) name file at_e = ever_removed s (Doomed d) (entry_place name) file at_e
 
     pub last_in : KeepsWhere b (cache_at left (let_go_by x s)) (history_of (released m slot) w)
-    last_in = left_in s (let_go_by x s) k m w is slot u at_slot small room reads (slice_set k.objects u.place None) (without_entry x.number k.chunks) (leaves x.doomed refl)
+    last_in = left_in s (let_go_by x s) k m w is slot u at_slot small room reads (slice_set k.objects u.place None) (without_entry x.number k.chunks) (leaves x.aside refl)
 
 -- The same by the place of the slot's use.
 module _

@@ -17,6 +17,7 @@ use Rattle.file_handles.specs.Kept.{Kept, use_at, used as used_or}
 use Rattle.file_handles.specs.Refuses.{Passes, Refuses}
 use Rattle.file_handles.specs.declared.object.Use.{Use}
 use Rattle.file_handles.proofs.Carried.{MakesChangeAt}
+use Rattle.file_handles.proofs.Changed.{MayGoOut}
 use Rattle.file_handles.proofs.ElementChecks.{fails, holds}
 use Rattle.file_handles.proofs.ElementCommands.{IsFinished}
 use Rattle.file_handles.proofs.ElementMarks.{goes_out}
@@ -36,7 +37,7 @@ module _ (k : Kept) (s : ℕ) (small : s < SLOTS) where
 
 -- what it does at a moment
 pub use_makes : (now : ℕ) → now < 2 ^ 32 → (k : Kept) (slot : ℕ) → Passes k (UseEntry slot)
-    → MakesChangeAt (λ m. m.moment ≡ now) k (UseEntry slot) slot (with_version (used now)) IsFinished
+    → MakesChangeAt (λ m. m.moment ≡ now) MayGoOut k (UseEntry slot) slot (with_version (used now)) IsFinished
 unfolding checks effect
 use_makes now within k slot passes = record {
   passes = passes;
@@ -50,5 +51,5 @@ use_makes now within k slot passes = record {
   unfinished = λ o un. un;
   out = λ m w number stand fine done becomes.
       goes_out m (UseEntry slot) w fine (number_of m slot) (with_version (used now) (object_of m slot))
-      (ap (λ (b : Bool). if b then Some (number_of m slot) else None) done) refl becomes refl refl;
+      (ap (λ (b : Bool). if b then Some (number_of m slot) else None) done) refl refl becomes refl refl;
 }

@@ -1,7 +1,7 @@
 -- Where the undoomed object in use of a name is.
 use Rattle.std.proofs.Common.{◌≡◌, ◌≢◌, inl, inr, ℕ, ◌<◌, length, get_or, Bool, true, false, cond, Option, Some, None, IsSome, refl, sym, ap, subst, ◌∙◌, arith, ltb}
 use Rattle.std.specs.List.{position, position_or_len}
-use Rattle.std.specs.Prelude.{is_none, is_some, option_map}
+use Rattle.std.specs.Prelude.{is_some, not, option_map}
 use Rattle.std.specs.Str.{bytes_eq}
 use Rattle.std.proofs.lemmas.Bool.{and_from, and_parts, cases_Bool, ltb-false, not-true}
 use Rattle.std.proofs.lemmas.List.Sums.{fails_before_first}
@@ -28,7 +28,7 @@ pub record IsUserAt (k : Kept) (name : Name) (p : ℕ) : Type 0 where
   pub object : Object
   pub ranged : p < length k.objects
   pub at_place : object_at k p ≡ Some object
-  pub undoomed : object.doomed ≡ None
+  pub undoomed : object.doomed ≡ false
   pub named : object.name.0 ≡ name.0
 
 pub no_one : {X : Type 0} (o : Option X) → is_some o ≡ false → o ≡ None
@@ -38,8 +38,8 @@ no_one (Some x) h = cc
 pub user_at : (k : Kept) (name : Name) (p : ℕ) (x : Option Object) → p < length k.objects → object_at k p ≡ x → is_user name x ≡ true → IsUserAt k name p
 user_at k name p None lt at is = absurd (cc)
 user_at k name p (Some x) lt at is =
-    let parts = and_parts (is_none x.doomed) (bytes_eq x.name.0 name.0) is in
-    record { object = x; ranged = lt; at_place = at; undoomed = no_one x.doomed (not-true (is_some x.doomed) parts.0); named = same_bytes x.name.0 name.0 parts.1 }
+    let parts = and_parts (not x.doomed) (bytes_eq x.name.0 name.0) is in
+    record { object = x; ranged = lt; at_place = at; undoomed = not-true x.doomed parts.0; named = same_bytes x.name.0 name.0 parts.1 }
 
 -- where the search for it ends it is
 pub user_found : (k : Kept) (name : Name) (p : ℕ) → position (is_user name) k.objects ≡ Some p → IsUserAt k name p
@@ -53,7 +53,7 @@ user_is_there k name p is = subst IsSome (sym (user_found k name p is).at_place)
 passes : (k : Kept) (name : Name) (p : ℕ) → IsUserAt k name p → is_user name (get_or k.objects p None) ≡ true
 passes k name p there =
     ap (is_user name) (sym (unwrap_or-slice_get k.objects p None) ∙ there.at_place)
-    ∙ and_from (is_none there.object.doomed) (bytes_eq there.object.name.0 name.0) (ap (λ (o : Option ℕ). is_none o) there.undoomed) ((bytes_eq-Decides there.object.name.0 name.0).1 there.named)
+    ∙ and_from (not there.object.doomed) (bytes_eq there.object.name.0 name.0) (ap not there.undoomed) ((bytes_eq-Decides there.object.name.0 name.0).1 there.named)
 
 -- and it ends at one, where there is one
 pub user_somewhere : (k : Kept) (name : Name) (p : ℕ) → IsUserAt k name p → position (is_user name) k.objects ≢ None
@@ -74,7 +74,7 @@ module _ (k : Kept) (m : Machine) (number : ℕ → ℕ) (proper : IsProper m) (
       let is = stand.objects p there.object there.at_place in
       proper.only_user name.0 (number p) (record {
         in_use = is.in_use;
-        undoomed = sym is.as_held.doomed ∙ ap (λ (o : Option ℕ). is_some o) there.undoomed;
+        undoomed = sym is.as_held.doomed ∙ there.undoomed;
         named = sym is.as_held.named ∙ there.named;
       })
 
@@ -82,12 +82,11 @@ module _ (k : Kept) (m : Machine) (number : ℕ → ℕ) (proper : IsProper m) (
   at_use name i u None used same at some = absurd (cc)
   at_use name i u (Some x) used same at some =
       let is = (stand.objects u.place x at).as_held in
-      let doomed : is_some x.doomed ≡ false = is.doomed ∙ ap (λ j. (object m j).doomed) same ∙ used.undoomed in
       let there : IsUserAt k name u.place = record {
         object = x;
         ranged = place_within k u.place x at;
         at_place = at;
-        undoomed = no_one x.doomed doomed;
+        undoomed = is.doomed ∙ ap (λ j. (object m j).doomed) same ∙ used.undoomed;
         named = is.named ∙ ap (λ j. file_name (object m j).version.key) same ∙ used.named;
       } in
       (u.place, (there, same))

@@ -16,14 +16,19 @@ use Rattle.cache_theory.proofs.Versions.{object_appended, object_finished}
 use Rattle.file_handles.specs.Changes.{appended, completed}
 use Rattle.file_handles.specs.Kept.{Kept}
 use Rattle.file_handles.specs.Refuses.{Passes}
-use Rattle.file_handles.proofs.Carried.{MakesChange}
+use Rattle.file_handles.proofs.Carried.{MakesChange, MakesChangeAt}
 use Rattle.file_handles.proofs.Changed.{MayGoOut}
-use Rattle.file_handles.proofs.ElementMarks.{goes_out, named_here}
+use Rattle.file_handles.proofs.ElementMarks.{finishes_out, named_here}
+use Rattle.file_handles.proofs.Published.{MayFinish}
 
 -- an unfinished object's file gets moments that fit under no name
 append_out : (m : Machine) (w : Marks) (slot : ℕ) (bytes : List ℕ) → first_failing (checks m (Append slot bytes)) ≡ None → (object_of m slot).finished ≡ false
     → MayGoOut (begun_by None m (Append slot bytes) w) (number_of m slot) (appended bytes (object_of m slot))
-append_out m w slot bytes passes un = record { touched = named_here (object_of m slot) w.touched; since = λ done unburied. absurd (let never : true ≡ false = sym done ∙ un in cc) }
+append_out m w slot bytes passes un = record {
+  touched = named_here (object_of m slot) w.touched;
+  since = λ done unburied. absurd (let never : true ≡ false = sym done ∙ un in cc);
+  in_place = λ done unburied. absurd (let never : true ≡ false = sym done ∙ un in cc);
+}
 
 pub append_makes : (k : Kept) (slot : ℕ) (bytes : List ℕ) → AreBytes bytes → Passes k (Append slot bytes) → MakesChange k (Append slot bytes) slot (appended bytes) (λ o. Unit {0})
 unfolding checks effect
@@ -43,7 +48,7 @@ append_makes k slot bytes are passes = record {
       (append_out m w slot bytes fine (not-true (object_of m slot).finished all.1.1.0));
 }
 
-pub finish_makes : (k : Kept) (slot : ℕ) → Passes k (Finish slot) → MakesChange k (Finish slot) slot completed (λ o. Unit {0})
+pub finish_makes : (k : Kept) (slot : ℕ) → Passes k (Finish slot) → MakesChangeAt (λ m. Unit {0}) MayFinish k (Finish slot) slot completed (λ o. o.finished ≡ false)
 unfolding checks effect
 finish_makes k slot passes = record {
   passes = passes;
@@ -57,5 +62,5 @@ finish_makes k slot passes = record {
   key = λ o. refl;
   doomed = λ o. refl;
   unfinished = λ o un. absurd (cc);
-  out = λ m w number stand fine some becomes. goes_out m (Finish slot) w fine (number_of m slot) (completed (object_of m slot)) refl refl becomes refl refl;
+  out = λ m w number stand fine some becomes. finishes_out m (Finish slot) w fine (number_of m slot) (completed (object_of m slot)) refl refl becomes refl refl;
 }

@@ -2,7 +2,7 @@
 use Rattle.std.specs.Prelude.{IfOk, IsOkAnd, List, OnOk, Result, Some, false, true, ℕ, ◌++◌, ◌≡◌, ◌⊎◌}
 use Rattle.cache_theory.specs.Machine.{Object as MachineObject}
 use Rattle.cache_theory.specs.Proper.{IsObject}
-use Rattle.cache_theory.specs.Stands.{object_file}
+use Rattle.cache_theory.specs.Stands.{HasObjectFile, object_file}
 use Rattle.disk_model.specs.State.{State, standing}
 use Rattle.disk_model.specs.Writes.{WritesAt}
 use Rattle.entry_file.specs.EntryFile.{fits}
@@ -24,7 +24,7 @@ IsMomentOf o c =
 pub record IsFiledAs (x : Object) (o : MachineObject) (s : State) : Type 0 where
   pub as_held : IsHeldAs x o
   pub object : IsObject o
-  pub file : standing s (object_place x) ≡ Some (object_file o)
+  pub file : HasObjectFile o (standing s (object_place x))
 
 -- the object that x becomes is that of a change of the machine's object from `o` to `next`
 pub record Becomes (x y : Object) (o next : MachineObject) (t : State) : Type 0 where
@@ -32,7 +32,7 @@ pub record Becomes (x y : Object) (o next : MachineObject) (t : State) : Type 0 
   pub keeps_chunks : KeepsChunks o next
   pub same_place : object_place y ≡ object_place x
   pub same_name : y.name ≡ x.name
-  pub same_number : y.doomed ≡ x.doomed
+  pub same_number : y.aside ≡ x.aside
   pub as_held : IsHeldAs y next
   pub file : standing t (object_place x) ≡ Some (object_file next)
 
@@ -63,10 +63,11 @@ abbrev pub IsFiledAt : Cache → ℕ → Type 0
 IsFiledAt now p =
     (x : Object) → object_at now.handles p ≡ Some x → (o : MachineObject) × IsFiledAs x o now.disk
 
--- the changes: bytes more in the body, the entry finished, and its elements changed
+-- the changes: bytes more in the body, and the elements changed
 abbrev pub appended : List ℕ → MachineObject → MachineObject
 appended bytes o = record o { version = record (o.version) { body = o.version.body ++ bytes } }
 
+-- the entry finished
 abbrev pub completed : MachineObject → MachineObject
 completed o = record o { finished = true }
 

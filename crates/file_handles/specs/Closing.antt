@@ -1,5 +1,5 @@
 -- When a slot is given up.
-use Rattle.std.specs.Prelude.{Bool, IsSome, IsSomeAnd, List, None, OnOk, Option, Result, Some, false, if◌then◌else◌, is_none, not, option_map, unwrap_or, ℕ, ◌&&◌, ◌==◌, ◌≡◌}
+use Rattle.std.specs.Prelude.{Bool, IsSome, IsSomeAnd, List, None, OnOk, Option, Result, Some, false, option_map, unwrap_or, ℕ, ◌==◌, ◌≡◌}
 use Rattle.cache_theory.specs.Command.Command.{Close}
 use Rattle.cache_theory.specs.Crash.{IsSafe}
 use Rattle.cache_theory.specs.Ever.{entries}
@@ -28,17 +28,13 @@ abbrev pub is_some_draft : Option Object → Bool
 is_some_draft None = false
 is_some_draft (Some x) = is_draft x.entry
 
--- the disk without the file of a doomed object
+-- the disk without the file that stands aside, if it does
 abbrev pub without_doomed : Option ℕ → State → State
 without_doomed None s = s
 without_doomed (Some number) s = removed (Doomed number) s
 
 abbrev pub let_go_by : Object → State → State
-let_go_by x s = without_doomed x.doomed s
-
--- the disk without the file of an object that is doomed or a draft
-abbrev pub dropped : Object → State → State
-dropped x s = if is_none x.doomed && not (is_draft x.entry) then s else removed (object_place x) s
+let_go_by x s = without_doomed x.aside s
 
 -- the closing of the slot has begun, and its writer has finished its object
 abbrev pub closing : ℕ → History → History

@@ -1,5 +1,5 @@
 -- How an object loses its name.
-use Rattle.std.specs.Prelude.{Bool, IsSome, List, None, Option, Result, filter_map, option_and_then, true, ℕ, ◌<◌, ◌≡◌}
+use Rattle.std.specs.Prelude.{Bool, IfOk, IsSome, List, None, Ok, Option, Result, Some, filter_map, option_and_then, true, ℕ, ◌<◌, ◌≡◌}
 use Rattle.cache_base.specs.Checks.{first_failing}
 use Rattle.cache_base.specs.declared.limits.TheConstants.{SLOTS}
 use Rattle.cache_theory.specs.Checks.{checks}
@@ -9,17 +9,21 @@ use Rattle.cache_theory.specs.Machine.{Machine}
 use Rattle.cache_theory.specs.Marks.{is_touched}
 use Rattle.cache_theory.specs.Step.{doomed_under}
 use Rattle.cache_theory.specs.declared.refusal.Refusal.{Refusal}
-use Rattle.disk_model.specs.State.{State, standing}
-use Rattle.disk_model.specs.declared.place.Place.TheVariants.{Doomed}
+use Rattle.cache_base.specs.declared.name.Name.{Name}
+use Rattle.disk_model.specs.Calls.{if_done}
+use Rattle.disk_model.specs.State.{State, renamed, standing}
+use Rattle.disk_model.specs.declared.disk.DiskFault.{DiskFault}
+use Rattle.disk_model.specs.declared.place.Place.TheVariants.{Doomed, Entry}
+use Rattle.doom_area.specs.DoomArea.{IsLeastFree}
 use Rattle.file_handles.specs.Cache.{Cache}
 use Rattle.file_handles.specs.Stands.{KeepsWhere, ReachesHistory, Represents}
 use Rattle.file_handles.specs.declared.object.Object.{Object}
 
--- the number of a doomed object
+-- the number of the file of an object that stands aside
 abbrev pub number_in : Option Object → Option ℕ
-number_in x = option_and_then (λ y. y.doomed) x
+number_in x = option_and_then (λ y. y.aside) x
 
--- the numbers of the doomed objects
+-- the numbers of the files that stand aside
 abbrev pub numbers_in : List (Option Object) → List ℕ
 numbers_in objects = filter_map number_in objects
 
@@ -38,7 +42,15 @@ EndsOn now c end = (m : Machine) → Represents now m → first_failing (checks 
 abbrev pub IsFirstFree : State → ℕ → Type 0
 IsFirstFree s number = (lesser : ℕ) → lesser < number → IsSome (standing s (Doomed lesser))
 
--- a file that is new among the doomed has the least number that was free, and one below 64
+-- a file that is new among the doomed has a number below which none is free, and one below 64
 abbrev pub TakesFirstFree : State → State → Type 0
 TakesFirstFree s t = (number : ℕ) → standing s (Doomed number) ≡ None
-    → IsSome (standing t (Doomed number)) → IsFirstFree s number × (number < SLOTS)
+    → IsSome (standing t (Doomed number)) → IsFirstFree t number × (number < SLOTS)
+
+-- a file stands aside: under the number that it has, or else it moves to the least number that is not in use
+pub record SetsAside (name : Name) (aside : Option ℕ) (in_use : List ℕ) (answer : Result ℕ DiskFault) (s t : State)
+    : Type 0 where
+  pub stays : (number : ℕ) → aside ≡ Some number → (answer ≡ Ok number) × (t ≡ s)
+  pub number : aside ≡ None → IfOk answer (IsLeastFree in_use)
+  pub moves : aside ≡ None → (number : ℕ) → IsLeastFree in_use number
+      → t ≡ if_done answer (renamed (Entry name) (Doomed number) s) s

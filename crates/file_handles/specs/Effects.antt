@@ -1,5 +1,5 @@
 -- What an index must learn of a command.
-use Rattle.std.specs.Prelude.{IfSome, List, None, Option, Some, false, if◌then◌else◌, length, not, ℕ, ⊤, ◌&&◌, ◌+◌, ◌≡◌}
+use Rattle.std.specs.Prelude.{Bool, IfSome, List, None, Option, Some, false, if◌then◌else◌, length, not, true, ℕ, ⊤, ◌&&◌, ◌+◌, ◌≡◌}
 use Rattle.cache_base.specs.Checks.{first_failing}
 use Rattle.cache_base.specs.declared.name.Name.{Name}
 use Rattle.cache_theory.specs.Checks.{checks}
@@ -83,10 +83,10 @@ abbrev pub file_len : Meta → ℕ
 file_len m = m.offset + length (block_bytes m) + 4
 
 -- what is learnt of an object that was written, by what is held of it
-abbrev pub learnt_of_held : Name → Option ℕ → Entry → Effect
-learnt_of_held name (Some number) e = effect.Same
-learnt_of_held name None (entry.Draft d) = effect.Same
-learnt_of_held name None (entry.Finished meta) =
+abbrev pub learnt_of_held : Name → Bool → Entry → Effect
+learnt_of_held name true e = effect.Same
+learnt_of_held name false (entry.Draft d) = effect.Same
+learnt_of_held name false (entry.Finished meta) =
     effect.Wrote (record_of_meta name (meta_of meta) (file_len (meta_of meta)))
 
 -- what is said of a name once this is learnt

@@ -1,5 +1,5 @@
 -- Places of the table.
-use Rattle.std.specs.Prelude.{Bool, None, Option, Some, false, is_none, ◌&&◌}
+use Rattle.std.specs.Prelude.{Bool, None, Option, Some, false, is_none, not, ◌&&◌}
 use Rattle.std.specs.Str.{bytes_eq}
 use Rattle.cache_base.specs.declared.name.Name.{Name}
 use Rattle.file_handles.specs.declared.object.Object.{Object}
@@ -11,4 +11,4 @@ is_free object = is_none object
 -- an undoomed object of the name is there
 abbrev pub is_user : Name → Option Object → Bool
 is_user name None = false
-is_user name (Some x) = is_none x.doomed && bytes_eq x.name.0 name.0
+is_user name (Some x) = not x.doomed && bytes_eq x.name.0 name.0

@@ -1,5 +1,5 @@
 -- What a `get` finds.
-use Rattle.std.specs.Prelude.{IfOk, List, Result, Some, ℕ, ◌≡◌}
+use Rattle.std.specs.Prelude.{IfOk, IsSomeAnd, List, Result, Some, ℕ, ◌≡◌}
 use Rattle.cache_base.specs.Limits.{chunks}
 use Rattle.cache_base.specs.declared.name.Name.{Name}
 use Rattle.cache_theory.specs.Command.Command.{Get}
@@ -10,7 +10,7 @@ use Rattle.cache_theory.specs.Step.{step}
 use Rattle.disk_model.specs.State.{State, standing}
 use Rattle.disk_model.specs.declared.place.Place.TheVariants.{Entry as EntryAt}
 use Rattle.entry_file.specs.Held.{IsLastOf}
-use Rattle.entry_file.specs.Version.{IsVersion, Version, file_of, version_meta}
+use Rattle.entry_file.specs.Version.{IsFileOf, IsVersion, Version, version_meta}
 use Rattle.entry_metadata.specs.Meta.{meta_of}
 use Rattle.entry_metadata.specs.declared.meta.Meta.{Meta}
 use Rattle.entry_name.specs.EntryName.{file_name}
@@ -19,13 +19,13 @@ use Rattle.file_handles.specs.Cache.{Cache}
 use Rattle.file_handles.specs.Stands.{Represents}
 use Rattle.file_handles.specs.declared.fault.HandleFault.{HandleFault}
 
--- the machine finds this version, of these metadata, and its file stands
+-- the machine finds this version, of these metadata, and a file of it stands
 pub record IsFound (m : Machine) (key : List ℕ) (meta : Meta) (s : State) : Type 0 where
   pub version : Version
   pub fits : IsVersion version
   pub reply : (step m (Get key)).reply ≡ Found version
   pub of_meta : meta_of meta ≡ version_meta version
-  pub file : entries (standing s) (file_name key) ≡ Some (file_of version)
+  pub file : IsSomeAnd (entries (standing s) (file_name key)) (IsFileOf version)
 
 -- it finds what the machine finds
 pub record FindsIn (key : List ℕ) (answer : Result Meta HandleFault) (s : State) (m : Machine)

@@ -1,6 +1,7 @@
 -- What is held of an object, and what it has to do with the machine's.
 use Rattle.std.specs.Prelude.{Bool, List, [], None, Option, Some, is_some, false, true, ℕ, ◌≡◌}
 use Rattle.cache_theory.specs.Machine.{Object as MachineObject}
+use Rattle.cache_theory.specs.Stands.{is_aside}
 use Rattle.disk_model.specs.declared.place.Place.{Place}
 use Rattle.disk_model.specs.declared.place.Place.TheVariants as place
 use Rattle.entry_file.specs.Held.{held}
@@ -15,17 +16,17 @@ use Rattle.file_handles.specs.declared.object.Entry.{Entry}
 use Rattle.file_handles.specs.declared.object.Entry.TheVariants as entry
 use Rattle.file_handles.specs.declared.object.Object.{Object}
 
--- where a file stands: under its name, or under its number among the doomed
+-- where a file stands: under its name, or aside, under its number among the doomed
 abbrev pub place_of : Name → Option ℕ → Place
 place_of name None = place.Entry name
 place_of name (Some number) = place.Doomed number
 
 abbrev pub object_place : Object → Place
-object_place x = place_of x.name x.doomed
+object_place x = place_of x.name x.aside
 
 -- an object of these parts
-abbrev pub object_with : ℕ → Name → Option ℕ → Entry → Object
-object_with number name doomed e = record { number = number; name = name; doomed = doomed; entry = e }
+abbrev pub object_with : ℕ → Name → Bool → Option ℕ → Entry → Object
+object_with number name doomed aside e = record { number = number; name = name; doomed = doomed; aside = aside; entry = e }
 
 -- whether it is being written
 abbrev pub is_draft : Entry → Bool
@@ -64,5 +65,6 @@ IsEntryOf (entry.Finished meta) o = (o.finished ≡ true) × (meta_of meta ≡ v
 
 pub record IsHeldAs (x : Object) (o : MachineObject) : Type 0 where
   pub named : x.name.0 ≡ file_name o.version.key
-  pub doomed : is_some x.doomed ≡ o.doomed
+  pub doomed : x.doomed ≡ o.doomed
+  pub aside : is_some x.aside ≡ is_aside o
   pub held_entry : IsEntryOf x.entry o

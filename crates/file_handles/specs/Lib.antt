@@ -7,6 +7,7 @@ pub mod Stands
 pub mod Carries
 pub mod Effects
 pub mod Changes
+pub mod Publishing
 pub mod Finding
 pub mod Growing
 pub mod Setting
@@ -20,4 +21,5 @@ pub mod Joining
 pub mod Found
 pub mod Refuses
 pub mod Removing
+pub mod Failing
 pub mod Users

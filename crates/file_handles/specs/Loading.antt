@@ -29,6 +29,7 @@ LoadsAs (Damaged d) (Ok meta) = ⊥
 LoadsAs (Damaged d) (Err (fault.Refused r)) = r ≡ refused.Damaged d
 LoadsAs Nothing (Ok meta) = ⊥
 LoadsAs Nothing (Err (fault.Refused r)) = r ≡ refused.Absent
+LoadsAs r (Err fault.Read) = ⊤
 LoadsAs r (Err fault.Disk) = ⊤
 LoadsAs r (Err fault.Memory) = ⊤
 

@@ -5,12 +5,14 @@ use Rattle.cache_theory.specs.Machine.{Machine, object_of}
 use Rattle.cache_theory.specs.Proper.{IsProper}
 use Rattle.chunk_cache.specs.Cached.{StandsFirst, bytes_of}
 use Rattle.disk_model.specs.State.{standing}
+use Rattle.file_handles.specs.Answers.{OnRead}
 use Rattle.file_handles.specs.Cache.{Cache}
 use Rattle.file_handles.specs.Held.{body_len_in, object_place, rest_in}
 use Rattle.file_handles.specs.HeldChunks.{ChunksStand}
 use Rattle.file_handles.specs.Kept.{Kept, object_in}
 use Rattle.file_handles.specs.Stands.{HandlesStand, Represents, Stands}
 use Rattle.file_handles.specs.declared.object.Entry.{Entry}
+use Rattle.file_handles.specs.declared.fault.HandleFault.{HandleFault}
 use Rattle.file_handles.specs.declared.object.Object.{Object}
 use Rattle.file_handles.specs.declared.read.StoredChunk.{StoredChunk}
 
@@ -97,3 +99,9 @@ pub record HasRead {T E : Type 0} (tells : Type 0) (slot from len : ℕ) (answer
   pub none_lost : IsPartHeld before.handles slot from len → LosesNone before.handles after
   pub unread : IsOfNone before.handles slot from len → after ≡ before.handles
   pub holds : tells → HoldsAsBefore before after
+
+-- the same, and where the look at the disk failed nothing changes
+pub record HasReadOrNot {T : Type 0} (tells : Type 0) (slot from len : ℕ) (answer : Result T HandleFault)
+    (before : Cache) (after : Kept) : Type 0 where
+  pub has_read : HasRead tells slot from len answer before after
+  pub unread : OnRead answer (after ≡ before.handles)

@@ -5,7 +5,7 @@ use Rattle.cache_theory.specs.Crash.{IsCrashKept, IsSafe}
 use Rattle.cache_theory.specs.History.{History}
 use Rattle.cache_theory.specs.Machine.{Machine, Slot, object}
 use Rattle.cache_theory.specs.Proper.{IsInUse, IsProper}
-use Rattle.cache_theory.specs.Stands.{DoomedStand, EntriesStand}
+use Rattle.cache_theory.specs.Stands.{AsideStand, EntriesStand}
 use Rattle.disk_model.specs.Image.{Files}
 use Rattle.disk_model.specs.State.{standing}
 use Rattle.file_handles.specs.Cache.{Cache}
@@ -33,12 +33,12 @@ pub record HandlesStand (k : Kept) (m : Machine) (number : ℕ → ℕ) : Type 0
       → number p ≡ number q → p ≡ q
   pub chunks : ChunksStand k m number
 
--- the machine's object of a number has this number among the doomed
-pub record IsAt (k : Kept) (number : ℕ → ℕ) (doomed i : ℕ) : Type 0 where
+-- the file of the machine's object of a number has this number among the doomed
+pub record IsAt (k : Kept) (number : ℕ → ℕ) (aside i : ℕ) : Type 0 where
   pub place : ℕ
   pub object : Object
   pub at_place : object_at k place ≡ Some object
-  pub is_doomed : object.doomed ≡ Some doomed
+  pub set_aside : object.aside ≡ Some aside
   pub numbered : number place ≡ i
 
 -- the files and the handles are the machine's
@@ -46,7 +46,7 @@ pub record Stands (files : Files) (k : Kept) (m : Machine) (number : ℕ → ℕ
   pub proper : IsProper m
   pub handles : HandlesStand k m number
   pub entries : EntriesStand files m
-  pub doomed : DoomedStand files m (IsAt k number)
+  pub aside : AsideStand files m (IsAt k number)
 
 -- the handles and the files represent the machine
 abbrev pub Represents : Cache → Machine → Type 0

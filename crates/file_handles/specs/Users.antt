@@ -1,5 +1,5 @@
 -- The entries in use, by their names.
-use Rattle.std.specs.Prelude.{Bool, List, None, Option, Some, false, filter, is_none, length, true, ℕ, ◌&&◌, ◌≡◌}
+use Rattle.std.specs.Prelude.{Bool, List, None, Option, Some, false, filter, length, not, true, ℕ, ◌&&◌, ◌≡◌}
 use Rattle.std.specs.Str.{bytes_eq}
 use Rattle.cache_base.specs.declared.name.Name.{Name}
 use Rattle.cache_theory.specs.Machine.{Machine, open_names, writing_names}
@@ -40,7 +40,7 @@ asks asked.Drafts e = is_draft e
 
 -- an undoomed object that is asked for
 abbrev pub counts : Asked → Object → Bool
-counts which x = asks which x.entry && is_none x.doomed
+counts which x = asks which x.entry && not x.doomed
 
 -- such a one of the name is there
 abbrev pub is_counted : Asked → Name → Option Object → Bool

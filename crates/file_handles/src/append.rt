@@ -1,10 +1,10 @@
 //! Appends to the body of the entry in a slot.
 
-ghost use Rattle.std.specs.Prelude.{ℕ, List, ◌≡◌, ◌+◌, ◌<◌, IfErr, IfOk, IfSome, IsSomeAnd, IsTrue, None, OnOk, length, Ok};
+ghost use Rattle.std.specs.Prelude.{ℕ, List, ◌≡◌, ◌+◌, ◌<◌, IfErr, IfOk, IfSome, IsSomeAnd, IsTrue, None, OnOk, length, Ok, ◌≢◌, Err};
 ghost use Rattle.cache_base.specs.declared.limits.TheConstants.{CHUNK, SLOTS};
 ghost use Rattle.cache_theory.specs.Command.Command.{Append};
 ghost use Rattle.cache_theory.specs.Machine.{Machine};
-ghost use Rattle.disk_model.specs.Account.{Accounts};
+ghost use Rattle.disk_model.specs.Account.{Accounts, FailsInChange};
 ghost use Rattle.disk_model.specs.Told.{Told};
 ghost use Rattle.file_handles.specs.Answers.{OnRefused, done_or, ending};
 ghost use Rattle.file_handles.specs.Growing.{AnswersInChunk, FitsInChunk, grow_fault};
@@ -73,7 +73,9 @@ impl Handles {
             (λ x. length (rest_in x.entry) + length b.now < CHUNK →
             (result ≡ Ok tt) × (disk.new ≡ disk.old)) }
         ensures refused { OnRefused result (λ _. ⊥) }
+        ensures no_read { result ≢ Err HandleFault.Read }
         ensures account { Accounts D.Disk (ending result) disk.old disk.new }
+        ensures change { FailsInChange D.Disk (ending result) disk.new }
     {
         let object = self.take(place);
         let file = object.file_place();
@@ -81,6 +83,7 @@ impl Handles {
             number,
             name,
             doomed,
+            aside,
             entry,
         } = object;
         let Entry::Draft(draft) = entry else {
@@ -100,7 +103,7 @@ impl Handles {
             key,
             elements,
         });
-        self.put_entry(place, number, name, doomed, entry);
+        self.put_entry(place, number, name, doomed, aside, entry);
         Ok(())
     }
 
@@ -117,8 +120,10 @@ impl Handles {
             FitsInChunk m slot b.now → disk.new ≡ disk.old }
         ensures within_reply { AnswersInChunk (kept self.old) slot b.now result }
         ensures unchanged { OnRefused result (λ _. disk.new ≡ disk.old) }
+        ensures no_read { result ≢ Err HandleFault.Read }
         ensures index { Told D.Disk LeavesIndex disk.old disk.new }
         ensures account { Accounts D.Disk (ending result) disk.old disk.new }
+        ensures change { FailsInChange D.Disk (ending result) disk.new }
     {
         let place = self.may_append(slot, b.len())?;
         self.append_at(disk, place, b)

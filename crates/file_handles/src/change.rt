@@ -1,8 +1,8 @@
 //! Changes what is held of an entry: its elements, or its counts by one more use.
 
-ghost use Rattle.std.specs.Prelude.{◌≡◌, ◌<◌, ◌≤◌, IfOk, IfSome, IsSomeAnd, IsTrue, length, true};
+ghost use Rattle.std.specs.Prelude.{◌≡◌, ◌<◌, ◌≤◌, IfOk, IfSome, IsSomeAnd, IsTrue, length, true, ◌≢◌, Err};
 ghost use Rattle.cache_base.specs.declared.limits.TheConstants.{ELEMENTS_MAX, SLOTS};
-ghost use Rattle.disk_model.specs.Account.{Accounts};
+ghost use Rattle.disk_model.specs.Account.{Accounts, FailsInChange};
 ghost use Rattle.entry_parts.specs.Elements.{elements_bytes};
 ghost use Rattle.file_handles.specs.Answers.{OnRefused, ending};
 ghost use Rattle.file_handles.specs.Effects.{IsLearntOf, IsPlainEffect};
@@ -137,7 +137,9 @@ impl Handles {
             (with_version (with_change change.entry)) (object_kept_at (kept self.old) place)) }
         ensures plain { IfOk result IsPlainEffect }
         ensures refused { OnRefused result (λ _. ⊥) }
+        ensures no_read { result ≢ Err HandleFault.Read }
         ensures account { Accounts D.Disk (ending result) disk.old disk.new }
+        ensures change { FailsInChange D.Disk (ending result) disk.new }
     {
         let object = self.take(place);
         let file = object.file_place();
@@ -145,6 +147,7 @@ impl Handles {
             number,
             name,
             doomed,
+            aside,
             entry,
         } = object;
         let entry = match entry {
@@ -156,7 +159,7 @@ impl Handles {
             }
         };
         let effect = learnt_of(&name, doomed, &entry);
-        self.put_entry(place, number, name, doomed, entry);
+        self.put_entry(place, number, name, doomed, aside, entry);
         Ok(effect)
     }
 }

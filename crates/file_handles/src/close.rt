@@ -1,15 +1,15 @@
 //! Closes a slot, and all slots at the end.
 
-ghost use Rattle.std.specs.Prelude.{◌≡◌, ◌<◌, ◌&&◌, IfOk, IsSome, IsTrue, OnOk, Some, length};
+ghost use Rattle.std.specs.Prelude.{◌≡◌, ◌<◌, ◌&&◌, IfOk, IsSome, IsTrue, OnOk, Some, length, ◌≢◌, Err};
 ghost use Rattle.std.specs.List.{list_any};
 ghost use Rattle.cache_base.specs.declared.limits.TheConstants.{SLOTS};
 ghost use Rattle.cache_theory.specs.Command.Command.{Close};
-ghost use Rattle.disk_model.specs.Account.{Accounts, LooksAtNoEntry, ending as disk_ending};
+ghost use Rattle.disk_model.specs.Account.{Accounts, FailsInChange, LooksAtNoEntry, ending as disk_ending};
 ghost use Rattle.disk_model.specs.Calls.{if_done};
 ghost use Rattle.disk_model.specs.State.{standing};
 ghost use Rattle.disk_model.specs.Told.{Told};
 ghost use Rattle.file_handles.specs.Answers.{OnRefused, done_or, ending};
-ghost use Rattle.file_handles.specs.Closing.{dropped, is_some_draft, is_use_of, let_go_by};
+ghost use Rattle.file_handles.specs.Closing.{is_some_draft, is_use_of, let_go_by};
 ghost use Rattle.file_handles.specs.Effects.{HasEffect, IsPlainEffect};
 ghost use Rattle.file_handles.specs.Held.{object_place};
 ghost use Rattle.index_theory.specs.Leaves.{LeavesIndex};
@@ -39,31 +39,19 @@ fn is_used(slots: &[Option<Use>; SLOTS], place: usize) -> bool
     slots.iter().any(|used| uses(used, place))
 }
 
-// Removes the file of an object that no slot uses any more, if it is doomed.
+// Removes the file of an object that no slot uses any more, if it stands aside.
 fn let_go<D: Disk>(disk: &mut D, object: &Object) -> Result<(), DiskFault>
     requires { IsTrue D.tells → IsSome (standing (D.state disk.old) (object_place object.now)) }
     ensures state { Told D.Disk (λ s t. t ≡ if_done result (let_go_by object.now s) s)
         disk.old disk.new }
     ensures account { Accounts D.Disk (disk_ending result) disk.old disk.new }
+    ensures no_entry { LooksAtNoEntry D.Disk disk.old disk.new }
+    ensures change { FailsInChange D.Disk (disk_ending result) disk.new }
 {
-    match object.doomed {
+    match object.aside {
         Some(number) => release(disk, number),
         None => Ok(()),
     }
-}
-
-// Removes the file of an object that does not outlast the handles: one that is doomed, or not finished.
-fn drop_file<D: Disk>(disk: &mut D, object: &Object) -> Result<(), DiskFault>
-    requires { IsTrue D.tells → IsSome (standing (D.state disk.old) (object_place object.now)) }
-    ensures state { Told D.Disk (λ s t. t ≡ if_done result (dropped object.now s) s)
-        disk.old disk.new }
-    ensures account { Accounts D.Disk (disk_ending result) disk.old disk.new }
-    ensures no_entry { LooksAtNoEntry D.Disk disk.old disk.new }
-{
-    if object.doomed.is_none() && matches!(object.entry, Entry::Finished(_)) {
-        return Ok(());
-    }
-    disk.remove(&object.file_place())
 }
 
 impl Handles {
@@ -102,8 +90,10 @@ impl Handles {
         ensures effect { IfOk result (HasEffect (kept self.old) (Close slot)) }
         ensures plain { IfOk result IsPlainEffect }
         ensures refused { OnRefused result (λ _. ⊥) }
+        ensures no_read { result ≢ Err HandleFault.Read }
         ensures index { Told D.Disk LeavesIndex disk.old disk.new }
         ensures account { Accounts D.Disk (ending result) disk.old disk.new }
+        ensures change { FailsInChange D.Disk (ending result) disk.new }
     {
         if self.is_finished_by(used) {
             self.finish_at(alloc, disk, used.place)
@@ -121,6 +111,7 @@ impl Handles {
             GivesUp slot result (at self.old disk.old) (at self.new disk.new) }
         ensures index { Told D.Disk LeavesIndex disk.old disk.new }
         ensures account { Accounts D.Disk (disk_ending result) disk.old disk.new }
+        ensures change { FailsInChange D.Disk (disk_ending result) disk.new }
     {
         self.slots[usize::from(slot)] = None;
         if is_used(&self.slots, place) {
@@ -150,8 +141,10 @@ impl Handles {
         ensures effect { IfOk result (HasEffect (kept self.old) (Close slot)) }
         ensures plain { IfOk result IsPlainEffect }
         ensures unchanged { OnRefused result (λ _. IsTrue D.tells → disk.new ≡ disk.old) }
+        ensures no_read { result ≢ Err HandleFault.Read }
         ensures index { Told D.Disk LeavesIndex disk.old disk.new }
         ensures account { Accounts D.Disk (ending result) disk.old disk.new }
+        ensures change { FailsInChange D.Disk (ending result) disk.new }
     {
         let used = self.use_of(slot)?;
         let effect = self.finish_first(alloc, disk, slot, used)?;
@@ -159,18 +152,19 @@ impl Handles {
         Ok(effect)
     }
 
-    /// Closes all slots. The files of entries that are not finished, and of doomed ones, are removed.
+    /// Closes all slots. The files that stand aside, those of doomed entries and of such that are not finished, are removed.
     pub fn close_all<D: Disk>(self, disk: &mut D) -> Result<(), DiskFault>
         requires told { IsTrue D.tells → RepresentsSome (cache D.Disk self disk.old) }
         ensures closes { IsTrue D.tells →
             ClosesAll result (cache D.Disk self disk.old) (D.state disk.new) }
         ensures index { Told D.Disk LeavesIndex disk.old disk.new }
         ensures account { Accounts D.Disk (disk_ending result) disk.old disk.new }
+        ensures change { FailsInChange D.Disk (disk_ending result) disk.new }
         ensures no_entry { LooksAtNoEntry D.Disk disk.old disk.new }
     {
         for object in &self.objects {
             if let Some(object) = object {
-                drop_file(disk, object)?;
+                let_go(disk, object)?;
             }
         }
         Ok(())

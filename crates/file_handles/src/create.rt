@@ -1,26 +1,32 @@
 //! Makes a new entry, which a slot writes.
 
-ghost use Rattle.std.specs.Prelude.{◌≡◌, ◌<◌, false, true, IfOk, IsTrue, OnOk, length};
+ghost use Rattle.std.specs.Prelude.{◌≡◌, ◌≢◌, ◌<◌, Err, false, true, IfErr, IfOk, IsTrue, OnOk, Some, is_some, length};
 ghost use Rattle.cache_base.specs.declared.limits.TheConstants.{SLOTS};
 ghost use Rattle.cache_theory.specs.Command.Command.{Create};
 ghost use Rattle.cache_theory.specs.Step.{fresh};
-ghost use Rattle.disk_model.specs.Account.{Accounts};
+ghost use Rattle.disk_model.specs.Account.{Accounts, Ending, FailsInChange, Looks};
+ghost use Rattle.disk_model.specs.State.{standing};
 ghost use Rattle.disk_model.specs.Told.{Told};
-ghost use Rattle.disk_model.specs.declared.place.Place.TheVariants.{Entry as EntryAt};
+ghost use Rattle.disk_model.specs.declared.place.Place.TheVariants.{Doomed as DoomedAt, Entry as EntryAt};
+ghost use Rattle.doom_area.specs.DoomArea.{IsLeastFree};
 ghost use Rattle.entry_key.specs.Writing.{may_write as may_write_of};
 ghost use Rattle.entry_name.specs.EntryName.{file_name};
-ghost use Rattle.file_handles.specs.Answers.{OnRefused, done_or, ending};
-ghost use Rattle.file_handles.specs.Creating.{MayHaveMade};
+ghost use Rattle.file_handles.specs.Answers.{OnRead, OnRefused, done_or, ending};
+ghost use Rattle.file_handles.specs.Creating.{MayHaveMade, MayHaveRemoved};
 ghost use Rattle.file_handles.specs.Dooming.{TakesFirstFree};
 ghost use Rattle.file_handles.specs.Effects.{HasEffect, IsPlainEffect};
 ghost use Rattle.file_handles.specs.Held.{IsHeldAs};
+ghost use Rattle.file_handles.specs.declared.fault.HandleFault.TheVariants.{Memory};
 ghost use Rattle.index_theory.specs.Leaves.{LeavesIndex};
 
+use crate::doom::doomed_numbers;
+use crate::fault::look_fault;
 use crate::object::{Draft, Entry, Object, Use};
 use crate::{Effect, HandleFault, Handles};
 use cache_base::{Bytes, Moment, Name, NoMemory, SLOTS};
 use cache_theory::Refusal;
 use disk_model::{Disk, Place};
+use doom_area::least;
 use entry_file::begin;
 use entry_key::may_write;
 use entry_name::name_of;
@@ -35,25 +41,29 @@ fn bytes_of(alloc: Global, b: &[u8]) -> Result<Bytes, NoMemory>
     Ok(bytes)
 }
 
-// A new draft of a key with this number and name, and its file, which is new and empty.
+// A new draft of a key with this number and name, and its file, which is new and empty and has this number among the
+// doomed.
 fn drafted<D: Disk>(
     alloc: Global,
     disk: &mut D,
     number: u64,
     name: Name,
+    aside: u32,
     key: &[u8],
     now: Moment,
 ) -> Result<Object, HandleFault>
     requires good { may_write_of key.now ≡ true }
     requires named { name.0 ≡ file_name key.now }
     ensures draft { IfOk result (λ object. (object.number ≡ number)
-        × ((object.name ≡ name) × IsHeldAs object (fresh now key.now))) }
-    ensures state { Told D.Disk (MayHaveMade (EntryAt name) result) disk.old disk.new }
+        × ((object.aside ≡ Some aside) × IsHeldAs object (fresh now key.now))) }
+    ensures state { Told D.Disk (MayHaveMade (DoomedAt aside) result) disk.old disk.new }
     ensures refused { OnRefused result (λ _. ⊥) }
+    ensures no_read { result ≢ Err HandleFault.Read }
     ensures account { Accounts D.Disk (ending result) disk.old disk.new }
+    ensures change { FailsInChange D.Disk (ending result) disk.new }
 {
     let bytes = bytes_of(alloc, key)?;
-    let body = begin(alloc, disk, &Place::Entry(name))?;
+    let body = begin(alloc, disk, &Place::Doomed(aside))?;
     let draft = Draft {
         body,
         header: Header::fresh(now, key.len() as u32),
@@ -63,9 +73,39 @@ fn drafted<D: Disk>(
     Ok(Object {
         number,
         name,
-        doomed: None,
+        doomed: false,
+        aside: Some(aside),
         entry: Entry::Draft(draft),
     })
+}
+
+// Whether a file stands under a name.
+fn is_there<D: Disk>(disk: &mut D, name: &Name) -> Result<bool, HandleFault>
+    ensures there { IfOk result (λ there. IsTrue D.tells →
+        there ≡ is_some (standing (D.state disk.old) (EntryAt name.now))) }
+    ensures refused { OnRefused result (λ _. ⊥) }
+    ensures no_change { result ≢ Err HandleFault.Disk }
+    ensures looks { Looks D.Disk (ending result) disk.old disk.new }
+{
+    match disk.size(&Place::Entry(*name)) {
+        Ok(size) => Ok(size.is_some()),
+        Err(fault) => Err(look_fault(fault)),
+    }
+}
+
+// Removes the file of a name, if there is one.
+fn remove_file<D: Disk>(disk: &mut D, name: &Name) -> Result<(), HandleFault>
+    ensures state { Told D.Disk (MayHaveRemoved (EntryAt name.now) result) disk.old disk.new }
+    ensures refused { OnRefused result (λ _. ⊥) }
+    ensures read { OnRead result (Looks D.Disk Ending.OneFailed disk.old disk.new) }
+    ensures account { Accounts D.Disk (ending result) disk.old disk.new }
+    ensures change { result ≡ Err HandleFault.Disk → FailsInChange D.Disk (ending result) disk.new }
+{
+    if !is_there(disk, name)? {
+        return Ok(());
+    }
+    disk.remove(&Place::Entry(*name))?;
+    Ok(())
 }
 
 // The tables have a row for each slot: it tells the lengths to a caller whose handles changed.
@@ -77,8 +117,42 @@ fn has_rows(objects: &[Option<Object>; SLOTS], slots: &[Option<Use>; SLOTS])
 impl Handles {
     ghost use Rattle.file_handles.specs.Cache.{cache};
     ghost use Rattle.file_handles.specs.Carries.{CarriesOutAt};
+    ghost use Rattle.file_handles.specs.Dooming.{DoomsUnder, numbers_in};
+    ghost use Rattle.file_handles.specs.Failing.{LeavesAll};
     ghost use Rattle.file_handles.specs.Kept.{kept};
     ghost use Rattle.file_handles.specs.Stands.{RepresentsSome};
+
+    // Dooms what stands under a name: the undoomed object in use, or else the file that is there.
+    fn doom_there<D: Disk>(&mut self, disk: &mut D, name: &Name) -> Result<(), HandleFault>
+        requires told { IsTrue D.tells → RepresentsSome (cache D.Disk self.old disk.old) }
+        ensures dooms { let at = cache D.Disk in IsTrue D.tells →
+            DoomsUnder name.now.0 result (at self.old disk.old) (at self.new disk.new) }
+        ensures numbered { Told D.Disk TakesFirstFree disk.old disk.new }
+        ensures refused { OnRefused result (λ _. ⊥) }
+        ensures read { OnRead result (LeavesAll D.Disk (kept self.old) (kept self.new) disk.old disk.new) }
+        ensures change { result ≡ Err HandleFault.Disk → FailsInChange D.Disk (ending result) disk.new }
+        ensures index { Told D.Disk LeavesIndex disk.old disk.new }
+        ensures account { Accounts D.Disk (ending result) disk.old disk.new }
+    {
+        if self.doom_user(disk, name)? {
+            return Ok(());
+        }
+        remove_file(disk, name)?;
+        Ok(())
+    }
+
+    // The least number that no file in use has, if there are fewer than the table has rows.
+    fn free_number(&self) -> Result<u32, HandleFault>
+        ensures least { IfOk result (IsLeastFree (numbers_in (kept self.now).objects)) }
+        ensures few { OnOk result (length (numbers_in (kept self.now).objects) < SLOTS) }
+        ensures memory { IfErr result (λ f. f ≡ Memory) }
+    {
+        let aside = doomed_numbers(&self.objects);
+        if aside.count >= SLOTS {
+            return Err(HandleFault::Memory);
+        }
+        Ok(least(&aside.numbers[..aside.count]))
+    }
 
     /// Makes a new entry of a key at this moment, which the slot writes. What stood under the name is doomed.
     pub fn create<D: Disk>(
@@ -99,6 +173,8 @@ impl Handles {
         ensures bad_key { may_write_of key.now ≡ false → OnOk result ⊥ }
         ensures numbered { Told D.Disk TakesFirstFree disk.old disk.new }
         ensures unchanged { OnRefused result (λ _. disk.new ≡ disk.old) }
+        ensures read { OnRead result (LeavesAll D.Disk (kept self.old) (kept self.new) disk.old disk.new) }
+        ensures change { result ≡ Err HandleFault.Disk → FailsInChange D.Disk (ending result) disk.new }
         ensures index { Told D.Disk LeavesIndex disk.old disk.new }
         ensures account { Accounts D.Disk (ending result) disk.old disk.new }
     {
@@ -109,9 +185,10 @@ impl Handles {
             return Err(HandleFault::Refused(Refusal::BadKey));
         }
         let name = name_of(key);
-        self.doom_user(disk, &name)?;
+        self.doom_there(disk, &name)?;
         has_rows(&self.objects, &self.slots);
-        let object = drafted(alloc, disk, self.made, name, key, now)?;
+        let aside = self.free_number()?;
+        let object = drafted(alloc, disk, self.made, name, aside, key, now)?;
         self.add(slot, object, true)?;
         Ok(Effect::Gone(name))
     }

@@ -1,13 +1,15 @@
 //! Dooms an entry: it loses its name, and its file is removed or moved among the doomed.
 
-ghost use Rattle.std.specs.Prelude.{◌≡◌, ◌≢◌, ◌<◌, ◌≤◌, false, IfOk, IsTrue, None, Ok, OnOk, Some, is_some, take};
+ghost use Rattle.std.specs.Prelude.{◌≡◌, ◌≢◌, ◌<◌, ◌≤◌, Err, false, IfOk, IsSome, IsTrue, None, Ok, OnOk, Some, is_some, length, take};
 ghost use Rattle.cache_base.specs.declared.limits.TheConstants.{SLOTS};
 ghost use Rattle.cache_theory.specs.Command.Command.{Doom};
-ghost use Rattle.disk_model.specs.Account.{Accounts, Looks};
+ghost use Rattle.disk_model.specs.Account.{Accounts, FailsInChange, Looks, ending as disk_ending};
 ghost use Rattle.disk_model.specs.Told.{Told};
 ghost use Rattle.entry_name.specs.EntryName.{file_name};
-ghost use Rattle.file_handles.specs.Answers.{OnRefused, done_or, ending};
-ghost use Rattle.file_handles.specs.Dooming.{TakesFirstFree, numbers_in};
+ghost use Rattle.file_handles.specs.Answers.{OnRead, OnRefused, done_or, ending};
+ghost use Rattle.disk_model.specs.State.{standing};
+ghost use Rattle.disk_model.specs.declared.place.Place.TheVariants.{Entry as EntryAt};
+ghost use Rattle.file_handles.specs.Dooming.{SetsAside, TakesFirstFree, numbers_in};
 ghost use Rattle.file_handles.specs.Effects.{HasEffect, IsPlainEffect};
 ghost use Rattle.index_theory.specs.Leaves.{LeavesIndex};
 
@@ -16,20 +18,20 @@ use crate::object::Object;
 use crate::{Effect, HandleFault, Handles};
 use cache_base::{Name, SLOTS};
 use cache_theory::Refusal;
-use disk_model::{Disk, Place};
+use disk_model::{Disk, DiskFault, Place};
 use doom_area::doom as move_to_doomed;
 use entry_key::may_write;
 use entry_name::name_of;
 use std::alloc::Global;
 
-// The numbers of the doomed files in use: so many, as the prefix of an array.
+/// The numbers of the files in use that stand aside: so many, as the prefix of an array.
 #[derive(Drop)]
-struct DoomedNumbers {
-    numbers: [u32; SLOTS],
-    count: usize,
+pub(crate) struct DoomedNumbers {
+    pub(crate) numbers: [u32; SLOTS],
+    pub(crate) count: usize,
 }
 
-fn doomed_numbers(objects: &[Option<Object>; SLOTS]) -> DoomedNumbers
+pub(crate) fn doomed_numbers(objects: &[Option<Object>; SLOTS]) -> DoomedNumbers
     ensures count { result.count ≤ SLOTS }
     ensures numbers { take result.count result.numbers ≡ numbers_in objects.now }
 {
@@ -37,7 +39,7 @@ fn doomed_numbers(objects: &[Option<Object>; SLOTS]) -> DoomedNumbers
     let mut count = 0;
     for object in objects {
         if let Some(object) = object {
-            if let Some(number) = object.doomed {
+            if let Some(number) = object.aside {
                 if count < SLOTS {
                     numbers[count] = number;
                     count += 1;
@@ -48,15 +50,37 @@ fn doomed_numbers(objects: &[Option<Object>; SLOTS]) -> DoomedNumbers
     DoomedNumbers { numbers, count }
 }
 
+// The number under which the file of an entry stands aside. It is moved there, if it stands under its name.
+fn set_aside<D: Disk>(
+    disk: &mut D,
+    name: &Name,
+    aside: Option<u32>,
+    in_use: &[u32],
+) -> Result<u32, DiskFault>
+    requires few { length in_use.now < 64 }
+    requires told { IsTrue D.tells → aside ≡ None →
+        IsSome (standing (D.state disk.old) (EntryAt name.now)) }
+    ensures moves { Told D.Disk (SetsAside name.now aside in_use.now result) disk.old disk.new }
+    ensures account { Accounts D.Disk (disk_ending result) disk.old disk.new }
+    ensures change { FailsInChange D.Disk (disk_ending result) disk.new }
+{
+    match aside {
+        Some(number) => Ok(number),
+        None => move_to_doomed(disk, name, in_use),
+    }
+}
+
 impl Handles {
     ghost use Rattle.file_handles.specs.Cache.{cache};
     ghost use Rattle.file_handles.specs.Carries.{CarriesOut};
     ghost use Rattle.file_handles.specs.Dooming.{DoomsUnder, EndsOn};
     ghost use Rattle.file_handles.specs.Kept.{kept};
+    ghost use Rattle.file_handles.specs.Failing.{LeavesAll};
     ghost use Rattle.file_handles.specs.Loading.{user_place};
     ghost use Rattle.file_handles.specs.Stands.{RepresentsSome};
 
-    // Dooms the undoomed object in use of a name, which is at this place. Its file moves among the doomed.
+    // Dooms the undoomed object in use of a name, which is at this place. Its file moves among the doomed, where it does
+    // not stand there.
     fn doom_at<D: Disk>(
         &mut self,
         disk: &mut D,
@@ -70,22 +94,25 @@ impl Handles {
             DoomsUnder name.now.0 result (at self.old disk.old) (at self.new disk.new) }
         ensures numbered { Told D.Disk TakesFirstFree disk.old disk.new }
         ensures refused { OnRefused result (λ _. ⊥) }
+        ensures no_read { result ≢ Err HandleFault.Read }
         ensures index { Told D.Disk LeavesIndex disk.old disk.new }
         ensures account { Accounts D.Disk (ending result) disk.old disk.new }
+        ensures change { FailsInChange D.Disk (ending result) disk.new }
     {
         let doomed = doomed_numbers(&self.objects);
         if doomed.count >= SLOTS {
             return Err(HandleFault::Memory);
         }
         let object = self.take(place);
-        let moved_to = move_to_doomed(disk, name, &doomed.numbers[..doomed.count])?;
         let Object {
             number,
-            name,
+            name: own,
+            aside,
             entry,
             ..
         } = object;
-        self.put_entry(place, number, name, Some(moved_to), entry);
+        let moved_to = set_aside(disk, name, aside, &doomed.numbers[..doomed.count])?;
+        self.put_entry(place, number, own, true, Some(moved_to), entry);
         Ok(())
     }
 
@@ -105,8 +132,10 @@ impl Handles {
         ensures some { IfOk result (λ doomed.
             doomed ≡ is_some (user_place (kept self.old) name.now)) }
         ensures refused { OnRefused result (λ _. ⊥) }
+        ensures no_read { result ≢ Err HandleFault.Read }
         ensures index { Told D.Disk LeavesIndex disk.old disk.new }
         ensures account { Accounts D.Disk (ending result) disk.old disk.new }
+        ensures change { FailsInChange D.Disk (ending result) disk.new }
     {
         match self.user(name) {
             Some(place) => {
@@ -129,6 +158,7 @@ impl Handles {
         ensures named { IfOk result (λ name. name.0 ≡ file_name key.now) }
         ensures passes { OnOk result (IsTrue D.tells →
             EndsOn (cache D.Disk self.now disk.old) (Doom key.now) None) }
+        ensures no_change { result ≢ Err HandleFault.Disk }
         ensures looks { Looks D.Disk (ending result) disk.old disk.new }
     {
         if !may_write(key) {
@@ -157,6 +187,8 @@ impl Handles {
         ensures plain { IfOk result IsPlainEffect }
         ensures numbered { Told D.Disk TakesFirstFree disk.old disk.new }
         ensures unchanged { OnRefused result (λ _. Told D.Disk (λ s t. t ≡ s) disk.old disk.new) }
+        ensures read { OnRead result (LeavesAll D.Disk (kept self.old) (kept self.new) disk.old disk.new) }
+        ensures change { result ≡ Err HandleFault.Disk → FailsInChange D.Disk (ending result) disk.new }
         ensures index { Told D.Disk LeavesIndex disk.old disk.new }
         ensures account { Accounts D.Disk (ending result) disk.old disk.new }
     {

@@ -1,12 +1,12 @@
 //! Reads and changes the elements of an entry in use.
 
-ghost use Rattle.std.specs.Prelude.{ℕ, List, Some, ◌+◌, ◌≡◌, ◌<◌, ◌≤◌, IfErr, IfNone, IfOk, IfSome, IsSomeAnd, IsTrue, OnOk, length, option_map};
+ghost use Rattle.std.specs.Prelude.{ℕ, List, Some, ◌+◌, ◌≡◌, ◌<◌, ◌≤◌, IfErr, IfNone, IfOk, IfSome, IsSomeAnd, IsTrue, OnOk, length, option_map, ◌≢◌, Err};
 ghost use Rattle.cache_base.specs.Limits.{chunks as chunks_of};
 ghost use Rattle.cache_base.specs.declared.limits.TheConstants.{ELEMENTS_MAX, SLOTS};
 ghost use Rattle.cache_theory.specs.Command.Command.{ElementOf, SetElement, UnsetElement};
 ghost use Rattle.cache_theory.specs.Command.Reply.{Refused};
 ghost use Rattle.cache_theory.specs.Step.{element_reply};
-ghost use Rattle.disk_model.specs.Account.{Accounts};
+ghost use Rattle.disk_model.specs.Account.{Accounts, FailsInChange};
 ghost use Rattle.disk_model.specs.Told.{Told};
 ghost use Rattle.entry_metadata.specs.Metadata.{block_length};
 ghost use Rattle.entry_parts.specs.Elements.{elements_bytes};
@@ -148,8 +148,10 @@ impl Handles {
             (HasEffect (kept self.old) (SetElement slot name.now value.now)) }
         ensures plain { IfOk result IsPlainEffect }
         ensures unchanged { OnRefused result (λ _. disk.new ≡ disk.old) }
+        ensures no_read { result ≢ Err HandleFault.Read }
         ensures index { Told D.Disk LeavesIndex disk.old disk.new }
         ensures account { Accounts D.Disk (ending result) disk.old disk.new }
+        ensures change { FailsInChange D.Disk (ending result) disk.new }
     {
         let place = self.may_set(slot, name, value)?;
         self.change_at(alloc, disk, place, Change::Set { name, value })
@@ -173,9 +175,11 @@ impl Handles {
             IfSome some (HasEffect (kept self.old) (UnsetElement slot name.now))) }
         ensures plain { IfOk result (λ some. IfSome some IsPlainEffect) }
         ensures unchanged { OnRefused result (λ _. disk.new ≡ disk.old) }
+        ensures no_read { result ≢ Err HandleFault.Read }
         ensures none_there { IfOk result (λ effect. IfNone effect (disk.new ≡ disk.old)) }
         ensures index { Told D.Disk LeavesIndex disk.old disk.new }
         ensures account { Accounts D.Disk (ending result) disk.old disk.new }
+        ensures change { FailsInChange D.Disk (ending result) disk.new }
     {
         let place = self.may_change(slot)?;
         if self.object_at(place)?.elements().get(name).is_none() {

@@ -1,7 +1,7 @@
 //! What the calls of the handles answer.
 
 ghost use Rattle.std.specs.Prelude.{◌≡◌};
-ghost use Rattle.file_handles.specs.Answers.{fault_of};
+ghost use Rattle.file_handles.specs.Answers.{fault_of, look_fault_of};
 ghost use Rattle.file_handles.specs.declared.fault.HandleFault.TheVariants.{Memory, Refused};
 
 use cache_base::{Name, NoMemory};
@@ -14,7 +14,9 @@ use index_record::IndexRecord;
 pub enum HandleFault {
     /// The command is refused, and nothing changed.
     Refused(Refusal),
-    /// The disk failed. The handles may only be dropped.
+    /// A look at the disk failed. The handles are as before, and the disk holds what it held.
+    Read,
+    /// A change of the disk failed. The handles may only be dropped.
     Disk,
     /// Memory ran out. The handles may only be dropped.
     Memory,
@@ -28,6 +30,16 @@ impl From<DiskFault> for HandleFault {
             DiskFault::Failed => HandleFault::Disk,
             DiskFault::Memory => HandleFault::Memory,
         }
+    }
+}
+
+/// A fault of a call that only looks at the disk.
+pub(crate) fn look_fault(fault: DiskFault) -> HandleFault
+    ensures { result ≡ look_fault_of fault }
+{
+    match fault {
+        DiskFault::Failed => HandleFault::Read,
+        DiskFault::Memory => HandleFault::Memory,
     }
 }
 

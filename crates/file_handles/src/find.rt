@@ -1,6 +1,6 @@
 //! Finds the entry of a key, and whether it is in use.
 
-ghost use Rattle.std.specs.Prelude.{◌≡◌, ◌<◌, ◌≤◌, false, IfOk, IfSome, IsTrue, OnOk, length, take};
+ghost use Rattle.std.specs.Prelude.{◌≡◌, ◌≢◌, ◌<◌, ◌≤◌, Err, None, false, IfOk, IfSome, IsTrue, OnOk, length, take};
 ghost use Rattle.cache_base.specs.Limits.{chunks as chunks_of};
 ghost use Rattle.cache_theory.specs.Machine.{is_entry};
 ghost use Rattle.cache_theory.specs.declared.refusal.Refusal.TheVariants as refused;
@@ -8,23 +8,42 @@ ghost use Rattle.chunk_store.specs.Chunks.{chunk as chunk_of};
 ghost use Rattle.disk_model.specs.Account.{Looks, ending as disk_ending};
 ghost use Rattle.disk_model.specs.State.{standing};
 ghost use Rattle.disk_model.specs.declared.place.Place.TheVariants.{Entry as EntryAt};
+ghost use Rattle.entry_file.specs.Damages.{HasMeta, first_damage};
 ghost use Rattle.entry_file.specs.EntryFile.{read_for};
+ghost use Rattle.entry_file.specs.EntryRead.{ReadsAs};
 ghost use Rattle.entry_file.specs.Held.{IsLastOf};
+ghost use Rattle.entry_file.specs.Rewriting.{StoresBody};
+ghost use Rattle.entry_metadata.specs.Meta.{meta_of};
 ghost use Rattle.entry_name.specs.EntryName.{file_name};
 ghost use Rattle.file_handles.specs.Answers.{OnRefused, ending};
 ghost use Rattle.file_handles.specs.Loading.{IsMetaFor, LoadsAs};
 
+use crate::fault::look_fault;
 use crate::object::Entry;
 use crate::{HandleFault, Handles};
 use cache_base::{Buffer, Name, chunks};
 use cache_theory::Refusal;
-use chunk_store::read_chunk;
+use chunk_store::{Damage, read_chunk};
 use disk_model::{Disk, DiskFault, Place};
 use entry_file::{EntryRead, check_body, read_meta};
 use entry_key::may_write;
 use entry_metadata::Meta;
 use entry_name::name_of;
 use std::alloc::Global;
+
+// What the file under a name reads as.
+fn read_under<D: Disk>(alloc: Global, disk: &mut D, name: &Name) -> Result<EntryRead, HandleFault>
+    ensures reads { IfOk result (λ read. IsTrue D.tells →
+        ReadsAs name.now.0 (standing (D.state disk.old) (EntryAt name.now)) read) }
+    ensures refused { OnRefused result (λ _. ⊥) }
+    ensures no_change { result ≢ Err HandleFault.Disk }
+    ensures looks { Looks D.Disk (ending result) disk.old disk.new }
+{
+    match read_meta(alloc, disk, &Place::Entry(*name), name) {
+        Ok(read) => Ok(read),
+        Err(fault) => Err(look_fault(fault)),
+    }
+}
 
 /// The metadata of the file of a key, even if its body is damaged.
 pub(crate) fn look<D: Disk>(
@@ -39,11 +58,39 @@ pub(crate) fn look<D: Disk>(
     ensures refused { let file = standing (D.state disk.old) (EntryAt name.now) in
         OnRefused result (λ r. (r ≡ refused.Absent)
         × (IsTrue D.tells → is_entry (read_for key.now file) ≡ false)) }
+    ensures no_change { result ≢ Err HandleFault.Disk }
     ensures looks { Looks D.Disk (ending result) disk.old disk.new }
 {
-    match read_meta(alloc, disk, &Place::Entry(*name), name)? {
+    match read_under(alloc, disk, name)? {
         EntryRead::Fits { meta, .. } if meta.key.as_slice() == key => Ok(meta),
         _ => Err(HandleFault::Refused(Refusal::Absent)),
+    }
+}
+
+// The first damage of the body of the file under a name, which has these metadata. Without one the last chunk is in the
+// buffer.
+fn check_under<D: Disk>(
+    disk: &mut D,
+    name: &Name,
+    meta: &Meta,
+    chunk: &mut Buffer,
+) -> Result<Option<Damage>, HandleFault>
+    requires { IsTrue D.tells → HasMeta (standing (D.state disk.old) (EntryAt name.now)) (meta_of meta.now) }
+    ensures damage { let file = standing (D.state disk.old) (EntryAt name.now) in
+        IfOk result (λ damage. IsTrue D.tells → IfSome file (λ content.
+        damage ≡ first_damage (meta_of meta.now) content)) }
+    ensures stores { let file = standing (D.state disk.old) (EntryAt name.now) in
+        IfOk result (λ damage. IsTrue D.tells → damage ≡ None → StoresBody file (meta_of meta.now)) }
+    ensures held { let file = standing (D.state disk.old) (EntryAt name.now) in
+        IfOk result (λ damage. IsTrue D.tells → damage ≡ None →
+        IsLastOf (chunks_of meta.now.offset) file meta.now.offset chunk.new) }
+    ensures refused { OnRefused result (λ _. ⊥) }
+    ensures no_change { result ≢ Err HandleFault.Disk }
+    ensures looks { Looks D.Disk (ending result) disk.old disk.new }
+{
+    match check_body(disk, &Place::Entry(*name), meta, chunk) {
+        Ok(damage) => Ok(damage),
+        Err(fault) => Err(look_fault(fault)),
     }
 }
 
@@ -60,10 +107,11 @@ pub(crate) fn load<D: Disk>(
         IsTrue D.tells → LoadsAs (read_for key.now file) result }
     ensures held { let file = standing (D.state disk.old) (EntryAt name.now) in
         IfOk result (λ meta. IsTrue D.tells → IsLastOf (chunks_of meta.offset) file meta.offset chunk.new) }
+    ensures no_change { result ≢ Err HandleFault.Disk }
     ensures looks { Looks D.Disk (ending result) disk.old disk.new }
 {
     let meta = look(alloc, disk, key, name)?;
-    match check_body(disk, &Place::Entry(*name), &meta, chunk)? {
+    match check_under(disk, name, &meta, chunk)? {
         None => Ok(meta),
         Some(damage) => Err(HandleFault::Refused(Refusal::Damaged(damage))),
     }
@@ -113,6 +161,7 @@ impl Handles {
         ensures held { IfOk result (λ meta. IsTrue D.tells →
             HoldsLast (D.state disk.old) key.now meta.offset self.new.chunk) }
         ensures kept { kept self.new ≡ kept self.old }
+        ensures no_change { result ≢ Err HandleFault.Disk }
         ensures looks { Looks D.Disk (ending result) disk.old disk.new }
     {
         if !may_write(key) {

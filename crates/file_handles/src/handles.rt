@@ -6,7 +6,7 @@ ghost use Rattle.cache_base.specs.declared.limits.TheConstants.{SLOTS};
 ghost use Rattle.file_handles.specs.Finding.{is_free, is_user};
 
 use crate::object::{Entry, Object, Use};
-use cache_base::{Buffer, Name, NoMemory, SLOTS};
+use cache_base::{Buffer, Bytes, Name, NoMemory, SLOTS};
 use cache_theory::{Refusal, opens_proper};
 use chunk_cache::ChunkCache;
 use std::alloc::Global;
@@ -22,6 +22,8 @@ pub struct Handles {
     pub(crate) chunks: ChunkCache,
     // The chunk that is checked.
     pub(crate) chunk: Buffer,
+    // The memory of the last chunk that went, for the next one that is read.
+    pub(crate) spare: Option<Bytes>,
 }
 
 impl Handles {
@@ -42,6 +44,7 @@ impl Handles {
             made: 0,
             chunks: ChunkCache::new(alloc)?,
             chunk: Buffer::new(alloc)?,
+            spare: None,
         })
     }
 
@@ -118,12 +121,13 @@ impl Handles {
         place: usize,
         number: u64,
         name: Name,
-        doomed: Option<u32>,
+        doomed: bool,
+        aside: Option<u32>,
         entry: Entry,
     )
         requires { place < SLOTS }
         ensures { kept self.new
-            ≡ with_object (kept self.old) place (Some (object_with number name doomed entry)) }
+            ≡ with_object (kept self.old) place (Some (object_with number name doomed aside entry)) }
     {
         self.put(
             place,
@@ -131,6 +135,7 @@ impl Handles {
                 number,
                 name,
                 doomed,
+                aside,
                 entry,
             },
         );
@@ -176,7 +181,7 @@ fn is_user_of(object: &Option<Object>, name: &Name) -> bool
     ensures { result ≡ is_user name.now object.now }
 {
     match object {
-        Some(object) => object.doomed.is_none() && object.name == *name,
+        Some(object) => !object.doomed && object.name == *name,
         None => false,
     }
 }

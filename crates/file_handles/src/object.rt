@@ -38,8 +38,10 @@ pub(crate) struct Object {
     /// How many objects were made before it.
     pub(crate) number: u64,
     pub(crate) name: Name,
-    /// The number of its file, if it is doomed.
-    pub(crate) doomed: Option<u32>,
+    /// Whether it has lost its name.
+    pub(crate) doomed: bool,
+    /// The number of its file, if that stands aside, among the doomed: where it is doomed, or not finished.
+    pub(crate) aside: Option<u32>,
     pub(crate) entry: Entry,
 }
 
@@ -58,7 +60,7 @@ impl Object {
     pub(crate) fn file_place(&self) -> Place
         ensures { result ≡ object_place self.now }
     {
-        match self.doomed {
+        match self.aside {
             Some(number) => Place::Doomed(number),
             None => Place::Entry(self.name),
         }

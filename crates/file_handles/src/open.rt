@@ -1,12 +1,12 @@
 //! Opens the entry of a key, which a slot reads.
 
-ghost use Rattle.std.specs.Prelude.{ℕ, ◌≡◌, ◌<◌, IsSome, IsTrue, None, Some};
+ghost use Rattle.std.specs.Prelude.{ℕ, ◌≡◌, ◌≢◌, ◌<◌, Err, IsSome, IsTrue, None, Some};
 ghost use Rattle.cache_base.specs.declared.limits.TheConstants.{SLOTS};
 ghost use Rattle.cache_theory.specs.Command.Command.{OpenKey};
 ghost use Rattle.cache_theory.specs.Machine.{Machine, used_by};
 ghost use Rattle.cache_theory.specs.Proper.{IsProper};
 ghost use Rattle.disk_model.specs.Account.{Looks};
-ghost use Rattle.file_handles.specs.Answers.{done_or, ending};
+ghost use Rattle.file_handles.specs.Answers.{OnRead, done_or, ending};
 
 use crate::find::load;
 use crate::object::{Entry, Object, Use};
@@ -66,6 +66,8 @@ impl Handles {
         ensures carried { let at = cache D.Disk in IsTrue D.tells →
             CarriesOut (OpenKey slot key.now) (done_or result)
             (at self.old disk.old) (at self.new disk.new) }
+        ensures read { OnRead result (kept self.new ≡ kept self.old) }
+        ensures no_change { result ≢ Err HandleFault.Disk }
         ensures in_use { (m : Machine) (number : ℕ → ℕ) → IsProper m →
             HandlesStand (kept self.old) m number → IsSome (used_by m key.now) →
             disk.new ≡ disk.old }
@@ -86,7 +88,8 @@ impl Handles {
         let object = Object {
             number: self.made,
             name,
-            doomed: None,
+            doomed: false,
+            aside: None,
             entry: Entry::Finished(meta),
         };
         self.add(slot, object, false)

@@ -1,6 +1,6 @@
 //! Reads the body of the entry in a slot.
 
-ghost use Rattle.std.specs.Prelude.{ℕ, ◌%◌, ◌≡◌, ◌<◌, ◌≤◌, IfErr, IfOk, IfSome, IsSome, IsTrue, None, Ok, OnOk, length, take, drop};
+ghost use Rattle.std.specs.Prelude.{ℕ, ◌%◌, ◌≡◌, ◌≢◌, ◌<◌, ◌≤◌, Err, IfErr, IfOk, IfSome, IsSome, IsTrue, None, Ok, OnOk, length, take, drop};
 ghost use Rattle.std.specs.Borrow.{sem};
 ghost use Rattle.cache_base.specs.Limits.{chunk_size, chunks};
 ghost use Rattle.cache_base.specs.declared.limits.TheConstants.{SLOTS};
@@ -9,10 +9,11 @@ ghost use Rattle.chunk_cache.specs.Cached.{StandsFirst, bytes_of, looked_at};
 ghost use Rattle.chunk_store.specs.Chunks.{chunk as chunk_of};
 ghost use Rattle.disk_model.specs.Account.{Looks};
 ghost use Rattle.disk_model.specs.State.{standing};
-ghost use Rattle.file_handles.specs.Answers.{OnRefused, ending};
+ghost use Rattle.file_handles.specs.Answers.{OnRead, OnRefused, ending};
 ghost use Rattle.file_handles.specs.Held.{body_len_in, rest_in};
-ghost use Rattle.file_handles.specs.Reading.{ForBody, ForBodyHeld, HasRead, HoldsAsBefore, IsPartHeld, IsStoredChunk, LosesNone, SameButChunks, part_of_body, rest_part};
+ghost use Rattle.file_handles.specs.Reading.{ForBody, ForBodyHeld, HasReadOrNot, HoldsAsBefore, IsPartHeld, IsStoredChunk, LosesNone, SameButChunks, part_of_body, rest_part};
 
+use crate::fault::look_fault;
 use crate::object::{Entry, Object};
 use crate::{HandleFault, Handles};
 use cache_base::{Bytes, CHUNK};
@@ -88,18 +89,21 @@ fn read_over<D: Disk>(
         chunk.now.stored ≤ length file →
         bytes.new ≡ chunk_of (take chunk.now.stored file) chunk.now.index)) }
     ensures refused { OnRefused result (λ _. ⊥) }
+    ensures no_change { result ≢ Err HandleFault.Disk }
     ensures looks { Looks D.Disk (ending result) disk.old disk.new }
 {
     let len = CHUNK.min(chunk.stored as usize - chunk.index as usize * CHUNK);
     bytes.set_len(len)?;
-    read_chunk_into(
+    match read_chunk_into(
         disk,
         &chunk.file,
         chunk.stored,
         chunk.index,
         bytes.as_mut_slice(),
-    )?;
-    Ok(())
+    ) {
+        Ok(()) => Ok(()),
+        Err(fault) => Err(look_fault(fault)),
+    }
 }
 
 impl Handles {
@@ -145,8 +149,10 @@ impl Handles {
         ensures passes { OnOk result (Passes (kept self.old) (ReadPart slot from len)) }
         // Once the part is given back.
         ensures* read { let before = cache D.Disk self.old disk.old in
-            sem 𝓛 (RestsWith self.entry (HasRead (IsTrue D.tells) slot from len result before)) }
-        ensures held { IsPartHeld (kept self.old) slot from len → disk.new ≡ disk.old }
+            sem 𝓛 (RestsWith self.entry (HasReadOrNot (IsTrue D.tells) slot from len result before)) }
+        ensures held { IsPartHeld (kept self.old) slot from len →
+            (disk.new ≡ disk.old) × (result ≢ Err HandleFault.Read) }
+        ensures no_change { result ≢ Err HandleFault.Disk }
         ensures looks { Looks D.Disk (ending result) disk.old disk.new }
     {
         let used = self.use_of(slot)?;
@@ -206,17 +212,20 @@ impl Handles {
         ensures held { IsSome (bytes_of chunk.now.number chunk.now.index (kept self.old).chunks) →
             (result ≡ Ok tt) × ((disk.new ≡ disk.old) × LosesNone (kept self.old) (kept self.new)) }
         ensures refused { OnRefused result (λ _. ⊥) }
+        ensures read { OnRead result (kept self.new ≡ kept self.old) }
+        ensures no_change { result ≢ Err HandleFault.Disk }
         ensures looks { Looks D.Disk (ending result) disk.old disk.new }
     {
         if self.chunks.look(chunk.number, chunk.index).is_some() {
             return Ok(());
         }
-        // The memory of a chunk that has to go is used again.
-        let mut bytes = match self.chunks.evict() {
+        // A chunk goes only once the new one is there, and its memory is used again for the next.
+        let mut bytes = match self.spare.take() {
             Some(bytes) => bytes,
             None => Bytes::new(alloc),
         };
         read_over(disk, chunk, &mut bytes)?;
+        self.spare = self.chunks.evict();
         self.chunks.keep(chunk.number, chunk.index, bytes)?;
         Ok(())
     }

@@ -1,9 +1,9 @@
 //! Counts a use of the entry of a slot.
 
-ghost use Rattle.std.specs.Prelude.{◌≡◌, ◌<◌, IfErr, IfOk, IsSomeAnd, IsTrue, OnOk};
+ghost use Rattle.std.specs.Prelude.{◌≡◌, ◌<◌, IfErr, IfOk, IsSomeAnd, IsTrue, OnOk, ◌≢◌, Err};
 ghost use Rattle.cache_base.specs.declared.limits.TheConstants.{SLOTS};
 ghost use Rattle.cache_theory.specs.Command.Command.{UseEntry};
-ghost use Rattle.disk_model.specs.Account.{Accounts};
+ghost use Rattle.disk_model.specs.Account.{Accounts, FailsInChange};
 ghost use Rattle.disk_model.specs.Told.{Told};
 ghost use Rattle.file_handles.specs.Answers.{OnRefused, done_or, ending};
 ghost use Rattle.file_handles.specs.Effects.{HasEffectAt, IsPlainEffect};
@@ -53,8 +53,10 @@ impl Handles {
         ensures effect { IfOk result (HasEffectAt now (kept self.old) (UseEntry slot)) }
         ensures plain { IfOk result IsPlainEffect }
         ensures unchanged { OnRefused result (λ _. disk.new ≡ disk.old) }
+        ensures no_read { result ≢ Err HandleFault.Read }
         ensures index { Told D.Disk LeavesIndex disk.old disk.new }
         ensures account { Accounts D.Disk (ending result) disk.old disk.new }
+        ensures change { FailsInChange D.Disk (ending result) disk.new }
     {
         let place = self.place_of(slot)?;
         self.change_at(alloc, disk, place, Change::Use { now })

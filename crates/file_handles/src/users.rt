@@ -36,8 +36,8 @@ fn is_asked(asked: Asked, object: &Object) -> bool
     ensures { result ≡ counts asked object.now }
 {
     match asked {
-        Asked::All => object.doomed.is_none(),
-        Asked::Drafts => matches!(object.entry, Entry::Draft(_)) && object.doomed.is_none(),
+        Asked::All => !object.doomed,
+        Asked::Drafts => matches!(object.entry, Entry::Draft(_)) && !object.doomed,
     }
 }
 

@@ -1,8 +1,9 @@
 use cache_base::Bytes;
 use cache_io::{MemSink, MemSource};
-use cache_script::Reader;
+use cache_script::{Command, Reader};
 use cache_store::{Outcome, Store, StoreFault};
 use disk_model::Disk;
+use entry_name::{name_of, text_of};
 use real_disk::RealDisk;
 use std::alloc::Global;
 use std::fs;
@@ -42,6 +43,57 @@ fn a_session_is_answered(rt: HostRuntime) -> Result<(), Fail> {
     assert_eq!(rt;
         sink.bytes(),
         b"ok\nok\nok\nok\nok\nok\nok\nunfinished\ndata 3\nold\nfindings 0\nok\nfound 1 1000 1000 1000 4294967295 0 0 3\n\nnew\nfindings 0\n".as_slice()
+    );
+    Ok(())
+}
+
+// Performs a `get`, and answers a failed look at the disk by its line.
+fn get(
+    store: &mut Store,
+    alloc: Global,
+    disk: &mut RealDisk<'_, HostRuntime>,
+    key: &[u8],
+    sink: &mut MemSink,
+) -> Result<bool, StoreFault> {
+    match store.command(alloc, disk, &Command::Get { key }, sink) {
+        Ok(outcome) => Ok(outcome == Outcome::Ok),
+        Err(fault) => {
+            if fault != StoreFault::Disk || !store.faulting() {
+                return Err(fault);
+            }
+            store.say_fault(sink)?;
+            Ok(false)
+        }
+    }
+}
+
+// A folder stands in the place of an entry's file: it cannot be read, and the other entry can.
+#[test]
+fn a_file_that_cannot_be_read_ends_one_command(rt: HostRuntime) -> Result<(), Fail> {
+    let alloc = rt.alloc();
+    let _ = fs::remove_dir_all(&rt, "unreadable");
+    let mut disk = RealDisk::new(&rt, String::from_str(alloc, "unreadable")?);
+    let mut sink = MemSink::new(alloc);
+    let script = b"create 0 :x\nclose 0\ncreate 0 :y\nclose 0\n";
+    assert_eq!(rt; perform(alloc, &mut disk, script, &mut sink), Ok(true));
+    let name = text_of(alloc, &name_of(b":x"))?;
+    let place = format!(in alloc; "unreadable/entries/{name}")?;
+    fs::remove_file(&rt, &place)?;
+    fs::create_dir(&rt, &place)?;
+    let mut store = Store::open(alloc, &mut disk, 2000)?;
+    let mut answers = MemSink::new(alloc);
+    assert_eq!(rt;
+        get(&mut store, alloc, &mut disk, b":x", &mut answers),
+        Ok(false)
+    );
+    assert_eq!(rt;
+        get(&mut store, alloc, &mut disk, b":y", &mut answers),
+        Ok(true)
+    );
+    store.close(&mut disk)?;
+    assert_eq!(rt;
+        answers.bytes(),
+        b"fault\nfound 1 1000 1000 1000 4294967295 0 0 0\n\n\n".as_slice()
     );
     Ok(())
 }

@@ -24,6 +24,7 @@ pub left_is_safe : LeftIsSafe
 left_is_safe s t w left safe = record {
   untouched = λ name un. left_kept s t name _ left (safe.untouched name un);
   touched = λ name is f at. subst (λ (file : File). MayBeFiled w name file) (sym (left.files (entry_place name) f tt at)) (safe.touched name is f (left.ever (entry_place name) f tt at));
+  published = λ name is out f at. subst (λ (file : File). file.writes ≡ []) (sym (left.files (entry_place name) f tt at)) (safe.published name is out f (left.ever (entry_place name) f tt at));
 }
 
 pub left_is_filed_once : LeftIsFiledOnce
@@ -48,7 +49,7 @@ pub left_is_crash_kept : (s t : State) (m : Machine) (w : Marks) (IsAt : ℕ →
 left_is_crash_kept s t m w IsAt left kept = record {
   safe = left_is_safe s t w left kept.safe;
   once = left_is_filed_once s t left kept.once;
-  doomed = λ k i file name at held now stood. kept.doomed k i file name at held (sym (left.doomed k) ∙ now) (left.ever (entry_place name) file tt stood);
+  aside = λ k i file name at held now stood. kept.aside k i file name at held (sym (left.doomed k) ∙ now) (left.ever (entry_place name) file tt stood);
   unburied = kept.unburied;
   young = kept.young;
 }
@@ -57,7 +58,7 @@ sync_is_crash_kept : (s : State) (m : Machine) (w : Marks) (IsAt : ℕ → ℕ �
 sync_is_crash_kept s m w IsAt kept = record {
   safe = sync_keeps s w kept.safe;
   once = sync_files_once s kept.once;
-  doomed = λ k i file name at held now stood. kept.doomed k i file name at held now (0, ever_settled s (entry_place name) file stood);
+  aside = λ k i file name at held now stood. kept.aside k i file name at held now (0, ever_settled s (entry_place name) file stood);
   unburied = kept.unburied;
   young = kept.young;
 }

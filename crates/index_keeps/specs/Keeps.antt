@@ -5,7 +5,6 @@ use Rattle.cache_theory.specs.Crash.{IsSafe}
 use Rattle.cache_theory.specs.Ever.{IsFiledOnce}
 use Rattle.cache_theory.specs.Machine.{Machine}
 use Rattle.cache_theory.specs.Marks.{Marks}
-use Rattle.cache_theory.specs.Proper.{IsProper}
 use Rattle.cache_theory.specs.Stands.{EntriesStand}
 use Rattle.cache_theory.specs.Table.{get}
 use Rattle.disk_model.specs.Image.{Files}
@@ -30,6 +29,6 @@ SparedIsSafe = (s t : State) (w : Marks) → SparesEntries s t → IsSafe s w �
 abbrev pub SparedIsFiledOnce : Type 0
 SparedIsFiledOnce = (s t : State) → SparesEntries s t → IsFiledOnce s → IsFiledOnce t
 
--- a scan of the entries as the machine has them is a scan of its shelf: an entry that is not finished fits nowhere
+-- a scan of the entries as the machine has them is a scan of its shelf
 abbrev pub StandsScan : Type 0
-StandsScan = (files : Files) (m : Machine) (name : Name) → IsProper m → EntriesStand files m → scanned (entries files) name ≡ scanned (get m.shelf) name
+StandsScan = (files : Files) (m : Machine) (name : Name) → EntriesStand files m → scanned (entries files) name ≡ scanned (get m.shelf) name

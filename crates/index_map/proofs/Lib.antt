@@ -1,9 +1,12 @@
 pub mod Counting
 pub mod Differences
+pub mod Joined
 pub mod ListSteps
 pub mod Held
 pub mod Lookups
+pub mod Marked
 pub mod Puts
+pub mod Search
 pub mod Shown
 pub mod Sorted
 pub mod Steps

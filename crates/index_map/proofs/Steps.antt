@@ -1,22 +1,19 @@
 -- Records that are put into a table one after another.
-use Rattle.std.proofs.Common.{◌≡◌, ℕ, ◌+◌, ◌<◌, Bool, true, false, cond, List, [], ◌∷◌, ◌++◌, length, get_or, take, refl, sym, ap, ◌∙◌, subst}
+use Rattle.std.proofs.Common.{◌≡◌, ℕ, ◌+◌, ◌<◌, Bool, true, false, cond, List, [], ◌∷◌, ◌++◌, length, get_or, take, refl, sym, ap, ◌∙◌, subst, arith}
 use Rattle.std.specs.List.{AllByRecursion, IsDistinct}
 use Rattle.std.specs.Map.{lookup}
-use Rattle.std.specs.Option.{option_map}
 use Rattle.std.specs.Prelude.{IfSome, None, Option, Some, option_and_then}
-use Rattle.std.proofs.lemmas.List.{take-map, take_more}
-use Rattle.std.proofs.lemmas.Map.Keys.{IsDistinct-head, IsDistinct-tail}
-use Rattle.indexmap.proofs.MapLemmas.{distinct-take}
+use Rattle.std.proofs.lemmas.List.{get_or-take, length-take, take-map, take_more}
+use Rattle.std.proofs.lemmas.Map.Keys.{IsDistinct-from_apart, IsDistinct-head, IsDistinct-tail, apart_from_distinct}
 use Rattle.cache_base.specs.declared.name.Name.{Name}
 use Rattle.index_record.specs.declared.record.IndexRecord.{IndexRecord}
 use Rattle.record_list.specs.Change.{journal_or, kept}
 use Rattle.record_list.specs.Lists.{HasNames, names_of, record_at, same_name}
 use Rattle.record_list.proofs.NameLaws.{same_is}
 use Rattle.index_map.specs.Known.{Applies, IsPlain, Known, Sets}
-use Rattle.index_map.specs.Slots.{IsTable, IsSlotOf, base_slot, facts_of, record_of, slot_of, Slot}
+use Rattle.index_map.specs.Slots.{IsTable, IsSlotOf, facts_of, record_of, Slot}
 use Rattle.index_map.specs.declared.slot.Facts.{Facts}
-use Rattle.index_map.specs.declared.slot.Held.{Held}
-use Rattle.index_map.proofs.Lookups.{same_name_equiv, slot_at}
+use Rattle.index_map.proofs.Lookups.{slot_at}
 use Rattle.index_map.proofs.Shown.{base_of}
 
 last_apart : (name : Name) (xs : List IndexRecord) (y : IndexRecord) → AllByRecursion (λ n. same_name name n ≡ false) (names_of (xs ++ y ∷ [])) → same_name name y.name ≡ false
@@ -41,40 +38,23 @@ record_at-push (x ∷ xs) y q names =
     ap (λ o. cond (same_name x.name q) (Some x) o) (record_at-push xs y q (IsDistinct-tail same_name x.name (names_of (xs ++ y ∷ [])) names))
     ∙ crossed (same_name x.name q) (same_name y.name q) (Some x) (Some y) (record_at xs q) (not_both x.name y.name q apart)
 
+-- names none of which stands twice, cut at an end
+distinct_front : (n : ℕ) (names : List Name) → IsDistinct same_name names → IsDistinct same_name (take n names)
+distinct_front n names apart = IsDistinct-from_apart same_name (take n names) (λ i j d less low.
+    let below : j < n = omega (arith, low, length-take n names) in
+    let within : j < length names = omega (arith, low, length-take n names) in
+    (λ z. same_name (get_or-take n names i d (omega (arith, less, below)) z) (get_or-take n names j d below z)) ∙ apart_from_distinct same_name names i j d apart less within)
+
 pub record_at-more : (rs : List IndexRecord) (i : ℕ) (d : IndexRecord) (q : Name) → HasNames rs → i < length rs
     → record_at (take (i + 1) rs) q ≡ cond (same_name (get_or rs i d).name q) (Some (get_or rs i d)) (record_at (take i rs) q)
 record_at-more rs i d q names low =
     let more = take_more rs i d low in
-    let front : HasNames (take (i + 1) rs) = subst (IsDistinct same_name) (take-map (λ (r : IndexRecord). r.name) (i + 1) rs) (distinct-take same_name_equiv (i + 1) (names_of rs) names) in
+    let front : HasNames (take (i + 1) rs) = subst (IsDistinct same_name) (take-map (λ (r : IndexRecord). r.name) (i + 1) rs) (distinct_front (i + 1) (names_of rs) names) in
     ap (λ l. record_at l q) more ∙ record_at-push (take i rs) (get_or rs i d) q (subst HasNames more front)
-
--- ---- records of the base
-
-map_under : (seen b : Bool) (r : IndexRecord) (o : Option IndexRecord) → cond b (Some (base_slot seen r)) (option_map (base_slot seen) o) ≡ option_map (base_slot seen) (cond b (Some r) o)
-map_under seen true r o = refl
-map_under seen false r o = refl
-
-pub base_step : (seen : Bool) (rs : List IndexRecord) (i : ℕ) (d : IndexRecord) (q : Name) (before after : Option Slot) → HasNames rs → i < length rs
-    → before ≡ option_map (base_slot seen) (record_at (take i rs) q) → after ≡ cond (same_name (get_or rs i d).name q) (Some (base_slot seen (get_or rs i d))) before
-    → after ≡ option_map (base_slot seen) (record_at (take (i + 1) rs) q)
-base_step seen rs i d q before after names low was is =
-    is ∙ ap (λ o. cond (same_name (get_or rs i d).name q) (Some (base_slot seen (get_or rs i d))) o) was
-    ∙ map_under seen (same_name (get_or rs i d).name q) (get_or rs i d) (record_at (take i rs) q)
-    ∙ ap (option_map (base_slot seen)) (sym (record_at-more rs i d q names low))
 
 -- what is held of a record is the record
 pub named_fits : (r : IndexRecord) (facts : Facts) → facts ≡ facts_of r → IsPlain r → (record_of r.name facts).name ≡ r.name × IsPlain (record_of r.name facts)
 named_fits r facts is plain = (refl, subst (λ f. IsPlain (record_of r.name f)) (sym is) plain)
-
-abbrev based_held : Bool → Facts → Held
-based_held seen facts = record { current = Some facts; base = Some facts; seen = seen }
-
-pub based_fits : (r : IndexRecord) (seen : Bool) (facts : Facts) → facts ≡ facts_of r → IsPlain r → IsSlotOf r.name (slot_of r.name (based_held seen facts))
-based_fits r seen facts is plain = record { current = named_fits r facts is plain; base = refl }
-
-pub based_under : (r : IndexRecord) (seen : Bool) (facts : Facts) → facts ≡ facts_of r → (q : Name) (before : Option Slot)
-    → cond (same_name r.name q) (Some (slot_of r.name (based_held seen facts))) before ≡ cond (same_name r.name q) (Some (base_slot seen r)) before
-based_under r seen facts is q before = ap (λ f. cond (same_name r.name q) (Some (slot_of r.name (based_held seen f))) before) is
 
 -- ---- changes of a journal
 

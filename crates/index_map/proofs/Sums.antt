@@ -6,7 +6,7 @@ use Rattle.std.specs.Prelude.{Option, None, Some}
 use Rattle.std.proofs.lemmas.List.Sums.{sum_by-le}
 use Rattle.index_record.specs.Record.{size_kb}
 use Rattle.index_record.specs.declared.record.IndexRecord.{IndexRecord}
-use Rattle.index_map.specs.Slots.{changed_of, counts_of, kilobytes_of, one_if, records_of, Slot}
+use Rattle.index_map.specs.Slots.{AreSmall, changed_of, counts_of, kilobytes_of, one_if, records_of, Slot}
 use Rattle.index_map.specs.declared.counts.Counts.{Counts}
 
 one_if-le : (b : Bool) → one_if b ≤ 1
@@ -57,11 +57,6 @@ changed_are : (n : Counts) (slots : List Slot) → n ≡ counts_of slots → n.c
 changed_are n slots h = ap (λ (m : Counts). m.changed) h
 
 -- the counts of fewer than 2^63 slots are small
-pub record AreSmall (n : Counts) : Type 0 where
-  pub records : n.records < 2 ^ 63
-  pub kilobytes : n.kilobytes < 2 ^ 127
-  pub changed : n.changed < 2 ^ 63
-
 pub small : (n : Counts) (slots : List Slot) → n ≡ counts_of slots → length slots < 2 ^ 63 → AreSmall n
 small n slots h few = record {
   records = omega (arith, records_are n slots h, records-le slots);

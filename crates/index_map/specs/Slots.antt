@@ -1,17 +1,19 @@
--- The table behind a map: a slot for each name, held without the name.
-use Rattle.std.specs.List.{IsDistinct, filter_map}
+-- The slots behind a map: one for each name, held without the name.
+use Rattle.std.specs.List.{IsDistinct, cons_option, filter_map}
 use Rattle.std.specs.Map.{keys_of, lookup, values_of}
 use Rattle.std.specs.Option.{option_eq, option_map, option_map_or}
-use Rattle.std.specs.Prelude.{All, Bool, IfSome, List, None, Option, Some, [], if◌then◌else◌, is_some, map, not, option_and_then, sum_by, ℕ, ◌||◌, ◌≡◌}
+use Rattle.std.specs.Prelude.{All, Bool, IfSome, List, None, Option, Some, [], false, if◌then◌else◌, is_some, length, map, not, option_and_then, sum_by, true, ℕ, ◌<◌, ◌∷◌, ◌^◌, ◌||◌, ◌≡◌}
 use Rattle.cache_base.specs.declared.name.Name.{Name}
 use Rattle.index_record.specs.Record.{removed_record, size_kb}
 use Rattle.index_record.specs.declared.record.IndexRecord.{IndexRecord}
 use Rattle.record_list.specs.Change.{record_eq}
-use Rattle.record_list.specs.Lists.{same_name}
-use Rattle.index_map.specs.Known.{IsPlain, Known}
+use Rattle.record_list.specs.Lists.{AreRising, same_name}
+use Rattle.index_map.specs.Known.{ArePlain, IsPlain, Known}
 use Rattle.index_map.specs.declared.slot.Facts.{Facts}
 use Rattle.index_map.specs.declared.slot.Held.{Held}
 use Rattle.index_map.specs.declared.counts.Counts.{Counts}
+use Rattle.index_map.specs.declared.mark.Mark.{Mark}
+use Rattle.index_map.specs.declared.mark.Mark.TheVariants.{Away, Gone, Seen, Unseen}
 
 -- what is known under a name: the record now, whether it was seen, and the record of the base
 pub record Slot : Type 0 where
@@ -19,10 +21,11 @@ pub record Slot : Type 0 where
   pub seen : Bool
   pub base : Option IndexRecord
 
--- a record without its name, and with a name again
+-- a record without its name
 abbrev pub facts_of : IndexRecord → Facts
 facts_of r = record { origin = r.origin; frecency = r.frecency; flags = r.flags; on_start = r.on_start; on_stop = r.on_stop; content = r.content }
 
+-- the record of a name
 abbrev pub record_of : Name → Facts → IndexRecord
 record_of name f = record { name = name; frecency = f.frecency; origin = f.origin; on_start = f.on_start; on_stop = f.on_stop; content = f.content; flags = f.flags }
 
@@ -42,13 +45,15 @@ bare held = slot_of (record { 0 = [] }) held
 abbrev pub seen_of : Slot → Option IndexRecord
 seen_of slot = if slot.seen then slot.current else None
 
--- the records in slots: those now, those that were seen, and those of the base
+-- the records now in slots
 abbrev pub current_in : List Slot → List IndexRecord
 current_in slots = filter_map (λ slot. slot.current) slots
 
+-- those of them that were seen
 abbrev pub seen_in : List Slot → List IndexRecord
 seen_in slots = filter_map seen_of slots
 
+-- the records of the base in slots
 abbrev pub base_in : List Slot → List IndexRecord
 base_in slots = filter_map (λ slot. slot.base) slots
 
@@ -65,26 +70,30 @@ shown table has_base = record {
 abbrev pub differs : Slot → Bool
 differs slot = not (option_eq record_eq slot.base slot.current)
 
--- what a journal has to say of a slot
+-- what a journal has to say of a name with this record in the base, or none, and this one now, or none
 abbrev pub change_of : Option IndexRecord → Option IndexRecord → Option IndexRecord
 change_of None None = None
 change_of (Some b) None = Some (removed_record b.name)
 change_of None (Some r) = Some r
 change_of (Some b) (Some r) = if record_eq b r then None else Some r
 
+-- what a journal has to say of a slot
 abbrev pub change_in : Slot → Option IndexRecord
 change_in slot = change_of slot.base slot.current
 
--- what a slot adds to the counts
+-- one where a test holds
 abbrev pub one_if : Bool → ℕ
 one_if test = if test then 1 else 0
 
+-- what a slot adds to the number of records
 abbrev pub records_of : Slot → ℕ
 records_of slot = one_if (is_some slot.current)
 
+-- what a slot adds to the sum of the sizes in KB
 abbrev pub kilobytes_of : Slot → ℕ
 kilobytes_of slot = option_map_or size_kb slot.current 0
 
+-- what a slot adds to the number of names that changed
 abbrev pub changed_of : Slot → ℕ
 changed_of slot = one_if (differs slot)
 
@@ -95,6 +104,12 @@ counts_of slots = record {
   kilobytes = sum_by kilobytes_of slots;
   changed = sum_by changed_of slots;
 }
+
+-- counts that can be added up
+pub record AreSmall (n : Counts) : Type 0 where
+  pub records : n.records < 2 ^ 63
+  pub kilobytes : n.kilobytes < 2 ^ 127
+  pub changed : n.changed < 2 ^ 63
 
 -- a slot holds records of its own name, and that of now is not removed, dirty or fresh
 pub record IsSlotOf (name : Name) (slot : Slot) : Type 0 where
@@ -110,10 +125,11 @@ pub record IsTable (table : List (Name × Slot)) : Type 0 where
 abbrev pub Puts : List (Name × Slot) → List (Name × Slot) → Name → Option Slot → Type 0
 Puts old new name slot = (q : Name) → lookup (same_name q) new ≡ (if same_name name q then slot else lookup (same_name q) old)
 
--- a slot with only what was seen, and a slot with the record now as the base
+-- a slot without its record now where that was not seen
 abbrev pub seen_only : Slot → Slot
 seen_only slot = record slot { current = seen_of slot }
 
+-- a slot whose record now is the base's, too
 abbrev pub written : Slot → Slot
 written slot = record slot { base = slot.current }
 
@@ -121,13 +137,15 @@ written slot = record slot { base = slot.current }
 abbrev pub is_used : Slot → Bool
 is_used slot = is_some slot.current || is_some slot.base
 
--- the same of what is held
+-- the same three of what is held: without an unseen record now
 abbrev pub seen_held : Held → Held
 seen_held held = record held { current = if held.seen then held.current else None }
 
+-- with the record now as the base's
 abbrev pub written_held : Held → Held
 written_held held = record held { base = held.current }
 
+-- whether it holds a record
 abbrev pub is_held : Held → Bool
 is_held held = is_some held.current || is_some held.base
 
@@ -146,3 +164,60 @@ record_slot r seen old = record { current = Some r; seen = seen; base = option_a
 -- the slot of a record that is in the base and now
 abbrev pub base_slot : Bool → IndexRecord → Slot
 base_slot seen r = record { current = Some r; seen = seen; base = Some r }
+
+-- ---- the list of the base
+
+-- the slot of a record of the base with this mark: the record now is the base's, or there is none, or its slot stands in the table
+abbrev pub marked : IndexRecord → Mark → Option Slot
+marked r Unseen = Some (base_slot false r)
+marked r Seen = Some (base_slot true r)
+marked r Gone = Some (record { current = None; seen = false; base = Some r })
+marked r Away = None
+
+-- the slots of a list of records, each with its mark
+abbrev pub marked_in : List IndexRecord → List Mark → List (Name × Slot)
+marked_in [] marks = []
+marked_in (r ∷ rs) [] = []
+marked_in (r ∷ rs) (m ∷ marks) = cons_option (option_map (λ slot. (r.name, slot)) (marked r m)) (marked_in rs marks)
+
+-- the mark of a record that begins seen or not
+abbrev pub first_mark : Bool → Mark
+first_mark seen = if seen then Seen else Unseen
+
+-- what a slot adds, if there is one
+abbrev pub weigh : (Slot → ℕ) → Option Slot → ℕ
+weigh f slot = option_map_or f slot 0
+
+-- the list of the base: records in name order, none of which is removed, dirty or fresh, each with a mark, and the counts
+pub record IsBase (rs : List IndexRecord) (marks : List Mark) (counts : Counts) : Type 0 where
+  pub rising : AreRising rs
+  pub plain : ArePlain rs
+  pub long : length marks ≡ length rs
+  pub few : length rs < 2 ^ 63
+  pub counted : counts ≡ counts_of (values_of (marked_in rs marks))
+
+-- what a slot of the list becomes with another mark
+abbrev pub remarked : Mark → Slot → Option Slot
+remarked mark slot = option_and_then (λ r. marked r mark) slot.base
+
+-- a name without a record now
+abbrev pub gone_slot : Option Slot → Option Slot
+gone_slot old = option_map (λ b. record { current = None; seen = false; base = Some b }) (option_and_then (λ slot. slot.base) old)
+
+-- no name has a slot in both
+abbrev pub AreApart : List (Name × Slot) → List (Name × Slot) → Type 0
+AreApart a b = (q : Name) → IfSome (lookup (same_name q) a) (λ slot. lookup (same_name q) b ≡ None)
+
+-- the mark after all unseen records are dropped
+abbrev pub seen_mark : Mark → Mark
+seen_mark Unseen = Gone
+seen_mark Seen = Seen
+seen_mark Gone = Gone
+seen_mark Away = Away
+
+-- the mark after the records now are written
+abbrev pub written_mark : Mark → Mark
+written_mark Unseen = Unseen
+written_mark Seen = Seen
+written_mark Gone = Away
+written_mark Away = Away

@@ -1,10 +1,14 @@
 //! The counts that a table keeps.
 
 ghost use Rattle.std.specs.Prelude.{◌≡◌, ◌+◌, ◌-◌, ◌<◌, ◌≤◌, ◌^◌, length, map};
+ghost use Rattle.std.specs.Map.{values_of};
 ghost use Rattle.index_map.specs.Slots as spec;
 
+use crate::mark::Mark;
 use crate::slot::{Held, differs};
-use index_record::SIZE_MAX;
+use cache_base::Name;
+use index_record::{IndexRecord, SIZE_MAX, size_kb};
+use std::collections::BTreeMap;
 
 /// The number of records, and the sum of the sizes of their files.
 #[derive(Clone, Copy, Debug, PartialEq, Eq)]
@@ -77,14 +81,112 @@ pub(crate) fn without(counts: &Counts, slot: &Held) -> Counts
     }
 }
 
-/// The counts of these slots.
-pub(crate) fn count(slots: &[Held]) -> Counts
-    requires { length slots.now < 2 ^ 63 }
-    ensures { result ≡ spec.counts_of (map spec.bare slots.now) }
+/// The counts of the slots of a table.
+pub(crate) fn count(slots: &BTreeMap<Name, Held>) -> Counts
+    ensures { result ≡ spec.counts_of (map spec.bare (values_of slots.now.entries)) }
 {
     let mut counts = Counts::NONE;
-    for slot in slots {
+    for slot in slots.values() {
         counts = with(&counts, slot);
     }
     counts
+}
+
+// What a record of the base adds to the number of records.
+fn records_in(r: &IndexRecord, mark: Mark) -> u64
+    ensures value { result ≡ spec.weigh spec.records_of (spec.marked r.now mark) }
+    ensures bound { result < 2 }
+{
+    match mark {
+        Mark::Unseen => 1,
+        Mark::Seen => 1,
+        Mark::Gone => 0,
+        Mark::Away => 0,
+    }
+}
+
+// What it adds to the sum of the sizes.
+fn kilobytes_in(r: &IndexRecord, mark: Mark) -> u32
+    ensures value { result ≡ spec.weigh spec.kilobytes_of (spec.marked r.now mark) }
+{
+    match mark {
+        Mark::Unseen => size_kb(r),
+        Mark::Seen => size_kb(r),
+        Mark::Gone => 0,
+        Mark::Away => 0,
+    }
+}
+
+// What it adds to the number of names that changed.
+fn changed_in(r: &IndexRecord, mark: Mark) -> u64
+    ensures value { result ≡ spec.weigh spec.changed_of (spec.marked r.now mark) }
+    ensures bound { result < 2 }
+{
+    match mark {
+        Mark::Unseen => 0,
+        Mark::Seen => 0,
+        Mark::Gone => 1,
+        Mark::Away => 0,
+    }
+}
+
+/// The counts with one record of the base more.
+pub(crate) fn with_marked(counts: &Counts, r: &IndexRecord, mark: Mark) -> Counts
+    requires records { counts.now.records < 2 ^ 63 }
+    requires kilobytes { counts.now.kilobytes < 2 ^ 127 }
+    requires changed { counts.now.changed < 2 ^ 63 }
+    ensures records { result.records ≡ counts.now.records + spec.weigh spec.records_of (spec.marked r.now mark) }
+    ensures kilobytes { result.kilobytes ≡ counts.now.kilobytes + spec.weigh spec.kilobytes_of (spec.marked r.now mark) }
+    ensures changed { result.changed ≡ counts.now.changed + spec.weigh spec.changed_of (spec.marked r.now mark) }
+{
+    Counts {
+        records: counts.records + records_in(r, mark),
+        kilobytes: counts.kilobytes + u128::from(kilobytes_in(r, mark)),
+        changed: counts.changed + changed_in(r, mark),
+    }
+}
+
+/// The counts with one record of the base less.
+pub(crate) fn without_marked(counts: &Counts, r: &IndexRecord, mark: Mark) -> Counts
+    requires records { spec.weigh spec.records_of (spec.marked r.now mark) ≤ counts.now.records }
+    requires kilobytes { spec.weigh spec.kilobytes_of (spec.marked r.now mark) ≤ counts.now.kilobytes }
+    requires changed { spec.weigh spec.changed_of (spec.marked r.now mark) ≤ counts.now.changed }
+    ensures records { result.records ≡ counts.now.records - spec.weigh spec.records_of (spec.marked r.now mark) }
+    ensures kilobytes { result.kilobytes ≡ counts.now.kilobytes - spec.weigh spec.kilobytes_of (spec.marked r.now mark) }
+    ensures changed { result.changed ≡ counts.now.changed - spec.weigh spec.changed_of (spec.marked r.now mark) }
+{
+    Counts {
+        records: counts.records - records_in(r, mark),
+        kilobytes: counts.kilobytes - u128::from(kilobytes_in(r, mark)),
+        changed: counts.changed - changed_in(r, mark),
+    }
+}
+
+/// The counts of the records of a base.
+pub(crate) fn count_marked(records: &[IndexRecord], marks: &[Mark]) -> Counts
+    requires long { length marks.now ≡ length records.now }
+    requires small { length records.now < 2 ^ 63 }
+    ensures { result ≡ spec.counts_of (values_of (spec.marked_in records.now marks.now)) }
+{
+    let mut counts = Counts::NONE;
+    for i in 0..records.len() {
+        counts = with_marked(&counts, &records[i], marks[i]);
+    }
+    counts
+}
+
+/// The two counts together.
+pub(crate) fn both(a: Counts, b: Counts) -> Counts
+    requires records { a.records + b.records < 2 ^ 64 }
+    requires kilobytes { a.kilobytes + b.kilobytes < 2 ^ 128 }
+    requires changed { a.changed + b.changed < 2 ^ 64 }
+    ensures records { result.records ≡ a.records + b.records }
+    ensures kilobytes { result.kilobytes ≡ a.kilobytes + b.kilobytes }
+    ensures changed { result.changed ≡ a.changed + b.changed }
+{
+    Counts {
+        records: a.records + b.records,
+        kilobytes: a.kilobytes + b.kilobytes,
+        changed: a.changed + b.changed,
+    }
 }

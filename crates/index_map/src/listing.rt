@@ -1,16 +1,17 @@
 //! Lists made of the slots of a table.
 
-ghost use Rattle.std.specs.Prelude.{◌≡◌, ◌++◌, IfOk, OnOk, option_to_list};
+ghost use Rattle.std.specs.Prelude.{◌≡◌, ◌++◌, IfOk, OnOk, length, option_and_then, option_to_list};
 ghost use Rattle.std.specs.List.{filter_map};
 ghost use Rattle.std.specs.Map.{values_of};
 ghost use Rattle.record_list.specs.Lists.{HasNames, IsByName};
 ghost use Rattle.index_map.specs.Slots as spec;
 
+use crate::mark::{Mark, change_of, current_of};
 use crate::slot::{Held, change, named};
 use cache_base::{Name, NoMemory};
 use index_record::{IndexRecord, Records};
-use indexmap::IndexMap;
 use std::alloc::Global;
+use std::collections::BTreeMap;
 
 fn push_if(list: &mut Vec<IndexRecord>, found: Option<IndexRecord>) -> Result<(), NoMemory>
     ensures { OnOk result (list.new.items ≡ list.old.items ++ option_to_list found) }
@@ -22,10 +23,10 @@ fn push_if(list: &mut Vec<IndexRecord>, found: Option<IndexRecord>) -> Result<()
     Ok(())
 }
 
-/// The records now, in the order of the slots.
+/// The records now, in name order.
 pub(crate) fn current_records(
     alloc: Global,
-    slots: &IndexMap<Name, Held>,
+    slots: &BTreeMap<Name, Held>,
 ) -> Result<Vec<IndexRecord>, NoMemory>
     ensures { IfOk result (λ list.
         list.items ≡ spec.current_in (values_of (spec.slots_of slots.now.entries))) }
@@ -37,10 +38,10 @@ pub(crate) fn current_records(
     Ok(list)
 }
 
-/// What a journal has to say, in the order of the slots.
+/// What a journal has to say, in name order.
 pub(crate) fn changes(
     alloc: Global,
-    slots: &IndexMap<Name, Held>,
+    slots: &BTreeMap<Name, Held>,
 ) -> Result<Vec<IndexRecord>, NoMemory>
     ensures { IfOk result (λ list.
         list.items ≡ filter_map spec.change_in (values_of (spec.slots_of slots.now.entries))) }
@@ -50,6 +51,39 @@ pub(crate) fn changes(
         push_if(&mut list, change(name, slot))?;
     }
     Ok(list)
+}
+
+/// Adds the records now of the names of a base, in the order of the base.
+pub(crate) fn push_current(
+    list: &mut Vec<IndexRecord>,
+    records: &[IndexRecord],
+    marks: &[Mark],
+) -> Result<(), NoMemory>
+    requires { length marks.now ≡ length records.now }
+    ensures { OnOk result (list.new.items
+        ≡ list.old.items ++ spec.current_in (values_of (spec.marked_in records.now marks.now))) }
+{
+    list.reserve(records.len())?;
+    for i in 0..records.len() {
+        push_if(list, current_of(&records[i], marks[i]))?;
+    }
+    Ok(())
+}
+
+/// Adds what a journal has to say of the names of a base, in the order of the base.
+pub(crate) fn push_changes(
+    list: &mut Vec<IndexRecord>,
+    records: &[IndexRecord],
+    marks: &[Mark],
+) -> Result<(), NoMemory>
+    requires { length marks.now ≡ length records.now }
+    ensures { OnOk result (list.new.items
+        ≡ list.old.items ++ filter_map spec.change_in (values_of (spec.marked_in records.now marks.now))) }
+{
+    for i in 0..records.len() {
+        push_if(list, change_of(&records[i], marks[i]))?;
+    }
+    Ok(())
 }
 
 /// The records in name order, in the memory that holds them.

@@ -7,11 +7,9 @@ ghost use Rattle.record_list.specs.Lists.{HasNames, IsByName, record_at};
 ghost use Rattle.record_list.specs.Stored.{AreClean, IsClean};
 
 use crate::counts::Totals;
-use crate::filling::{base_table, put_record};
+use crate::layers::Layers;
 use crate::listing::by_name;
-use crate::reading::{base_at, seen_at};
-use crate::slot::Held;
-use crate::table::Table;
+use crate::reading::seen_at;
 use cache_base::{Name, NoMemory};
 use index_record::{IndexRecord, Records, is_removed};
 use std::alloc::Global;
@@ -21,7 +19,7 @@ use std::marker::Model;
 /// file `index`, if there is one.
 #[derive(Drop)]
 pub struct RecordMap {
-    table: Table,
+    slots: Layers,
     has_base: bool,
     alloc: Global,
 }
@@ -32,7 +30,7 @@ impl Model for RecordMap {
 
     ghost Value = { Known };
 
-    ghost view = { λ m. shown m.table m.has_base };
+    ghost view = { λ m. shown m.slots m.has_base };
 }
 
 impl RecordMap {
@@ -43,51 +41,40 @@ impl RecordMap {
         ensures { result ≡ spec.no_records }
     {
         RecordMap {
-            table: Table::new(alloc),
+            slots: Layers::new(alloc),
             has_base: false,
             alloc,
         }
     }
 
-    // The map of a base, with room for so many names more.
-    fn over(alloc: Global, base: &Records, more: usize, seen: bool) -> Result<RecordMap, NoMemory>
-        requires names { HasNames base.now }
-        requires plain { spec.ArePlain base.now }
-        ensures { IfOk result (spec.Begins base.now base.now seen) }
+    /// The map of the records of a base, all of them seen or none. Records in name order stay where they are, and are not
+    /// copied.
+    pub fn with_base(alloc: Global, base: Records, seen: bool) -> Result<RecordMap, NoMemory>
+        requires names { HasNames base }
+        requires plain { spec.ArePlain base }
+        ensures { IfOk result (spec.Begins base base seen) }
     {
-        let base = base.as_slice();
-        let room = base.len().saturating_add(more);
         Ok(RecordMap {
-            table: base_table(alloc, base, room, seen)?,
+            slots: Layers::over(alloc, base, seen)?,
             has_base: true,
             alloc,
         })
     }
 
-    /// The map of the records of a base, all of them seen or none.
-    pub fn with_base(alloc: Global, base: &Records, seen: bool) -> Result<RecordMap, NoMemory>
-        requires names { HasNames base.now }
-        requires plain { spec.ArePlain base.now }
-        ensures { IfOk result (spec.Begins base.now base.now seen) }
-    {
-        RecordMap::over(alloc, base, 0, seen)
-    }
-
     /// The map of the records of a base after the changes of a journal, all of them seen, over this base.
     pub fn with_journal(
         alloc: Global,
-        base: &Records,
+        base: Records,
         changes: &Records,
     ) -> Result<RecordMap, NoMemory>
-        requires base_names { HasNames base.now }
-        requires plain { spec.ArePlain base.now }
+        requires base_names { HasNames base }
+        requires plain { spec.ArePlain base }
         requires names { HasNames changes.now }
         requires clean { AreClean changes.now }
-        ensures { IfOk result (spec.BeginsAfter base.now changes.now) }
+        ensures { IfOk result (spec.BeginsAfter base changes.now) }
     {
-        let changes = changes.as_slice();
-        let mut map = RecordMap::over(alloc, base, changes.len(), true)?;
-        map.apply(changes)?;
+        let mut map = RecordMap::with_base(alloc, base, true)?;
+        map.apply(changes.as_slice())?;
         Ok(map)
     }
 
@@ -122,25 +109,14 @@ impl RecordMap {
         ensures ok { OnOk result (spec.Sets self.old self.new r.name (Some r)) }
         ensures err { OnErr result (self.new ≡ self.old) }
     {
-        put_record(&mut self.table, &r, true)
+        self.slots.put(&r)
     }
 
     /// Takes the record of a name out, if there is one, and marks the name as seen.
     pub fn remove(&mut self, name: &Name)
         ensures { spec.Sets self.old self.new name.now None }
     {
-        match base_at(&self.table, name) {
-            None => self.table.take(name),
-            Some(base) => {
-                let slot = Held {
-                    current: None,
-                    base: Some(base),
-                    seen: true,
-                };
-                // A name that has a slot needs no memory.
-                self.table.put(*name, slot).unwrap();
-            }
-        }
+        self.slots.remove(name);
     }
 
     /// The record of a name, if it was seen.
@@ -148,14 +124,14 @@ impl RecordMap {
         ensures record { result ≡ record_at self.now.seen name.now }
         ensures known { spec.IsKnown self.now }
     {
-        seen_at(&self.table, name)
+        seen_at(&self.slots, name)
     }
 
     /// Takes every record out that was not seen.
     pub fn drop_unseen(&mut self)
         ensures { self.new ≡ record self.old { records = self.old.seen } }
     {
-        self.table.keep_seen();
+        self.slots.keep_seen();
     }
 
     /// The number of records now, and the sum of the sizes of their files. They are kept, and not counted again.
@@ -164,7 +140,7 @@ impl RecordMap {
         ensures kilobytes { result.kilobytes ≡ sum_by size_kb_of self.now.records }
         ensures known { spec.IsKnown self.now }
     {
-        let counts = self.table.counts();
+        let counts = self.slots.counts();
         Totals {
             count: counts.records,
             kilobytes: counts.kilobytes,
@@ -177,7 +153,7 @@ impl RecordMap {
         ensures count { result ≡ spec.changed self.now.base self.now.records }
         ensures known { spec.IsKnown self.now }
     {
-        self.table.counts().changed
+        self.slots.counts().changed
     }
 
     /// Whether there is a base.
@@ -191,7 +167,7 @@ impl RecordMap {
     pub fn mark_written(&mut self)
         ensures { self.new ≡ record self.old { base = self.old.records; has_base = true } }
     {
-        self.table.settle();
+        self.slots.mark_written();
         self.has_base = true;
     }
 
@@ -200,7 +176,7 @@ impl RecordMap {
         ensures by_name { IfOk result (IsByName self.now.records) }
         ensures known { spec.IsKnown self.now }
     {
-        Ok(by_name(self.table.records(self.alloc)?))
+        Ok(by_name(self.slots.records(self.alloc)?))
     }
 
     /// What a journal has to say: in name order, for each name whose record now differs from the base's, the record now,
@@ -211,6 +187,6 @@ impl RecordMap {
         ensures count { IfOk result (λ records. length records ≡ spec.changed self.now.base self.now.records) }
         ensures known { spec.IsKnown self.now }
     {
-        Ok(by_name(self.table.changes(self.alloc)?))
+        Ok(by_name(self.slots.changes(self.alloc)?))
     }
 }

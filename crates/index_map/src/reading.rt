@@ -6,6 +6,7 @@ ghost use Rattle.std.specs.Option.{option_map};
 ghost use Rattle.record_list.specs.Lists.{same_name};
 ghost use Rattle.index_map.specs.Slots as spec;
 
+use crate::layers::Layers;
 use crate::slot::{Facts, named};
 use crate::table::Table;
 use cache_base::Name;
@@ -24,7 +25,7 @@ pub(crate) fn base_at(table: &Table, name: &Name) -> Option<Facts>
 }
 
 /// The record of a name now, if it was seen.
-pub(crate) fn seen_at(table: &Table, name: &Name) -> Option<IndexRecord>
+pub(crate) fn seen_at(table: &Layers, name: &Name) -> Option<IndexRecord>
     ensures record { result ≡ option_and_then spec.seen_of (lookup (same_name name.now) table.now) }
     ensures table { spec.IsTable table.now }
 {

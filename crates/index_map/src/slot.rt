@@ -121,7 +121,7 @@ pub(crate) fn keep_seen(slot: &mut Held) -> bool
 }
 
 /// Makes the record now the base's, and says whether the slot holds a record then.
-pub(crate) fn settle(slot: &mut Held) -> bool
+pub(crate) fn mark_written(slot: &mut Held) -> bool
     ensures slot { slot.new ≡ spec.written_held slot.old }
     ensures used { result ≡ spec.is_held slot.new }
 {

@@ -1,4 +1,4 @@
-//! The table under a map: a slot for each name, and the counts of the slots.
+//! Slots in name order, and their counts.
 
 ghost use Rattle.std.specs.Prelude.{◌≡◌, [], IfOk, OnOk, OnErr, None, Some};
 ghost use Rattle.std.specs.List.{filter_map};
@@ -8,17 +8,19 @@ ghost use Rattle.record_list.specs.Lists.{same_name};
 
 use crate::counts::{Counts, count, with, without};
 use crate::listing::{changes, current_records};
-use crate::slot::{Held, keep_seen, settle};
+use crate::reading::base_at;
+use crate::slot::{Held, keep_seen, mark_written};
 use cache_base::{Name, NoMemory};
 use index_record::IndexRecord;
-use indexmap::IndexMap;
 use std::alloc::Global;
+use std::collections::BTreeMap;
 use std::marker::Model;
 
-/// A slot for each name that has a record now or in the base.
+/// The slots of some names, each of which has a record now or in the base. They stand in an ordered map: names come from
+/// files that anyone may have written, and no choice of names may make a search long.
 #[derive(Drop)]
 pub(crate) struct Table {
-    slots: IndexMap<Name, Held>,
+    slots: BTreeMap<Name, Held>,
     counts: Counts,
 }
 
@@ -45,20 +47,9 @@ impl Table {
         ensures table { spec.IsTable result }
     {
         Table {
-            slots: IndexMap::new(alloc),
+            slots: BTreeMap::new(alloc),
             counts: Counts::NONE,
         }
-    }
-
-    /// The table with no slot, and with room for so many.
-    pub fn with_room(alloc: Global, slots: usize) -> Result<Table, NoMemory>
-        ensures slots { IfOk result (λ table. table ≡ []) }
-        ensures table { IfOk result spec.IsTable }
-    {
-        Ok(Table {
-            slots: IndexMap::with_capacity(alloc, slots)?,
-            counts: Counts::NONE,
-        })
     }
 
     /// The slot of a name.
@@ -73,12 +64,15 @@ impl Table {
     /// The counts of the slots.
     pub fn counts(&self) -> Counts
         ensures counts { result ≡ spec.counts_of (values_of self.now) }
+        ensures small { spec.AreSmall result }
         ensures table { spec.IsTable self.now }
     {
+        // A map has fewer than 2^63 entries.
+        let _len = self.slots.len();
         self.counts
     }
 
-    /// The records now, in the order of the slots.
+    /// The records now, in name order.
     pub fn records(&self, alloc: Global) -> Result<Vec<IndexRecord>, NoMemory>
         ensures records { IfOk result (λ list. list.items ≡ spec.current_in (values_of self.now)) }
         ensures table { spec.IsTable self.now }
@@ -86,7 +80,7 @@ impl Table {
         current_records(alloc, &self.slots)
     }
 
-    /// What a journal has to say, in the order of the slots.
+    /// What a journal has to say, in name order.
     pub fn changes(&self, alloc: Global) -> Result<Vec<IndexRecord>, NoMemory>
         ensures changes { IfOk result (λ list.
             list.items ≡ filter_map spec.change_in (values_of self.now)) }
@@ -120,8 +114,29 @@ impl Table {
         ensures was_table { spec.IsTable self.old }
         ensures table { spec.IsTable self.new }
     {
-        if let Some(old) = self.slots.swap_remove(name) {
+        if let Some(old) = self.slots.remove(name) {
             self.counts = without(&self.counts, &old);
+        }
+    }
+
+    /// Takes the record of a name out, and its slot where the base has no record of the name.
+    pub fn remove(&mut self, name: &Name)
+        ensures removes { spec.Puts self.old self.new name.now
+            (spec.gone_slot (lookup (same_name name.now) self.old)) }
+        ensures was_table { spec.IsTable self.old }
+        ensures table { spec.IsTable self.new }
+    {
+        match base_at(self, name) {
+            None => self.take(name),
+            Some(base) => {
+                let slot = Held {
+                    current: None,
+                    base: Some(base),
+                    seen: false,
+                };
+                // A name that has a slot needs no memory.
+                self.put(*name, slot).unwrap();
+            }
         }
     }
 
@@ -132,16 +147,16 @@ impl Table {
         ensures table { spec.IsTable self.new }
     {
         self.slots.retain(|_, slot| keep_seen(slot));
-        self.counts = count(self.slots.values().as_slice());
+        self.counts = count(&self.slots);
     }
 
     /// Makes the records now those of the base, and takes out the slots that hold no record then.
-    pub fn settle(&mut self)
+    pub fn mark_written(&mut self)
         ensures slots { self.new ≡ spec.rewritten spec.written self.old }
         ensures was_table { spec.IsTable self.old }
         ensures table { spec.IsTable self.new }
     {
-        self.slots.retain(|_, slot| settle(slot));
-        self.counts = count(self.slots.values().as_slice());
+        self.slots.retain(|_, slot| mark_written(slot));
+        self.counts = count(&self.slots);
     }
 }

@@ -22,6 +22,11 @@ const HELLO: &[u8] = b"hello\x06\xab\x5e\x9a\x39\x9e\
     \0\0\0\x03\0\0\0\x01\0\0\x03\xe8\0\0\x03\xe8\0\0\x03\xe8\xff\xff\xff\xff\0\0\0\x15\0\0\0\0\
     :https://example.com/\0\0\0\0\x05";
 
+// The same as version 1.
+const FIRST: &[u8] = b"hello\x42\x4d\x09\x3d\x39\x9e\
+    \0\0\0\x01\0\0\0\x01\0\0\x03\xe8\0\0\x03\xe8\0\0\x03\xe8\xff\xff\xff\xff\0\0\0\x15\
+    :https://example.com/\0\0\0\0\x05";
+
 // The file `HELLO`, where the first letter of the body is another.
 const CHANGED: &[u8] = b"jello\x06\xab\x5e\x9a\x39\x9e\
     \0\0\0\x03\0\0\0\x01\0\0\x03\xe8\0\0\x03\xe8\0\0\x03\xe8\xff\xff\xff\xff\0\0\0\x15\0\0\0\0\
@@ -174,9 +179,15 @@ const SOUND: Row<'_> = Row {
     calls: None,
 };
 
-const ROWS: [Row<'_>; 9] = [
+const ROWS: [Row<'_>; 10] = [
     // a sound entry has no findings
     Row {
+        calls: Some(5),
+        ..SOUND
+    },
+    // nor has one of version 1, whose record is the same
+    Row {
+        files: &[(NAME, FIRST)],
         calls: Some(5),
         ..SOUND
     },

@@ -56,19 +56,19 @@ fn one_gone(alloc: Global) -> Result<Records, NoMemory>
 fn two_records(alloc: Global, two: u16) -> Result<RecordMap, NoMemory> {
     let base = pair(alloc, 1, 2)?;
     let changes = pair(alloc, 1, two)?;
-    RecordMap::with_journal(alloc, &base, &changes)
+    RecordMap::with_journal(alloc, base, &changes)
 }
 
 // A map over the same base, after the journal by which the first name is gone.
 fn after_gone(alloc: Global) -> Result<RecordMap, NoMemory> {
     let base = pair(alloc, 1, 2)?;
     let changes = one_gone(alloc)?;
-    RecordMap::with_journal(alloc, &base, &changes)
+    RecordMap::with_journal(alloc, base, &changes)
 }
 
 // A map over the same base, whose records were seen or not.
 fn over_base(alloc: Global, seen: bool) -> Result<RecordMap, NoMemory> {
-    RecordMap::with_base(alloc, &pair(alloc, 1, 2)?, seen)
+    RecordMap::with_base(alloc, pair(alloc, 1, 2)?, seen)
 }
 
 // A new map in place of the old one, a change of the map, or what it tells.

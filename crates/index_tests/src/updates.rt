@@ -104,7 +104,7 @@ fn unseen(alloc: Global, name: Option<Name>) -> Result<RecordMap, NoMemory> {
         None => Ok(RecordMap::new(alloc)),
         Some(name) => {
             let records = one(alloc, record(name, 1))?;
-            RecordMap::with_base(alloc, &records, false)
+            RecordMap::with_base(alloc, records, false)
         }
     }
 }

@@ -1,5 +1,5 @@
 -- What a sync takes off, key by key.
-use Rattle.std.proofs.Common.{rules, ◌≡◌, sym, ap, subst, ◌∙◌, [], ◌∷◌, ◌++◌, Option, Some, None, OnOk, Result, Ok, Err}
+use Rattle.std.proofs.Common.{rules, ◌≡◌, sym, ap, subst, ◌∙◌, [], ◌∷◌, ◌++◌, Option, Some, None}
 use Rattle.std.specs.Option.{IfSome, IsSome}
 use Rattle.std.specs.List.{All, slice_get}
 use Rattle.std.specs.BTreeSet.{BTreeSet, btree_set_len}
@@ -28,6 +28,5 @@ module _ {K : Type 0} (P : K → Type 0) where
   takes_first before mid now first None t at holds there removal = absurd (search rules)
 
   -- all keys, where none is left
-  pub takes_all : {T E : Type 0} (r : Result T E) (before now : BTreeSet K) → TakesOff P before now → OnOk r (btree_set_len now ≡ 0) → OnOk r (All P before.keys)
-  takes_all (Ok value) before now t none = subst (All P) (sym (t.first ∙ ap (λ keys. t.taken ++ keys) (nil_from_length now.keys none) ∙ append-nil t.taken)) t.each
-  takes_all (Err fault) before now t none = tt
+  pub takes_all : (before now : BTreeSet K) → TakesOff P before now → btree_set_len now ≡ 0 → All P before.keys
+  takes_all before now t none = subst (All P) (sym (t.first ∙ ap (λ keys. t.taken ++ keys) (nil_from_length now.keys none) ∙ append-nil t.taken)) t.each

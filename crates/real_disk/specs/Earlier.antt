@@ -7,7 +7,13 @@ use Rattle.real_disk.specs.declared.earlier.Earlier.TheVariants.{Unknown, Unsync
 abbrev pub IsKnown : Earlier → Type 0
 IsKnown Unknown = ⊥
 IsKnown Unsynced = Unit {0}
-IsKnown Synced = Unit {0}
+IsKnown (Synced covered) = Unit {0}
+
+-- no change of an earlier process waits
+abbrev pub IsSynced : Earlier → Type 0
+IsSynced Unknown = ⊥
+IsSynced Unsynced = ⊥
+IsSynced (Synced covered) = Unit {0}
 
 -- it is known now, and what was known before stays
 pub record HasLooked (before now : Earlier) : Type 0 where

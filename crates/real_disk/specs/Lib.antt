@@ -3,4 +3,5 @@ pub mod Folders
 pub mod Files
 pub mod Taken
 pub mod Earlier
+pub mod Settled
 pub mod Pending

@@ -1,21 +1,46 @@
 //! What an earlier process has left in the system's memory.
 //!
 //! A process that was killed may have changed files and names that the system has not put on the medium yet. So the
-//! first sync goes over all that stands, unless the cache was closed: a closing syncs it all.
+//! first sync goes over all that stands, unless the cache was closed, since a closing syncs it all, or an earlier process
+//! left the note that all was synced.
 
-ghost use Rattle.std.specs.Prelude.{◌≡◌};
-ghost use Rattle.real_disk.specs.Earlier.{IsKnown};
+ghost use Rattle.std.specs.Prelude.{◌≡◌, ◌↔◌, IsTrue};
+ghost use Rattle.real_disk.specs.Earlier.{IsKnown, IsSynced};
 
-use crate::contents::read_from;
-use crate::paths::path_of;
-use crate::tree::{file_len, read_only};
-use disk_model::Place;
+use crate::contents::read_whole;
+use crate::paths::{INDEX, LOG, TMP, path_in};
+use crate::standing::Standing;
+use crate::sync_note;
+use crate::tree::{file_len, open_regular, read_only};
 use std::fs;
 use std::io::{self, ErrorKind};
 use std::rt::Files;
 
 // Where the flag of `index` stands (docs/FORMATS.md).
 const FLAG_AT: u64 = 8;
+
+/// Why no change of an earlier process waits. Only the functions here make it.
+#[derive(Clone, Copy, Debug, PartialEq, Eq)]
+pub(crate) struct Covered {
+    by: Cover,
+}
+
+#[derive(Clone, Copy, Debug, PartialEq, Eq)]
+enum Cover {
+    // The cache was closed.
+    Closing,
+    // An earlier process left the note that all was synced.
+    Note,
+    // This process synced all that stood.
+    Sync,
+}
+
+impl Covered {
+    /// All that stood was synced by this process.
+    pub(crate) fn by_sync(_standing: Standing) -> Self {
+        Covered { by: Cover::Sync }
+    }
+}
 
 /// Whether changes of an earlier process may wait for a sync.
 #[derive(Clone, Copy, Debug, PartialEq, Eq)]
@@ -24,8 +49,8 @@ pub(crate) enum Earlier {
     Unknown,
     /// They may.
     Unsynced,
-    /// The cache was closed, or all of it was synced since.
-    Synced,
+    /// None does.
+    Synced(Covered),
 }
 
 impl Earlier {
@@ -37,7 +62,28 @@ impl Earlier {
         match self {
             Earlier::Unknown => left_in(rt, dir),
             Earlier::Unsynced => Earlier::Unsynced,
-            Earlier::Synced => Earlier::Synced,
+            Earlier::Synced(covered) => Earlier::Synced(covered),
+        }
+    }
+
+    pub(crate) fn is_synced(self) -> bool
+        ensures { IsTrue result ↔ IsSynced self }
+    {
+        match self {
+            Earlier::Unknown => false,
+            Earlier::Unsynced => false,
+            Earlier::Synced(_) => true,
+        }
+    }
+
+    /// Whether a note is to be left when all is synced: the cache was not closed when this process came.
+    pub(crate) fn wants_note(self) -> bool
+        ensures { IsTrue result → IsSynced self }
+    {
+        match self {
+            Earlier::Unknown => false,
+            Earlier::Unsynced => false,
+            Earlier::Synced(covered) => covered.by != Cover::Closing,
         }
     }
 }
@@ -46,17 +92,22 @@ impl Earlier {
 pub(crate) fn left_in<R: Files + AllocGlobal>(rt: &R, dir: &str) -> Earlier
     ensures { IsKnown result }
 {
-    match was_closed(rt, dir) {
-        Ok(true) => Earlier::Synced,
-        _ => Earlier::Unsynced,
-    }
+    let by = match was_closed(rt, dir) {
+        Ok(true) => Cover::Closing,
+        _ => match sync_note::is_left(rt, dir) {
+            Ok(true) => Cover::Note,
+            _ => return Earlier::Unsynced,
+        },
+    };
+    Earlier::Synced(Covered { by })
 }
 
-// A closing clears the flag when all else is synced. An opening moves the journal to `index.tmp` and sets the flag.
-fn was_closed<R: Files + AllocGlobal>(rt: &R, dir: &str) -> io::Result<bool> {
-    let index = path_of(rt, dir, &Place::Index)?;
-    let log = path_of(rt, dir, &Place::Log)?;
-    let tmp = path_of(rt, dir, &Place::Tmp)?;
+/// Whether the cache is closed. A closing clears the flag when all else is synced. An opening moves the journal to
+/// `index.tmp` and sets the flag.
+pub(crate) fn was_closed<R: Files + AllocGlobal>(rt: &R, dir: &str) -> io::Result<bool> {
+    let index = path_in(rt, dir, INDEX)?;
+    let log = path_in(rt, dir, LOG)?;
+    let tmp = path_in(rt, dir, TMP)?;
     file_len(rt, log.as_str())?;
     Ok(is_missing(rt, tmp.as_str())? && is_flag_clear(rt, index.as_str())?)
 }
@@ -69,11 +120,10 @@ fn is_missing<R: Files>(rt: &R, path: &str) -> io::Result<bool> {
     }
 }
 
-// A file that ends before its flag does has none.
+// A file that ends before its flag does is an error.
 fn is_flag_clear<R: Files>(rt: &R, path: &str) -> io::Result<bool> {
-    file_len(rt, path)?;
-    let mut file = read_only().open(rt, path)?;
+    let mut file = open_regular(rt, &read_only(), path)?;
     let mut flag = [0; 4];
-    let len = read_from(&mut file, FLAG_AT, &mut flag)?;
-    Ok(len == flag.len() && u32::from_be_bytes(flag) == 0)
+    read_whole(&mut file, FLAG_AT, &mut flag)?;
+    Ok(u32::from_be_bytes(flag) == 0)
 }

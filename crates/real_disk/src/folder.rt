@@ -1,18 +1,20 @@
 //! The folder by its places, and the files in it that have changed since the last sync.
 
-ghost use Rattle.std.specs.Prelude.{◌≡◌, ◌≤◌, ◌⊎◌, IfOk, OnOk, OnErr, IsTrue, length};
+ghost use Rattle.std.specs.Prelude.{◌≡◌, ◌⊎◌, IfOk, OnOk, OnErr, IsTrue, false, length};
 ghost use Rattle.std.specs.BTreeSet.{btree_set_len, IsUnchanged};
 ghost use Rattle.real_disk.specs.Areas.{area_in};
 ghost use Rattle.real_disk.specs.Files.{IsNoted, NotesNew, PutsBack, KeepsNote, KeepsOthers, KeepsAllBut, KeepsAll, MovesNote, Owes};
 ghost use Rattle.real_disk.specs.Folders.{NoneLost, NoneLeft, HasNote, AllNoted};
-ghost use Rattle.real_disk.specs.Earlier.{HasLooked};
-ghost use Rattle.real_disk.specs.declared.earlier.Earlier.TheVariants.{Unsynced, Synced};
+ghost use Rattle.real_disk.specs.Settled.{IsAllSynced};
+ghost use Rattle.real_disk.specs.Earlier.{HasLooked, IsSynced};
+ghost use Rattle.real_disk.specs.declared.earlier.Earlier.TheVariants.{Unsynced};
 
-use crate::contents::{after_change, read_from, write_end, write_over};
-use crate::earlier::Earlier;
-use crate::kept::Kept;
+use crate::contents::{after_change, read_whole, write_end, write_over};
+use crate::earlier::{Covered, Earlier, was_closed};
+use crate::kept::{Kept, Opened};
 use crate::paths::{Area, area_of};
 use crate::standing::sync_at;
+use crate::sync_note;
 use crate::syncing::sync_each;
 use crate::tree::{Tree, file_len, read_and_write, read_only};
 use cache_base::Name;
@@ -31,8 +33,10 @@ pub(crate) struct Folder<'a, R: Files + AllocGlobal> {
     // The places whose files were made or written since the last sync.
     files: BTreeSet<Place, Global>,
     kept: Kept<R::File>,
-    // What waits for a sync without a note.
+    // What waits for a sync without a note here.
     earlier: Earlier,
+    // Whether the note that all was synced may stand in the folder.
+    has_sync_note: bool,
 }
 
 impl<'a, R: Files + AllocGlobal> Folder<'a, R> {
@@ -40,8 +44,9 @@ impl<'a, R: Files + AllocGlobal> Folder<'a, R> {
         Folder {
             tree: Tree::new(rt, dir),
             files: BTreeSet::new(rt.alloc()),
-            kept: Kept::none(),
+            kept: Kept::none(rt.alloc()),
             earlier: Earlier::Unknown,
+            has_sync_note: true,
         }
     }
 }
@@ -78,31 +83,28 @@ impl<R: Files + AllocGlobal> Folder<'_, R> {
             return;
         }
         if let Ok(file) = read_only().open(self.tree.rt, path) {
-            self.kept.keep(place, file, false);
+            self.kept.keep(Opened::to_read(place, file));
         }
     }
 
-    /// Reads on until the buffer is full or the file ends. A missing file has no bytes.
+    /// Fills the buffer from the offset on. It fails where the file does not have all these bytes.
     pub(crate) fn read(&mut self, place: &Place, from: u64, buf: &mut [u8]) -> io::Result<usize>
-        ensures len { IfOk result (λ n. n ≤ length buf.old) }
+        ensures len { IfOk result (λ n. n ≡ length buf.old) }
         ensures files { self.new.files ≡ self.old.files }
         ensures folders { self.new.tree ≡ self.old.tree }
         ensures earlier { self.new.earlier ≡ self.old.earlier }
     {
-        let (mut file, writable) = match self.kept.take(place) {
-            Some(opened) => (opened.file, opened.writable),
-            None => match self
-                .tree
-                .open(&read_only(), self.tree.path(place)?.as_str())
-            {
-                Ok(file) => (file, false),
-                Err(error) if error.kind() == ErrorKind::NotFound => return Ok(0),
-                Err(error) => return Err(error),
-            },
+        let mut opened = match self.kept.take(place) {
+            Some(opened) => opened,
+            None => {
+                let path = self.tree.path(place)?;
+                Opened::to_read(place, self.tree.open(&read_only(), path.as_str())?)
+            }
         };
-        let outcome = read_from(&mut file, from, buf);
-        self.kept.keep(place, file, writable);
-        outcome
+        let outcome = read_whole(&mut opened.file, from, buf);
+        self.kept.keep(opened);
+        outcome?;
+        Ok(buf.len())
     }
 
     /// A file that stood there loses its name and is not cut, so that a crash may still show all of it.
@@ -112,18 +114,20 @@ impl<R: Files + AllocGlobal> Folder<'_, R> {
         ensures owed { Owes place.now self.old.files self.new.files self.new.tree.folders }
         ensures others { KeepsOthers place.now self.old.files self.new.files }
         ensures folders { NoneLost self.old.tree.folders self.new.tree.folders }
+        ensures unnoted { OnOk result (self.new.has_sync_note ≡ false) }
         ensures looked { HasLooked self.old.earlier self.new.earlier }
     {
-        self.look();
+        self.begin_change()?;
         let path = self.tree.path(place)?;
         let area = area_of(place);
+        self.kept.make_room()?;
         self.kept.forget(place);
         let was_there = self.tree.remove_if_there(area, path.as_str())?;
         let made = self.make_noted(place, area, path.as_str());
         let made = if was_there { after_change(made) } else { made };
         match made {
             Ok(file) => {
-                self.kept.keep(place, file, true);
+                self.kept.keep(Opened::to_write(place, file));
                 Ok(())
             }
             Err(error) => {
@@ -140,6 +144,7 @@ impl<R: Files + AllocGlobal> Folder<'_, R> {
         ensures folder { OnOk result (HasNote self.new.tree.folders area) }
         ensures others { KeepsOthers place.now self.old.files self.new.files }
         ensures folders { NoneLost self.old.tree.folders self.new.tree.folders }
+        ensures note { self.new.has_sync_note ≡ self.old.has_sync_note }
         ensures earlier { self.new.earlier ≡ self.old.earlier }
     {
         self.files.insert(*place)?;
@@ -152,12 +157,13 @@ impl<R: Files + AllocGlobal> Folder<'_, R> {
         ensures kept { KeepsNote place.now self.old.files self.new.files }
         ensures others { KeepsOthers place.now self.old.files self.new.files }
         ensures folders { self.new.tree ≡ self.old.tree }
+        ensures unnoted { OnOk result (self.new.has_sync_note ≡ false) }
         ensures looked { HasLooked self.old.earlier self.new.earlier }
     {
-        self.look();
+        self.begin_change()?;
         let mut file = self.open_to_write(place)?;
         let outcome = write_end(&mut file, from, bytes);
-        self.kept.keep(place, file, true);
+        self.kept.keep(Opened::to_write(place, file));
         outcome
     }
 
@@ -167,12 +173,13 @@ impl<R: Files + AllocGlobal> Folder<'_, R> {
         ensures kept { KeepsNote place.now self.old.files self.new.files }
         ensures others { KeepsOthers place.now self.old.files self.new.files }
         ensures folders { self.new.tree ≡ self.old.tree }
+        ensures unnoted { OnOk result (self.new.has_sync_note ≡ false) }
         ensures looked { HasLooked self.old.earlier self.new.earlier }
     {
-        self.look();
+        self.begin_change()?;
         let mut file = self.open_to_write(place)?;
         let outcome = write_over(&mut file, from, bytes);
-        self.kept.keep(place, file, true);
+        self.kept.keep(Opened::to_write(place, file));
         outcome
     }
 
@@ -182,8 +189,10 @@ impl<R: Files + AllocGlobal> Folder<'_, R> {
         ensures kept { KeepsNote place.now self.old.files self.new.files }
         ensures others { KeepsOthers place.now self.old.files self.new.files }
         ensures folders { self.new.tree ≡ self.old.tree }
+        ensures note { self.new.has_sync_note ≡ self.old.has_sync_note }
         ensures earlier { self.new.earlier ≡ self.old.earlier }
     {
+        self.kept.make_room()?;
         let file = match self.kept.take_to_write(place) {
             Some(file) => file,
             None => self
@@ -203,9 +212,10 @@ impl<R: Files + AllocGlobal> Folder<'_, R> {
         ensures kept { OnErr result (KeepsAll self.old.files self.new.files) }
         ensures others { KeepsAllBut from.now to.now self.old.files self.new.files }
         ensures folders { NoneLost self.old.tree.folders self.new.tree.folders }
+        ensures unnoted { OnOk result (self.new.has_sync_note ≡ false) }
         ensures looked { HasLooked self.old.earlier self.new.earlier }
     {
-        self.look();
+        self.begin_change()?;
         let old = self.tree.path(from)?;
         let new = self.tree.path(to)?;
         let has_changed = self.files.contains(from);
@@ -226,9 +236,10 @@ impl<R: Files + AllocGlobal> Folder<'_, R> {
         ensures kept { OnErr result (KeepsAll self.old.files self.new.files) }
         ensures others { KeepsOthers place.now self.old.files self.new.files }
         ensures folders { NoneLost self.old.tree.folders self.new.tree.folders }
+        ensures unnoted { OnOk result (self.new.has_sync_note ≡ false) }
         ensures looked { HasLooked self.old.earlier self.new.earlier }
     {
-        self.look();
+        self.begin_change()?;
         let path = self.tree.path(place)?;
         self.kept.forget(place);
         self.tree.remove_file(area_of(place), path.as_str())?;
@@ -236,7 +247,22 @@ impl<R: Files + AllocGlobal> Folder<'_, R> {
         Ok(())
     }
 
-    // Looks what an earlier process has left, unless that was done. Each call that changes something begins so.
+    // Each call that changes something begins so: the note that all was synced is taken away.
+    fn begin_change(&mut self) -> io::Result<()>
+        ensures unnoted { OnOk result (self.new.has_sync_note ≡ false) }
+        ensures looked { HasLooked self.old.earlier self.new.earlier }
+        ensures files { self.new.files ≡ self.old.files }
+        ensures folders { self.new.tree ≡ self.old.tree }
+    {
+        self.look();
+        if self.has_sync_note {
+            sync_note::take_away(self.tree.rt, self.tree.dir.as_str())?;
+            self.has_sync_note = false;
+        }
+        Ok(())
+    }
+
+    // Looks what an earlier process has left, unless that was done.
     fn look(&mut self)
         ensures looked { HasLooked self.old.earlier self.new.earlier }
         ensures files { self.new.files ≡ self.old.files }
@@ -246,6 +272,40 @@ impl<R: Files + AllocGlobal> Folder<'_, R> {
             .earlier
             .after_look(self.tree.rt, self.tree.dir.as_str());
     }
+
+    /// Leaves the note that all was synced, where that is so, unless the cache is closed.
+    pub(crate) fn leave_note(&mut self)
+        ensures honest { IsTrue self.new.has_sync_note → IsTrue self.old.has_sync_note ⊎ IsAllSynced self.old.files self.old.tree.folders self.old.earlier }
+        ensures files { self.new.files ≡ self.old.files }
+        ensures folders { self.new.tree ≡ self.old.tree }
+        ensures earlier { self.new.earlier ≡ self.old.earlier }
+    {
+        if !self.has_sync_note && self.is_settled() && self.earlier.wants_note() {
+            self.make_note();
+        }
+    }
+
+    // One that could not be made whole is not believed.
+    fn make_note(&mut self)
+        requires { IsAllSynced self.old.files self.old.tree.folders self.old.earlier }
+        ensures files { self.new.files ≡ self.old.files }
+        ensures folders { self.new.tree ≡ self.old.tree }
+        ensures earlier { self.new.earlier ≡ self.old.earlier }
+    {
+        if let Ok(true) = was_closed(self.tree.rt, self.tree.dir.as_str()) {
+            return;
+        }
+        self.has_sync_note = true;
+        let _outcome = sync_note::leave(self.tree.rt, self.tree.dir.as_str());
+    }
+
+    // Whether nothing that this process changed waits for a sync.
+    fn is_settled(&self) -> bool
+        ensures files { IsTrue result → btree_set_len self.now.files ≡ 0 }
+        ensures folders { IsTrue result → NoneLeft self.now.tree.folders }
+    {
+        self.files.is_empty() && self.tree.folders.are_none()
+    }
 }
 
 impl<R: Files + AllocGlobal + Clone + Drop> Folder<'_, R> {
@@ -254,41 +314,45 @@ impl<R: Files + AllocGlobal + Clone + Drop> Folder<'_, R> {
         ensures files { OnOk result (btree_set_len self.new.files ≡ 0) }
         ensures names { OnOk result (NoneLeft self.new.tree.folders) }
         ensures order { (btree_set_len self.new.files ≡ 0) ⊎ (self.new.tree ≡ self.old.tree) }
-        ensures earlier { OnOk result (self.new.earlier ≡ Synced) }
+        ensures earlier { OnOk result (IsSynced self.new.earlier) }
         ensures owed { OnErr result (HasLooked self.old.earlier self.new.earlier) }
     {
         self.look();
-        let rt = self.tree.rt;
-        let dir = self.tree.dir.as_str();
+        let tree = &self.tree;
         let kept = &self.kept;
-        sync_each(&mut self.files, |place| sync_file(rt, dir, kept, place))?;
-        self.sync_earlier()?;
+        sync_each(&mut self.files, |place| sync_file(tree, kept, place))?;
+        self.kept.settle();
+        let was_synced = self.earlier.is_synced();
+        let covered = self.cover_earlier()?;
         self.tree.sync()?;
-        self.earlier = Earlier::Synced;
+        self.earlier = Earlier::Synced(covered);
+        if !was_synced {
+            self.make_note();
+        }
         Ok(())
     }
 
     // Syncs the files of an earlier process, and notes its folders.
-    fn sync_earlier(&mut self) -> io::Result<()>
+    fn cover_earlier(&mut self) -> io::Result<Covered>
         ensures noted { OnOk result (self.old.earlier ≡ Unsynced → AllNoted self.new.tree.folders) }
         ensures files { self.new.files ≡ self.old.files }
         ensures folders { NoneLost self.old.tree.folders self.new.tree.folders }
         ensures earlier { self.new.earlier ≡ self.old.earlier }
     {
-        if let Earlier::Unsynced = self.earlier {
-            self.tree.sync_standing()?;
-            self.tree.sync_above()?;
-            self.tree.folders.note_all()?;
+        if let Earlier::Synced(covered) = self.earlier {
+            return Ok(covered);
         }
-        Ok(())
+        let standing = self.tree.sync_standing()?;
+        self.tree.folders.note_all()?;
+        Ok(Covered::by_sync(standing))
     }
 
     pub(crate) fn entries(&self) -> io::Result<BTreeSet<Name, Global>> {
         self.tree.entries()
     }
 
-    pub(crate) fn doomed(&self) -> io::Result<BTreeSet<u32, Global>> {
-        self.tree.doomed()
+    pub(crate) fn doomed(&mut self) -> io::Result<BTreeSet<u32, Global>> {
+        self.tree.list_doomed()
     }
 }
 
@@ -334,13 +398,12 @@ fn move_note(files: &mut BTreeSet<Place, Global>, from: &Place, to: &Place, has_
 }
 
 fn sync_file<R: Files + AllocGlobal>(
-    rt: &R,
-    dir: &str,
+    tree: &Tree<'_, R>,
     kept: &Kept<R::File>,
     place: &Place,
 ) -> io::Result<()> {
     match kept.file_of(place) {
         Some(file) => file.sync_all(),
-        None => sync_at(rt, dir, place),
+        None => sync_at(tree.rt, tree.dir.as_str(), &tree.numbers, place),
     }
 }

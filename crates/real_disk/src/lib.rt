@@ -12,9 +12,12 @@ mod kept;
 mod listing;
 mod making;
 mod notes;
+mod numbers;
+mod open_folders;
 mod paths;
 mod real_disk;
 mod standing;
+mod sync_note;
 mod syncing;
 mod tree;
 

@@ -10,16 +10,28 @@ use std::fs;
 use std::io::{self, ErrorKind};
 use std::rt::Files;
 
-/// What the names of regular files in the folder read as. Those that read as nothing, or are no UTF-8, are foreign and
-/// left alone, as is what is no file: a folder, a socket, a link. A missing folder has no names.
+/// What stands in a folder, as its names read.
+#[derive(Drop)]
+pub(crate) struct Found<T: Ord + Drop> {
+    /// The regular files.
+    pub(crate) files: BTreeSet<T, Global>,
+    /// The folders.
+    pub(crate) folders: BTreeSet<T, Global>,
+}
+
+/// What stands in the folder. Names that read as nothing, or are no UTF-8, are foreign and left alone, as is what is
+/// neither a file nor a folder: a socket, a link. A missing folder has no names.
 pub(crate) fn read_names<
     R: Files + AllocGlobal + Clone + Drop,
     T: Ord + Drop,
     P: Fn(&str) -> Option<T>,
->(rt: &R, folder: &str, read: P) -> io::Result<BTreeSet<T, Global>>
+>(rt: &R, folder: &str, read: P) -> io::Result<Found<T>>
     requires { P.IsAlwaysCallable read }
 {
-    let mut found = BTreeSet::new(rt.alloc());
+    let mut found = Found {
+        files: BTreeSet::new(rt.alloc()),
+        folders: BTreeSet::new(rt.alloc()),
+    };
     let names = match fs::read_dir(rt, folder) {
         Ok(names) => names,
         Err(error) if error.kind() == ErrorKind::NotFound => return Ok(found),
@@ -28,10 +40,13 @@ pub(crate) fn read_names<
     for name in names {
         match name {
             Ok(name) => {
-                if let Some(item) = read(name.file_name())
-                    && name.file_type()?.is_file()
-                {
-                    found.insert(item)?;
+                if let Some(item) = read(name.file_name()) {
+                    let kind = name.file_type()?;
+                    if kind.is_file() {
+                        found.files.insert(item)?;
+                    } else if kind.is_dir() {
+                        found.folders.insert(item)?;
+                    }
                 }
             }
             Err(error) if error.kind() == ErrorKind::InvalidFilename => {}

@@ -16,6 +16,7 @@ impl<R: Files + AllocGlobal> Tree<'_, R> {
     pub(crate) fn make_area(&mut self, area: Area) -> io::Result<()>
         ensures kept { NoneLost self.old.folders self.new.folders }
     {
+        self.opened.forget(&area);
         match area {
             Area::Top => self.make_top(),
             Area::Entries => self.make_below_top(area),
@@ -40,6 +41,7 @@ impl<R: Files + AllocGlobal> Tree<'_, R> {
     fn make_top(&mut self) -> io::Result<()>
         ensures kept { NoneLost self.old.folders self.new.folders }
     {
+        self.opened.forget(&Area::Top);
         let top = path_of_area(self.rt, self.dir.as_str(), &Area::Top)?;
         self.make_with_those_above(top.as_str())
     }

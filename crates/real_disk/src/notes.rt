@@ -1,9 +1,10 @@
 //! The folders in which names have changed since the last sync.
 
-ghost use Rattle.std.specs.Prelude.{OnOk};
+ghost use Rattle.std.specs.Prelude.{OnOk, IsTrue, ◌↔◌};
 ghost use Rattle.real_disk.specs.Folders.{NoneLost, NoneLeft, HasNote, AllNoted};
 
-use crate::paths::{Area, path_of_area};
+use crate::open_folders::OpenFolders;
+use crate::paths::Area;
 use crate::syncing::sync_each;
 use std::alloc::{AllocError, Global};
 use std::collections::BTreeSet;
@@ -53,13 +54,28 @@ impl FolderNotes {
         Ok(())
     }
 
+    pub(crate) fn has(&self, area: Area) -> bool
+        ensures { IsTrue result ↔ HasNote self.now area }
+    {
+        self.areas.contains(&area)
+    }
+
+    pub(crate) fn are_none(&self) -> bool
+        ensures { IsTrue result → NoneLeft self.now }
+    {
+        self.areas.is_empty() && self.above.is_empty()
+    }
+
     /// Syncs each folder.
-    pub(crate) fn sync<R: Files + AllocGlobal>(&mut self, rt: &R, dir: &str) -> io::Result<()>
+    pub(crate) fn sync<R: Files + AllocGlobal>(
+        &mut self,
+        rt: &R,
+        dir: &str,
+        opened: &OpenFolders<R::File>,
+    ) -> io::Result<()>
         ensures { OnOk result (NoneLeft self.new) }
     {
-        sync_each(&mut self.areas, |area| {
-            sync_folder(rt, path_of_area(rt, dir, area)?.as_str())
-        })?;
+        sync_each(&mut self.areas, |area| opened.sync(rt, dir, area))?;
         sync_each(&mut self.above, |folder| sync_folder(rt, folder.as_str()))
     }
 }

@@ -3,6 +3,7 @@
 ghost use Rattle.std.specs.Prelude.{◌≡◌};
 ghost use Rattle.real_disk.specs.Areas.{area_in};
 
+use crate::numbers::Folders;
 use disk_model::Place;
 use entry_name::text_of;
 use std::alloc::AllocError;
@@ -10,6 +11,13 @@ use std::alloc::AllocError;
 const ENTRIES: &str = "entries";
 
 const DOOMED: &str = "doomed";
+
+/// The files of the index.
+pub(crate) const INDEX: &str = "index";
+
+pub(crate) const LOG: &str = "index.log";
+
+pub(crate) const TMP: &str = "index.tmp";
 
 /// A folder that places lie in.
 #[derive(Clone, Copy, Debug, PartialEq, Eq, PartialOrd, Ord)]
@@ -48,10 +56,11 @@ pub(crate) fn path_of_area<R: AllocGlobal>(
     }
 }
 
-/// The path of a place.
+/// The path of a place. The files of doomed entries pass over the numbers of folders.
 pub(crate) fn path_of<R: AllocGlobal>(
     rt: &R,
     dir: &str,
+    folders: &Folders,
     place: &Place,
 ) -> Result<String, AllocError> {
     let alloc = rt.alloc();
@@ -63,15 +72,17 @@ pub(crate) fn path_of<R: AllocGlobal>(
         }
         Place::Doomed(number) => {
             let dir = without_last_slashes(dir);
-            format!(in alloc; "{dir}/{DOOMED}/{number}")
+            let named = folders.named(*number);
+            format!(in alloc; "{dir}/{DOOMED}/{named}")
         }
-        Place::Index => path_in(rt, dir, "index"),
-        Place::Log => path_in(rt, dir, "index.log"),
-        Place::Tmp => path_in(rt, dir, "index.tmp"),
+        Place::Index => path_in(rt, dir, INDEX),
+        Place::Log => path_in(rt, dir, LOG),
+        Place::Tmp => path_in(rt, dir, TMP),
     }
 }
 
-fn path_in<R: AllocGlobal>(rt: &R, dir: &str, name: &str) -> Result<String, AllocError> {
+/// The path of a name in the folder of the cache.
+pub(crate) fn path_in<R: AllocGlobal>(rt: &R, dir: &str, name: &str) -> Result<String, AllocError> {
     let dir = without_last_slashes(dir);
     format!(in rt.alloc(); "{dir}/{name}")
 }

@@ -19,7 +19,10 @@ use std::rt::Files;
 /// listed, and at a place each call that asks for its size, reads or writes fails.
 ///
 /// A process that was killed may have left changes that wait in the system's memory. So the first sync also covers
-/// every file that stands and every folder, unless the index tells that the cache was closed.
+/// every file that stands and every folder, unless the index tells that the cache was closed, or an earlier process has
+/// left the note, the file `synced`, that all was synced. A change takes the note away.
+///
+/// A read of bytes that the file does not have fails: who asks for them was told a size that had them.
 ///
 /// Each call that fails raises the count of faults by one. Where the system has no memory the call answers so, and
 /// no fault is counted. Contracts are told nothing of what the folder holds, but that after a sync no change waits.
@@ -38,6 +41,14 @@ impl<'a, R: Files + AllocGlobal + Clone + Drop> RealDisk<'a, R> {
             folder: Folder::new(rt, dir),
             faults: 0,
         }
+    }
+
+    /// The last call. Where all that stands is synced and the cache was not closed, it leaves a note of that, so that the
+    /// next process does not sync it all again. Nothing is told of whether it could.
+    pub fn leave(&mut self)
+        ensures faults { let f = ⟦<RealDisk<'a, R> as Disk>⟧.faults in f self.new ≡ f self.old }
+    {
+        self.folder.leave_note();
     }
 }
 

@@ -1,10 +1,13 @@
 //! The files that stand in the folders of the cache, and the syncing of all of them.
 
-use crate::listing::read_names;
+ghost use Rattle.std.specs.Prelude.{◌≡◌};
+
+use crate::listing::{Found, read_names};
 use crate::notes::sync_folder;
+use crate::numbers::Folders;
 use crate::paths::{Area, path_of, path_of_area};
-use crate::syncing::sync_listed;
-use crate::tree::Tree;
+use crate::syncing::{AllSynced, sync_listed};
+use crate::tree::{Tree, open_regular, read_only};
 use cache_base::{Name, number};
 use disk_model::Place;
 use entry_name::read_text;
@@ -14,14 +17,36 @@ use std::fs::{self, OpenFile};
 use std::io::{self, ErrorKind};
 use std::rt::Files;
 
+/// Says that all that stands was synced. Only `Tree::sync_standing` makes it.
+#[derive(Drop)]
+pub(crate) struct Standing {
+    entries: AllSynced<Name>,
+    doomed: AllSynced<u32>,
+    index: AllSynced<Place>,
+}
+
 impl<R: Files + AllocGlobal + Clone + Drop> Tree<'_, R> {
     pub(crate) fn entries(&self) -> io::Result<BTreeSet<Name, Global>> {
         let path = path_of_area(self.rt, self.dir.as_str(), &Area::Entries)?;
-        read_names(self.rt, path.as_str(), |text| read_text(text))
+        Ok(read_names(self.rt, path.as_str(), |text| read_text(text))?.files)
     }
 
-    /// Each opening lists these first. So what leads out of the folder of the cache is met here, before all else.
-    pub(crate) fn doomed(&self) -> io::Result<BTreeSet<u32, Global>> {
+    /// Each opening lists these first. So what leads out of the folder of the cache is met here, before all else, and
+    /// so are the folders whose numbers no file takes.
+    pub(crate) fn list_doomed(&mut self) -> io::Result<BTreeSet<u32, Global>>
+        ensures { self.new.folders ≡ self.old.folders }
+    {
+        let found = self.find_doomed()?;
+        self.numbers.learn(found.folders);
+        self.numbers_of(found.files)
+    }
+
+    fn doomed(&self) -> io::Result<BTreeSet<u32, Global>> {
+        self.numbers_of(self.find_doomed()?.files)
+    }
+
+    // What stands there, by the numbers in the names.
+    fn find_doomed(&self) -> io::Result<Found<u32>> {
         let entries = path_of_area(self.rt, self.dir.as_str(), &Area::Entries)?;
         let path = path_of_area(self.rt, self.dir.as_str(), &Area::Doomed)?;
         refuse_link(self.rt, entries.as_str())?;
@@ -29,23 +54,56 @@ impl<R: Files + AllocGlobal + Clone + Drop> Tree<'_, R> {
         read_names(self.rt, path.as_str(), |text| number(text.as_bytes()))
     }
 
-    /// Syncs each file that stands. It holds the names of one folder at a time.
-    pub(crate) fn sync_standing(&self) -> io::Result<()> {
-        let rt = self.rt;
-        let dir = self.dir.as_str();
-        sync_listed(self.entries()?, |name| {
-            sync_at(rt, dir, &Place::Entry(*name))
-        })?;
-        sync_listed(self.doomed()?, |number| {
-            sync_at(rt, dir, &Place::Doomed(*number))
-        })?;
-        sync_if_file(rt, dir, &Place::Index)?;
-        sync_if_file(rt, dir, &Place::Log)?;
-        sync_if_file(rt, dir, &Place::Tmp)
+    fn numbers_of(&self, named: BTreeSet<u32, Global>) -> io::Result<BTreeSet<u32, Global>> {
+        let mut found = BTreeSet::new(self.rt.alloc());
+        'named: for name in &named {
+            if let Some(number) = self.numbers.number_of(*name) {
+                found.insert(number)?;
+            }
+        }
+        Ok(found)
     }
 
-    /// Syncs the folders that lead to that of the cache.
-    pub(crate) fn sync_above(&self) -> io::Result<()> {
+    // The places of the index at which a file stands.
+    fn index_files(&self) -> io::Result<BTreeSet<Place, Global>> {
+        let mut found = BTreeSet::new(self.rt.alloc());
+        'places: for place in [Place::Index, Place::Log, Place::Tmp] {
+            match fs::symlink_metadata(self.rt, self.path(&place)?.as_str()) {
+                Ok(there) if there.is_file() => {
+                    found.insert(place)?;
+                }
+                Ok(_) => {}
+                Err(error) if error.kind() == ErrorKind::NotFound => {}
+                Err(error) => return Err(error),
+            }
+        }
+        Ok(found)
+    }
+
+    /// Syncs each file that stands, and the folders that lead to that of the cache. It holds the names of one folder at
+    /// a time.
+    pub(crate) fn sync_standing(&self) -> io::Result<Standing> {
+        let rt = self.rt;
+        let dir = self.dir.as_str();
+        let numbers = &self.numbers;
+        let standing = Standing {
+            entries: sync_listed(self.entries()?, |name| {
+                sync_at(rt, dir, numbers, &Place::Entry(*name))
+            })?,
+            doomed: sync_listed(self.doomed()?, |number| {
+                sync_at(rt, dir, numbers, &Place::Doomed(*number))
+            })?,
+            index: sync_listed(
+                self.index_files()?,
+                |place| sync_at(rt, dir, numbers, place),
+            )?,
+        };
+        self.sync_above()?;
+        Ok(standing)
+    }
+
+    // Syncs the folders that lead to that of the cache.
+    fn sync_above(&self) -> io::Result<()> {
         let top = path_of_area(self.rt, self.dir.as_str(), &Area::Top)?;
         sync_leading(self.rt, if top.starts_with('/') { "/" } else { "." })?;
         'above: for (end, _) in top.match_indices('/') {
@@ -69,19 +127,15 @@ fn refuse_link<R: Files>(rt: &R, path: &str) -> io::Result<()> {
     }
 }
 
-/// Syncs the file of the place.
-pub(crate) fn sync_at<R: Files + AllocGlobal>(rt: &R, dir: &str, place: &Place) -> io::Result<()> {
-    fs::open(rt, path_of(rt, dir, place)?.as_str())?.sync_all()
-}
-
-// The same, if a regular file stands there.
-fn sync_if_file<R: Files + AllocGlobal>(rt: &R, dir: &str, place: &Place) -> io::Result<()> {
-    match fs::symlink_metadata(rt, path_of(rt, dir, place)?.as_str()) {
-        Ok(found) if found.is_file() => sync_at(rt, dir, place),
-        Ok(_) => Ok(()),
-        Err(error) if error.kind() == ErrorKind::NotFound => Ok(()),
-        Err(error) => Err(error),
-    }
+/// Syncs the file of the place. What is no regular file is not opened: that of a pipe would wait for a writer.
+pub(crate) fn sync_at<R: Files + AllocGlobal>(
+    rt: &R,
+    dir: &str,
+    numbers: &Folders,
+    place: &Place,
+) -> io::Result<()> {
+    let path = path_of(rt, dir, numbers, place)?;
+    open_regular(rt, &read_only(), path.as_str())?.sync_all()
 }
 
 // A folder above the cache may be nobody's to read, or lie on a file system that has no sync.

@@ -26,13 +26,21 @@ pub(crate) fn sync_each<K: Ord + Drop, S: Fn(&K) -> io::Result<()>>(
     Ok(())
 }
 
-/// Syncs each that is listed, and lets the list go.
+/// Says that each of a list was synced. Only `sync_listed` makes it.
+#[derive(Drop)]
+pub(crate) struct AllSynced<K: Ord + Drop> {
+    left: BTreeSet<K, Global>,
+}
+
+/// Syncs each that is listed.
 pub(crate) fn sync_listed<K: Ord + Drop, S: Fn(&K) -> io::Result<()>>(
-    mut listed: BTreeSet<K, Global>,
+    listed: BTreeSet<K, Global>,
     sync: S,
-) -> io::Result<()>
+) -> io::Result<AllSynced<K>>
     requires { S.IsAlwaysCallable sync }
     ensures each { OnOk result (All (λ key. FnReturnsAt S.Fn sync key (Ok tt)) listed.keys) }
 {
-    sync_each(&mut listed, sync)
+    let mut left = listed;
+    sync_each(&mut left, sync)?;
+    Ok(AllSynced { left })
 }

@@ -4,6 +4,8 @@ ghost use Rattle.std.specs.Prelude.{OnOk};
 ghost use Rattle.real_disk.specs.Folders.{NoneLost, NoneLeft, HasNote};
 
 use crate::notes::FolderNotes;
+use crate::numbers::Folders;
+use crate::open_folders::OpenFolders;
 use crate::paths::{Area, path_of};
 use disk_model::Place;
 use std::alloc::AllocError;
@@ -12,8 +14,8 @@ use std::io::{self, ErrorKind};
 use std::os::unix::fs::OpenOptionsExt;
 use std::rt::Files;
 
-// A cache tells where its user has been, so nobody else may read it.
-const FILE_MODE: u32 = 0o600;
+/// A cache tells where its user has been, so nobody else may read it.
+pub(crate) const FILE_MODE: u32 = 0o600;
 
 /// The file system of the machine below the folder `dir`, and what is to be synced of its folders.
 #[derive(Drop)]
@@ -21,6 +23,8 @@ pub(crate) struct Tree<'a, R: Files + AllocGlobal> {
     pub(crate) rt: &'a R,
     pub(crate) dir: String,
     pub(crate) folders: FolderNotes,
+    pub(crate) opened: OpenFolders<R::File>,
+    pub(crate) numbers: Folders,
 }
 
 impl<'a, R: Files + AllocGlobal> Tree<'a, R> {
@@ -29,11 +33,13 @@ impl<'a, R: Files + AllocGlobal> Tree<'a, R> {
             rt,
             dir,
             folders: FolderNotes::none(rt.alloc()),
+            opened: OpenFolders::none(),
+            numbers: Folders::unknown(),
         }
     }
 
     pub(crate) fn path(&self, place: &Place) -> Result<String, AllocError> {
-        path_of(self.rt, self.dir.as_str(), place)
+        path_of(self.rt, self.dir.as_str(), &self.numbers, place)
     }
 
     /// Makes a file where none stands. Folders are missing only the first time, so they are made only then.
@@ -111,16 +117,23 @@ impl<'a, R: Files + AllocGlobal> Tree<'a, R> {
 
     /// Opens the file that stands there. What is no regular file, such as a folder or a link, is not opened.
     pub(crate) fn open(&self, how: &OpenOptions, path: &str) -> io::Result<R::File> {
-        file_len(self.rt, path)?;
-        how.open(self.rt, path)
+        open_regular(self.rt, how, path)
     }
 
     /// Syncs each folder.
     pub(crate) fn sync(&mut self) -> io::Result<()>
         ensures { OnOk result (NoneLeft self.new.folders) }
     {
-        self.folders.sync(self.rt, self.dir.as_str())
+        let dir = self.dir.as_str();
+        self.opened.open_noted(self.rt, dir, &self.folders)?;
+        self.folders.sync(self.rt, dir, &self.opened)
     }
+}
+
+/// Opens the file that stands at the path, if it is a regular one.
+pub(crate) fn open_regular<R: Files>(rt: &R, how: &OpenOptions, path: &str) -> io::Result<R::File> {
+    file_len(rt, path)?;
+    how.open(rt, path)
 }
 
 /// The length of the file that stands there. At a link too there is none.

@@ -51,20 +51,20 @@ struct Found {
 fn begin_map(
     alloc: Global,
     start: Start,
-    index: &IndexRead,
+    index: IndexRead,
     log: &LogRead,
 ) -> Result<RecordMap, NoMemory>
-    requires distinct { HasNames index.now.records }
-    requires clean { AreClean index.now.records }
-    requires present { HasNoRemoved index.now.records }
+    requires distinct { HasNames index.records }
+    requires clean { AreClean index.records }
+    requires present { HasNoRemoved index.records }
     requires log_distinct { HasNames log.now.records }
     requires log_clean { AreClean log.now.records }
-    ensures { IfOk result (StartsWith start index.now.records log.now.records) }
+    ensures { IfOk result (StartsWith start index.records log.now.records) }
 {
     match start {
         Start::Build => Ok(RecordMap::new(alloc)),
-        Start::Update => RecordMap::with_base(alloc, &index.records, false),
-        Start::Ready => RecordMap::with_journal(alloc, &index.records, &log.records),
+        Start::Update => RecordMap::with_base(alloc, index.records, false),
+        Start::Ready => RecordMap::with_journal(alloc, index.records, &log.records),
     }
 }
 
@@ -106,10 +106,11 @@ fn look<D: Disk>(alloc: Global, disk: &mut D) -> Result<Found, DiskFault>
     let index = read_index(alloc, disk)?;
     let log = read_log(alloc, disk)?;
     let start = decide(index.kind, log.kind, tmp);
-    let map = begin_map(alloc, start, &index, &log)?;
+    let clean = is_clean(index.kind);
+    let map = begin_map(alloc, start, index, &log)?;
     Ok(Found {
         opened: Opened { start, map },
-        clean: is_clean(index.kind),
+        clean,
         log: has_log(log.kind),
         tmp,
     })

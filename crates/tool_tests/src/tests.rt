@@ -35,10 +35,26 @@ const FILE: &[u8] = b"hello\x06\xab\x5e\x9a\x39\x9e\
     \0\0\0\x03\0\0\0\x01\0\0\x03\xe8\0\0\x03\xe8\0\0\x03\xe8\xff\xff\xff\xff\0\0\0\x15\0\0\0\0\
     :https://example.com/\0\0\0\0\x05";
 
-// What `get` prints of it.
+// The same in versions 1 and 2 of the format.
+const FIRST: &[u8] = b"hello\x42\x4d\x09\x3d\x39\x9e\
+    \0\0\0\x01\0\0\0\x01\0\0\x03\xe8\0\0\x03\xe8\0\0\x03\xe8\xff\xff\xff\xff\0\0\0\x15\
+    :https://example.com/\0\0\0\0\x05";
+
+const SECOND: &[u8] = b"hello\x29\xd6\x32\xf8\x39\x9e\
+    \0\0\0\x02\0\0\0\x01\0\0\x03\xe8\0\0\x03\xe8\0\0\x03\xe8\xff\xff\xff\xff\0\0\0\x15\0\0\0\0\
+    :https://example.com/\0\0\0\0\x05";
+
+// What `get` prints of each.
 const FOUND: &[u8] = b"found 1 1000 1000 1000 4294967295 0 0 5\n\nhello\n";
 
-// That file, whose first byte is another.
+// The file in version 3 after one use at the moment 1000, and what `get` prints of it.
+const USED: &[u8] = b"hello\xdc\xe2\x75\x07\x39\x9e\
+    \0\0\0\x03\0\0\0\x02\0\0\x03\xe8\0\0\x03\xe8\0\0\x58\x48\xff\xff\xff\xff\0\0\0\x15\0\0\0\0\
+    :https://example.com/\0\0\0\0\x05";
+
+const FOUND_USED: &[u8] = b"found 2 1000 1000 22600 4294967295 0 0 5\n\nhello\n";
+
+// The file of version 3, whose first byte is another.
 const DAMAGED: &[u8] = b"jello\x06\xab\x5e\x9a\x39\x9e\
     \0\0\0\x03\0\0\0\x01\0\0\x03\xe8\0\0\x03\xe8\0\0\x03\xe8\xff\xff\xff\xff\0\0\0\x15\0\0\0\0\
     :https://example.com/\0\0\0\0\x05";

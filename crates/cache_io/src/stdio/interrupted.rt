@@ -1,9 +1,7 @@
 //! Calls that a signal interrupts are made again.
 
 use super::{read_again, write_again};
-use std::cell::Cell;
-use std::fmt::Display;
-use std::io::{self, ErrorKind, Read};
+use std::io::{self, ErrorKind, Read, Write};
 use std::test::Fail;
 
 // Its first calls are interrupted. Then it gives bytes without an end.
@@ -24,30 +22,21 @@ impl Read for Reader {
 
 // So are the first ones of this one, which then takes all bytes.
 #[derive(Drop)]
-struct Printer {
-    interrupted: Cell<u32>,
+struct Writer {
+    interrupted: u32,
 }
 
-impl Print for Printer {
-    fn print<D: Display + Drop>(&self, _value: D) -> io::Result<()> {
-        Ok(())
-    }
-
-    fn println<D: Display + Drop>(&self, _value: D) -> io::Result<()> {
-        Ok(())
-    }
-
-    fn write_all(&self, _bytes: &[u8]) -> io::Result<()> {
-        Ok(())
-    }
-
-    fn write_some(&self, bytes: &[u8]) -> io::Result<usize> {
-        let left = self.interrupted.get();
-        if left > 0 {
-            self.interrupted.set(left - 1);
+impl Write for Writer {
+    fn write(&mut self, bytes: &[u8]) -> io::Result<usize> {
+        if self.interrupted > 0 {
+            self.interrupted -= 1;
             return Err(ErrorKind::Interrupted.into());
         }
         Ok(bytes.len())
+    }
+
+    fn flush(&mut self) -> io::Result<()> {
+        Ok(())
     }
 }
 
@@ -60,9 +49,7 @@ fn an_interrupted_read_is_made_again(rt: HostRuntime) -> Result<(), Fail> {
 
 #[test]
 fn an_interrupted_write_is_made_again(rt: HostRuntime) -> Result<(), Fail> {
-    let printer = Printer {
-        interrupted: Cell::new(3),
-    };
-    assert_eq!(rt; write_again(&printer, b"hello").ok(), Some(5));
+    let mut writer = Writer { interrupted: 3 };
+    assert_eq!(rt; write_again(&mut writer, b"hello").ok(), Some(5));
     Ok(())
 }

@@ -122,3 +122,61 @@ fn what_is_no_file_is_not_synced(rt: HostRuntime) -> Result<(), Fail> {
     assert!(rt; holds(&rt, "mixed/doomed/3", b"doomed"));
     Ok(())
 }
+
+const NOTED: &[Row<'static>] = &[
+    (Call::MakeFolder("noted"), Answer::Done),
+    (Call::MakeFolder("noted/entries"), Answer::Done),
+    (Call::WriteFile("noted/index", &DIRTY), Answer::Done),
+    (Call::Sync, Answer::Done),
+    (Call::WriteFile("noted/doomed", b"no folder"), Answer::Done),
+];
+
+const CHANGED: &[Row<'static>] = &[
+    (Call::Sync, Answer::Done),
+    (Call::Patch(Place::Index, 0, b"0"), Answer::Done),
+    (Call::File("noted/synced"), Answer::Nothing),
+    (Call::Sync, Answer::Done),
+    (Call::Leave, Answer::Done),
+];
+
+const CHANGED_UNSYNCED: &[Row<'static>] = &[
+    (Call::Sync, Answer::Done),
+    (Call::Patch(Place::Index, 0, b"1"), Answer::Done),
+    (Call::Leave, Answer::Done),
+    (Call::File("noted/synced"), Answer::Nothing),
+];
+
+// A sync that went over all leaves the note, and so does the last call where all is synced. A change takes it away.
+#[test]
+fn the_note_spares_the_next_sync(rt: HostRuntime) -> Result<(), Fail> {
+    assert_eq!(rt; rows_answered(&rt, "noted", NOTED)?, NOTED.len());
+    assert!(rt; !goes_over_all(&rt, "noted")?);
+    assert_eq!(rt; rows_answered(&rt, "noted", CHANGED)?, CHANGED.len());
+    assert!(rt; !goes_over_all(&rt, "noted")?);
+    assert_eq!(rt;
+        rows_answered(&rt, "noted", CHANGED_UNSYNCED)?,
+        CHANGED_UNSYNCED.len()
+    );
+    assert!(rt; goes_over_all(&rt, "noted")?);
+    Ok(())
+}
+
+const COPIED: &[Row<'static>] = &[
+    (Call::MakeFolder("copied"), Answer::Done),
+    (Call::MakeFolder("copied/entries"), Answer::Done),
+    (Call::WriteFile("copied/index", &DIRTY), Answer::Done),
+    (Call::Sync, Answer::Done),
+];
+
+// The note of one folder, in another.
+#[test]
+fn a_copied_note_is_not_believed(rt: HostRuntime) -> Result<(), Fail> {
+    assert_eq!(rt; rows_answered(&rt, "copied", COPIED)?, COPIED.len());
+    assert!(rt; fs::create_dir(&rt, "copy").is_ok());
+    assert!(rt; fs::create_dir(&rt, "copy/entries").is_ok());
+    assert!(rt; fs::copy(&rt, "copied/index", "copy/index").is_ok());
+    assert!(rt; fs::copy(&rt, "copied/synced", "copy/synced").is_ok());
+    assert!(rt; fs::write(&rt, "copy/doomed", b"no folder").is_ok());
+    assert!(rt; goes_over_all(&rt, "copy")?);
+    Ok(())
+}

@@ -55,21 +55,17 @@ const PARTS: &[Row<'static>] = &[
     (Call::Make(FIRST, b"0123456789"), Answer::Done),
     (Call::Read(FIRST, 0), Answer::Bytes(b"0123")),
     (Call::Read(FIRST, 4), Answer::Bytes(b"4567")),
-    (Call::Read(FIRST, 8), Answer::Bytes(b"89")),
-    (Call::Read(FIRST, 10), Answer::Bytes(b"")),
-    (Call::Read(FIRST, 1_099_511_627_776), Answer::Bytes(b"")),
-    (
-        Call::Read(FIRST, 4_611_686_018_427_387_904),
-        Answer::Bytes(b""),
-    ),
-    (
-        Call::Read(FIRST, 9_223_372_036_854_775_809),
-        Answer::Bytes(b""),
-    ),
+    (Call::Read(FIRST, 6), Answer::Bytes(b"6789")),
+    (Call::Read(FIRST, 7), Answer::Failed),
+    (Call::Read(FIRST, 10), Answer::Failed),
+    (Call::Read(FIRST, 1_099_511_627_776), Answer::Failed),
+    (Call::Read(FIRST, 4_611_686_018_427_387_904), Answer::Failed),
+    (Call::Read(FIRST, 9_223_372_036_854_775_809), Answer::Failed),
     (
         Call::Read(FIRST, 18_446_744_073_709_551_615),
-        Answer::Bytes(b""),
+        Answer::Failed,
     ),
+    (Call::Read(FIRST, 6), Answer::Bytes(b"6789")),
 ];
 
 #[test]
@@ -187,7 +183,7 @@ fn a_removed_file_is_gone(rt: HostRuntime) -> Result<(), Fail> {
 
 const MISSING: &[Row<'static>] = &[
     (Call::Size(FIRST), Answer::Nothing),
-    (Call::Read(FIRST, 0), Answer::Bytes(b"")),
+    (Call::Read(FIRST, 0), Answer::Failed),
     (Call::WriteEnd(FIRST, 0, b"x"), Answer::Failed),
     (Call::Patch(FIRST, 0, b"x"), Answer::Failed),
     (Call::Rename(FIRST, Place::Doomed(0)), Answer::Failed),

@@ -103,3 +103,32 @@ fn what_is_no_file_is_not_listed(rt: HostRuntime) -> Result<(), Fail> {
     assert!(rt; names.is_ok_and(|names| names.as_slice() == [Name([0; 20])].as_slice()));
     Ok(())
 }
+
+// Whether a second disk lists these two, and removes the first.
+fn two_are_listed(rt: &HostRuntime, dir: &str) -> Result<bool, AllocError> {
+    let mut disk = disk_in(rt, dir)?;
+    let listed = doomed_of(rt, &mut disk).is_ok_and(|found| found.as_slice() == [0, 1].as_slice());
+    Ok(listed && disk.remove(&Place::Doomed(0)) == Ok(()))
+}
+
+#[test]
+fn doomed_files_pass_over_the_numbers_of_folders(rt: HostRuntime) -> Result<(), Fail> {
+    for path in [
+        "passed",
+        "passed/doomed",
+        "passed/doomed/0",
+        "passed/doomed/2",
+    ] {
+        assert!(rt; fs::create_dir(&rt, path).is_ok());
+    }
+    let mut disk = disk_in(&rt, "passed")?;
+    assert!(rt; doomed_of(&rt, &mut disk).is_ok_and(|found| found.as_slice().is_empty()));
+    assert_eq!(rt; make(&mut disk, &Place::Doomed(0), b"first"), Ok(()));
+    assert_eq!(rt; make(&mut disk, &Place::Doomed(1), b"second"), Ok(()));
+    assert_eq!(rt; disk.sync(), Ok(()));
+    assert!(rt; holds(&rt, "passed/doomed/1", b"first"));
+    assert!(rt; holds(&rt, "passed/doomed/3", b"second"));
+    assert!(rt; two_are_listed(&rt, "passed")?);
+    assert!(rt; is_missing(&rt, "passed/doomed/1"));
+    Ok(())
+}

@@ -28,6 +28,19 @@ const NO_KEY: &[u8] = b"\x88\x00\x03\xe0\
     \0\0\0\x03\0\0\0\0\0\0\0\0\0\0\0\0\0\0\0\0\0\0\0\0\0\0\0\0\0\0\0\0\0\
     \0\0\0\0";
 
+// A file of version 4, one of version 1 with another byte behind its key, and one of version 3 whose block ends before its key.
+const FOURTH: &[u8] = b"hello\xb2\xab\x53\xb4\x39\x9e\
+    \0\0\0\x04\0\0\0\x01\0\0\x03\xe8\0\0\x03\xe8\0\0\x03\xe8\xff\xff\xff\xff\0\0\0\x15\0\0\0\0\
+    :https://example.com/\0\0\0\0\x05";
+
+const FIRST_NO_ZERO: &[u8] = b"hello\xcd\x85\xa6\x3f\x39\x9e\
+    \0\0\0\x01\0\0\0\x01\0\0\x03\xe8\0\0\x03\xe8\0\0\x03\xe8\xff\xff\xff\xff\0\0\0\x15\
+    :https://example.com/\x01\0\0\0\x05";
+
+const THIRD_CUT: &[u8] = b"\0\0\0\0\
+    \0\0\0\x03\0\0\0\0\0\0\0\0\0\0\0\0\0\0\0\0\0\0\0\0\0\0\0\0\0\
+    \0\0\0\0";
+
 // What is read under a name where these bytes stand.
 fn read_of(alloc: Global, bytes: &[u8], name: &Name) -> Result<Seen, DiskFault> {
     let mut disk = disk_with(alloc, bytes)?;
@@ -64,6 +77,28 @@ fn a_file_that_fits_is_read(rt: HostRuntime) -> Result<(), Fail> {
 }
 
 #[test]
+fn an_old_file_is_read(rt: HostRuntime) {
+    assert!(rt; read_of(rt.alloc(), HELLO_FIRST, &NAME) == Ok(Seen::Fits(5, 65)));
+    assert!(rt; read_of(rt.alloc(), HELLO_SECOND, &NAME) == Ok(Seen::Fits(5, 69)));
+}
+
+// A file with a block of so many zeros but for its version.
+fn large(alloc: Global, len: usize, version: u8) -> Result<Seen, DiskFault> {
+    let mut bytes = vec![in alloc; 0u8; len]?;
+    if let Some(there) = bytes.get_mut(7) {
+        *there = version;
+    }
+    read_of(alloc, &bytes, &NAME)
+}
+
+#[test]
+fn a_file_of_version_1_has_a_smaller_block(rt: HostRuntime) {
+    assert!(rt; large(rt.alloc(), 262_145, 1) == Ok(Seen::Unfit(Unfit::TooBig)));
+    assert!(rt; large(rt.alloc(), 262_144, 1) == Ok(Seen::Unfit(Unfit::Hash)));
+    assert!(rt; large(rt.alloc(), 262_148, 2) == Ok(Seen::Unfit(Unfit::Hash)));
+}
+
+#[test]
 fn no_file_is_absent(rt: HostRuntime) {
     let mut disk = MemDisk::new(rt.alloc());
     assert!(rt; look(rt.alloc(), &mut disk, &PLACE, &NAME) == Ok(Seen::Absent));
@@ -80,7 +115,10 @@ fn each_check_has_a_file_that_fails_it(rt: HostRuntime) -> Result<(), Fail> {
         (b"\xff\xff\xff\xfe", Unfit::Short),
         (&zeros, Unfit::TooBig),
         (NO_VERSION, Unfit::Version),
+        (FOURTH, Unfit::Version),
         (LONG_KEY, Unfit::KeyEnd),
+        (FIRST_NO_ZERO, Unfit::KeyEnd),
+        (THIRD_CUT, Unfit::KeyEnd),
         (WRONG_HASH, Unfit::Hash),
         (NO_KEY, Unfit::KeyForm),
         (NO_LAST_ZERO, Unfit::Elements),

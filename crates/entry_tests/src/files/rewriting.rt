@@ -153,3 +153,18 @@ fn the_metadata_of_two_chunks_are_written_anew(rt: HostRuntime) -> Result<(), Fa
     assert!(rt; is_rewritten_twice(rt.alloc(), &mut disk, &mut buf, &body)?);
     Ok(())
 }
+
+// Whether this file of an older version is rewritten as version 3.
+fn is_made_new(alloc: Global, old: &[u8], buf: &mut Buffer) -> Result<bool, Fail> {
+    let mut disk = disk_with(alloc, old)?;
+    let set = set(alloc, &mut disk, &PLACE, buf, b"bc")?;
+    Ok(set && is_file(&disk, b"hello", HELLO_END))
+}
+
+#[test]
+fn an_old_file_is_rewritten_as_version_3(rt: HostRuntime) -> Result<(), Fail> {
+    let mut buf = Buffer::new(rt.alloc())?;
+    assert!(rt; is_made_new(rt.alloc(), HELLO_FIRST, &mut buf)?);
+    assert!(rt; is_made_new(rt.alloc(), HELLO_SECOND, &mut buf)?);
+    Ok(())
+}

@@ -43,7 +43,8 @@ const READ_DRAFT: &[Row<'static>] = &[
     (Call::AppendChunk(0, 7), Answer::Done),
     (Call::Append(0, b"tail"), Answer::Done),
     (Call::Open(63, X), Answer::Done),
-    (Call::FileLen(X_PATH), Answer::Number(262_148)),
+    (Call::FileLen("cache/doomed/0"), Answer::Number(262_148)),
+    (Call::FileLen(X_PATH), Answer::Nothing),
     (
         Call::Read(63, 262_140, 9),
         Answer::Bytes(b"\x07\x07\x07\x07"),
@@ -65,8 +66,9 @@ fn a_draft_is_read(rt: HostRuntime) -> Result<(), Fail> {
 
 const DROPPED_DRAFT: &[Row<'static>] = &[
     (Call::Create(0, X, 5), Answer::Gone(X)),
-    (Call::FileLen(X_PATH), Answer::Number(0)),
+    (Call::FileLen("cache/doomed/0"), Answer::Number(0)),
     (Call::CloseAll, Answer::Done),
+    (Call::FileLen("cache/doomed/0"), Answer::Nothing),
     (Call::FileLen(X_PATH), Answer::Nothing),
 ];
 

@@ -194,9 +194,9 @@ fn each_failing_disk_call_ends_the_run(rt: HostRuntime) -> Result<(), Fail> {
     Ok(())
 }
 
-// Whether a file of this size stands that is empty or ends with the stop tail.
+// Whether a file of this size stands aside that is empty or ends with the stop tail.
 fn is_left(disk: &MemDisk, size: usize) -> bool {
-    match disk.file(&place_of(KEY)) {
+    match disk.file(&Place::Doomed(0)) {
         Some(file) => file.len() == size
             && (file.is_empty() || file.ends_with(b"\xff\xff\xff\xff")),
         None => false,
@@ -222,9 +222,9 @@ fn leaves(alloc: Global, body: &[u8], number: u32, size: usize) -> Result<bool, 
 }
 
 const LEFT: [(u32, usize); 3] = [
-    (OPENING + 1, 0),
-    (OPENING + 2, 262_148),
-    (OPENING + 3, 524_292),
+    (OPENING + 2, 0),
+    (OPENING + 3, 262_148),
+    (OPENING + 4, 524_292),
 ];
 
 // What stands after each call of a `put` of two chunks that a stop ends: nothing that has been finished.

@@ -1,9 +1,15 @@
-use Rattle.std.proofs.Common.{[], ◌∷◌, ◌++◌, ◌∙◌, List, ℕ, ap, drop, length, subst, take, arith}
+use Rattle.std.proofs.Common.{◌≡◌, [], ◌∷◌, ◌++◌, ◌∙◌, Bool, IsTrue, List, ℕ, ap, drop, length, subst, take, arith}
 use Rattle.std.specs.Prelude.{codes}
-use Rattle.cache_theory.specs.Machine.{object_of}
+use Rattle.cache_theory.specs.Machine.{Machine, object_of}
+use Rattle.disk_model.specs.State.{State}
+use Rattle.file_handles.specs.Cache.{cache_at}
+use Rattle.file_handles.specs.Kept.{Kept, kept}
+use Rattle.file_handles.specs.Stands.{Represents}
 use Rattle.cache_store.specs.Said.{saying}
 use Rattle.cache_store.specs.Saying.{CutsIn, SaysMore}
 use Rattle.cache_theory.specs.Text.{with_number}
+use Rattle.cache_store.proofs.GetChunks.{front_then, handed_disk, sink_not_disk}
+use Rattle.file_handles.specs.Reading.{part_of_body}
 use Rattle.cache_store.proofs.SaidMore.{when_err}
 use Rattle.cache_store.proofs.SayingLaws.{cuts_first, cuts_front, cuts_then, says_then, stops_cut}
 use Rattle.cache_store.proofs.read.say_bytes.Goals as goal
@@ -53,3 +59,18 @@ returns-clause-says g c told m represents fits =
     let line = with_number (codes "data") (length bytes) in
     says_then s0 s1 s3 line (bytes ++ 10 ∷ []) (subst (λ (t : List ℕ). SaysMore s0 s1 t) (c.as_slice.ensures ∙ c.in_ok-head.ensures ∙ ap (λ n. with_number (codes "data") n) fits) c.in_ok-put.ensures.said)
     (says_then s1 s2 s3 bytes (10 ∷ []) (c.in_ok-say_parts.ensures.says told m represents) c.in_ok-put-2.ensures.said)
+
+pub returns-in_err-say_parts-clause-front : goal.returns-in_err-say_parts-clause-front
+returns-in_err-say_parts-clause-front g c = λ failed told m represents.
+    let s0 = saying g.K.Sink c.args.reply.now c.args.sink.now in
+    let s1 = saying g.K.Sink c.put.new.self c.put.new.sink in
+    let line = with_number (codes "data") c.args.len in
+    front_then s0 s1 (g.K.Sink.taken c.say_parts.new.sink) line (part_of_body (object_of m c.args.slot).version.body c.args.from c.args.len)
+    (subst (λ (t : List ℕ). SaysMore s0 s1 t) (c.as_slice.ensures ∙ c.in_ok-head.ensures) c.in_ok-put.ensures.said)
+    (c.say_parts.ensures.front (handed_disk c.from_residual-in_err-say_parts.result c.in_err-say_parts.field-0.0 c.say_parts.result c.from_residual-in_err-say_parts.ensures.1 c.in_err-say_parts.was failed) told m represents)
+
+pub returns-in_err-put-clause-front : goal.returns-in_err-put-clause-front
+returns-in_err-put-clause-front g c = λ failed. absurd (sink_not_disk c.from_residual-in_err-put.result c.in_err-put.field-0.0 c.from_residual-in_err-put.ensures.1 failed)
+
+pub returns-in_err-put-2-clause-front : goal.returns-in_err-put-2-clause-front
+returns-in_err-put-2-clause-front g c = λ failed. absurd (sink_not_disk c.from_residual-in_err-put-2.result c.in_err-put-2.field-0.0 c.from_residual-in_err-put-2.ensures.1 failed)

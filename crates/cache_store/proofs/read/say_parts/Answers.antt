@@ -1,10 +1,12 @@
-use Rattle.std.proofs.Common.{◌≡◌, ◌∙◌, ◌+◌, ◌-◌, List, ℕ, ap, drop, rules, take, subst, sym, arith, length}
+use Rattle.std.proofs.Common.{◌≡◌, ◌∙◌, ◌+◌, ◌-◌, ◌<◌, List, ℕ, ap, drop, rules, take, subst, sym, arith, length}
 use Rattle.cache_theory.specs.Machine.{object_of}
-use Rattle.file_handles.specs.Kept.{kept}
+use Rattle.file_handles.specs.Kept.{Kept, kept}
+use Rattle.file_handles.specs.Reading.{IsPartHeld}
 use Rattle.cache_store.specs.Reads.{LastIsFirst}
 use Rattle.cache_store.specs.Said.{saying}
 use Rattle.cache_store.specs.Saying.{SaysMore}
-use Rattle.cache_store.proofs.PartWhole.{all_is, part, says_with_part, stops_in_part}
+use Rattle.cache_store.proofs.GetChunks.{handed_disk}
+use Rattle.cache_store.proofs.PartWhole.{all_is, front_sent, not_first, part, part_longer, says_with_part, stops_in_part}
 use Rattle.cache_store.proofs.ReadsHeld.{goes_on, held_on, holds_then, len_of, none_past, part_held, recent_all, recent_more, same_then}
 use Rattle.cache_store.proofs.SaidMore.{when_err}
 use Rattle.cache_store.proofs.read.say_parts.Goals as goal
@@ -18,6 +20,25 @@ returns-in_err-n-clause-stops g c =
     let now = goes_on (g.D.Disk.state c.args.disk.now) (g.D.Disk.state c.loop-done.disk) (kept c.args.handles.now) (kept c.loop-done.handles) (c.loop-done.invariant.state told) c.loop-done.invariant.same (c.loop-done.invariant.holds told) m represents in
     stops_in_part body c.args.from c.args.len c.loop-done.done c.loop-done.invariant.bound s0 s1 (g.K.Sink.taken c.say_part.new.sink)
     (c.loop-done.invariant.says told m represents) (c.in_err-n.ensures.stops told m now))
+
+pub returns-in_err-n-clause-front : goal.returns-in_err-n-clause-front
+returns-in_err-n-clause-front g c = λ failed told m represents.
+    let s0 = saying g.K.Sink c.args.reply.now c.args.sink.now in
+    let s1 = saying g.K.Sink c.loop-done.reply c.loop-done.sink in
+    let body : List ℕ = (object_of m c.args.slot).version.body in
+    let disk = handed_disk c.from_residual.result c.in_err-n.field-0.0 c.say_part.result c.from_residual.ensures.1 c.in_err-n.was failed in
+    let lt = c.loop-done-test.true in
+    let later : 0 < c.loop-done.done =
+    not_first c.loop-done.done (λ none.
+    let there : c.args.from + c.loop-done.done ≡ c.args.from = omega (arith, none) in
+    let left : c.args.len - c.loop-done.done ≡ c.args.len = omega (arith, none) in
+    let held : IsPartHeld (kept c.loop-done.handles) c.args.slot (c.args.from + c.loop-done.done) (c.args.len - c.loop-done.done) =
+    subst (λ (k : Kept). IsPartHeld k c.args.slot (c.args.from + c.loop-done.done) (c.args.len - c.loop-done.done)) (sym (c.loop-done.invariant.start none))
+    (subst (λ at. IsPartHeld (kept c.args.handles.now) c.args.slot at (c.args.len - c.loop-done.done)) (sym there)
+    (subst (λ l. IsPartHeld (kept c.args.handles.now) c.args.slot c.args.from l) (sym left) c.requires.first)) in
+    (c.say_part.ensures.held held).1 disk) in
+    front_sent body c.args.from c.args.len c.loop-done.done s0 s1 (g.K.Sink.taken c.say_part.new.sink) (c.loop-done.invariant.says told m represents)
+    (c.loop-done.invariant.out later (omega (arith, lt))) (ap g.K.Sink.taken (c.say_part.ensures.unsaid disk).0) (c.loop-done.invariant.long told m represents later)
 
 pub returns-then-n-eq0-clause-says : goal.returns-then-n-eq0-clause-says
 returns-then-n-eq0-clause-says g c told m represents =
@@ -48,6 +69,12 @@ loop-done-preserved g c = record {
       let now = goes_on (g.D.Disk.state c.args.disk.now) (g.D.Disk.state c.loop-done.disk) (kept c.args.handles.now) (kept c.loop-done.handles) (c.loop-done.invariant.state told) c.loop-done.invariant.same (c.loop-done.invariant.holds told) m represents in
       let says = c.in_ok-n.ensures.says told m now in
       says_with_part body c.args.from c.args.len c.loop-done.done c.in_ok-n.n says.len s0 s1 s2 (c.loop-done.invariant.says told m represents) says.says;
+  start = λ none. absurd (let more = c.if-n-eq0.false in omega (arith, none, more));
+  out = λ some less. c.in_ok-n.ensures.sent (let lt = c.loop-done-test.true in omega (arith, less, lt));
+  long = λ told m represents.
+      let body : List ℕ = (object_of m c.args.slot).version.body in
+      let now = goes_on (g.D.Disk.state c.args.disk.now) (g.D.Disk.state c.loop-done.disk) (kept c.args.handles.now) (kept c.loop-done.handles) (c.loop-done.invariant.state told) c.loop-done.invariant.same (c.loop-done.invariant.holds told) m represents in
+      part_longer body c.args.from c.args.len c.loop-done.done c.in_ok-n.n (c.in_ok-n.ensures.says told m now).len (c.loop-done.invariant.long told m represents);
   same = same_then (kept c.args.handles.now) (kept c.loop-done.handles) (kept c.say_part.new.handles) c.loop-done.invariant.same c.say_part.ensures.read.same;
   holds = λ told.
       holds_then (g.D.Disk.state c.args.disk.now) (g.D.Disk.state c.loop-done.disk) (kept c.args.handles.now) (kept c.loop-done.handles) (kept c.say_part.new.handles) (c.loop-done.invariant.state told)
@@ -57,7 +84,7 @@ loop-done-preserved g c = record {
       let lt = c.loop-done-test.true in
       let part = held_on (kept c.args.handles.now) (kept c.loop-done.handles) c.args.slot (c.args.from + c.loop-done.done) (c.args.len - c.loop-done.done) c.loop-done.invariant.same so_far.1
       (part_held (kept c.args.handles.now) c.args.slot c.args.from c.args.len c.loop-done.done all (omega (arith, lt))) in
-      (c.say_part.ensures.held part ∙ so_far.0, λ n i some. c.say_part.ensures.read.none_lost part n i (so_far.1 n i some));
+      ((c.say_part.ensures.held part).0 ∙ so_far.0, λ n i some. c.say_part.ensures.read.none_lost part n i (so_far.1 n i some));
   recent = λ told.
       let some = c.requires.told told in
       let lt = c.loop-done-test.true in
@@ -98,9 +125,9 @@ pub returns-in_err-n-clause-held : goal.returns-in_err-n-clause-held
 returns-in_err-n-clause-held g c = λ all.
     let so_far = c.loop-done.invariant.held all in
     let lt = c.loop-done-test.true in
-    c.say_part.ensures.held
+    (c.say_part.ensures.held
     (held_on (kept c.args.handles.now) (kept c.loop-done.handles) c.args.slot (c.args.from + c.loop-done.done) (c.args.len - c.loop-done.done) c.loop-done.invariant.same so_far.1
-    (part_held (kept c.args.handles.now) c.args.slot c.args.from c.args.len c.loop-done.done all (omega (arith, lt))))
+    (part_held (kept c.args.handles.now) c.args.slot c.args.from c.args.len c.loop-done.done all (omega (arith, lt))))).0
     ∙ so_far.0
 
 pub returns-then-n-eq0-clause-holds : goal.returns-then-n-eq0-clause-holds
@@ -112,9 +139,9 @@ pub returns-then-n-eq0-clause-held : goal.returns-then-n-eq0-clause-held
 returns-then-n-eq0-clause-held g c = λ all.
     let so_far = c.loop-done.invariant.held all in
     let lt = c.loop-done-test.true in
-    c.say_part.ensures.held
+    (c.say_part.ensures.held
     (held_on (kept c.args.handles.now) (kept c.loop-done.handles) c.args.slot (c.args.from + c.loop-done.done) (c.args.len - c.loop-done.done) c.loop-done.invariant.same so_far.1
-    (part_held (kept c.args.handles.now) c.args.slot c.args.from c.args.len c.loop-done.done all (omega (arith, lt))))
+    (part_held (kept c.args.handles.now) c.args.slot c.args.from c.args.len c.loop-done.done all (omega (arith, lt))))).0
     ∙ so_far.0
 
 pub returns-then-n-eq0-clause-recent : goal.returns-then-n-eq0-clause-recent

@@ -1,19 +1,22 @@
-use Rattle.std.proofs.Common.{◌-◌, ◌≡◌, ◌≤◌, IsTrue, drop, take}
+use Rattle.std.proofs.Common.{◌-◌, ◌≡◌, ◌<◌, ◌≤◌, [], IsTrue, drop, length, take}
 use Rattle.disk_model.specs.Account.{IsCalm}
 use Rattle.file_handles.specs.Cache.{cache}
 use Rattle.file_handles.specs.Kept.{kept}
-use Rattle.file_handles.specs.Reading.{ForBody, HoldsAsBefore, LosesNone, SameButChunks}
+use Rattle.file_handles.specs.Reading.{ForBody, HoldsAsBefore, LosesNone, SameButChunks, part_of_body}
 use Rattle.cache_store.specs.Reads.{AreHeld, LastIsFirst}
 use Rattle.cache_store.specs.Said.{saying}
 use Rattle.cache_store.specs.Saying.{SaysMore}
 use Rattle.cache_store.proofs.read.say_parts.Given as goal
 
--- the bytes so far were said, and nothing else was done
+-- the bytes so far were said, of them the first part at least, and nothing else was done; before more is said all is out
 abbrev pub invariant-loop-done : goal.invariant-loop-done
 invariant-loop-done g l = record {
   bound : l.done ≤ l.len;
   says : IsTrue g.D.Disk.tells → ForBody (cache g.D.Disk l.fn.handles l.fn.disk) l.slot (λ body.
       SaysMore (saying g.K.Sink l.fn.reply l.fn.sink) (saying g.K.Sink l.reply l.sink) (take l.done (drop l.from body)));
+  start : l.done ≡ 0 → kept l.handles ≡ kept l.fn.handles;
+  out : 0 < l.done → l.done < l.len → l.reply.held ≡ [];
+  long : IsTrue g.D.Disk.tells → ForBody (cache g.D.Disk l.fn.handles l.fn.disk) l.slot (λ body. 0 < l.done → length (part_of_body body l.from l.len) ≤ l.done);
   same : SameButChunks (kept l.fn.handles) (kept l.handles);
   holds : IsTrue g.D.Disk.tells → HoldsAsBefore (cache g.D.Disk l.fn.handles l.fn.disk) (kept l.handles);
   held : AreHeld (kept l.fn.handles) l.slot l.from l.len → (l.disk ≡ l.fn.disk) × LosesNone (kept l.fn.handles) (kept l.handles);

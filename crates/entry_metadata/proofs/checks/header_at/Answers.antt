@@ -1,13 +1,15 @@
-use Rattle.std.proofs.Common.{ap, ◌∙◌, arith, length-drop, take, drop, ◌≡◌, ◌+◌, ◌-◌}
-use Rattle.cache_base.proofs.ByteLaws.{all_below, bytes_drop}
-use Rattle.entry_parts.specs.Header.{header_in}
-use Rattle.entry_parts.proofs.HeaderLaws.{header_taken}
+use Rattle.std.proofs.Common.{sym, ◌∙◌, arith, drop}
+use Rattle.entry_metadata.proofs.FormatLaws.{first_len, first_stored, other_len, other_stored}
 use Rattle.entry_metadata.proofs.checks.header_at.Goals as goal
 
-pub returns : goal.returns
-returns c =
-    let b = c.args.b.now in
-    let n : c.args.at + 32 - c.args.at ≡ 32 = omega arith in
-    let bytes = bytes_drop c.args.at b (all_below 256 b (λ i. omega (arith, c.type_inv.b i))) in
-    let long = length-drop c.args.at b in
-    c.read.ensures ∙ ap header_in (c.copy_from_slice.ensures.after ∙ ap (λ k. take k (drop c.args.at b)) n) ∙ header_taken (drop c.args.at b) bytes (omega (arith, long))
+pub short_header_at-requires : goal.short_header_at-requires
+short_header_at-requires c = let k = first_len c.args.version c.if-version-eq1.true in let l = c.requires.long in omega (arith, k, l)
+
+pub returns-then-version-eq1 : goal.returns-then-version-eq1
+returns-then-version-eq1 c = c.short_header_at.ensures ∙ first_stored (drop c.args.at c.args.b.now) (sym c.requires.version ∙ c.if-version-eq1.true)
+
+pub full_header_at-requires : goal.full_header_at-requires
+full_header_at-requires c = let k = other_len c.args.version c.if-version-eq1.false in let l = c.requires.long in omega (arith, k, l)
+
+pub returns-else-version-eq1 : goal.returns-else-version-eq1
+returns-else-version-eq1 c = c.full_header_at.ensures ∙ other_stored (drop c.args.at c.args.b.now) (λ e. c.if-version-eq1.false (c.requires.version ∙ e))

@@ -11,8 +11,8 @@ use Rattle.entry_metadata.specs.Meta.{meta_of}
 use Rattle.file_handles.proofs.FoundLoad.{loads_damaged, loads_whole, meta_has}
 use Rattle.file_handles.proofs.find.load.Goals as goal
 
-pub check_body-requires : goal.check_body-requires
-check_body-requires g c = λ told.
+pub check_under-requires : goal.check_under-requires
+check_under-requires g c = λ told.
     let P : State → Type 0 = λ s. HasMeta (standing s (Entry c.args.name.now)) (meta_of c.in_ok-meta.meta) in
     subst P (sym (c.in_ok-meta.ensures.looks.state told)) (meta_has c.args.key.now (standing (g.D.Disk.state c.args.disk.now) (Entry c.args.name.now)) c.in_ok-meta.meta (c.in_ok-meta.ensures.found told))
 
@@ -21,23 +21,23 @@ returns-in-None-clause-loads g c = λ told.
     let place = Entry c.args.name.now in
     let m = meta_of c.in_ok-meta.meta in
     let same = c.in_ok-meta.ensures.looks.state told in
-    let P : State → Type 0 = λ s. IfSome (standing s place) (λ d. c.in_ok-check_body.field-0 ≡ first_damage m d) in
+    let P : State → Type 0 = λ s. IfSome (standing s place) (λ d. c.in_ok-check_under.field-0 ≡ first_damage m d) in
     let Q : State → Type 0 = λ s. StoresBody (standing s place) m in
     let R : Option Damage → Type 0 = λ f. IfSome (standing (g.D.Disk.state c.args.disk.now) place) (λ d. f ≡ first_damage m d) in
     loads_whole c.args.key.now (standing (g.D.Disk.state c.args.disk.now) place) c.in_ok-meta.meta (c.in_ok-meta.ensures.found told)
-    (subst R c.in-None.is (subst P same (c.in_ok-check_body.ensures.damage told)))
-    (subst Q same (c.in_ok-check_body.ensures.stores told c.in-None.is))
+    (subst R c.in-None.is (subst P same (c.in_ok-check_under.ensures.damage told)))
+    (subst Q same (c.in_ok-check_under.ensures.stores told c.in-None.is))
 
 pub returns-in-Some-clause-loads : goal.returns-in-Some-clause-loads
 returns-in-Some-clause-loads g c = λ told.
     let place = Entry c.args.name.now in
     let m = meta_of c.in_ok-meta.meta in
     let same = c.in_ok-meta.ensures.looks.state told in
-    let P : State → Type 0 = λ s. IfSome (standing s place) (λ d. c.in_ok-check_body.field-0 ≡ first_damage m d) in
+    let P : State → Type 0 = λ s. IfSome (standing s place) (λ d. c.in_ok-check_under.field-0 ≡ first_damage m d) in
     let R : Option Damage → Type 0 = λ f. IfSome (standing (g.D.Disk.state c.args.disk.now) place) (λ d. f ≡ first_damage m d) in
     loads_damaged c.args.key.now (standing (g.D.Disk.state c.args.disk.now) place) c.in_ok-meta.meta c.in-Some.damage (c.in_ok-meta.ensures.found told)
-    (subst R c.in-Some.is (subst P same (c.in_ok-check_body.ensures.damage told)))
+    (subst R c.in-Some.is (subst P same (c.in_ok-check_under.ensures.damage told)))
 
 pub returns-in-None-clause-held : goal.returns-in-None-clause-held
 returns-in-None-clause-held g c = λ told. held_along _ (chunks c.in_ok-meta.meta.offset) (Entry c.args.name.now) c.in_ok-meta.meta.offset
-    (c.in_ok-meta.ensures.looks.state told) (c.in_ok-check_body.ensures.held told c.in-None.is)
+    (c.in_ok-meta.ensures.looks.state told) (c.in_ok-check_under.ensures.held told c.in-None.is)

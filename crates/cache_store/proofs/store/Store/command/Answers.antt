@@ -8,6 +8,8 @@ use Rattle.cache_store.specs.Reads.{LastIsFirst}
 use Rattle.cache_store.specs.Said.{saying}
 use Rattle.cache_store.specs.Session.{Open, open_of, session}
 use Rattle.cache_store.specs.Verifying.{PrintsFound}
+use Rattle.cache_store.proofs.GetChunks.{handed_disk}
+use Rattle.cache_store.proofs.Stays.{handed_fault}
 use Rattle.cache_store.proofs.PerformOpen.{performs_open}
 use Rattle.cache_store.proofs.PerformWhole.{does_performs, fails_performs}
 use Rattle.cache_store.proofs.PrintedLaws.{prints_found, prints_outcome}
@@ -68,3 +70,11 @@ pub returns-clause-recent : goal.returns-clause-recent
 returns-clause-recent g c slot from len is ok told =
     subst (λ (o : Open). LastIsFirst (kept c.args.self.now.handles) slot from len o.handles) (sym c.finish_reply.ensures.open)
     (c.in_ok-answered.ensures.recent slot from len is (outcome_ok c.finish_reply.result c.in_ok-answered.answered ok c.finish_reply.ensures.outcome) told)
+
+pub returns-in_err-answered-clause-faulted : goal.returns-in_err-answered-clause-faulted
+returns-in_err-answered-clause-faulted g c = λ faulting.
+    handed_fault c.from_residual.result c.in_err-answered.field-0.0 c.perform.result c.from_residual.ensures.1 c.in_err-answered.was (c.perform.ensures.faulted faulting)
+
+pub returns-in_err-answered-clause-fails : goal.returns-in_err-answered-clause-fails
+returns-in_err-answered-clause-fails g c = λ calm failed told.
+    c.perform.ensures.change calm (handed_disk c.from_residual.result c.in_err-answered.field-0.0 c.perform.result c.from_residual.ensures.1 c.in_err-answered.was failed) told

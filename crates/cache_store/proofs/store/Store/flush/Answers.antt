@@ -1,4 +1,4 @@
-use Rattle.std.proofs.Common.{◌∙◌, ap, rules, subst, sym}
+use Rattle.std.proofs.Common.{◌∙◌, ap, refl, rules, subst, sym}
 use Rattle.disk_model.specs.State.{settled}
 use Rattle.index_theory.specs.Leaves.{LeavesIndex}
 use Rattle.index_theory.proofs.LeavesLaws.{sync_leaves_index}
@@ -6,6 +6,8 @@ use Rattle.file_handles.specs.Kept.{kept}
 use Rattle.cache_store.specs.Session.{session}
 use Rattle.cache_store.proofs.IndexAchieves.{fails_sparing, spared_in_same}
 use Rattle.cache_store.proofs.IndexWrites.{flush_achieves, synced_unclean}
+use Rattle.cache_store.proofs.CalmAccounts.{sync_stops}
+use Rattle.cache_store.proofs.Stays.{change_handed}
 use Rattle.cache_store.proofs.store.Store.flush.Goals as goal
 
 pub returns-in_err-refresh-clause-does : goal.returns-in_err-refresh-clause-does
@@ -34,3 +36,13 @@ returns-clause-index g c = λ spares told.
 
 pub returns-clause-account : goal.returns-clause-account
 returns-clause-account g c = record { cause = search rules; went_on = search rules; stops = search rules }
+
+pub returns-in_err-sync-clause-account : goal.returns-in_err-sync-clause-account
+returns-in_err-sync-clause-account g c = record {
+  cause = search rules;
+  went_on = search rules;
+  stops = λ told. sync_stops (g.D.Disk.counts c.args.disk.now) (g.D.Disk.counts c.refresh.new.disk) (g.D.Disk.counts c.sync.new.self) c.sync.result (c.sync.ensures.counts told) (c.in_ok-refresh.ensures.account.went_on refl told);
+}
+
+pub returns-in_err-refresh-clause-change : goal.returns-in_err-refresh-clause-change
+returns-in_err-refresh-clause-change g c = change_handed g.D.Disk c.from_residual.result c.in_err-refresh.field-0.0 c.refresh.new.disk c.from_residual.ensures.1 c.in_err-refresh.ensures.change

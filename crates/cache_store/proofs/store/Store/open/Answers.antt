@@ -1,4 +1,4 @@
-use Rattle.std.proofs.Common.{refl, arith}
+use Rattle.std.proofs.Common.{false, refl, arith}
 use Rattle.cache_store.specs.Session.{open_of}
 use Rattle.cache_store.proofs.Opened.{begun_honest, begun_safe, cleared_honest, cleared_safe, keeps_found, nothing_removed, opened_safe, opens, opens_open}
 use Rattle.cache_store.proofs.StartAlong.{in_use_along}
@@ -73,7 +73,7 @@ returns-clause-shelf g c = λ told. shelf_exists (g.D.Disk.state c.args.disk.now
 pub returns-clause-opens : goal.returns-clause-opens
 returns-clause-opens g c = λ told.
     opens (g.D.Disk.state c.args.disk.now) (g.D.Disk.state c.clear.new.disk) (g.D.Disk.state c.begin_index.new.disk) c.args.now
-    (open_of (record { handles = c.in_ok-handles.handles; moment = c.args.now; index = c.in_ok-index.index; reply = c.in_ok-reply.reply; alloc = c.args.alloc }))
+    (open_of (record { handles = c.in_ok-handles.handles; moment = c.args.now; index = c.in_ok-index.index; reply = c.in_ok-reply.reply; faulting = false; alloc = c.args.alloc }))
     (c.clear.ensures.removes told) (c.in_ok-clear.ensures.cleared told) (g.met.D.Disk.sound c.clear.new.disk told) (c.in_ok-index.ensures.opened told) refl (omega arith) c.in_ok-handles.ensures
     (c.in_ok-index.ensures.rest told) (c.in_ok-index.ensures.tells told) (c.in_ok-index.ensures.holds told)
 

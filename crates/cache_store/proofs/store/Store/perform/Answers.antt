@@ -1,4 +1,6 @@
-use Rattle.std.proofs.Common.{◌≡◌, IfOk, IsTrue, refl, sym, ap, subst, ◌∙◌}
+use Rattle.std.proofs.Common.{◌≡◌, IfOk, IsTrue, true, refl, sym, ap, subst, ◌∙◌}
+use Rattle.cache_store.specs.Faulting.{has_failed_look}
+use Rattle.cache_store.proofs.Stays.{err_failed_look, on_failed_look, parts_stay}
 use Rattle.cache_script.specs.Command.{command_of}
 use Rattle.cache_theory.specs.Command.Command.{At, Append, Close, Create, Doom, ElementOf, Evict, Finish, Flush, Get, HasEntry, ListRecords, OpenKey, ReadPart, Rebuild, SetElement, StepUpdate, UnsetElement, UpdateState, UseEntry, Verify}
 use Rattle.cache_theory.specs.Given.{IsGiven}
@@ -34,7 +36,7 @@ returns-in-OpenKey-clause-does g c = λ told.
     let was = saying g.K.Sink c.args.self.now.reply c.args.sink.now in
     as_command _ (OpenKey c.in-OpenKey.slot c.in-OpenKey.key.now) _ _ _ _ _ (ap command_of c.in-OpenKey.is) (λ m. refl)
     (unsaid_does (OpenKey c.in-OpenKey.slot c.in-OpenKey.key.now) c.answer_of.result _ _ was c.answer_of.ensures.not_said c.answer_of.ensures.no_sink c.requires.empty
-    (open_achieves c.open.result c.answer_of.result (session g.D.Disk c.args.self.now c.args.disk.now) _ refl refl c.answer_of.ensures.replies c.answer_of.ensures.not_said c.answer_of.ensures.no_sink (same_left (c.open.ensures.looks.state told)) c.in-OpenKey.slot c.in-OpenKey.key.now (c.open.ensures.carried told)))
+    (open_achieves c.open-answer.result c.answer_of.result (session g.D.Disk c.args.self.now c.args.disk.now) _ refl refl c.answer_of.ensures.replies c.answer_of.ensures.not_said c.answer_of.ensures.no_sink (same_left (c.open-answer.ensures.looks.state told)) c.in-OpenKey.slot c.in-OpenKey.key.now (c.open-answer.ensures.carried told)))
 
 pub returns-in-Append-clause-does : goal.returns-in-Append-clause-does
 returns-in-Append-clause-does g c = λ told.
@@ -169,3 +171,24 @@ pub returns-in-ReadPart-clause-recent : goal.returns-in-ReadPart-clause-recent
 returns-in-ReadPart-clause-recent g c slot from len is =
     same_read c.in-ReadPart.slot c.in-ReadPart.from c.in-ReadPart.len slot from len (sym (ap command_of c.in-ReadPart.is) ∙ is)
     (λ s f l. IfOk c.say_read.result (λ a. outcome_in a ≡ outcome.Ok → IsTrue g.D.Disk.tells → LastIsFirst (kept c.args.self.now.handles) s f l (kept c.say_read.new.self.handles))) c.say_read.ensures.recent
+
+pub returns-in-Create-clause-stays : goal.returns-in-Create-clause-stays
+returns-in-Create-clause-stays g c = λ noted told.
+    let failed : has_failed_look c.create-answer.result ≡ true = sym c.has_failed-self.ensures ∙ noted in
+    let all = on_failed_look c.create-answer.result _ failed c.create-answer.ensures.read in
+    parts_stay (kept c.args.self.now.handles) (kept c.create-answer.new.self) c.args.self.now.moment (g.D.Disk.state c.args.disk.now) (g.D.Disk.state c.create-answer.new.disk) c.args.self.now.index c.learn_of.new.self
+    all.handles (err_failed_look c.create-answer.result _ failed c.learn_of.ensures.unlearnt) (all.looks.state told)
+
+pub returns-in-OpenKey-clause-stays : goal.returns-in-OpenKey-clause-stays
+returns-in-OpenKey-clause-stays g c = λ noted told.
+    let failed : has_failed_look c.open-answer.result ≡ true = sym c.has_failed-self-in-OpenKey.ensures ∙ noted in
+    let all = on_failed_look c.open-answer.result _ failed c.open-answer.ensures.read in
+    parts_stay (kept c.args.self.now.handles) (kept c.open-answer.new.self) c.args.self.now.moment (g.D.Disk.state c.args.disk.now) (g.D.Disk.state c.open-answer.new.disk) c.args.self.now.index c.args.self.now.index
+    all refl (c.open-answer.ensures.looks.state told)
+
+pub returns-in-Doom-clause-stays : goal.returns-in-Doom-clause-stays
+returns-in-Doom-clause-stays g c = λ noted told.
+    let failed : has_failed_look c.doom-answer.result ≡ true = sym c.has_failed-self-in-Doom.ensures ∙ noted in
+    let all = on_failed_look c.doom-answer.result _ failed c.doom-answer.ensures.read in
+    parts_stay (kept c.args.self.now.handles) (kept c.doom-answer.new.self) c.args.self.now.moment (g.D.Disk.state c.args.disk.now) (g.D.Disk.state c.doom-answer.new.disk) c.args.self.now.index c.learn_of-in-Doom.new.self
+    all.handles (err_failed_look c.doom-answer.result _ failed c.learn_of-in-Doom.ensures.unlearnt) (all.looks.state told)

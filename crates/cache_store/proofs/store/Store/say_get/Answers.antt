@@ -10,12 +10,14 @@ use Rattle.cache_store.specs.declared.fault.StoreFault.{StoreFault}
 use Rattle.cache_theory.specs.Command.Command.{Get}
 use Rattle.cache_theory.specs.Step.{step}
 use Rattle.cache_store.proofs.Unsaid.{finds_reply, unsaid_answers, unsaid_by}
-use Rattle.cache_store.proofs.GetAnswers.{answers_cut, answers_found, by_fault}
+use Rattle.cache_store.proofs.GetAnswers.{answers_cut, answers_found, by_fault, get_front}
+use Rattle.cache_store.proofs.GetChunks.{handed_disk}
 use Rattle.cache_store.proofs.store.Store.say_get.Goals as goal
 
 pub say_entry-requires : goal.say_entry-requires
 say_entry-requires g c =
     let meta = c.in-Ok.meta in record {
+      calm = c.requires.calm;
       held = λ told.
           subst (λ (s : State). IsLastOf (chunks meta.offset) (standing s (Entry c.name_of.result)) meta.offset c.find.new.self.chunk) (sym (c.find.ensures.looks.state told))
           (c.in-Ok.ensures.held told c.name_of.result c.name_of.ensures);
@@ -42,3 +44,10 @@ returns-in-Err-clause-answers g c told m represents =
     unsaid_answers c.fault_answer.result (unsaid_by c.fault_answer.result c.fault_answer.ensures.not_said c.fault_answer.ensures.no_sink) (step m (Get c.args.key.now)).reply
     (finds_reply c.args.key.now c.in-Err.fault (g.D.Disk.state c.args.disk.now) m ((c.in-Err.ensures.finds told).finds m represents) c.fault_answer.result c.fault_answer.ensures.replies)
     (saying g.K.Sink c.args.self.now.reply c.args.sink.now) c.requires.empty
+
+pub returns-in_err-say_entry-in-Ok-clause-front : goal.returns-in_err-say_entry-in-Ok-clause-front
+returns-in_err-say_entry-in-Ok-clause-front g c = λ calm failed told m represents.
+    let disk = handed_disk c.from_residual.result c.in_err-say_entry-in-Ok.field-0.0 c.say_entry.result c.from_residual.ensures.1 c.in_err-say_entry-in-Ok.was failed in
+    get_front m c.args.key.now c.in-Ok.meta (g.D.Disk.state c.args.disk.now) (g.D.Disk.state c.find.new.disk) (c.find.ensures.looks.state told)
+    c.name_of.result c.name_of.ensures ((c.in-Ok.ensures.finds told).finds m represents).some
+    (saying g.K.Sink c.args.self.now.reply c.args.sink.now) c.requires.empty (g.K.Sink.taken c.say_entry.new.sink) (c.say_entry.ensures.front calm disk told)

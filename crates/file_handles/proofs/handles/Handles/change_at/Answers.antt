@@ -75,8 +75,8 @@ returns-clause-changes g c told =
           let with : IsDraftWith (header_by c.args.change) (changed_by c.args.change) w.in-Draft.draft w.in_ok-changed_draft-in-Draft.field-0 =
           record { body = new.others.0; header = new.header; key = new.others.1; elements = new.elements } in
           let t_is : g.D.Disk.state c.match-entry.disk ≡ s = ap g.D.Disk.state w.disk-is in
-          let y : Object = record { number = x.number; name = x.name; doomed = x.doomed; entry = Draft w.in_ok-changed_draft-in-Draft.field-0 } in
-          let put = put_back k (kept c.take-object.new.self) after c.args.place _ c.take-object.ensures.kept c.put_entry.ensures ∙ ap (λ (e : Entry). with_object k c.args.place (Some (record { number = x.number; name = x.name; doomed = x.doomed; entry = e }))) w.entry-is in
+          let y : Object = record { number = x.number; name = x.name; doomed = x.doomed; aside = x.aside; entry = Draft w.in_ok-changed_draft-in-Draft.field-0 } in
+          let put = put_back k (kept c.take-object.new.self) after c.args.place _ c.take-object.ensures.kept c.put_entry.ensures ∙ ap (λ (e : Entry). with_object k c.args.place (Some (record { number = x.number; name = x.name; doomed = x.doomed; aside = x.aside; entry = e }))) w.entry-is in
           subst (λ (u : State). ChangesThere c.args.place (with_version (with_change c.args.change)) (Ok c.learnt_of-effect.result) (cache_at k s) (cache_at after u)) (sym t_is)
           (changes_done c.args.place (with_version (with_change c.args.change)) (Ok c.learnt_of-effect.result) s s k after x c.take-object.ensures.found (λ o filed. not_written _ _ s)
           y (λ o filed. draft_becomes (header_by c.args.change) (changed_by c.args.change) x o s filed w.in-Draft.draft w.in_ok-changed_draft-in-Draft.field-0 w.in-Draft.is with) put)
@@ -86,8 +86,8 @@ returns-clause-changes g c told =
           record { header = new.header; key = new.others.0; elements = new.elements; hashes = new.others.1.0; offset = new.others.1.1 } in
           let t : State = g.D.Disk.state w.rewrite_meta.new.disk in
           let t_is : g.D.Disk.state c.match-entry.disk ≡ t = ap g.D.Disk.state w.disk-is in
-          let y : Object = record { number = x.number; name = x.name; doomed = x.doomed; entry = Finished w.in_ok-meta-in-Finished.meta } in
-          let put = put_back k (kept c.take-object.new.self) after c.args.place _ c.take-object.ensures.kept c.put_entry.ensures ∙ ap (λ (e : Entry). with_object k c.args.place (Some (record { number = x.number; name = x.name; doomed = x.doomed; entry = e }))) w.entry-is in
+          let y : Object = record { number = x.number; name = x.name; doomed = x.doomed; aside = x.aside; entry = Finished w.in_ok-meta-in-Finished.meta } in
+          let put = put_back k (kept c.take-object.new.self) after c.args.place _ c.take-object.ensures.kept c.put_entry.ensures ∙ ap (λ (e : Entry). with_object k c.args.place (Some (record { number = x.number; name = x.name; doomed = x.doomed; aside = x.aside; entry = e }))) w.entry-is in
           subst (λ (u : State). ChangesThere c.args.place (with_version (with_change c.args.change)) (Ok c.learnt_of-effect.result) (cache_at k s) (cache_at after u)) (sym t_is)
           (changes_done c.args.place (with_version (with_change c.args.change)) (Ok c.learnt_of-effect.result) s t k after x c.take-object.ensures.found
           (λ o filed. meta_writes (header_by c.args.change) (changed_by c.args.change) x o s filed w.in-Finished.meta w.in_ok-meta-in-Finished.meta w.in-Finished.is with t c.file_place-file.result c.file_place-file.ensures (w.rewrite_meta.ensures.writes told))
@@ -107,11 +107,11 @@ returns-clause-effect g c =
           let with : IsDraftWith (header_by c.args.change) (changed_by c.args.change) w.in-Draft.draft w.in_ok-changed_draft-in-Draft.field-0 =
           record { body = after.others.0; header = after.header; key = after.others.1; elements = after.elements } in
           ap (λ (e : Entry). learnt_of_held x.name x.doomed e) w.entry-is
-          ∙ held_is_learnt x.number x.name x.doomed (Draft w.in_ok-changed_draft-in-Draft.field-0) (change o) (draft_held (header_by c.args.change) (changed_by c.args.change) x o held w.in-Draft.draft w.in_ok-changed_draft-in-Draft.field-0 w.in-Draft.is with) new
+          ∙ held_is_learnt x.number x.name x.doomed x.aside (Draft w.in_ok-changed_draft-in-Draft.field-0) (change o) (draft_held (header_by c.args.change) (changed_by c.args.change) x o held w.in-Draft.draft w.in_ok-changed_draft-in-Draft.field-0 w.in-Draft.is with) new
       | in-Finished+in_ok-meta-in-Finished+in_ok-rewrite_meta-in-Finished w ↦
           let after = w.in_ok-meta-in-Finished.ensures in
           let with : IsMetaWith (header_by c.args.change) (changed_by c.args.change) w.in-Finished.meta w.in_ok-meta-in-Finished.meta =
           record { header = after.header; key = after.others.0; elements = after.elements; hashes = after.others.1.0; offset = after.others.1.1 } in
           ap (λ (e : Entry). learnt_of_held x.name x.doomed e) w.entry-is
-          ∙ held_is_learnt x.number x.name x.doomed (Finished w.in_ok-meta-in-Finished.meta) (change o) (meta_held (header_by c.args.change) (changed_by c.args.change) x o held w.in-Finished.meta w.in_ok-meta-in-Finished.meta w.in-Finished.is with) new
+          ∙ held_is_learnt x.number x.name x.doomed x.aside (Finished w.in_ok-meta-in-Finished.meta) (change o) (meta_held (header_by c.args.change) (changed_by c.args.change) x o held w.in-Finished.meta w.in_ok-meta-in-Finished.meta w.in-Finished.is with) new
     ])

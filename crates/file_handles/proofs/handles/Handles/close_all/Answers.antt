@@ -5,22 +5,22 @@ use Rattle.index_theory.specs.Leaves.{LeavesIndex}
 use Rattle.file_handles.specs.Kept.{kept}
 use Rattle.file_handles.proofs.Accounting.{calm_then}
 use Rattle.file_handles.proofs.ClosedAll.{IsDroppedTo, all_closed, all_failed, item_at, next_somehow, none_dropped, one_dropped}
-use Rattle.file_handles.proofs.IndexLeft.{dropped_left, then_left}
-use Rattle.file_handles.proofs.handles.Handles.close_all.Goals.{in-Some+in_ok-drop_file, in_default}
+use Rattle.file_handles.proofs.IndexLeft.{let_go_left, then_left}
+use Rattle.file_handles.proofs.handles.Handles.close_all.Goals.{in-Some+in_ok-let_go, in_default}
 use Rattle.file_handles.proofs.handles.Handles.close_all.Goals as goal
 
-pub drop_file-requires : goal.drop_file-requires
-drop_file-requires g c told =
+pub let_go-requires : goal.let_go-requires
+let_go-requires g c told =
     let within : c.loop-object.object-index < length c.args.self.objects = let lt = c.loop-object-test.true in let l = c.loop-object.invariant.long in omega (arith, lt, l) in
     next_somehow (g.D.Disk.state c.args.disk.now) (g.D.Disk.state c.loop-object.disk) (kept c.args.self) c.loop-object.object-index c.in-Some.object (c.requires.told told)
     (item_at (kept c.args.self) c.loop-object.object-index c.object-item.result _ within c.in-Some.is) (c.loop-object.invariant.to told)
 
-pub returns-in_err-drop_file-clause-closes : goal.returns-in_err-drop_file-clause-closes
-returns-in_err-drop_file-clause-closes g c told =
+pub returns-in_err-let_go-clause-closes : goal.returns-in_err-let_go-clause-closes
+returns-in_err-let_go-clause-closes g c told =
     let within : c.loop-object.object-index < length c.args.self.objects = let lt = c.loop-object-test.true in let l = c.loop-object.invariant.long in omega (arith, lt, l) in
     record {
-      crash = λ h is. all_failed (kept c.args.self) c.loop-object.object-index c.in-Some.object c.drop_file.result (g.D.Disk.state c.args.disk.now) (g.D.Disk.state c.loop-object.disk) (g.D.Disk.state c.drop_file.new.disk)
-          (item_at (kept c.args.self) c.loop-object.object-index c.object-item.result _ within c.in-Some.is) (c.drop_file.ensures.state told) (c.loop-object.invariant.to told) h.machine h.marks is;
+      crash = λ h is. all_failed (kept c.args.self) c.loop-object.object-index c.in-Some.object c.let_go.result (g.D.Disk.state c.args.disk.now) (g.D.Disk.state c.loop-object.disk) (g.D.Disk.state c.let_go.new.disk)
+          (item_at (kept c.args.self) c.loop-object.object-index c.object-item.result _ within c.in-Some.is) (c.let_go.ensures.state told) (c.loop-object.invariant.to told) h.machine h.marks is;
       closed = λ m stand. IfOk-from_err c.from_residual.result _ c.from_residual.ensures.0;
     }
 
@@ -33,14 +33,14 @@ loop-object-preserved g c =
     let before = c.loop-object.invariant in
     let within : i < length c.args.self.objects = let lt = c.loop-object-test.true in let l = c.loop-object.invariant.long in omega (arith, lt, l) in
     elim c.match-object.branch [
-      | in-Some+in_ok-drop_file w ↦ record {
+      | in-Some+in_ok-let_go w ↦ record {
         long = before.long;
         to = λ told. one_dropped k i w.in-Some.object s t (g.D.Disk.state c.match-object.disk) (item_at k i c.object-item.result _ within w.in-Some.is)
-            (ap g.D.Disk.state w.disk-is ∙ w.in_ok-drop_file.ensures.state told) (before.to told);
+            (ap g.D.Disk.state w.disk-is ∙ w.in_ok-let_go.ensures.state told) (before.to told);
         left = λ told. then_left s t (g.D.Disk.state c.match-object.disk) (before.left told)
-            (dropped_left {T = Unit {0}} (Ok tt) t (g.D.Disk.state c.match-object.disk) w.in-Some.object (ap g.D.Disk.state w.disk-is ∙ w.in_ok-drop_file.ensures.state told));
-        calm = subst (IsCalm g.D.Disk c.args.disk.now) (sym w.disk-is) (calm_then g.D.Disk _ _ _ before.calm w.in_ok-drop_file.ensures.account);
-        looks = λ told. ap (λ d. (g.D.Disk.counts d).entry_reads) w.disk-is ∙ w.in_ok-drop_file.ensures.no_entry told ∙ before.looks told;
+            (let_go_left {T = Unit {0}} (Ok tt) t (g.D.Disk.state c.match-object.disk) w.in-Some.object (ap g.D.Disk.state w.disk-is ∙ w.in_ok-let_go.ensures.state told));
+        calm = subst (IsCalm g.D.Disk c.args.disk.now) (sym w.disk-is) (calm_then g.D.Disk _ _ _ before.calm w.in_ok-let_go.ensures.account);
+        looks = λ told. ap (λ d. (g.D.Disk.counts d).entry_reads) w.disk-is ∙ w.in_ok-let_go.ensures.no_entry told ∙ before.looks told;
       }
       | in_default w ↦ record {
         long = before.long;
@@ -57,16 +57,16 @@ returns-clause-closes g c told =
     let all : length c.args.self.objects ≤ c.loop-object.object-index = let l = c.loop-object.invariant.long in let a = c.loop-object-test.false in omega (arith, l, a) in
     all_closed (g.D.Disk.state c.args.disk.now) (g.D.Disk.state c.loop-object.disk) (kept c.args.self) c.loop-object.object-index all (c.loop-object.invariant.to told)
 
-pub returns-in_err-drop_file-clause-index : goal.returns-in_err-drop_file-clause-index
-returns-in_err-drop_file-clause-index g c told =
-    then_left (g.D.Disk.state c.args.disk.now) (g.D.Disk.state c.loop-object.disk) (g.D.Disk.state c.drop_file.new.disk) (c.loop-object.invariant.left told)
-    (dropped_left c.drop_file.result _ _ c.in-Some.object (c.drop_file.ensures.state told))
+pub returns-in_err-let_go-clause-index : goal.returns-in_err-let_go-clause-index
+returns-in_err-let_go-clause-index g c told =
+    then_left (g.D.Disk.state c.args.disk.now) (g.D.Disk.state c.loop-object.disk) (g.D.Disk.state c.let_go.new.disk) (c.loop-object.invariant.left told)
+    (let_go_left c.let_go.result _ _ c.in-Some.object (c.let_go.ensures.state told))
 
 pub returns-clause-index : goal.returns-clause-index
 returns-clause-index g c told = c.loop-object.invariant.left told
 
-pub returns-in_err-drop_file-clause-no_entry : goal.returns-in_err-drop_file-clause-no_entry
-returns-in_err-drop_file-clause-no_entry g c told = c.drop_file.ensures.no_entry told ∙ c.loop-object.invariant.looks told
+pub returns-in_err-let_go-clause-no_entry : goal.returns-in_err-let_go-clause-no_entry
+returns-in_err-let_go-clause-no_entry g c told = c.let_go.ensures.no_entry told ∙ c.loop-object.invariant.looks told
 
 pub returns-clause-no_entry : goal.returns-clause-no_entry
 returns-clause-no_entry g c told = c.loop-object.invariant.looks told

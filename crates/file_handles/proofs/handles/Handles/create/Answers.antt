@@ -1,12 +1,13 @@
-use Rattle.std.proofs.Common.{◌∙◌, inl, refl, sym, ap, subst, arith}
+use Rattle.std.proofs.Common.{◌∙◌, inl, sym, ap, subst, arith}
 use Rattle.cache_base.proofs.ByteLaws.{all_below}
 use Rattle.cache_theory.specs.Command.Command.{Create}
 use Rattle.cache_theory.specs.Step.{fresh}
 use Rattle.file_handles.specs.Held.{IsHeldAs}
 use Rattle.file_handles.specs.Kept.{kept, use_at}
 use Rattle.file_handles.specs.declared.fault.Effect.TheVariants.{Gone}
-use Rattle.file_handles.proofs.CreatedCommand.{added_leaves, bad_key_leaves, doom_done, doom_fails, draft_safe, may_create_by, taken_leaves}
+use Rattle.file_handles.proofs.CreatedCommand.{added_leaves, bad_key_leaves, doom_done, doom_fails, doom_numbered, draft_safe, may_create_by, memory_only, taken_leaves}
 use Rattle.file_handles.proofs.DoomedCommand.{failed_on_leaves}
+use Rattle.file_handles.proofs.FirstFree.{may_take}
 use Rattle.file_handles.proofs.JoinedOpen.{used_none}
 use Rattle.file_handles.proofs.Where.{carries_out_at}
 use Rattle.file_handles.proofs.IndexLeft.{made_left, then_left}
@@ -22,8 +23,8 @@ returns-then-not-may_write-clause-carried g c = λ tells.
     bad_key_leaves (g.D.Disk.state c.args.disk.now) k c.args.slot c.args.key.now c.requires.slot (used_none (use_at k c.args.slot) c.use_of.result c.use_of.ensures (sym c.is_ok.ensures.value ∙ c.if-is_ok.false))
     (sym c.may_write.ensures ∙ c.if-not-may_write.true) c.args.now
 
-pub returns-in_err-doom_user-clause-carried : goal.returns-in_err-doom_user-clause-carried
-returns-in_err-doom_user-clause-carried g c = λ tells. carries_out_at (λ b m w moment stand.
+pub returns-in_err-doom_there-clause-carried : goal.returns-in_err-doom_there-clause-carried
+returns-in_err-doom_there-clause-carried g c = λ tells. carries_out_at (λ b m w moment stand.
     let k = kept c.args.self.now in
     let s = g.D.Disk.state c.args.disk.now in
     let may =
@@ -31,11 +32,25 @@ returns-in_err-doom_user-clause-carried g c = λ tells. carries_out_at (λ b m w
     c.may_write.ensures c.if-not-may_write.false c.name_of-name.ensures
     in
     let safe =
-    doom_fails s k c.args.slot c.args.key.now c.name_of-name.result may m w stand (g.D.Disk.state c.doom_user.new.disk) (kept c.doom_user.new.self) c.in_err-doom_user.field-0.0
-    (c.in_err-doom_user.ensures.dooms tells) (λ bare. let never = (c.in_err-doom_user.ensures.none bare).0 in cc)
+    doom_fails s k c.args.slot c.args.key.now c.name_of-name.result may m w stand (g.D.Disk.state c.doom_there.new.disk) (kept c.doom_there.new.self) c.in_err-doom_there.field-0.0
+    (c.in_err-doom_there.ensures.dooms tells)
     in
-    failed_on_leaves c.from_residual.result c.in_err-doom_user.field-0.0 (g.D.Disk.state c.doom_user.new.disk) (kept c.doom_user.new.self) (Create c.args.slot c.args.key.now)
-    c.from_residual.ensures.1 (λ refusal same. c.in_err-doom_user.ensures.refused refusal same) m w safe)
+    failed_on_leaves c.from_residual.result c.in_err-doom_there.field-0.0 (g.D.Disk.state c.doom_there.new.disk) (kept c.doom_there.new.self) (Create c.args.slot c.args.key.now)
+    c.from_residual.ensures.1 (λ refusal same. c.in_err-doom_there.ensures.refused refusal same) m w safe)
+
+pub returns-in_err-aside-clause-carried : goal.returns-in_err-aside-clause-carried
+returns-in_err-aside-clause-carried g c = λ tells. carries_out_at (λ b m w moment stand.
+    let k = kept c.args.self.now in
+    let s = g.D.Disk.state c.args.disk.now in
+    let may =
+    may_create_by k c.args.slot c.args.key.now c.name_of-name.result c.requires.slot c.use_of.result c.use_of.ensures c.is_ok.result c.may_write.result c.is_ok.ensures.value c.if-is_ok.false
+    c.may_write.ensures c.if-not-may_write.false c.name_of-name.ensures
+    in
+    let stands =
+    doom_done s k c.args.slot c.args.key.now c.name_of-name.result may m w stand (g.D.Disk.state c.doom_there.new.disk) (kept c.doom_there.new.self) (c.in_ok-doom_there.ensures.dooms tells)
+    in
+    failed_on_leaves c.from_residual-in_err-aside.result c.in_err-aside.field-0.0 (g.D.Disk.state c.doom_there.new.disk) (kept c.doom_there.new.self) (Create c.args.slot c.args.key.now)
+    c.from_residual-in_err-aside.ensures.1 (λ refusal same. memory_only c.in_err-aside.field-0.0 refusal c.in_err-aside.ensures.memory same) m w (λ on. (stands.crash_kept on).safe))
 
 pub returns-in_err-object-clause-carried : goal.returns-in_err-object-clause-carried
 returns-in_err-object-clause-carried g c = λ tells. carries_out_at (λ b m w moment stand.
@@ -45,15 +60,14 @@ returns-in_err-object-clause-carried g c = λ tells. carries_out_at (λ b m w mo
     may_create_by k c.args.slot c.args.key.now c.name_of-name.result c.requires.slot c.use_of.result c.use_of.ensures c.is_ok.result c.may_write.result c.is_ok.ensures.value c.if-is_ok.false
     c.may_write.ensures c.if-not-may_write.false c.name_of-name.ensures
     in
-    let but =
-    doom_done s k c.args.slot c.args.key.now c.name_of-name.result may m w stand g.D.Disk.state c.args.disk.now c.doom_user.new.disk (kept c.doom_user.new.self) c.in_ok-doom_user.field-0 refl
-    (c.in_ok-doom_user.ensures.dooms tells) c.in_ok-doom_user.ensures.none
+    let stands =
+    doom_done s k c.args.slot c.args.key.now c.name_of-name.result may m w stand (g.D.Disk.state c.doom_there.new.disk) (kept c.doom_there.new.self) (c.in_ok-doom_there.ensures.dooms tells)
     in
     let safe =
-    draft_safe s k c.args.slot c.args.key.now c.name_of-name.result may m w stand (g.D.Disk.state c.doom_user.new.disk) (g.D.Disk.state c.drafted.new.disk) (kept c.doom_user.new.self)
-    (g.met.D.Disk.sound c.doom_user.new.disk tells) but (c.in_err-object.ensures.state tells).either
+    draft_safe s k c.args.slot c.args.key.now c.name_of-name.result may m w stand (g.D.Disk.state c.doom_there.new.disk) (g.D.Disk.state c.drafted.new.disk) (kept c.doom_there.new.self) c.in_ok-aside.aside
+    (g.met.D.Disk.sound c.doom_there.new.disk tells) stands (c.in_err-object.ensures.state tells).either
     in
-    failed_on_leaves c.from_residual-in_err-object.result c.in_err-object.field-0.0 (g.D.Disk.state c.drafted.new.disk) (kept c.doom_user.new.self) (Create c.args.slot c.args.key.now)
+    failed_on_leaves c.from_residual-in_err-object.result c.in_err-object.field-0.0 (g.D.Disk.state c.drafted.new.disk) (kept c.doom_there.new.self) (Create c.args.slot c.args.key.now)
     c.from_residual-in_err-object.ensures.1 (λ refusal same. c.in_err-object.ensures.refused refusal same) m w safe)
 
 pub returns-in_err-add-clause-carried : goal.returns-in_err-add-clause-carried
@@ -64,13 +78,12 @@ returns-in_err-add-clause-carried g c = λ tells. carries_out_at (λ b m w momen
     may_create_by k c.args.slot c.args.key.now c.name_of-name.result c.requires.slot c.use_of.result c.use_of.ensures c.is_ok.result c.may_write.result c.is_ok.ensures.value c.if-is_ok.false
     c.may_write.ensures c.if-not-may_write.false c.name_of-name.ensures
     in
-    let but =
-    doom_done s k c.args.slot c.args.key.now c.name_of-name.result may m w stand g.D.Disk.state c.args.disk.now c.doom_user.new.disk (kept c.doom_user.new.self) c.in_ok-doom_user.field-0 refl
-    (c.in_ok-doom_user.ensures.dooms tells) c.in_ok-doom_user.ensures.none
+    let stands =
+    doom_done s k c.args.slot c.args.key.now c.name_of-name.result may m w stand (g.D.Disk.state c.doom_there.new.disk) (kept c.doom_there.new.self) (c.in_ok-doom_there.ensures.dooms tells)
     in
     let safe =
-    draft_safe s k c.args.slot c.args.key.now c.name_of-name.result may m w stand (g.D.Disk.state c.doom_user.new.disk) (g.D.Disk.state c.drafted.new.disk) (kept c.doom_user.new.self)
-    (g.met.D.Disk.sound c.doom_user.new.disk tells) but (inl (c.in_ok-object.ensures.state tells).made)
+    draft_safe s k c.args.slot c.args.key.now c.name_of-name.result may m w stand (g.D.Disk.state c.doom_there.new.disk) (g.D.Disk.state c.drafted.new.disk) (kept c.doom_there.new.self) c.in_ok-aside.aside
+    (g.met.D.Disk.sound c.doom_there.new.disk tells) stands (inl (c.in_ok-object.ensures.state tells).made)
     in
     failed_on_leaves c.from_residual-in_err-add.result c.in_err-add.field-0.0 (g.D.Disk.state c.drafted.new.disk) (kept c.add.new.self) (Create c.args.slot c.args.key.now)
     c.from_residual-in_err-add.ensures.1 (λ refusal same. c.in_err-add.ensures.refused refusal same) m w safe)
@@ -83,28 +96,46 @@ returns-clause-carried g c = λ tells. carries_out_at (λ b m w moment stand.
     may_create_by k c.args.slot c.args.key.now c.name_of-name.result c.requires.slot c.use_of.result c.use_of.ensures c.is_ok.result c.may_write.result c.is_ok.ensures.value c.if-is_ok.false
     c.may_write.ensures c.if-not-may_write.false c.name_of-name.ensures
     in
-    let but =
-    doom_done s k c.args.slot c.args.key.now c.name_of-name.result may m w stand g.D.Disk.state c.args.disk.now c.doom_user.new.disk (kept c.doom_user.new.self) c.in_ok-doom_user.field-0 refl
-    (c.in_ok-doom_user.ensures.dooms tells) c.in_ok-doom_user.ensures.none
+    let stands =
+    doom_done s k c.args.slot c.args.key.now c.name_of-name.result may m w stand (g.D.Disk.state c.doom_there.new.disk) (kept c.doom_there.new.self) (c.in_ok-doom_there.ensures.dooms tells)
     in
-    added_leaves s k c.args.slot c.args.key.now c.name_of-name.result may m w stand (g.D.Disk.state c.doom_user.new.disk) (g.D.Disk.state c.drafted.new.disk) (kept c.doom_user.new.self)
-    (g.met.D.Disk.sound c.doom_user.new.disk tells) but (kept c.add.new.self) c.in_ok-object.object (all_below 256 c.args.key.now (λ i. omega (arith, c.type_inv.key i))) (c.in_ok-object.ensures.state tells).made
+    added_leaves s k c.args.slot c.args.key.now c.name_of-name.result may m w stand (g.D.Disk.state c.doom_there.new.disk) (g.D.Disk.state c.drafted.new.disk) (kept c.doom_there.new.self) c.in_ok-aside.aside
+    (g.met.D.Disk.sound c.doom_there.new.disk tells) stands (kept c.add.new.self) c.in_ok-object.object (all_below 256 c.args.key.now (λ i. omega (arith, c.type_inv.key i))) (c.in_ok-object.ensures.state tells).made
+    c.in_ok-object.ensures.draft.1.0 c.in_ok-aside.ensures.least.free
     (subst (λ n. IsHeldAs c.in_ok-object.object (fresh n c.args.key.now)) (sym moment) c.in_ok-object.ensures.draft.1.1) c.in_ok-add.ensures.added (omega arith) (λ p lt. omega arith))
 
 pub returns-in_err-object-clause-index : goal.returns-in_err-object-clause-index
 returns-in_err-object-clause-index g c told =
-    then_left (g.D.Disk.state c.args.disk.now) (g.D.Disk.state c.doom_user.new.disk) (g.D.Disk.state c.drafted.new.disk) (c.doom_user.ensures.index told)
-    (made_left c.drafted.result _ _ c.name_of-name.result (g.met.D.Disk.sound c.doom_user.new.disk told) (c.drafted.ensures.state told))
+    then_left (g.D.Disk.state c.args.disk.now) (g.D.Disk.state c.doom_there.new.disk) (g.D.Disk.state c.drafted.new.disk) (c.doom_there.ensures.index told)
+    (made_left c.drafted.result _ _ c.in_ok-aside.aside (g.met.D.Disk.sound c.doom_there.new.disk told) (c.drafted.ensures.state told))
 
 pub returns-in_err-add-clause-index : goal.returns-in_err-add-clause-index
 returns-in_err-add-clause-index g c told =
-    then_left (g.D.Disk.state c.args.disk.now) (g.D.Disk.state c.doom_user.new.disk) (g.D.Disk.state c.drafted.new.disk) (c.doom_user.ensures.index told)
-    (made_left c.drafted.result _ _ c.name_of-name.result (g.met.D.Disk.sound c.doom_user.new.disk told) (c.drafted.ensures.state told))
+    then_left (g.D.Disk.state c.args.disk.now) (g.D.Disk.state c.doom_there.new.disk) (g.D.Disk.state c.drafted.new.disk) (c.doom_there.ensures.index told)
+    (made_left c.drafted.result _ _ c.in_ok-aside.aside (g.met.D.Disk.sound c.doom_there.new.disk told) (c.drafted.ensures.state told))
 
 pub returns-clause-index : goal.returns-clause-index
 returns-clause-index g c told =
-    then_left (g.D.Disk.state c.args.disk.now) (g.D.Disk.state c.doom_user.new.disk) (g.D.Disk.state c.drafted.new.disk) (c.doom_user.ensures.index told)
-    (made_left c.drafted.result _ _ c.name_of-name.result (g.met.D.Disk.sound c.doom_user.new.disk told) (c.drafted.ensures.state told))
+    then_left (g.D.Disk.state c.args.disk.now) (g.D.Disk.state c.doom_there.new.disk) (g.D.Disk.state c.drafted.new.disk) (c.doom_there.ensures.index told)
+    (made_left c.drafted.result _ _ c.in_ok-aside.aside (g.met.D.Disk.sound c.doom_there.new.disk told) (c.drafted.ensures.state told))
+
+pub returns-in_err-object-clause-numbered : goal.returns-in_err-object-clause-numbered
+returns-in_err-object-clause-numbered g c = λ tells.
+    may_take (g.D.Disk.state c.args.disk.now) (g.D.Disk.state c.doom_there.new.disk) (g.D.Disk.state c.drafted.new.disk) (kept c.doom_there.new.self) c.in_ok-aside.aside (g.met.D.Disk.sound c.doom_there.new.disk tells)
+    (doom_numbered (g.D.Disk.state c.args.disk.now) (g.D.Disk.state c.doom_there.new.disk) (kept c.args.self.now) (kept c.doom_there.new.self) c.name_of-name.result (c.requires.told tells) (c.in_ok-doom_there.ensures.dooms tells))
+    c.in_ok-aside.ensures.least c.in_ok-aside.ensures.few (c.in_ok-doom_there.ensures.numbered tells) (c.in_err-object.ensures.state tells).either
+
+pub returns-in_err-add-clause-numbered : goal.returns-in_err-add-clause-numbered
+returns-in_err-add-clause-numbered g c = λ tells.
+    may_take (g.D.Disk.state c.args.disk.now) (g.D.Disk.state c.doom_there.new.disk) (g.D.Disk.state c.drafted.new.disk) (kept c.doom_there.new.self) c.in_ok-aside.aside (g.met.D.Disk.sound c.doom_there.new.disk tells)
+    (doom_numbered (g.D.Disk.state c.args.disk.now) (g.D.Disk.state c.doom_there.new.disk) (kept c.args.self.now) (kept c.doom_there.new.self) c.name_of-name.result (c.requires.told tells) (c.in_ok-doom_there.ensures.dooms tells))
+    c.in_ok-aside.ensures.least c.in_ok-aside.ensures.few (c.in_ok-doom_there.ensures.numbered tells) (inl (c.in_ok-object.ensures.state tells).made)
+
+pub returns-clause-numbered : goal.returns-clause-numbered
+returns-clause-numbered g c = λ tells.
+    may_take (g.D.Disk.state c.args.disk.now) (g.D.Disk.state c.doom_there.new.disk) (g.D.Disk.state c.drafted.new.disk) (kept c.doom_there.new.self) c.in_ok-aside.aside (g.met.D.Disk.sound c.doom_there.new.disk tells)
+    (doom_numbered (g.D.Disk.state c.args.disk.now) (g.D.Disk.state c.doom_there.new.disk) (kept c.args.self.now) (kept c.doom_there.new.self) c.name_of-name.result (c.requires.told tells) (c.in_ok-doom_there.ensures.dooms tells))
+    c.in_ok-aside.ensures.least c.in_ok-aside.ensures.few (c.in_ok-doom_there.ensures.numbered tells) (inl (c.in_ok-object.ensures.state tells).made)
 
 pub returns-clause-effect : goal.returns-clause-effect
 returns-clause-effect g c = λ m number proper stand. ap (λ n. Gone (record { 0 = n })) c.name_of-name.ensures

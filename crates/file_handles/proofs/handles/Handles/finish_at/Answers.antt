@@ -1,13 +1,15 @@
-use Rattle.std.proofs.Common.{Ok, Option, Some, sym, subst, ◌∙◌}
+use Rattle.std.proofs.Common.{ℕ, Ok, Option, Some, ap, inl, inr, refl, sym, subst, ◌∙◌}
 use Rattle.file_handles.specs.Changes.{completed}
 use Rattle.file_handles.specs.Effects.{IsLearntOf}
-use Rattle.file_handles.specs.Kept.{kept}
+use Rattle.file_handles.specs.Held.{object_with}
+use Rattle.file_handles.specs.Kept.{kept, with_object}
+use Rattle.file_handles.specs.Publishing.IsAmidPublishing.{Published}
 use Rattle.file_handles.specs.declared.object.Entry.TheVariants.{Finished}
 use Rattle.file_handles.specs.declared.object.Object.{Object}
-use Rattle.file_handles.proofs.Completed.{completed_becomes, completed_held, completed_writes}
+use Rattle.file_handles.proofs.Completed.{completed_becomes, completed_held, completed_stands, completed_writes}
 use Rattle.file_handles.proofs.EffectLaws.{held_is_learnt}
 use Rattle.file_handles.proofs.ElementChecks.{is_there}
-use Rattle.file_handles.proofs.PutBack.{changes_done, changes_failed, put_back}
+use Rattle.file_handles.proofs.PutBack.{completes_done, completes_failed, put_back}
 use Rattle.file_handles.proofs.handles.Handles.finish_at.Goals as goal
 
 pub take-object-requires-clause-there : goal.take-object-requires-clause-there
@@ -18,24 +20,44 @@ returns-in_err-meta-clause-changes g c tells =
     let x = c.take-object.result in
     let s = g.D.Disk.state c.args.disk.now in
     let t = g.D.Disk.state c.finish.new.disk in
-    changes_failed c.args.place completed c.from_residual.result s t (kept c.args.self.now) (kept c.take-object.new.self) x c.take-object.ensures.found
+    completes_failed c.args.place c.from_residual.result s t t (kept c.args.self.now) (kept c.take-object.new.self) x c.take-object.ensures.found
     (completed_writes x c.in-Draft.draft c.in-Draft.is s t c.file_place-file.result c.file_place-file.ensures (c.in_err-meta.ensures.writes tells))
+    (g.met.D.Disk.sound c.finish.new.disk tells) (inl refl)
     c.from_residual.ensures.0
+
+pub returns-in_err-aside-clause-changes : goal.returns-in_err-aside-clause-changes
+returns-in_err-aside-clause-changes g c tells =
+    let x = c.take-object.result in
+    let s = g.D.Disk.state c.args.disk.now in
+    let u = g.D.Disk.state c.finish.new.disk in
+    let t = g.D.Disk.state c.publish.new.disk in
+    completes_failed c.args.place c.from_residual-in_err-aside.result s t u (kept c.args.self.now) (kept c.take-object.new.self) x c.take-object.ensures.found
+    (completed_writes x c.in-Draft.draft c.in-Draft.is s u c.file_place-file.result c.file_place-file.ensures (c.in_ok-meta.ensures.writes tells))
+    (g.met.D.Disk.sound c.finish.new.disk tells)
+    (inr ((c.in_err-aside.ensures.state tells).amid, completed_stands x c.in-Draft.draft c.in-Draft.is s u c.file_place-file.result c.file_place-file.ensures (c.in_ok-meta.ensures.stands tells)))
+    c.from_residual-in_err-aside.ensures.0
 
 pub returns-clause-changes : goal.returns-clause-changes
 returns-clause-changes g c tells =
     let x = c.take-object.result in
     let s = g.D.Disk.state c.args.disk.now in
-    let t = g.D.Disk.state c.finish.new.disk in
-    changes_done c.args.place completed (Ok c.learnt_of-effect.result) s t (kept c.args.self.now) (kept c.put_entry.new.self) x c.take-object.ensures.found
-    (completed_writes x c.in-Draft.draft c.in-Draft.is s t c.file_place-file.result c.file_place-file.ensures (c.in_ok-meta.ensures.writes tells))
+    let u = g.D.Disk.state c.finish.new.disk in
+    let t = g.D.Disk.state c.publish.new.disk in
+    let done = (c.in_ok-aside.ensures.state tells).done in
+    let stands = completed_stands x c.in-Draft.draft c.in-Draft.is s u c.file_place-file.result c.file_place-file.ensures (c.in_ok-meta.ensures.stands tells) in
+    completes_done c.args.place (Ok c.learnt_of-effect.result) s t u (kept c.args.self.now) (kept c.put_entry.new.self) x c.take-object.ensures.found
+    (completed_writes x c.in-Draft.draft c.in-Draft.is s u c.file_place-file.result c.file_place-file.ensures (c.in_ok-meta.ensures.writes tells))
+    (g.met.D.Disk.sound c.finish.new.disk tells)
+    (inr (Published done.1, stands))
     _
-    (completed_becomes x c.in-Draft.draft c.in-Draft.is s t c.file_place-file.result c.file_place-file.ensures c.in_ok-meta.meta c.in_ok-meta.ensures.meta (c.in_ok-meta.ensures.stands tells))
-    (put_back (kept c.args.self.now) (kept c.take-object.new.self) (kept c.put_entry.new.self) c.args.place (Some _) c.take-object.ensures.kept c.put_entry.ensures)
+    done.1
+    (completed_becomes x c.in-Draft.draft c.in-Draft.is s u c.file_place-file.result c.file_place-file.ensures c.in_ok-meta.meta c.in_ok-meta.ensures.meta (c.in_ok-meta.ensures.stands tells))
+    (put_back (kept c.args.self.now) (kept c.take-object.new.self) (kept c.put_entry.new.self) c.args.place (Some _) c.take-object.ensures.kept c.put_entry.ensures
+    ∙ ap (λ (a : Option ℕ). with_object (kept c.args.self.now) c.args.place (Some (object_with x.number x.name x.doomed a (Finished c.in_ok-meta.meta)))) done.0)
 
 pub returns-clause-effect : goal.returns-clause-effect
 returns-clause-effect g c =
     let x = c.take-object.result in
     subst (λ (o : Option Object). IsLearntOf completed o c.learnt_of-effect.result) (sym c.take-object.ensures.found) (λ o held new.
     c.learnt_of-effect.ensures.held
-    ∙ held_is_learnt x.number x.name x.doomed (Finished c.in_ok-meta.meta) (completed o) (completed_held x c.in-Draft.draft c.in-Draft.is c.in_ok-meta.meta c.in_ok-meta.ensures.meta o held) new)
+    ∙ held_is_learnt x.number x.name x.doomed _ (Finished c.in_ok-meta.meta) (completed o) (completed_held x c.in-Draft.draft c.in-Draft.is c.in_ok-meta.meta c.in_ok-meta.ensures.meta o held) new)

@@ -8,7 +8,7 @@ use Rattle.file_handles.proofs.ClosedSlot.{draft_there, finished_in, finished_ma
 use Rattle.file_handles.proofs.EffectLaws.{finished_effect, kept_effect}
 use Rattle.file_handles.proofs.ElementChecks.{the_object}
 use Rattle.file_handles.proofs.Places.{filed_somehow}
-use Rattle.file_handles.proofs.IndexLeft.{change_left}
+use Rattle.file_handles.proofs.IndexLeft.{completed_left}
 use Rattle.file_handles.specs.Changes.{completed}
 use Rattle.file_handles.proofs.handles.Handles.finish_first.Goals as goal
 
@@ -38,7 +38,7 @@ pub returns-then-is_finished_by-clause-there : goal.returns-then-is_finished_by-
 returns-then-is_finished_by-clause-there g c =
     told_then c.finish_at.result _ _ (λ told.
     finished_may (g.D.Disk.state c.args.disk.now) (kept c.args.self.now) c.args.slot c.requires.slot c.args.used c.requires.used (sym c.is_finished_by.ensures ∙ c.if-is_finished_by.true) c.finish_at.result
-    (g.D.Disk.state c.finish_at.new.disk) (kept c.finish_at.new.self) (c.finish_at.ensures.changes told) (c.requires.told told))
+    (g.D.Disk.state c.finish_at.new.disk) (kept c.finish_at.new.self) (c.finish_at.ensures.changes told) (g.met.D.Disk.sound c.args.disk.now told) (c.requires.told told))
 
 pub returns-then-is_finished_by-clause-effect : goal.returns-then-is_finished_by-clause-effect
 returns-then-is_finished_by-clause-effect g c =
@@ -71,5 +71,5 @@ returns-else-is_finished_by-clause-there g c told =
 pub returns-then-is_finished_by-clause-index : goal.returns-then-is_finished_by-clause-index
 returns-then-is_finished_by-clause-index g c told =
     let there = the_object _ _ (draft_there c.args.used.writes _ (sym c.is_finished_by.ensures ∙ c.if-is_finished_by.true)) in
-    change_left (g.D.Disk.state c.args.disk.now) (g.D.Disk.state c.finish_at.new.disk) (kept c.args.self.now) (kept c.finish_at.new.self) c.args.used.place there.0 (completed) c.finish_at.result
+    completed_left (g.D.Disk.state c.args.disk.now) (g.D.Disk.state c.finish_at.new.disk) (kept c.args.self.now) (kept c.finish_at.new.self) c.args.used.place there.0 c.finish_at.result
     (g.met.D.Disk.sound c.args.disk.now told) there.1.0 (filed_somehow _ _ _ (c.requires.told told)) (c.finish_at.ensures.changes told)

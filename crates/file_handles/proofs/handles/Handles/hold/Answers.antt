@@ -36,8 +36,8 @@ returns-in_err-read_over-clause-holds g c = λ place x from len told at is m num
     let n = c.args.chunk.now.number in
     let i = c.args.chunk.now.index in
     let P = IsChunkInUse k m in
-    list_stands k m number stands.handles.chunks c.evict.new.self
-    (subst (All P) (sym c.evict.ensures.chunks) (All-take P 31 _ (subst (All P) (sym c.look.follows.holds-at-none) (All-looked_at P n i k.chunks stands.handles.chunks.held))))
+    list_stands k m number stands.handles.chunks c.look.follows.lender-at-none
+    (subst (All P) (sym c.look.follows.holds-at-none) (All-looked_at P n i k.chunks stands.handles.chunks.held))
 
 pub returns-in_err-keep-clause-holds : goal.returns-in_err-keep-clause-holds
 returns-in_err-keep-clause-holds g c = λ place x from len told at is m number stands.

@@ -1,4 +1,4 @@
-use Rattle.std.proofs.Common.{◌≡◌, ◌∙◌, ℕ, List, Bor, Option, Some, None, refl, sym, subst, ap}
+use Rattle.std.proofs.Common.{◌≡◌, ◌∙◌, ℕ, List, Bor, Err, Option, Some, None, refl, sym, subst, ap}
 use Rattle.std.specs.Prelude.{IfSome}
 use Rattle.std.specs.Bool.{IsTrue}
 use Rattle.cache_theory.specs.Command.Command.{ReadPart}
@@ -11,11 +11,12 @@ use Rattle.file_handles.specs.Cache.{cache_at}
 use Rattle.file_handles.specs.Kept.{Kept, kept, object_at, use_at}
 use Rattle.file_handles.specs.Reading.{ForBody, HasChunkOf, part_of_body, rest_part}
 use Rattle.file_handles.specs.Refuses.{Refuses}
+use Rattle.file_handles.specs.declared.fault.HandleFault.{HandleFault}
 use Rattle.file_handles.specs.declared.fault.HandleFault.TheVariants as fault
 use Rattle.file_handles.specs.declared.read.StoredChunk.{StoredChunk}
 use Rattle.file_handles.proofs.Accounting.{looks_nowhere}
 use Rattle.file_handles.proofs.ElementSlots.{use_found}
-use Rattle.file_handles.proofs.PartsSlots.{err_is, error_says, on_err, part_no_slot, part_passes}
+use Rattle.file_handles.proofs.PartsSlots.{err_is, error_changes, error_reads, error_says, error_unread, never_both, on_err, part_no_slot, part_passes}
 use Rattle.file_handles.proofs.ReadChunks.{chunk_first, chunk_held, chunk_lent, in_slot, looked_loses_none, looked_stands, none_first, one_there, rest_lent, same_looked}
 use Rattle.file_handles.proofs.handles.Handles.read_part.Goals as goal
 
@@ -35,11 +36,14 @@ returns-in_err-used g c =
         refl,
         λ _. tt,
         record {
-          same = refl;
-          first = on_err _ c.from_residual.result (fault.Refused f) is;
-          none_lost = λ held n i some. some;
-          unread = λ none. refl;
-          holds = λ told m number stands. stands.handles.chunks;
+          has_read = record {
+            same = refl;
+            first = on_err _ c.from_residual.result (fault.Refused f) is;
+            none_lost = λ held n i some. some;
+            unread = λ none. refl;
+            holds = λ told m number stands. stands.handles.chunks;
+          };
+          unread = error_reads c.from_residual.result (fault.Refused f) _ is (λ never. refl);
         },
       ),
       record {
@@ -47,7 +51,8 @@ returns-in_err-used g c =
         refused = says.1;
         passes = on_err _ c.from_residual.result (fault.Refused f) is;
         read = tt;
-        held = λ _. refl;
+        held = λ _. (refl, error_unread c.from_residual.result (fault.Refused f) is (λ never. cc));
+        no_change = error_changes c.from_residual.result (fault.Refused f) is (λ never. cc);
         looks = looks_nowhere g.D.Disk _ _ (ap ending is);
       },
     )
@@ -71,11 +76,14 @@ returns-in_err-hold-in-Some g c =
         refl,
         λ _. tt,
         record {
-          same = c.hold.ensures.same;
-          first = on_err _ c.from_residual-in_err-hold-in-Some.result e is;
-          none_lost = λ held. (c.hold.ensures.held (chunk_held k c.args.slot u found there.0 there.1.0 c.args.from c.args.len chunk there.1.1 held)).1.1;
-          unread = λ none. absurd (none there.0 chunk.number chunk.index (in_slot k c.args.slot u found there.0 there.1.0 c.args.from c.args.len) there.1.1.of_chunk);
-          holds = λ told. c.hold.ensures.holds u.place there.0 c.args.from c.args.len told there.1.0 there.1.1;
+          has_read = record {
+            same = c.hold.ensures.same;
+            first = on_err _ c.from_residual-in_err-hold-in-Some.result e is;
+            none_lost = λ held. (c.hold.ensures.held (chunk_held k c.args.slot u found there.0 there.1.0 c.args.from c.args.len chunk there.1.1 held)).1.1;
+            unread = λ none. absurd (none there.0 chunk.number chunk.index (in_slot k c.args.slot u found there.0 there.1.0 c.args.from c.args.len) there.1.1.of_chunk);
+            holds = λ told. c.hold.ensures.holds u.place there.0 c.args.from c.args.len told there.1.0 there.1.1;
+          };
+          unread = error_reads c.from_residual-in_err-hold-in-Some.result e _ is (λ read. c.in_err-hold-in-Some.ensures.read read);
         },
       ),
       record {
@@ -83,7 +91,10 @@ returns-in_err-hold-in-Some g c =
         refused = says.1;
         passes = on_err _ c.from_residual-in_err-hold-in-Some.result e is;
         read = tt;
-        held = λ held. (c.hold.ensures.held (chunk_held k c.args.slot u found there.0 there.1.0 c.args.from c.args.len chunk there.1.1 held)).1.0;
+        held = λ held.
+            let done = c.hold.ensures.held (chunk_held k c.args.slot u found there.0 there.1.0 c.args.from c.args.len chunk there.1.1 held) in
+            (done.1.0, absurd (never_both c.hold.result tt c.in_err-hold-in-Some.field-0.0 done.0 c.in_err-hold-in-Some.was));
+        no_change = error_changes c.from_residual-in_err-hold-in-Some.result e is (λ failed. c.hold.ensures.no_change (c.in_err-hold-in-Some.was ∙ ap (λ (x : HandleFault). Err x) failed));
         looks = subst (λ (a : Ending). Looks g.D.Disk a c.args.disk.now c.hold.new.disk) (ap ending c.in_err-hold-in-Some.was ∙ sym (ap ending is)) c.hold.ensures.looks;
       },
     )
@@ -103,15 +114,18 @@ returns-in_ok-hold-in-Some g c =
         refl,
         λ _. tt,
         record {
-          same = same_looked k mid after _ c.hold.ensures.same looked;
-          first = chunk_first k c.args.slot u found there.0 there.1.0 c.args.from c.args.len chunk there.1.1 after.chunks
-              (subst (λ (j : Kept). StandsFirst chunk.number chunk.index j.chunks) (sym looked) (look_puts_first chunk.number chunk.index mid.chunks c.in_ok-hold-in-Some.ensures.found));
-          none_lost = λ held.
-              looked_loses_none k mid after chunk.number chunk.index
-              (c.hold.ensures.held (chunk_held k c.args.slot u found there.0 there.1.0 c.args.from c.args.len chunk there.1.1 held)).1.1 looked;
-          unread = λ none. absurd (none there.0 chunk.number chunk.index (in_slot k c.args.slot u found there.0 there.1.0 c.args.from c.args.len) there.1.1.of_chunk);
-          holds = λ told m number stands.
-              looked_stands mid after m number chunk.number chunk.index looked (c.hold.ensures.holds u.place there.0 c.args.from c.args.len told there.1.0 there.1.1 m number stands);
+          has_read = record {
+            same = same_looked k mid after _ c.hold.ensures.same looked;
+            first = chunk_first k c.args.slot u found there.0 there.1.0 c.args.from c.args.len chunk there.1.1 after.chunks
+                (subst (λ (j : Kept). StandsFirst chunk.number chunk.index j.chunks) (sym looked) (look_puts_first chunk.number chunk.index mid.chunks c.in_ok-hold-in-Some.ensures.found));
+            none_lost = λ held.
+                looked_loses_none k mid after chunk.number chunk.index
+                (c.hold.ensures.held (chunk_held k c.args.slot u found there.0 there.1.0 c.args.from c.args.len chunk there.1.1 held)).1.1 looked;
+            unread = λ none. absurd (none there.0 chunk.number chunk.index (in_slot k c.args.slot u found there.0 there.1.0 c.args.from c.args.len) there.1.1.of_chunk);
+            holds = λ told m number stands.
+                looked_stands mid after m number chunk.number chunk.index looked (c.hold.ensures.holds u.place there.0 c.args.from c.args.len told there.1.0 there.1.1 m number stands);
+          };
+          unread = tt;
         },
       ),
       record {
@@ -121,7 +135,8 @@ returns-in_ok-hold-in-Some g c =
         refused = tt;
         passes = part_passes k c.args.slot c.requires.slot u found c.args.from c.args.len;
         read = tt;
-        held = λ held. (c.hold.ensures.held (chunk_held k c.args.slot u found there.0 there.1.0 c.args.from c.args.len chunk there.1.1 held)).1.0;
+        held = λ held. ((c.hold.ensures.held (chunk_held k c.args.slot u found there.0 there.1.0 c.args.from c.args.len chunk there.1.1 held)).1.0, λ e. cc);
+        no_change = λ e. cc;
         looks = subst (λ (a : Ending). Looks g.D.Disk a c.args.disk.now c.hold.new.disk) (ap ending c.in_ok-hold-in-Some.was) c.hold.ensures.looks;
       },
     )
@@ -138,11 +153,14 @@ returns-in-None g c =
         refl,
         λ _. tt,
         record {
-          same = refl;
-          first = none_first k c.args.slot u found there.0 there.1.0 c.args.from c.args.len there.1.1 k.chunks;
-          none_lost = λ held n i some. some;
-          unread = λ none. refl;
-          holds = λ told m number stands. stands.handles.chunks;
+          has_read = record {
+            same = refl;
+            first = none_first k c.args.slot u found there.0 there.1.0 c.args.from c.args.len there.1.1 k.chunks;
+            none_lost = λ held n i some. some;
+            unread = λ none. refl;
+            holds = λ told m number stands. stands.handles.chunks;
+          };
+          unread = tt;
         },
       ),
       record {
@@ -150,7 +168,8 @@ returns-in-None g c =
         refused = tt;
         passes = part_passes k c.args.slot c.requires.slot u found c.args.from c.args.len;
         read = tt;
-        held = λ _. refl;
+        held = λ _. (refl, λ e. cc);
+        no_change = λ e. cc;
         looks = looks_nowhere g.D.Disk _ _ refl;
       },
     )

@@ -7,8 +7,8 @@ use Rattle.index_map.proofs.map.RecordMap.changed.Goals as goal
 
 pub returns-clause-count : goal.returns-clause-count
 returns-clause-count c =
-    ap (λ (n : Counts). n.changed) c.counts.ensures.counts ∙ changed_counted c.self.inside.table c.counts.ensures.table
+    ap (λ (n : Counts). n.changed) c.counts.ensures.counts ∙ changed_counted c.self.inside.slots c.counts.ensures.table
     ∙ ap (λ (m : Known). changed m.base m.records) c.self.view_is
 
 pub returns-clause-known : goal.returns-clause-known
-returns-clause-known c = subst IsKnown c.self.view_is (is_known c.self.inside.table c.self.inside.has_base c.counts.ensures.table)
+returns-clause-known c = subst IsKnown c.self.view_is (is_known c.self.inside.slots c.self.inside.has_base c.counts.ensures.table)

@@ -6,5 +6,5 @@ use Rattle.index_map.proofs.map.RecordMap.drop_unseen.Goals as goal
 
 pub returns : goal.returns
 returns c =
-    ap (λ t. shown t c.self.inside.has_base) c.keep_seen.ensures.slots ∙ shown-seen_only c.self.inside.table c.self.inside.has_base
+    ap (λ t. shown t c.self.inside.has_base) c.keep_seen.ensures.slots ∙ shown-seen_only c.self.inside.slots c.self.inside.has_base
     ∙ ap (λ (m : Known). record m { records = m.seen }) c.self.view_is

@@ -6,8 +6,8 @@ use Rattle.index_map.proofs.map.RecordMap.get.Goals as goal
 
 pub returns-clause-record : goal.returns-clause-record
 returns-clause-record c =
-    c.seen_at.ensures.record ∙ sym (seen_at c.self.inside.table c.seen_at.ensures.table c.args.name.now)
+    c.seen_at.ensures.record ∙ sym (seen_at c.self.inside.slots c.seen_at.ensures.table c.args.name.now)
     ∙ ap (λ (m : Known). record_at m.seen c.args.name.now) c.self.view_is
 
 pub returns-clause-known : goal.returns-clause-known
-returns-clause-known c = subst IsKnown c.self.view_is (is_known c.self.inside.table c.self.inside.has_base c.seen_at.ensures.table)
+returns-clause-known c = subst IsKnown c.self.view_is (is_known c.self.inside.slots c.self.inside.has_base c.seen_at.ensures.table)

@@ -6,5 +6,5 @@ use Rattle.index_map.proofs.map.RecordMap.mark_written.Goals as goal
 
 pub returns : goal.returns
 returns c =
-    ap (λ t. shown t true) c.settle.ensures.slots ∙ shown-written c.self.inside.table c.self.inside.has_base
+    ap (λ t. shown t true) c.mark_written.ensures.slots ∙ shown-written c.self.inside.slots c.self.inside.has_base
     ∙ ap (λ (m : Known). record m { base = m.records; has_base = true }) c.self.view_is

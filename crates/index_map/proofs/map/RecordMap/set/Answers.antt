@@ -9,12 +9,12 @@ use Rattle.index_map.proofs.map.RecordMap.set.Goals as goal
 
 pub returns-clause-ok : goal.returns-clause-ok
 returns-clause-ok c =
-    let old = c.self.inside.table in
-    let new = c.put_record.new.table in
+    let old = c.self.inside.slots in
+    let new = c.put.new.self in
     let has_base = c.self.inside.has_base in
     let r = c.args.r in
-    on_ok_weaker c.put_record.result
+    on_ok_weaker c.put.result
     (λ puts. subst (λ m. Sets m (shown new has_base) r.name (Some r)) c.self.view_is
     (puts_sets old new has_base r.name (Some (record_slot r true (lookup (same_name r.name) old))) (Some r)
-    c.put_record.ensures.was_table c.put_record.ensures.table puts refl refl refl))
-    c.put_record.ensures.ok
+    c.put.ensures.was_table c.put.ensures.table puts refl refl refl))
+    c.put.ensures.ok

@@ -1,8 +1,0 @@
-use Rattle.std.proofs.Common.{◌<◌, ◌≤◌, ◌-◌, ℕ, length, Contains}
-use Rattle.doom_area.proofs.dooming.least_free.Given as goal
-
-abbrev pub invariant-loop-number : goal.invariant-loop-number
-invariant-loop-number l = record { within : l.number ≤ length l.numbers; lesser : (k : ℕ) → k < l.number → Contains l.numbers k }
-
-abbrev pub decreases-loop-number : goal.decreases-loop-number
-decreases-loop-number l = length l.numbers - l.number

@@ -1,0 +1,45 @@
+use Rattle.std.proofs.Common.{sym}
+use Rattle.std.proofs.lemmas.Result.{IfOk-from_err}
+use Rattle.file_handles.specs.Kept.{kept}
+use Rattle.file_handles.proofs.DoomedCommand.{none_if, some_if}
+use Rattle.file_handles.proofs.GoneUnder.{gone_done_by, gone_fails_by}
+use Rattle.file_handles.proofs.IndexLeft.{gone_left, then_left}
+use Rattle.file_handles.proofs.handles.Handles.doom_there.Goals as goal
+
+pub returns-in_err-doom_user-clause-dooms : goal.returns-in_err-doom_user-clause-dooms
+returns-in_err-doom_user-clause-dooms g c = λ tells. record {
+  leaves = λ b h touched stand.
+      let left = (c.in_err-doom_user.ensures.dooms tells (λ bare. let never = (c.in_err-doom_user.ensures.none bare).0 in cc)).leaves b h touched stand in
+      record { safe = left.safe; next = IfOk-from_err c.from_residual.result _ c.from_residual.ensures.0 };
+}
+
+pub returns-then-branch-clause-dooms : goal.returns-then-branch-clause-dooms
+returns-then-branch-clause-dooms g c = λ tells. record {
+  leaves = λ b h touched stand.
+      let left = (c.in_ok-doom_user.ensures.dooms tells (some_if _ c.in_ok-doom_user.field-0 c.in_ok-doom_user.ensures.some c.if-branch.true)).leaves b h touched stand in
+      record { safe = left.safe; next = left.next };
+}
+
+pub returns-in_err-remove_file-clause-dooms : goal.returns-in_err-remove_file-clause-dooms
+returns-in_err-remove_file-clause-dooms g c = λ tells.
+    let bare = none_if _ c.in_ok-doom_user.field-0 c.in_ok-doom_user.ensures.some c.if-branch.false in
+    let same = (c.in_ok-doom_user.ensures.none bare).1 in
+    gone_fails_by g.D.Disk.state c.args.disk.now c.doom_user.new.disk (g.D.Disk.state c.remove_file.new.disk) (kept c.args.self.now) (kept c.doom_user.new.self) c.args.name.now bare same.0 same.1
+    c.from_residual-in_err-remove_file.result c.from_residual-in_err-remove_file.ensures.0 (c.in_err-remove_file.ensures.state tells).either
+
+pub returns-clause-dooms : goal.returns-clause-dooms
+returns-clause-dooms g c = λ tells.
+    let bare = none_if _ c.in_ok-doom_user.field-0 c.in_ok-doom_user.ensures.some c.if-branch.false in
+    let same = (c.in_ok-doom_user.ensures.none bare).1 in
+    gone_done_by g.D.Disk.state c.args.disk.now c.doom_user.new.disk (g.D.Disk.state c.remove_file.new.disk) (kept c.args.self.now) (kept c.doom_user.new.self) c.args.name.now bare same.0 same.1
+    (c.in_ok-remove_file.ensures.state tells).done
+
+pub returns-in_err-remove_file-clause-index : goal.returns-in_err-remove_file-clause-index
+returns-in_err-remove_file-clause-index g c told =
+    then_left (g.D.Disk.state c.args.disk.now) (g.D.Disk.state c.doom_user.new.disk) (g.D.Disk.state c.remove_file.new.disk) (c.doom_user.ensures.index told)
+    (gone_left c.remove_file.result _ _ c.args.name.now (c.remove_file.ensures.state told))
+
+pub returns-clause-index : goal.returns-clause-index
+returns-clause-index g c told =
+    then_left (g.D.Disk.state c.args.disk.now) (g.D.Disk.state c.doom_user.new.disk) (g.D.Disk.state c.remove_file.new.disk) (c.doom_user.ensures.index told)
+    (gone_left c.remove_file.result _ _ c.args.name.now (c.remove_file.ensures.state told))

@@ -1,0 +1,11 @@
+use Rattle.std.proofs.Common.{rules}
+use Rattle.std.specs.Ordering.{is_lt}
+use Rattle.std.proofs.lemmas.List.Sorted.{answers_always}
+use Rattle.cache_base.specs.Names.{name_cmp}
+use Rattle.index_record.specs.declared.record.IndexRecord.{IndexRecord}
+use Rattle.index_map.proofs.Search.{rise_from_test}
+use Rattle.index_map.proofs.name_order.rise.Goals as goal
+
+pub returns : goal.returns
+returns c = rise_from_test c.args.records.now c.is_sorted_by.result
+    (c.is_sorted_by.ensures.cases (λ (a b : IndexRecord). is_lt (name_cmp a.name b.name)) (answers_always _ _ _ (λ f a r g h. search rules)))

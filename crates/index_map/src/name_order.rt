@@ -1,0 +1,42 @@
+//! Records in name order, and the place of a name among them.
+
+ghost use Rattle.std.specs.List.{AllByRecursion, HoldsAt};
+ghost use Rattle.std.specs.Prelude.{◌≡◌, ◌<◌, IfNone, IfOk, IfSome, false, length, true};
+ghost use Rattle.record_list.specs.Lists.{AreRising, HasNames, IsByName, names_of, same_name};
+
+use crate::listing::by_name;
+use cache_base::{Name, NoMemory};
+use index_record::{IndexRecord, Records};
+use std::alloc::Global;
+
+/// Whether the names rise.
+fn rise(records: &[IndexRecord]) -> bool
+    ensures { result ≡ true → AreRising records.now }
+{
+    records.is_sorted_by(|a, b| a.name.cmp(&b.name).is_lt())
+}
+
+/// The records in name order. Where they are in this order already, nothing is copied.
+pub(crate) fn in_order(alloc: Global, records: Records) -> Result<Records, NoMemory>
+    requires { HasNames records }
+    ensures { IfOk result (IsByName records) }
+{
+    if rise(records.as_slice()) {
+        return Ok(records);
+    }
+    let list = Vec::from_slice(alloc, records.as_slice())?;
+    Ok(by_name(list))
+}
+
+/// The place of a name among records in name order.
+pub(crate) fn place_of(records: &[IndexRecord], name: &Name) -> Option<usize>
+    requires { AreRising records.now }
+    ensures within { IfSome result (λ i. i < length records.now) }
+    ensures found { IfSome result (HoldsAt (λ r. r.name ≡ name.now) records.now) }
+    ensures none { IfNone result (AllByRecursion (λ n. same_name name.now n ≡ false) (names_of records.now)) }
+{
+    match records.binary_search_by_key(name, |record| record.name) {
+        Ok(place) => Some(place),
+        Err(_) => None,
+    }
+}
