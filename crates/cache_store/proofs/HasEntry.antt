@@ -27,7 +27,7 @@ use Rattle.cache_store.specs.Records.{AnswersHas, RecordsTell}
 use Rattle.cache_store.specs.Replied.{reply_of}
 use Rattle.cache_store.specs.declared.answered.Answered.{Answered}
 use Rattle.cache_store.specs.declared.answered.Answered.TheVariants as answered
-use Rattle.cache_store.specs.declared.fault.Outcome.TheVariants as outcome
+use Rattle.cache_store.specs.declared.fault.Verdict.TheVariants as outcome
 use Rattle.cache_store.specs.declared.memory_index.MemoryIndex.{MemoryIndex}
 
 -- a record is found where an entry fits

@@ -17,7 +17,7 @@ use Rattle.cache_store.specs.Performing.{Does, DoesWhatIsDone, Keeps, Performs, 
 use Rattle.cache_store.specs.Said.{Saying}
 use Rattle.cache_store.specs.Session.{Open, Session}
 use Rattle.cache_store.specs.declared.answered.Answered.{Answered}
-use Rattle.cache_store.specs.declared.fault.Outcome.{Outcome}
+use Rattle.cache_store.specs.declared.fault.Verdict.{Verdict}
 use Rattle.cache_store.specs.declared.fault.StoreFault.{StoreFault}
 use Rattle.cache_store.specs.declared.fault.StoreFault.TheVariants as fault
 use Rattle.cache_store.proofs.Represented.{keeps_bare, keeps_marked, keeps_to, represented}
@@ -45,7 +45,7 @@ begun_stands Flush h before after is safe stands =
 begun_stands c h before after is safe stands = stands
 
 -- what is done with and without a crash makes up what is promised
-performs_for : (c : Command) (answer : Result Answered StoreFault) (final : Result Outcome StoreFault) (before mid after : Session) (taken : Option (List ℕ)) (between : Saying) (now : Option (List ℕ))
+performs_for : (c : Command) (answer : Result Answered StoreFault) (final : Result Verdict StoreFault) (before mid after : Session) (taken : Option (List ℕ)) (between : Saying) (now : Option (List ℕ))
     → ((d : Command) (b : Bool) (h : History) → Does b d h answer before mid taken between → Performs d h.machine final before after taken now)
     → ((d : Command) (h : History) → KeepsTo before h → Does true d h answer before mid taken between → Keeps d h final after)
     → DoesWhatIsDone c answer before mid taken between → PerformsFor c final before after taken now
@@ -69,7 +69,7 @@ failed_keeps d h f before after is safe next = record {
 }
 
 -- a command that failed
-pub fails_performs : (c : Command) (f : StoreFault) (final : Result Outcome StoreFault) (before after : Session) (taken : Option (List ℕ)) (now : Saying) → IsErrAnd final (λ e. e ≡ f)
+pub fails_performs : (c : Command) (f : StoreFault) (final : Result Verdict StoreFault) (before after : Session) (taken : Option (List ℕ)) (now : Saying) → IsErrAnd final (λ e. e ≡ f)
     → DoesWhatIsDone c (Err f) before after taken now → PerformsFor c final before after taken now.taken
 fails_performs c f (Ok o) before after taken now is does = absurd is
 fails_performs c f (Err e) before after taken now is does =
@@ -88,7 +88,7 @@ as_open : (P : Session → Type 0) (mid : Session) (last : Open) → last ≡ mi
 as_open P mid last same = subst (λ (k : Open). P (record { open_store = k; disk = mid.disk })) (sym same)
 
 -- one whose reply goes out, or is cut there
-pub does_performs : (c : Command) (a : Answered) (final : Result Outcome StoreFault) (before mid : Session) (last : Open) (taken : Option (List ℕ)) (between : Saying) (now : Option (List ℕ))
+pub does_performs : (c : Command) (a : Answered) (final : Result Verdict StoreFault) (before mid : Session) (last : Open) (taken : Option (List ℕ)) (between : Saying) (now : Option (List ℕ))
     → OnOk final (SendsRest (rest_of a) between now) → OnErr final (CutsRest (rest_of a) between now) → IfOk final (λ o. o ≡ outcome_in a) → last ≡ mid.open_store
     → DoesWhatIsDone c (Ok a) before mid taken between → PerformsFor c final before (record { open_store = last; disk = mid.disk }) taken now
 does_performs c a (Ok o) before mid last taken between now printed cut outcome same does =

@@ -8,8 +8,8 @@ use Rattle.cache_store.specs.Session.{Session}
 use Rattle.cache_store.specs.Verifying.{IsFoundIn, PrintsFound}
 use Rattle.cache_store.specs.declared.answered.Answered.{Answered}
 use Rattle.cache_store.specs.declared.answered.Answered.TheVariants as answered
-use Rattle.cache_store.specs.declared.fault.Outcome.{Outcome}
-use Rattle.cache_store.specs.declared.fault.Outcome.TheVariants as outcome
+use Rattle.cache_store.specs.declared.fault.Verdict.{Verdict}
+use Rattle.cache_store.specs.declared.fault.Verdict.TheVariants as outcome
 use Rattle.cache_store.specs.declared.fault.StoreFault.{StoreFault}
 use Rattle.cache_theory.specs.Command.{Command}
 use Rattle.cache_theory.specs.Command.Command.{Verify}
@@ -30,7 +30,7 @@ findings_out : (c : Command) (before now : Option (List ℕ)) → true ≡ is_ch
 findings_out Verify before now checks out = out
 findings_out c before now checks out = absurd (let never : true ≡ false = checks in cc)
 
-pub prints_outcome : (c : Command) (a : Answered) (r : Result Outcome StoreFault) (before : Option (List ℕ)) (mid : Saying) (now : Option (List ℕ))
+pub prints_outcome : (c : Command) (a : Answered) (r : Result Verdict StoreFault) (before : Option (List ℕ)) (mid : Saying) (now : Option (List ℕ))
     → (a ≢ answered.All → mid.taken ≡ before) → (a ≢ answered.All → mid.held ≡ []) → (is_plain c ≡ true → IsPlain a) → lists_findings a ≡ is_check c
     → OnOk r (SendsRest (rest_of a) mid now)
     → IfOk r (λ o. o ≡ outcome_in a) → IfOk r (λ o. Prints c o before now)

@@ -21,8 +21,8 @@ use Rattle.file_handles.proofs.ReadKept.{read_represents, read_stands}
 use Rattle.cache_store.specs.Answering.{outcome_in}
 use Rattle.cache_store.specs.Reads.{AreHeld, LastIsFirst}
 use Rattle.cache_store.specs.declared.answered.Answered.{Answered}
-use Rattle.cache_store.specs.declared.fault.Outcome.{Outcome}
-use Rattle.cache_store.specs.declared.fault.Outcome.TheVariants as outcome
+use Rattle.cache_store.specs.declared.fault.Verdict.{Verdict}
+use Rattle.cache_store.specs.declared.fault.Verdict.TheVariants as outcome
 use Rattle.cache_store.specs.declared.fault.StoreFault.{StoreFault}
 
 -- ---- handles that hold other chunks
@@ -165,7 +165,7 @@ same_read s f l slot from len same P p =
     subst (λ x. P x from len) one (subst (λ x. P s x len) two (subst (λ x. P s f x) three p))
 
 -- the outcome of an answer, by that of the command
-pub outcome_ok : (r : Result Outcome StoreFault) (a : Answered) → r ≡ Ok outcome.Ok → IfOk r (λ o. o ≡ outcome_in a) → outcome_in a ≡ outcome.Ok
+pub outcome_ok : (r : Result Verdict StoreFault) (a : Answered) → r ≡ Ok outcome.Ok → IfOk r (λ o. o ≡ outcome_in a) → outcome_in a ≡ outcome.Ok
 outcome_ok r a ok says =
-    let at : IfOk {E = StoreFault} (Ok outcome.Ok) (λ o. o ≡ outcome_in a) = subst (λ (r : Result Outcome StoreFault). IfOk r (λ o. o ≡ outcome_in a)) ok says in
+    let at : IfOk {E = StoreFault} (Ok outcome.Ok) (λ o. o ≡ outcome_in a) = subst (λ (r : Result Verdict StoreFault). IfOk r (λ o. o ≡ outcome_in a)) ok says in
     sym at

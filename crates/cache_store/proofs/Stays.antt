@@ -5,9 +5,9 @@ use Rattle.cache_base.specs.declared.name.Name.{Name}
 use Rattle.cache_store.specs.Faulting.{StaysAs, has_failed_look, is_failure}
 use Rattle.cache_store.specs.Faults.{ending, fault_ending, of_disk}
 use Rattle.cache_store.specs.Kept.{HoldsIndex}
-use Rattle.cache_store.specs.Open.{KeepsWhere}
+use Rattle.cache_store.specs.Open.{IsOpen, KeepsWhere, Represents}
 use Rattle.cache_store.specs.Records.{EndsWith, TellsAtEnd, TellsOf}
-use Rattle.cache_store.specs.Session.{Session}
+use Rattle.cache_store.specs.Session.{Open, Session}
 use Rattle.cache_store.specs.declared.fault.StoreFault.{StoreFault}
 use Rattle.cache_store.specs.declared.fault.StoreFault.TheVariants as fault
 use Rattle.cache_store.specs.declared.memory_index.MemoryIndex.{MemoryIndex}
@@ -133,3 +133,7 @@ parts_stay k j now s t old new handles index disk = same_stays (session_at k now
 pub handed_fault : {T X : Type 0} (r : Result T StoreFault) (e : StoreFault) (call : Result X StoreFault) → IsErrAnd r (λ f. f ≡ e) → call ≡ Err e → call ≡ Err fault.Disk → r ≡ Err fault.Disk
 handed_fault (Ok x) e call is was disk = absurd is
 handed_fault {X = X} (Err d) e call is was disk = ap (λ f. Err f) (is ∙ (let both : ◌≡◌ {A = Result X StoreFault} (Err e) (Err fault.Disk) = sym was ∙ disk in cc))
+
+-- a store that was open is so still, when the line that tells of the failed look is said
+pub open_still : (before : Session) (old new : Open) (s : State) → new ≡ old → StaysAs before (record { open_store = old; disk = s }) → IsOpen before → IsOpen (record { open_store = new; disk = s })
+open_still before old new s same stays some = (some.0, subst (λ x. Represents (record { open_store = x; disk = s }) some.0) (sym same) (stays.stands some.0 some.1))

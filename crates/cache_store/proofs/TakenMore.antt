@@ -9,7 +9,7 @@ use Rattle.cache_store.specs.Said.{IsCut, Said, Saying}
 use Rattle.cache_store.specs.Saying.{CutsIn, SaysMore, TakesMore}
 use Rattle.cache_store.specs.Session.{Session, cache_of}
 use Rattle.cache_store.specs.declared.answered.Answered.{Answered}
-use Rattle.cache_store.specs.declared.fault.Outcome.{Outcome}
+use Rattle.cache_store.specs.declared.fault.Verdict.{Verdict}
 use Rattle.cache_store.specs.declared.fault.StoreFault.{StoreFault}
 use Rattle.cache_store.proofs.SayingLaws.{said_nothing}
 
@@ -38,7 +38,7 @@ pub open_takes : (c : Command) (answer : Result Answered StoreFault) (before : S
 open_takes c answer before taken now (m, is) answers = answer_takes _ answer taken now (answers m is.stands)
 
 -- and what is left to say goes out after it, or is cut
-pub rest_takes : (rest : List ℕ) (before : Option (List ℕ)) (was : Saying) (now : Option (List ℕ)) (answer : Result Outcome StoreFault) → TakesMore before was.taken
+pub rest_takes : (rest : List ℕ) (before : Option (List ℕ)) (was : Saying) (now : Option (List ℕ)) (answer : Result Verdict StoreFault) → TakesMore before was.taken
     → OnOk answer (SendsRest rest was now) → OnErr answer (CutsRest rest was now) → TakesMore before now
 rest_takes rest before was now answer (out, appends) sends cuts = go answer sends cuts
   where
@@ -48,6 +48,6 @@ rest_takes rest before was now answer (out, appends) sends cuts = go answer send
     says : SaysOf text rest before was
     says = record { front = out ++ was.held; said = record { front = out; out = appends; is = refl }; whole = refl }
 
-    go : (a : Result Outcome StoreFault) → OnOk a (SendsRest rest was now) → OnErr a (CutsRest rest was now) → TakesMore before now
+    go : (a : Result Verdict StoreFault) → OnOk a (SendsRest rest was now) → OnErr a (CutsRest rest was now) → TakesMore before now
     go (Ok o) sends cuts = (text, sends text before says)
     go (Err f) sends cuts = cut_takes before now text (cuts text before says)

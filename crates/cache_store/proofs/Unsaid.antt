@@ -20,7 +20,7 @@ use Rattle.cache_store.specs.Replied.{replied, reply_of}
 use Rattle.cache_store.specs.Said.{IsCut, Saying}
 use Rattle.cache_store.specs.declared.answered.Answered.{Answered}
 use Rattle.cache_store.specs.declared.answered.Answered.TheVariants as answered
-use Rattle.cache_store.specs.declared.fault.Outcome.{Outcome}
+use Rattle.cache_store.specs.declared.fault.Verdict.{Verdict}
 use Rattle.cache_store.specs.declared.fault.StoreFault.{StoreFault}
 use Rattle.cache_store.specs.declared.fault.StoreFault.TheVariants as fault
 use Rattle.cache_store.proofs.SayingLaws.{said_nothing}
@@ -52,7 +52,7 @@ rest_told answered.All unsaid r is = absurd unsaid
 rest_told a unsaid r is = ap reply_text is
 
 -- its outcome is that of its reply
-pub unsaid_outcome : (answer : Result Answered StoreFault) → IsUnsaid answer → (o : Outcome) → IfSome (replied answer) (λ q. outcome_of q ≡ o) → IfOk answer (λ a. outcome_in a ≡ o)
+pub unsaid_outcome : (answer : Result Answered StoreFault) → IsUnsaid answer → (o : Verdict) → IfSome (replied answer) (λ q. outcome_of q ≡ o) → IfOk answer (λ a. outcome_in a ≡ o)
 unsaid_outcome (Ok answered.All) unsaid o is = absurd unsaid
 unsaid_outcome (Ok a) unsaid o is = is
 unsaid_outcome (Err f) unsaid o is = tt

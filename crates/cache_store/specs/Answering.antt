@@ -4,8 +4,8 @@ use Rattle.std.specs.Io.KnownBytes.{Appends}
 use Rattle.cache_store.specs.Said.{IsCut, Said, Saying}
 use Rattle.cache_store.specs.declared.answered.Answered.{Answered}
 use Rattle.cache_store.specs.declared.answered.Answered.TheVariants as answered
-use Rattle.cache_store.specs.declared.fault.Outcome.{Outcome}
-use Rattle.cache_store.specs.declared.fault.Outcome.TheVariants as outcome
+use Rattle.cache_store.specs.declared.fault.Verdict.{Verdict}
+use Rattle.cache_store.specs.declared.fault.Verdict.TheVariants as outcome
 use Rattle.cache_store.specs.declared.fault.StoreFault.{StoreFault}
 use Rattle.cache_theory.specs.Command.{Command, Reply}
 use Rattle.cache_theory.specs.Command.Reply.{Findings, Refused}
@@ -32,12 +32,12 @@ rest_of (answered.Checked findings) = findings_text findings
 rest_of (answered.Refused r) = line (refusal_words r)
 
 -- whether a reply is a refusal, or says that something is wrong
-abbrev pub outcome_of : Reply → Outcome
+abbrev pub outcome_of : Reply → Verdict
 outcome_of (Refused r) = outcome.Refused
 outcome_of (Findings (f ∷ more)) = outcome.Refused
 outcome_of _ = outcome.Ok
 
-abbrev pub outcome_in : Answered → Outcome
+abbrev pub outcome_in : Answered → Verdict
 outcome_in (answered.Refused r) = outcome.Refused
 outcome_in (answered.Checked findings) = outcome_of (Findings findings)
 outcome_in _ = outcome.Ok

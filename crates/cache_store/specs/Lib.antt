@@ -10,6 +10,7 @@ pub mod InUse
 pub mod Kept
 pub mod Learnt
 pub mod Open
+pub mod Outcomes
 pub mod Performing
 pub mod Prefix
 pub mod Printed

@@ -9,7 +9,7 @@ use Rattle.cache_store.specs.Replied.{replied}
 use Rattle.cache_store.specs.Said.{IsCut, Saying}
 use Rattle.cache_store.specs.Session.{Session}
 use Rattle.cache_store.specs.declared.answered.Answered.{Answered}
-use Rattle.cache_store.specs.declared.fault.Outcome.{Outcome}
+use Rattle.cache_store.specs.declared.fault.Verdict.{Verdict}
 use Rattle.cache_store.specs.declared.fault.StoreFault.{StoreFault}
 use Rattle.cache_store.specs.declared.fault.StoreFault.TheVariants as fault
 use Rattle.cache_theory.specs.Command.{Command, Reply}
@@ -51,7 +51,7 @@ HadEffect (Ok outcome) = ⊤
 HadEffect (Err f) = f ≡ fault.Sink
 
 -- for a machine: what the whole command comes to
-pub record Performs (c : Command) (m : Machine) (answer : Result Outcome StoreFault)
+pub record Performs (c : Command) (m : Machine) (answer : Result Verdict StoreFault)
     (before after : Session) (taken now : Option (List ℕ)) : Type 0 where
   -- with an answer the reply is out, it is the machine's, and the store stands for the machine's next state
   pub printed : MayTell c before m → OnOk answer (Appends taken now (reply_text (step m c).reply))
@@ -64,7 +64,7 @@ pub record Performs (c : Command) (m : Machine) (answer : Result Outcome StoreFa
   pub tells : HadEffect answer → ComesToTell c before m → Tells after (step m c).next
 
 -- for a history: what the disk keeps
-pub record Keeps (c : Command) (h : History) (answer : Result Outcome StoreFault)
+pub record Keeps (c : Command) (h : History) (answer : Result Verdict StoreFault)
     (after : Session) : Type 0 where
   -- at every exit a crash loses no more than the marks of the begun command allow, and once it has had its effect no more
   -- than those of the acknowledged one
@@ -79,13 +79,13 @@ pub record Keeps (c : Command) (h : History) (answer : Result Outcome StoreFault
   pub unanswered : IfErr answer (λ f. f ≡ fault.Sink → KeepsTo after (left_unanswered c h))
 
 -- for a history: both
-pub record PerformsAndKeeps (c : Command) (h : History) (answer : Result Outcome StoreFault)
+pub record PerformsAndKeeps (c : Command) (h : History) (answer : Result Verdict StoreFault)
     (before after : Session) (taken now : Option (List ℕ)) : Type 0 where
   pub performs : Performs c h.machine answer before after taken now
   pub keeps : Keeps c h answer after
 
 -- whatever machine the store stands for, and whatever history the disk keeps to
-pub record PerformsFor (c : Command) (answer : Result Outcome StoreFault) (before after : Session)
+pub record PerformsFor (c : Command) (answer : Result Verdict StoreFault) (before after : Session)
     (taken now : Option (List ℕ)) : Type 0 where
   pub answers : (m : Machine) → Represents before m
       → DoneBy (GoesBy before m) c m (λ d. Performs d m answer before after taken now)

@@ -4,8 +4,8 @@ use Rattle.std.specs.Prelude.{Bool, List, Option, [], codes, false, true, ℕ, �
 use Rattle.cache_check.specs.declared.finding.Finding.{Finding}
 use Rattle.cache_store.specs.declared.answered.Answered.{Answered}
 use Rattle.cache_store.specs.declared.answered.Answered.TheVariants as answered
-use Rattle.cache_store.specs.declared.fault.Outcome.{Outcome}
-use Rattle.cache_store.specs.declared.fault.Outcome.TheVariants as outcome
+use Rattle.cache_store.specs.declared.fault.Verdict.{Verdict}
+use Rattle.cache_store.specs.declared.fault.Verdict.TheVariants as outcome
 use Rattle.cache_theory.specs.Command.{Command}
 use Rattle.cache_theory.specs.Command.Command.{Create, UnsetElement, ElementOf, ReadPart, Get, HasEntry, ListRecords, Evict, EvictNames, StepUpdate, UpdateState, Verify, VerifyRecords, Rebuild}
 use Rattle.cache_theory.specs.Text.{findings_text, line, refusal_words}
@@ -63,7 +63,7 @@ PrintsNo Verify before now = PrintsFindings before now
 PrintsNo c before now = PrintsRefusal before now
 
 -- what goes out tells the outcome
-pub record Prints (c : Command) (o : Outcome) (before now : Option (List ℕ)) : Type 0 where
+pub record Prints (c : Command) (o : Verdict) (before now : Option (List ℕ)) : Type 0 where
   pub refused : o ≡ outcome.Refused → PrintsNo c before now
   pub done : o ≡ outcome.Ok → is_plain c ≡ true → PrintsOk before now
 

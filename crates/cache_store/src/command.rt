@@ -33,7 +33,7 @@ use crate::pending::Pending;
 use crate::replies::counted;
 use crate::store::Store;
 use crate::verify::say_found;
-use crate::{Outcome, StoreFault};
+use crate::{StoreFault, Verdict};
 use cache_io::Sink;
 use cache_script::{Command, refusal_text};
 use disk_model::Disk;
@@ -62,18 +62,18 @@ fn say_value<K: Sink>(
 }
 
 // Says a line that is no refusal.
-fn say_ok<K: Sink>(reply: &mut Pending, sink: &mut K, line: &[u8]) -> Result<Outcome, StoreFault>
+fn say_ok<K: Sink>(reply: &mut Pending, sink: &mut K, line: &[u8]) -> Result<Verdict, StoreFault>
     ensures says { let at = saying K.Sink in
         OnOk result (SaysMore (at reply.old sink.old) (at reply.new sink.new) line.now) }
     ensures cut { let at = saying K.Sink in
         OnErr result (CutsIn (at reply.old sink.old) (K.taken sink.new) line.now) }
-    ensures outcome { IfOk result (λ o. o ≡ Outcome.Ok) }
+    ensures outcome { IfOk result (λ o. o ≡ Verdict.Ok) }
     ensures no_disk { result ≢ Err StoreFault.Disk }
     ensures sink { let failed = IsErrOf result StoreFault.Sink in
         HasCause failed (K.faults sink.old) (K.faults sink.new) }
 {
     reply.put(sink, line)?;
-    Ok(Outcome::Ok)
+    Ok(Verdict::Ok)
 }
 
 // Says what is left to say.
@@ -82,7 +82,7 @@ fn say_rest<K: Sink>(
     answered: Answered,
     reply: &mut Pending,
     sink: &mut K,
-) -> Result<Outcome, StoreFault>
+) -> Result<Verdict, StoreFault>
     ensures says { let at = saying K.Sink in
         OnOk result (SaysMore (at reply.old sink.old) (at reply.new sink.new) (rest_of answered)) }
     ensures cut { let at = saying K.Sink in
@@ -93,7 +93,7 @@ fn say_rest<K: Sink>(
         HasCause failed (K.faults sink.old) (K.faults sink.new) }
 {
     match answered {
-        Answered::All => Ok(Outcome::Ok),
+        Answered::All => Ok(Verdict::Ok),
         Answered::Done => say_ok(reply, sink, b"ok\n"),
         Answered::NoneThere => say_ok(reply, sink, b"none\n"),
         Answered::Yes => say_ok(reply, sink, b"yes\n"),
@@ -113,7 +113,7 @@ fn say_rest<K: Sink>(
             let text = refusal_text(alloc, &refusal)?;
             reply.put(sink, text.as_bytes())?;
             reply.put(sink, b"\n")?;
-            Ok(Outcome::Refused)
+            Ok(Verdict::Refused)
         }
     }
 }
@@ -213,7 +213,7 @@ impl Store {
         ensures held { (slot from len : ℕ) → command_of c.now ≡ ReadPart slot from len →
             AreHeld (kept self.old.handles) slot from len → disk.new ≡ disk.old }
         ensures recent { (slot from len : ℕ) → command_of c.now ≡ ReadPart slot from len →
-            IfOk result (λ a. outcome_in a ≡ Outcome.Ok → IsTrue D.tells →
+            IfOk result (λ a. outcome_in a ≡ Verdict.Ok → IsTrue D.tells →
             LastIsFirst (kept self.old.handles) slot from len (kept self.new.handles)) }
         ensures account { Accounts D.Disk (ending result) disk.old disk.new }
         ensures sink { let failed = IsErrOf result StoreFault.Sink in
@@ -284,7 +284,7 @@ impl Store {
         alloc: Global,
         answered: Answered,
         sink: &mut K,
-    ) -> Result<Outcome, StoreFault>
+    ) -> Result<Verdict, StoreFault>
         ensures printed { let was = saying K.Sink self.old.reply sink.old in
             OnOk result (SendsRest (rest_of answered) was (K.taken sink.new)) }
         ensures cut { let was = saying K.Sink self.old.reply sink.old in
@@ -301,20 +301,22 @@ impl Store {
         Ok(outcome)
     }
 
-    /// Performs a command and writes its reply, which is out when the call returns.
+    /// Performs a command and writes its reply, which is out when the call returns. This is `command`, but that nothing is
+    /// said where a look at the disk fails: then `faulting` tells it, the answer is `Disk`, and whoever prints the reply may
+    /// say the line.
     ///
-    /// The reply to `verify` is what is wrong with the files that stand and the records in memory, and the outcome is
+    /// The reply to `verify` is what is wrong with the files that stand and the records in memory, and the verdict is
     /// `Refused` where that is anything. The replies to `has` and `list` are the machine's where the records are right:
     /// where the directory was honest at the opening, or a `rebuild` has answered. There an `evict` takes off what the
     /// machine's does; elsewhere it takes off what has to go by the records that there are, and the reply names it all
     /// the same.
-    pub fn command<D: Disk, K: Sink>(
+    pub fn attempt<D: Disk, K: Sink>(
         &mut self,
         alloc: Global,
         disk: &mut D,
         c: &Command<'_>,
         sink: &mut K,
-    ) -> Result<Outcome, StoreFault>
+    ) -> Result<Verdict, StoreFault>
         requires given { IsGiven (command_of c.now) }
         requires told { IsTrue D.tells → IsOpen (session D.Disk self.old disk.old) }
         // What it comes to, by the machine, and what a crash leaves at every exit.
@@ -325,7 +327,7 @@ impl Store {
             Prints (command_of c.now) o (K.taken sink.old) (K.taken sink.new)) }
         ensures verifies { command_of c.now ≡ Verify → OnOk result (IsTrue D.tells →
             PrintsFound (session D.Disk self.old disk.old) self.new.index.map (K.taken sink.old) (K.taken sink.new)) }
-        ensures bad_key { HasBadKey (command_of c.now) → result ≢ Ok Outcome.Ok }
+        ensures bad_key { HasBadKey (command_of c.now) → result ≢ Ok Verdict.Ok }
         ensures grows { IsTrue D.tells → TakesMore (K.taken sink.old) (K.taken sink.new) }
         ensures open { IsTrue D.tells → LeavesOpen result (session D.Disk self.new disk.new) }
         ensures honest { IsTrue D.tells → LeavesHonest (D.state disk.new) }
@@ -346,7 +348,7 @@ impl Store {
         ensures held { (slot from len : ℕ) → command_of c.now ≡ ReadPart slot from len →
             AreHeld (kept self.old.handles) slot from len → disk.new ≡ disk.old }
         ensures recent { (slot from len : ℕ) → command_of c.now ≡ ReadPart slot from len →
-            result ≡ Ok Outcome.Ok → IsTrue D.tells →
+            result ≡ Ok Verdict.Ok → IsTrue D.tells →
             LastIsFirst (kept self.old.handles) slot from len (kept self.new.handles) }
 
         // Calls and faults. A command that goes by the index looks at an entry for no name but those that it reads, and

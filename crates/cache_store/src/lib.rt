@@ -15,12 +15,13 @@ mod learning;
 mod listing;
 mod memory_index;
 mod opening;
+mod outcome;
 mod pending;
 mod read;
 mod replies;
 mod store;
 mod verify;
 
-pub use fault::{Outcome, StoreFault};
+pub use fault::{Outcome, StoreFault, Verdict};
 pub use laws::{few_leave_index, records_at_end_are_one};
 pub use store::Store;

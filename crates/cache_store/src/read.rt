@@ -24,7 +24,7 @@ use crate::faulting::{handles_fault, is_failed};
 use crate::pending::Pending;
 use crate::replies::counted;
 use crate::store::Store;
-use crate::{Outcome, StoreFault};
+use crate::{StoreFault, Verdict};
 use cache_io::Sink;
 use disk_model::Disk;
 use file_handles::{HandleFault, Handles};
@@ -235,7 +235,7 @@ impl Store {
         ensures holds { IsTrue D.tells →
             HoldsAsBefore (cache D.Disk self.old.handles disk.old) (kept self.new.handles) }
         ensures held { AreHeld (kept self.old.handles) slot from len → disk.new ≡ disk.old }
-        ensures recent { IfOk result (λ a. outcome_in a ≡ Outcome.Ok → IsTrue D.tells →
+        ensures recent { IfOk result (λ a. outcome_in a ≡ Verdict.Ok → IsTrue D.tells →
             LastIsFirst (kept self.old.handles) slot from len (kept self.new.handles)) }
         // Where a look failed before anything was said, all is as before; and else where the disk failed the reply is out up
         // to its first chunk.

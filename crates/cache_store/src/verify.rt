@@ -17,7 +17,7 @@ use crate::faulting::look_fault;
 use crate::listing::say_listing;
 use crate::pending::Pending;
 use crate::store::Store;
-use crate::{Outcome, StoreFault};
+use crate::{StoreFault, Verdict};
 use cache_check::{Finding, findings};
 use cache_io::Sink;
 use disk_model::Disk;
@@ -29,7 +29,7 @@ pub(crate) fn say_found<K: Sink>(
     found: &[Finding],
     reply: &mut Pending,
     sink: &mut K,
-) -> Result<Outcome, StoreFault>
+) -> Result<Verdict, StoreFault>
     ensures says { let at = saying K.Sink in
         OnOk result (SaysMore (at reply.old sink.old) (at reply.new sink.new) (findings_text found.now)) }
     ensures cut { let at = saying K.Sink in
@@ -41,8 +41,8 @@ pub(crate) fn say_found<K: Sink>(
 {
     say_listing(alloc, b"findings", found, reply, sink)?;
     match found {
-        [] => Ok(Outcome::Ok),
-        [_, ..] => Ok(Outcome::Refused),
+        [] => Ok(Verdict::Ok),
+        [_, ..] => Ok(Verdict::Refused),
     }
 }
 

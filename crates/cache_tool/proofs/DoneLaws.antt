@@ -86,11 +86,6 @@ done_joined right m (c ∷ cs) (d ∷ ds) more others are rest =
     later c cs (inl (inr first)) = inr (or_left (is_rebuild c) (has_rebuild cs) first)
     later c cs (inr rest) = inr (or_right (is_rebuild c) (has_rebuild cs) rest)
 
--- and of one more
-pub done_more : (right : Type 0) (m : Machine) (cs ds : List Command) (c d : Command) → AreDoneFor right m cs ds → IsDoneFor (right ⊎ IsTrue (has_rebuild cs)) c (after m ds) d
-    → AreDoneFor right m (cs ++ c ∷ []) (ds ++ d ∷ [])
-done_more right m cs ds c d are is = done_joined right m cs ds (c ∷ []) (d ∷ []) are (is, tt)
-
 -- something can be done for all of them
 pub all_done : (right : Type 0) (m : Machine) (cs : List Command) → (ds : List Command) × AreDoneFor right m cs ds
 all_done right m [] = ([], tt)
@@ -98,10 +93,3 @@ all_done right m (c ∷ cs) =
     let first = some_done right c m in
     let rest = all_done (right ⊎ IsTrue (is_rebuild c)) (step m first.0).next cs in
     (first.0 ∷ rest.0, (first.1, rest.1))
-
--- for more commands too, which have not begun
-pub done_and_rest : (right : Type 0) (m : Machine) (cs ds more : List Command) → AreDoneFor right m cs ds
-    → (others : List Command) × (AreDoneFor right m (cs ++ more) (ds ++ others) × (length more ≡ length others))
-done_and_rest right m cs ds more are =
-    let rest = all_done (right ⊎ IsTrue (has_rebuild cs)) (after m ds) more in
-    (rest.0, (done_joined right m cs ds more rest.0 are rest.1, done_as_long (right ⊎ IsTrue (has_rebuild cs)) (after m ds) more rest.0 rest.1))

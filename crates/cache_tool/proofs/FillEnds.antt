@@ -121,7 +121,7 @@ module _ {moment : ℕ} (count given : ℕ) (m : Machine) (came : Result Status 
 
   -- what stands, by an end that closes where the session's does
   leaves : (final : Status) → (IsClosing final → IsClosing ended) → LeavesHonest last.disk → (¬ (IsClosing (status_in came)) → t ≡ last.disk)
-      → LeavesDisk m done (all_begun_none_acked done) final before.disk t
+      → LeavesDisk m (all_begun_none_acked m done) final before.disk t
   leaves final closes kept dropped = record {
     shut = λ closing. (closed (as_came (closes closing))).shut (closes closing);
     honest = λ closing right. (closed (as_came (closes closing))).honest (closes closing) ((led (as_came (closes closing))).tells (opened_right opens is_start done right));
@@ -132,8 +132,8 @@ module _ {moment : ℕ} (count given : ℕ) (m : Machine) (came : Result Status 
   }
 
   -- an answer is printed
-  pub answered : (final : Status) (taken : Option (List ℕ)) → IsAnswer ended → Printed ended final before.taken taken lines → LeavesHonest last.disk
-      → PrintsFill moment count given m final before (record { taken = taken; disk = t })
+  pub answered : {faults : ℕ} (final : Status) (taken : Option (List ℕ)) → IsAnswer ended → Printed ended final before.taken taken lines → LeavesHonest last.disk
+      → PrintsFill moment count given m final before (record { taken = taken; disk = t; disk_faults = faults })
   answered final taken answer printed kept =
       let closes : IsClosing (status_in came) = as_came (answer_closes ended answer) in
       let text : lines ≡ lines_in fill.filled = came_ok _ came no_sink fill.printed closes in
@@ -149,8 +149,8 @@ module _ {moment : ℕ} (count given : ℕ) (m : Machine) (came : Result Status 
       }
 
   -- none is
-  pub not_answered : ¬ (IsAnswer ended) → ended ≢ status.Sink → LeavesHonest last.disk → (¬ (IsClosing (status_in came)) → t ≡ last.disk)
-      → PrintsFill moment count given m ended before (record before { disk = t })
+  pub not_answered : {faults : ℕ} → ¬ (IsAnswer ended) → ended ≢ status.Sink → LeavesHonest last.disk → (¬ (IsClosing (status_in came)) → t ≡ last.disk)
+      → PrintsFill moment count given m ended before (record before { disk = t; disk_faults = faults })
   not_answered other sink_not kept dropped = record {
     filled = filled;
     answer = λ a. absurd (other a);
@@ -199,8 +199,8 @@ no_sink_of fault.Memory other e = absurd (cc)
 no_sink_of fault.Disk other e = absurd (cc)
 no_sink_of fault.Sink other e = other refl
 
-pub not_opened : (moment count first : ℕ) (m : Machine) (f : StoreFault) (before : Output) (t : State) → f ≢ fault.Sink → (IsQuiet before.disk → IsSafe t (marks_of m))
-    → OpensHonestly before.disk t → PrintsFill moment count first m (status_in (Err f)) before (record before { disk = t })
+pub not_opened : {faults : ℕ} (moment count first : ℕ) (m : Machine) (f : StoreFault) (before : Output) (t : State) → f ≢ fault.Sink → (IsQuiet before.disk → IsSafe t (marks_of m))
+    → OpensHonestly before.disk t → PrintsFill moment count first m (status_in (Err f)) before (record before { disk = t; disk_faults = faults })
 not_opened moment count first m f before t other safe images =
     let filled = some_filled (Honest (standing before.disk)) moment count first m in
     record {

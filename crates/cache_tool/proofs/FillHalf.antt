@@ -6,7 +6,7 @@ use Rattle.cache_store.specs.EndsUpdate.{EndsUpdate, IsTotal, update_over}
 use Rattle.cache_store.specs.InUse.{past_header}
 use Rattle.cache_store.specs.Open.{KeepsTo, Tells}
 use Rattle.cache_store.specs.Session.{Session}
-use Rattle.cache_store.specs.declared.fault.Outcome.{Outcome}
+use Rattle.cache_store.specs.declared.fault.Verdict.{Verdict}
 use Rattle.cache_store.specs.declared.fault.StoreFault.{StoreFault}
 use Rattle.cache_store.proofs.Represented.{represents}
 use Rattle.cache_theory.specs.Checks.{checks}
@@ -39,7 +39,7 @@ over_reply : (names : List Name) (m : Machine) → (step (update_ended m) (Evict
 unfolding checks effect
 over_reply names m = refl
 
-module _ (before mid now : Session) (answer : Result Outcome StoreFault) (said : List ℕ) (base : SameBase before.open_store.index.map mid.open_store.index.map) (looked : mid.disk ≡ before.disk) where
+module _ (before mid now : Session) (answer : Result Verdict StoreFault) (said : List ℕ) (base : SameBase before.open_store.index.map mid.open_store.index.map) (looked : mid.disk ≡ before.disk) where
   leads_over : (names : List Name) (h : History) → (Tells before h.machine → Tells mid (update_ended h.machine)) → LeadTo (EvictNames names ∷ []) mid (update_ended h.machine) now (acked (EvictNames names) (update_over h))
       → LeadTo (EvictNames names ∷ []) before h.machine now (unanswered (EvictNames names) h)
   leads_over names h so leads = record {

@@ -4,7 +4,7 @@ use Rattle.std.specs.Prelude.{OnOk}
 use Rattle.cache_store.specs.Open.{KeepsTo}
 use Rattle.cache_store.specs.Performing.{goes_by_records}
 use Rattle.cache_store.specs.Session.{Session}
-use Rattle.cache_store.specs.declared.fault.Outcome.{Outcome}
+use Rattle.cache_store.specs.declared.fault.Verdict.{Verdict}
 use Rattle.cache_store.specs.declared.fault.StoreFault.{StoreFault}
 use Rattle.cache_store.proofs.PerformWhole.{begun_stands}
 use Rattle.cache_theory.specs.Command.{Command}
@@ -41,7 +41,7 @@ pub run_none : (now : Session) → RunsAll {T = Unit {0}} [] (Ok tt) now now
 run_none now = record { each = λ h keeps. record { safe = keeps.stands.crash_kept.safe; stands = leads_none now h keeps } }
 
 -- one, which does not go by the records
-pub run_one : (c : Command) (answer : Result Outcome StoreFault) (before now : Session) (said : List ℕ) → goes_by_records c ≡ false → SendsCommand c answer before now said
+pub run_one : (c : Command) (answer : Result Verdict StoreFault) (before now : Session) (said : List ℕ) → goes_by_records c ≡ false → SendsCommand c answer before now said
     → RunsAll (c ∷ []) answer before now
 run_one c answer before now said bare sends = record {
   each = λ h keeps.
@@ -110,35 +110,35 @@ module _ (now i x a : ℕ) (k b : List ℕ) (at : a ≡ moment_of now i) (key : 
   named answer before after runs = run_same its (entry_commands now i x) answer before after (entry_is now i x a k b at key body) runs
 
   module _ {T : Type 0} (given : Result T StoreFault) (P : StoreFault → Type 0) (failed : IsErrAnd given P) (s0 s1 : Session) (said : List ℕ) where
-    pub timing_fails : (r : Result Outcome StoreFault) → SendsCommand (At a) r s0 s1 said → RunsAll (entry_commands now i x) given s0 s1
+    pub timing_fails : (r : Result Verdict StoreFault) → SendsCommand (At a) r s0 s1 said → RunsAll (entry_commands now i x) given s0 s1
     timing_fails r timed = named given s0 s1
         (run_fails (At a ∷ []) (Create 0 k ∷ (Append 0 b ∷ (Close 0 ∷ []))) r given P s0 s1 failed (run_one (At a) r s0 s1 said refl timed))
 
-  module _ (s0 s1 : Session) (said1 : List ℕ) (o1 : Outcome) (timed : SendsCommand (At a) (Ok o1) s0 s1 said1) (s2 : Session) (said2 : List ℕ) where
-    two : (r : Result Outcome StoreFault) → SendsCommand (Create 0 k) r s1 s2 said2 → RunsAll (At a ∷ (Create 0 k ∷ [])) r s0 s2
+  module _ (s0 s1 : Session) (said1 : List ℕ) (o1 : Verdict) (timed : SendsCommand (At a) (Ok o1) s0 s1 said1) (s2 : Session) (said2 : List ℕ) where
+    two : (r : Result Verdict StoreFault) → SendsCommand (Create 0 k) r s1 s2 said2 → RunsAll (At a ∷ (Create 0 k ∷ [])) r s0 s2
     two r created = run_then (At a ∷ []) (Create 0 k ∷ []) o1 r s0 s1 s2 (run_one (At a) (Ok o1) s0 s1 said1 refl timed) (run_one (Create 0 k) r s1 s2 said2 refl created)
 
-    pub creating_fails : {T : Type 0} (given : Result T StoreFault) (P : StoreFault → Type 0) → IsErrAnd given P → (r : Result Outcome StoreFault) → SendsCommand (Create 0 k) r s1 s2 said2
+    pub creating_fails : {T : Type 0} (given : Result T StoreFault) (P : StoreFault → Type 0) → IsErrAnd given P → (r : Result Verdict StoreFault) → SendsCommand (Create 0 k) r s1 s2 said2
         → RunsAll (entry_commands now i x) given s0 s2
     creating_fails given P failed r created = named given s0 s2 (run_fails (At a ∷ (Create 0 k ∷ [])) (Append 0 b ∷ (Close 0 ∷ [])) r given P s0 s2 failed (two r created))
 
-    module _ (o2 : Outcome) (created : SendsCommand (Create 0 k) (Ok o2) s1 s2 said2) (s3 : Session) (said3 : List ℕ) where
-      three : (r : Result Outcome StoreFault) → SendsCommand (Append 0 b) r s2 s3 said3 → RunsAll (At a ∷ (Create 0 k ∷ (Append 0 b ∷ []))) r s0 s3
+    module _ (o2 : Verdict) (created : SendsCommand (Create 0 k) (Ok o2) s1 s2 said2) (s3 : Session) (said3 : List ℕ) where
+      three : (r : Result Verdict StoreFault) → SendsCommand (Append 0 b) r s2 s3 said3 → RunsAll (At a ∷ (Create 0 k ∷ (Append 0 b ∷ []))) r s0 s3
       three r appended = run_then (At a ∷ (Create 0 k ∷ [])) (Append 0 b ∷ []) o2 r s0 s2 s3 (two (Ok o2) created) (run_one (Append 0 b) r s2 s3 said3 refl appended)
 
-      pub appending_fails : {T : Type 0} (given : Result T StoreFault) (P : StoreFault → Type 0) → IsErrAnd given P → (r : Result Outcome StoreFault) → SendsCommand (Append 0 b) r s2 s3 said3
+      pub appending_fails : {T : Type 0} (given : Result T StoreFault) (P : StoreFault → Type 0) → IsErrAnd given P → (r : Result Verdict StoreFault) → SendsCommand (Append 0 b) r s2 s3 said3
           → RunsAll (entry_commands now i x) given s0 s3
       appending_fails given P failed r appended = named given s0 s3 (run_fails (At a ∷ (Create 0 k ∷ (Append 0 b ∷ []))) (Close 0 ∷ []) r given P s0 s3 failed (three r appended))
 
-      module _ (o3 : Outcome) (appended : SendsCommand (Append 0 b) (Ok o3) s2 s3 said3) (s4 : Session) (said4 : List ℕ) where
-        four : (r : Result Outcome StoreFault) → SendsCommand (Close 0) r s3 s4 said4 → RunsAll its r s0 s4
+      module _ (o3 : Verdict) (appended : SendsCommand (Append 0 b) (Ok o3) s2 s3 said3) (s4 : Session) (said4 : List ℕ) where
+        four : (r : Result Verdict StoreFault) → SendsCommand (Close 0) r s3 s4 said4 → RunsAll its r s0 s4
         four r closed = run_then (At a ∷ (Create 0 k ∷ (Append 0 b ∷ []))) (Close 0 ∷ []) o3 r s0 s3 s4 (three (Ok o3) appended) (run_one (Close 0) r s3 s4 said4 refl closed)
 
-        pub closing_fails : {T : Type 0} (given : Result T StoreFault) (P : StoreFault → Type 0) → IsErrAnd given P → (r : Result Outcome StoreFault) → SendsCommand (Close 0) r s3 s4 said4
+        pub closing_fails : {T : Type 0} (given : Result T StoreFault) (P : StoreFault → Type 0) → IsErrAnd given P → (r : Result Verdict StoreFault) → SendsCommand (Close 0) r s3 s4 said4
             → RunsAll (entry_commands now i x) given s0 s4
         closing_fails given P failed r closed = named given s0 s4 (run_handed its r given P s0 s4 failed (four r closed))
 
-        pub entry_made : (o4 : Outcome) → SendsCommand (Close 0) (Ok o4) s3 s4 said4 → RunsAll {T = Unit {0}} (entry_commands now i x) (Ok tt) s0 s4
+        pub entry_made : (o4 : Verdict) → SendsCommand (Close 0) (Ok o4) s3 s4 said4 → RunsAll {T = Unit {0}} (entry_commands now i x) (Ok tt) s0 s4
         entry_made o4 closed = named (Ok tt) s0 s4 (run_ok its o4 tt s0 s4 (four (Ok o4) closed))
 
 -- ---- the entries so far

@@ -5,7 +5,7 @@ use Rattle.cache_base.specs.declared.status.Status.{Status}
 use Rattle.cache_store.specs.DoneFor.{DoneFor, IsDoneFor}
 use Rattle.cache_store.specs.Open.{KeepsTo, Tells}
 use Rattle.cache_store.specs.Session.{Session}
-use Rattle.cache_store.specs.declared.fault.Outcome.{Outcome}
+use Rattle.cache_store.specs.declared.fault.Verdict.{Verdict}
 use Rattle.cache_store.specs.declared.fault.StoreFault.{StoreFault}
 use Rattle.cache_theory.specs.Command.{Command}
 use Rattle.cache_theory.specs.Command.Command.{Evict, ListRecords, Verify, VerifyRecords}
@@ -133,7 +133,7 @@ module _ (moment count first : ℕ) (h : History) (start : Session) where
       told_evicted : right → Tells later evicted.machine
       told_evicted told = half.stands.tells (inl (told_made told))
 
-      module _ (r : Result Outcome StoreFault) (further : Session) (found : List ℕ) (check : DoneFor (Tells later evicted.machine) Verify evicted.machine (λ c. IsSent c evicted r later further found)) where
+      module _ (r : Result Verdict StoreFault) (further : Session) (found : List ℕ) (check : DoneFor (Tells later evicted.machine) Verify evicted.machine (λ c. IsSent c evicted r later further found)) where
         abbrev e : Command
         e = check.0
 
@@ -149,14 +149,14 @@ module _ (moment count first : ℕ) (h : History) (start : Session) where
             (reply_text (step checked.machine ListRecords).reply) (λ told. refl) came P further lines failed
             (all_begin_keep further.disk checked.machine (ListRecords ∷ []) checked.marks check.1.1.safe)
 
-      module _ (o : Outcome) (further : Session) (found : List ℕ) (check : DoneFor (Tells later evicted.machine) Verify evicted.machine (λ c. IsSent c evicted (Ok o) later further found)) where
+      module _ (o : Verdict) (further : Session) (found : List ℕ) (check : DoneFor (Tells later evicted.machine) Verify evicted.machine (λ c. IsSent c evicted (Ok o) later further found)) where
         lead_checked : LeadTo (check.0 ∷ []) later evicted.machine further (unanswered check.0 evicted)
         lead_checked = leads_begun check.0 evicted later further half.stands.keeps check.1.1.safe check.1.1.next
 
         pub checked_keeps : KeepsTo further (unanswered check.0 evicted)
         checked_keeps = lead_checked.keeps
 
-        module _ (r : Result Outcome StoreFault) (last : Session) (text : List ℕ)
+        module _ (r : Result Verdict StoreFault) (last : Session) (text : List ℕ)
             (list : DoneFor (Tells further (unanswered check.0 evicted).machine) ListRecords (unanswered check.0 evicted).machine (λ c. IsSent c (unanswered check.0 evicted) r further last text)) where
           sent_list : IsSent ListRecords (unanswered check.0 evicted) r further last text
           sent_list = subst (λ (c : Command). IsSent c (unanswered check.0 evicted) r further last text) list.1.0 list.1.1
@@ -166,7 +166,7 @@ module _ (moment count first : ℕ) (h : History) (start : Session) where
               failed_with half.kb (evicted_summed (Ok x) later said half) d (evicted_is (Ok x) later said half) check.0 (checked_is (Ok o) further found check)
               (reply_text (step (unanswered check.0 evicted).machine ListRecords).reply) (λ told. refl) came P last lines failed sent_list.safe
 
-        module _ (q : Outcome) (last : Session) (text : List ℕ)
+        module _ (q : Verdict) (last : Session) (text : List ℕ)
             (list : DoneFor (Tells further (unanswered check.0 evicted).machine) ListRecords (unanswered check.0 evicted).machine (λ c. IsSent c (unanswered check.0 evicted) (Ok q) further last text)) where
           sent : IsSent ListRecords (unanswered check.0 evicted) (Ok q) further last text
           sent = sent_list (Ok q) last text list

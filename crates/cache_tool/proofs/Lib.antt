@@ -1,7 +1,11 @@
 pub mod Accounted
+pub mod Answering
 pub mod Begun
+pub mod DoneKept
 pub mod DoneLaws
 pub mod EntryLooks
+pub mod FaultedParts
+pub mod Faulting
 pub mod FillEnds
 pub mod FillHalf
 pub mod FillRuns

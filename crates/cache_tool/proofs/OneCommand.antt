@@ -1,13 +1,15 @@
 -- What one command of a session comes to.
-use Rattle.std.proofs.Common.{◌≡◌, ◌≢◌, ◌⊎◌, inl, inr, ℕ, ◌∷◌, ◌∙◌, [], List, length, Option, Result, Ok, Err, refl, sym, ap, subst, arith}
+use Rattle.std.proofs.Common.{◌≡◌, ◌≢◌, ◌⊎◌, inl, inr, ℕ, ◌∷◌, ◌∙◌, [], List, length, Option, Result, Ok, Err, true, refl, sym, ap, subst, arith}
 use Rattle.std.specs.Io.KnownBytes.{Appends}
-use Rattle.std.specs.Prelude.{IsOkAnd, MatchResult}
+use Rattle.std.specs.Prelude.{IsOkAnd, MatchResult, OnErr, OnOk}
 use Rattle.std.proofs.KnownBytes.{Appends-nil}
 use Rattle.std.proofs.lemmas.List.{take_all}
+use Rattle.cache_base.specs.Causes.{Rose}
 use Rattle.cache_base.specs.declared.status.Status.{Status}
 use Rattle.cache_base.specs.declared.status.Status.TheVariants as status
 use Rattle.cache_store.specs.Answering.{outcome_of}
 use Rattle.cache_store.specs.DoneFor.{DoneFor}
+use Rattle.cache_store.specs.Faulting.{StaysAs}
 use Rattle.cache_store.specs.Faults.{ending}
 use Rattle.cache_store.specs.InUse.{HasShortJournal, OpensInUse}
 use Rattle.cache_store.specs.Open.{IsHonest, IsShut, LeavesOpen, Opens, OpensHonestly, StartsOn}
@@ -15,13 +17,15 @@ use Rattle.cache_store.specs.Performing.{HadEffect, Keeps, MayTell, Performs}
 use Rattle.cache_store.specs.Said.{IsCut}
 use Rattle.cache_store.specs.Saying.{IsPart}
 use Rattle.cache_store.specs.Session.{Session}
-use Rattle.cache_store.specs.declared.fault.Outcome.{Outcome}
-use Rattle.cache_store.specs.declared.fault.Outcome.TheVariants as outcome
+use Rattle.cache_store.specs.declared.fault.Verdict.{Verdict}
+use Rattle.cache_store.specs.declared.fault.Verdict.TheVariants as outcome
 use Rattle.cache_store.specs.declared.fault.StoreFault.{StoreFault}
 use Rattle.cache_store.specs.declared.fault.StoreFault.TheVariants as fault
+use Rattle.cache_store.proofs.Represented.{keeps_marked, keeps_to, represents}
 use Rattle.cache_theory.specs.Command.{Command}
 use Rattle.cache_theory.specs.Command.Command.{Flush}
 use Rattle.cache_theory.specs.Crash.{IsSafe}
+use Rattle.cache_theory.specs.Faulted.{fault_line}
 use Rattle.cache_theory.specs.History.{History, acked, begun, settled_at, unanswered}
 use Rattle.cache_theory.specs.Machine.{Machine}
 use Rattle.cache_theory.specs.Marks.{marks_of}
@@ -32,11 +36,12 @@ use Rattle.cache_theory.proofs.Crashes.{safe_is_crash_safe}
 use Rattle.cache_tool.specs.Ending.{EndsSession, IsEnded}
 use Rattle.cache_tool.specs.Right.{ComesRight, LeadTo, MaySayOn}
 use Rattle.cache_tool.specs.Statuses.{IsAnswer, IsClosing, status_in, status_of}
-use Rattle.cache_tool.specs.Verbs.{PrintsLast}
+use Rattle.cache_tool.specs.Staying.{StaysOnce}
+use Rattle.cache_tool.specs.Verbs.{PrintsFault, PrintsLast}
 use Rattle.cache_tool.specs.World.{Output}
 use Rattle.cache_tool.proofs.DoneLaws.{some_done}
 use Rattle.cache_tool.proofs.RightLaws.{leads_one, may_tell_one, opened_right, opened_says}
-use Rattle.cache_tool.proofs.StayingLaws.{StaysOnce, StaysWhole, stays_whole}
+use Rattle.cache_tool.proofs.StayingLaws.{StaysWhole, stays_whole}
 use Rattle.disk_model.specs.Sound.{IsQuiet}
 use Rattle.disk_model.specs.State.{State, standing}
 use Rattle.index_theory.specs.Honest.{Honest, LeavesHonest}
@@ -57,11 +62,11 @@ stop_closes_not : (ended : Status) → IsStop ended → IsClosing ended → ⊥
 stop_closes_not ended (inl is) closing = subst IsClosing is closing
 stop_closes_not ended (inr is) closing = subst IsClosing is closing
 
-outcome_closes : (o : Outcome) (ended : Status) → ended ≡ status_of o → IsClosing ended
+outcome_closes : (o : Verdict) (ended : Status) → ended ≡ status_of o → IsClosing ended
 outcome_closes outcome.Ok ended is = subst IsClosing (sym is) tt
 outcome_closes outcome.Refused ended is = subst IsClosing (sym is) tt
 
-outcome_is_answer : (o : Outcome) (ended : Status) → ended ≡ status_of o → IsAnswer ended
+outcome_is_answer : (o : Verdict) (ended : Status) → ended ≡ status_of o → IsAnswer ended
 outcome_is_answer outcome.Ok ended is = inl is
 outcome_is_answer outcome.Refused ended is = inr is
 
@@ -91,6 +96,10 @@ all_part before now text all = (length text, (omega arith, subst (Appends before
 
 cut_part : (before now : Option (List ℕ)) (text : List ℕ) → IsCut before now text → IsPart before now text
 cut_part before now text (n, (short, out)) = (n, (omega arith, out))
+
+pub said_part : {T : Type 0} (r : Result T StoreFault) (before now : Option (List ℕ)) (text : List ℕ) → OnOk r (Appends before now text) → OnErr r (IsCut before now text) → IsPart before now text
+said_part (Ok value) before now text all cut = all_part before now text all
+said_part (Err f) before now text all cut = cut_part before now text cut
 
 -- ---- the ends of one command
 
@@ -141,7 +150,7 @@ module _ (m : Machine) (c : Command) (before now : Output) (safe : IsQuiet befor
       };
     }
 
-    answered : (o : Outcome) → ended ≡ status_of o → o ≡ outcome_of (step m c).reply → (MaySayOn before.disk (c ∷ []) → Appends before.taken now.taken (reply_text (step m c).reply))
+    answered : (o : Verdict) → ended ≡ status_of o → o ≡ outcome_of (step m c).reply → (MaySayOn before.disk (c ∷ []) → Appends before.taken now.taken (reply_text (step m c).reply))
         → PrintsLast m (c ∷ []) ended before now
     answered o is replied printed = record {
       answer = λ answer. is ∙ ap status_of replied;
@@ -168,16 +177,16 @@ no_sink_stops answer fault.Memory ended failed no_sink is = inr is
 no_sink_stops answer fault.Disk ended failed no_sink is = inl is
 no_sink_stops answer fault.Sink ended failed no_sink is = absurd (no_sink failed)
 
-pub unopened_prints : {T : Type 0} (m : Machine) (c : Command) (before : Output) (t : State) (answer : Result T StoreFault) (f : StoreFault) (ended : Status)
+pub unopened_prints : {T : Type 0} (m : Machine) (c : Command) (before : Output) (t : State) (faults : ℕ) (answer : Result T StoreFault) (f : StoreFault) (ended : Status)
     → answer ≡ Err f → answer ≢ Err fault.Sink → ended ≡ status_in (Err f) → (IsQuiet before.disk → IsSafe t (marks_of m)) → OpensHonestly before.disk t
-    → DoneFor (Honest (standing before.disk)) c m (λ d. PrintsLast m (d ∷ []) ended before (record before { disk = t }))
-unopened_prints m c before t answer f ended failed no_sink is safe images =
+    → DoneFor (Honest (standing before.disk)) c m (λ d. PrintsLast m (d ∷ []) ended before (record before { disk = t; disk_faults = faults }))
+unopened_prints m c before t faults answer f ended failed no_sink is safe images =
     let some = some_done (Honest (standing before.disk)) c m in
     let d : Command = some.0 in (
       d,
       (
         some.1,
-        stopped m d before (record before { disk = t }) (λ quiet. begin_keeps t m d (marks_of m) (safe quiet)) images ended (no_sink_stops answer f ended failed no_sink is)
+        stopped m d before (record before { disk = t; disk_faults = faults }) (λ quiet. begin_keeps t m d (marks_of m) (safe quiet)) images ended (no_sink_stops answer f ended failed no_sink is)
             (λ may. none_part before.taken (reply_text (step m d).reply)),
       ),
     )
@@ -185,15 +194,15 @@ unopened_prints m c before t answer f ended failed no_sink is safe images =
 -- ---- it opened
 
 -- the status of a session by the answer to its last command
-abbrev pub CameBy : Result Outcome StoreFault → Result Status StoreFault → Type 0
+abbrev pub CameBy : Result Verdict StoreFault → Result Status StoreFault → Type 0
 CameBy answer came = MatchResult answer (λ o. IsOkAnd came (λ s. s ≡ status_of o)) (λ f. came ≡ Err f)
 
-pub came_open : (answer : Result Outcome StoreFault) (came : Result Status StoreFault) (now : Session) → CameBy answer came → LeavesOpen answer now → LeavesOpen came now
+pub came_open : (answer : Result Verdict StoreFault) (came : Result Status StoreFault) (now : Session) → CameBy answer came → LeavesOpen answer now → LeavesOpen came now
 came_open (Ok o) (Ok s) now by still = still
 came_open (Ok o) (Err f) now by still = absurd by
 came_open (Err f) came now by still = λ none. still (sym (ap (λ r. ending r) by) ∙ none)
 
-came_ok : (o : Outcome) (came : Result Status StoreFault) → IsOkAnd came (λ s. s ≡ status_of o) → status_in came ≡ status_of o
+came_ok : (o : Verdict) (came : Result Status StoreFault) → IsOkAnd came (λ s. s ≡ status_of o) → status_in came ≡ status_of o
 came_ok o (Ok s) is = is
 came_ok o (Err f) is = absurd is
 
@@ -218,7 +227,7 @@ module _ {moment : ℕ} (m : Machine) (c : Command) (before now : Output) (first
   says may = may_tell_one c first m (opened_says opens is (c ∷ []) may)
 
   -- it was performed, and the session was ended by what it came to
-  pub performed_prints : (answer : Result Outcome StoreFault) (came : Result Status StoreFault) → Performs c m answer first last before.taken now.taken → Keeps c (settled_at m) answer last
+  pub performed_prints : (answer : Result Verdict StoreFault) (came : Result Status StoreFault) → Performs c m answer first last before.taken now.taken → Keeps c (settled_at m) answer last
       → (HadEffect answer → StaysOnce c first m last) → LeavesHonest last.disk
       → CameBy answer came → (ended ≡ status_in came) ⊎ IsStop ended → ((IsClosing (status_in came) → ⊥) → (ended ≡ status_in came) × (now.disk ≡ last.disk))
       → PrintsLast m (c ∷ []) ended before now
@@ -256,3 +265,25 @@ module _ {moment : ℕ} (m : Machine) (c : Command) (before now : Output) (first
       let left = dropped (λ closing. subst (λ x. IsClosing (status_in x)) by closing) in
       stopped m c before now (λ quiet. subst (λ x. IsSafe x (begun c (settled_at m)).marks) (sym left.1) keeps.safe) (λ quiet honest. subst LeavesHonest (sym left.1) kept) ended
       (inr (left.0 ∙ ap status_in by)) (λ may. cut_part before.taken now.taken (reply_text (step m c).reply) (performs.cut (says may)))
+
+-- ---- a look at the disk failed
+
+-- the line was printed, or a part of it, and all stayed as it was
+pub faulted_prints : {moment : ℕ} (m : Machine) (before now : Output) (first last : Session) (ended : Status) → Opens moment before.disk first → StartsOn moment before.disk m → StaysAs first last → EndsSession ended last now.disk
+    → IsStop ended → Rose before.disk_faults now.disk_faults → IsPart before.taken now.taken fault_line → PrintsFault m ended before now
+faulted_prints m before now first last ended opens is stays ends stop rose part =
+    let keeps = opens.keeps m is in
+    let end = ends.each (settled_at m) (keeps_to (stays.keeps true (settled_at m) (keeps_marked keeps))) in
+    record {
+      failed = stop;
+      rose = rose;
+      part = part;
+      leaves = record {
+        shut = λ closing. absurd (stop_closes_not ended stop closing);
+        honest = λ closing right. absurd (stop_closes_not ended stop closing);
+        crash = λ quiet. safe_is_crash_safe now.disk (marks_of m) end.safe;
+        images = λ quiet honest. end.images (stays.tells m (represents keeps) (opens.tells m is honest));
+        journal = λ closing over. absurd (stop_closes_not ended stop closing);
+        in_use = λ closing. absurd (stop_closes_not ended stop closing);
+      };
+    }

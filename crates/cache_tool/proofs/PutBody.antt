@@ -13,8 +13,8 @@ use Rattle.cache_theory.specs.History.{History}
 use Rattle.cache_theory.specs.Step.{after}
 use Rattle.cache_store.specs.Open.{KeepsTo}
 use Rattle.cache_store.specs.Session.{Session}
-use Rattle.cache_store.specs.declared.fault.Outcome.{Outcome}
-use Rattle.cache_store.specs.declared.fault.Outcome.TheVariants as outcome
+use Rattle.cache_store.specs.declared.fault.Verdict.{Verdict}
+use Rattle.cache_store.specs.declared.fault.Verdict.TheVariants as outcome
 use Rattle.cache_store.specs.declared.fault.StoreFault.{StoreFault}
 use Rattle.cache_tool.specs.declared.piece.Ended.{Ended}
 use Rattle.cache_tool.specs.declared.piece.Ended.TheVariants as ended
@@ -130,13 +130,13 @@ either_by ended.End from to body by = inl by
 either_by ended.Failed from to body by = inr by
 
 -- the commands of what is ahead, where no piece was refused only if nothing is
-sent_ahead : (h : History) (cs ds : List Command) (answer : Result Outcome StoreFault) (before now : Session) (said : List ℕ) → (answer ≡ Ok outcome.Ok → ds ≡ [])
+sent_ahead : (h : History) (cs ds : List Command) (answer : Result Verdict StoreFault) (before now : Session) (said : List ℕ) → (answer ≡ Ok outcome.Ok → ds ≡ [])
     → AreSent cs h answer before now said → AreSent (cs ++ ds) h answer before now said
 sent_ahead h cs ds (Ok outcome.Ok) before now said none ran = sent_same h cs (cs ++ ds) (Ok outcome.Ok) before now said (sym (ap (λ l. cs ++ l) (none refl) ∙ append-nil cs)) ran
 sent_ahead h cs ds (Ok outcome.Refused) before now said none ran = sent_more h cs ds (Ok outcome.Refused) before now said (λ e. absurd (cc)) ran
 sent_ahead h cs ds (Err f) before now said none ran = sent_more h cs ds (Err f) before now said (λ e. absurd (cc)) ran
 
-module _ (from to : Supply) {tells : Type 0} {room : ℕ} {mid : Option (List ℕ)} {before between now : Session} {piece said : List ℕ} {how : Ended} {answer : Result Outcome StoreFault}
+module _ (from to : Supply) {tells : Type 0} {room : ℕ} {mid : Option (List ℕ)} {before between now : Session} {piece said : List ℕ} {how : Ended} {answer : Result Verdict StoreFault}
     (so : AppendsSoFar tells room from.left mid before between) (next : Ahead from to how so.body piece) (fits : length piece ≤ PIECE_MAX)
     (told : tells) (appends_piece : AppendsPiece piece room answer between now said) (h : History) (stands : KeepsTo before h) (writes : IsWriting h.machine []) where
   -- the last piece
@@ -160,12 +160,12 @@ module _ (from to : Supply) {tells : Type 0} {room : ℕ} {mid : Option (List �
   last_failed f is = last_went (Err f) (either_by how from to _ next.body_by) is (λ e. absurd (cc))
 
   -- with a source that failed
-  pub last_broken : (o : Outcome) → answer ≡ Ok o → how ≡ ended.Failed → BodyIsAppended h from to (Ok status.Source) before now said
+  pub last_broken : (o : Verdict) → answer ≡ Ok o → how ≡ ended.Failed → BodyIsAppended h from to (Ok status.Source) before now said
   last_broken o is broken =
       last_went (Ok status.Source) (subst (λ x. BodyBy x from to (so.body ++ (piece ++ next.rest))) broken next.body_by) (o, is) (λ e full. absurd (cc))
 
   -- with a source that is at its end
-  pub last_ended : (o : Outcome) → answer ≡ Ok o → how ≡ ended.End → BodyIsAppended h from to (Ok (status_of o)) before now said
+  pub last_ended : (o : Verdict) → answer ≡ Ok o → how ≡ ended.End → BodyIsAppended h from to (Ok (status_of o)) before now said
   last_ended outcome.Ok is end =
       last_went (Ok status.Done) (subst (λ x. BodyBy x from to (so.body ++ (piece ++ next.rest))) end next.body_by) is (λ e full. absurd (cc))
   last_ended outcome.Refused is end =
@@ -219,6 +219,6 @@ module _ {tells : Type 0} {room : ℕ} {left mid : Option (List ℕ)} {before be
   holds_refusal said (inr over) = inr (takes_too_much over)
 
 -- a status by an outcome is `No` for a refusal alone
-pub no_is_refused : (o : Outcome) (came : Status) → came ≡ status_of o → ◌≡◌ {A = Result Status StoreFault} (Ok came) (Ok status.No) → o ≡ outcome.Refused
+pub no_is_refused : (o : Verdict) (came : Status) → came ≡ status_of o → ◌≡◌ {A = Result Status StoreFault} (Ok came) (Ok status.No) → o ≡ outcome.Refused
 no_is_refused outcome.Ok came is said = absurd (let one : came ≡ status.No = cc in let never : status.Done ≡ status.No = sym is ∙ one in cc)
 no_is_refused outcome.Refused came is said = refl

@@ -12,8 +12,8 @@ use Rattle.cache_theory.specs.Text.{reply_text}
 use Rattle.cache_store.specs.Answering.{outcome_of}
 use Rattle.cache_store.specs.Open.{KeepsTo}
 use Rattle.cache_store.specs.Session.{Session}
-use Rattle.cache_store.specs.declared.fault.Outcome.{Outcome}
-use Rattle.cache_store.specs.declared.fault.Outcome.TheVariants as outcome
+use Rattle.cache_store.specs.declared.fault.Verdict.{Verdict}
+use Rattle.cache_store.specs.declared.fault.Verdict.TheVariants as outcome
 use Rattle.cache_store.specs.declared.fault.StoreFault.{StoreFault}
 use Rattle.cache_tool.specs.PutProgress.{AreDone, AreSent, IsRefused, StopsWith, all_unanswered}
 use Rattle.cache_tool.specs.Replies.{is_done, last_reply, until_refused}
@@ -80,7 +80,7 @@ stops_before m (c ∷ cs) ds said (inl here) = inl here
 stops_before m (c ∷ cs) ds said (inr later) = inr (later.0, stops_before (step m c).next cs ds said later.1)
 
 -- the same commands by another name
-pub sent_same : (h : History) (cs ds : List Command) (answer : Result Outcome StoreFault) (before now : Session) (said : List ℕ) → cs ≡ ds
+pub sent_same : (h : History) (cs ds : List Command) (answer : Result Verdict StoreFault) (before now : Session) (said : List ℕ) → cs ≡ ds
     → AreSent cs h answer before now said → AreSent ds h answer before now said
 sent_same h cs ds answer before now said same ran = subst (λ l. AreSent l h answer before now said) same ran
 
@@ -94,7 +94,7 @@ sent_none h now said keeps = record {
 }
 
 -- one command
-pub sent_one_of : (h : History) (c : Command) (answer : Result Outcome StoreFault) (before now : Session) (said : List ℕ) → IsSafe now.disk (begun h.machine c h.marks)
+pub sent_one_of : (h : History) (c : Command) (answer : Result Verdict StoreFault) (before now : Session) (said : List ℕ) → IsSafe now.disk (begun h.machine c h.marks)
     → OnOk answer (LeadTo (c ∷ []) before h.machine now (unanswered c h)) → (answer ≡ Ok outcome.Ok → is_done (step h.machine c).reply ≡ true)
     → (answer ≡ Ok outcome.Refused → IsRefused h.machine c said) → AreSent (c ∷ []) h answer before now said
 sent_one_of h c answer before now said safe stands done refused = record {
@@ -105,12 +105,12 @@ sent_one_of h c answer before now said safe stands done refused = record {
 }
 
 -- more commands, of which none was performed: the last was refused, or there was a fault
-stopped_or_fault : (answer : Result Outcome StoreFault) → answer ≢ Ok outcome.Ok → (answer ≡ Ok outcome.Refused) ⊎ ((f : StoreFault) × (answer ≡ Err f))
+stopped_or_fault : (answer : Result Verdict StoreFault) → answer ≢ Ok outcome.Ok → (answer ≡ Ok outcome.Refused) ⊎ ((f : StoreFault) × (answer ≡ Err f))
 stopped_or_fault (Ok outcome.Ok) other = absurd (other refl)
 stopped_or_fault (Ok outcome.Refused) other = inl refl
 stopped_or_fault (Err f) other = inr (f, refl)
 
-pub sent_more : (h : History) (cs ds : List Command) (answer : Result Outcome StoreFault) (before now : Session) (said : List ℕ) → answer ≢ Ok outcome.Ok
+pub sent_more : (h : History) (cs ds : List Command) (answer : Result Verdict StoreFault) (before now : Session) (said : List ℕ) → answer ≢ Ok outcome.Ok
     → AreSent cs h answer before now said → AreSent (cs ++ ds) h answer before now said
 sent_more h cs ds answer before now said other ran = record {
   safe = safe;
@@ -125,7 +125,7 @@ sent_more h cs ds answer before now said other ran = record {
         subst (λ (x : History). IsSafe now.disk x.marks) (sym (ap (λ l. all_unanswered l h) front.1 ∙ unanswered-append (until_refused h.machine cs) front.0 h))
         (all_begin_keep now.disk (after h.machine (until_refused h.machine cs)) front.0 (all_begun h.machine (until_refused h.machine cs) h.marks) ran.safe)
 
-    stands : (a : Result Outcome StoreFault) → answer ≡ a → a ≢ Ok outcome.Ok
+    stands : (a : Result Verdict StoreFault) → answer ≡ a → a ≢ Ok outcome.Ok
         → OnOk a (LeadTo (until_refused h.machine (cs ++ ds)) before h.machine now (all_unanswered (until_refused h.machine (cs ++ ds)) h))
     stands (Ok outcome.Ok) e not_ok = absurd (not_ok refl)
     stands (Ok outcome.Refused) e not_ok =
@@ -135,7 +135,7 @@ sent_more h cs ds answer before now said other ran = record {
     stands (Err f) e not_ok = tt
 
 -- more commands after all were done
-pub sent_then : (h : History) (cs ds : List Command) (answer : Result Outcome StoreFault) (before mid now : Session) (said : List ℕ) → AreDone h.machine cs → LeadTo cs before h.machine mid (all_unanswered cs h)
+pub sent_then : (h : History) (cs ds : List Command) (answer : Result Verdict StoreFault) (before mid now : Session) (said : List ℕ) → AreDone h.machine cs → LeadTo cs before h.machine mid (all_unanswered cs h)
     → AreSent ds (all_unanswered cs h) answer mid now said → AreSent (cs ++ ds) h answer before now said
 sent_then h cs ds answer before mid now said first led second =
     let rest : List Command = until_refused (after h.machine cs) ds in

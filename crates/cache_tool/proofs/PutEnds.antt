@@ -81,9 +81,9 @@ crash_safe : (t : State) (m : Machine) (cs : List Command) → IsSafe t (all_beg
 crash_safe t m cs safe = subst (IsCrashSafe t) (marks_begun m cs) (safe_is_crash_safe t (all_begun m cs (marks_of m)) safe)
 
 -- the store did not open
-pub not_opened : (m : Machine) (key : List ℕ) (from to : Supply) (f : StoreFault) (before : Output) (t : State) → f ≢ fault.Sink → to.faults ≡ from.faults → IsSome from.left
+pub not_opened : {faults : ℕ} (m : Machine) (key : List ℕ) (from to : Supply) (f : StoreFault) (before : Output) (t : State) → f ≢ fault.Sink → to.faults ≡ from.faults → IsSome from.left
     → (IsQuiet before.disk → IsSafe t (marks_of m)) → OpensHonestly before.disk t
-    → (cs : List Command) × (ArePut m key from to (status_in (Err f)) cs × PrintsLast m cs (status_in (Err f)) before (record before { disk = t }))
+    → (cs : List Command) × (ArePut m key from to (status_in (Err f)) cs × PrintsLast m cs (status_in (Err f)) before (record before { disk = t; disk_faults = faults }))
 not_opened m key from to f before t other calm some safe images =
     let body = some_body from to calm some in (
       put_commands m key body.0,
@@ -143,8 +143,8 @@ module _ {moment : ℕ} (m : Machine) (key : List ℕ) (from to : Supply) (came 
       stays_whole before.disk t m first last put.commands (all_unanswered put.commands (settled_at m)) ended opens is_start based (led as_came) (closed as_came) refl closing
 
   -- an answer is printed
-  pub answered : (final : Status) (taken : Option (List ℕ)) → IsAnswer ended → Printed ended final before.taken taken said
-      → (cs : List Command) × (ArePut m key from to final cs × PrintsLast m cs final before (record { taken = taken; disk = t }))
+  pub answered : {faults : ℕ} (final : Status) (taken : Option (List ℕ)) → IsAnswer ended → Printed ended final before.taken taken said
+      → (cs : List Command) × (ArePut m key from to final cs × PrintsLast m cs final before (record { taken = taken; disk = t; disk_faults = faults }))
   answered final taken answer printed =
       let is : ended ≡ came = closing_same ended came same (answer_closes ended answer) in
       let closes : IsClosing came = subst IsClosing is (answer_closes ended answer) in
@@ -173,8 +173,8 @@ module _ {moment : ℕ} (m : Machine) (key : List ℕ) (from to : Supply) (came 
       )
 
   -- none is
-  pub not_answered : ¬ (IsAnswer ended) → ended ≢ status.Sink → LeavesHonest last.disk → (¬ (IsClosing came) → t ≡ last.disk)
-      → (cs : List Command) × (ArePut m key from to ended cs × PrintsLast m cs ended before (record before { disk = t }))
+  pub not_answered : {faults : ℕ} → ¬ (IsAnswer ended) → ended ≢ status.Sink → LeavesHonest last.disk → (¬ (IsClosing came) → t ≡ last.disk)
+      → (cs : List Command) × (ArePut m key from to ended cs × PrintsLast m cs ended before (record before { disk = t; disk_faults = faults }))
   not_answered other no_sink kept dropped = (
     put.commands,
     (
@@ -302,7 +302,7 @@ disk_cause (Err fault.Sink) ended a b c d only other same first second dropped =
 -- Once a change or a sync fails no call follows: the opening went on, and where the commands failed the closing makes no call.
 
 module _ (a b : Counts) (went_on : b.failed ≡ a.failed) where
-  stops_after : (c d : Counts) → c.failed ≡ b.failed → StopsAtFault c d → StopsAtFault a d
+  pub stops_after : (c d : Counts) → c.failed ≡ b.failed → StopsAtFault c d → StopsAtFault a d
   stops_after c d same (inl closed) = inl (closed ∙ same ∙ went_on)
   stops_after c d same (inr last) = inr last
 

@@ -25,8 +25,8 @@ use Rattle.cache_store.specs.Answering.{outcome_of}
 use Rattle.cache_store.specs.Open.{KeepsTo}
 use Rattle.cache_store.specs.Performing.{goes_by_records}
 use Rattle.cache_store.specs.Session.{Session}
-use Rattle.cache_store.specs.declared.fault.Outcome.{Outcome}
-use Rattle.cache_store.specs.declared.fault.Outcome.TheVariants as outcome
+use Rattle.cache_store.specs.declared.fault.Verdict.{Verdict}
+use Rattle.cache_store.specs.declared.fault.Verdict.TheVariants as outcome
 use Rattle.cache_store.specs.declared.fault.StoreFault.{StoreFault}
 use Rattle.cache_tool.specs.PutProgress.{AreSent, IsRefused, IsSent, IsWriting, PieceIsSent}
 use Rattle.cache_tool.specs.Replies.{is_done}
@@ -81,9 +81,9 @@ not_done_by m c = go (step m c).reply
     go (Findings more) is = refl
     go r is = absurd (cc)
 
-module _ (c : Command) (h : History) (answer : Result Outcome StoreFault) (before now : Session) (said : List ℕ) (plain : IsPlain c) (sends : IsSent c h answer before now said) where
+module _ (c : Command) (h : History) (answer : Result Verdict StoreFault) (before now : Session) (said : List ℕ) (plain : IsPlain c) (sends : IsSent c h answer before now said) where
   -- the outcome is that of the machine's reply
-  pub sent_outcome : (r : Outcome) → answer ≡ Ok r → r ≡ outcome_of (step h.machine c).reply
+  pub sent_outcome : (r : Verdict) → answer ≡ Ok r → r ≡ outcome_of (step h.machine c).reply
   sent_outcome r e = subst (λ a. IfOk a (λ x. x ≡ outcome_of (step h.machine c).reply)) e sends.outcome
 
   pub sent_done : answer ≡ Ok outcome.Ok → is_done (step h.machine c).reply ≡ true
@@ -175,7 +175,7 @@ piece_none h body now said stands writes = record {
   writes = λ e. subst (λ x. IsWriting h.machine x) (sym (append-nil body)) writes;
 }
 
-pub piece_sent : (h : History) (body : List ℕ) (x : ℕ) (xs : List ℕ) (answer : Result Outcome StoreFault) (before now : Session) (said : List ℕ)
+pub piece_sent : (h : History) (body : List ℕ) (x : ℕ) (xs : List ℕ) (answer : Result Verdict StoreFault) (before now : Session) (said : List ℕ)
     → IsWriting h.machine body → IsSent (Append 0 (x ∷ xs)) h answer before now said → PieceIsSent body (x ∷ xs) h answer before now said
 piece_sent h body x xs answer before now said writes sends =
     let plain = append_is_plain 0 (x ∷ xs) in
@@ -185,7 +185,7 @@ piece_sent h body x xs answer before now said writes sends =
     }
 
 -- a piece with which the body is too long is refused
-pub piece_over : (h : History) (body bytes : List ℕ) (r : Outcome) (before now : Session) (said : List ℕ)
+pub piece_over : (h : History) (body bytes : List ℕ) (r : Verdict) (before now : Session) (said : List ℕ)
     → IsWriting h.machine body → BODY_MAX < length body + length bytes → IsSent (Append 0 bytes) h (Ok r) before now said → r ≡ outcome.Refused
 piece_over h body bytes outcome.Refused before now said writes long sends = refl
 piece_over h body bytes outcome.Ok before now said writes long sends =

@@ -7,8 +7,8 @@ use Rattle.cache_base.specs.declared.limits.TheConstants.{BODY_MAX}
 use Rattle.cache_store.specs.Open.{KeepsTo, Tells}
 use Rattle.cache_store.specs.Performing.{ComesToTell, HadEffect, Keeps, Performs, goes_by_records}
 use Rattle.cache_store.specs.Session.{Session}
-use Rattle.cache_store.specs.declared.fault.Outcome.{Outcome}
-use Rattle.cache_store.specs.declared.fault.Outcome.TheVariants as outcome
+use Rattle.cache_store.specs.declared.fault.Verdict.{Verdict}
+use Rattle.cache_store.specs.declared.fault.Verdict.TheVariants as outcome
 use Rattle.cache_store.specs.declared.fault.StoreFault.{StoreFault}
 use Rattle.cache_theory.specs.Command.{Command}
 use Rattle.cache_theory.specs.Command.Command.{Append}
@@ -17,13 +17,13 @@ use Rattle.cache_theory.specs.Step.{step}
 use Rattle.cache_theory.specs.Text.{reply_text}
 use Rattle.cache_tool.specs.PutProgress.{IsSent, IsWriting, PieceIsSent, SendsCommand}
 use Rattle.cache_tool.specs.Right.{LeadTo}
+use Rattle.cache_tool.specs.Staying.{StaysOnce}
 use Rattle.cache_tool.proofs.DoneLaws.{done_itself}
 use Rattle.cache_tool.proofs.PutMachine.{piece_none, piece_over, piece_sent}
 use Rattle.cache_tool.proofs.RightLaws.{leads_one}
-use Rattle.cache_tool.proofs.StayingLaws.{StaysOnce}
 
 -- what went out to a sink that held nothing is what it holds
-pub sends_of : (c : Command) (h : History) (answer : Result Outcome StoreFault) (first now : Session) (before said : List ℕ) → before ≡ []
+pub sends_of : (c : Command) (h : History) (answer : Result Verdict StoreFault) (first now : Session) (before said : List ℕ) → before ≡ []
     → Performs c h.machine answer first now (Some before) (Some said) → Keeps c h answer now → (HadEffect answer → StaysOnce c first h.machine now) → IsSent c h answer first now said
 sends_of c h answer first now before said none p kept stays = record {
   safe = kept.safe;
@@ -33,17 +33,17 @@ sends_of c h answer first now before said none p kept stays = record {
   told = λ told. held answer (p.printed (λ goes. told));
 }
   where
-    leads : (a : Result Outcome StoreFault) → OnOk a (KeepsTo now (acked c h)) → (HadEffect a → ComesToTell c first h.machine → Tells now (step h.machine c).next)
+    leads : (a : Result Verdict StoreFault) → OnOk a (KeepsTo now (acked c h)) → (HadEffect a → ComesToTell c first h.machine → Tells now (step h.machine c).next)
         → (HadEffect a → StaysOnce c first h.machine now) → OnOk a (LeadTo (c ∷ []) first h.machine now (acked c h))
     leads (Ok r) keeps tells on = leads_one c first h.machine now (acked c h) keeps (tells tt) (on tt)
     leads (Err f) keeps tells on = tt
 
-    held : (a : Result Outcome StoreFault) → OnOk a (said ≡ before ++ reply_text (step h.machine c).reply) → OnOk a (said ≡ reply_text (step h.machine c).reply)
+    held : (a : Result Verdict StoreFault) → OnOk a (said ≡ before ++ reply_text (step h.machine c).reply) → OnOk a (said ≡ reply_text (step h.machine c).reply)
     held (Ok r) is = is ∙ ap (λ l. l ++ reply_text (step h.machine c).reply) none
     held (Err f) is = tt
 
 -- a command whose reply does not go by the records is done itself
-pub sent_itself : (c : Command) (answer : Result Outcome StoreFault) (before now : Session) (said : List ℕ) → goes_by_records c ≡ false → SendsCommand c answer before now said
+pub sent_itself : (c : Command) (answer : Result Verdict StoreFault) (before now : Session) (said : List ℕ) → goes_by_records c ≡ false → SendsCommand c answer before now said
     → (h : History) → KeepsTo before h → IsSent c h answer before now said
 sent_itself c answer before now said bare sends h keeps =
     let does = sends.each h keeps in
@@ -55,13 +55,13 @@ pub empty_went : (h : History) (body piece : List ℕ) (now : Session) (said : L
 empty_went h body piece now said empty stands writes = subst (λ p. PieceIsSent body p h (Ok outcome.Ok) now now said) (sym empty) (piece_none h body now said stands writes)
 
 -- another one
-pub piece_went : (h : History) (body piece : List ℕ) (answer : Result Outcome StoreFault) (before now : Session) (said : List ℕ) → piece ≢ []
+pub piece_went : (h : History) (body piece : List ℕ) (answer : Result Verdict StoreFault) (before now : Session) (said : List ℕ) → piece ≢ []
     → IsWriting h.machine body → IsSent (Append 0 piece) h answer before now said → PieceIsSent body piece h answer before now said
 piece_went h body [] answer before now said some writes sends = absurd (some refl)
 piece_went h body (x ∷ xs) answer before now said some writes sends = piece_sent h body x xs answer before now said writes sends
 
 -- one for which there is no room
-pub over_went : (h : History) (body piece : List ℕ) (room : ℕ) (r : Outcome) (before now : Session) (said : List ℕ) → piece ≢ [] → room < length piece
+pub over_went : (h : History) (body piece : List ℕ) (room : ℕ) (r : Verdict) (before now : Session) (said : List ℕ) → piece ≢ [] → room < length piece
     → room + length body ≡ BODY_MAX → IsWriting h.machine body → IsSent (Append 0 piece) h (Ok r) before now said → PieceIsSent body piece h (Ok outcome.Refused) before now said
 over_went h body piece room r before now said some long is writes sends =
     let refused = piece_over h body piece r before now said writes (omega (arith, long, is)) sends in

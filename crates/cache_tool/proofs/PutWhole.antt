@@ -6,8 +6,8 @@ use Rattle.cache_base.specs.declared.status.Status.TheVariants as status
 use Rattle.cache_store.specs.Answering.{outcome_of}
 use Rattle.cache_store.specs.Open.{KeepsTo}
 use Rattle.cache_store.specs.Session.{Session}
-use Rattle.cache_store.specs.declared.fault.Outcome.{Outcome}
-use Rattle.cache_store.specs.declared.fault.Outcome.TheVariants as outcome
+use Rattle.cache_store.specs.declared.fault.Verdict.{Verdict}
+use Rattle.cache_store.specs.declared.fault.Verdict.TheVariants as outcome
 use Rattle.cache_store.specs.declared.fault.StoreFault.{StoreFault}
 use Rattle.cache_store.specs.declared.fault.StoreFault.TheVariants as fault
 use Rattle.cache_theory.specs.Command.{Command}
@@ -95,7 +95,7 @@ module _ (h : History) (key : List ℕ) (from to : Supply) (start now : Session)
     last = λ answer. absurd (fault_is_none f answer);
   }
 
-  broken_went : (r : Outcome) → GivesPart from to body → AreSent (Create 0 key ∷ appends body) h (Ok r) start now said → PutIsPerformed key h from to status.Source start now said
+  broken_went : (r : Verdict) → GivesPart from to body → AreSent (Create 0 key ∷ appends body) h (Ok r) start now said → PutIsPerformed key h from to status.Source start now said
   broken_went r broken ran = record {
     commands = broken_commands h.machine key body;
     are_put = Broken body broken source_is_none refl;
@@ -153,7 +153,7 @@ created h key start now said sends =
 
 module _ (h : History) (key : List ℕ) (from to : Supply) (start made_at : Session) (made : Created key h start made_at) where
   -- what follows the making
-  after_made : (cs : List Command) (answer : Result Outcome StoreFault) (now : Session) (said : List ℕ)
+  after_made : (cs : List Command) (answer : Result Verdict StoreFault) (now : Session) (said : List ℕ)
       → AreSent cs (unanswered (Create 0 key) h) answer made_at now said → AreSent (Create 0 key ∷ cs) h answer start now said
   after_made cs answer now said ran = sent_then h (Create 0 key ∷ []) cs answer start made_at now said (made.done, tt) made.stands ran
 
@@ -206,7 +206,7 @@ module _ (h : History) (key : List ℕ) (from to : Supply) (start made_at : Sess
         subst (λ l. LeadTo l start h.machine now (all_unanswered l h)) (until_all h.machine (Create 0 key ∷ appends went.body) appended_done) appended.stands
 
     module _ (later : Session) (said : List ℕ) where
-      closed_ran : (r : Result Outcome StoreFault) → IsSent (Close 0) (all_unanswered (Create 0 key ∷ appends went.body) h) r now later said
+      closed_ran : (r : Result Verdict StoreFault) → IsSent (Close 0) (all_unanswered (Create 0 key ∷ appends went.body) h) r now later said
           → AreSent (Create 0 key ∷ (appends went.body ++ Close 0 ∷ [])) h r start later said
       closed_ran r sends =
           sent_then h (Create 0 key ∷ appends went.body) (Close 0 ∷ []) r start now later said appended_done appended_stands
@@ -216,13 +216,13 @@ module _ (h : History) (key : List ℕ) (from to : Supply) (start made_at : Sess
       close_failed f other sends =
           whole_failed h key from to start later said went.body f other went.body_of (closed_ran (Err f) (sent_itself (Close 0) (Err f) now later said refl sends _ appended_stands.keeps))
 
-      pub close_went : (r : Outcome) → SendsCommand (Close 0) (Ok r) now later said → PutIsPerformed key h from to (status_of r) start later said
+      pub close_went : (r : Verdict) → SendsCommand (Close 0) (Ok r) now later said → PutIsPerformed key h from to (status_of r) start later said
       close_went outcome.Refused sends = whole_refused h key from to start later said went.body went.body_of (closed_ran (Ok outcome.Refused) (sent_itself (Close 0) (Ok outcome.Refused) now later said refl sends _ appended_stands.keeps))
       close_went outcome.Ok sends =
           let sent = sent_itself (Close 0) (Ok outcome.Ok) now later said refl sends _ appended_stands.keeps in
           whole_done h key from to start later said went.body went.body_of (closed_ran (Ok outcome.Ok) sent) (sym sent.outcome) (sent.replied refl)
 
 -- an outcome that is no refusal
-pub other_outcome : (r : Outcome) → r ≢ outcome.Refused → r ≡ outcome.Ok
+pub other_outcome : (r : Verdict) → r ≢ outcome.Refused → r ≡ outcome.Ok
 other_outcome outcome.Ok other = refl
 other_outcome outcome.Refused other = absurd (other refl)

@@ -1,21 +1,24 @@
 -- What some commands say by the records in memory, and where these come to be right.
-use Rattle.std.proofs.Common.{◌≡◌, inl, inr, ℕ, List, [], ◌∷◌, ◌++◌, false, IsTrue, refl, sym, subst, ◌∙◌, append_assoc, true≢false}
+use Rattle.std.proofs.Common.{◌≡◌, inl, inr, ℕ, List, [], ◌∷◌, ◌++◌, false, true, IsTrue, refl, sym, subst, ◌∙◌, append_assoc, true≢false}
 use Rattle.std.specs.List.{list_any}
 use Rattle.std.proofs.lemmas.Bool.{or_cases, or_left, or_right}
 use Rattle.std.proofs.lemmas.List.Folds.{list_any-append}
+use Rattle.cache_store.specs.Faulting.{StaysAs}
 use Rattle.cache_store.specs.InUse.{HoldsBase}
 use Rattle.cache_store.specs.Open.{IsOpen, KeepsTo, Opens, StartsOn, Tells}
 use Rattle.cache_store.specs.Performing.{ComesToTell, MayTell, goes_by_records}
 use Rattle.cache_store.specs.Session.{Session}
+use Rattle.cache_store.proofs.Represented.{keeps_marked, keeps_to, represents}
 use Rattle.cache_theory.specs.Command.{Command}
 use Rattle.cache_theory.specs.Command.Command.{Rebuild}
 use Rattle.cache_theory.specs.History.{History}
 use Rattle.cache_theory.specs.Machine.{Machine}
 use Rattle.cache_theory.specs.Step.{after}
 use Rattle.cache_tool.specs.Right.{AreRight, ComesRight, LeadTo, MaySay, MaySayOn, has_rebuild, is_rebuild}
-use Rattle.cache_tool.specs.Staying.{IsInUse, StaysOverAll}
-use Rattle.cache_tool.proofs.StayingLaws.{StaysOnce, both_in_use, none_in_use, stays_split}
+use Rattle.cache_tool.specs.Staying.{IsInUse, StaysOnce, StaysOverAll}
+use Rattle.cache_tool.proofs.StayingLaws.{both_in_use, none_in_use, same_in_use, stays_split}
 use Rattle.disk_model.specs.State.{State}
+use Rattle.index_map.specs.Known.{SameBase}
 use Rattle.index_record.specs.declared.record.IndexRecord.{IndexRecord}
 use Rattle.index_theory.specs.Honest.{LeavesHonest}
 use Rattle.index_theory.proofs.UncleanLaws.{unclean_leaves_honest}
@@ -85,6 +88,17 @@ leads_on cs ds before m mid g now h same first second = record { keeps = second.
       | inl here ↦ second.tells (inl (first.tells (inr here)))
       | inr later ↦ second.tells (inr later)
     ]
+
+-- where all is as it was they lead to the same
+pub leads_still : (cs : List Command) (before : Session) (m : Machine) (mid now : Session) (h : History) → LeadTo cs before m mid h → StaysAs mid now → SameBase mid.open_store.index.map now.open_store.index.map
+    → LeadTo cs before m now h
+leads_still cs before m mid now h leads stays base = record {
+  keeps = keeps_to (stays.keeps true h (keeps_marked leads.keeps));
+  tells = λ right. stays.tells h.machine (represents leads.keeps) (leads.tells right);
+  in_use = λ records told holds over.
+      let here = leads.in_use records told holds over in
+      both_in_use records before mid now here (same_in_use records mid now base stays.disk here.base);
+}
 
 -- ---- after an opening
 

@@ -1,89 +1,121 @@
 -- What the store and the disk come to after the commands of a script.
-use Rattle.std.proofs.Common.{◌≡◌, ℕ, ◌+◌, List, [], ◌∷◌, ◌++◌, length, take, drop, Err, refl, sym, ap, subst, ◌∙◌, arith, length-append, length-take}
+use Rattle.std.proofs.Common.{◌≡◌, ℕ, ◌+◌, List, [], ◌∷◌, ◌++◌, length, take, drop, Err, refl, sym, ap, subst, ◌∙◌, arith, append-nil, length-append}
 use Rattle.std.specs.Prelude.{min}
 use Rattle.std.proofs.Math.Seq.{take-append-add, take-append_seam}
-use Rattle.std.proofs.lemmas.List.{drop_all, drop_at}
+use Rattle.std.proofs.lemmas.List.{drop_at, take_all}
 use Rattle.cache_base.specs.declared.status.Status.{Status}
 use Rattle.cache_store.specs.Session.{Session}
 use Rattle.cache_store.specs.declared.fault.StoreFault.{StoreFault}
 use Rattle.cache_store.specs.declared.fault.StoreFault.TheVariants as fault
 use Rattle.cache_theory.specs.Command.{Command}
 use Rattle.cache_theory.specs.Crash.{IsSafe}
-use Rattle.cache_theory.specs.History.{History, unanswered}
+use Rattle.cache_theory.specs.Faulted.{AreFaults, unfaulted, with_next}
+use Rattle.cache_theory.specs.History.{History, begun, settled_at, unanswered}
 use Rattle.cache_theory.specs.Machine.{Machine}
-use Rattle.cache_theory.specs.Marks.{Marks, all_acked, all_begun, begun}
+use Rattle.cache_theory.specs.Marks.{Marks, all_acked, all_begun, marks_of}
+use Rattle.cache_theory.specs.Session.{marks_between, marks_but}
 use Rattle.cache_theory.specs.Step.{after}
+use Rattle.cache_theory.proofs.FaultedOn.{faults_are_in_front}
 use Rattle.cache_tool.specs.Right.{LeadTo}
 use Rattle.cache_tool.specs.Script.{performed}
-use Rattle.cache_tool.specs.ScriptProgress.{LeavesScript, all_answered, history_from, marks_from}
+use Rattle.cache_tool.specs.ScriptProgress.{LeadsWithin, LeavesScript, all_answered}
 use Rattle.cache_tool.specs.Statuses.{IsClosing, status_in}
+use Rattle.cache_tool.specs.Verbs.{one_begun_after}
 use Rattle.cache_tool.proofs.Begun.{all_begin_keep}
+use Rattle.cache_tool.proofs.FaultedParts.{next_kept}
 use Rattle.cache_tool.proofs.ScriptTurns.{after_more}
 use Rattle.disk_model.specs.State.{State}
 
--- with the acknowledged commands, whatever may have begun
-pub more_begun : (s : State) (m : Machine) (w : Marks) (cs : List Command) (a b : ℕ) → IsSafe s (all_acked m (take a cs) w) → IsSafe s (marks_from m w cs a b)
-more_begun s m w cs a b safe = all_begin_keep s (after m (take a cs)) (drop a (take b cs)) (all_acked m (take a cs) w) safe
+-- of these commands the first are acknowledged, and the others have begun
+between_joined : (m : Machine) (ds xs : List Command) → marks_between m (ds ++ xs) (length ds) (length (ds ++ xs)) ≡ all_begun (after m ds) xs (all_acked m ds (marks_of m))
+between_joined m ds xs =
+    ap (λ l. all_begun (after m l) (drop (length ds) (take (length (ds ++ xs)) (ds ++ xs))) (all_acked m l (marks_of m))) (take-append_seam ds xs)
+    ∙ ap (λ l. all_begun (after m ds) l (all_acked m ds (marks_of m))) (ap (drop (length ds)) (take_all (length (ds ++ xs)) (ds ++ xs) (omega arith)) ∙ drop_at ds xs (length ds) refl)
 
--- none has begun but those that are acknowledged
-pub none_begun : (m : Machine) (w : Marks) (cs : List Command) (a : ℕ) → marks_from m w cs a a ≡ all_acked m (take a cs) w
-none_begun m w cs a = ap (λ ds. all_begun (after m (take a cs)) ds (all_acked m (take a cs) w)) (nothing a cs)
-  where
-    nothing : (n : ℕ) (xs : List Command) → drop n (take n xs) ≡ []
-    nothing n xs = drop_all n (take n xs) (omega (arith, length-take n xs))
+module _ (m : Machine) (ds more : List Command) (faults : List ℕ) (numbers : AreFaults (length ds) faults) where
+  -- those of the first that are kept
+  abbrev pub kept : List Command
+  kept = unfaulted faults ds
+
+  -- the first are acknowledged, and these behind them have begun
+  marks_at : (b : ℕ) (xs : List Command) → take b (ds ++ more) ≡ ds ++ xs → marks_but m (ds ++ more) faults (length ds) b ≡ all_begun (after m kept) xs (all_acked m kept (marks_of m))
+  marks_at b xs is =
+      ap (λ l. marks_between m l (length (unfaulted faults (take (length ds) (ds ++ more)))) (length l)) (ap (unfaulted faults) is ∙ (faults_are_in_front m ds xs faults numbers).kept)
+      ∙ ap (λ l. marks_between m (kept ++ xs) (length (unfaulted faults l)) (length (kept ++ xs))) (take-append_seam ds more) ∙ between_joined m kept xs
+
+  -- where they are acknowledged, and the marks allow no less
+  pub all_within : (b : ℕ) (xs : List Command) → take b (ds ++ more) ≡ ds ++ xs → (s : State) → IsSafe s (all_acked m kept (marks_of m)) → IsSafe s (marks_but m (ds ++ more) faults (length ds) b)
+  all_within b xs is s safe = subst (IsSafe s) (sym (marks_at b xs is)) (all_begin_keep s (after m kept) xs (all_acked m kept (marks_of m)) safe)
+
+-- one more may have begun, if there is one
+pub begun_next : (ds more : List Command) → take (min (length ds + 1) (length (ds ++ more))) (ds ++ more) ≡ ds ++ take 1 more
+begun_next ds [] =
+    ap (λ n. take n (ds ++ [])) (let joined = length-append ds [] in omega (arith, joined)) ∙ take-append_seam ds [] ∙ sym (append-nil ds)
+begun_next ds (c ∷ more) =
+    ap (λ n. take n (ds ++ c ∷ more)) (let joined = length-append ds (c ∷ more) in omega (arith, joined)) ∙ take-append-add ds (c ∷ more) 1
+
+-- they lead to a history that goes no further than these marks
+within : (m : Machine) (done : List Command) (w : Marks) (before now : Session) (h : History) → LeadTo done before m now h → h.machine ≡ after m done → ((s : State) → IsSafe s h.marks → IsSafe s w)
+    → LeadsWithin (record { done = done; marks = w }) m before now
+within m done w before now h leads same allows = record { history = h; leads = leads; machine = same; within = allows }
 
 -- the commands were performed, and no more
-pub keeps_front : (h : History) (ds more : List Command) (ended : Status) (before now : Session) → LeadTo ds before h.machine now (all_answered ds h)
-    → performed ended (length ds) (length (ds ++ more)) ≡ length ds → LeavesScript h (ds ++ more) ended (length ds) before now
-keeps_front h ds more ended before now leads same =
-    let m : Machine = h.machine in
-    let w : Marks = h.marks in
+pub keeps_front : (m : Machine) (ds more : List Command) (faults : List ℕ) (ended : Status) (before now : Session) → AreFaults (length ds) faults
+    → LeadTo (unfaulted faults ds) before m now (all_answered (unfaulted faults ds) (settled_at m))
+    → performed ended (length ds) (length (ds ++ more)) ≡ length ds → LeavesScript m (one_begun_after m (length ds) faults faults ended (ds ++ more)) ended before now
+keeps_front m ds more faults ended before now numbers leads same =
+    let kept : List Command = unfaulted faults ds in
     let cs : List Command = ds ++ more in
-    let a : ℕ = length ds in
-    let seam : take a cs ≡ ds = take-append_seam ds more in
+    let marks : Marks = marks_but m cs faults (length ds) (min (length ds + 1) (length cs)) in
+    let allows = all_within m ds more faults numbers (min (length ds + 1) (length cs)) (take 1 more) (begun_next ds more) in
     record {
-      safe = more_begun now.disk m w cs a (min (a + 1) (length cs)) (subst (λ l. IsSafe now.disk (all_acked m l w)) (sym seam) leads.keeps.stands.crash_kept.safe);
+      safe = allows now.disk leads.keeps.stands.crash_kept.safe;
       stands = λ closing.
-          subst (λ n. LeadTo (take n cs) before m now (history_from h cs a n)) (sym same)
-          (subst (λ x. LeadTo (take a cs) before m now (record { machine = after m (take a cs); marks = x })) (sym (none_begun m w cs a))
-          (subst (λ l. LeadTo l before m now (all_answered l h)) (sym seam) leads));
+          subst (λ l. LeadsWithin (record { done = unfaulted faults l; marks = marks }) m before now) (sym (ap (λ n. take n cs) same ∙ take-append_seam ds more))
+          (within m kept marks before now (all_answered kept (settled_at m)) leads refl allows);
     }
 
 -- one more was begun
-module _ (h : History) (ds more : List Command) (c : Command) where
-  seam : take (length ds) (ds ++ c ∷ more) ≡ ds
-  seam = take-append_seam ds (c ∷ more)
+module _ (m : Machine) (ds more : List Command) (c : Command) (faults : List ℕ) (numbers : AreFaults (length ds) faults) where
+  abbrev first : List Command
+  first = unfaulted faults ds
 
-  seam_next : take (length ds + 1) (ds ++ c ∷ more) ≡ ds ++ c ∷ []
-  seam_next = take-append-add ds (c ∷ more) 1
+  abbrev all : List Command
+  all = ds ++ c ∷ more
 
-  one_more : min (length ds + 1) (length (ds ++ c ∷ more)) ≡ length ds + 1
-  one_more = let joined = length-append ds (c ∷ more) in omega (arith, joined)
+  -- the marks where it has begun
+  abbrev marks : Marks
+  marks = marks_but m all faults (length ds) (min (length ds + 1) (length all))
 
-  -- the marks are those where it has begun
-  marks_next : marks_from h.machine h.marks (ds ++ c ∷ more) (length ds) (length ds + 1) ≡ begun (after h.machine ds) c (all_acked h.machine ds h.marks)
-  marks_next =
-      ap (λ l. all_begun (after h.machine l) (drop (length ds) (take (length ds + 1) (ds ++ c ∷ more))) (all_acked h.machine l h.marks)) seam
-      ∙ ap (λ l. all_begun (after h.machine ds) l (all_acked h.machine ds h.marks)) (ap (drop (length ds)) seam_next ∙ drop_at ds (c ∷ []) (length ds) refl)
+  marks_next : marks ≡ all_begun (after m first) (c ∷ []) (all_acked m first (marks_of m))
+  marks_next = marks_at m ds (c ∷ more) faults numbers (min (length ds + 1) (length all)) (c ∷ []) (begun_next ds (c ∷ more))
 
-  -- so many were performed
-  abbrev pub Led : Session → Session → ℕ → Type 0
-  Led before now n = LeadTo (take n (ds ++ c ∷ more)) before h.machine now (history_from h (ds ++ c ∷ more) (length ds) n)
-
-  pub keeps_cut : (f : StoreFault) (before now : Session) → IsSafe now.disk (begun (after h.machine ds) c (all_acked h.machine ds h.marks))
-      → (f ≡ fault.Sink → LeadTo (ds ++ c ∷ []) before h.machine now (unanswered c (all_answered ds h))) → LeavesScript h (ds ++ c ∷ more) (status_in (Err f)) (length ds) before now
-  keeps_cut f before now safe effect = record {
-    safe = subst (λ n. IsSafe now.disk (marks_from h.machine h.marks (ds ++ c ∷ more) (length ds) n)) (sym one_more) (subst (λ x. IsSafe now.disk x) (sym marks_next) safe);
-    stands = closed f effect;
-  }
+  pub keeps_cut : (f : StoreFault) (before now : Session) → IsSafe now.disk (begun c (all_answered (unfaulted faults ds) (settled_at m))).marks
+      → (f ≡ fault.Sink → LeadTo (unfaulted faults ds ++ c ∷ []) before m now (unanswered c (all_answered (unfaulted faults ds) (settled_at m))))
+      → LeavesScript m (one_begun_after m (length ds) faults faults (status_in (Err f)) (ds ++ c ∷ more)) (status_in (Err f)) before now
+  keeps_cut f before now safe effect = record { safe = subst (IsSafe now.disk) (sym marks_next) safe; stands = closed f effect }
     where
-      closed : (f : StoreFault) → (f ≡ fault.Sink → LeadTo (ds ++ c ∷ []) before h.machine now (unanswered c (all_answered ds h))) → IsClosing (status_in (Err f))
-          → Led before now (performed (status_in (Err f)) (length ds) (length (ds ++ c ∷ more)))
+      closed : (f : StoreFault) → (f ≡ fault.Sink → LeadTo (first ++ c ∷ []) before m now (unanswered c (all_answered first (settled_at m)))) → IsClosing (status_in (Err f))
+          → LeadsWithin (one_begun_after m (length ds) faults faults (status_in (Err f)) all) m before now
       closed fault.Memory has closing = absurd closing
       closed fault.Disk has closing = absurd closing
       closed fault.Sink has closing =
-          subst (Led before now) (sym one_more)
-          (subst (λ x. LeadTo (take (length ds + 1) (ds ++ c ∷ more)) before h.machine now (record { machine = after h.machine (take (length ds + 1) (ds ++ c ∷ more)); marks = x })) (sym marks_next)
-          (subst (λ l. LeadTo l before h.machine now (record { machine = after h.machine l; marks = begun (after h.machine ds) c (all_acked h.machine ds h.marks) })) (sym seam_next)
-          (subst (λ x. LeadTo (ds ++ c ∷ []) before h.machine now (record { machine = x; marks = begun (after h.machine ds) c (all_acked h.machine ds h.marks) })) (sym (after_more h.machine ds c))
-          (has refl))))
+          subst (λ l. LeadsWithin (record { done = l; marks = marks }) m before now)
+          (sym (ap (unfaulted faults) (begun_next ds (c ∷ more)) ∙ (faults_are_in_front m ds (c ∷ []) faults numbers).kept))
+          (within m (first ++ c ∷ []) marks before now (unanswered c (all_answered first (settled_at m))) (has refl) (sym (after_more m first c)) (λ s safe. subst (IsSafe s) (sym marks_next) safe))
+
+  -- and answered `fault`: so it was not performed
+  pub keeps_fault_cut : (f : StoreFault) (before now : Session) → LeadTo (unfaulted faults ds) before m now (all_answered (unfaulted faults ds) (settled_at m))
+      → LeavesScript m (one_begun_after m (length ds) faults (with_next (length ds) faults) (status_in (Err f)) (ds ++ c ∷ more)) (status_in (Err f)) before now
+  keeps_fault_cut f before now leads = record { safe = allows now.disk leads.keeps.stands.crash_kept.safe; stands = closed f }
+    where
+      allows : (s : State) → IsSafe s (all_acked m first (marks_of m)) → IsSafe s marks
+      allows s safe = subst (IsSafe s) (sym marks_next) (all_begin_keep s (after m first) (c ∷ []) (all_acked m first (marks_of m)) safe)
+
+      closed : (f : StoreFault) → IsClosing (status_in (Err f)) → LeadsWithin (one_begun_after m (length ds) faults (with_next (length ds) faults) (status_in (Err f)) all) m before now
+      closed fault.Memory closing = absurd closing
+      closed fault.Disk closing = absurd closing
+      closed fault.Sink closing =
+          subst (λ l. LeadsWithin (record { done = l; marks = marks }) m before now)
+          (sym (ap (unfaulted (with_next (length ds) faults)) (begun_next ds (c ∷ more)) ∙ next_kept ds c faults numbers m [] ∙ append-nil first))
+          (within m first marks before now (all_answered first (settled_at m)) leads refl allows)

@@ -1,111 +1,141 @@
 -- What goes out of a script, and how far that tells.
-use Rattle.std.proofs.Common.{◌≡◌, ◌≢◌, ◌⊎◌, inl, inr, ⊎_elim, ℕ, ◌+◌, List, [], ◌∷◌, ◌++◌, length, take, drop, sym, ap, subst, ◌∙◌, append_assoc, append-nil, take-append-drop}
+use Rattle.std.proofs.Common.{◌≡◌, ◌≢◌, ◌⊎◌, inl, inr, ⊎_elim, ℕ, ◌+◌, ◌<◌, List, [], ◌∷◌, ◌++◌, length, take, drop, sym, ap, subst, ◌∙◌, append_assoc, append-nil, take-append-drop}
 use Rattle.std.specs.Io.KnownBytes.{Appends}
 use Rattle.std.proofs.Math.Seq.{take-append_seam}
 use Rattle.std.proofs.lemmas.List.{nil_from_length}
 use Rattle.cache_base.specs.declared.status.Status.{Status}
 use Rattle.cache_base.specs.declared.status.Status.TheVariants as status
 use Rattle.cache_theory.specs.Command.{Command}
+use Rattle.cache_theory.specs.Faulted.{AreFaults, fault_line, replies_but, unfaulted, with_next}
 use Rattle.cache_theory.specs.Machine.{Machine}
-use Rattle.cache_theory.specs.Session.{BeginsWith, IsAcked}
+use Rattle.cache_theory.specs.Session.{BeginsWith}
 use Rattle.cache_theory.specs.Step.{after, step}
 use Rattle.cache_theory.specs.Text.{ScriptSpells, replies_text, reply_text}
-use Rattle.cache_theory.proofs.Acked.{cut_is_acked, whole_is_acked}
-use Rattle.cache_theory.proofs.RepliesLong.{replies_are_not_empty}
+use Rattle.cache_theory.proofs.FaultedCuts.{cut_is_told, fault_cut_is_told, front_is_told, whole_is_told}
+use Rattle.cache_theory.proofs.FaultedOn.{faults_are_in_front}
 use Rattle.cache_tool.specs.Right.{MaySay}
 use Rattle.cache_tool.specs.Script.{AreTaken, bad_line}
 use Rattle.cache_tool.specs.ScriptProgress.{IsCutIn, TellsAcked}
 use Rattle.cache_tool.specs.World.{Progress}
+use Rattle.cache_tool.proofs.FaultedParts.{next_kept, next_replies}
 use Rattle.cache_tool.proofs.RightLaws.{may_say_first, may_say_next}
-use Rattle.cache_tool.proofs.ScriptTurns.{replies_text_joined}
-
--- ---- how many commands are acknowledged
-
--- replies that went out whole, and nothing more
-pub front_acked : (m : Machine) (ds more : List Command) → IsAcked m (ds ++ more) (replies_text m ds) (length ds)
-front_acked m ds [] =
-    subst (λ cs. IsAcked m cs (replies_text m ds) (length ds)) (sym (append-nil ds)) (subst (λ out. IsAcked m ds out (length ds)) (append-nil (replies_text m ds)) (whole_is_acked m ds []))
-front_acked m ds (c ∷ more) =
-    subst (λ out. IsAcked m (ds ++ c ∷ more) out (length ds)) (append-nil (replies_text m ds)) (cut_is_acked m ds more c 0 (replies_are_not_empty (step (after m ds) c).reply))
 
 pub begins_more : (text more out : List ℕ) → BeginsWith text out → BeginsWith (text ++ more) out
 begins_more text more out b = (b.0 ++ more, ap (λ l. l ++ more) b.1 ∙ append_assoc out b.0 more)
 
--- of the commands `cs ++ rest` what was done are `ds ++ more`, of which the first went out
+-- a front of a part, behind what went before
+begins_cut : (text first part rest : List ℕ) (n : ℕ) → text ≡ first ++ (part ++ rest) → BeginsWith text (first ++ take n part)
+begins_cut text first part rest n is = (
+  drop n part ++ rest,
+  is ∙ ap (λ l. first ++ (l ++ rest)) (sym (take-append-drop n part)) ∙ ap (λ l. first ++ l) (append_assoc (take n part) (drop n part) rest)
+      ∙ sym (append_assoc first (take n part) (drop n part ++ rest)),
+)
+
+-- of the commands `cs ++ rest` what was done are `ds ++ more`, of which the first are answered
 module _ (m : Machine) (bytes : List ℕ) (before now : Progress) where
-  -- the replies to the first commands
-  pub tells_front : (cs rest ds more : List Command) (ended : Status) → length cs ≡ length ds → length rest ≡ length more → (MaySay ds before.session m → Appends before.taken now.taken (replies_text m ds))
+  -- the answers to the first commands
+  pub tells_front : (cs rest ds more : List Command) (faults : List ℕ) (ended : Status) → length ds ≡ length cs → length rest ≡ length more → AreFaults (length ds) faults
+      → (MaySay (unfaulted faults ds) before.session m → Appends before.taken now.taken (replies_but m ds faults))
       → (ended ≡ status.Done → rest ≡ []) → ended ≢ status.Script → (ended ≡ status.Source → AreTaken before.source.left now.source.left cs)
-      → TellsAcked m bytes (cs ++ rest) (ds ++ more) ended before now (length ds)
-  tells_front cs rest ds more ended same others out all unnamed taken =
-      let begins : BeginsWith (replies_text m (ds ++ more)) (replies_text m ds) = (replies_text (after m ds) more, replies_text_joined m ds more) in
+      → TellsAcked m bytes (cs ++ rest) (ds ++ more) ended (length ds) faults faults before now
+  tells_front cs rest ds more faults ended same others numbers out all unnamed taken =
+      let goes = faults_are_in_front m ds more faults numbers in
+      let begins : BeginsWith (replies_but m (ds ++ more) faults) (replies_but m ds faults) = (replies_text (after m (unfaulted faults ds)) more, goes.replies) in
       record {
         all = all_acked;
         replies = λ may. record {
-          out = replies_text m ds;
-          printed = out (may_say_first ds more before.session m may);
-          is_acked = front_acked m ds more;
-          front = begins_more (replies_text m (ds ++ more)) (bad_line (length (cs ++ rest) + 1)) (replies_text m ds) begins;
+          out = replies_but m ds faults;
+          printed = out (may_say_first (unfaulted faults ds) more before.session m (subst (λ l. MaySay l before.session m) goes.kept may));
+          told = front_is_told m ds more faults numbers;
+          front = begins_more (replies_but m (ds ++ more) faults) (bad_line (length (cs ++ rest) + 1)) (replies_but m ds faults) begins;
           no_line = λ whole. begins;
-          all = λ e. ap (λ l. replies_text m l) (sym (ap (λ l. ds ++ l) (none_done (all e)) ∙ append-nil ds));
+          all = λ e. ap (λ l. replies_but m l faults) (sym (ap (λ l. ds ++ l) (none_done (all e)) ∙ append-nil ds));
           script = λ e. absurd (unnamed e);
-          source = λ e. ap (λ l. replies_text m l) (sym (take-append_seam ds more));
+          source = λ e. ap (λ l. replies_but m l faults) (sym (take-append_seam ds more));
         };
         source = λ e. subst (λ l. AreTaken before.source.left now.source.left l) (sym seam) (taken e);
       }
     where
       seam : take (length ds) (cs ++ rest) ≡ cs
-      seam = ap (λ n. take n (cs ++ rest)) (sym same) ∙ take-append_seam cs rest
+      seam = ap (λ n. take n (cs ++ rest)) same ∙ take-append_seam cs rest
 
       none_done : rest ≡ [] → more ≡ []
       none_done none = nil_from_length more (sym others ∙ ap length none)
 
       all_acked : (ended ≡ status.Done) ⊎ (ended ≡ status.Script) → length ds ≡ length (cs ++ rest)
-      all_acked (inl done) = sym same ∙ ap length (sym (ap (λ l. cs ++ l) (all done) ∙ append-nil cs))
+      all_acked (inl done) = same ∙ ap length (sym (ap (λ l. cs ++ l) (all done) ∙ append-nil cs))
       all_acked (inr script) = absurd (unnamed script)
 
-  -- the replies to all commands went out, and of the line that names a bad one so many bytes
-  pub tells_line : (cs ds : List Command) (n : ℕ) (ended : Status) → length cs ≡ length ds
-      → (MaySay ds before.session m → Appends before.taken now.taken (replies_text m ds ++ take n (bad_line (length cs + 1)))) → (ended ≡ status.Script → take n (bad_line (length cs + 1)) ≡ bad_line (length cs + 1))
-      → ended ≢ status.Done → ended ≢ status.Source → ¬ (ScriptSpells bytes cs) → TellsAcked m bytes cs ds ended before now (length ds)
-  tells_line cs ds n ended same out all undone unfailed unspelled =
+  -- the answers to all commands went out, and of the line that names a bad one so many bytes
+  pub tells_line : (cs ds : List Command) (faults : List ℕ) (n : ℕ) (ended : Status) → length ds ≡ length cs → AreFaults (length ds) faults
+      → (MaySay (unfaulted faults ds) before.session m → Appends before.taken now.taken (replies_but m ds faults ++ take n (bad_line (length cs + 1))))
+      → (ended ≡ status.Script → take n (bad_line (length cs + 1)) ≡ bad_line (length cs + 1))
+      → ended ≢ status.Done → ended ≢ status.Source → ¬ (ScriptSpells bytes cs) → TellsAcked m bytes cs ds ended (length ds) faults faults before now
+  tells_line cs ds faults n ended same numbers out all undone unfailed unspelled =
       let text : List ℕ = bad_line (length cs + 1) in
       record {
-        all = λ e. sym same;
+        all = λ e. same;
         replies = λ may. record {
-          out = replies_text m ds ++ take n text;
+          out = replies_but m ds faults ++ take n text;
           printed = out may;
-          is_acked = whole_is_acked m ds (take n text);
-          front = (drop n text, ap (λ l. replies_text m ds ++ l) (sym (take-append-drop n text)) ∙ sym (append_assoc (replies_text m ds) (take n text) (drop n text)));
+          told = whole_is_told m ds faults (take n text) numbers;
+          front = (drop n text, ap (λ l. replies_but m ds faults ++ l) (sym (take-append-drop n text)) ∙ sym (append_assoc (replies_but m ds faults) (take n text) (drop n text)));
           no_line = λ whole. absurd (unspelled whole);
           all = λ e. absurd (undone e);
-          script = λ e. ap (λ l. replies_text m ds ++ l) (all e);
+          script = λ e. ap (λ l. replies_but m ds faults ++ l) (all e);
           source = λ e. absurd (unfailed e);
         };
         source = λ e. absurd (unfailed e);
       }
 
   -- of the reply to the next command a part
-  pub tells_cut : (cs ds more : List Command) (d : Command) (ended : Status) → (MaySay (ds ++ d ∷ []) before.session m → IsCutIn ds d m before now)
-      → ended ≢ status.Done → ended ≢ status.Script → ended ≢ status.Source → TellsAcked m bytes cs (ds ++ d ∷ more) ended before now (length ds)
-  tells_cut cs ds more d ended cut_in undone unnamed unfailed =
-      let text : List ℕ = reply_text (step (after m ds) d).reply in
-      let rest : List ℕ = replies_text (step (after m ds) d).next more in
+  pub tells_cut : (cs ds more : List Command) (d : Command) (faults : List ℕ) (ended : Status) → AreFaults (length ds) faults
+      → (MaySay (unfaulted faults ds ++ d ∷ []) before.session m → IsCutIn ds faults d m before now)
+      → ended ≢ status.Done → ended ≢ status.Script → ended ≢ status.Source → TellsAcked m bytes cs (ds ++ d ∷ more) ended (length ds) faults faults before now
+  tells_cut cs ds more d faults ended numbers cut_in undone unnamed unfailed =
+      let mid : Machine = after m (unfaulted faults ds) in
+      let text : List ℕ = reply_text (step mid d).reply in
+      let goes = faults_are_in_front m ds (d ∷ more) faults numbers in
       record {
         all = λ e. absurd (⊎_elim undone unnamed e);
         replies = λ may.
-            let is : IsCutIn ds d m before now = cut_in (may_say_next ds d more before.session m may) in
+            let is : IsCutIn ds faults d m before now = cut_in (may_say_next (unfaulted faults ds) d more before.session m (subst (λ l. MaySay l before.session m) goes.kept may)) in
             let n : ℕ = is.cut in
-            let begins : BeginsWith (replies_text m (ds ++ d ∷ more)) (replies_text m ds ++ take n text) = (
-              drop n text ++ rest,
-              replies_text_joined m ds (d ∷ more) ∙ ap (λ l. replies_text m ds ++ (l ++ rest)) (sym (take-append-drop n text))
-                  ∙ ap (λ l. replies_text m ds ++ l) (append_assoc (take n text) (drop n text) rest) ∙ sym (append_assoc (replies_text m ds) (take n text) (drop n text ++ rest)),
-            ) in
+            let begins : BeginsWith (replies_but m (ds ++ d ∷ more) faults) (replies_but m ds faults ++ take n text) =
+            begins_cut (replies_but m (ds ++ d ∷ more) faults) (replies_but m ds faults) text (replies_text (step mid d).next more) n goes.replies in
             record {
-              out = replies_text m ds ++ take n text;
+              out = replies_but m ds faults ++ take n text;
               printed = is.out;
-              is_acked = cut_is_acked m ds more d n is.short;
-              front = begins_more (replies_text m (ds ++ d ∷ more)) (bad_line (length cs + 1)) (replies_text m ds ++ take n text) begins;
+              told = cut_is_told m ds more d faults n numbers is.short;
+              front = begins_more (replies_but m (ds ++ d ∷ more) faults) (bad_line (length cs + 1)) (replies_but m ds faults ++ take n text) begins;
+              no_line = λ whole. begins;
+              all = λ e. absurd (undone e);
+              script = λ e. absurd (unnamed e);
+              source = λ e. absurd (unfailed e);
+            };
+        source = λ e. absurd (unfailed e);
+      }
+
+  -- of the line with which the next command was to be answered a part
+  pub tells_fault_cut : (cs ds more : List Command) (d : Command) (faults : List ℕ) (ended : Status) → AreFaults (length ds) faults
+      → (MaySay (unfaulted faults ds) before.session m → (n : ℕ) × ((n < length fault_line) × Appends before.taken now.taken (replies_but m ds faults ++ take n fault_line)))
+      → ended ≢ status.Done → ended ≢ status.Script → ended ≢ status.Source
+      → TellsAcked m bytes cs (ds ++ d ∷ more) ended (length ds) faults (with_next (length ds) faults) before now
+  tells_fault_cut cs ds more d faults ended numbers cut_in undone unnamed unfailed =
+      let last : List ℕ = with_next (length ds) faults in
+      let text : List ℕ = replies_but m (ds ++ d ∷ more) last in
+      record {
+        all = λ e. absurd (⊎_elim undone unnamed e);
+        replies = λ may.
+            let is = cut_in (may_say_first (unfaulted faults ds) more before.session m (subst (λ l. MaySay l before.session m) (next_kept ds d faults numbers m more) may)) in
+            let n : ℕ = is.0 in
+            let begins : BeginsWith text (replies_but m ds faults ++ take n fault_line) =
+            begins_cut text (replies_but m ds faults) fault_line (replies_text (after m (unfaulted faults ds)) more) n (next_replies ds d faults numbers m more) in
+            record {
+              out = replies_but m ds faults ++ take n fault_line;
+              printed = is.1.1;
+              told = fault_cut_is_told m ds more d faults n numbers is.1.0;
+              front = begins_more text (bad_line (length cs + 1)) (replies_but m ds faults ++ take n fault_line) begins;
               no_line = λ whole. begins;
               all = λ e. absurd (undone e);
               script = λ e. absurd (unnamed e);

@@ -1,5 +1,5 @@
 -- What is performed of a script, turn by turn.
-use Rattle.std.proofs.Common.{◌≡◌, ◌⊎◌, inl, inr, ℕ, ◌+◌, List, [], ◌∷◌, ◌++◌, take, Option, None, Some, Result, Ok, Err, IsErrAnd, refl, sym, ap, subst, ◌∙◌, arith, append_assoc, append-nil, length-append}
+use Rattle.std.proofs.Common.{◌≡◌, ◌⊎◌, inl, inr, ℕ, suc, ◌+◌, ◌<◌, ◌≤◌, List, [], ◌∷◌, ◌++◌, length, take, Option, None, Some, Result, Ok, Err, IsErrAnd, refl, sym, ap, subst, ◌∙◌, arith, append-nil, length-append}
 use Rattle.std.specs.Io.KnownBytes.{Appends}
 use Rattle.std.specs.Prelude.{Bool, IsTrue}
 use Rattle.std.proofs.KnownBytes.{Appends-nil, Appends-trans}
@@ -8,29 +8,39 @@ use Rattle.cache_script.specs.Reader.{BreaksOff, Ends, Gives, IsBadScript, Leave
 use Rattle.cache_script.specs.declared.command.Command.{Command as Given}
 use Rattle.cache_script.specs.declared.reader.Reader.{Reader}
 use Rattle.cache_script.specs.declared.reader.ScriptFault.{ScriptFault}
+use Rattle.cache_base.specs.Causes.{Rose}
 use Rattle.cache_store.specs.DoneFor.{IsDoneFor}
+use Rattle.cache_store.specs.Faulting.{StaysAs}
 use Rattle.cache_store.specs.Open.{KeepsTo, Tells}
 use Rattle.cache_store.specs.Performing.{ComesToTell, MayTell, PerformsAndKeeps, PerformsFor}
-use Rattle.cache_store.specs.declared.fault.Outcome.{Outcome}
+use Rattle.cache_store.specs.Said.{IsCut}
+use Rattle.cache_store.specs.declared.fault.Verdict.{Verdict}
 use Rattle.cache_store.specs.declared.fault.StoreFault.{StoreFault}
 use Rattle.cache_store.specs.declared.fault.StoreFault.TheVariants as fault
 use Rattle.cache_store.proofs.Represented.{represents}
 use Rattle.cache_theory.specs.Command.{Command}
+use Rattle.cache_theory.specs.Faulted.{AreFaults, fault_line, replies_but, unfaulted, with_next}
 use Rattle.cache_theory.specs.History.{History, acked, unanswered}
 use Rattle.cache_theory.specs.Machine.{Machine}
 use Rattle.cache_theory.specs.Step.{after, step}
-use Rattle.cache_theory.specs.Text.{replies_text, reply_text}
-use Rattle.cache_tool.specs.DoneFor.{AreDoneFor}
+use Rattle.cache_theory.specs.Text.{reply_text, script_bytes}
+use Rattle.cache_theory.proofs.FaultedOn.{faults_are_in_front, faults_are_within, next_may_fault}
 use Rattle.cache_tool.specs.Right.{LeadTo, MaySay, has_rebuild}
-use Rattle.cache_tool.specs.ScriptProgress.{ArePerformed, EndsScript, FailsAfter, HasPerformed, IsCutOff, PerformsAll, PerformsNext, all_answered}
-use Rattle.cache_tool.specs.World.{Progress, Supply}
+use Rattle.cache_tool.specs.ScriptProgress.{AreRead, ArePerformed, DoneForKept, EndsScript, FailsAfter, FailsInLine, FaultsAfter, HasPerformed, IsCutOff, PerformsAll, PerformsNext, all_answered}
+use Rattle.cache_tool.specs.Staying.{StaysFor, StaysOnce}
+use Rattle.cache_tool.specs.Tally.{RoseBy}
+use Rattle.cache_tool.specs.World.{Progress, Sitting, Supply, sitting_of}
 use Rattle.cache_tool.specs.declared.script.Ended.{Ended}
 use Rattle.cache_tool.specs.declared.script.Ended.TheVariants as ended
-use Rattle.cache_tool.proofs.DoneLaws.{done_more, done_rebuild, done_right, done_where}
+use Rattle.cache_tool.proofs.Answering.{AnswersByFault, AnswersByReply, AnswersNext}
+use Rattle.cache_tool.proofs.DoneKept.{done_kept_but, done_kept_on}
+use Rattle.cache_tool.proofs.DoneLaws.{done_rebuild, done_right, done_where}
+use Rattle.cache_tool.proofs.FaultedParts.{next_numbers, one_longer}
 use Rattle.cache_tool.proofs.Moments.{with_source}
-use Rattle.cache_tool.proofs.RightLaws.{leads_none, leads_on, leads_one, may_say_first, may_tell_last}
-use Rattle.cache_tool.proofs.StayingLaws.{StaysFor, StaysOnce, stays_done}
+use Rattle.cache_tool.proofs.RightLaws.{leads_none, leads_on, leads_one, leads_still, may_say_first, may_tell_last}
+use Rattle.cache_tool.proofs.StayingLaws.{stays_done}
 use Rattle.cache_tool.proofs.ScriptBytes.{more_length, nothing_read, read_bad, read_front, read_on, read_taken, read_whole}
+use Rattle.index_map.specs.Known.{SameBase}
 
 -- the machine after some commands and one more
 pub after_more : (m : Machine) (cs : List Command) (c : Command) → after m (cs ++ c ∷ []) ≡ (step (after m cs) c).next
@@ -42,106 +52,164 @@ answered_more : (cs : List Command) (c : Command) (h : History) → all_answered
 answered_more [] c h = refl
 answered_more (d ∷ cs) c h = answered_more cs c (acked d h)
 
--- the replies to some commands and to more
-pub replies_text_joined : (m : Machine) (cs ds : List Command) → replies_text m (cs ++ ds) ≡ replies_text m cs ++ replies_text (after m cs) ds
-replies_text_joined m [] ds = refl
-replies_text_joined m (c ∷ cs) ds =
-    ap (λ text. reply_text (step m c).reply ++ text) (replies_text_joined (step m c).next cs ds)
-    ∙ sym (append_assoc (reply_text (step m c).reply) (replies_text (step m c).next cs) (replies_text (after (step m c).next cs) ds))
-
-replies_text_more : (m : Machine) (cs : List Command) (c : Command) → replies_text m (cs ++ c ∷ []) ≡ replies_text m cs ++ reply_text (step (after m cs) c).reply
-replies_text_more m cs c = replies_text_joined m cs (c ∷ []) ∙ ap (λ l. replies_text m cs ++ l) (append-nil (reply_text (step (after m cs) c).reply))
-
 module _ (before : Progress) where
   -- nothing was performed
-  none_performed : PerformsAll [] before before
+  none_performed : PerformsAll [] [] before before
   none_performed = record {
-    each = λ h keeps. record { done = []; are_done = tt; performed = record { stands = leads_none before.session h keeps; out = λ may. Appends-nil before.taken } };
+    each = λ h keeps. record {
+      done = [];
+      is_done = record { as_many = refl; are_done = tt };
+      performed = record { stands = leads_none before.session h keeps; out = λ may. Appends-nil before.taken };
+    };
   }
 
   -- for a history: this was done so far, and then one thing more
-  module _ (mid now : Progress) (ds : List Command) (d : Command) (h : History) (so_far : ArePerformed ds h before mid) where
+  module _ (mid now : Progress) (ds : List Command) (d : Command) (faults : List ℕ) (numbers : AreFaults (length ds) faults) (h : History) (so_far : ArePerformed ds faults h before mid) where
+    -- what was kept of it
+    abbrev kept : List Command
+    kept = unfaulted faults ds
+
     -- it leads on to a history
-    one_leads : (g : History) → KeepsTo now.session g → (ComesToTell d mid.session (after h.machine ds) → Tells now.session g.machine) → StaysOnce d mid.session (after h.machine ds) now.session
-        → LeadTo (ds ++ d ∷ []) before.session h.machine now.session g
-    one_leads g kept tells stays =
-        leads_on ds (d ∷ []) before.session h.machine mid.session (all_answered ds h) now.session g refl so_far.stands (leads_one d mid.session (after h.machine ds) now.session g kept tells stays)
+    one_leads : (g : History) → KeepsTo now.session g → (ComesToTell d mid.session (after h.machine kept) → Tells now.session g.machine) → StaysOnce d mid.session (after h.machine kept) now.session
+        → LeadTo (kept ++ d ∷ []) before.session h.machine now.session g
+    one_leads g keeps tells stays =
+        leads_on kept (d ∷ []) before.session h.machine mid.session (all_answered kept h) now.session g refl so_far.stands (leads_one d mid.session (after h.machine kept) now.session g keeps tells stays)
 
     -- and may say what the machine does
-    one_says : MaySay (ds ++ d ∷ []) before.session h.machine → MayTell d mid.session (after h.machine ds)
-    one_says may = may_tell_last ds d before.session h.machine mid.session (all_answered ds h) so_far.stands may
+    one_says : MaySay (kept ++ d ∷ []) before.session h.machine → MayTell d mid.session (after h.machine kept)
+    one_says may = may_tell_last kept d before.session h.machine mid.session (all_answered kept h) so_far.stands may
 
-    -- after the replies so far this went out
-    one_out : (text : List ℕ) → MaySay (ds ++ d ∷ []) before.session h.machine → Appends mid.taken now.taken text → Appends before.taken now.taken (replies_text h.machine ds ++ text)
+    -- after the answers so far this went out
+    one_out : (text : List ℕ) → MaySay (kept ++ d ∷ []) before.session h.machine → Appends mid.taken now.taken text → Appends before.taken now.taken (replies_but h.machine ds faults ++ text)
     one_out text may out =
-        Appends-trans before.taken mid.taken now.taken (replies_text h.machine ds) text (so_far.out (may_say_first ds (d ∷ []) before.session h.machine may)) out
+        Appends-trans before.taken mid.taken now.taken (replies_but h.machine ds faults) text (so_far.out (may_say_first kept (d ∷ []) before.session h.machine may)) out
 
     -- where it is done for a command, all of this is done for the commands so far and this one
-    one_done : (cs : List Command) (c : Command) → AreDoneFor (Tells before.session h.machine) h.machine cs ds → IsDoneFor (Tells mid.session (after h.machine ds)) c (after h.machine ds) d
-        → AreDoneFor (Tells before.session h.machine) h.machine (cs ++ c ∷ []) (ds ++ d ∷ [])
-    one_done cs c are is = done_more (Tells before.session h.machine) h.machine cs ds c d are (done_where right c (after h.machine ds) d is)
+    one_done : (cs : List Command) (c : Command) → DoneForKept before.session h.machine cs ds faults → IsDoneFor (Tells mid.session (after h.machine kept)) c (after h.machine kept) d
+        → DoneForKept before.session h.machine (cs ++ c ∷ []) (ds ++ d ∷ []) faults
+    one_done cs c so is = done_kept_on before.session h.machine cs ds faults so numbers (c ∷ []) (d ∷ []) refl (done_where right c (after h.machine kept) d is, tt)
       where
-        right : Tells before.session h.machine ⊎ IsTrue (has_rebuild cs) → Tells mid.session (after h.machine ds)
+        right : Tells before.session h.machine ⊎ IsTrue (has_rebuild (unfaulted faults cs)) → Tells mid.session (after h.machine kept)
         right (inl told) = so_far.stands.tells (inl told)
-        right (inr rebuilt) = so_far.stands.tells (inr (sym (done_rebuild (Tells before.session h.machine) h.machine cs ds are) ∙ rebuilt))
+        right (inr rebuilt) = so_far.stands.tells (inr (sym (done_rebuild (Tells before.session h.machine) h.machine (unfaulted faults cs) kept so.are_done) ∙ rebuilt))
 
     -- it was performed
-    went_on : (o : Outcome) → PerformsAndKeeps d (all_answered ds h) (Ok o) mid.session now.session mid.taken now.taken → StaysOnce d mid.session (after h.machine ds) now.session
-        → ArePerformed (ds ++ d ∷ []) h before now
-    went_on o next stays = record {
-      stands = subst (λ x. LeadTo (ds ++ d ∷ []) before.session h.machine now.session x) (sym (answered_more ds d h))
-          (one_leads (acked d (all_answered ds h)) next.keeps.next (next.performs.tells tt) stays);
-      out = λ may. subst (Appends before.taken now.taken) (sym (replies_text_more h.machine ds d))
-          (one_out (reply_text (step (after h.machine ds) d).reply) may (next.performs.printed (one_says may)));
-    }
+    went_on : (o : Verdict) → PerformsAndKeeps d (all_answered kept h) (Ok o) mid.session now.session mid.taken now.taken → StaysOnce d mid.session (after h.machine kept) now.session
+        → ArePerformed (ds ++ d ∷ []) faults h before now
+    went_on o next stays =
+        let goes = faults_are_in_front h.machine ds (d ∷ []) faults numbers in
+        record {
+          stands = subst (λ l. LeadTo l before.session h.machine now.session (all_answered l h)) (sym goes.kept)
+              (subst (λ x. LeadTo (kept ++ d ∷ []) before.session h.machine now.session x) (sym (answered_more kept d h))
+              (one_leads (acked d (all_answered kept h)) next.keeps.next (next.performs.tells tt) stays));
+          out = λ may. subst (Appends before.taken now.taken) (sym (goes.replies ∙ ap (λ l. replies_but h.machine ds faults ++ l) (append-nil (reply_text (step (after h.machine kept) d).reply))))
+              (let may_more = subst (λ l. MaySay l before.session h.machine) goes.kept may in one_out (reply_text (step (after h.machine kept) d).reply) may_more (next.performs.printed (one_says may_more)));
+        }
 
     -- it failed
-    broke_off : (f : StoreFault) → PerformsAndKeeps d (all_answered ds h) (Err f) mid.session now.session mid.taken now.taken → (f ≡ fault.Sink → StaysOnce d mid.session (after h.machine ds) now.session)
-        → IsCutOff ds d f h before now
+    broke_off : (f : StoreFault) → PerformsAndKeeps d (all_answered kept h) (Err f) mid.session now.session mid.taken now.taken → (f ≡ fault.Sink → StaysOnce d mid.session (after h.machine kept) now.session)
+        → IsCutOff ds faults d f h before now
     broke_off f next stays = record {
       safe = next.keeps.safe;
       cut = λ may.
           let tail = next.performs.cut (one_says may) in
-          record { cut = tail.0; short = tail.1.0; out = one_out (take tail.0 (reply_text (step (after h.machine ds) d).reply)) may tail.1.1 };
-      effect = λ sink. one_leads (unanswered d (all_answered ds h)) (next.keeps.unanswered sink) (next.performs.tells sink) (stays sink);
+          record { cut = tail.0; short = tail.1.0; out = one_out (take tail.0 (reply_text (step (after h.machine kept) d).reply)) may tail.1.1 };
+      effect = λ sink. one_leads (unanswered d (all_answered kept h)) (next.keeps.unanswered sink) (next.performs.tells sink) (stays sink);
     }
 
-  -- one command more was performed
-  one_performed : (mid now : Progress) (cs : List Command) (c : Command) (o : Outcome) → PerformsAll cs before mid
-      → PerformsFor c (Ok o) mid.session now.session mid.taken now.taken → StaysFor {T = Outcome} c (Ok o) mid.session now.session → PerformsAll (cs ++ c ∷ []) before now
-  one_performed mid now cs c o performs next stays = record {
-    each = λ h keeps.
-        let some = performs.each h keeps in
-        let stands = some.performed.stands.keeps in
-        let does = next.crash (all_answered some.done h) stands in
-        let did = done_right mid.session c (after h.machine some.done) does.0 does.1.0 in
-        let stays_once = stays_done (Tells mid.session (after h.machine some.done)) c mid.session (after h.machine some.done) now.session does.0 did (stays (after h.machine some.done) (represents stands) tt) in
-        record {
-          done = some.done ++ does.0 ∷ [];
-          are_done = one_done mid now some.done does.0 h some.performed cs c some.are_done did;
-          performed = went_on mid now some.done does.0 h some.performed o does.1.1 stays_once;
-        };
-  }
+    -- the disk failed in a look, and all is as it was
+    module _ (stays : StaysAs mid.session now.session) (base : SameBase mid.session.open_store.index.map now.session.open_store.index.map) where
+      still_leads : LeadTo kept before.session h.machine now.session (all_answered kept h)
+      still_leads = leads_still kept before.session h.machine mid.session now.session (all_answered kept h) so_far.stands stays base
 
-  -- it failed
-  one_failed : (mid now : Progress) (cs : List Command) (c : Command) (f : StoreFault) → PerformsAll cs before mid
-      → PerformsFor c (Err f) mid.session now.session mid.taken now.taken → StaysFor {T = Outcome} c (Err f) mid.session now.session → FailsAfter cs c f before now
-  one_failed mid now cs c f performs next stays = record {
-    each = λ h keeps.
-        let some = performs.each h keeps in
-        let stands = some.performed.stands.keeps in
-        let does = next.crash (all_answered some.done h) stands in
-        let did = done_right mid.session c (after h.machine some.done) does.0 does.1.0 in
-        let stays_once : f ≡ fault.Sink → StaysOnce does.0 mid.session (after h.machine some.done) now.session = λ sink. stays_done (Tells mid.session (after h.machine some.done)) c mid.session (after h.machine some.done) now.session does.0 did (stays (after h.machine some.done) (represents stands) sink) in
-        record {
-          done = some.done;
-          last = does.0;
-          are_done = one_done mid now some.done does.0 h some.performed cs c some.are_done did;
-          cut_off = broke_off mid now some.done does.0 h some.performed f does.1.1 stays_once;
-        };
-  }
+      -- so it was answered by the line
+      faulted_on : Appends mid.taken now.taken fault_line → ArePerformed (ds ++ d ∷ []) (with_next (length ds) faults) h before now
+      faulted_on said =
+          let next = next_may_fault h.machine ds d faults numbers in
+          record {
+            stands = subst (λ l. LeadTo l before.session h.machine now.session (all_answered l h)) (sym next.kept) still_leads;
+            out = λ may. subst (Appends before.taken now.taken) (sym next.replies)
+                (Appends-trans before.taken mid.taken now.taken (replies_but h.machine ds faults) fault_line (so_far.out (subst (λ l. MaySay l before.session h.machine) next.kept may)) said);
+          }
+
+      -- or by a part of it
+      faulted_off : IsCut mid.taken now.taken fault_line → MaySay kept before.session h.machine
+          → (n : ℕ) × ((n < length fault_line) × Appends before.taken now.taken (replies_but h.machine ds faults ++ take n fault_line))
+      faulted_off (n, (short, out)) may = (n, (short, Appends-trans before.taken mid.taken now.taken (replies_but h.machine ds faults) (take n fault_line) (so_far.out may) out))
+
+  -- one command more was performed
+  module _ (mid now : Progress) (cs : List Command) (c : Command) (faults : List ℕ) (numbers : AreFaults (length cs) faults) (performs : PerformsAll cs faults before mid) where
+    one_performed : (o : Verdict) → PerformsFor c (Ok o) mid.session now.session mid.taken now.taken → StaysFor {T = Verdict} c (Ok o) mid.session now.session → PerformsAll (cs ++ c ∷ []) faults before now
+    one_performed o next stays = record {
+      each = λ h keeps.
+          let some = performs.each h keeps in
+          let stands = some.performed.stands.keeps in
+          let at = after h.machine (unfaulted faults some.done) in
+          let numbers_done = subst (λ n. AreFaults n faults) (sym some.is_done.as_many) numbers in
+          let does = next.crash (all_answered (unfaulted faults some.done) h) stands in
+          let did = done_right mid.session c at does.0 does.1.0 in
+          let stays_once = stays_done (Tells mid.session at) c mid.session at now.session does.0 did (stays at (represents stands) tt) in
+          record {
+            done = some.done ++ does.0 ∷ [];
+            is_done = one_done mid now some.done does.0 faults numbers_done h some.performed cs c some.is_done did;
+            performed = went_on mid now some.done does.0 faults numbers_done h some.performed o does.1.1 stays_once;
+          };
+    }
+
+    -- it failed
+    one_failed : (f : StoreFault) → PerformsFor c (Err f) mid.session now.session mid.taken now.taken → StaysFor {T = Verdict} c (Err f) mid.session now.session → FailsAfter cs faults c f before now
+    one_failed f next stays = record {
+      each = λ h keeps.
+          let some = performs.each h keeps in
+          let stands = some.performed.stands.keeps in
+          let at = after h.machine (unfaulted faults some.done) in
+          let numbers_done = subst (λ n. AreFaults n faults) (sym some.is_done.as_many) numbers in
+          let does = next.crash (all_answered (unfaulted faults some.done) h) stands in
+          let did = done_right mid.session c at does.0 does.1.0 in
+          let stays_once : f ≡ fault.Sink → StaysOnce does.0 mid.session at now.session = λ sink. stays_done (Tells mid.session at) c mid.session at now.session does.0 did (stays at (represents stands) sink) in
+          record {
+            done = some.done;
+            last = does.0;
+            is_done = one_done mid now some.done does.0 faults numbers_done h some.performed cs c some.is_done did;
+            as_long = some.is_done.as_many;
+            cut_off = broke_off mid now some.done does.0 faults numbers_done h some.performed f does.1.1 stays_once;
+          };
+    }
+
+    -- it was answered by the line
+    module _ (stays : StaysAs mid.session now.session) (base : SameBase mid.session.open_store.index.map now.session.open_store.index.map) where
+      one_faulted : Appends mid.taken now.taken fault_line → PerformsAll (cs ++ c ∷ []) (with_next (length cs) faults) before now
+      one_faulted said = record {
+        each = λ h keeps.
+            let some = performs.each h keeps in
+            let numbers_done = subst (λ n. AreFaults n faults) (sym some.is_done.as_many) numbers in
+            record {
+              done = some.done ++ c ∷ [];
+              is_done = subst (λ n. DoneForKept before.session h.machine (cs ++ c ∷ []) (some.done ++ c ∷ []) (with_next n faults)) some.is_done.as_many (done_kept_but before.session h.machine cs some.done faults some.is_done numbers_done c);
+              performed = subst (λ n. ArePerformed (some.done ++ c ∷ []) (with_next n faults) h before now) some.is_done.as_many (faulted_on mid now some.done c faults numbers_done h some.performed stays base said);
+            };
+      }
+
+      -- or by a part of it
+      one_faulted_cut : IsCut mid.taken now.taken fault_line → FaultsAfter cs faults before now
+      one_faulted_cut cut = record {
+        each = λ h keeps.
+            let some = performs.each h keeps in
+            let numbers_done = subst (λ n. AreFaults n faults) (sym some.is_done.as_many) numbers in
+            record {
+              done = some.done;
+              is_done = some.is_done;
+              stands = still_leads mid now some.done c faults numbers_done h some.performed stays base;
+              cut = faulted_off mid now some.done c faults numbers_done h some.performed stays base cut;
+            };
+      }
 
 -- ---- one turn
+
+-- an answer that the disk failed comes only where its count rose
+pub answered_rose : {tells : Bool} {c : Command} {f : StoreFault} {before now : Sitting} → AnswersNext tells c (Err f) before now → f ≡ fault.Disk → Rose before.disk_faults now.disk_faults
+answered_rose (later, inl reply) disk = reply.rose (ap (λ x. Err x) disk)
+answered_rose (later, inr line) disk = absurd (line.no_disk (ap (λ x. Err x) disk))
 
 -- what a call of the reader leaves
 pub gives_one : (r q : Reader) (left now : Option (List ℕ)) (answer : Result (Option Given) ScriptFault) (o : Option Given) (c : Given) → answer ≡ Ok o → o ≡ Some c → Leaves r q left now answer
@@ -158,42 +226,103 @@ starts tells r before held given used = record {
   read = nothing_read before.source.left (held_in r) held;
   given = given;
   used = used;
+  faults = [];
+  counts = record { numbers = tt; counted = omega arith };
   performs = λ told. none_performed before;
 }
 
-module _ (tells : Bool) (r q : Reader) (mid now : Progress) where
+-- the disk failed as often at least, or once more
+pub counts_on : (n a b c : ℕ) → b ≤ c → RoseBy n a b → RoseBy n a c
+counts_on n a b c later rose = omega arith
+
+pub counts_more : (n a b c : ℕ) → Rose b c → RoseBy n a b → RoseBy (suc n) a c
+counts_more n a b c once rose = omega arith
+
+module _ (tells : Bool) (r q : Reader) (mid now : Progress) (c : Command) (gives : Gives r q mid.source.left now.source.left c) (later : mid.disk_faults ≤ now.disk_faults) where
+  module _ (before : Progress) (goes : HasPerformed tells r before mid) where
+    -- this was read so far
+    so_read : AreRead before.source.left now.source.left (goes.commands ++ c ∷ []) (held_in q)
+    so_read = read_on r q before.source.left mid.source.left now.source.left goes.commands c goes.read goes.used gives
+
+    so_given : given_in q ≡ length (goes.commands ++ c ∷ [])
+    so_given = omega (arith, goes.given, gives.given, length-append goes.commands (c ∷ []))
+
+    so_used : used_in q ≡ length (script_bytes (goes.commands ++ c ∷ []))
+    so_used = gives.used ∙ omega (arith, goes.used, more_length goes.commands c)
+
+    still_counted : RoseBy (length goes.faults) before.disk_faults now.disk_faults
+    still_counted = counts_on (length goes.faults) before.disk_faults mid.disk_faults now.disk_faults later goes.counts.counted
+
+    once_more : Rose mid.disk_faults now.disk_faults → RoseBy (suc (length goes.faults)) before.disk_faults now.disk_faults
+    once_more rose = counts_more (length goes.faults) before.disk_faults mid.disk_faults now.disk_faults rose goes.counts.counted
+
+    more_numbers : AreFaults (length (goes.commands ++ c ∷ [])) goes.faults
+    more_numbers = faults_are_within (length goes.commands) (length (goes.commands ++ c ∷ [])) goes.faults (omega (arith, length-append goes.commands (c ∷ []))) goes.counts.numbers
+
   -- a command was performed
-  pub turn_on : (c : Command) (outcome : Outcome) → Gives r q mid.source.left now.source.left c
-      → (IsTrue tells → PerformsFor c (Ok outcome) mid.session now.session mid.taken now.taken) → (IsTrue tells → StaysFor {T = Outcome} c (Ok outcome) mid.session now.session) → PerformsNext tells (Ok None) r q mid now
-  turn_on c outcome gives performs stays = record {
+  replied_on : (o : Verdict) → (IsTrue tells → PerformsFor c (Ok o) mid.session now.session mid.taken now.taken) → (IsTrue tells → StaysFor {T = Verdict} c (Ok o) mid.session now.session)
+      → PerformsNext tells (Ok None) r q mid now
+  replied_on o performs stays = record {
     on = λ before goes. record {
       commands = goes.commands ++ c ∷ [];
-      read = read_on r q before.source.left mid.source.left now.source.left goes.commands c goes.read goes.used gives;
-      given = omega (arith, goes.given, gives.given, length-append goes.commands (c ∷ []));
-      used = gives.used ∙ omega (arith, goes.used, more_length goes.commands c);
-      performs = λ told. one_performed before mid now goes.commands c outcome (goes.performs told) (performs told) (stays told);
+      read = so_read before goes;
+      given = so_given before goes;
+      used = so_used before goes;
+      faults = goes.faults;
+      counts = record { numbers = more_numbers before goes; counted = still_counted before goes };
+      performs = λ told. one_performed before mid now goes.commands c goes.faults goes.counts.numbers (goes.performs told) o (performs told) (stays told);
     };
   }
 
+  -- it was answered by the line
+  faulted_turn : Rose mid.disk_faults now.disk_faults → (IsTrue tells → StaysAs mid.session now.session) → SameBase mid.session.open_store.index.map now.session.open_store.index.map
+      → Appends mid.taken now.taken fault_line → PerformsNext tells (Ok None) r q mid now
+  faulted_turn rose stays base said = record {
+    on = λ before goes. record {
+      commands = goes.commands ++ c ∷ [];
+      read = so_read before goes;
+      given = so_given before goes;
+      used = so_used before goes;
+      faults = with_next (length goes.commands) goes.faults;
+      counts = record {
+        numbers = next_numbers goes.commands c goes.faults goes.counts.numbers;
+        counted = subst (λ n. RoseBy n before.disk_faults now.disk_faults) (one_longer goes.faults (suc (length goes.commands))) (once_more before goes rose);
+      };
+      performs = λ told. one_faulted before mid now goes.commands c goes.faults goes.counts.numbers (goes.performs told) (stays told) base said;
+    };
+  }
+
+  pub turn_on : (v : Verdict) → AnswersNext tells c (Ok v) (sitting_of mid) (sitting_of now) → PerformsNext tells (Ok None) r q mid now
+  turn_on v (later_too, inl reply) = replied_on v reply.performs reply.stays
+  turn_on v (later_too, inr line) = faulted_turn line.rose line.stays line.base line.printed
+
   -- a command failed
-  turn_off : (c : Command) (f : StoreFault) → Gives r q mid.source.left now.source.left c
-      → (IsTrue tells → PerformsFor c (Err f) mid.session now.session mid.taken now.taken) → (IsTrue tells → StaysFor {T = Outcome} c (Err f) mid.session now.session) → PerformsNext tells (Err f) r q mid now
-  turn_off c f gives performs stays = record {
+  turn_off : (f : StoreFault) → AnswersNext tells c (Err f) (sitting_of mid) (sitting_of now) → PerformsNext tells (Err f) r q mid now
+  turn_off f (later_too, answer) = record {
     on = λ before goes. record {
       commands = goes.commands;
       last = c;
-      front =
-          read_front before.source.left now.source.left (goes.commands ++ c ∷ []) (held_in q)
-          (read_on r q before.source.left mid.source.left now.source.left goes.commands c goes.read goes.used gives);
-      fails = λ told. one_failed before mid now goes.commands c f (goes.performs told) (performs told) (stays told);
+      front = read_front before.source.left now.source.left (goes.commands ++ c ∷ []) (held_in q) (so_read before goes);
+      faults = goes.faults;
+      counts = record { numbers = goes.counts.numbers; counted = still_counted before goes };
+      disk = λ e. once_more before goes (answered_rose (later_too, answer) e);
+      fails = failed before goes answer;
     };
   }
+    where
+      failed : (before : Progress) (goes : HasPerformed tells r before mid) → AnswersByReply tells c (Err f) (sitting_of mid) (sitting_of now) ⊎ AnswersByFault tells (Err f) (sitting_of mid) (sitting_of now)
+          → (IsTrue tells → FailsAfter goes.commands goes.faults c f before now)
+          ⊎ (FailsInLine f goes.faults before now × (IsTrue tells → FaultsAfter goes.commands goes.faults before now))
+      failed before goes (inl reply) = inl (λ told. one_failed before mid now goes.commands c goes.faults goes.counts.numbers (goes.performs told) f (reply.performs told) (reply.stays told))
+      failed before goes (inr line) = inr (
+        record { no_disk = λ e. line.no_disk (ap (λ x. Err x) e); rose = once_more before goes line.rose },
+        λ told. one_faulted_cut before mid now goes.commands c goes.faults goes.counts.numbers (goes.performs told) (line.stays told) line.base line.cut,
+      )
 
   -- which is the answer
-  pub turn_err : (c : Command) (f : StoreFault) (final : Result (Option Ended) StoreFault) → IsErrAnd final (λ e. e ≡ f) → Gives r q mid.source.left now.source.left c
-      → (IsTrue tells → PerformsFor c (Err f) mid.session now.session mid.taken now.taken) → (IsTrue tells → StaysFor {T = Outcome} c (Err f) mid.session now.session) → PerformsNext tells final r q mid now
-  turn_err c f (Ok e) is gives performs stays = absurd is
-  turn_err c f (Err e) is gives performs stays = subst (λ x. PerformsNext tells (Err x) r q mid now) (sym is) (turn_off c f gives performs stays)
+  pub turn_err : (f : StoreFault) (final : Result (Option Ended) StoreFault) → IsErrAnd final (λ e. e ≡ f) → AnswersNext tells c (Err f) (sitting_of mid) (sitting_of now) → PerformsNext tells final r q mid now
+  turn_err f (Ok e) is answers = absurd is
+  turn_err f (Err e) is answers = subst (λ x. PerformsNext tells (Err x) r q mid now) (sym is) (turn_off f answers)
 
 module _ (tells : Bool) (r q : Reader) (mid : Progress) (source : Supply) where
   -- there was none
@@ -203,10 +332,12 @@ module _ (tells : Bool) (r q : Reader) (mid : Progress) (source : Supply) where
     on = λ before goes. record {
       commands = goes.commands;
       ends = ends before goes;
+      faults = goes.faults;
+      counts = record { numbers = goes.counts.numbers; counted = goes.counts.counted };
       performs = λ told. record {
         each = λ h keeps.
             let some = (goes.performs told).each h keeps in
-            record { done = some.done; are_done = some.are_done; performed = record { stands = some.performed.stands; out = some.performed.out } };
+            record { done = some.done; is_done = some.is_done; performed = record { stands = some.performed.stands; out = some.performed.out } };
       };
     };
   }

@@ -4,7 +4,7 @@ use Rattle.std.specs.Prelude.{Result}
 use Rattle.cache_base.specs.declared.status.Status.{Status}
 use Rattle.cache_store.specs.DoneFor.{IsDoneFor}
 use Rattle.cache_store.specs.InUse.{ClosesInUse, HasJournalOf, HasShortJournal, HoldsBase, OpensInUse, SparesIndex, StaysInUse, StaysOver, past_header}
-use Rattle.cache_store.specs.Open.{KeepsTo, Opens, Represents, StartsOn, Tells}
+use Rattle.cache_store.specs.Open.{KeepsTo, Opens, StartsOn, Tells}
 use Rattle.cache_store.specs.Performing.{HadEffect}
 use Rattle.cache_store.specs.Session.{Session}
 use Rattle.cache_store.specs.declared.fault.StoreFault.{StoreFault}
@@ -18,10 +18,10 @@ use Rattle.cache_theory.specs.Step.{after, step}
 use Rattle.cache_tool.specs.Ending.{IsEnded}
 use Rattle.cache_tool.specs.Right.{LeadTo}
 use Rattle.cache_tool.specs.Statuses.{IsClosing}
-use Rattle.cache_tool.specs.Staying.{EndsInUse, IsInUse, StaysOverAll}
+use Rattle.cache_tool.specs.Staying.{EndsInUse, IsInUse, StaysFor, StaysOnce, StaysOverAll}
 use Rattle.disk_model.specs.State.{State, standing}
 use Rattle.disk_model.specs.declared.place.Place.TheVariants.{Index}
-use Rattle.index_map.specs.Known.{SameBase}
+use Rattle.index_map.specs.Known.{Known, SameBase}
 use Rattle.index_record.specs.declared.record.IndexRecord.{IndexRecord}
 use Rattle.index_theory.specs.Honest.{Honest, index_records}
 use Rattle.index_theory.specs.Leaves.{LeavesIndex}
@@ -45,24 +45,24 @@ both_in_use records before mid now first second = record { base = second.base; p
 
 -- ---- over one command
 
--- for a machine
-abbrev pub StaysOnce : Command → Session → Machine → Session → Type 0
-StaysOnce c before m now = (records : List IndexRecord) → Tells before m → HoldsBase records before.open_store.index.map → StaysOver records m c → IsInUse records before now
-
--- whatever machine the store stands for, once the command has had its effect
-abbrev pub StaysFor : {T : Type 0} → Command → Result T StoreFault → Session → Session → Type 0
-StaysFor c answer before now = (m : Machine) → Represents before m → HadEffect answer → StaysOnce c before m now
+-- another map with the same base
+holds_as : (records : List IndexRecord) {old new : Known} → SameBase old new → HoldsBase records old → HoldsBase records new
+holds_as records base holds = record { has_base = base.has_base ∙ holds.has_base; same = λ name. base.records name ∙ holds.same name }
 
 -- it leaves the files of the index and the base in memory as they are
 pub stays_for : {T : Type 0} (c : Command) (answer : Result T StoreFault) (before now : Session) → (SparesIndex c before.open_store.index → LeavesIndex before.disk now.disk)
     → (SparesIndex c before.open_store.index → HadEffect answer → SameBase before.open_store.index.map now.open_store.index.map) → StaysFor c answer before now
 stays_for c answer before now leaves same = λ m stands had records told holds over.
     let spares = few_are_spared records before m c stands told holds over in
-    let base = same spares had in
-    record {
-      base = record { has_base = base.has_base ∙ holds.has_base; same = λ name. base.records name ∙ holds.same name };
-      past = ap past_header ((leaves spares).stands Index tt);
-    }
+    record { base = holds_as records (same spares had) holds; past = ap past_header ((leaves spares).stands Index tt) }
+
+-- and so it does where all is as it was
+pub same_in_use : (records : List IndexRecord) (before now : Session) → SameBase before.open_store.index.map now.open_store.index.map → now.disk ≡ before.disk → HoldsBase records before.open_store.index.map
+    → IsInUse records before now
+same_in_use records before now base same holds = record {
+  base = holds_as records base holds;
+  past = ap (λ s. past_header (standing s Index)) same;
+}
 
 -- and so it is of what is done for it
 stays_over : (right : Type 0) (records : List IndexRecord) (c : Command) (m : Machine) (d : Command) → IsDoneFor right c m d → StaysOver records m d → StaysOver records m c

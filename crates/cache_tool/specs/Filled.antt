@@ -60,7 +60,7 @@ pub record PrintsFill (now count first : ℕ) (m : Machine) (ended : Status) (be
   -- with an answer the status is that of the check
   pub answer : IsAnswer ended → ended ≡ status_in_check filled
   pub text : PrintsText (lines_in filled) ended before after
-  pub leaves : LeavesDisk m (done_in filled) (all_begun_none_acked (done_in filled)) ended before.disk after.disk
+  pub leaves : LeavesDisk m (all_begun_none_acked m (done_in filled)) ended before.disk after.disk
 
 -- `fill`: so many entries are made, half of all is evicted, and all is checked and listed
 abbrev pub FillsCache : ℕ → ℕ → ℕ → Status → Output → Output → Type 0

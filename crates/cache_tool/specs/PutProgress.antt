@@ -9,8 +9,8 @@ use Rattle.cache_store.specs.DoneFor.{DoneFor}
 use Rattle.cache_store.specs.Open.{KeepsTo, Tells}
 use Rattle.cache_store.specs.Performing.{goes_by_records}
 use Rattle.cache_store.specs.Session.{Session}
-use Rattle.cache_store.specs.declared.fault.Outcome.{Outcome}
-use Rattle.cache_store.specs.declared.fault.Outcome.TheVariants as outcome
+use Rattle.cache_store.specs.declared.fault.Verdict.{Verdict}
+use Rattle.cache_store.specs.declared.fault.Verdict.TheVariants as outcome
 use Rattle.cache_store.specs.declared.fault.StoreFault.{StoreFault}
 use Rattle.cache_theory.specs.Command.{Command}
 use Rattle.cache_theory.specs.Command.Command.{Append}
@@ -29,7 +29,7 @@ use Rattle.cache_tool.specs.World.{Supply}
 -- One command, whose reply is held.
 
 -- for a history
-pub record IsSent (c : Command) (h : History) (answer : Result Outcome StoreFault)
+pub record IsSent (c : Command) (h : History) (answer : Result Verdict StoreFault)
     (before now : Session) (said : List ℕ) : Type 0 where
   pub safe : IsSafe now.disk (begun c h).marks
   pub next : OnOk answer (LeadTo (c ∷ []) before h.machine now (acked c h))
@@ -39,7 +39,7 @@ pub record IsSent (c : Command) (h : History) (answer : Result Outcome StoreFaul
   pub told : Tells before h.machine → OnOk answer (said ≡ reply_text (step h.machine c).reply)
 
 -- whatever history the disk kept to, of what is done for it
-pub record SendsCommand (c : Command) (answer : Result Outcome StoreFault) (before now : Session)
+pub record SendsCommand (c : Command) (answer : Result Verdict StoreFault) (before now : Session)
     (said : List ℕ) : Type 0 where
   pub each : (h : History) → KeepsTo before h
       → DoneFor (Tells before h.machine) c h.machine (λ d. IsSent d h answer before now said)
@@ -69,7 +69,7 @@ StopsWith m (c ∷ cs) said =
     IsRefused m c said ⊎ ((is_done (step m c).reply ≡ true) × StopsWith (step m c).next cs said)
 
 -- they were performed up to the first that is refused, or as far as a fault let them
-pub record AreSent (cs : List Command) (h : History) (answer : Result Outcome StoreFault)
+pub record AreSent (cs : List Command) (h : History) (answer : Result Verdict StoreFault)
     (before now : Session) (said : List ℕ) : Type 0 where
   pub safe : IsSafe now.disk (all_unanswered (until_refused h.machine cs) h).marks
   pub stands : let sent = until_refused h.machine cs in
@@ -94,14 +94,14 @@ piece_commands [] = []
 piece_commands (x ∷ xs) = Append 0 (x ∷ xs) ∷ []
 
 -- for a history: a piece was appended to this body, or was refused
-pub record PieceIsSent (body piece : List ℕ) (h : History) (answer : Result Outcome StoreFault)
+pub record PieceIsSent (body piece : List ℕ) (h : History) (answer : Result Verdict StoreFault)
     (before now : Session) (said : List ℕ) : Type 0 where
   pub sent : AreSent (piece_commands piece) h answer before now said
   pub writes : answer ≡ Ok outcome.Ok
       → IsWriting (after h.machine (piece_commands piece)) (body ++ piece)
 
 -- whatever history the disk kept to, and whatever body there is, which has room for so many bytes more
-pub record AppendsPiece (piece : List ℕ) (room : ℕ) (answer : Result Outcome StoreFault)
+pub record AppendsPiece (piece : List ℕ) (room : ℕ) (answer : Result Verdict StoreFault)
     (before now : Session) (said : List ℕ) : Type 0 where
   pub each : (h : History) (body : List ℕ) → KeepsTo before h → IsWriting h.machine body
       → room + length body ≡ BODY_MAX → PieceIsSent body piece h answer before now said
@@ -139,10 +139,10 @@ BodyOf (Ok status.Disk) before now body = ⊥
 BodyOf (Err f) before now body = GivesWhole before now body ⊎ GivesPart before now body
 
 -- and what the last command answered
-abbrev pub AgreesWith : Result Status StoreFault → Result Outcome StoreFault → Type 0
+abbrev pub AgreesWith : Result Status StoreFault → Result Verdict StoreFault → Type 0
 AgreesWith (Ok status.Done) answer = answer ≡ Ok outcome.Ok
 AgreesWith (Ok status.No) answer = answer ≡ Ok outcome.Refused
-AgreesWith (Ok status.Source) answer = (o : Outcome) × (answer ≡ Ok o)
+AgreesWith (Ok status.Source) answer = (o : Verdict) × (answer ≡ Ok o)
 AgreesWith (Ok status.Memory) answer = ⊥
 AgreesWith (Ok status.Words) answer = ⊥
 AgreesWith (Ok status.Script) answer = ⊥
@@ -155,7 +155,7 @@ pub record BodyIsAppended (h : History) (from to : Supply) (came : Result Status
     (before now : Session) (said : List ℕ) : Type 0 where
   pub body : List ℕ
   pub body_of : BodyOf came from to body
-  pub answer : Result Outcome StoreFault
+  pub answer : Result Verdict StoreFault
   pub sent : AreSent (appends body) h answer before now said
   pub same : AgreesWith came answer
 

@@ -1,7 +1,7 @@
 -- How far a script was performed.
 use Rattle.std.specs.Io.KnownBytes.{Appends, Consumes, IsAtEnd}
 use Rattle.std.specs.List.{AllByRecursion}
-use Rattle.std.specs.Prelude.{Bool, Err, IfSome, IsTrue, List, None, Ok, Option, Result, Some, [], drop, length, min, take, ℕ, ◌+◌, ◌++◌, ◌<◌, ◌∷◌, ◌≡◌, ◌≤◌, ◌⊎◌}
+use Rattle.std.specs.Prelude.{Bool, Err, IfSome, IsTrue, List, None, Ok, Option, Result, Some, [], length, take, suc, ℕ, ◌+◌, ◌++◌, ◌<◌, ◌∷◌, ◌≡◌, ◌≢◌, ◌≤◌, ◌⊎◌}
 use Rattle.cache_base.specs.declared.limits.TheConstants.{SCRIPT_MAX}
 use Rattle.cache_base.specs.declared.status.Status.{Status}
 use Rattle.cache_base.specs.declared.status.Status.TheVariants as status
@@ -13,19 +13,22 @@ use Rattle.cache_store.specs.declared.fault.StoreFault.{StoreFault}
 use Rattle.cache_store.specs.declared.fault.StoreFault.TheVariants as fault
 use Rattle.cache_theory.specs.Command.{Command}
 use Rattle.cache_theory.specs.Crash.{IsSafe}
-use Rattle.cache_theory.specs.History.{History, begun, unanswered}
+use Rattle.cache_theory.specs.Faulted.{AreFaults, fault_line, replies_but, unfaulted}
+use Rattle.cache_theory.specs.History.{History, begun, settled_at, unanswered}
 use Rattle.cache_theory.specs.Machine.{Machine}
-use Rattle.cache_theory.specs.Marks.{Marks, all_acked, all_begun}
+use Rattle.cache_theory.specs.Marks.{all_acked}
 use Rattle.cache_theory.specs.Step.{after, step}
-use Rattle.cache_theory.specs.Text.{CommandsIn, IsCommand, ScriptSpells, SpellsFront, replies_text, reply_text, script_bytes}
+use Rattle.cache_theory.specs.Text.{CommandsIn, IsCommand, ScriptSpells, SpellsFront, reply_text, script_bytes}
 use Rattle.cache_tool.specs.DoneFor.{AreDoneFor}
 use Rattle.cache_tool.specs.Right.{LeadTo, MaySay}
-use Rattle.cache_tool.specs.Script.{AreTaken, performed}
+use Rattle.cache_tool.specs.Script.{AreTaken}
 use Rattle.cache_tool.specs.Statuses.{IsClosing, status_in}
-use Rattle.cache_tool.specs.Verbs.{TellsReplies}
+use Rattle.cache_tool.specs.Tally.{RoseBy}
+use Rattle.cache_tool.specs.Verbs.{CountsFaults, Reach, TellsReplies, one_begun_after}
 use Rattle.cache_tool.specs.World.{Progress}
 use Rattle.cache_tool.specs.declared.script.Ended.{Ended}
 use Rattle.cache_tool.specs.declared.script.Ended.TheVariants as ended
+use Rattle.disk_model.specs.State.{State}
 
 -- these commands were read from a source, and after them these bytes
 pub record AreRead (left now : Option (List ℕ)) (cs : List Command) (held : List ℕ) : Type 0 where
@@ -41,49 +44,77 @@ pub record AreRead (left now : Option (List ℕ)) (cs : List Command) (held : Li
 abbrev pub all_answered : List Command → History → History
 all_answered cs h = record { machine = after h.machine cs; marks = all_acked h.machine cs h.marks }
 
--- for a history: they were performed, and their replies are out
-pub record ArePerformed (cs : List Command) (h : History) (before now : Progress) : Type 0 where
-  pub stands : LeadTo cs before.session h.machine now.session (all_answered cs h)
-  pub out : MaySay cs before.session h.machine
-      → Appends before.taken now.taken (replies_text h.machine cs)
+-- For a history: those that are not answered `fault` were performed, and all answers are out.
+pub record ArePerformed (cs : List Command) (faults : List ℕ) (h : History) (before now : Progress)
+    : Type 0 where
+  pub stands : let kept = unfaulted faults cs in
+      LeadTo kept before.session h.machine now.session (all_answered kept h)
+  pub out : MaySay (unfaulted faults cs) before.session h.machine
+      → Appends before.taken now.taken (replies_but h.machine cs faults)
 
--- of what is done for some commands
-pub record SomePerformed (cs : List Command) (h : History) (before now : Progress) : Type 0 where
+-- this is done for so many commands, and for each of those that are kept
+pub record DoneForKept (before : Session) (m : Machine) (cs done : List Command) (faults : List ℕ) : Type 0 where
+  pub as_many : length done ≡ length cs
+  pub are_done : AreDoneFor (Tells before m) m (unfaulted faults cs) (unfaulted faults done)
+
+pub record SomePerformed (cs : List Command) (faults : List ℕ) (h : History) (before now : Progress)
+    : Type 0 where
   pub done : List Command
-  pub are_done : AreDoneFor (Tells before.session h.machine) h.machine cs done
-  pub performed : ArePerformed done h before now
+  pub is_done : DoneForKept before.session h.machine cs done faults
+  pub performed : ArePerformed done faults h before now
 
 -- whatever history the disk kept to
-pub record PerformsAll (cs : List Command) (before now : Progress) : Type 0 where
-  pub each : (h : History) → KeepsTo before.session h → SomePerformed cs h before now
+pub record PerformsAll (cs : List Command) (faults : List ℕ) (before now : Progress) : Type 0 where
+  pub each : (h : History) → KeepsTo before.session h → SomePerformed cs faults h before now
 
--- one command more was begun, and failed: a part of its reply went out
-pub record IsCutIn (cs : List Command) (c : Command) (m : Machine) (before now : Progress)
+-- the numbers of the answers `fault` among those to the first commands, and that the disk failed as often
+pub record AreCounted (p : ℕ) (faults : List ℕ) (before now : Progress) : Type 0 where
+  pub numbers : AreFaults p faults
+  pub counted : RoseBy (length faults) before.disk_faults now.disk_faults
+
+-- One command more was begun, and failed: a part of its reply went out.
+pub record IsCutIn (cs : List Command) (faults : List ℕ) (c : Command) (m : Machine) (before now : Progress)
     : Type 0 where
   pub cut : ℕ
-  pub short : cut < length (reply_text (step (after m cs) c).reply)
-  pub out : Appends before.taken now.taken
-      (replies_text m cs ++ take cut (reply_text (step (after m cs) c).reply))
+  pub short : cut < length (reply_text (step (after m (unfaulted faults cs)) c).reply)
+  pub out : Appends before.taken now.taken (replies_but m cs faults
+      ++ take cut (reply_text (step (after m (unfaulted faults cs)) c).reply))
 
-pub record IsCutOff (cs : List Command) (c : Command) (f : StoreFault) (h : History)
+pub record IsCutOff (cs : List Command) (faults : List ℕ) (c : Command) (f : StoreFault) (h : History)
     (before now : Progress) : Type 0 where
-  pub safe : IsSafe now.session.disk (begun c (all_answered cs h)).marks
-  pub cut : MaySay (cs ++ c ∷ []) before.session h.machine → IsCutIn cs c h.machine before now
-  pub effect : f ≡ fault.Sink → LeadTo (cs ++ c ∷ []) before.session h.machine
-      now.session (unanswered c (all_answered cs h))
+  pub safe : IsSafe now.session.disk (begun c (all_answered (unfaulted faults cs) h)).marks
+  pub cut : MaySay (unfaulted faults cs ++ c ∷ []) before.session h.machine
+      → IsCutIn cs faults c h.machine before now
+  pub effect : f ≡ fault.Sink → LeadTo (unfaulted faults cs ++ c ∷ []) before.session h.machine
+      now.session (unanswered c (all_answered (unfaulted faults cs) h))
 
 -- of what is done for some commands
-pub record SomeCutOff (cs : List Command) (c : Command) (f : StoreFault) (h : History)
+pub record SomeCutOff (cs : List Command) (faults : List ℕ) (c : Command) (f : StoreFault) (h : History)
     (before now : Progress) : Type 0 where
   pub done : List Command
   pub last : Command
-  pub are_done : AreDoneFor (Tells before.session h.machine) h.machine (cs ++ c ∷ []) (done ++ last ∷ [])
-  pub cut_off : IsCutOff done last f h before now
+  pub is_done : DoneForKept before.session h.machine (cs ++ c ∷ []) (done ++ last ∷ []) faults
+  pub as_long : length done ≡ length cs
+  pub cut_off : IsCutOff done faults last f h before now
+
+-- One command more was to be answered `fault`: a part of that line went out, and all else is as before.
+pub record SomeFaultCut (cs : List Command) (faults : List ℕ) (h : History) (before now : Progress)
+    : Type 0 where
+  pub done : List Command
+  pub is_done : DoneForKept before.session h.machine cs done faults
+  pub stands : let kept = unfaulted faults done in
+      LeadTo kept before.session h.machine now.session (all_answered kept h)
+  pub cut : MaySay (unfaulted faults done) before.session h.machine
+      → (n : ℕ) × ((n < length fault_line)
+      × Appends before.taken now.taken (replies_but h.machine done faults ++ take n fault_line))
 
 -- whatever history the disk kept to
-pub record FailsAfter (cs : List Command) (c : Command) (f : StoreFault) (before now : Progress)
+pub record FailsAfter (cs : List Command) (faults : List ℕ) (c : Command) (f : StoreFault) (before now : Progress)
     : Type 0 where
-  pub each : (h : History) → KeepsTo before.session h → SomeCutOff cs c f h before now
+  pub each : (h : History) → KeepsTo before.session h → SomeCutOff cs faults c f h before now
+
+pub record FaultsAfter (cs : List Command) (faults : List ℕ) (before now : Progress) : Type 0 where
+  pub each : (h : History) → KeepsTo before.session h → SomeFaultCut cs faults h before now
 
 -- Turns of the loop that reads and performs commands.
 
@@ -93,7 +124,9 @@ pub record HasPerformed (tells : Bool) (r : Reader) (before now : Progress) : Ty
   pub read : AreRead before.source.left now.source.left commands (held_in r)
   pub given : given_in r ≡ length commands
   pub used : used_in r ≡ length (script_bytes commands)
-  pub performs : IsTrue tells → PerformsAll commands before now
+  pub faults : List ℕ
+  pub counts : AreCounted (length commands) faults before now
+  pub performs : IsTrue tells → PerformsAll commands faults before now
 
 -- what the source has, by how the commands ended
 abbrev pub EndsScript : Ended → Option (List ℕ) → Option (List ℕ) → List Command → Type 0
@@ -107,15 +140,26 @@ EndsScript (ended.Bad number) left now cs =
 pub record PerformsToEnd (tells : Bool) (e : Ended) (before now : Progress) : Type 0 where
   pub commands : List Command
   pub ends : EndsScript e before.source.left now.source.left commands
-  pub performs : IsTrue tells → PerformsAll commands before now
+  pub faults : List ℕ
+  pub counts : AreCounted (length commands) faults before now
+  pub performs : IsTrue tells → PerformsAll commands faults before now
 
--- a command failed after those that were performed
+-- the disk failed once more than there are answers `fault`, but did not fail for good
+pub record FailsInLine (f : StoreFault) (faults : List ℕ) (before now : Progress) : Type 0 where
+  pub no_disk : f ≢ fault.Disk
+  pub rose : RoseBy (suc (length faults)) before.disk_faults now.disk_faults
+
+-- a command failed after those that were performed, or the line `fault` that was its answer did
 pub record FailsMidway (tells : Bool) (f : StoreFault) (before now : Progress) : Type 0 where
   pub commands : List Command
   pub last : Command
   pub front : IfSome before.source.left (λ bytes.
       (rest : List ℕ) × SpellsFront bytes (commands ++ last ∷ []) rest)
-  pub fails : IsTrue tells → FailsAfter commands last f before now
+  pub faults : List ℕ
+  pub counts : AreCounted (length commands) faults before now
+  pub disk : f ≡ fault.Disk → RoseBy (suc (length faults)) before.disk_faults now.disk_faults
+  pub fails : (IsTrue tells → FailsAfter commands faults last f before now)
+      ⊎ (FailsInLine f faults before now × (IsTrue tells → FaultsAfter commands faults before now))
 
 abbrev pub PerformsCommands : Bool → Result Ended StoreFault → Progress → Progress → Type 0
 PerformsCommands tells (Ok e) before now = PerformsToEnd tells e before now
@@ -134,44 +178,40 @@ pub record PerformsNext (tells : Bool) (answer : Result (Option Ended) StoreFaul
   pub on : (before : Progress) → HasPerformed tells old before mid
       → PerformsSoFar tells answer new before now
 
--- The whole script, for a history and the commands of the source's bytes.
+-- The whole script, for a machine and the commands of the source's bytes.
 
 -- what went out, which acknowledges what was done for `a` commands
-pub record TellsAcked (m : Machine) (bytes : List ℕ) (cs done : List Command) (ended : Status)
-    (before now : Progress) (a : ℕ) : Type 0 where
+pub record TellsAcked (m : Machine) (bytes : List ℕ) (cs done : List Command) (ended : Status) (a : ℕ)
+    (faults with_last : List ℕ) (before now : Progress) : Type 0 where
   pub all : (ended ≡ status.Done) ⊎ (ended ≡ status.Script) → a ≡ length cs
-  pub replies : MaySay done before.session m
-      → TellsReplies m bytes cs done ended a before.taken now.taken
+  pub replies : MaySay (unfaulted with_last done) before.session m
+      → TellsReplies m bytes cs done ended a faults with_last before.taken now.taken
   pub source : ended ≡ status.Source → AreTaken before.source.left now.source.left (take a cs)
 
--- the marks where the first `a` commands are acknowledged, and those up to `b` have begun
-abbrev pub marks_from : Machine → Marks → List Command → ℕ → ℕ → Marks
-marks_from m w cs a b =
-    all_begun (after m (take a cs)) (drop a (take b cs)) (all_acked m (take a cs) w)
+-- they lead to a history, and what may be undone there may be undone by these marks
+pub record LeadsWithin (r : Reach) (m : Machine) (before now : Session) : Type 0 where
+  pub history : History
+  pub leads : LeadTo r.done before m now history
+  pub machine : history.machine ≡ after m r.done
+  pub within : (s : State) → IsSafe s history.marks → IsSafe s r.marks
 
--- the history where `a` commands are acknowledged, and those up to `b` were performed
-abbrev pub history_from : History → List Command → ℕ → ℕ → History
-history_from h cs a b = record {
-  machine = after h.machine (take b cs);
-  marks = marks_from h.machine h.marks cs a b;
-}
+-- what the store and the disk came to
+pub record LeavesScript (m : Machine) (r : Reach) (ended : Status) (before now : Session) : Type 0 where
+  pub safe : IsSafe now.disk r.marks
+  pub stands : IsClosing ended → LeadsWithin r m before now
 
--- what the store and the disk came to, where `a` commands are acknowledged
-pub record LeavesScript (h : History) (cs : List Command) (ended : Status) (a : ℕ)
-    (before now : Session) : Type 0 where
-  pub safe : IsSafe now.disk (marks_from h.machine h.marks cs a (min (a + 1) (length cs)))
-  pub stands : IsClosing ended → let p = performed ended a (length cs) in
-      LeadTo (take p cs) before h.machine now (history_from h cs a p)
-
-pub record ScriptIsRun (h : History) (bytes : List ℕ) (cs : List Command) (ended : Status)
+pub record ScriptIsRun (m : Machine) (bytes : List ℕ) (cs : List Command) (ended : Status)
     (before now : Progress) : Type 0 where
   pub done : List Command
-  pub are_done : AreDoneFor (Tells before.session h.machine) h.machine cs done
   pub acked : ℕ
-  pub tells : TellsAcked h.machine bytes cs done ended before now acked
-  pub leaves : LeavesScript h done ended acked before.session now.session
+  pub faults : List ℕ
+  pub with_last : List ℕ
+  pub counts : CountsFaults ended acked faults with_last before.disk_faults now.disk_faults
+  pub is_done : DoneForKept before.session m cs done with_last
+  pub tells : TellsAcked m bytes cs done ended acked faults with_last before now
+  pub leaves : LeavesScript m (one_begun_after m acked faults with_last ended done) ended before.session now.session
 
 pub record PerformsScript (came : Result Status StoreFault) (before now : Progress) : Type 0 where
-  pub each : IfSome before.source.left (λ bytes. (h : History) (cs : List Command)
-      → KeepsTo before.session h → CommandsIn bytes cs
-      → ScriptIsRun h bytes cs (status_in came) before now)
+  pub each : IfSome before.source.left (λ bytes. (m : Machine) (cs : List Command)
+      → KeepsTo before.session (settled_at m) → CommandsIn bytes cs
+      → ScriptIsRun m bytes cs (status_in came) before now)

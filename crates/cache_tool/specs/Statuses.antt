@@ -2,8 +2,8 @@
 use Rattle.std.specs.Prelude.{Err, Ok, Result, ⊤, ◌≡◌, ◌⊎◌}
 use Rattle.cache_base.specs.declared.status.Status.{Status}
 use Rattle.cache_base.specs.declared.status.Status.TheVariants as status
-use Rattle.cache_store.specs.declared.fault.Outcome.{Outcome}
-use Rattle.cache_store.specs.declared.fault.Outcome.TheVariants as outcome
+use Rattle.cache_store.specs.declared.fault.Verdict.{Verdict}
+use Rattle.cache_store.specs.declared.fault.Verdict.TheVariants as outcome
 use Rattle.cache_store.specs.declared.fault.StoreFault.{StoreFault}
 use Rattle.cache_store.specs.declared.fault.StoreFault.TheVariants as fault
 
@@ -23,7 +23,7 @@ abbrev pub IsAnswer : Status → Type 0
 IsAnswer s = (s ≡ status.Done) ⊎ (s ≡ status.No)
 
 -- how the program ends by the outcome of the last command
-abbrev pub status_of : Outcome → Status
+abbrev pub status_of : Verdict → Status
 status_of outcome.Ok = status.Done
 status_of outcome.Refused = status.No
 

@@ -1,6 +1,6 @@
 -- What failed in a call, and how the source, the sink and the disk count it.
-use Rattle.std.specs.Prelude.{Bool, Err, IsTrue, None, Ok, Option, Result, Some, ℕ, ◌≡◌}
-use Rattle.cache_base.specs.Causes.{HasCause}
+use Rattle.std.specs.Prelude.{Bool, Err, IsTrue, None, Ok, Option, Result, Some, min, ℕ, ◌+◌, ◌-◌, ◌^◌, ◌≡◌, ◌≤◌}
+use Rattle.cache_base.specs.Causes.{HasCause, Rose}
 use Rattle.cache_base.specs.declared.status.Status.{Status}
 use Rattle.cache_base.specs.declared.status.Status.TheVariants as status
 use Rattle.cache_io.specs.declared.sink.Sink.{Ghosts as OfSink}
@@ -11,6 +11,10 @@ use Rattle.cache_tool.specs.declared.script.Ended.{Ended}
 use Rattle.cache_tool.specs.declared.script.Ended.TheVariants as ended
 use Rattle.disk_model.specs.Calls.{Counts, StopsAtFault}
 use Rattle.disk_model.specs.declared.disk.Disk.{Ghosts as OfDisk}
+
+-- the count rose by so much, or stands at its end
+abbrev pub RoseBy : ℕ → ℕ → ℕ → Type 0
+RoseBy n before now = min (before + n) (2 ^ 64 - 1) ≤ now
 
 pub data Failure : Type 0 where
   NoFailure : Failure
@@ -67,11 +71,13 @@ tally S K D source sink disk = record {
 
 -- The failures are accounted for.
 pub record IsAccounted (what : Failure) (before now : Tally) : Type 0 where
-  -- a failure is answered only where the count rose, and otherwise the count is the same
+  -- a failure is answered only where the count rose, and otherwise the count is the same. That of the disk rises with
+  -- each answer `fault`, too
   pub source : HasCause (what ≡ Failure.OfSourceCall) before.source now.source
   pub sink : HasCause (what ≡ Failure.OfSinkCall) before.sink now.sink
-  pub disk : HasCause (what ≡ Failure.OfDiskCall) before.disk now.disk
-  -- where the disk did not fail and memory sufficed, no change and no sync failed
+  pub disk_later : before.disk ≤ now.disk
+  pub disk_rose : what ≡ Failure.OfDiskCall → Rose before.disk now.disk
+  -- where the disk did not fail for good and memory sufficed, no change and no sync failed
   pub went_on : ¬ (what ≡ Failure.OfDiskCall) → ¬ (what ≡ Failure.OfMemory) → IsTrue now.tells
       → now.calls.failed ≡ before.calls.failed
   -- after a change or a sync that failed no call of the disk follows

@@ -1,6 +1,7 @@
 -- What the verbs come to, for every machine at an opening on what stands.
 use Rattle.std.specs.Io.KnownBytes.{Appends, Keeps}
-use Rattle.std.specs.Prelude.{IfSome, IsSome, List, Option, [], length, min, take, ℕ, ◌+◌, ◌++◌, ⊤, ◌∷◌, ◌≡◌, ◌≢◌, ◌⊎◌}
+use Rattle.std.specs.Prelude.{IfSome, IsSome, List, Option, [], length, min, suc, take, ℕ, ◌+◌, ◌++◌, ⊤, ◌∷◌, ◌≡◌, ◌≢◌, ◌⊎◌}
+use Rattle.cache_base.specs.Causes.{Rose}
 use Rattle.cache_base.specs.declared.status.Status.{Status}
 use Rattle.cache_base.specs.declared.status.Status.TheVariants as status
 use Rattle.cache_store.specs.Answering.{outcome_of}
@@ -13,9 +14,11 @@ use Rattle.cache_theory.specs.Command.{Command}
 use Rattle.cache_theory.specs.Command.Command.{Evict, Flush, ListRecords}
 use Rattle.cache_theory.specs.Crash.{IsCrashSafe}
 use Rattle.cache_theory.specs.Machine.{Machine}
-use Rattle.cache_theory.specs.Session.{BeginsWith, IsAcked, marks_between}
+use Rattle.cache_theory.specs.Faulted.{AreFaults, fault_line, faulted, replies_but, unfaulted, with_next}
+use Rattle.cache_theory.specs.Marks.{Marks, marks_of}
+use Rattle.cache_theory.specs.Session.{BeginsWith, marks_between, marks_but}
 use Rattle.cache_theory.specs.Step.{after}
-use Rattle.cache_theory.specs.Text.{CommandsIn, ScriptSpells, replies_text, reply_text}
+use Rattle.cache_theory.specs.Text.{CommandsIn, ScriptSpells, reply_text}
 use Rattle.cache_tool.specs.DoneFor.{AreDoneFor}
 use Rattle.cache_tool.specs.Put.{ArePut}
 use Rattle.cache_tool.specs.Replies.{last_reply}
@@ -23,6 +26,7 @@ use Rattle.cache_tool.specs.Right.{ComesRight, MaySayOn}
 use Rattle.cache_tool.specs.Script.{AreTaken, bad_line, performed}
 use Rattle.cache_tool.specs.Statuses.{IsAnswer, IsClosing, status_of}
 use Rattle.cache_tool.specs.Staying.{EndsInUse, StaysOverAll}
+use Rattle.cache_tool.specs.Tally.{RoseBy}
 use Rattle.cache_tool.specs.World.{Output, World, output_of}
 use Rattle.disk_model.specs.Sound.{IsQuiet}
 use Rattle.disk_model.specs.State.{State, standing}
@@ -35,33 +39,36 @@ use Rattle.index_theory.specs.declared.kinds.Start.TheVariants.{Build, Ready}
 
 -- Commands are performed one after the other, from the first on.
 
--- how far: those that were performed, how many are acknowledged, and how many may have begun
+-- how far: those that were performed, and what a crash may undo of them
 pub record Reach : Type 0 where
   pub done : List Command
-  pub acked : ℕ
-  pub begun : ℕ
+  pub marks : Marks
 
--- all of them at once, with one answer to the last; and one by one, each with an answer of its own
-abbrev pub all_begun_none_acked : List Command → Reach
-all_begun_none_acked cs = record { done = cs; acked = 0; begun = length cs }
+-- None of them is: the commands after the opening have not begun.
+abbrev pub none_performed : Machine → Reach
+none_performed m = record { done = []; marks = marks_of m }
 
-abbrev pub one_begun_after : ℕ → Status → List Command → Reach
-one_begun_after acked ended cs = record {
-  done = take (performed ended acked (length cs)) cs;
-  acked = acked;
-  begun = min (acked + 1) (length cs);
+-- all of them at once, with one answer to the last
+abbrev pub all_begun_none_acked : Machine → List Command → Reach
+all_begun_none_acked m cs = record { done = cs; marks = marks_between m cs 0 (length cs) }
+
+-- One by one, each with an answer of its own: so many are acknowledged, and one more may have begun. Those with these
+-- numbers are answered `fault`, and maybe the next one is, too.
+abbrev pub one_begun_after : Machine → (acked : ℕ) (faults with_last : List ℕ) → Status → List Command → Reach
+one_begun_after m acked faults with_last ended cs = record {
+  done = unfaulted with_last (take (performed ended acked (length cs)) cs);
+  marks = marks_but m cs faults acked (min (acked + 1) (length cs));
 }
 
 -- what they leave on a disk that held s and holds t
-pub record LeavesDisk (m : Machine) (cs : List Command) (r : Reach) (ended : Status) (s t : State)
-    : Type 0 where
+pub record LeavesDisk (m : Machine) (r : Reach) (ended : Status) (s t : State) : Type 0 where
   -- where the store was closed nothing is pending, no doomed file stands, and the entries are those of the machine
   pub shut : IsClosing ended → IsShut t (after m r.done)
   -- then the directory is honest where it was so, or all entries were read anew, and where the update has ended its
   -- index is trusted
   pub honest : IsClosing ended → ComesRight s r.done → IsHonest t (after m r.done)
   -- with nothing pending at the call, a crash leaves no image but those that the marks allow
-  pub crash : IsQuiet s → IsCrashSafe t (marks_between m cs r.acked r.begun)
+  pub crash : IsQuiet s → IsCrashSafe t r.marks
   -- and each is honest, where the directory was
   pub images : IsQuiet s → Honest (standing s) → LeavesHonest t
   -- where the store was closed and the update has ended, the journal has few records
@@ -88,13 +95,21 @@ pub record PrintsLast (m : Machine) (cs : List Command) (ended : Status) (before
   -- what is printed is its text, unless it goes by records that are not right
   pub text : MaySayOn before.disk cs → PrintsText (reply_text (last_reply m cs)) ended before now
   pub silent : ended ≡ status.Source → Keeps before.taken now.taken
-  pub leaves : LeavesDisk m cs (all_begun_none_acked cs) ended before.disk now.disk
+  pub leaves : LeavesDisk m (all_begun_none_acked m cs) ended before.disk now.disk
 
--- words other than `run` and `put`: the command is performed, and its reply is printed
+-- A look at the disk failed before anything of the reply was said: the line that tells it is printed, or a part of it,
+-- the store was closed unless memory ran out, and no command was performed.
+pub record PrintsFault (m : Machine) (ended : Status) (before now : Output) : Type 0 where
+  pub failed : (ended ≡ status.Disk) ⊎ (ended ≡ status.Memory)
+  pub rose : Rose before.disk_faults now.disk_faults
+  pub part : IsPart before.taken now.taken fault_line
+  pub leaves : LeavesDisk m (none_performed m) ended before.disk now.disk
+
+-- words other than `run` and `put`: the command is performed, and its reply is printed, or the line `fault`
 abbrev pub AnswersCommand : ℕ → Command → Status → Output → Output → Type 0
-AnswersCommand moment c ended before now =
-    (m : Machine) → StartsOn moment before.disk m
+AnswersCommand moment c ended before now = (m : Machine) → StartsOn moment before.disk m
     → DoneFor (Honest (standing before.disk)) c m (λ d. PrintsLast m (d ∷ []) ended before now)
+    ⊎ PrintsFault m ended before now
 
 -- the words look at no entry: `flush` never does, and `list` and `evict` do not where the index is trusted
 abbrev pub LooksAtNone : Command → Start → Type 0
@@ -108,43 +123,59 @@ abbrev pub StoresEntry : ℕ → List ℕ → Status → World → World → Typ
 StoresEntry moment key ended before now =
     IsSome before.source.left
     → (m : Machine) → StartsOn moment before.disk m
-    → (cs : List Command) × (ArePut m key before.source now.source ended cs
-    × PrintsLast m cs ended (output_of before) (output_of now))
+    → ((cs : List Command) × (ArePut m key before.source now.source ended cs
+    × PrintsLast m cs ended (output_of before) (output_of now)))
+    ⊎ PrintsFault m ended (output_of before) (output_of now)
 
--- what went out are the replies to what was done for commands, which acknowledge `acked` of them
+-- What went out are the answers to what was done for commands. It tells how many are answered, and which of them by
+-- `fault`. The command behind them may have been answered so, too, with an answer that was cut.
 pub record TellsReplies (m : Machine) (bytes : List ℕ) (cs done : List Command) (ended : Status)
-    (acked : ℕ) (before now : Option (List ℕ)) : Type 0 where
+    (acked : ℕ) (faults with_last : List ℕ) (before now : Option (List ℕ)) : Type 0 where
   pub out : List ℕ
   pub printed : Appends before now out
-  pub is_acked : IsAcked m done out acked
-  -- in any case a prefix of the replies, and of the line that names a bad command where there is one
-  pub front : BeginsWith (replies_text m done ++ bad_line (length cs + 1)) out
-  pub no_line : ScriptSpells bytes cs → BeginsWith (replies_text m done) out
+  pub told : faulted m done out ≡ record { answered = acked; faults = faults }
+  -- in any case a prefix of the answers, and of the line that names a bad command where there is one
+  pub front : BeginsWith (replies_but m done with_last ++ bad_line (length cs + 1)) out
+  pub no_line : ScriptSpells bytes cs → BeginsWith (replies_but m done with_last) out
   -- all of them, by the status
-  pub all : ended ≡ status.Done → out ≡ replies_text m done
-  pub script : ended ≡ status.Script → out ≡ replies_text m done ++ bad_line (length cs + 1)
-  -- with a source that failed the replies to the commands that it gave whole
-  pub source : ended ≡ status.Source → out ≡ replies_text m (take acked done)
+  pub all : ended ≡ status.Done → out ≡ replies_but m done faults
+  pub script : ended ≡ status.Script → out ≡ replies_but m done faults ++ bad_line (length cs + 1)
+  -- with a source that failed the answers to the commands that it gave whole
+  pub source : ended ≡ status.Source → out ≡ replies_but m (take acked done) faults
 
--- these are the commands of a script, and what was done for them, of which some are acknowledged, and one more may have
--- begun
-pub record PrintsReplies (m : Machine) (bytes : List ℕ) (cs done : List Command) (ended : Status)
+-- the numbers of the commands that are answered `fault`, by how often the disk failed: so often at least, and once more
+-- where the line was cut, or where the disk failed for good
+pub record CountsFaults (ended : Status) (acked : ℕ) (faults with_last : List ℕ) (before now : ℕ) : Type 0 where
+  pub numbers : AreFaults acked faults
+  pub counted : RoseBy (length faults) before now
+  pub last : (with_last ≡ faults)
+      ⊎ ((with_last ≡ with_next acked faults) × RoseBy (suc (length faults)) before now)
+  pub disk : ended ≡ status.Disk → RoseBy (suc (length faults)) before now
+
+-- These are the commands of a script, and what was done for them, of which some are acknowledged, and one more may have
+-- begun. A command that is answered `fault` is left out, as if it had not been there.
+pub record PrintsReplies (m : Machine) (bytes : List ℕ) (cs : List Command) (ended : Status)
     (before now : World) : Type 0 where
+  pub done : List Command
+  pub as_many : length done ≡ length cs
   pub acked : ℕ
-  -- all of them are, where none failed
+  pub faults : List ℕ
+  pub with_last : List ℕ
+  pub counts : CountsFaults ended acked faults with_last before.disk_faults now.disk_faults
+  pub are_done : AreDoneFor (Honest (standing before.disk)) m (unfaulted with_last cs) (unfaulted with_last done)
+  -- all of them are acknowledged, where none failed
   pub all : (ended ≡ status.Done) ⊎ (ended ≡ status.Script) → acked ≡ length cs
-  -- what is printed are their replies, and tells how many are acknowledged, unless a reply goes by records that are not
+  -- what is printed are their answers, and tells how many are acknowledged, unless a reply goes by records that are not
   -- right
-  pub replies : MaySayOn before.disk done
-      → TellsReplies m bytes cs done ended acked before.taken now.taken
+  pub replies : MaySayOn before.disk (unfaulted with_last done)
+      → TellsReplies m bytes cs done ended acked faults with_last before.taken now.taken
   -- a source that failed gave these commands whole
   pub source : ended ≡ status.Source
       → AreTaken before.source.left now.source.left (take acked cs)
-  pub leaves : LeavesDisk m done (one_begun_after acked ended done) ended before.disk now.disk
+  pub leaves : LeavesDisk m (one_begun_after m acked faults with_last ended done) ended before.disk now.disk
 
 -- `run`, of a source that tells its bytes: the commands that these spell are performed
 abbrev pub RunsScript : ℕ → Status → World → World → Type 0
 RunsScript moment ended before now = IfSome before.source.left (λ bytes.
     (m : Machine) (cs : List Command) → StartsOn moment before.disk m → CommandsIn bytes cs
-    → (done : List Command) × (AreDoneFor (Honest (standing before.disk)) m cs done
-    × PrintsReplies m bytes cs done ended before now))
+    → PrintsReplies m bytes cs ended before now)

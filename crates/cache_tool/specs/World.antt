@@ -15,39 +15,68 @@ pub record Supply : Type 0 where
 abbrev pub supply : {A : _} → OfSource A → A → Supply
 supply S source = record { left = S.left source; faults = S.faults source }
 
--- what a sink took, and what a disk holds
+-- what a sink took, what a disk holds, and how often it has failed
 pub record Output : Type 0 where
   pub taken : Option (List ℕ)
   pub disk : State
+  pub disk_faults : ℕ
 
 abbrev pub output : {A B : _} → OfSink A → OfDisk B → A → B → Output
-output K D sink disk = record { taken = K.taken sink; disk = D.state disk }
+output K D sink disk = record { taken = K.taken sink; disk = D.state disk; disk_faults = D.faults disk }
 
 -- a source, a sink and a disk
 pub record World : Type 0 where
   pub source : Supply
   pub taken : Option (List ℕ)
   pub disk : State
+  pub disk_faults : ℕ
 
 abbrev pub world : {A B C : _} → OfSource A → OfSink B → OfDisk C → A → B → C → World
-world S K D source sink disk =
-    record { source = supply S source; taken = K.taken sink; disk = D.state disk }
+world S K D source sink disk = record {
+  source = supply S source;
+  taken = K.taken sink;
+  disk = D.state disk;
+  disk_faults = D.faults disk;
+}
 
 abbrev pub output_of : World → Output
-output_of w = record { taken = w.taken; disk = w.disk }
+output_of w = record { taken = w.taken; disk = w.disk; disk_faults = w.disk_faults }
 
 -- the same in a session: a store is open over the disk
 pub record Progress : Type 0 where
   pub source : Supply
   pub taken : Option (List ℕ)
   pub session : Session
+  pub disk_faults : ℕ
 
 abbrev pub progress : {A B C : _} → OfSource A → OfSink B → OfDisk C → Store → A → B → C → Progress
 progress S K D store source sink disk = record {
   source = supply S source;
   taken = K.taken sink;
   session = record { open_store = open_of store; disk = D.state disk };
+  disk_faults = D.faults disk;
 }
 
 abbrev pub world_of : Progress → World
-world_of p = record { source = p.source; taken = p.taken; disk = p.session.disk }
+world_of p = record {
+  source = p.source;
+  taken = p.taken;
+  disk = p.session.disk;
+  disk_faults = p.disk_faults;
+}
+
+-- the same without a source
+pub record Sitting : Type 0 where
+  pub taken : Option (List ℕ)
+  pub session : Session
+  pub disk_faults : ℕ
+
+abbrev pub sitting : {A B : _} → OfSink A → OfDisk B → Store → A → B → Sitting
+sitting K D store sink disk = record {
+  taken = K.taken sink;
+  session = record { open_store = open_of store; disk = D.state disk };
+  disk_faults = D.faults disk;
+}
+
+abbrev pub sitting_of : Progress → Sitting
+sitting_of p = record { taken = p.taken; session = p.session; disk_faults = p.disk_faults }

@@ -1,7 +1,7 @@
 //! One command, which the words give.
 
-ghost use Rattle.std.specs.Prelude.{◌≡◌, ◌⊎◌, true, IsTrue};
-ghost use Rattle.cache_base.specs.Causes.{HasCause, Rose};
+ghost use Rattle.std.specs.Prelude.{◌≡◌, ◌≢◌, ◌⊎◌, true, IsTrue};
+ghost use Rattle.cache_base.specs.Causes.{Rose};
 ghost use Rattle.cache_script.specs.Command.{command_of};
 ghost use Rattle.cache_store.specs.IndexCalls.{LooksAtNames};
 ghost use Rattle.cache_store.specs.Printed.{PrintsNo, PrintsOk, is_plain};
@@ -15,7 +15,7 @@ ghost use Rattle.disk_model.specs.Sound.{IsQuiet};
 ghost use Rattle.disk_model.specs.State.{standing};
 ghost use Rattle.index_theory.specs.Start.{start_of};
 
-use crate::session::{end, status_of, status_of_fault};
+use crate::session::{end, end_faulted, status_of, status_of_fault};
 use cache_base::{Moment, Status};
 use cache_io::Sink;
 use cache_script::Command;
@@ -23,7 +23,8 @@ use cache_store::Store;
 use disk_model::Disk;
 use std::alloc::Global;
 
-/// Performs the command and prints its reply.
+/// Performs the command and prints its reply. Where a look at the disk failed before anything of it was out, the line
+/// `fault` is printed, and the status is that of a disk that failed.
 pub(crate) fn perform_one<D: Disk, K: Sink>(
     alloc: Global,
     now: Moment,
@@ -47,12 +48,17 @@ pub(crate) fn perform_one<D: Disk, K: Sink>(
     ensures stops { IsTrue D.tells → StopsAtFault (D.counts disk.old) (D.counts disk.new) }
     ensures sink { result ≡ Status.Sink → Rose (K.faults sink.old) (K.faults sink.new) }
     ensures calm { IsAnswer result → K.faults sink.new ≡ K.faults sink.old }
-    ensures disk { HasCause (result ≡ Status.Disk) (D.faults disk.old) (D.faults disk.new) }
+    ensures disk { result ≡ Status.Disk → Rose (D.faults disk.old) (D.faults disk.new) }
+    ensures disk_first { result ≢ Status.Disk → result ≢ Status.Memory →
+        D.faults disk.new ≡ D.faults disk.old }
 {
     let mut store = match Store::open(alloc, disk, now) {
         Ok(store) => store,
         Err(fault) => return status_of_fault(fault),
     };
-    let came = store.command(alloc, disk, command, sink).map(status_of);
-    end(store, came, disk)
+    let answered = store.attempt(alloc, disk, command, sink);
+    if store.faulting() {
+        return end_faulted(store, sink, disk);
+    }
+    end(store, answered.map(status_of), disk)
 }

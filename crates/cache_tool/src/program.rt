@@ -38,6 +38,10 @@ use std::alloc::Global;
 /// half of all by their sizes, checks and lists the rest, and prints how many there were of each. Each opens the store
 /// at the moment NOW and closes it.
 ///
+/// A command that ends in a failed look at the disk before anything of its reply is out is answered by the line `fault`,
+/// and leaves all as it was. A `run` goes on with the next command; for other words the status is that of a disk that
+/// failed. Looks in the opening, in the closing and in `fill` end the run, as does one behind a part of a reply.
+///
 /// The clauses on contents hold where the disk and the source tell theirs. Those on a crash hold where nothing was
 /// pending at the call, and speak of every exit, whatever the status. The replies to `list` and `has` go by the records in
 /// memory: where one of them is among the commands, what is printed is the machine's where the directory was honest. What
@@ -116,12 +120,18 @@ pub fn run<D: Disk, S: Source, K: Sink>(
     ensures never_source { WhenOne (asked_in words.now) (λ now c. result ≢ Status.Source) }
     ensures fill_source { WhenFill (asked_in words.now) (λ now count first. result ≢ Status.Source) }
 
-    // A fault is answered only where its count rose, that of the disk before the others, and where the disk's rose
-    // there is no other answer, unless memory ran out. After a change that failed no call follows.
+    // A fault is answered only where its count rose, and for words other than `run` that of the disk before the others:
+    // where its count rose there is no other answer, unless memory ran out. In a `run` looks may fail and be answered by
+    // the line `fault`, but a change or a sync that fails is answered by the status. After it no call follows.
     ensures source { result ≡ Status.Source → Rose (S.faults source.old) (S.faults source.new) }
     ensures sink { result ≡ Status.Sink → Rose (K.faults sink.old) (K.faults sink.new) }
     ensures disk { result ≡ Status.Disk → Rose (D.faults disk.old) (D.faults disk.new) }
-    ensures disk_first { result ≢ Status.Disk → D.faults disk.new ≡ D.faults disk.old }
+    ensures disk_first { let same = D.faults disk.new ≡ D.faults disk.old in
+        result ≢ Status.Disk → result ≢ Status.Memory → WhenPut (asked_in words.now) (λ now key. same)
+        × WhenOne (asked_in words.now) (λ now c. same) × WhenFill (asked_in words.now) (λ now count first. same) }
+    ensures went_on { let same = (D.counts disk.new).failed ≡ (D.counts disk.old).failed in
+        result ≢ Status.Disk → result ≢ Status.Memory →
+        IsTrue D.tells → WhenRun (asked_in words.now) (λ now. same) }
     ensures calm { IsAnswer result ⊎ (result ≡ Status.Script) →
         (S.faults source.new ≡ S.faults source.old) × (K.faults sink.new ≡ K.faults sink.old) }
     ensures stops { IsTrue D.tells → StopsAtFault (D.counts disk.old) (D.counts disk.new) }

@@ -1,10 +1,11 @@
 //! The verb `put`: an entry is made of its key and of the bytes of the source.
 
-ghost use Rattle.std.specs.Prelude.{◌≡◌, ◌≢◌, ◌≤◌, ◌<◌, ◌+◌, ◌⊎◌, [], length, false, Err, Ok, Some, IfOk, IsTrue, vec_len};
+ghost use Rattle.std.specs.Prelude.{◌≡◌, ◌≢◌, ◌≤◌, ◌<◌, ◌+◌, ◌⊎◌, [], length, false, true, Err, Ok, Some, IfOk, IsTrue, vec_len};
 ghost use Rattle.std.specs.Io.KnownBytes.{IsAtEnd};
-ghost use Rattle.cache_base.specs.Causes.{HasCause, Rose};
+ghost use Rattle.cache_base.specs.Causes.{Rose};
 ghost use Rattle.cache_base.specs.declared.limits.TheConstants.{BODY_MAX as BODY_LEN, PIECE_MAX as PIECE_LEN};
 ghost use Rattle.cache_script.specs.Command.{command_of};
+ghost use Rattle.cache_store.specs.Faulting.{LooksAtNothing, StaysAs};
 ghost use Rattle.cache_store.specs.Faults.{ending};
 ghost use Rattle.cache_store.specs.Open.{IsOpen, LeavesOpen};
 ghost use Rattle.cache_store.specs.Printed.{HasBadKey, Prints, PrintsOk};
@@ -17,7 +18,7 @@ ghost use Rattle.cache_tool.specs.PutProgress.{AppendsBody, AppendsPiece, Perfor
 ghost use Rattle.cache_tool.specs.Statuses.{IsAnswer, IsClosing};
 ghost use Rattle.cache_tool.specs.Verbs.{StoresEntry};
 ghost use Rattle.cache_tool.specs.World.{supply, world};
-ghost use Rattle.disk_model.specs.Account.{Accounts};
+ghost use Rattle.disk_model.specs.Account.{Accounts, Ending, Looks};
 ghost use Rattle.disk_model.specs.Calls.{StopsAtFault};
 ghost use Rattle.disk_model.specs.Sound.{IsQuiet};
 ghost use Rattle.entry_key.specs.Writing.{may_write};
@@ -25,11 +26,11 @@ ghost use Rattle.index_theory.specs.Honest.{LeavesHonest};
 
 use crate::last_reply::LastReply;
 use crate::piece::{Ended, fill};
-use crate::session::{end, print_answer, status_of, status_of_fault};
+use crate::session::{end, end_faulted, print_answer, status_of, status_of_fault};
 use cache_base::{BODY_MAX, Moment, NoMemory, PIECE_MAX, Status};
 use cache_io::{Sink, Source};
 use cache_script::Command;
-use cache_store::{Outcome, Store, StoreFault};
+use cache_store::{Store, StoreFault, Verdict};
 use disk_model::Disk;
 use std::alloc::Global;
 
@@ -43,7 +44,7 @@ pub(crate) fn send<D: Disk>(
     c: &Command<'_>,
     said: &mut LastReply,
     disk: &mut D,
-) -> Result<Outcome, StoreFault>
+) -> Result<Verdict, StoreFault>
     requires given { IsGiven (command_of c.now) }
     requires told { IsTrue D.tells → IsOpen (session D.Disk store.old disk.old) }
     ensures sends { let at = session D.Disk in let before = at store.old disk.old in
@@ -51,14 +52,19 @@ pub(crate) fn send<D: Disk>(
         SendsCommand (command_of c.now) result before now (said_in said.new) }
     ensures prints { IfOk result (λ o.
         Prints (command_of c.now) o (Some []) (Some (said_in said.new))) }
-    ensures bad_key { HasBadKey (command_of c.now) → result ≢ Ok Outcome.Ok }
+    ensures bad_key { HasBadKey (command_of c.now) → result ≢ Ok Verdict.Ok }
     ensures open { IsTrue D.tells → LeavesOpen result (session D.Disk store.new disk.new) }
     ensures honest { IsTrue D.tells → LeavesHonest (D.state disk.new) }
     ensures no_sink { result ≢ Err StoreFault.Sink }
     ensures account { Accounts D.Disk (ending result) disk.old disk.new }
+    ensures faulted { store.new.faulting ≡ true → result ≡ Err StoreFault.Disk }
+    ensures looked { store.new.faulting ≡ true → Looks D.Disk Ending.OneFailed disk.old disk.new }
+    ensures stays { let at = session D.Disk in store.new.faulting ≡ true → IsTrue D.tells →
+        StaysAs (at store.old disk.old) (at store.new disk.new) }
+    ensures bare { LooksAtNothing (command_of c.now) → store.new.faulting ≡ false }
 {
     said.clear();
-    store.command(alloc, disk, c, said)
+    store.attempt(alloc, disk, c, said)
 }
 
 // Appends a piece to the body, unless it is empty. The body has room for so many bytes more, and the machine refuses a
@@ -70,21 +76,22 @@ fn append_piece<D: Disk>(
     room: usize,
     said: &mut LastReply,
     disk: &mut D,
-) -> Result<Outcome, StoreFault>
+) -> Result<Verdict, StoreFault>
     requires told { IsTrue D.tells → IsOpen (session D.Disk store.old disk.old) }
     ensures appends { let at = session D.Disk in let before = at store.old disk.old in
         let now = at store.new disk.new in IsTrue D.tells →
         AppendsPiece piece.now room result before now (said_in said.new) }
-    ensures fits { result ≡ Ok Outcome.Ok → length piece.now ≤ room }
-    ensures refused { result ≡ Ok Outcome.Refused →
+    ensures fits { result ≡ Ok Verdict.Ok → length piece.now ≤ room }
+    ensures refused { result ≡ Ok Verdict.Refused →
         IsRefusalLine (said_in said.new) ⊎ (room < length piece.now) }
     ensures open { IsTrue D.tells → LeavesOpen result (session D.Disk store.new disk.new) }
     ensures honest { IsTrue D.tells → LeavesHonest (D.state disk.new) }
     ensures no_sink { result ≢ Err StoreFault.Sink }
     ensures account { Accounts D.Disk (ending result) disk.old disk.new }
+    ensures bare { store.old.faulting ≡ false → store.new.faulting ≡ false }
 {
     if piece.is_empty() {
-        return Ok(Outcome::Ok);
+        return Ok(Verdict::Ok);
     }
     let append = Command::Append {
         slot: SLOT,
@@ -92,7 +99,7 @@ fn append_piece<D: Disk>(
     };
     let outcome = send(alloc, store, &append, said, disk)?;
     if piece.len() > room {
-        return Ok(Outcome::Refused);
+        return Ok(Verdict::Refused);
     }
     Ok(outcome)
 }
@@ -129,6 +136,7 @@ fn append_all<D: Disk, S: Source>(
     ensures honest { IsTrue D.tells → LeavesHonest (D.state disk.new) }
     ensures no_sink { result ≢ Err StoreFault.Sink }
     ensures account { Accounts D.Disk (ending result) disk.old disk.new }
+    ensures bare { store.old.faulting ≡ false → store.new.faulting ≡ false }
 {
     let mut room = BODY_MAX;
     'pieces: loop {
@@ -138,8 +146,8 @@ fn append_all<D: Disk, S: Source>(
             Ended::Failed => return Ok(Status::Source),
             Ended::End => return Ok(status_of(outcome)),
             Ended::Full => match outcome {
-                Outcome::Refused => return Ok(Status::No),
-                Outcome::Ok => room -= filled.count,
+                Verdict::Refused => return Ok(Status::No),
+                Verdict::Ok => room -= filled.count,
             },
         }
     }
@@ -173,10 +181,16 @@ fn perform_put<D: Disk, S: Source>(
     ensures honest { IsTrue D.tells → LeavesHonest (D.state disk.new) }
     ensures no_sink { result ≢ Err StoreFault.Sink }
     ensures account { Accounts D.Disk (ending result) disk.old disk.new }
+    // A look at the disk fails in the first command alone.
+    ensures looked { result ≡ Err StoreFault.Disk → store.new.faulting ≡ true →
+        Looks D.Disk Ending.OneFailed disk.old disk.new }
+    ensures stays { let at = session D.Disk in
+        result ≡ Err StoreFault.Disk → store.new.faulting ≡ true → IsTrue D.tells →
+        StaysAs (at store.old disk.old) (at store.new disk.new) }
 {
     let mut piece = new_piece(alloc)?;
     let create = Command::Create { slot: SLOT, key };
-    if let Outcome::Refused = send(alloc, store, &create, said, disk)? {
+    if let Verdict::Refused = send(alloc, store, &create, said, disk)? {
         return Ok(Status::No);
     }
     let appended = append_all(alloc, store, source, piece.as_mut_slice(), said, disk)?;
@@ -188,7 +202,8 @@ fn perform_put<D: Disk, S: Source>(
     Ok(appended)
 }
 
-/// Makes an entry of the key and of the source's bytes, closes the store, and prints the last reply.
+/// Makes an entry of the key and of the source's bytes, closes the store, and prints the last reply. Where a look at the disk
+/// failed before anything was changed, the line `fault` is printed.
 pub(crate) fn put<D: Disk, S: Source, K: Sink>(
     alloc: Global,
     now: Moment,
@@ -214,7 +229,9 @@ pub(crate) fn put<D: Disk, S: Source, K: Sink>(
     ensures sink { result ≡ Status.Sink → Rose (K.faults sink.old) (K.faults sink.new) }
     ensures calm { IsAnswer result →
         (S.faults source.new ≡ S.faults source.old) × (K.faults sink.new ≡ K.faults sink.old) }
-    ensures disk { HasCause (result ≡ Status.Disk) (D.faults disk.old) (D.faults disk.new) }
+    ensures disk { result ≡ Status.Disk → Rose (D.faults disk.old) (D.faults disk.new) }
+    ensures disk_first { result ≢ Status.Disk → result ≢ Status.Memory →
+        D.faults disk.new ≡ D.faults disk.old }
 {
     let mut store = match Store::open(alloc, disk, now) {
         Ok(store) => store,
@@ -222,6 +239,11 @@ pub(crate) fn put<D: Disk, S: Source, K: Sink>(
     };
     let mut said = LastReply::new(alloc);
     let came = perform_put(alloc, &mut store, key, source, &mut said, disk);
+    if let Err(StoreFault::Disk) = came {
+        if store.faulting() {
+            return end_faulted(store, sink, disk);
+        }
+    }
     match end(store, came, disk) {
         Status::Done => print_answer(Status::Done, said.as_slice(), sink),
         Status::No => print_answer(Status::No, said.as_slice(), sink),

@@ -37,7 +37,8 @@ pub(crate) enum Ended {
     Bad(u64),
 }
 
-/// Performs the commands of the script that the source has, each with its reply before the next one is read.
+/// Performs the commands of the script that the source has, each with its reply before the next one is read. A command that
+/// ends in a failed look at the disk is answered by the line `fault`, and the session goes on.
 pub(crate) fn run_script<D: Disk, S: Source, K: Sink>(
     alloc: Global,
     now: Moment,
@@ -59,7 +60,9 @@ pub(crate) fn run_script<D: Disk, S: Source, K: Sink>(
     ensures sink { result ≡ Status.Sink → Rose (K.faults sink.old) (K.faults sink.new) }
     ensures calm { (result ≡ Status.Done) ⊎ (result ≡ Status.Script) →
         (S.faults source.new ≡ S.faults source.old) × (K.faults sink.new ≡ K.faults sink.old) }
-    ensures disk { HasCause (result ≡ Status.Disk) (D.faults disk.old) (D.faults disk.new) }
+    ensures disk { result ≡ Status.Disk → Rose (D.faults disk.old) (D.faults disk.new) }
+    ensures went_on { result ≢ Status.Disk → result ≢ Status.Memory →
+        IsTrue D.tells → (D.counts disk.new).failed ≡ (D.counts disk.old).failed }
 {
     let mut store = match Store::open(alloc, disk, now) {
         Ok(store) => store,

@@ -1,12 +1,13 @@
 //! How a session ends, and how its answer is printed.
 
-ghost use Rattle.std.specs.Prelude.{◌≡◌, ◌⊎◌, Err, IfOk, IsTrue};
+ghost use Rattle.std.specs.Prelude.{◌≡◌, ◌≢◌, ◌⊎◌, ◌≤◌, Err, IfOk, IsTrue};
 ghost use Rattle.std.specs.Io.KnownBytes.{Appends};
 ghost use Rattle.cache_base.specs.Causes.{HasCause, Rose};
-ghost use Rattle.cache_store.specs.Open.{LeavesOpen};
+ghost use Rattle.cache_store.specs.Open.{IsOpen, LeavesOpen};
 ghost use Rattle.cache_store.specs.Said.{IsCut};
 ghost use Rattle.cache_store.specs.Saying.{IsPart};
 ghost use Rattle.cache_store.specs.Session.{session};
+ghost use Rattle.cache_theory.specs.Faulted.{fault_line};
 ghost use Rattle.cache_tool.specs.Ending.{EndsSession};
 ghost use Rattle.cache_tool.specs.Statuses.{IsAnswer, IsClosing, status_in, status_of as status_of_outcome};
 ghost use Rattle.disk_model.specs.Account.{LooksAtNoEntry};
@@ -15,16 +16,16 @@ ghost use Rattle.disk_model.specs.Sound.{IsQuiet};
 
 use cache_base::Status;
 use cache_io::{Sink, SinkFault, write_whole};
-use cache_store::{Outcome, Store, StoreFault};
+use cache_store::{Store, StoreFault, Verdict};
 use disk_model::Disk;
 
 /// How the program ends by the outcome of the last command.
-pub(crate) fn status_of(outcome: Outcome) -> Status
+pub(crate) fn status_of(outcome: Verdict) -> Status
     ensures { result ≡ status_of_outcome outcome }
 {
     match outcome {
-        Outcome::Ok => Status::Done,
-        Outcome::Refused => Status::No,
+        Verdict::Ok => Status::Done,
+        Verdict::Refused => Status::No,
     }
 }
 
@@ -51,6 +52,9 @@ pub(crate) fn end<D: Disk>(store: Store, came: Result<Status, StoreFault>, disk:
         (result ≡ status_in came) × (disk.new ≡ disk.old) }
     ensures quiet { IsClosing result → IsTrue D.tells → IsQuiet (D.state disk.new) }
     ensures no_entry { LooksAtNoEntry D.Disk disk.old disk.new }
+    ensures went_on { result ≢ Status.Disk → result ≢ Status.Memory →
+        IsTrue D.tells → (D.counts disk.new).failed ≡ (D.counts disk.old).failed }
+    ensures later { D.faults disk.old ≤ D.faults disk.new }
     ensures stops { IsTrue D.tells → StopsAtFault (D.counts disk.old) (D.counts disk.new) }
     ensures cause { IsClosing (status_in came) →
         HasCause (result ≡ Status.Disk) (D.faults disk.old) (D.faults disk.new) }
@@ -64,6 +68,28 @@ pub(crate) fn end<D: Disk>(store: Store, came: Result<Status, StoreFault>, disk:
     match store.close(disk) {
         Ok(()) => status,
         Err(fault) => status_of_fault(fault),
+    }
+}
+
+/// Ends a session whose command ended in a failed look at the disk, with all as it was: the line that tells it is printed,
+/// and the store is closed unless memory ran out. The status is that of a disk that failed, whatever else did.
+pub(crate) fn end_faulted<D: Disk, K: Sink>(mut store: Store, sink: &mut K, disk: &mut D) -> Status
+    requires told { IsTrue D.tells → IsOpen (session D.Disk store disk.old) }
+    ensures failed { (result ≡ Status.Disk) ⊎ (result ≡ Status.Memory) }
+    ensures ends { IsTrue D.tells →
+        EndsSession result (session D.Disk store disk.old) (D.state disk.new) }
+    ensures part { IsPart (K.taken sink.old) (K.taken sink.new) fault_line }
+    ensures no_entry { LooksAtNoEntry D.Disk disk.old disk.new }
+    ensures later { D.faults disk.old ≤ D.faults disk.new }
+    ensures stops { IsTrue D.tells → StopsAtFault (D.counts disk.old) (D.counts disk.new) }
+{
+    let came = match store.say_fault(sink) {
+        Err(StoreFault::Memory) => Err(StoreFault::Memory),
+        _ => Ok(Status::No),
+    };
+    match end(store, came, disk) {
+        Status::Memory => Status::Memory,
+        _ => Status::Disk,
     }
 }
 

@@ -47,24 +47,14 @@ fn a_session_is_answered(rt: HostRuntime) -> Result<(), Fail> {
     Ok(())
 }
 
-// Performs a `get`, and answers a failed look at the disk by its line.
 fn get(
     store: &mut Store,
     alloc: Global,
     disk: &mut RealDisk<'_, HostRuntime>,
     key: &[u8],
     sink: &mut MemSink,
-) -> Result<bool, StoreFault> {
-    match store.command(alloc, disk, &Command::Get { key }, sink) {
-        Ok(outcome) => Ok(outcome == Outcome::Ok),
-        Err(fault) => {
-            if fault != StoreFault::Disk || !store.faulting() {
-                return Err(fault);
-            }
-            store.say_fault(sink)?;
-            Ok(false)
-        }
-    }
+) -> Result<Outcome, StoreFault> {
+    store.command(alloc, disk, &Command::Get { key }, sink)
 }
 
 // A folder stands in the place of an entry's file: it cannot be read, and the other entry can.
@@ -84,11 +74,11 @@ fn a_file_that_cannot_be_read_ends_one_command(rt: HostRuntime) -> Result<(), Fa
     let mut answers = MemSink::new(alloc);
     assert_eq!(rt;
         get(&mut store, alloc, &mut disk, b":x", &mut answers),
-        Ok(false)
+        Ok(Outcome::Faulted)
     );
     assert_eq!(rt;
         get(&mut store, alloc, &mut disk, b":y", &mut answers),
-        Ok(true)
+        Ok(Outcome::Ok)
     );
     store.close(&mut disk)?;
     assert_eq!(rt;

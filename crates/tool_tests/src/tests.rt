@@ -7,6 +7,7 @@ ghost use Rattle.disk_model.specs.Sound.{IsQuiet};
 mod chunks;
 mod crash;
 mod evict;
+mod fault;
 mod fill;
 mod get;
 mod hostile;
@@ -262,7 +263,8 @@ fn disk_with(alloc: Global, key: &str, file: &[u8]) -> Result<MemDisk, Fail> {
     Ok(disk)
 }
 
-// Whether the words end with the disk where its call of that number fails, and print nothing.
+// Whether the words end with the disk where its call of that number fails: with it and without a word, or with the line
+// that tells of a failed look, and the closing after it.
 fn fails_on(
     alloc: Global,
     disk: &mut MemDisk,
@@ -272,7 +274,9 @@ fn fails_on(
 ) -> Result<bool, Fail> {
     disk.fail_at(one_number(alloc, number)?);
     let (status, printed) = ends(alloc, disk, line, input)?;
-    Ok(status == Status::Disk && printed.as_slice().is_empty() && disk.calls() == u64::from(number))
+    let ends_there = printed.as_slice().is_empty() && disk.calls() == u64::from(number);
+    let is_told = printed.as_slice() == b"fault\n".as_slice() && disk.calls() > u64::from(number);
+    Ok(status == Status::Disk && (ends_there || is_told))
 }
 
 // The same of a disk that is used up.

@@ -5,7 +5,7 @@ use Rattle.cache_store.specs.Answering.{rest_of}
 use Rattle.cache_store.specs.Said.{Saying, saying}
 use Rattle.cache_store.specs.Saying.{CutsIn, SaysMore}
 use Rattle.cache_store.specs.declared.answered.Answered.{Answered}
-use Rattle.cache_store.specs.declared.fault.Outcome.{Outcome}
+use Rattle.cache_store.specs.declared.fault.Verdict.{Verdict}
 use Rattle.cache_store.specs.declared.fault.StoreFault.{StoreFault}
 use Rattle.cache_theory.specs.Text.{findings_text, refusal_words, spaced}
 use Rattle.cache_store.proofs.SaidMore.{when_err}
@@ -13,7 +13,7 @@ use Rattle.cache_store.proofs.SayingLaws.{cuts_front, cuts_line, cuts_then}
 use Rattle.cache_store.proofs.command.say_rest.Goals as goal
 
 -- of an answer by another name the same is cut
-answer_cut : {a b : Answered} (r : Result Outcome StoreFault) (was : Saying) (now : Option (List ℕ)) → a ≡ b → OnErr r (CutsIn was now (rest_of b)) → OnErr r (CutsIn was now (rest_of a))
+answer_cut : {a b : Answered} (r : Result Verdict StoreFault) (was : Saying) (now : Option (List ℕ)) → a ≡ b → OnErr r (CutsIn was now (rest_of b)) → OnErr r (CutsIn was now (rest_of a))
 answer_cut r was now same cut = subst (λ (x : Answered). OnErr r (CutsIn was now (rest_of x))) (sym same) cut
 
 pub returns-in-Done-clause-cut : goal.returns-in-Done-clause-cut

@@ -1,7 +1,6 @@
-use Rattle.std.proofs.Common.{◌≡◌, ◌≤◌, ◌<◌, ◌*◌, ◌∙◌, List, [], ℕ, append-nil, arith, rules, subst, sym}
+use Rattle.std.proofs.Common.{◌≤◌, ◌<◌, ◌*◌, ◌∙◌, List, [], ℕ, append-nil, arith, rules, subst, sym}
 use Rattle.std.specs.Prelude.{take}
 use Rattle.cache_base.specs.Limits.{chunks}
-use Rattle.chunk_store.specs.Chunks.{chunk}
 use Rattle.disk_model.specs.State.{State, standing}
 use Rattle.cache_store.specs.Prefix.{HasChunkAt}
 use Rattle.cache_store.specs.Said.{saying}

@@ -1,4 +1,4 @@
-use Rattle.std.proofs.Common.{◌≡◌, ◌∙◌, ◌<◌, ◌++◌, [], Err, append-nil, length, length-append, subst, sym, arith}
+use Rattle.std.proofs.Common.{◌∙◌, ◌++◌, [], append-nil, length, length-append, subst, sym, arith}
 use Rattle.std.specs.Io.KnownBytes.{Appends}
 use Rattle.std.proofs.Math.Seq.{take-append_seam}
 use Rattle.cache_store.proofs.GetChunks.{sink_not_disk}

@@ -1,10 +1,6 @@
-use Rattle.std.proofs.Common.{◌≡◌, [], ◌∷◌, ◌++◌, ◌∙◌, Bool, IsTrue, List, ℕ, ap, drop, length, subst, take, arith}
+use Rattle.std.proofs.Common.{[], ◌∷◌, ◌++◌, ◌∙◌, List, ℕ, ap, drop, length, subst, take, arith}
 use Rattle.std.specs.Prelude.{codes}
-use Rattle.cache_theory.specs.Machine.{Machine, object_of}
-use Rattle.disk_model.specs.State.{State}
-use Rattle.file_handles.specs.Cache.{cache_at}
-use Rattle.file_handles.specs.Kept.{Kept, kept}
-use Rattle.file_handles.specs.Stands.{Represents}
+use Rattle.cache_theory.specs.Machine.{object_of}
 use Rattle.cache_store.specs.Said.{saying}
 use Rattle.cache_store.specs.Saying.{CutsIn, SaysMore}
 use Rattle.cache_theory.specs.Text.{with_number}

@@ -1,15 +1,17 @@
 -- What the command came to, where the store opened and where it did not.
-use Rattle.std.proofs.Common.{ap, arith}
+use Rattle.std.proofs.Common.{◌≡◌, ◌∙◌, ap, arith, inl, inr, refl, subst, sym}
 use Rattle.cache_script.specs.Command.{command_of}
 use Rattle.cache_store.specs.IndexCalls.{LooksAtNames}
 use Rattle.cache_store.specs.Open.{Tells}
+use Rattle.cache_store.specs.Saying.{IsPart}
 use Rattle.cache_store.specs.Session.{session}
 use Rattle.cache_store.proofs.Represented.{represents}
+use Rattle.cache_theory.specs.Faulted.{fault_line}
 use Rattle.cache_theory.specs.History.{settled_at}
 use Rattle.cache_tool.specs.World.{output}
 use Rattle.cache_tool.proofs.DoneLaws.{done_right, done_where}
 use Rattle.cache_tool.proofs.EntryLooks.{nothing_to_read, reads_none}
-use Rattle.cache_tool.proofs.OneCommand.{came_open, performed_prints, unopened_prints}
+use Rattle.cache_tool.proofs.OneCommand.{came_open, faulted_prints, performed_prints, unopened_prints}
 use Rattle.cache_tool.proofs.StayingLaws.{stays_done, stays_for}
 use Rattle.disk_model.specs.State.{standing}
 use Rattle.index_theory.specs.Start.{start_of}
@@ -17,30 +19,60 @@ use Rattle.cache_tool.proofs.one.perform_one.Goals as goal
 
 pub returns-in-Err-clause-answers : goal.returns-in-Err-clause-answers
 returns-in-Err-clause-answers g c = λ tells m is.
-    unopened_prints m _ (output g.K.Sink g.D.Disk c.args.sink.now c.args.disk.now) _ c.open.result c.in-Err.fault c.status_of_fault.result c.in-Err.is c.open.ensures.no_sink
-    c.status_of_fault.ensures (c.open.ensures.safe tells m is) (c.open.ensures.honest tells)
+    inl (unopened_prints m _ (output g.K.Sink g.D.Disk c.args.sink.now c.args.disk.now) _ (g.D.Disk.faults c.open.new.disk) c.open.result c.in-Err.fault c.status_of_fault.result c.in-Err.is c.open.ensures.no_sink
+    c.status_of_fault.ensures (c.open.ensures.safe tells m is) (c.open.ensures.honest tells))
+
+pub returns-then-faulting-clause-answers : goal.returns-then-faulting-clause-answers
+returns-then-faulting-clause-answers g c = λ tells m is.
+    let failed = sym c.faulting.ensures ∙ c.if-faulting.true in
+    let command = c.attempt-answered.ensures in
+    let same : g.K.Sink.taken c.attempt-answered.new.sink ≡ g.K.Sink.taken c.args.sink.now = ap (λ k. g.K.Sink.taken k) (command.silent failed) in
+    let calm : g.D.Disk.faults c.open.new.disk ≡ g.D.Disk.faults c.args.disk.now = c.in-Ok.ensures.account.cause.kept (λ e. cc e) in
+    let rose = (command.looked failed).cause.rose refl in
+    let later = c.end_faulted.ensures.later in
+    inr (faulted_prints m (output g.K.Sink g.D.Disk c.args.sink.now c.args.disk.now) (output g.K.Sink g.D.Disk c.end_faulted.new.sink c.end_faulted.new.disk)
+    (session g.D.Disk c.in-Ok.store c.open.new.disk) (session g.D.Disk c.attempt-answered.new.self c.attempt-answered.new.disk) c.end_faulted.result
+    (c.in-Ok.ensures.opens tells) is (command.stays failed tells) (c.end_faulted.ensures.ends tells) c.end_faulted.ensures.failed (omega (arith, calm, rose, later))
+    (subst (λ taken. IsPart taken (g.K.Sink.taken c.end_faulted.new.sink) fault_line) same c.end_faulted.ensures.part))
 
 pub returns-clause-answers : goal.returns-clause-answers
 returns-clause-answers g c = λ tells m is.
     let opens = c.in-Ok.ensures.opens tells in
     let keeps = opens.keeps m is in
     let before = session g.D.Disk c.in-Ok.store c.open.new.disk in
-    let last = session g.D.Disk c.command.new.self c.command.new.disk in
-    let does = (c.command.ensures.performs tells).crash (settled_at m) keeps in
+    let last = session g.D.Disk c.attempt-answered.new.self c.attempt-answered.new.disk in
+    let does = (c.attempt-answered.ensures.performs tells).crash (settled_at m) keeps in
     let done = done_right before (command_of c.args.command.now) m does.0 does.1.0 in
-    let stays = stays_for (command_of c.args.command.now) c.command.result before last (λ spares. c.command.ensures.index spares tells) c.command.ensures.base in (
+    let stays = stays_for (command_of c.args.command.now) c.attempt-answered.result before last (λ spares. c.attempt-answered.ensures.index spares tells) c.attempt-answered.ensures.base in
+    inl (
       does.0,
       (
         done_where (opens.tells m is) (command_of c.args.command.now) m does.0 done,
-        performed_prints m does.0 (output g.K.Sink g.D.Disk c.args.sink.now c.args.disk.now) (output g.K.Sink g.D.Disk c.command.new.sink c.end.new.disk) before
-            last _ opens is (c.in-Ok.ensures.based tells) (c.end.ensures.ends tells) c.command.result c.map-came.result does.1.1.performs does.1.1.keeps
-            (λ had. stays_done (Tells before m) (command_of c.args.command.now) before m last does.0 done (stays m (represents keeps) had)) (c.command.ensures.honest tells) c.map-came.ensures.cases c.end.ensures.same
+        performed_prints m does.0 (output g.K.Sink g.D.Disk c.args.sink.now c.args.disk.now) (output g.K.Sink g.D.Disk c.attempt-answered.new.sink c.end.new.disk) before
+            last _ opens is (c.in-Ok.ensures.based tells) (c.end.ensures.ends tells) c.attempt-answered.result c.map.result does.1.1.performs does.1.1.keeps
+            (λ had. stays_done (Tells before m) (command_of c.args.command.now) before m last does.0 done (stays m (represents keeps) had)) (c.attempt-answered.ensures.honest tells) c.map.ensures.cases c.end.ensures.same
             (λ not. let kept = c.end.ensures.dropped not in (kept.0, ap (λ d. g.D.Disk.state d) kept.1)),
       ),
     )
 
 pub end-requires-clause-told : goal.end-requires-clause-told
-end-requires-clause-told g c = λ tells. came_open c.command.result c.map-came.result _ c.map-came.ensures.cases (c.command.ensures.open tells)
+end-requires-clause-told g c = λ tells. came_open c.attempt-answered.result c.map.result _ c.map.ensures.cases (c.attempt-answered.ensures.open tells)
+
+pub end_faulted-requires : goal.end_faulted-requires
+end_faulted-requires g c = record {
+  told = λ tells.
+      let some = c.in-Ok.ensures.open tells in
+      (some.0, (c.attempt-answered.ensures.stays (sym c.faulting.ensures ∙ c.if-faulting.true) tells).stands some.0 some.1);
+}
+
+pub returns-then-faulting-clause-no_entry : goal.returns-then-faulting-clause-no_entry
+returns-then-faulting-clause-no_entry g c = λ none told.
+    let opened = c.open.ensures.no_entry told in
+    let ready = nothing_to_read c.args.now (g.D.Disk.state c.args.disk.now) (session g.D.Disk c.in-Ok.store c.open.new.disk) (c.open.ensures.shelf told) (c.in-Ok.ensures.opens told) in
+    let performed = reads_none (λ names. LooksAtNames g.D.Disk names c.open.new.disk c.attempt-answered.new.disk) (command_of c.args.command.now) (start_of (standing (g.D.Disk.state c.args.disk.now)))
+    c.in-Ok.store.index.update none ready c.attempt-answered.ensures.looks told in
+    let ended = c.end_faulted.ensures.no_entry told in
+    omega (arith, opened, performed, ended)
 
 pub returns-in-Err-clause-no_entry : goal.returns-in-Err-clause-no_entry
 returns-in-Err-clause-no_entry g c = λ none told. let opened = c.open.ensures.no_entry told in omega (arith, opened)
@@ -49,7 +81,7 @@ pub returns-clause-no_entry : goal.returns-clause-no_entry
 returns-clause-no_entry g c = λ none told.
     let opened = c.open.ensures.no_entry told in
     let ready = nothing_to_read c.args.now (g.D.Disk.state c.args.disk.now) (session g.D.Disk c.in-Ok.store c.open.new.disk) (c.open.ensures.shelf told) (c.in-Ok.ensures.opens told) in
-    let performed = reads_none (λ names. LooksAtNames g.D.Disk names c.open.new.disk c.command.new.disk) (command_of c.args.command.now) (start_of (standing (g.D.Disk.state c.args.disk.now)))
-    c.in-Ok.store.index.update none ready c.command.ensures.looks told in
+    let performed = reads_none (λ names. LooksAtNames g.D.Disk names c.open.new.disk c.attempt-answered.new.disk) (command_of c.args.command.now) (start_of (standing (g.D.Disk.state c.args.disk.now)))
+    c.in-Ok.store.index.update none ready c.attempt-answered.ensures.looks told in
     let ended = c.end.ensures.no_entry told in
     omega (arith, opened, performed, ended)

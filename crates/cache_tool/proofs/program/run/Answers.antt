@@ -13,4 +13,4 @@ returns-in-Some-Run-clause-complete g c = λ some script source sink disk.
     let spelled : IsScript (g.S.Source.left c.args.source.now) = subst (λ words. WhenRun words (λ now. IsScript (g.S.Source.left c.args.source.now))) words script in
     nothing_failed c.run_script.result c.run_script.ensures.others.0
     (λ is. script_is_not_bad (g.S.Source.left c.args.source.now) spelled (c.run_script.ensures.bad is))
-    (λ is. source (c.run_script.ensures.source is)) (λ is. sink (c.run_script.ensures.sink is)) (λ is. disk (c.run_script.ensures.disk.rose is))
+    (λ is. source (c.run_script.ensures.source is)) (λ is. sink (c.run_script.ensures.sink is)) (λ is. disk (c.run_script.ensures.disk is))

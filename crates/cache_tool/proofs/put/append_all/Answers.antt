@@ -16,6 +16,7 @@ pieces-init g c = record {
   long = search rules;
   calm = search rules;
   sound = record { faults = refl; no_change = λ told. refl };
+  bare = λ calm. calm;
 }
 
 pub returns-in_err-outcome-clause-appends : goal.returns-in_err-outcome-clause-appends
@@ -87,6 +88,7 @@ pieces-preserved g c =
       long = size;
       calm = search rules;
       sound = search rules;
+      bare = λ calm. c.append_piece.ensures.bare (c.pieces.invariant.bare calm);
     }
 
 pub returns-in_err-outcome-clause-taken : goal.returns-in_err-outcome-clause-taken
@@ -126,6 +128,18 @@ pub returns-in-Refused-clause-refused : goal.returns-in-Refused-clause-refused
 returns-in-Refused-clause-refused g c = λ no.
     holds_refusal c.pieces.invariant.so_far (g.S.Source.left c.fill-filled.new.source) (take c.fill-filled.result.count c.fill-filled.new.piece) c.fill-filled.ensures.bytes
     (said_in c.append_piece.new.said) (c.in_ok-outcome.ensures.refused (ap (λ o. Ok o) c.in-Refused.is))
+
+pub returns-in_err-outcome-clause-bare : goal.returns-in_err-outcome-clause-bare
+returns-in_err-outcome-clause-bare g c = λ calm. c.append_piece.ensures.bare (c.pieces.invariant.bare calm)
+
+pub returns-in-Failed-clause-bare : goal.returns-in-Failed-clause-bare
+returns-in-Failed-clause-bare g c = λ calm. c.append_piece.ensures.bare (c.pieces.invariant.bare calm)
+
+pub returns-in-End-clause-bare : goal.returns-in-End-clause-bare
+returns-in-End-clause-bare g c = λ calm. c.append_piece.ensures.bare (c.pieces.invariant.bare calm)
+
+pub returns-in-Refused-clause-bare : goal.returns-in-Refused-clause-bare
+returns-in-Refused-clause-bare g c = λ calm. c.append_piece.ensures.bare (c.pieces.invariant.bare calm)
 
 pub returns-in_err-outcome-clause-open : goal.returns-in_err-outcome-clause-open
 returns-in_err-outcome-clause-open g c = λ told. handed_open c.from_residual.result c.in_err-outcome.field-0.0 (session g.D.Disk c.append_piece.new.store c.append_piece.new.disk) c.from_residual.ensures.1 (c.in_err-outcome.ensures.open told)

@@ -1,4 +1,4 @@
-use Rattle.std.proofs.Common.{◌≡◌, length}
+use Rattle.std.proofs.Common.{◌≡◌, false, length}
 use Rattle.std.specs.Bool.{IsTrue}
 use Rattle.cache_base.specs.declared.limits.TheConstants.{PIECE_MAX}
 use Rattle.cache_store.specs.Open.{IsOpen}
@@ -15,6 +15,7 @@ invariant-pieces g l = record {
   long : length l.piece ≡ PIECE_MAX;
   calm : g.S.Source.faults l.source ≡ g.S.Source.faults l.fn.source;
   sound : IsCalm g.D.Disk l.fn.disk l.disk;
+  bare : l.fn.store.faulting ≡ false → l.store.faulting ≡ false;
 }
 
 abbrev pub decreases-pieces : goal.decreases-pieces

@@ -1,15 +1,17 @@
-use Rattle.std.proofs.Common.{◌≡◌, Result, refl, ap, rules, arith}
+use Rattle.std.proofs.Common.{◌≡◌, ◌∙◌, Bool, true, false, Result, refl, ap, rules, arith, sym, true≢false}
 use Rattle.std.specs.Prelude.{Err, Ok}
 use Rattle.cache_base.specs.declared.status.Status.{Status}
 use Rattle.cache_base.specs.declared.status.Status.TheVariants as status
 use Rattle.cache_base.proofs.ByteLaws.{all_below}
 use Rattle.cache_store.specs.Session.{session}
+use Rattle.cache_store.specs.declared.fault.Verdict.{Verdict}
 use Rattle.cache_store.specs.declared.fault.StoreFault.{StoreFault}
 use Rattle.cache_store.specs.declared.fault.StoreFault.TheVariants as fault
 use Rattle.cache_theory.specs.Command.Command.{Create}
 use Rattle.cache_theory.specs.History.{unanswered}
 use Rattle.cache_tool.specs.HeldReply.{said_in}
 use Rattle.cache_tool.specs.World.{supply}
+use Rattle.cache_tool.proofs.Faulting.{is_false}
 use Rattle.cache_tool.proofs.Handed.{handed_on, handed_open}
 use Rattle.cache_tool.proofs.PutReplies.{sent_itself}
 use Rattle.cache_tool.proofs.RightLaws.{open_leaves_honest}
@@ -107,6 +109,8 @@ returns g c = record {
   honest = search rules;
   no_sink = search rules;
   account = search rules;
+  looked = λ disk. absurd (let one : ◌≡◌ {A = Result Status StoreFault} (Ok c.in_ok-appended.appended) (Err fault.Disk) = disk in cc);
+  stays = λ disk. absurd (let one : ◌≡◌ {A = Result Status StoreFault} (Ok c.in_ok-appended.appended) (Err fault.Disk) = disk in cc);
 }
 
 pub returns-in_err-outcome-clause-open : goal.returns-in_err-outcome-clause-open
@@ -114,3 +118,25 @@ returns-in_err-outcome-clause-open g c = λ told. handed_open c.from_residual-in
 
 pub returns-in_err-piece-clause-honest : goal.returns-in_err-piece-clause-honest
 returns-in_err-piece-clause-honest g c = λ told. open_leaves_honest (session g.D.Disk c.args.store.now c.args.disk.now) (c.requires.told told)
+
+-- a look fails in the first command alone: the others make none
+pub returns-in_err-send-clause-stays : goal.returns-in_err-send-clause-stays
+returns-in_err-send-clause-stays g c = λ disk failed. c.send.ensures.stays failed
+
+pub returns-in_err-send-clause-looked : goal.returns-in_err-send-clause-looked
+returns-in_err-send-clause-looked g c = λ disk failed. c.send.ensures.looked failed
+
+no_look : (o : Verdict) (now : Bool) → (now ≡ true → ◌≡◌ {A = Result Verdict StoreFault} (Ok o) (Err fault.Disk)) → now ≡ false
+no_look o now failed = is_false now (λ e. absurd (let one = failed e in cc))
+
+pub returns-in_err-appended-clause-looked : goal.returns-in_err-appended-clause-looked
+returns-in_err-appended-clause-looked g c = λ disk failed. absurd (true≢false (sym failed ∙ c.append_all.ensures.bare (no_look c.in_ok-send.field-0 c.send.new.store.faulting c.in_ok-send.ensures.faulted)))
+
+pub returns-in_err-appended-clause-stays : goal.returns-in_err-appended-clause-stays
+returns-in_err-appended-clause-stays g c = λ disk failed. absurd (true≢false (sym failed ∙ c.append_all.ensures.bare (no_look c.in_ok-send.field-0 c.send.new.store.faulting c.in_ok-send.ensures.faulted)))
+
+pub returns-in_err-outcome-clause-looked : goal.returns-in_err-outcome-clause-looked
+returns-in_err-outcome-clause-looked g c = λ disk failed. absurd (true≢false (sym failed ∙ c.send-in-Done.ensures.bare tt))
+
+pub returns-in_err-outcome-clause-stays : goal.returns-in_err-outcome-clause-stays
+returns-in_err-outcome-clause-stays g c = λ disk failed. absurd (true≢false (sym failed ∙ c.send-in-Done.ensures.bare tt))

@@ -12,14 +12,14 @@ pub returns-clause-sends : goal.returns-clause-sends
 returns-clause-sends g c = λ told. record {
   each = λ h keeps.
       let before = session g.D.Disk c.args.store.now c.args.disk.now in
-      let now = session g.D.Disk c.command.new.self c.command.new.disk in
-      let does = (c.command.ensures.performs told).crash h keeps in
+      let now = session g.D.Disk c.attempt.new.self c.attempt.new.disk in
+      let does = (c.attempt.ensures.performs told).crash h keeps in
       let done = done_right before (command_of c.args.c.now) h.machine does.0 does.1.0 in
-      let stays = stays_for (command_of c.args.c.now) c.command.result before now (λ spares. c.command.ensures.index spares told) c.command.ensures.base in (
+      let stays = stays_for (command_of c.args.c.now) c.attempt.result before now (λ spares. c.attempt.ensures.index spares told) c.attempt.ensures.base in (
         does.0,
         (
           done,
-          sends_of does.0 h _ _ _ (said_in c.clear.new.self) (said_in c.command.new.sink) c.clear.ensures does.1.1.performs does.1.1.keeps
+          sends_of does.0 h _ _ _ (said_in c.clear.new.self) (said_in c.attempt.new.sink) c.clear.ensures does.1.1.performs does.1.1.keeps
               (λ had. stays_done (Tells before h.machine) (command_of c.args.c.now) before h.machine now does.0 done (stays h.machine (represents keeps) had)),
         ),
       );

@@ -1,4 +1,4 @@
-use Rattle.std.proofs.Common.{refl, rules}
+use Rattle.std.proofs.Common.{refl, rules, arith, ◌∙◌}
 use Rattle.cache_store.specs.Session.{session}
 use Rattle.cache_tool.specs.World.{progress}
 use Rattle.cache_tool.proofs.Growing.{takes_none, takes_on}
@@ -13,7 +13,8 @@ turns-init g c = record {
   grows = λ told. takes_none (g.K.Sink.taken c.args.sink.now);
   source = refl;
   sink = refl;
-  calm = record { faults = refl; no_change = λ told. refl };
+  later = omega arith;
+  went_on = λ told. refl;
 }
 
 pub returns-in-Some-clause-performs : goal.returns-in-Some-clause-performs
@@ -29,7 +30,8 @@ turns-preserved g c = record {
       takes_on (g.K.Sink.taken c.args.sink.now) (g.K.Sink.taken c.turns.sink) (g.K.Sink.taken c.perform_next.new.sink) (c.turns.invariant.grows told) (c.perform_next.ensures.grows told);
   source = search rules;
   sink = search rules;
-  calm = search rules;
+  later = let turn = c.perform_next.ensures.account.disk_later in omega (arith, c.turns.invariant.later, turn);
+  went_on = λ told. (rw c.in_default.is at c.in_ok-ended.ensures.account).went_on (λ e. cc e) (λ e. cc e) told ∙ c.turns.invariant.went_on told;
 }
 
 pub returns-in_err-ended-clause-open : goal.returns-in_err-ended-clause-open

@@ -1,10 +1,12 @@
-use Rattle.std.proofs.Common.{Err, Ok, ap}
+use Rattle.std.proofs.Common.{Err, Ok, ap, refl}
 use Rattle.cache_script.specs.Command.{command_of}
+use Rattle.cache_store.specs.Outcomes.{verdict_of}
 use Rattle.cache_store.specs.Session.{session}
-use Rattle.cache_store.specs.declared.fault.Outcome.{Outcome}
+use Rattle.cache_store.specs.declared.fault.Verdict.{Verdict}
 use Rattle.cache_tool.specs.Tally.{tally}
 use Rattle.cache_tool.specs.World.{progress, supply}
-use Rattle.cache_tool.proofs.Accounted.{command_accounted}
+use Rattle.cache_tool.proofs.Accounted.{answer_accounted, command_accounted}
+use Rattle.cache_tool.proofs.Answering.{answer_later, answer_rose, answer_stops, answer_went_on, answers_next}
 use Rattle.cache_tool.proofs.Handed.{handed_open}
 use Rattle.cache_tool.proofs.RightLaws.{open_leaves_honest}
 use Rattle.cache_tool.proofs.ScriptTurns.{gives_none, gives_one, turn_bad, turn_err, turn_failed, turn_on, turn_whole}
@@ -15,18 +17,25 @@ pub returns-in_err-command-in-Ok-Some-clause-performs : goal.returns-in_err-comm
 returns-in_err-command-in-Ok-Some-clause-performs g c =
     let gives = gives_one c.args.reader.now c.next_command.follows.lender-at-none (g.S.Source.left c.args.source.now) (g.S.Source.left c.next_command.new.source) c.next_command.result c.in-Ok-Some.field-0 c.in-Ok-Some.command
     c.in-Ok-Some.is c.in-Ok-Some.field-0-is c.next_command.follows.holds-at-none in
-    turn_err g.D.Disk.tells c.args.reader.now c.next_command.follows.lender-at-none _ _ (command_of c.in-Ok-Some.command) c.in_err-command-in-Ok-Some.field-0.0 c.from_residual.result c.from_residual.ensures.1
-    gives c.in_err-command-in-Ok-Some.ensures.performs
-    (λ told. stays_for {T = Outcome} (command_of c.in-Ok-Some.command) (Err c.in_err-command-in-Ok-Some.field-0.0) (session g.D.Disk c.args.store.now c.args.disk.now) (session g.D.Disk c.command.new.self c.command.new.disk)
-    (λ spares. c.in_err-command-in-Ok-Some.ensures.index spares told) c.in_err-command-in-Ok-Some.ensures.base)
+    let command = c.in_err-command-in-Ok-Some.ensures in
+    let answers = answers_next g.D.Disk (Err c.in_err-command-in-Ok-Some.field-0.0) c.args.store.now c.command.new.self c.args.disk.now c.command.new.disk (g.K.Sink.taken c.args.sink.now) (g.K.Sink.taken c.command.new.sink)
+    command.faults command.account (command_of c.in-Ok-Some.command) command.performs
+    (λ calm told. stays_for {T = Verdict} (command_of c.in-Ok-Some.command) (Err c.in_err-command-in-Ok-Some.field-0.0) (session g.D.Disk c.args.store.now c.args.disk.now) (session g.D.Disk c.command.new.self c.command.new.disk)
+    (λ spares. command.index calm spares told) command.base) in
+    turn_err g.D.Disk.tells c.args.reader.now c.next_command.follows.lender-at-none _ _ (command_of c.in-Ok-Some.command) gives answers.0 c.in_err-command-in-Ok-Some.field-0.0
+    c.from_residual.result c.from_residual.ensures.1 answers
 
 pub returns-in_ok-command-in-Ok-Some-clause-performs : goal.returns-in_ok-command-in-Ok-Some-clause-performs
 returns-in_ok-command-in-Ok-Some-clause-performs g c =
     let gives = gives_one c.args.reader.now c.next_command.follows.lender-at-none (g.S.Source.left c.args.source.now) (g.S.Source.left c.next_command.new.source) c.next_command.result c.in-Ok-Some.field-0 c.in-Ok-Some.command
     c.in-Ok-Some.is c.in-Ok-Some.field-0-is c.next_command.follows.holds-at-none in
-    turn_on g.D.Disk.tells c.args.reader.now c.next_command.follows.lender-at-none _ _ (command_of c.in-Ok-Some.command) c.in_ok-command-in-Ok-Some.field-0 gives c.in_ok-command-in-Ok-Some.ensures.performs
-    (λ told. stays_for {T = Outcome} (command_of c.in-Ok-Some.command) (Ok c.in_ok-command-in-Ok-Some.field-0) (session g.D.Disk c.args.store.now c.args.disk.now) (session g.D.Disk c.command.new.self c.command.new.disk)
-    (λ spares. c.in_ok-command-in-Ok-Some.ensures.index spares told) c.in_ok-command-in-Ok-Some.ensures.base)
+    let command = c.in_ok-command-in-Ok-Some.ensures in
+    let v = verdict_of c.in_ok-command-in-Ok-Some.field-0 in
+    let answers = answers_next g.D.Disk (Ok c.in_ok-command-in-Ok-Some.field-0) c.args.store.now c.command.new.self c.args.disk.now c.command.new.disk (g.K.Sink.taken c.args.sink.now) (g.K.Sink.taken c.command.new.sink)
+    command.faults command.account (command_of c.in-Ok-Some.command) command.performs
+    (λ calm told. stays_for {T = Verdict} (command_of c.in-Ok-Some.command) (Ok v) (session g.D.Disk c.args.store.now c.args.disk.now) (session g.D.Disk c.command.new.self c.command.new.disk)
+    (λ spares. command.index calm spares told) command.base) in
+    turn_on g.D.Disk.tells c.args.reader.now c.next_command.follows.lender-at-none _ _ (command_of c.in-Ok-Some.command) gives answers.0 v answers
 
 pub returns-in-Ok-None-clause-performs : goal.returns-in-Ok-None-clause-performs
 returns-in-Ok-None-clause-performs g c =
@@ -50,12 +59,33 @@ pub returns-in_err-command-in-Ok-Some-clause-open : goal.returns-in_err-command-
 returns-in_err-command-in-Ok-Some-clause-open g c = λ told.
     handed_open c.from_residual.result c.in_err-command-in-Ok-Some.field-0.0 (session g.D.Disk c.command.new.self c.command.new.disk) c.from_residual.ensures.1 (c.in_err-command-in-Ok-Some.ensures.open told)
 
+-- the faults are accounted for
 pub returns-in_err-command-in-Ok-Some-clause-account : goal.returns-in_err-command-in-Ok-Some-clause-account
 returns-in_err-command-in-Ok-Some-clause-account g c =
     let at = tally g.S.Source g.K.Sink g.D.Disk in
     let command = c.in_err-command-in-Ok-Some.ensures in
-    command_accounted c.from_residual.result c.in_err-command-in-Ok-Some.field-0.0 (at c.args.source.now c.args.sink.now c.args.disk.now) (at c.next_command.new.source c.command.new.sink c.command.new.disk)
-    c.from_residual.ensures.1 (c.in-Ok-Some.ensures.cause.kept (λ failed. cc)) command.sink command.account.cause command.account.went_on command.account.stops
+    let f = c.in_err-command-in-Ok-Some.field-0.0 in
+    let taken = g.K.Sink.taken c.args.sink.now in
+    let later = g.K.Sink.taken c.command.new.sink in
+    command_accounted c.from_residual.result f (at c.args.source.now c.args.sink.now c.args.disk.now) (at c.next_command.new.source c.command.new.sink c.command.new.disk)
+    c.from_residual.ensures.1 (c.in-Ok-Some.ensures.cause.kept (λ failed. cc)) command.sink
+    (answer_later g.D.Disk (Err f) c.args.store.now c.command.new.self c.args.disk.now c.command.new.disk taken later command.faults command.account)
+    (answer_rose g.D.Disk f c.args.store.now c.command.new.self c.args.disk.now c.command.new.disk taken later command.faults command.account)
+    (answer_went_on g.D.Disk (Err f) c.args.store.now c.command.new.self c.args.disk.now c.command.new.disk taken later command.faults command.account)
+    (answer_stops g.D.Disk (Err f) c.args.store.now c.command.new.self c.args.disk.now c.command.new.disk taken later command.faults command.account)
+
+pub returns-in_ok-command-in-Ok-Some-clause-account : goal.returns-in_ok-command-in-Ok-Some-clause-account
+returns-in_ok-command-in-Ok-Some-clause-account g c =
+    let at = tally g.S.Source g.K.Sink g.D.Disk in
+    let command = c.in_ok-command-in-Ok-Some.ensures in
+    let o = c.in_ok-command-in-Ok-Some.field-0 in
+    let taken = g.K.Sink.taken c.args.sink.now in
+    let later = g.K.Sink.taken c.command.new.sink in
+    answer_accounted o (at c.args.source.now c.args.sink.now c.args.disk.now) (at c.next_command.new.source c.command.new.sink c.command.new.disk)
+    (c.in-Ok-Some.ensures.cause.kept (λ failed. cc)) command.sink
+    (answer_later g.D.Disk (Ok o) c.args.store.now c.command.new.self c.args.disk.now c.command.new.disk taken later command.faults command.account)
+    (answer_went_on g.D.Disk (Ok o) c.args.store.now c.command.new.self c.args.disk.now c.command.new.disk taken later command.faults command.account refl)
+    (answer_stops g.D.Disk (Ok o) c.args.store.now c.command.new.self c.args.disk.now c.command.new.disk taken later command.faults command.account)
 
 pub returns-in-Ok-None-clause-honest : goal.returns-in-Ok-None-clause-honest
 returns-in-Ok-None-clause-honest g c = λ told. open_leaves_honest (session g.D.Disk c.args.store.now c.args.disk.now) (c.requires.told told)

@@ -8,7 +8,7 @@ use Rattle.cache_store.specs.Answering.{outcome_in}
 use Rattle.cache_store.specs.Reads.{AreHeld, LastIsFirst}
 use Rattle.cache_store.specs.Said.{saying}
 use Rattle.cache_store.specs.Session.{session}
-use Rattle.cache_store.specs.declared.fault.Outcome.TheVariants as outcome
+use Rattle.cache_store.specs.declared.fault.Verdict.TheVariants as outcome
 use Rattle.file_handles.proofs.ReadKept.{read_keeps}
 use Rattle.file_handles.specs.Kept.{kept}
 use Rattle.cache_store.proofs.LearntAchieves.{append_achieves, close_achieves, create_achieves, doom_achieves, finish_achieves, open_achieves, set_achieves, unset_achieves, use_achieves}

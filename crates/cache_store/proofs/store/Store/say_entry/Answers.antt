@@ -1,5 +1,4 @@
-use Rattle.std.proofs.Common.{◌++◌, ◌∷◌, ◌∙◌, ◌<◌, [], length, length-append, take, ap, subst, sym, arith}
-use Rattle.cache_base.specs.Limits.{chunks}
+use Rattle.std.proofs.Common.{◌++◌, ◌∷◌, ◌∙◌, [], length-append, take, ap, subst, sym, arith}
 use Rattle.disk_model.specs.State.{State, standing}
 use Rattle.cache_store.specs.Prefix.{HasChunkAt}
 use Rattle.entry_metadata.specs.Meta.{meta_of}

@@ -1,0 +1,80 @@
+use Rattle.std.proofs.Common.{◌≡◌, [], ap, subst, sym}
+use Rattle.cache_script.specs.Command.{command_of}
+use Rattle.index_theory.proofs.UncleanLaws.{unclean_leaves_honest}
+use Rattle.cache_store.specs.Answering.{rest_of}
+use Rattle.cache_store.specs.IndexCalls.{IsFresh}
+use Rattle.file_handles.specs.Kept.{kept}
+use Rattle.cache_store.specs.Reads.{LastIsFirst}
+use Rattle.cache_store.specs.Said.{saying}
+use Rattle.cache_store.specs.Session.{Open, open_of, session}
+use Rattle.cache_store.specs.Verifying.{PrintsFound}
+use Rattle.cache_store.proofs.GetChunks.{handed_disk}
+use Rattle.cache_store.proofs.Stays.{handed_fault}
+use Rattle.cache_store.proofs.PerformOpen.{performs_open}
+use Rattle.cache_store.proofs.PerformWhole.{does_performs, fails_performs}
+use Rattle.cache_store.proofs.PrintedLaws.{prints_found, prints_outcome}
+use Rattle.cache_store.proofs.SaidMore.{of_ok, when_ok}
+use Rattle.cache_store.proofs.TakenMore.{rest_takes}
+use Rattle.cache_store.proofs.ReadsHeld.{outcome_ok}
+use Rattle.cache_store.proofs.store.Store.attempt.Goals as goal
+
+pub returns-in_err-answered-clause-performs : goal.returns-in_err-answered-clause-performs
+returns-in_err-answered-clause-performs g c = λ told.
+    fails_performs (command_of c.args.c.now) c.in_err-answered.field-0.0 c.from_residual.result _ _ _ _ c.from_residual.ensures.1 (c.in_err-answered.ensures.does told)
+
+pub returns-clause-performs : goal.returns-clause-performs
+returns-clause-performs g c = λ told.
+    does_performs (command_of c.args.c.now) c.in_ok-answered.answered c.finish_reply.result _ (session g.D.Disk c.perform.new.self c.perform.new.disk) (open_of c.finish_reply.new.self) _
+    (saying g.K.Sink c.perform.new.self.reply c.perform.new.sink) (g.K.Sink.taken c.finish_reply.new.sink) c.finish_reply.ensures.printed c.finish_reply.ensures.cut c.finish_reply.ensures.outcome
+    c.finish_reply.ensures.open (c.in_ok-answered.ensures.does told)
+
+pub returns-in_err-answered-clause-open : goal.returns-in_err-answered-clause-open
+returns-in_err-answered-clause-open g c = λ told. performs_open (command_of c.args.c.now) _ _ _ _ c.from_residual.result (c.requires.told told) (returns-in_err-answered-clause-performs g c told)
+
+pub returns-clause-open : goal.returns-clause-open
+returns-clause-open g c = λ told. performs_open (command_of c.args.c.now) _ _ _ _ c.finish_reply.result (c.requires.told told) (returns-clause-performs g c told)
+
+pub returns-clause-prints : goal.returns-clause-prints
+returns-clause-prints g c =
+    prints_outcome (command_of c.args.c.now) c.in_ok-answered.answered c.finish_reply.result _ _ _ (λ n. ap g.K.Sink.taken (c.in_ok-answered.ensures.unsaid n)) c.in_ok-answered.ensures.still_empty
+    c.in_ok-answered.ensures.plain c.in_ok-answered.ensures.lists c.finish_reply.ensures.printed c.finish_reply.ensures.outcome
+
+pub returns-clause-verifies : goal.returns-clause-verifies
+returns-clause-verifies g c = λ verify.
+    let before = session g.D.Disk c.args.self.now c.args.disk.now in
+    let taken = g.K.Sink.taken c.args.sink.now in
+    let now = g.K.Sink.taken c.finish_reply.new.sink in
+    of_ok c.finish_reply.result _ _ (λ sends told.
+    subst (λ (o : Open). PrintsFound before o.index.map taken now) (sym c.finish_reply.ensures.open)
+    (prints_found before (open_of c.perform.new.self).index.map c.in_ok-answered.answered (c.in_ok-answered.ensures.found verify told) taken (saying g.K.Sink c.perform.new.self.reply c.perform.new.sink) now
+    (λ n. ap g.K.Sink.taken (c.in_ok-answered.ensures.unsaid n)) c.in_ok-answered.ensures.still_empty sends))
+    c.finish_reply.ensures.printed
+
+pub returns-in_err-answered-clause-honest : goal.returns-in_err-answered-clause-honest
+returns-in_err-answered-clause-honest g c = λ told. unclean_leaves_honest (g.D.Disk.state c.perform.new.disk) (c.in_err-answered.ensures.unclean told)
+
+pub returns-clause-honest : goal.returns-clause-honest
+returns-clause-honest g c = λ told. unclean_leaves_honest (g.D.Disk.state c.perform.new.disk) (c.in_ok-answered.ensures.unclean told)
+
+pub returns-clause-grows : goal.returns-clause-grows
+returns-clause-grows g c = λ told.
+    rest_takes (rest_of c.in_ok-answered.answered) (g.K.Sink.taken c.args.sink.now) (saying g.K.Sink c.perform.new.self.reply c.perform.new.sink) (g.K.Sink.taken c.finish_reply.new.sink) c.finish_reply.result
+    (c.in_ok-answered.ensures.grows told) c.finish_reply.ensures.printed c.finish_reply.ensures.cut
+
+pub returns-clause-flushed : goal.returns-clause-flushed
+returns-clause-flushed g c = λ flush.
+    when_ok c.finish_reply.result _
+    (subst (λ (o : Open). o.index.update ≡ [] → IsFresh o.index.map) (sym c.finish_reply.ensures.open) (c.in_ok-answered.ensures.flushed flush))
+
+pub returns-clause-recent : goal.returns-clause-recent
+returns-clause-recent g c slot from len is ok told =
+    subst (λ (o : Open). LastIsFirst (kept c.args.self.now.handles) slot from len o.handles) (sym c.finish_reply.ensures.open)
+    (c.in_ok-answered.ensures.recent slot from len is (outcome_ok c.finish_reply.result c.in_ok-answered.answered ok c.finish_reply.ensures.outcome) told)
+
+pub returns-in_err-answered-clause-faulted : goal.returns-in_err-answered-clause-faulted
+returns-in_err-answered-clause-faulted g c = λ faulting.
+    handed_fault c.from_residual.result c.in_err-answered.field-0.0 c.perform.result c.from_residual.ensures.1 c.in_err-answered.was (c.perform.ensures.faulted faulting)
+
+pub returns-in_err-answered-clause-fails : goal.returns-in_err-answered-clause-fails
+returns-in_err-answered-clause-fails g c = λ calm failed told.
+    c.perform.ensures.change calm (handed_disk c.from_residual.result c.in_err-answered.field-0.0 c.perform.result c.from_residual.ensures.1 c.in_err-answered.was failed) told

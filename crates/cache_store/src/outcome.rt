@@ -1,0 +1,134 @@
+//! Answers a command: by its reply, or by the line that tells of a failed look at the disk.
+
+ghost use Rattle.std.specs.Prelude.{ℕ, ◌≡◌, ◌≢◌, [], Err, Ok, true, false, IfOk, IfSome, IsErrOf, IsTrue, OnOk};
+ghost use Rattle.cache_base.specs.Causes.{HasCause};
+ghost use Rattle.cache_script.specs.Command.{command_of};
+ghost use Rattle.cache_store.specs.Evicting.{IsEviction, LooksBeforeChanges};
+ghost use Rattle.cache_store.specs.Faulting.{FailsForGood, LooksAtNothing};
+ghost use Rattle.cache_store.specs.Faults.{ending};
+ghost use Rattle.cache_store.specs.InUse.{SparesIndex};
+ghost use Rattle.cache_store.specs.IndexCalls.{IsFresh, IsWritten, LooksAtNames, WritesIndex, names_read};
+ghost use Rattle.cache_store.specs.Outcomes.{Faults, verdict_in, verdict_of};
+ghost use Rattle.cache_store.specs.Printed.{HasBadKey, Prints};
+ghost use Rattle.cache_store.specs.Reads.{AreHeld, LastIsFirst};
+ghost use Rattle.cache_store.specs.Saying.{TakesMore};
+ghost use Rattle.cache_theory.specs.Command.Command.{Flush, ReadPart, Rebuild, Verify};
+ghost use Rattle.cache_theory.specs.Given.{IsGiven};
+ghost use Rattle.disk_model.specs.Account.{Accounts};
+ghost use Rattle.disk_model.specs.Sound.{IsQuiet};
+ghost use Rattle.disk_model.specs.Told.{Told};
+ghost use Rattle.index_map.specs.Known.{SameBase};
+ghost use Rattle.index_theory.specs.Honest.{LeavesHonest};
+ghost use Rattle.index_theory.specs.Leaves.{LeavesIndex};
+
+use crate::store::Store;
+use crate::{Outcome, StoreFault, Verdict};
+use cache_io::Sink;
+use cache_script::Command;
+use disk_model::Disk;
+use std::alloc::Global;
+
+// The outcome of a command that was performed.
+fn outcome_of(verdict: Verdict) -> Outcome
+    ensures same { verdict_of result ≡ verdict }
+    ensures performed { result ≢ Outcome.Faulted }
+{
+    match verdict {
+        Verdict::Ok => Outcome::Ok,
+        Verdict::Refused => Outcome::Refused,
+    }
+}
+
+impl Store {
+    ghost use Rattle.cache_store.specs.Open.{IsOpen, LeavesOpen};
+    ghost use Rattle.cache_store.specs.Performing.{HadEffect, PerformsFor};
+    ghost use Rattle.cache_store.specs.Session.{session};
+    ghost use Rattle.cache_store.specs.Verifying.{PrintsFound};
+    ghost use Rattle.file_handles.specs.Cache.{cache};
+    ghost use Rattle.file_handles.specs.Kept.{kept};
+
+    /// Performs a command and writes its reply, which is out when the call returns.
+    ///
+    /// Where a look at the disk fails before anything of the reply is out, the reply is the line `fault`, the outcome is
+    /// `Faulted`, and the store and the disk are as they were: the next command can be performed. After a fault of the sink
+    /// the store may only be closed; `faulting` tells whether it was the line that was cut.
+    ///
+    /// The reply to `verify` is what is wrong with the files that stand and the records in memory, and the outcome is
+    /// `Refused` where that is anything. The replies to `has` and `list` are the machine's where the records are right:
+    /// where the directory was honest at the opening, or a `rebuild` has answered. There an `evict` takes off what the
+    /// machine's does; elsewhere it takes off what has to go by the records that there are, and the reply names it all
+    /// the same.
+    pub fn command<D: Disk, K: Sink>(
+        &mut self,
+        alloc: Global,
+        disk: &mut D,
+        c: &Command<'_>,
+        sink: &mut K,
+    ) -> Result<Outcome, StoreFault>
+        requires given { IsGiven (command_of c.now) }
+        requires told { IsTrue D.tells → IsOpen (session D.Disk self.old disk.old) }
+        // Where a look at the disk failed, all is as it was.
+        ensures faults { self.new.faulting ≡ true →
+            Faults D.Disk result self.old self.new disk.old disk.new (K.taken sink.old) (K.taken sink.new) }
+        ensures faulted { result ≡ Ok Outcome.Faulted → self.new.faulting ≡ true }
+        ensures bare { LooksAtNothing (command_of c.now) → self.new.faulting ≡ false }
+
+        // Elsewhere this is what it comes to, by the machine, and what a crash leaves at every exit.
+        ensures performs { let at = session D.Disk in self.new.faulting ≡ false → IsTrue D.tells →
+            PerformsFor (command_of c.now) (verdict_in result) (at self.old disk.old) (at self.new disk.new)
+            (K.taken sink.old) (K.taken sink.new) }
+        ensures prints { self.new.faulting ≡ false → IfOk result (λ o.
+            Prints (command_of c.now) (verdict_of o) (K.taken sink.old) (K.taken sink.new)) }
+        ensures verifies { self.new.faulting ≡ false → command_of c.now ≡ Verify → OnOk result (IsTrue D.tells →
+            PrintsFound (session D.Disk self.old disk.old) self.new.index.map (K.taken sink.old) (K.taken sink.new)) }
+        ensures bad_key { HasBadKey (command_of c.now) → result ≢ Ok Outcome.Ok }
+        ensures grows { IsTrue D.tells → TakesMore (K.taken sink.old) (K.taken sink.new) }
+        ensures open { IsTrue D.tells → LeavesOpen result (session D.Disk self.new disk.new) }
+        ensures honest { IsTrue D.tells → LeavesHonest (D.state disk.new) }
+
+        // The files of the index: they are left alone and the base in memory stays, but by a `rebuild`, and by a `flush`
+        // where the update has ended and not few records differ. Where it has ended, a `flush` leaves an index with all
+        // records but for few; and a `rebuild` leaves one with all. After both nothing is pending.
+        ensures index { self.new.faulting ≡ false → SparesIndex (command_of c.now) self.old.index →
+            Told D.Disk LeavesIndex disk.old disk.new }
+        ensures base { SparesIndex (command_of c.now) self.old.index → HadEffect result →
+            SameBase self.old.index.map self.new.index.map }
+        ensures quiet { self.new.faulting ≡ false → WritesIndex (command_of c.now) → HadEffect result →
+            IsTrue D.tells → IsQuiet (D.state disk.new) }
+        ensures flushed { command_of c.now ≡ Flush → OnOk result
+            (self.new.index.update ≡ [] → IsFresh self.new.index.map) }
+        ensures rebuilt { self.new.faulting ≡ false → command_of c.now ≡ Rebuild →
+            OnOk result (IsWritten self.new.index.map) }
+
+        // A `read` makes no call of the disk where all its chunks are held. Afterwards its last one is the most recent.
+        ensures held { (slot from len : ℕ) → command_of c.now ≡ ReadPart slot from len →
+            AreHeld (kept self.old.handles) slot from len → disk.new ≡ disk.old }
+        ensures recent { (slot from len : ℕ) → command_of c.now ≡ ReadPart slot from len →
+            result ≡ Ok Outcome.Ok → IsTrue D.tells →
+            LastIsFirst (kept self.old.handles) slot from len (kept self.new.handles) }
+
+        // Calls and faults. A command that goes by the index looks at an entry for no name but those that it reads, and
+        // an eviction looks at the disk only before its first removal. Where the disk failed for good, it was in a change
+        // or a sync, as the last call, or the reply is out up to its first chunk.
+        ensures looks { IfSome (names_read (command_of c.now) self.old.index.update)
+            (λ names. LooksAtNames D.Disk names disk.old disk.new) }
+        ensures looks_first { self.new.faulting ≡ false → IsEviction (command_of c.now) →
+            LooksBeforeChanges D.Disk (ending result) disk.old disk.new }
+        ensures account { self.new.faulting ≡ false → Accounts D.Disk (ending result) disk.old disk.new }
+        ensures sink { let failed = IsErrOf result StoreFault.Sink in
+            HasCause failed (K.faults sink.old) (K.faults sink.new) }
+        ensures fails { let at = cache D.Disk self.old.handles disk.old in
+            result ≡ Err StoreFault.Disk → IsTrue D.tells →
+            FailsForGood (D.counts disk.new) (command_of c.now) at (K.taken sink.old) (K.taken sink.new) }
+    {
+        let answered = self.attempt(alloc, disk, c, sink);
+        if self.faulting {
+            self.say_fault(sink)?;
+            return Ok(Outcome::Faulted);
+        }
+        match answered {
+            Ok(verdict) => Ok(outcome_of(verdict)),
+            Err(fault) => Err(fault),
+        }
+    }
+}
