@@ -16,8 +16,8 @@ pub use bytes::bytes_fit;
 pub use items::{Bytes, Hashes, Items, Names, NoMemory, Numbers};
 pub use laws::limits_are;
 pub use limits::{
-    BLOCK_MAX, BODY_MAX, BUFFER_MAX, CACHED, CHANGED_MAX, CHUNK, ELEMENTS_MAX, KEY_MAX, LINE_MAX,
-    PIECE_MAX, SCRIPT_MAX, SLOTS, chunks,
+    ALT_MAX, BLOCK_MAX, BODY_MAX, BUFFER_MAX, CACHED, CHANGED_MAX, CHUNK, ELEMENTS_MAX, KEY_MAX,
+    LINE_MAX, PIECE_MAX, SCRIPT_MAX, SLOTS, chunks,
 };
 pub use name::{Moment, Name};
 pub use numbers::number;

@@ -27,6 +27,9 @@ pub const SLOTS: usize = 64;
 /// The bytes that one command may append to a body.
 pub const PIECE_MAX: usize = 1_048_576;
 
+/// The bytes of alternative data that one command may put after a body.
+pub const ALT_MAX: usize = 4_194_304;
+
 /// The bytes of the longest line of a script, without its newline.
 pub const LINE_MAX: usize = 20_000;
 

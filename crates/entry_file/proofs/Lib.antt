@@ -4,6 +4,7 @@ pub mod ReadFile
 pub mod EntryLaws
 pub mod FitLaws
 pub mod StoredBody
+pub mod LongerBody
 pub mod WholeLaws
 pub mod ReadJoin
 pub mod StopLaws

@@ -7,4 +7,5 @@ pub mod Damages
 pub mod Unfinished
 pub mod NewEntry
 pub mod Rewriting
+pub mod LongerBody
 pub mod Held

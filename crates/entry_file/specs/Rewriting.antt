@@ -1,7 +1,7 @@
 -- The metadata of a file, written anew behind the same body.
 use Rattle.std.specs.Prelude.{ℕ, ◌≡◌, ◌≤◌, List, ◌++◌, length, take, Option, None, Some}
 use Rattle.cache_base.specs.Bytes.{be32}
-use Rattle.chunk_store.specs.Chunks.{chunk_hashes}
+use Rattle.chunk_store.specs.Prefixes.{HasChunks}
 use Rattle.chunk_store.specs.declared.damage.Damage.{Damage}
 use Rattle.disk_model.specs.State.{Write}
 use Rattle.disk_model.specs.State.Write.{End}
@@ -10,11 +10,6 @@ use Rattle.entry_file.specs.Damages.{first_damage}
 use Rattle.entry_file.specs.EntryFile.{Fits, Reading, Whole, Damaged, read}
 use Rattle.entry_file.specs.NewEntry.{finished}
 use Rattle.entry_file.specs.Version.{IsFileOf, Version, version_meta}
-
--- a file stands there, and the chunks of its first n bytes have these hashes
-abbrev pub HasChunks : Option (List ℕ) → ℕ → List ℕ → Type 0
-HasChunks None n hashes = ⊥
-HasChunks (Some c) n hashes = (n ≤ length c) × (hashes ≡ chunk_hashes (take n c))
 
 -- a file stands there that begins with the body of these metadata, by their hashes
 abbrev pub StoresBody : Option (List ℕ) → Meta → Type 0

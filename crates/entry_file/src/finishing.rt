@@ -11,7 +11,7 @@ ghost use Rattle.disk_model.specs.Writes.{WritesAt};
 ghost use Rattle.disk_model.specs.Calls.{counted, if_done};
 ghost use Rattle.entry_key.specs.Walk.{read_key, reads};
 ghost use Rattle.entry_metadata.specs.Meta.{meta_of};
-ghost use Rattle.entry_metadata.specs.Metadata.{block_bytes, block_length};
+ghost use Rattle.entry_metadata.specs.Metadata.{IsMeta, block_bytes, block_length};
 ghost use Rattle.entry_parts.specs.Elements.{AreElements, elements_bytes};
 ghost use Rattle.entry_parts.specs.Header.{IsHeader};
 ghost use Rattle.jenkins_hash.specs.Hash.{hash16_of};
@@ -51,9 +51,10 @@ fn all_hashes(hashes: ChunkHashes, rest: &[u8]) -> Hashes
     hashes.into_hashes()
 }
 
-// The bytes, and behind them the block and its offset, in one piece.
-fn tail_of(alloc: Global, rest: &[u8], meta: &Meta) -> Result<Bytes, NoMemory>
-    ensures { IfOk result (λ tail. tail ≡ rest.now ++ (block_bytes (meta_of meta.now) ++ be32 meta.now.offset)) }
+/// The bytes, and after them the block and its offset, in one piece.
+pub(crate) fn tail_of(alloc: Global, rest: &[u8], meta: &Meta) -> Result<Bytes, NoMemory>
+    ensures meta { IsMeta (meta_of meta.now) }
+    ensures bytes { IfOk result (λ tail. tail ≡ rest.now ++ (block_bytes (meta_of meta.now) ++ be32 meta.now.offset)) }
 {
     let block = entry_metadata::print(alloc, meta)?;
     let mut tail = Bytes::with_room(alloc, rest.len() + block.as_slice().len())?;

@@ -2,6 +2,7 @@
 
 ghost use Rattle.disk_model.specs.Account.{Looks, ending};
 
+mod longer_body;
 mod new_entry;
 mod reading;
 mod rewriting;

@@ -2,6 +2,8 @@
 #![tactic(auto)]
 
 #[cfg(test)]
+mod alt;
+#[cfg(test)]
 mod chunks;
 #[cfg(test)]
 mod files;

@@ -1,4 +1,4 @@
-ghost use Rattle.std.specs.Prelude.{◌≡◌, ◌≤◌, length, IfOk, IsTrue};
+ghost use Rattle.std.specs.Prelude.{◌≡◌, ◌≤◌, length, IfOk, IfSome, IsTrue};
 ghost use Rattle.cache_base.specs.declared.limits.TheConstants.{BODY_MAX};
 ghost use Rattle.disk_model.specs.State.{standing};
 ghost use Rattle.entry_file.specs.Rewriting.{StoresBody};
@@ -24,7 +24,7 @@ const LONG_END: &[u8] = b"\xef\xfc\xd6\xc1\xf9\xb4\xaf\x33\
     :https://example.com/\0a\0bc\0\0\x04\0\x01";
 
 // Puts the entry of this body on the disk.
-fn put(alloc: Global, disk: &mut MemDisk, body: &[u8]) -> Result<(), Fail>
+pub(super) fn put(alloc: Global, disk: &mut MemDisk, body: &[u8]) -> Result<(), Fail>
     requires { length body.now ≤ BODY_MAX }
 {
     let entry = grow(alloc, disk, &PLACE, body, b"", b"")?;
@@ -32,8 +32,27 @@ fn put(alloc: Global, disk: &mut MemDisk, body: &[u8]) -> Result<(), Fail>
     Ok(())
 }
 
+// The metadata of an entry whose body is undamaged, if one stands there.
+pub(super) fn find_undamaged<D: Disk>(
+    alloc: Global,
+    disk: &mut D,
+    place: &Place,
+    buf: &mut Buffer,
+) -> Result<Option<Meta>, DiskFault>
+    ensures { IfOk result (λ found. IfSome found (λ meta. IsTrue D.tells
+        → StoresBody (standing (D.state disk.new) place.now) (meta_of meta))) }
+{
+    let EntryRead::Fits { meta, .. } = read_meta(alloc, disk, place, &NAME)? else {
+        return Ok(None);
+    };
+    match check_body(disk, place, &meta, buf)? {
+        None => Ok(Some(meta)),
+        Some(_) => Ok(None),
+    }
+}
+
 // The metadata of an entry whose body is undamaged.
-fn undamaged<D: Disk>(
+pub(super) fn undamaged<D: Disk>(
     alloc: Global,
     disk: &mut D,
     place: &Place,
@@ -41,12 +60,9 @@ fn undamaged<D: Disk>(
 ) -> Result<Meta, Fail>
     ensures { IfOk result (λ meta. IsTrue D.tells → StoresBody (standing (D.state disk.new) place.now) (meta_of meta)) }
 {
-    let EntryRead::Fits { meta, .. } = read_meta(alloc, disk, place, &NAME)? else {
-        return Err(Fail::from("it does not fit"));
-    };
-    match check_body(disk, place, &meta, buf)? {
-        None => Ok(meta),
-        Some(_) => Err(Fail::from("it is damaged")),
+    match find_undamaged(alloc, disk, place, buf)? {
+        Some(meta) => Ok(meta),
+        None => Err(Fail::from("it does not fit, or is damaged")),
     }
 }
 
@@ -106,7 +122,7 @@ fn set<D: Disk>(
 }
 
 // Whether the file is this body with this end.
-fn is_file(disk: &MemDisk, body: &[u8], end: &[u8]) -> bool {
+pub(super) fn is_file(disk: &MemDisk, body: &[u8], end: &[u8]) -> bool {
     match disk.file(&PLACE) {
         Some(file) => file.starts_with(body)
             && file.ends_with(end)

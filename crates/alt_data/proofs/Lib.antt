@@ -1,0 +1,3 @@
+pub mod AltValue
+pub mod GrownHashes
+pub mod PutAfterBody
