@@ -3,7 +3,6 @@
 set -euo pipefail
 
 here=$(cd "$(dirname "${BASH_SOURCE[0]}")" && pwd)
-cache2=$here/../cache2
 work=$(mktemp -d -p /dev/shm)
 trap 'rm -rf "$work"' EXIT
 key=:https://example.com/
@@ -13,10 +12,10 @@ gcc -O2 -Wall -o "$work/get_c" "$here/get.c"
 gcc -O2 -Wall -Wno-unused-function -o "$work/open_index_c" "$here/open_index.c"
 gcc -O2 -Wall -o "$work/peak" "$here/peak.c"
 head -c 52428800 /dev/urandom >"$work/body"
-"$cache2" "$work/cache" 1000 put "$key" <"$work/body" >/dev/null
-cp "$here/../crates/cache2/out/cache2" "$work/cache2"
 
 source "$here/compare.sh"
+take_program "$@"
+"$work/cache2" "$work/cache" 1000 put "$key" <"$work/body" >/dev/null
 closed "$work/empty"
 compare "$work/empty" "$work/body" "$work/cache2" "$work/put_c" 1000 put "$key"
 rm -r "$work/one"

@@ -1,6 +1,17 @@
 # shellcheck shell=bash
-# Sourced by the scripts that measure whole runs on a folder in $work.
-: "${work:?}"
+# Sourced by the scripts that measure whole runs on a folder in $work, and that stand in the folder $here.
+: "${work:?}" "${here:?}"
+
+# take_program [PROGRAM]: puts a copy of the program that is measured into $work: this one, or that of the launcher, which builds
+# it where it is missing.
+take_program() {
+    local made=${1-}
+    if [[ ! $made ]]; then
+        "$here/../cache2" "$work/first" 1000 list >/dev/null
+        made=$here/../crates/cache2/out/cache2
+    fi
+    cp "$made" "$work/cache2"
+}
 
 # compare FROM INPUT PROGRAM PROGRAM WORD..: each program runs on a copy of the folder FROM, with the file INPUT as its standard
 # input. Both have to print the same, to leave the same files, and to make the same calls that make a folder, sync, rename or

@@ -10,22 +10,17 @@ first program's time to the second's is above LIMIT.
 import os
 import shutil
 import statistics
-import subprocess
 import sys
 
+from running import run
 
-def run(command, source):
+
+def run_anew(command, source):
     """The processor seconds of one run."""
     if "FRESH" in os.environ:
         shutil.rmtree(command[1], ignore_errors=True)
         shutil.copytree(os.environ["FRESH"], command[1])
-    with open(source, "rb") as body:
-        child = subprocess.Popen(command, stdin=body, stdout=subprocess.DEVNULL)
-        _, status, usage = os.wait4(child.pid, 0)
-    child.returncode = os.waitstatus_to_exitcode(status)
-    if child.returncode != 0:
-        sys.exit(f"{command}: status {child.returncode}")
-    return usage.ru_utime + usage.ru_stime
+    return run(command, source)[0]
 
 
 def main():
@@ -40,7 +35,7 @@ def main():
     times = {name: [] for name in commands}
     for _ in range(runs):
         for name, command in commands.items():
-            times[name].append(run(command, source))
+            times[name].append(run_anew(command, source))
 
     least = {name: min(each) for name, each in times.items()}
     print(f"{'program':<10}{'least ms':>10}{'median ms':>11}{'ratio':>8}")

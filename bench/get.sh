@@ -3,16 +3,15 @@
 set -euo pipefail
 
 here=$(cd "$(dirname "${BASH_SOURCE[0]}")" && pwd)
-cache2=$here/../cache2
 work=$(mktemp -d -p /dev/shm)
 trap 'rm -rf "$work"' EXIT
 
 gcc -O2 -Wall -Wno-unused-function -o "$work/session_c" "$here/session.c"
 head -c 262144 /dev/urandom >"$work/body"
-"$cache2" "$work/cache" 1000 put :https://example.com/ <"$work/body" >/dev/null
-cp "$here/../crates/cache2/out/cache2" "$work/cache2"
 
 source "$here/compare.sh"
+take_program "$@"
+"$work/cache2" "$work/cache" 1000 put :https://example.com/ <"$work/body" >/dev/null
 compare "$work/cache" /dev/null "$work/cache2" "$work/session_c" 1000 get :https://example.com/
 rm -r "$work/one"
 

@@ -10,30 +10,15 @@ to the second's is above LIMIT, or where BYTES is not 0 and the first takes more
 import os
 import shutil
 import statistics
-import subprocess
 import sys
+
+from running import peak, run
 
 
 def refresh(source, folder):
     if source != "-":
         for name in os.listdir(source):
             shutil.copyfile(os.path.join(source, name), os.path.join(folder, name))
-
-
-def run(command):
-    """The processor seconds of one run, and those of them that are not the system's."""
-    child = subprocess.Popen(command, stdin=subprocess.DEVNULL, stdout=subprocess.DEVNULL)
-    _, status, usage = os.wait4(child.pid, 0)
-    child.returncode = os.waitstatus_to_exitcode(status)
-    if child.returncode != 0:
-        sys.exit(f"{command}: status {child.returncode}")
-    return usage.ru_utime + usage.ru_stime, usage.ru_utime
-
-
-def peak(measure, command):
-    """The peak of the memory of one run, in bytes."""
-    told = subprocess.run([measure, *command], stdout=subprocess.DEVNULL, stderr=subprocess.PIPE, text=True, check=True)
-    return 1024 * int(told.stderr)
 
 
 def main():

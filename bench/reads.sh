@@ -3,15 +3,12 @@
 set -euo pipefail
 
 here=$(cd "$(dirname "${BASH_SOURCE[0]}")" && pwd)
-cache2=$here/../cache2
 work=$(mktemp -d -p /dev/shm)
 trap 'rm -rf "$work"' EXIT
 gcc -O2 -Wall -Wno-unused-function -o "$work/reads_c" "$here/reads.c"
 gcc -O2 -Wall -Wno-unused-function -o "$work/open_index_c" "$here/open_index.c"
-# Builds the program where it is not built yet.
-"$cache2" "$work/first" 1000 list >/dev/null
-cp "$here/../crates/cache2/out/cache2" "$work/cache2"
 source "$here/compare.sh"
+take_program "$@"
 closed "$work/empty"
 export FRESH=$work/empty
 

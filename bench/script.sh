@@ -3,15 +3,11 @@
 set -euo pipefail
 
 here=$(cd "$(dirname "${BASH_SOURCE[0]}")" && pwd)
-cache2=$here/../cache2
 work=$(mktemp -d -p /dev/shm)
 trap 'rm -rf "$work"' EXIT
 
 gcc -O2 -Wall -Wno-unused-function -o "$work/script_c" "$here/script.c"
 gcc -O2 -Wall -Wno-unused-function -o "$work/open_index_c" "$here/open_index.c"
-# Builds the program where it is not built yet.
-"$cache2" "$work/first" 1000 list >/dev/null
-cp "$here/../crates/cache2/out/cache2" "$work/cache2"
 python3 - "$work/script" <<'PYTHON'
 import random
 import sys
@@ -26,6 +22,7 @@ with open(sys.argv[1], "wb") as script:
 PYTHON
 
 source "$here/compare.sh"
+take_program "$@"
 closed "$work/empty"
 compare "$work/empty" "$work/script" "$work/cache2" "$work/script_c" 1000 run
 export FRESH=$work/empty

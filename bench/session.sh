@@ -3,7 +3,6 @@
 set -euo pipefail
 
 here=$(cd "$(dirname "${BASH_SOURCE[0]}")" && pwd)
-cache2=$here/../cache2
 work=$(mktemp -d -p /dev/shm)
 trap 'rm -rf "$work"' EXIT
 records=100000
@@ -12,11 +11,9 @@ entries=2000
 gcc -O2 -Wall -Wno-unused-function -o "$work/session_c" "$here/session.c"
 gcc -O2 -Wall -Wno-unused-function -o "$work/open_index_c" "$here/open_index.c"
 printf hello >"$work/body"
-# Builds the program where it is not built yet.
-"$cache2" "$work/first" 1000 list >/dev/null
-cp "$here/../crates/cache2/out/cache2" "$work/cache2"
 
 source "$here/compare.sh"
+take_program "$@"
 
 # The sum of the KB in the lines of records.
 kilobytes() {

@@ -19,17 +19,29 @@ pub(crate) fn write_over<F: Write + Seek>(file: &mut F, from: u64, bytes: &[u8])
     ensures whole { OnOk result ((begun : F) × Appends (F.contents begun) (F.contents file.new) bytes.now) }
 {
     file.seek(SeekFrom::Start(from))?;
+    write_whole(file, bytes)
+}
+
+// Writes all the bytes where the file stands.
+fn write_whole<F: Write>(file: &mut F, bytes: &[u8]) -> io::Result<()>
+    ensures whole { OnOk result (Appends (F.contents file.old) (F.contents file.new) bytes.now) }
+{
     after_change(file.write_all(bytes))
 }
 
-/// Writes all the bytes from the offset on. The length is set only where older bytes are left after the new ones.
+/// Writes all the bytes from the offset on. The length is set only where older bytes are left after the new ones. A file
+/// that is new has none, and stands at its beginning.
 pub(crate) fn write_end<F: Write + Seek + OpenFile>(
     file: &mut F,
+    is_new: bool,
     from: u64,
     bytes: &[u8],
 ) -> io::Result<()>
     ensures whole { OnOk result ((begun : F) × Appends (F.contents begun) (F.contents file.new) bytes.now) }
 {
+    if is_new && from == 0 {
+        return write_whole(file, bytes);
+    }
     write_over(file, from, bytes)?;
     let end = from.saturating_add(bytes.len() as u64);
     after_change(cut_after(file, end))

@@ -12,6 +12,7 @@ ghost use Rattle.real_disk.specs.declared.earlier.Earlier.TheVariants.{Unsynced}
 use crate::contents::{after_change, read_whole, write_end, write_over};
 use crate::earlier::{Covered, Earlier, was_closed};
 use crate::kept::{Kept, Opened};
+use crate::listed::Listed;
 use crate::paths::{Area, area_of};
 use crate::standing::sync_at;
 use crate::sync_note;
@@ -33,6 +34,7 @@ pub(crate) struct Folder<'a, R: Files + AllocGlobal> {
     // The places whose files were made or written since the last sync.
     files: BTreeSet<Place, Global>,
     kept: Kept<R::File>,
+    listed: Listed,
     // What waits for a sync without a note here.
     earlier: Earlier,
     // Whether the note that all was synced may stand in the folder.
@@ -45,6 +47,7 @@ impl<'a, R: Files + AllocGlobal> Folder<'a, R> {
             tree: Tree::new(rt, dir),
             files: BTreeSet::new(rt.alloc()),
             kept: Kept::none(rt.alloc()),
+            listed: Listed::none(rt.alloc()),
             earlier: Earlier::Unknown,
             has_sync_note: true,
         }
@@ -63,6 +66,11 @@ impl<R: Files + AllocGlobal> Folder<'_, R> {
         ensures earlier { self.new.earlier ≡ self.old.earlier }
     {
         let path = self.tree.path(place)?;
+        if self.listed.has(place)
+            && let Some(len) = self.open_listed(place, path.as_str())
+        {
+            return Ok(Some(len));
+        }
         let len = match file_len(self.tree.rt, path.as_str()) {
             Ok(len) => len,
             Err(error) if error.kind() == ErrorKind::NotFound => return Ok(None),
@@ -70,6 +78,21 @@ impl<R: Files + AllocGlobal> Folder<'_, R> {
         };
         self.keep_to_read(place, path.as_str());
         Ok(Some(len))
+    }
+
+    // Opens a file that was listed, and answers its length. None where it has gone since, or is no regular file any more.
+    fn open_listed(&mut self, place: &Place, path: &str) -> Option<u64>
+        ensures files { self.new.files ≡ self.old.files }
+        ensures folders { self.new.tree ≡ self.old.tree }
+        ensures earlier { self.new.earlier ≡ self.old.earlier }
+    {
+        let file = read_only().open(self.tree.rt, path).ok()?;
+        let found = file.metadata().ok()?;
+        if !found.is_file() {
+            return None;
+        }
+        self.kept.keep(Opened::to_read(place, file));
+        Some(found.len())
     }
 
     // Opens the file at the path of the place, unless it is kept already. One that cannot be opened has a length all
@@ -101,6 +124,7 @@ impl<R: Files + AllocGlobal> Folder<'_, R> {
                 Opened::to_read(place, self.tree.open(&read_only(), path.as_str())?)
             }
         };
+        opened.is_new = false;
         let outcome = read_whole(&mut opened.file, from, buf);
         self.kept.keep(opened);
         outcome?;
@@ -119,17 +143,53 @@ impl<R: Files + AllocGlobal> Folder<'_, R> {
     {
         self.begin_change()?;
         let path = self.tree.path(place)?;
-        let area = area_of(place);
         self.kept.make_room()?;
         self.kept.forget(place);
-        let was_there = self.tree.remove_if_there(area, path.as_str())?;
-        let made = self.make_noted(place, area, path.as_str());
-        let made = if was_there { after_change(made) } else { made };
-        match made {
-            Ok(file) => {
-                self.kept.keep(Opened::to_write(place, file));
-                Ok(())
+        let file = match self.make_where_none(place, path.as_str()) {
+            Err(error) if error.kind() == ErrorKind::AlreadyExists => {
+                self.make_in_place(place, path.as_str())?
             }
+            outcome => outcome?,
+        };
+        self.kept.keep(Opened::made(place, file));
+        Ok(())
+    }
+
+    // A new file where none stands, which is noted before. Where that fails the notes are as they were.
+    fn make_where_none(&mut self, place: &Place, path: &str) -> io::Result<R::File>
+        ensures noted { OnOk result (IsNoted self.new.files place.now) }
+        ensures folder { OnOk result (HasNote self.new.tree.folders (area_in place.now)) }
+        ensures kept { OnErr result (KeepsAll self.old.files self.new.files) }
+        ensures others { KeepsOthers place.now self.old.files self.new.files }
+        ensures folders { NoneLost self.old.tree.folders self.new.tree.folders }
+        ensures note { self.new.has_sync_note ≡ self.old.has_sync_note }
+        ensures earlier { self.new.earlier ≡ self.old.earlier }
+    {
+        let is_new = note_if(&mut self.files, place, true)?;
+        match self.tree.make_file(area_of(place), path) {
+            Ok(file) => Ok(file),
+            Err(error) => {
+                take_back(&mut self.files, place, is_new);
+                Err(error)
+            }
+        }
+    }
+
+    // A new file in the place of one that stands, which loses its name.
+    fn make_in_place(&mut self, place: &Place, path: &str) -> io::Result<R::File>
+        ensures noted { OnOk result (IsNoted self.new.files place.now) }
+        ensures folder { OnOk result (HasNote self.new.tree.folders (area_in place.now)) }
+        ensures owed { Owes place.now self.old.files self.new.files self.new.tree.folders }
+        ensures others { KeepsOthers place.now self.old.files self.new.files }
+        ensures folders { NoneLost self.old.tree.folders self.new.tree.folders }
+        ensures note { self.new.has_sync_note ≡ self.old.has_sync_note }
+        ensures earlier { self.new.earlier ≡ self.old.earlier }
+    {
+        let area = area_of(place);
+        self.tree.remove_file(area, path)?;
+        let made = self.make_noted(place, area, path);
+        match after_change(made) {
+            Ok(file) => Ok(file),
             Err(error) => {
                 // No file stands there any more.
                 self.files.remove(place);
@@ -161,8 +221,12 @@ impl<R: Files + AllocGlobal> Folder<'_, R> {
         ensures looked { HasLooked self.old.earlier self.new.earlier }
     {
         self.begin_change()?;
-        let mut file = self.open_to_write(place)?;
-        let outcome = write_end(&mut file, from, bytes);
+        let Opened {
+            mut file,
+            is_new,
+            ..
+        } = self.open_to_write(place)?;
+        let outcome = write_end(&mut file, is_new, from, bytes);
         self.kept.keep(Opened::to_write(place, file));
         outcome
     }
@@ -177,14 +241,14 @@ impl<R: Files + AllocGlobal> Folder<'_, R> {
         ensures looked { HasLooked self.old.earlier self.new.earlier }
     {
         self.begin_change()?;
-        let mut file = self.open_to_write(place)?;
+        let mut file = self.open_to_write(place)?.file;
         let outcome = write_over(&mut file, from, bytes);
         self.kept.keep(Opened::to_write(place, file));
         outcome
     }
 
     // The file of the place, which is noted as changed before it is written.
-    fn open_to_write(&mut self, place: &Place) -> io::Result<R::File>
+    fn open_to_write(&mut self, place: &Place) -> io::Result<Opened<R::File>>
         ensures noted { OnOk result (IsNoted self.new.files place.now) }
         ensures kept { KeepsNote place.now self.old.files self.new.files }
         ensures others { KeepsOthers place.now self.old.files self.new.files }
@@ -193,14 +257,15 @@ impl<R: Files + AllocGlobal> Folder<'_, R> {
         ensures earlier { self.new.earlier ≡ self.old.earlier }
     {
         self.kept.make_room()?;
-        let file = match self.kept.take_to_write(place) {
-            Some(file) => file,
-            None => self
-                .tree
-                .open(&read_and_write(), self.tree.path(place)?.as_str())?,
+        let opened = match self.kept.take_to_write(place) {
+            Some(opened) => opened,
+            None => {
+                let path = self.tree.path(place)?;
+                Opened::to_write(place, self.tree.open(&read_and_write(), path.as_str())?)
+            }
         };
         self.files.insert(*place)?;
-        Ok(file)
+        Ok(opened)
     }
 
     /// A file that has changed is to be synced under its new name. It is noted there before, so that a note that
@@ -255,6 +320,7 @@ impl<R: Files + AllocGlobal> Folder<'_, R> {
         ensures folders { self.new.tree ≡ self.old.tree }
     {
         self.look();
+        self.listed.forget();
         if self.has_sync_note {
             sync_note::take_away(self.tree.rt, self.tree.dir.as_str())?;
             self.has_sync_note = false;
@@ -349,6 +415,11 @@ impl<R: Files + AllocGlobal + Clone + Drop> Folder<'_, R> {
 
     pub(crate) fn entries(&self) -> io::Result<BTreeSet<Name, Global>> {
         self.tree.entries()
+    }
+
+    /// These are the entries that stand, in name order.
+    pub(crate) fn keep_listed(&mut self, names: &[Name]) -> Result<(), AllocError> {
+        self.listed.keep(self.tree.rt.alloc(), names)
     }
 
     pub(crate) fn doomed(&mut self) -> io::Result<BTreeSet<u32, Global>> {

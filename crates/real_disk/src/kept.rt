@@ -16,6 +16,8 @@ pub(crate) struct Opened<F: Drop> {
     pub(crate) writable: bool,
     // It was written and not synced since.
     unsynced: bool,
+    /// It was just made: it has no bytes, and was neither read nor written.
+    pub(crate) is_new: bool,
 }
 
 impl<F: Drop> Opened<F> {
@@ -25,6 +27,7 @@ impl<F: Drop> Opened<F> {
             file,
             writable: false,
             unsynced: false,
+            is_new: false,
         }
     }
 
@@ -35,6 +38,18 @@ impl<F: Drop> Opened<F> {
             file,
             writable: true,
             unsynced: true,
+            is_new: false,
+        }
+    }
+
+    /// One that was just made, and has no bytes.
+    pub(crate) fn made(place: &Place, file: F) -> Self {
+        Opened {
+            place: *place,
+            file,
+            writable: true,
+            unsynced: true,
+            is_new: true,
         }
     }
 }
@@ -97,9 +112,9 @@ impl<F: Drop> Kept<F> {
     }
 
     /// The same, if it may be written.
-    pub(crate) fn take_to_write(&mut self, place: &Place) -> Option<F> {
+    pub(crate) fn take_to_write(&mut self, place: &Place) -> Option<Opened<F>> {
         match self.take(place) {
-            Some(opened) if opened.writable => Some(opened.file),
+            Some(opened) if opened.writable => Some(opened),
             _ => None,
         }
     }

@@ -9,6 +9,7 @@ mod contents;
 mod earlier;
 mod folder;
 mod kept;
+mod listed;
 mod listing;
 mod making;
 mod notes;

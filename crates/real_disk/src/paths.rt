@@ -67,8 +67,7 @@ pub(crate) fn path_of<R: AllocGlobal>(
     match place {
         Place::Entry(name) => {
             let digits = text_of(alloc, name).map_err(|_| AllocError)?;
-            let dir = without_last_slashes(dir);
-            format!(in alloc; "{dir}/{ENTRIES}/{digits}")
+            path_below(rt, dir, ENTRIES, digits.as_str())
         }
         Place::Doomed(number) => {
             let dir = without_last_slashes(dir);
@@ -79,6 +78,28 @@ pub(crate) fn path_of<R: AllocGlobal>(
         Place::Log => path_in(rt, dir, LOG),
         Place::Tmp => path_in(rt, dir, TMP),
     }
+}
+
+// The path of a name in a folder of the cache. Its memory is asked for once, since each call on an entry makes one.
+fn path_below<R: AllocGlobal>(
+    rt: &R,
+    dir: &str,
+    folder: &str,
+    name: &str,
+) -> Result<String, AllocError> {
+    let dir = without_last_slashes(dir);
+    let len = dir
+        .len()
+        .saturating_add(folder.len())
+        .saturating_add(name.len())
+        .saturating_add(2);
+    let mut path = String::with_capacity(rt.alloc(), len)?;
+    path.push_str(dir)?;
+    path.push('/')?;
+    path.push_str(folder)?;
+    path.push('/')?;
+    path.push_str(name)?;
+    Ok(path)
 }
 
 /// The path of a name in the folder of the cache.

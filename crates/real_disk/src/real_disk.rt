@@ -22,6 +22,8 @@ use std::rt::Files;
 /// every file that stands and every folder, unless the index tells that the cache was closed, or an earlier process has
 /// left the note, the file `synced`, that all was synced. A change takes the note away.
 ///
+/// An entry that was listed is known to be a regular file, and is opened without another look until something changes.
+///
 /// A read of bytes that the file does not have fails: who asks for them was told a size that had them.
 ///
 /// Each call that fails raises the count of faults by one. Where the system has no memory the call answers so, and
@@ -137,6 +139,7 @@ impl<R: Files + AllocGlobal + Clone + Drop> Disk for RealDisk<'_, R> {
         let outcome = self.folder.entries();
         let names = self.answer(outcome)?;
         *out = rising(self.folder.alloc(), names)?;
+        self.folder.keep_listed(out.as_slice())?;
         Ok(())
     }
 

@@ -76,19 +76,6 @@ impl<'a, R: Files + AllocGlobal> Tree<'a, R> {
         fs::remove_file(self.rt, path)
     }
 
-    /// Removes the file that stands there, and answers whether one did.
-    pub(crate) fn remove_if_there(&mut self, area: Area, path: &str) -> io::Result<bool>
-        ensures noted { OnOk result (HasNote self.new.folders area) }
-        ensures kept { NoneLost self.old.folders self.new.folders }
-    {
-        self.folders.note(area)?;
-        match fs::remove_file(self.rt, path) {
-            Ok(()) => Ok(true),
-            Err(error) if error.kind() == ErrorKind::NotFound => Ok(false),
-            Err(error) => Err(error),
-        }
-    }
-
     /// The file of the first path takes the second. They lie in these folders, and the second is made where it is
     /// missing.
     pub(crate) fn rename(&mut self, areas: (Area, Area), from: &str, to: &str) -> io::Result<()>

@@ -1,0 +1,22 @@
+"""Runs programs, and tells what that cost: processor time, user and system, and the peak of the memory."""
+import os
+import subprocess
+import sys
+
+
+def run(command, source="/dev/null", output=subprocess.DEVNULL):
+    """One run with the file `source` as its standard input: its processor seconds, and those of them that are not the system's."""
+    with open(source, "rb") as body:
+        child = subprocess.Popen(command, stdin=body, stdout=output)
+        _, status, usage = os.wait4(child.pid, 0)
+    child.returncode = os.waitstatus_to_exitcode(status)
+    if child.returncode != 0:
+        sys.exit(f"{command}: status {child.returncode}")
+    return usage.ru_utime + usage.ru_stime, usage.ru_utime
+
+
+def peak(measure, command, source="/dev/null"):
+    """The peak of the memory of one run, in bytes, by the program `measure` (peak.c)."""
+    with open(source, "rb") as body:
+        told = subprocess.run([measure, *command], stdin=body, stdout=subprocess.DEVNULL, stderr=subprocess.PIPE, check=True)
+    return 1024 * int(told.stderr)

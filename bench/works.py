@@ -1,0 +1,142 @@
+"""The works that bench/all measures, and the folders that they begin with.
+
+Each work is done by the proved program and by a plain one in C, which has to print the same and to leave the same files.
+"""
+import os
+import random
+import subprocess
+from typing import NamedTuple
+
+ENTRIES = 2000
+RECORDS = 100_000
+# So many entries of the folder with all the records have a file. Where 300 are new, the index is written whole.
+WITH_FILES = 400
+KEY = b":https://example.com/%d"
+BODY = 16384
+KB_MASK = 0xFFFFFF
+NO_FRECENCY = 1 << 32
+
+
+class Work(NamedTuple):
+    """What is measured: the words of one run, the plain program that does the same, and what the run begins with."""
+    name: str
+    size: str
+    folder: str
+    words: tuple
+    plain: str
+    goal: float = None
+    source: str = "/dev/null"
+    # The run changes the folder, so each begins with a new copy of it.
+    changes: bool = False
+
+
+class Bench:
+    """The programs, and a folder in memory for all that they work on."""
+
+    def __init__(self, here, room, program):
+        self.room = room
+        self.cache2 = program
+        for name in ("session", "script", "open_index", "peak"):
+            words = ["gcc", "-O2", "-Wall", "-Wno-unused-function", "-o", self.at(name), os.path.join(here, name + ".c")]
+            subprocess.run(words, check=True)
+
+    def at(self, name):
+        return os.path.join(self.room, name)
+
+    def write(self, name, data):
+        with open(self.at(name), "wb") as file:
+            file.write(data)
+        return self.at(name)
+
+    def records(self, count, order):
+        """A closed cache whose index has so many records, of which no file stands."""
+        folder = self.at(f"records-{count}-{order}")
+        if not os.path.exists(folder):
+            os.makedirs(os.path.join(folder, "entries"))
+            os.mkdir(os.path.join(folder, "doomed"))
+            subprocess.run([self.at("open_index"), folder, str(count), order], check=True)
+        return folder
+
+    def perform(self, folder, script):
+        """The proved program performs a script, so that the folder is then that of a closed cache."""
+        with open(script, "rb") as source:
+            subprocess.run([self.cache2, folder, "1000", "run"], stdin=source, stdout=subprocess.DEVNULL, check=True)
+        return folder
+
+    def script(self, count, size, *last):
+        """A script that makes so many entries of so many bytes, and then has these lines."""
+        random.seed(1)
+        lines = []
+        for number in range(count):
+            lines += [b"create 0 " + KEY % number, b"append 0 %d" % size, random.randbytes(size), b"close 0"]
+        name = "-".join(["script", str(count), str(size), *(line.decode() for line in last)])
+        return self.write(name, b"\n".join([*lines, *last, b""]))
+
+    def entries(self, count):
+        """A closed cache with so many entries, each with its file."""
+        folder = self.at(f"entries-{count}")
+        if not os.path.exists(folder):
+            self.perform(folder, self.script(count, BODY))
+        return folder
+
+    def trusted(self, count):
+        """A closed cache whose trusted index has so many records, and files of some of them."""
+        folder = self.at(f"trusted-{count}")
+        if not os.path.exists(folder):
+            os.rename(self.records(count - WITH_FILES, "sorted"), folder)
+            self.perform(folder, self.script(WITH_FILES, 5))
+        return folder
+
+    def limit(self, folder, count):
+        """The KB to which all records have to be evicted so that so many of them go."""
+        listed = subprocess.run([self.cache2, folder, "1001", "list"], stdout=subprocess.PIPE, check=True).stdout
+        rows = [line.split() for line in listed.splitlines()[1:]]
+        rows.sort(key=lambda row: (int(row[1]) or NO_FRECENCY, row[0]))
+        return sum(int(row[-1], 16) & KB_MASK for row in rows[count:])
+
+
+def of_goals(bench):
+    """The works that have a goal, each with it."""
+    trusted, entries = bench.trusted(RECORDS), bench.entries(ENTRIES)
+    body = bench.write("body", b"hello")
+    sorted_records, shuffled = bench.records(RECORDS, "sorted"), bench.records(RECORDS, "shuffled")
+    files, records = f"{ENTRIES:,} files", f"{RECORDS:,} records"
+    get, put = ("1001", "get", (KEY % 7).decode()), ("1001", "put", (KEY % 7).decode())
+    evict = ("1001", "evict", str(bench.limit(entries, ENTRIES // 2)))
+    evict_records = ("1001", "evict", str(bench.limit(sorted_records, RECORDS // 2)))
+    script = bench.script(ENTRIES, BODY, b"flush")
+    return [
+        Work("get", records, trusted, get, "session", 1.3),
+        Work("put", records, trusted, put, "session", 1.3, source=body),
+        Work("list", records, sorted_records, ("1001", "list"), "session", 1.2),
+        Work("list, unsorted index", records, shuffled, ("1001", "list"), "session", 1.3),
+        Work("evict half", files, entries, evict, "session", 1.2, changes=True),
+        Work("evict half, no files", records, sorted_records, evict_records, "session", 1.3, changes=True),
+        Work("script of new entries, flush", files, bench.records(0, "sorted"), ("1000", "run"), "script", 1.15, script, True),
+        Work("rebuild", files, entries, ("1001", "rebuild"), "session", 1.2),
+    ]
+
+
+def of_nothing(bench, count):
+    """An empty script over so many records."""
+    return Work("empty script", f"{count:,} records", bench.records(count, "sorted"), ("1001", "run"), "script")
+
+
+def of_growth(bench, count):
+    """The works on records alone, over so many of them."""
+    trusted, records = bench.trusted(count), bench.records(count, "sorted")
+    body = bench.write("body", b"hello")
+    size = f"{count:,} records"
+    get, put = ("1001", "get", (KEY % 7).decode()), ("1001", "put", (KEY % 7).decode())
+    return [
+        of_nothing(bench, count),
+        Work("get", size, trusted, get, "session"),
+        Work("put", size, trusted, put, "session", source=body),
+        Work("list", size, records, ("1001", "list"), "session"),
+        Work("evict all, no files", size, records, ("1001", "evict", "0"), "session", changes=True),
+    ]
+
+
+def of_files(bench, count):
+    """The works on entry files, over so many of them."""
+    return [Work("rebuild", f"{count:,} files", bench.entries(count), ("1001", "rebuild"), "session")]
