@@ -43,6 +43,9 @@ fn main(rt: HostRuntime) -> ExitCode {
     let mut source = StdSource::new(rt.reader());
     let mut sink = StdSink::new(io::writer(&rt));
     let status = run(rt.alloc(), &words, &mut source, &mut sink, &mut disk);
-    disk.leave();
+    // After a change or a sync that failed no call of the disk follows.
+    if status != Status::Disk {
+        disk.leave();
+    }
     ExitCode::from(status.code())
 }

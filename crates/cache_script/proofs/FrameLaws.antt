@@ -5,7 +5,7 @@ use Rattle.std.proofs.lemmas.Bool.Decides.{Decides-eqb}
 use Rattle.std.proofs.lemmas.List.{append_assoc, take_at}
 use Rattle.cache_base.specs.declared.limits.TheConstants.{SLOTS}
 use Rattle.cache_theory.specs.Command.{Command}
-use Rattle.cache_theory.specs.Command.Command.{At, Create, OpenKey, Append, Finish, SetElement, UnsetElement, ElementOf, UseEntry, ReadPart, Close, Doom, Get, HasEntry, ListRecords, Evict, EvictNames, Flush, StepUpdate, UpdateState, Verify, VerifyRecords, Rebuild}
+use Rattle.cache_theory.specs.Command.Command.{At, Create, OpenKey, Append, Finish, SetElement, UnsetElement, ElementOf, UseEntry, ReadPart, Close, Doom, Get, HasEntry, HasGiven, ListRecords, ListGiven, Evict, EvictNames, Flush, StepUpdate, UpdateState, Verify, VerifyRecords, Rebuild}
 use Rattle.cache_theory.specs.Text.{FieldsFit, IsOneLine, command_words, command_data, command_bytes, spaced, NoneBeginsAnother}
 use Rattle.cache_script.specs.Lines.{Form, form_of, cut, form_in}
 use Rattle.cache_script.proofs.CutLaws.{Lacks, cut_at}
@@ -60,7 +60,9 @@ one_line (Doom key) fits = one_line_pair (codes "doom") key (lacks_by 10 (codes 
 one_line (Get key) fits = one_line_pair (codes "get") key (lacks_by 10 (codes "get") refl) fits.1
 one_line (HasEntry key) fits =
     one_line_pair (codes "has") key (lacks_by 10 (codes "has") refl) fits.1
+one_line (HasGiven key there) fits = absurd fits
 one_line ListRecords fits = lacks_by 10 (codes "list") refl
+one_line (ListGiven records) fits = absurd fits
 one_line (Evict kb) fits =
     one_line_pair (codes "evict") (decimal kb) (lacks_by 10 (codes "evict") refl)
     (one_line_number kb fits)

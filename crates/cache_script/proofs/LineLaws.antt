@@ -8,7 +8,7 @@ use Rattle.std.proofs.lemmas.Str.Parse.{digit_from_value}
 use Rattle.std.proofs.lemmas.Fmt.{digits_decimal}
 use Rattle.cache_base.specs.declared.limits.TheConstants.{ELEMENTS_MAX, PIECE_MAX, SLOTS}
 use Rattle.cache_theory.specs.Command.{Command}
-use Rattle.cache_theory.specs.Command.Command.{At, Create, OpenKey, Append, Finish, SetElement, UnsetElement, ElementOf, UseEntry, ReadPart, Close, Doom, Get, HasEntry, ListRecords, Evict, EvictNames, Flush, StepUpdate, UpdateState, Verify, VerifyRecords, Rebuild}
+use Rattle.cache_theory.specs.Command.Command.{At, Create, OpenKey, Append, Finish, SetElement, UnsetElement, ElementOf, UseEntry, ReadPart, Close, Doom, Get, HasEntry, HasGiven, ListRecords, ListGiven, Evict, EvictNames, Flush, StepUpdate, UpdateState, Verify, VerifyRecords, Rebuild}
 use Rattle.cache_theory.specs.Text.{FieldsFit, command_words, spaced}
 use Rattle.cache_script.specs.Lines.{Form, form_of, cut, number_below, slot_in, read_in, set_in, slot_form, verb_form, form_in}
 use Rattle.cache_base.specs.Numbers.{number_in}
@@ -78,7 +78,9 @@ line_read (Close s) fits = ap (λ o. option_map (λ n. Form.WholeLine (Close n))
 line_read (Doom key) fits = refl
 line_read (Get key) fits = refl
 line_read (HasEntry key) fits = refl
+line_read (HasGiven key there) fits = absurd fits
 line_read ListRecords fits = refl
+line_read (ListGiven records) fits = absurd fits
 line_read (Evict kb) fits =
     ap (λ o. option_map (λ n. Form.WholeLine (Evict n)) o) (number_read kb fits)
 line_read (EvictNames names) fits = absurd fits

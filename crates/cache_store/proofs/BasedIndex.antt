@@ -2,6 +2,7 @@
 use Rattle.std.proofs.Common.{◌≡◌, ◌≢◌, ◌∙◌, List, Result, Ok, Err, refl, sym, ap, subst}
 use Rattle.std.specs.Prelude.{IfOk, is_some}
 use Rattle.cache_base.specs.Bytes.{be32}
+use Rattle.disk_model.specs.Image.{Files}
 use Rattle.disk_model.specs.State.{State, removed, renamed, settled, standing}
 use Rattle.disk_model.specs.declared.place.Place.TheVariants.{Index, Log, Tmp}
 use Rattle.disk_model.proofs.Standing.{settled_same}
@@ -16,6 +17,7 @@ use Rattle.index_theory.specs.declared.kinds.Start.TheVariants.{Ready, Update, B
 use Rattle.startup_read.specs.Opening.{cleared, marked, opened, set_aside}
 use Rattle.startup_read.specs.Starts.{StartsFrom, StartsWith, is_clean}
 use Rattle.cache_store.specs.InUse.{HoldsBase, IsBasedOn, OpensInUse, past_header}
+use Rattle.cache_store.specs.Open.{BeginsOn}
 use Rattle.cache_store.specs.declared.memory_index.MemoryIndex.{MemoryIndex}
 use Rattle.cache_store.proofs.PastHeader.{SamePast, either_past, flagged_past}
 
@@ -52,3 +54,19 @@ begun_based (Ok index) A s t u map same opens base = λ a found.
       past = was.past;
     })
 begun_based (Err e) A s t u map same opens base = tt
+
+-- the records that it begins with
+pub begins_on : (files : Files) (map : Known) → StartsFrom files map → BeginsOn files map
+begins_on files map starts = record {
+  ready = λ is. subst (λ (start : Start). StartsWith start (index_records (files Index)) (journal_records (files Log)) map) is starts;
+  build = λ is. ap (λ (m : Known). m.has_base) (subst (λ (start : Start). StartsWith start (index_records (files Index)) (journal_records (files Log)) map) is starts);
+}
+
+-- the same over the same base, where the index is not trusted
+pub begun_on : {E : Type 0} (r : Result MemoryIndex E) (A : Type 0) (files : Files) (map : Known) → (A → start_of files ≢ Ready) → (A → StartsFrom files map)
+    → IfOk r (λ index. SameBase map index.map) → IfOk r (λ index. A → BeginsOn files index.map)
+begun_on (Ok index) A files map unready starts base = λ a. record {
+  ready = λ is. absurd (unready a is);
+  build = λ is. base.has_base ∙ (begins_on files map (starts a)).build is;
+}
+begun_on (Err e) A files map unready starts base = tt

@@ -1,12 +1,15 @@
 -- What a closing leaves of an index in use, and its journal.
-use Rattle.std.proofs.Common.{◌≡◌, ◌<◌, ◌∙◌, ℕ, Bool, true, false, cond, List, [], Some, refl, sym, ap, subst, arith}
+use Rattle.std.proofs.Common.{◌≡◌, ◌≢◌, ◌<◌, ◌∙◌, ℕ, Bool, true, false, cond, List, [], Result, Ok, Err, Some, refl, sym, ap, subst, arith}
 use Rattle.std.specs.Prelude.{IsTrue, ◌↔◌}
 use Rattle.std.proofs.lemmas.List.Sorted.{length_permutation}
 use Rattle.cache_base.specs.Bytes.{be32}
 use Rattle.cache_base.specs.declared.limits.TheConstants.{CHANGED_MAX}
+use Rattle.cache_base.specs.declared.name.Name.{Name}
+use Rattle.disk_model.specs.Calls.{if_ok}
 use Rattle.disk_model.specs.Sound.{IsSound}
-use Rattle.disk_model.specs.State.{State, empty_file, standing}
+use Rattle.disk_model.specs.State.{State, empty_file, settled, standing}
 use Rattle.disk_model.specs.State.Write.{End, Patch}
+use Rattle.disk_model.specs.declared.disk.DiskFault.{DiskFault}
 use Rattle.disk_model.specs.declared.place.Place.TheVariants.{Index, Log}
 use Rattle.disk_model.proofs.Sound.{no_writes, sound_added, sound_settled}
 use Rattle.disk_model.proofs.Standing.{added_puts, settled_same, wrote_puts}
@@ -14,7 +17,7 @@ use Rattle.index_map.specs.Known.{IsKnown, Known, changed}
 use Rattle.index_record.specs.declared.record.IndexRecord.{IndexRecord}
 use Rattle.index_theory.specs.Closing.{closed, flag_cleared, log_begun, log_filled, log_synced}
 use Rattle.index_theory.specs.Leaves.{LeavesIndex}
-use Rattle.index_theory.proofs.LeavesLaws.{wrote_stands}
+use Rattle.index_theory.proofs.LeavesLaws.{both_leave_index, sync_leaves_index, wrote_stands}
 use Rattle.record_list.specs.Change.{IsDiff}
 use Rattle.record_list.specs.Lists.{IsByName, names_of}
 use Rattle.record_list.proofs.NameLaws.{rising_distinct}
@@ -144,3 +147,14 @@ closed_in_use index now s d t ended ends sound left known closes = record {
   short = λ none. (closes_in_use index now s d t sound left (closes (ends.1 none)) (known (ends.1 none))).short none;
   in_use = λ none. (closes_in_use index now s d t sound left (closes (ends.1 none)) (known (ends.1 none))).in_use none;
 }
+
+-- ---- before the update has ended
+
+pub not_ended : (b : Bool) (names : List Name) → IsTrue b ↔ (names ≡ []) → names ≢ [] → b ≡ false
+not_ended true names ends left = absurd (left (ends.0 refl))
+not_ended false names ends left = refl
+
+-- a sync leaves the index alone, after changes that did, also where it fails
+pub synced_left : {T : Type 0} (s d t : State) (r : Result T DiskFault) → IsSound d → LeavesIndex s d → t ≡ if_ok r (settled d) d → LeavesIndex s t
+synced_left s d t (Ok x) sound left is = subst (LeavesIndex s) (sym is) (both_leave_index s d (settled d) left (sync_leaves_index d sound))
+synced_left s d t (Err f) sound left is = subst (LeavesIndex s) (sym is) left

@@ -1,15 +1,15 @@
 -- How entries are evicted.
-use Rattle.std.proofs.Common.{◌≡◌, ◌≢◌, ◌∙◌, inl, inr, Bool, true, ◌++◌, ◌∷◌, ℕ, List, [], Result, Ok, Err, IsErrAnd, filter, is_some, map, refl, sym, ap, subst}
+use Rattle.std.proofs.Common.{◌≡◌, ◌≢◌, ◌∙◌, inl, inr, Bool, true, cond, ◌++◌, ◌∷◌, ℕ, List, [], Result, Ok, Err, IsErrAnd, filter, is_some, map, refl, sym, ap, subst}
 use Rattle.std.specs.List.{AllByRecursion, list_any}
 use Rattle.std.specs.Prelude.{IfOk, None, OnOk}
 use Rattle.std.specs.Str.{bytes_eq}
 use Rattle.std.proofs.lemmas.Bool.{or_cases, or_left, or_right}
 use Rattle.cache_base.specs.declared.name.Name.{Name}
-use Rattle.cache_store.specs.Answering.{AnswersTo, outcome_in, outcome_of}
+use Rattle.cache_store.specs.Answering.{AnswersTo, outcome_of}
 use Rattle.cache_store.specs.DoneFor.{IsDoneBy}
-use Rattle.cache_store.specs.Evicting.{AreVictims, DoomsAll, Forgets, has_file}
+use Rattle.cache_store.specs.Evicting.{AreVictims, DoomsAll, Forgets, LeavesOthers, has_file}
 use Rattle.cache_store.specs.Open.{KeepsWhere, Tells}
-use Rattle.cache_store.specs.Performing.{GoesBy, Does, DoesWhatIsDone}
+use Rattle.cache_store.specs.Performing.{GoesBy, SaysThere, Does, DoesWhatIsDone, HadEffect}
 use Rattle.cache_store.specs.Said.{Saying}
 use Rattle.cache_store.specs.Saying.{CutsIn, SaysMore}
 use Rattle.cache_store.specs.declared.answered.Answered.{Answered}
@@ -55,7 +55,9 @@ use Rattle.index_theory.specs.Ever.{entries_on}
 use Rattle.index_theory.specs.Leaves.{LeavesIndex}
 use Rattle.index_update.specs.Rest.{name_bytes}
 use Rattle.index_update.proofs.ReadMore.{base_then}
+use Rattle.record_list.specs.Lists.{record_at}
 use Rattle.record_list.proofs.NameLaws.{same_itself}
+use Rattle.record_list.proofs.SortedLaws.{by_name_keeps}
 
 -- ---- an eviction of given names
 
@@ -70,11 +72,6 @@ evict_next_is m names = refl
 evict_text_is : (m : Machine) (names : List Name) → names_text names ≡ reply_text (step m (EvictNames names)).reply
 unfolding reply_text
 evict_text_is m names = ap reply_text (sym (evict_reply_is m names))
-
-evict_outcome : (m : Machine) (names : List Name) (answer : Result Answered StoreFault) → IfOk answer (λ a. a ≡ answered.All)
-    → IfOk answer (λ a. outcome_in a ≡ outcome_of (step m (EvictNames names)).reply)
-evict_outcome m names (Ok a) all = ap outcome_in all ∙ ap outcome_of (sym (evict_reply_is m names))
-evict_outcome m names (Err f) all = tt
 
 -- it touches each of them
 touched_first : (names : List Name) (more : List (List ℕ)) → AllByRecursion (λ n. list_any (bytes_eq n.0) (map (λ k. k.0) names ++ more) ≡ true) names
@@ -136,12 +133,26 @@ removes names given list files r k l s t v u same_names same_files are first sec
 
 module _ (kb : ℕ) (k l : Kept) (now : ℕ) (s t u : State) (old mid : MemoryIndex) (names : List Name) (r : Result (Unit {0}) DiskFault) (finishes : Finishes s t old mid)
     (are : AreVictims mid.map k kb names) (removed : Removes names r k l s u) where
+  -- the records of the victims are out afterwards, and the others are as they were
+  pub evict_leaves : (new : MemoryIndex) → Forgets names mid.map new.map → LeavesOthers (session_at k now old s) kb new.map
+  evict_leaves new forgets m is =
+      let stand = is.stands in
+      let chosen : names ≡ victims are.records (open_names m) kb =
+      are.chosen ∙ ap (λ ns. victims are.records ns kb) (are.opened m stand.0 stand.1.proper stand.1.handles) in (
+        are.records,
+        (
+          sorted_at_end (entries_on s) old mid.map are.records are.known are.by_name finishes.records,
+          λ q. forgets.records q ∙ ap (λ ns. cond (is_among q.0 ns) None (record_at mid.map.records q)) chosen
+              ∙ ap (λ o. cond (is_among q.0 (victims are.records (open_names m) kb)) None o) (sym (by_name_keeps mid.map.records are.records are.known.names are.by_name q)),
+        ),
+      )
+
   module _ (crash : Bool) (h : History) (is : KeepsWhere crash (session_at k now old s) h) where
     stand : CacheRepresents (cache_at k s) h.machine
     stand = stand_for is.stands
 
     -- the names are the victims of the records in memory
-    done_is : IsDoneBy (GoesBy (session_at k now old s) h.machine) (Evict kb) h.machine (EvictNames names)
+    done_is : IsDoneBy (GoesBy (session_at k now old s) h.machine) (SaysThere (session_at k now old s) h.machine) (Evict kb) h.machine (EvictNames names)
     done_is =
         let opened : are.in_use ≡ open_names h.machine = are.opened h.machine stand.0 stand.1.proper stand.1.handles in (
           are.records,
@@ -211,12 +222,11 @@ module _ (kb : ℕ) (k l : Kept) (now : ℕ) (s t u : State) (old mid : MemoryIn
             (goes_on_telling k s h.machine old mid stand finishes.tells told.tells);
       }
 
-      does_by : (answer : Result Answered StoreFault) (was later : Saying) → IfOk answer (λ a. a ≡ answered.All) → AnswersTo (step h.machine (EvictNames names)).reply answer was.taken later
+      does_by : (answer : Result Answered StoreFault) (was later : Saying) → AnswersTo (step h.machine (EvictNames names)).reply answer was.taken later
           → Does crash (EvictNames names) h answer (session_at k now old s) (session_at l now new u) was.taken later
-      does_by answer was later all answers = record {
+      does_by answer was later answers = record {
         safe = reaches.safe;
-        answers = λ may. answers;
-        outcome = evict_outcome h.machine names answer all;
+        answers = answers;
         next = on_ok answer next;
         effect = if_err answer (λ f same. next);
         tells = λ had. comes_from (EvictNames names) (session_at k now old s) h.machine _ (λ e. cc) tells_next;
@@ -240,7 +250,7 @@ module _ (kb : ℕ) (k l : Kept) (now : ℕ) (s t u : State) (old mid : MemoryIn
       EvictNames names,
       (
         done_is crash h is,
-        does_by crash h is x ok new forgets rest (Ok answered.All) was later refl
+        does_by crash h is x ok new forgets rest (Ok answered.All) was later
             (whole_said (step h.machine (EvictNames names)).reply (names_text names) (evict_text_is h.machine names) (ap outcome_of (evict_reply_is h.machine names)) was later empty says),
       ),
     )
@@ -253,7 +263,19 @@ module _ (kb : ℕ) (k l : Kept) (now : ℕ) (s t u : State) (old mid : MemoryIn
       EvictNames names,
       (
         done_is crash h is,
-        does_by crash h is x ok new forgets rest (Err f) was later tt
+        does_by crash h is x ok new forgets rest (Err f) was later
             (whole_cut (step h.machine (EvictNames names)).reply (names_text names) (evict_text_is h.machine names) (ap outcome_of (evict_reply_is h.machine names)) was later empty f cuts),
       ),
     )
+
+-- ---- the command
+
+-- how many KB an eviction leaves
+abbrev pub kb_of : Command → ℕ
+kb_of (Evict kb) = kb
+kb_of c = 0
+
+-- a fault that is handed on leaves the effect as it was
+pub had_handed : {T : Type 0} (out : Result T StoreFault) (f : StoreFault) → IsErrAnd out (λ e. e ≡ f) → HadEffect out → f ≡ fault.Sink
+had_handed (Ok v) f is had = absurd is
+had_handed (Err e) f is had = sym is ∙ had

@@ -1,10 +1,9 @@
 -- What the commands do that have the update read names, or the index written.
 use Rattle.std.proofs.Common.{Bool, ◌≡◌, ◌≢◌, ◌∙◌, ℕ, List, [], drop, Option, Some, Result, Ok, Err, IsErrAnd, inl, inr, refl, sym, ap, subst}
 use Rattle.std.specs.Prelude.{IfSome}
-use Rattle.cache_store.specs.Answering.{outcome_of}
 use Rattle.cache_store.specs.Kept.{HoldsIndex}
 use Rattle.cache_store.specs.Open.{KeepsWhere, Tells}
-use Rattle.cache_store.specs.Performing.{AchievesFor, ComesToTell, IsReply}
+use Rattle.cache_store.specs.Performing.{AchievesFor, ComesToTell}
 use Rattle.cache_store.specs.Records.{RecordsTell, TellsOf}
 use Rattle.cache_store.specs.Replied.{reply_of}
 use Rattle.cache_store.specs.Session.{Session}
@@ -15,7 +14,7 @@ use Rattle.cache_store.proofs.ScanAlike.{tells_on_disk, tells_on_shelf}
 use Rattle.cache_store.proofs.Spared.{rested_in, spared_in}
 use Rattle.cache_theory.specs.Checks.{checks}
 use Rattle.cache_theory.specs.Command.{Command, Reply}
-use Rattle.cache_theory.specs.Command.Command.{ListRecords, Rebuild, StepUpdate}
+use Rattle.cache_theory.specs.Command.Command.{ListGiven, Rebuild, StepUpdate}
 use Rattle.cache_theory.specs.History.{History, acked, begun}
 use Rattle.cache_theory.specs.Machine.{Machine}
 use Rattle.cache_theory.specs.Marks.{Marks, acked as acked_marks, begun as begun_marks}
@@ -29,6 +28,7 @@ use Rattle.file_handles.specs.Stands.{KeepsWhere as CacheKeepsWhere, Represents 
 use Rattle.file_handles.proofs.Begun.{begun_in}
 use Rattle.file_handles.proofs.Where.{stand_for}
 use Rattle.index_map.specs.Known.{Known, SameBase}
+use Rattle.index_record.specs.declared.record.IndexRecord.{IndexRecord}
 use Rattle.index_theory.specs.Apart.{IsApart}
 use Rattle.index_theory.specs.Ever.{entries_on}
 use Rattle.index_update.specs.Rest.{name_bytes}
@@ -80,9 +80,9 @@ pub record RestsWith (c : Command) (rest : Machine → List (List ℕ)) : Type 0
   pub next : (m : Machine) → (step m c).next ≡ with_rest m (rest m)
   pub marks : (m : Machine) (w : Marks) → acked_marks m c w ≡ begun_marks m c w
 
-pub list_rests : RestsWith ListRecords (λ m. [])
+pub list_rests : (records : List IndexRecord) → RestsWith (ListGiven records) (λ m. [])
 unfolding checks effect
-list_rests = record { next = λ m. refl; marks = λ m w. refl }
+list_rests records = record { next = λ m. refl; marks = λ m w. refl }
 
 pub rebuild_rests : RestsWith Rebuild (λ m. [])
 unfolding checks effect
@@ -111,7 +111,7 @@ module _ (c : Command) (rest : Machine → List (List ℕ)) (rests : RestsWith c
 
   pub rests_achieves : (a : Answered) → (IsApart s → SparesEntries s t) → (HoldsIndex s old.map → HoldsIndex t new.map)
       → ((m : Machine) → m.rest ≡ name_bytes old.update → rest m ≡ name_bytes new.update)
-      → ((m : Machine) → CacheRepresents (cache_at k s) m → m.rest ≡ name_bytes old.update → IfSome (reply_of a) (IsReply c (session_at k now old s) m))
+      → ((m : Machine) → CacheRepresents (cache_at k s) m → m.rest ≡ name_bytes old.update → IfSome (reply_of a) (λ q. q ≡ (step m c).reply))
       → ((m : Machine) → CacheRepresents (cache_at k s) m → ComesToTell c (session_at k now old s) m → TellsOf (get m.shelf) new)
       → AchievesFor c (Ok a) (session_at k now old s) (session_at k now new t)
   rests_achieves a spares holds rest_is replies tells b h is = record {
@@ -144,10 +144,7 @@ step_achieves n a k now s t old new same base dropped goes_on reply =
     rests_achieves (StepUpdate n) (λ m. drop n m.rest) (step_rests n) k now s t old new a (λ apart. spares_same s t same)
     (λ holds. subst (λ (u : State). HoldsIndex u new.map) (sym same) (holds_same_base s old.map new.map base holds))
     rest_is
-    (λ m is rest. subst (λ (o : Option Reply). IfSome o (IsReply (StepUpdate n) (session_at k now old s) m)) (sym reply) (record {
-      reply = λ may. reply_is m rest;
-      outcome = ap outcome_of (reply_is m rest);
-    }))
+    (λ m is rest. subst (λ (o : Option Reply). IfSome o (λ q. q ≡ (step m (StepUpdate n)).reply)) (sym reply) (reply_is m rest))
     (λ m is. comes_from (StepUpdate n) (session_at k now old s) m _ (λ e. cc) (λ told. goes_on_telling k s m old new is goes_on told.tells))
   where
     rest_is : (m : Machine) → m.rest ≡ name_bytes old.update → drop n m.rest ≡ name_bytes new.update

@@ -100,7 +100,7 @@ module _ (k : Kept) (now : ℕ) (s u : State) (old new : MemoryIndex) (spares : 
   unfolding checks effect
   flush_synced b h is = record {
     safe = λ on. sync_keeps u (begun Flush h).marks ((begun_spared Flush (session_at k now old s) u h is spares).crash_kept on).safe;
-    replies = record { reply = λ may. refl; outcome = refl };
+    replies = refl;
     next = record {
       stands = settled_in (cache_at k u) sound h (spared_in k s u h (spares is.matches.holds.apart) is.stands);
       matches = record {
@@ -183,8 +183,5 @@ module _ (k : Kept) (now : ℕ) (s u t : State) (old scanned new : MemoryIndex) 
       (λ apart. subst (SparesEntries s) (sym synced) (spares_sync s u (is.entries apart)))
       holds
       (λ m rest. ap name_bytes (sym (is.rest ∙ is.ended)))
-      (λ m stands rest. let reply : Rebuilt n ≡ (step m Rebuild).reply = ap Rebuilt (count ∙ count_is m stands) ∙ sym (rebuild_reply_is m) in record {
-        reply = λ may. reply;
-        outcome = ap outcome_of reply;
-      })
+      (λ m stands rest. let reply : Rebuilt n ≡ (step m Rebuild).reply = ap Rebuilt (count ∙ count_is m stands) ∙ sym (rebuild_reply_is m) in reply)
       (λ m stands comes. told m stands)

@@ -35,11 +35,10 @@ use Rattle.index_theory.specs.Scan.{scanned}
 use Rattle.index_update.specs.Rest.{name_bytes}
 use Rattle.startup_read.proofs.KeptLaws.{left_keeps_index, same_base_keeps_index}
 use Rattle.disk_model.specs.State.{State}
-use Rattle.cache_store.specs.Answering.{outcome_of}
 use Rattle.cache_store.specs.Kept.{HoldsIndex}
 use Rattle.cache_store.specs.Learnt.{IsLearnt, effect_of, effect_of_some}
 use Rattle.cache_store.specs.Open.{KeepsWhere}
-use Rattle.cache_store.specs.Performing.{Achieves, AchievesFor, IsReply}
+use Rattle.cache_store.specs.Performing.{Achieves, AchievesFor}
 use Rattle.cache_store.specs.Records.{Learns, ScanChanges}
 use Rattle.cache_store.specs.Replied.{replied, reply_of}
 use Rattle.cache_store.specs.Session.{Session, cache_of}
@@ -160,7 +159,7 @@ module _ {b : Bool} {c : Command} {h : History} {before after : Session} {e : Ef
   achieved : (answer : Result Answered StoreFault) (r : Reply) → replied answer ≡ Some r → LeavesWhere b c h (Some r) (cache_of after) → Teaches h.machine c e → Achieves b c h answer before after
   achieved answer r said left taught = record {
     safe = left.safe;
-    replies = subst (λ (o : Option Reply). IfSome o (IsReply c before h.machine)) (sym said) (record { reply = λ may. left.replies; outcome = ap outcome_of left.replies });
+    replies = subst (λ (o : Option Reply). IfSome o (λ q. q ≡ (step h.machine c).reply)) (sym said) left.replies;
     next = on_ok answer (record {
       stands = left.next;
       matches = record {

@@ -34,6 +34,7 @@ pub mod PerformSteps
 pub mod PerformWhole
 pub mod PrintedLaws
 pub mod RecordsAtEnd
+pub mod RepliedInMemory
 pub mod ReplyLaws
 pub mod Represented
 pub mod RestIsOne

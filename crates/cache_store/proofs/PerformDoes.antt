@@ -1,11 +1,9 @@
 -- What a command does before its reply is out.
 use Rattle.std.proofs.Common.{Bool, ◌≡◌, ◌≢◌, ℕ, ◌<◌, ◌^◌, List, [], Option, Some, Result, Ok, Err, ⊎_elim, refl, sym, subst, ap, ◌∙◌}
 use Rattle.std.specs.Prelude.{IfErr, IfOk, IfSome}
-use Rattle.std.proofs.lemmas.Option.{IfSome_then}
-use Rattle.cache_script.proofs.FrameLaws.{some_same}
 use Rattle.cache_theory.specs.Checks.{checks}
 use Rattle.cache_theory.specs.Command.{Command, Reply}
-use Rattle.cache_theory.specs.Command.Command.{At, HasEntry, UpdateState}
+use Rattle.cache_theory.specs.Command.Command.{At, HasEntry, HasGiven, UpdateState}
 use Rattle.cache_theory.specs.History.{History, acked, begun}
 use Rattle.cache_theory.specs.Machine.{Machine}
 use Rattle.cache_theory.specs.Marks.{Marks, begun as begun_marks}
@@ -18,11 +16,11 @@ use Rattle.file_handles.specs.Kept.{Kept}
 use Rattle.file_handles.specs.Stands.{KeepsWhere as CacheKeepsWhere}
 use Rattle.file_handles.proofs.Begun.{begun_in}
 use Rattle.index_update.specs.Rest.{name_bytes}
-use Rattle.cache_store.specs.Answering.{AnswersFor, AnswersTo, HasOutcome, outcome_of}
+use Rattle.cache_store.specs.Answering.{AnswersFor, AnswersTo}
 use Rattle.cache_store.specs.DoneFor.{IsDoneBy}
 use Rattle.cache_store.specs.Open.{KeepsWhere, Tells}
-use Rattle.cache_store.specs.Performing.{GoesBy, Achieves, AchievesFor, AchievesWhatIsDone, ComesToTell, Does, DoesFor, DoesWhatIsDone, IsReply}
-use Rattle.cache_store.specs.Records.{AnswersHas}
+use Rattle.cache_store.specs.Performing.{GoesBy, SaysThere, Achieves, AchievesFor, AchievesWhatIsDone, ComesToTell, Does, DoesFor, DoesWhatIsDone}
+use Rattle.cache_store.specs.Records.{AnswersHas, has_record}
 use Rattle.cache_store.specs.Replied.{replied, reply_of}
 use Rattle.cache_store.specs.Said.{Saying}
 use Rattle.cache_store.specs.Session.{Open, Session, cache_of}
@@ -30,11 +28,12 @@ use Rattle.cache_store.specs.declared.answered.Answered.{Answered}
 use Rattle.cache_store.specs.declared.answered.Answered.TheVariants as answered
 use Rattle.cache_store.specs.declared.fault.StoreFault.{StoreFault}
 use Rattle.cache_store.specs.declared.fault.StoreFault.TheVariants as fault
+use Rattle.cache_store.proofs.HasEntry.{has_is_right}
 use Rattle.cache_store.proofs.PerformStands.{at_moment, moment_in}
 use Rattle.cache_store.proofs.PerformSteps.{IsReading, reading_acked, reading_next}
 use Rattle.cache_store.proofs.Represented.{represented}
 use Rattle.cache_store.proofs.SaidMore.{when_ok}
-use Rattle.cache_store.proofs.Unsaid.{unsaid_answers, unsaid_by, unsaid_effect, unsaid_had, unsaid_outcome}
+use Rattle.cache_store.proofs.Unsaid.{unsaid_answers, unsaid_by, unsaid_effect, unsaid_had}
 
 -- for a history, a command of whose reply nothing is said yet does what it achieves
 unsaid_at : (c : Command) (answer : Result Answered StoreFault) (before after : Session) (now : Saying) → answer ≢ Ok answered.All → answer ≢ Err fault.Sink → now.held ≡ []
@@ -44,8 +43,7 @@ unsaid_at c answer before after now not_said no_sink none b h done =
     let reply = (step h.machine c).reply in
     record {
       safe = done.safe;
-      answers = λ may. unsaid_answers answer unsaid reply (IfSome_then (replied answer) done.replies (λ r said. said.reply may)) now none;
-      outcome = unsaid_outcome answer unsaid (outcome_of reply) (IfSome_then (replied answer) done.replies (λ r said. said.outcome));
+      answers = unsaid_answers answer unsaid reply done.replies now none;
       next = done.next;
       effect = unsaid_effect answer unsaid (KeepsWhere b after (acked c h));
       tells = λ had. unsaid_had answer unsaid (ComesToTell c before h.machine → Tells after (step h.machine c).next) had done.tells;
@@ -91,8 +89,7 @@ module _ (c : Command) (reads : IsReading c) where
       subst (λ (s : State). Does b c h answer before (record { open_store = after.open_store; disk = s }) out now) (sym same_disk)
       (subst (λ (o : Open). Does b c h answer before (record { open_store = o; disk = before.disk }) out now) (sym same_open) (record {
         safe = λ on. (begun_is.crash_kept on).safe;
-        answers = λ may. said;
-        outcome = said.outcome;
+        answers = said;
         next = when_ok answer _ (reading_keeps h then then_is);
         effect = if_sink answer (reading_keeps h then then_is);
         tells = λ had. reading_tells h.machine before;
@@ -119,7 +116,7 @@ module _ (c : Command) (reads : IsReading c) where
       reading_does_with answer before after before.open_store.handles out now same_disk same_open (λ b h is. is)
 
   -- one that only reads the index in memory
-  index_achieves : (a : Answered) (before : Session) → ((b : Bool) (h : History) → KeepsWhere b before h → IfSome (reply_of a) (IsReply c before h.machine)) → AchievesFor c (Ok a) before before
+  index_achieves : (a : Answered) (before : Session) → ((b : Bool) (h : History) → KeepsWhere b before h → IfSome (reply_of a) (λ r. r ≡ (step h.machine c).reply)) → AchievesFor c (Ok a) before before
   index_achieves a before replies b h is = record {
     safe = λ on. ((begun_in before.disk before.open_store.handles h.machine c h.marks is.stands).crash_kept on).safe;
     replies = replies b h is;
@@ -127,27 +124,34 @@ module _ (c : Command) (reads : IsReading c) where
     tells = reading_tells h.machine before;
   }
 
--- whether there is an entry
-has_reply : (key : List ℕ) (a : Answered) (before : Session) → HasOutcome (HasEntry key) a → AnswersHas key before.open_store.index a → (m : Machine) → IfSome (reply_of a) (IsReply (HasEntry key) before m)
-has_reply key answered.All before outcome answers m = tt
-has_reply key a before outcome answers m = record { reply = λ may. some_same _ _ (answers m (may refl)); outcome = outcome m }
+-- the reply is this one
+pub is_reply : (o : Option Reply) (r : Reply) → o ≡ Some r → IfSome o (λ q. q ≡ r)
+is_reply o r is = subst (λ (p : Option Reply). IfSome p (λ q. q ≡ r)) (sym is) refl
 
-pub has_does : (key : List ℕ) (a : Answered) (before : Session) (now : Saying) → a ≢ answered.All → now.held ≡ [] → HasOutcome (HasEntry key) a → AnswersHas key before.open_store.index a
-    → DoesFor (HasEntry key) (Ok a) before before now.taken now
-has_does key a before now not_said none outcome answers =
-    unsaid_does (HasEntry key) (Ok a) before before now (λ same. not_said (cc)) (λ same. cc) none
-    (index_achieves (HasEntry key) tt a before (λ b h is. has_reply key a before outcome answers h.machine))
+-- whether there is an entry
+pub has_does : (key : List ℕ) (a : Answered) (before : Session) (now : Saying) → a ≢ answered.All → now.held ≡ [] → AnswersHas key before.open_store.index a
+    → DoesWhatIsDone (HasEntry key) (Ok a) before before now.taken now
+has_does key a before now not_said none answers b h is =
+    let there = has_record before.open_store.index key in
+    let done : Command = HasGiven key there in (
+      done,
+      (
+        (there, (refl, record { in_memory = refl; right = λ told. has_is_right key before.open_store.index h.machine told })),
+        unsaid_does done (Ok a) before before now (λ same. not_said (cc)) (λ same. cc) none
+            (index_achieves done tt a before (λ crash g stands. is_reply (reply_of a) (step g.machine done).reply (answers g.machine stands.matches.rest))) b h is,
+      ),
+    )
 
 -- how far the update is
-state_reply_is : (a : Answered) (before : Session) (m : Machine) → reply_of a ≡ Some (state_reply m.rest) → IfSome (reply_of a) (IsReply UpdateState before m)
+state_reply_is : (a : Answered) (m : Machine) → reply_of a ≡ Some (state_reply m.rest) → IfSome (reply_of a) (λ r. r ≡ (step m UpdateState).reply)
 unfolding checks effect
-state_reply_is a before m is = subst (λ (o : Option Reply). IfSome o (IsReply UpdateState before m)) (sym is) (record { reply = λ may. refl; outcome = refl })
+state_reply_is a m is = is_reply (reply_of a) (step m UpdateState).reply is
 
 pub state_does : (a : Answered) (before : Session) (now : Saying) → a ≢ answered.All → now.held ≡ [] → reply_of a ≡ Some (state_reply (name_bytes before.open_store.index.update))
     → DoesFor UpdateState (Ok a) before before now.taken now
 state_does a before now not_said none is =
     unsaid_does UpdateState (Ok a) before before now (λ same. not_said (cc)) (λ same. cc) none
-    (index_achieves UpdateState tt a before (λ b h stands. state_reply_is a before h.machine (is ∙ ap (λ names. Some (state_reply names)) (sym stands.matches.rest))))
+    (index_achieves UpdateState tt a before (λ b h stands. state_reply_is a h.machine (is ∙ ap (λ names. Some (state_reply names)) (sym stands.matches.rest))))
 
 -- ---- the moment is set
 
@@ -159,7 +163,7 @@ at_achieves now before small b h is =
     let begun_is = begun_in before.disk before.open_store.handles h.machine (At now) h.marks is.stands in
     record {
       safe = λ on. (begun_is.crash_kept on).safe;
-      replies = record { reply = λ may. refl; outcome = refl };
+      replies = refl;
       next = record {
         stands = moment_in now (cache_of before) (begun (At now) h) proper begun_is;
         matches = record { moment = refl; rest = is.matches.rest; holds = is.matches.holds };
@@ -183,7 +187,7 @@ pub by_name : (c d : Command) (answer : Result Answered StoreFault) (before afte
     → DoesWhatIsDone d answer before after out now → DoesWhatIsDone c answer before after out now
 by_name c d answer before after out now same does = subst (λ (k : Command). DoesWhatIsDone k answer before after out now) (sym same) does
 
--- for one that is no eviction and no check it is the command itself
+-- for one whose reply does not go by the records it is the command itself
 pub as_command : (c d : Command) (answer : Result Answered StoreFault) (before after : Session) (out : Option (List ℕ)) (now : Saying) → c ≡ d
-    → ((m : Machine) → IsDoneBy (GoesBy before m) d m d) → DoesFor d answer before after out now → DoesWhatIsDone c answer before after out now
+    → ((m : Machine) → IsDoneBy (GoesBy before m) (SaysThere before m) d m d) → DoesFor d answer before after out now → DoesWhatIsDone c answer before after out now
 as_command c d answer before after out now same own does = by_name c d answer before after out now same (λ b h is. (d, (own h.machine, does b h is)))

@@ -75,10 +75,10 @@ fails_performs c f (Ok o) before after taken now is does = absurd is
 fails_performs c f (Err e) before after taken now is does =
     performs_for c (Err f) (Err e) before after after taken now now.taken
     (λ d b h done. record {
-      printed = λ may. tt;
+      printed = tt;
       outcome = tt;
       next = tt;
-      cut = λ may. (done.answers may).cut;
+      cut = done.answers.cut;
       effect = λ same. represented (done.effect (sym is ∙ same));
       tells = λ same. done.tells (sym is ∙ same);
     }) (λ d h stands done. failed_keeps d h e before after stands (done.safe refl) (λ same. keeps_to (done.effect (sym is ∙ same)))) does
@@ -97,10 +97,10 @@ does_performs c a (Ok o) before mid last taken between now printed cut outcome s
     (λ d b h done.
     let next = (step h.machine d).next in
     record {
-      printed = λ may. printed (reply_text (step h.machine d).reply) taken (done.answers may).says;
-      outcome = outcome ∙ done.outcome;
+      printed = printed (reply_text (step h.machine d).reply) taken done.answers.says;
+      outcome = outcome ∙ done.answers.outcome;
       next = as_open (λ now. Represents now next) mid last same (represented done.next);
-      cut = λ may. tt;
+      cut = tt;
       effect = tt;
       tells = λ had comes. as_open (λ now. Tells now next) mid last same (done.tells tt comes);
     })
@@ -120,10 +120,10 @@ does_performs c a (Err f) before mid last taken between now printed cut outcome 
     (λ d b h done.
     let next = (step h.machine d).next in
     record {
-      printed = λ may. tt;
+      printed = tt;
       outcome = tt;
       next = tt;
-      cut = λ may. cut (reply_text (step h.machine d).reply) taken (done.answers may).says;
+      cut = cut (reply_text (step h.machine d).reply) taken done.answers.says;
       effect = λ sink. as_open (λ now. Represents now next) mid last same (represented done.next);
       tells = λ had comes. as_open (λ now. Tells now next) mid last same (done.tells tt comes);
     })

@@ -16,10 +16,15 @@ use Rattle.cache_theory.specs.Command.Command.{Verify}
 use Rattle.index_map.specs.Known.{Known}
 use Rattle.cache_store.proofs.SayingLaws.{said_nothing}
 
--- of an answer of which nothing is said yet, the rest is all, and goes out
+-- of an answer of which nothing is said yet, the rest is all
+pub said_rest : (a : Answered) (before : Option (List ℕ)) (mid : Saying) → mid.taken ≡ before → mid.held ≡ [] → SaysOf (rest_of a) (rest_of a) before mid
+said_rest a before mid same none =
+    subst (λ (o : Option (List ℕ)). SaysOf (rest_of a) (rest_of a) o mid) same (record { front = []; said = said_nothing mid none; whole = refl })
+
+-- and goes out
 goes_out : (a : Answered) (before : Option (List ℕ)) (mid : Saying) (now : Option (List ℕ)) → mid.taken ≡ before → mid.held ≡ [] → SendsRest (rest_of a) mid now → Appends before now (rest_of a)
 goes_out a before mid now same none sends =
-    sends (rest_of a) before (subst (λ (o : Option (List ℕ)). SaysOf (rest_of a) (rest_of a) o mid) same (record { front = []; said = said_nothing mid none; whole = refl }))
+    sends (rest_of a) before (said_rest a before mid same none)
 
 -- a refusal goes out where nothing is checked, and findings where it is
 refusal_out : (c : Command) (before now : Option (List ℕ)) → false ≡ is_check c → PrintsRefusal before now → PrintsNo c before now

@@ -46,8 +46,7 @@ pub fails_unsaid : (crash : Bool) (c : Command) (h : History) (answer : Result A
 fails_unsaid crash c h (Ok a) P failed other before after was safe = absurd failed
 fails_unsaid crash c h (Err f) P failed other before after was safe = record {
   safe = safe;
-  answers = λ may. not_said (step h.machine c).reply f was;
-  outcome = tt;
+  answers = not_said (step h.machine c).reply f was;
   next = tt;
   effect = λ sink. absurd (other f failed sink);
   tells = λ sink. absurd (other f failed sink);

@@ -6,7 +6,7 @@ use Rattle.disk_model.specs.Listing.{AreEntries}
 use Rattle.disk_model.specs.State.{State, standing}
 use Rattle.disk_model.specs.declared.place.Place.{Place}
 use Rattle.disk_model.specs.declared.place.Place.TheVariants.{Index, Log, Tmp}
-use Rattle.index_map.specs.Known.{Known}
+use Rattle.index_map.specs.Known.{BeginsAfter, Known}
 use Rattle.index_theory.specs.Apart.{IsOfIndex}
 use Rattle.index_theory.specs.Ever.{entries_on}
 use Rattle.index_theory.specs.Honest.{Honest, index_records, journal_records}
@@ -15,7 +15,7 @@ use Rattle.index_theory.specs.LogKind.{log_kind}
 use Rattle.index_theory.specs.Start.{decide, start_of}
 use Rattle.index_theory.proofs.StartLaws.{agrees_along}
 use Rattle.cache_store.specs.InUse.{HoldsBase, OpensInUse, past_header}
-use Rattle.cache_store.specs.Open.{IsRest}
+use Rattle.cache_store.specs.Open.{BeginsOn, IsRest}
 
 -- the same entries are listed
 pub listed_along : (s t : State) → ((name : List ℕ) → entries_on t name ≡ entries_on s name) → (names : List Name) → AreEntries t names → AreEntries s names
@@ -32,6 +32,14 @@ module _ (s t : State) (index : (p : Place) → IsOfIndex p → standing t p ≡
         base = subst (λ (file : Option (List ℕ)). HoldsBase (index_records file) map) (index Index tt) was.base;
         past = was.past ∙ ap past_header (index Index tt);
       }
+
+  pub begins_along : (map : Known) → BeginsOn (standing t) map → BeginsOn (standing s) map
+  begins_along map begins = record {
+    ready = λ is.
+        subst (λ (file : Option (List ℕ)). BeginsAfter (index_records file) (journal_records (standing s Log)) map) (index Index tt)
+        (subst (λ (file : Option (List ℕ)). BeginsAfter (index_records (standing t Index)) (journal_records file) map) (index Log tt) (begins.ready (start_along ∙ is)));
+    build = λ is. begins.build (start_along ∙ is);
+  }
 
   module _ (same : (name : List ℕ) → entries_on t name ≡ entries_on s name) where
     pub honest_along : Honest (standing s) → Honest (standing t)

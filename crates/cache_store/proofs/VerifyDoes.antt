@@ -3,7 +3,6 @@ use Rattle.std.proofs.Common.{◌≡◌, ◌∙◌, ℕ, List, [], Result, Ok, I
 use Rattle.cache_base.specs.declared.name.Name.{Name}
 use Rattle.cache_check.specs.Findings.{AreFindings, IsTableOf, findings}
 use Rattle.cache_check.specs.declared.finding.Finding.{Finding}
-use Rattle.cache_store.specs.Answering.{outcome_of}
 use Rattle.cache_store.specs.Kept.{HoldsIndex}
 use Rattle.cache_store.specs.Performing.{AchievesWhatIsDone}
 use Rattle.cache_store.specs.Verifying.{IsFoundIn}
@@ -84,7 +83,7 @@ module _ (k : Kept) (now : ℕ) (s t : State) (old new : MemoryIndex) (finishes 
           (λ apart. spares_same s t finishes.same)
           (λ holds. subst (λ (u : State). HoldsIndex u new.map) (sym finishes.same) (holds_same_base s old.map new.map finishes.base holds))
           (λ m rest. ap name_bytes (sym finishes.ended))
-          (λ m there rest. record { reply = λ may. reply_is m there; outcome = ap outcome_of (reply_is m there) })
+          (λ m there rest. reply_is m there)
           (λ m there. comes_from (VerifyRecords records) (session_at k now old s) m _ (λ e. cc) (λ told.
           goes_on_telling k s m old new there finishes.tells told.tells))
           crash h is,

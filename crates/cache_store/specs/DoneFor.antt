@@ -1,26 +1,38 @@
--- What is done for a command: itself; but an eviction and a check go by records, which may not be right.
-use Rattle.std.specs.Prelude.{List, ◌≡◌}
+-- What is done for a command: itself; but an eviction, a check, a list, and whether there is an entry, go by records, which
+-- may not be right.
+use Rattle.std.specs.Prelude.{Bool, List, ℕ, ◌≡◌}
 use Rattle.cache_theory.specs.Command.{Command}
-use Rattle.cache_theory.specs.Command.Command.{Evict, EvictNames, Verify, VerifyRecords}
+use Rattle.cache_theory.specs.Command.Command.{Evict, EvictNames, HasEntry, HasGiven, ListGiven, ListRecords, Verify, VerifyRecords}
 use Rattle.cache_theory.specs.Machine.{Machine, open_names}
+use Rattle.cache_theory.specs.Step.{step}
 use Rattle.evictor.specs.Evict.{victims}
 use Rattle.index_record.specs.declared.record.IndexRecord.{IndexRecord}
 use Rattle.index_theory.specs.Scan.{scan}
 
--- an eviction is that of the victims among some records, and a check is one against some records, of which this holds
-abbrev pub IsDoneBy : (List IndexRecord → Type 0) → Command → Machine → Command → Type 0
-IsDoneBy Holds (Evict kb) m done =
+-- an eviction is that of the victims among some records, a check is one against some records, and a list is one of some
+-- records, of which the first holds; there is an entry or not, of which the second holds
+abbrev pub IsDoneBy : (List IndexRecord → Type 0) → (List ℕ → Bool → Type 0) → Command → Machine → Command → Type 0
+IsDoneBy Holds Says (Evict kb) m done =
     (records : List IndexRecord) × ((done ≡ EvictNames (victims records (open_names m) kb)) × Holds records)
-IsDoneBy Holds Verify m done = (records : List IndexRecord) × ((done ≡ VerifyRecords records) × Holds records)
-IsDoneBy Holds c m done = done ≡ c
+IsDoneBy Holds Says Verify m done = (records : List IndexRecord) × ((done ≡ VerifyRecords records) × Holds records)
+IsDoneBy Holds Says ListRecords m done = (records : List IndexRecord) × ((done ≡ ListGiven records) × Holds records)
+IsDoneBy Holds Says (HasEntry key) m done = (there : Bool) × ((done ≡ HasGiven key there) × Says key there)
+IsDoneBy Holds Says c m done = done ≡ c
 
--- they are those of all entries where the records are right; so both commands are the machine's own there
+-- the records are those of all entries where they are right, and so is the answer whether there is one: so each command is
+-- the machine's own there
+abbrev pub AreOfShelf : (right : Type 0) → Machine → List IndexRecord → Type 0
+AreOfShelf right m records = right → records ≡ scan m.shelf
+
+abbrev pub IsOfShelf : (right : Type 0) → Machine → List ℕ → Bool → Type 0
+IsOfShelf right m key there = right → step m (HasGiven key there) ≡ step m (HasEntry key)
+
 abbrev pub IsDoneFor : (right : Type 0) → Command → Machine → Command → Type 0
-IsDoneFor right c m done = IsDoneBy (λ records. right → records ≡ scan m.shelf) c m done
+IsDoneFor right c m done = IsDoneBy (AreOfShelf right m) (IsOfShelf right m) c m done
 
 -- this holds of what is done for the command, by such records
-abbrev pub DoneBy : (List IndexRecord → Type 0) → Command → Machine → (Command → Type 0) → Type 0
-DoneBy Holds c m P = (done : Command) × (IsDoneBy Holds c m done × P done)
+abbrev pub DoneBy : (List IndexRecord → Type 0) → (List ℕ → Bool → Type 0) → Command → Machine → (Command → Type 0) → Type 0
+DoneBy Holds Says c m P = (done : Command) × (IsDoneBy Holds Says c m done × P done)
 
 abbrev pub DoneFor : (right : Type 0) → Command → Machine → (Command → Type 0) → Type 0
 DoneFor right c m P = (done : Command) × (IsDoneFor right c m done × P done)

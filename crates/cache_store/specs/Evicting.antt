@@ -2,10 +2,14 @@
 use Rattle.std.specs.List.{AllByRecursion, IsDistinct}
 use Rattle.std.specs.Prelude.{Bool, IsSome, IsTrue, List, None, Result, false, filter, if◌then◌else◌, is_some, true, ℕ, ⊤, ◌≡◌, ◌⊎◌}
 use Rattle.cache_base.specs.declared.name.Name.{Name}
+use Rattle.cache_store.specs.Open.{Represents}
+use Rattle.cache_store.specs.Records.{AreAtEnd}
+use Rattle.cache_store.specs.Session.{Session}
 use Rattle.cache_theory.specs.Command.{Command}
 use Rattle.cache_theory.specs.Command.Command.{Evict}
 use Rattle.cache_theory.specs.History.{History}
 use Rattle.cache_theory.specs.Laws.{is_among}
+use Rattle.cache_theory.specs.Machine.{Machine, open_names}
 use Rattle.cache_theory.specs.Marks.{is_touched}
 use Rattle.cache_theory.specs.Step.{all_doomed}
 use Rattle.disk_model.specs.Account.{Ending}
@@ -20,6 +24,7 @@ use Rattle.file_handles.specs.Stands.{KeepsWhere, ReachesHistory, RepresentsSome
 use Rattle.file_handles.specs.Users.{AreOpenNames, users_of}
 use Rattle.index_map.specs.Known.{IsKnown, Known, SameBase}
 use Rattle.index_record.specs.declared.record.IndexRecord.{IndexRecord}
+use Rattle.index_theory.specs.Ever.{entries_on}
 use Rattle.record_list.specs.Lists.{IsByName, record_at, same_name}
 
 -- these names have to go by the records of the map, so that all take at most so many KB; no name in use is among them
@@ -57,13 +62,25 @@ pub record DoomsAll (names : List Name) (answer : Result (Unit {0}) DiskFault) (
       → AllByRecursion (λ name. is_touched h.marks name.0 ≡ true) names → KeepsWhere crash before h
       → ReachesHistory crash (record h { machine = all_doomed h.machine names }) answer after
 
+-- these are the records but for those of some names
+abbrev pub AreOthers : List IndexRecord → List Name → List IndexRecord → Type 0
+AreOthers records names left =
+    (q : Name) → record_at left q ≡ (if is_among q.0 names then None else record_at records q)
+
 -- the records of these names are out, and the others and the base are as before
 pub record Forgets (names : List Name) (old new : Known) : Type 0 where
-  pub records : (q : Name) → record_at new.records q
-      ≡ (if is_among q.0 names then None else record_at old.records q)
+  pub records : AreOthers old.records names new.records
   pub seen : (q : Name) → record_at new.seen q
       ≡ (if is_among q.0 names then None else record_at old.seen q)
   pub base : SameBase old new
+
+-- the records in memory after an eviction: those once the update has ended, without the records of all that had to go,
+-- whether a file stood there or not
+abbrev pub LeavesOthers : Session → ℕ → Known → Type 0
+LeavesOthers before kb map =
+    (m : Machine) → Represents before m
+    → (records : List IndexRecord) × (AreAtEnd (entries_on before.disk) before.open_store.index records
+    × AreOthers records (victims records (open_names m) kb) map.records)
 
 -- the command evicts by the records
 abbrev pub IsEviction : Command → Type 0

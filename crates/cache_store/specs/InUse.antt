@@ -15,11 +15,13 @@ use Rattle.index_journal.specs.Journal.{JournalSpells}
 use Rattle.index_map.specs.Known.{IsKnown, Known, changed}
 use Rattle.index_record.specs.declared.record.IndexRecord.{IndexRecord}
 use Rattle.index_theory.specs.Honest.{index_records}
+use Rattle.index_theory.specs.Leaves.{LeavesIndex}
 use Rattle.index_theory.specs.Scan.{scan}
 use Rattle.index_theory.specs.Start.{start_of}
 use Rattle.index_theory.specs.declared.kinds.Start.TheVariants.{Build}
 use Rattle.record_list.specs.Change.{IsDiff}
 use Rattle.record_list.specs.Lists.{record_at}
+use Rattle.startup_read.specs.Closing.{ClosesIndex}
 
 -- an index past its header of 16 bytes
 abbrev pub past_header : Option (List ℕ) → Option (List ℕ)
@@ -77,6 +79,11 @@ pub record ClosesInUse (index : MemoryIndex) (s t : State) : Type 0 where
   pub short : index.update ≡ [] → HasShortJournal (standing t)
   pub in_use : index.update ≡ [] → HasFewChanges index.map
       → StaysInUse index.map.base index.map.records s t
+
+-- once the update has ended: the index was written if that was due, with all records and this timestamp; then the journal
+-- and the flag
+pub record ClosesWhole (index : MemoryIndex) (now : ℕ) (s t : State) : Type 0 where
+  pub whole : index.update ≡ [] → (u : State) × (LeavesIndex s u × ClosesIndex index.map now u t)
 
 -- ---- the same by the machine
 

@@ -1,11 +1,17 @@
 -- Which calls look at the files of entries, and which change the files of the index.
-use Rattle.std.specs.Prelude.{IsTrue, List, None, Option, Some, length, take, true, ℕ, ⊤, ◌*◌, ◌+◌, ◌<◌, ◌≡◌, ◌≤◌}
+use Rattle.std.specs.Prelude.{IsTrue, List, None, Option, Some, [], false, length, take, true, ℕ, ⊤, ◌*◌, ◌+◌, ◌<◌, ◌≡◌, ◌≢◌, ◌≤◌}
 use Rattle.cache_base.specs.declared.limits.TheConstants.{CHANGED_MAX}
 use Rattle.cache_base.specs.declared.name.Name.{Name}
+use Rattle.cache_store.specs.declared.memory_index.MemoryIndex.{MemoryIndex}
 use Rattle.cache_theory.specs.Command.{Command}
-use Rattle.cache_theory.specs.Command.Command.{At, Evict, EvictNames, Flush, HasEntry, ListRecords, Rebuild, StepUpdate, UpdateState}
+use Rattle.cache_theory.specs.Command.Command.{At, Close, ElementOf, Evict, EvictNames, Finish, Flush, Get, HasEntry, ListRecords, OpenKey, ReadPart, Rebuild, StepUpdate, UpdateState, Verify}
+use Rattle.disk_model.specs.State.{State, settled}
 use Rattle.disk_model.specs.declared.disk.Disk.{Ghosts}
+use Rattle.file_handles.specs.Closing.{writes_draft}
+use Rattle.file_handles.specs.Kept.{Kept}
 use Rattle.index_map.specs.Known.{Known, changed}
+use Rattle.startup_read.specs.Refreshing.{Refreshes}
+use Rattle.startup_read.specs.Writing.{WritesIndex as WritesWhole}
 
 -- the names whose files the command reads, where it goes by the index, by the names that the update has still to read
 abbrev pub names_read : Command → List Name → Option ℕ
@@ -24,6 +30,33 @@ abbrev pub LooksAtNames : {Self : _} → Ghosts Self → ℕ → Self → Self �
 LooksAtNames D names before now =
     IsTrue D.tells → (D.counts now).entry_reads ≤ (D.counts before).entry_reads + 4 * names
 
+-- a command that makes no call of the disk
+abbrev pub MakesNoCall : Command → Type 0
+MakesNoCall (At now) = ⊤
+MakesNoCall (ElementOf s name) = ⊤
+MakesNoCall (HasEntry key) = ⊤
+MakesNoCall UpdateState = ⊤
+MakesNoCall _ = ⊥
+
+-- one that only looks at the disk
+abbrev pub OnlyLooks : Command → Type 0
+OnlyLooks (OpenKey s key) = ⊤
+OnlyLooks (ReadPart s from len) = ⊤
+OnlyLooks (Get key) = ⊤
+OnlyLooks ListRecords = ⊤
+OnlyLooks (StepUpdate n) = ⊤
+OnlyLooks Verify = ⊤
+OnlyLooks _ = ⊥
+
+-- one that syncs nothing, by what the handles keep: each but a `finish`, the closing of a slot whose entry is not finished,
+-- a `flush` and a `rebuild`
+abbrev pub NeverSyncs : Kept → Command → Type 0
+NeverSyncs k (Finish s) = ⊥
+NeverSyncs k (Close s) = writes_draft k s ≡ false
+NeverSyncs k Flush = ⊥
+NeverSyncs k Rebuild = ⊥
+NeverSyncs k c = ⊤
+
 -- a command that may write the file `index`
 abbrev pub WritesIndex : Command → Type 0
 WritesIndex Flush = ⊤
@@ -34,6 +67,16 @@ WritesIndex _ = ⊥
 pub record IsFresh (map : Known) : Type 0 where
   pub has_base : map.has_base ≡ true
   pub few : changed map.base map.records < CHANGED_MAX
+
+-- what a `flush` leaves: where the update has ended the index was written if that was due, with all records and this
+-- timestamp; and all is synced
+pub record Flushes (index : MemoryIndex) (now : ℕ) (s t : State) : Type 0 where
+  pub ended : index.update ≡ [] → (u : State) × (Refreshes index.map now s u × (t ≡ settled u))
+  pub going_on : index.update ≢ [] → t ≡ settled s
+
+-- what a `rebuild` leaves: the index was written, with all records and this timestamp, and all is synced
+abbrev pub Rebuilds : Known → ℕ → State → State → Type 0
+Rebuilds map now s t = (u : State) × (WritesWhole map.records now s u × (t ≡ settled u))
 
 -- the file `index` has all records
 pub record IsWritten (map : Known) : Type 0 where

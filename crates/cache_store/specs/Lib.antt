@@ -6,6 +6,7 @@ pub mod Evicting
 pub mod Faulting
 pub mod Faults
 pub mod IndexCalls
+pub mod InMemory
 pub mod InUse
 pub mod Kept
 pub mod Learnt

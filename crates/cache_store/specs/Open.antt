@@ -1,5 +1,5 @@
 -- What a store that is open stands for, and what opening and closing it promise.
-use Rattle.std.specs.Prelude.{Bool, List, OnOk, Result, [], ℕ, ◌≡◌, ◌≢◌}
+use Rattle.std.specs.Prelude.{Bool, List, OnOk, Result, [], false, ℕ, ◌≡◌, ◌≢◌}
 use Rattle.cache_base.specs.Names.{AreRising}
 use Rattle.cache_base.specs.declared.name.Name.{Name}
 use Rattle.cache_store.specs.Faults.{ending}
@@ -18,13 +18,15 @@ use Rattle.disk_model.specs.Image.{Files, IsImage}
 use Rattle.disk_model.specs.Listing.{AreEntries}
 use Rattle.disk_model.specs.Sound.{IsQuiet}
 use Rattle.disk_model.specs.State.{State, standing}
+use Rattle.disk_model.specs.declared.place.Place.TheVariants.{Index, Log}
 use Rattle.entry_file.specs.EntryFile.{found}
 use Rattle.file_handles.specs.Carries.{IsShelf}
 use Rattle.file_handles.specs.Closing.{IsClosed}
 use Rattle.file_handles.specs.Stands.{KeepsTo as CacheKeepsTo, KeepsWhere as CacheKeepsWhere, Represents as CacheRepresents}
-use Rattle.index_theory.specs.Honest.{Honest, LeavesHonest}
+use Rattle.index_map.specs.Known.{BeginsAfter, Known}
+use Rattle.index_theory.specs.Honest.{Honest, LeavesHonest, index_records, journal_records}
 use Rattle.index_theory.specs.Start.{start_of}
-use Rattle.index_theory.specs.declared.kinds.Start.TheVariants.{Ready}
+use Rattle.index_theory.specs.declared.kinds.Start.TheVariants.{Build, Ready}
 use Rattle.index_update.specs.Rest.{name_bytes}
 
 -- the store and the disk stand for this machine
@@ -93,6 +95,12 @@ OpensHonestly s t = IsQuiet s → Honest (standing s) → LeavesHonest t
 pub record Opens (now : ℕ) (s : State) (after : Session) : Type 0 where
   pub keeps : (m : Machine) → StartsOn now s m → KeepsTo after (settled_at m)
   pub tells : (m : Machine) → StartsOn now s m → Honest (standing s) → Tells after m
+
+-- the records that a store begins with: where the index is trusted those of it with its journal applied, whatever the
+-- entries are; and where it cannot be read there is no base
+pub record BeginsOn (files : Files) (map : Known) : Type 0 where
+  pub ready : start_of files ≡ Ready → BeginsAfter (index_records (files Index)) (journal_records (files Log)) map
+  pub build : start_of files ≡ Build → map.has_base ≡ false
 
 -- ---- the closing
 

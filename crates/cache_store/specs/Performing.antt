@@ -2,9 +2,9 @@
 use Rattle.std.specs.Prelude.{Bool, Err, IfErr, IfOk, IfSome, IsTrue, List, Ok, OnErr, OnOk, Option, Result, false, true, ℕ, ⊤, ◌≡◌, ◌⊎◌}
 use Rattle.std.specs.Io.KnownBytes.{Appends}
 use Rattle.cache_store.specs.Answering.{AnswersTo, outcome_in, outcome_of}
-use Rattle.cache_store.specs.DoneFor.{DoneBy}
+use Rattle.cache_store.specs.DoneFor.{AreOfShelf, DoneBy, IsOfShelf}
 use Rattle.cache_store.specs.Open.{KeepsTo, KeepsWhere, Represents, Tells}
-use Rattle.cache_store.specs.Records.{AreAtEnd}
+use Rattle.cache_store.specs.Records.{AreAtEnd, has_record}
 use Rattle.cache_store.specs.Replied.{replied}
 use Rattle.cache_store.specs.Said.{IsCut, Saying}
 use Rattle.cache_store.specs.Session.{Session}
@@ -21,7 +21,6 @@ use Rattle.cache_theory.specs.Step.{step}
 use Rattle.cache_theory.specs.Text.{reply_text}
 use Rattle.index_record.specs.declared.record.IndexRecord.{IndexRecord}
 use Rattle.index_theory.specs.Ever.{entries_on}
-use Rattle.index_theory.specs.Scan.{scan}
 
 -- the reply goes by the records in memory
 abbrev pub goes_by_records : Command → Bool
@@ -31,19 +30,24 @@ goes_by_records (Evict kb) = true
 goes_by_records Verify = true
 goes_by_records _ = false
 
--- the reply is the machine's: it does not go by the records, or they are right
-abbrev pub MayTell : Command → Session → Machine → Type 0
-MayTell c now m = IsTrue (goes_by_records c) → Tells now m
-
 -- the records are right afterwards: they were so before, or they are read anew
 abbrev pub ComesToTell : Command → Session → Machine → Type 0
 ComesToTell c now m = Tells now m ⊎ (c ≡ Rebuild)
 
--- an eviction or a check goes by these records: those in memory once the update has ended, which are those of all entries
--- where they were right
+-- an eviction, a check or a list goes by these records: those in memory once the update has ended, which are those of all
+-- entries where they were right
 pub record GoesBy (before : Session) (m : Machine) (records : List IndexRecord) : Type 0 where
   pub in_memory : AreAtEnd (entries_on before.disk) before.open_store.index records
-  pub right : Tells before m → records ≡ scan m.shelf
+  pub right : AreOfShelf (Tells before m) m records
+
+-- there is an entry as the records in memory have it
+pub record SaysThere (before : Session) (m : Machine) (key : List ℕ) (there : Bool) : Type 0 where
+  pub in_memory : there ≡ has_record before.open_store.index key
+  pub right : IsOfShelf (Tells before m) m key there
+
+-- what is done for the command by what is in memory
+abbrev pub DoneInMemory : Session → Command → Machine → (Command → Type 0) → Type 0
+DoneInMemory before c m P = DoneBy (GoesBy before m) (SaysThere before m) c m P
 
 -- the command has had its effect: there is an outcome, or the sink failed
 abbrev pub HadEffect : {T : Type 0} → Result T StoreFault → Type 0
@@ -54,11 +58,11 @@ HadEffect (Err f) = f ≡ fault.Sink
 pub record Performs (c : Command) (m : Machine) (answer : Result Verdict StoreFault)
     (before after : Session) (taken now : Option (List ℕ)) : Type 0 where
   -- with an answer the reply is out, it is the machine's, and the store stands for the machine's next state
-  pub printed : MayTell c before m → OnOk answer (Appends taken now (reply_text (step m c).reply))
+  pub printed : OnOk answer (Appends taken now (reply_text (step m c).reply))
   pub outcome : IfOk answer (λ o. o ≡ outcome_of (step m c).reply)
   pub next : OnOk answer (Represents after (step m c).next)
   -- otherwise a part of it is, and where the sink failed the command has had its effect
-  pub cut : MayTell c before m → OnErr answer (IsCut taken now (reply_text (step m c).reply))
+  pub cut : OnErr answer (IsCut taken now (reply_text (step m c).reply))
   pub effect : IfErr answer (λ f. f ≡ fault.Sink → Represents after (step m c).next)
   -- the records go on to be right
   pub tells : HadEffect answer → ComesToTell c before m → Tells after (step m c).next
@@ -88,20 +92,15 @@ pub record PerformsAndKeeps (c : Command) (h : History) (answer : Result Verdict
 pub record PerformsFor (c : Command) (answer : Result Verdict StoreFault) (before after : Session)
     (taken now : Option (List ℕ)) : Type 0 where
   pub answers : (m : Machine) → Represents before m
-      → DoneBy (GoesBy before m) c m (λ d. Performs d m answer before after taken now)
+      → DoneInMemory before c m (λ d. Performs d m answer before after taken now)
   pub crash : (h : History) → KeepsTo before h
-      → DoneBy (GoesBy before h.machine) c h.machine (λ d. PerformsAndKeeps d h answer before after taken now)
-
--- the reply of which nothing is said yet is the machine's
-pub record IsReply (c : Command) (before : Session) (m : Machine) (r : Reply) : Type 0 where
-  pub reply : MayTell c before m → r ≡ (step m c).reply
-  pub outcome : outcome_of r ≡ outcome_of (step m c).reply
+      → DoneInMemory before c h.machine (λ d. PerformsAndKeeps d h answer before after taken now)
 
 -- for a history: what a command does of whose reply nothing is said yet, with and without a crash
 pub record Achieves (crash : Bool) (c : Command) (h : History) (answer : Result Answered StoreFault)
     (before after : Session) : Type 0 where
   pub safe : IsTrue crash → IsSafe after.disk (begun c h).marks
-  pub replies : IfSome (replied answer) (IsReply c before h.machine)
+  pub replies : IfSome (replied answer) (λ r. r ≡ (step h.machine c).reply)
   pub next : OnOk answer (KeepsWhere crash after (acked c h))
   pub tells : OnOk answer (ComesToTell c before h.machine → Tells after (step h.machine c).next)
 
@@ -113,14 +112,13 @@ AchievesFor c answer before after =
 abbrev pub AchievesWhatIsDone : Command → Result Answered StoreFault → Session → Session → Type 0
 AchievesWhatIsDone c answer before after =
     (crash : Bool) (h : History) → KeepsWhere crash before h
-    → DoneBy (GoesBy before h.machine) c h.machine (λ d. Achieves crash d h answer before after)
+    → DoneInMemory before c h.machine (λ d. Achieves crash d h answer before after)
 
 -- for a history: what the command does before its reply is out whole, with and without a crash
 pub record Does (crash : Bool) (c : Command) (h : History) (answer : Result Answered StoreFault)
     (before after : Session) (taken : Option (List ℕ)) (now : Saying) : Type 0 where
   pub safe : IsTrue crash → IsSafe after.disk (begun c h).marks
-  pub answers : MayTell c before h.machine → AnswersTo (step h.machine c).reply answer taken now
-  pub outcome : IfOk answer (λ a. outcome_in a ≡ outcome_of (step h.machine c).reply)
+  pub answers : AnswersTo (step h.machine c).reply answer taken now
   pub next : OnOk answer (KeepsWhere crash after (acked c h))
   pub effect : IfErr answer (λ f. f ≡ fault.Sink → KeepsWhere crash after (acked c h))
   pub tells : HadEffect answer → ComesToTell c before h.machine → Tells after (step h.machine c).next
@@ -135,4 +133,4 @@ abbrev pub DoesWhatIsDone : Command → Result Answered StoreFault → Session �
     → Option (List ℕ) → Saying → Type 0
 DoesWhatIsDone c answer before after taken now =
     (crash : Bool) (h : History) → KeepsWhere crash before h
-    → DoneBy (GoesBy before h.machine) c h.machine (λ d. Does crash d h answer before after taken now)
+    → DoneInMemory before c h.machine (λ d. Does crash d h answer before after taken now)

@@ -1,13 +1,14 @@
 -- What the records in memory say of the entries.
-use Rattle.std.specs.Prelude.{List, None, Some, [], ℕ, ◌≡◌, ◌≢◌}
+use Rattle.std.specs.Prelude.{Bool, List, None, Some, [], is_some, ℕ, ◌≡◌, ◌≢◌}
 use Rattle.cache_base.specs.declared.name.Name.{Name}
 use Rattle.cache_store.specs.Replied.{reply_of}
 use Rattle.cache_store.specs.declared.answered.Answered.{Answered}
 use Rattle.cache_store.specs.declared.memory_index.MemoryIndex.{MemoryIndex}
-use Rattle.cache_theory.specs.Command.Command.{HasEntry}
+use Rattle.cache_theory.specs.Command.Command.{HasGiven}
 use Rattle.cache_theory.specs.Machine.{Machine}
 use Rattle.cache_theory.specs.Step.{step}
 use Rattle.cache_theory.specs.Table.{get}
+use Rattle.entry_name.specs.EntryName.{file_name}
 use Rattle.file_handles.specs.Effects.{once, rest_once}
 use Rattle.file_handles.specs.declared.fault.Effect.{Effect}
 use Rattle.index_map.specs.Known.{Known, SameBase}
@@ -56,10 +57,14 @@ pub record RecordsTell (index : MemoryIndex) (m : Machine) : Type 0 where
   pub rest : m.rest ≡ name_bytes index.update
   pub tells : TellsOf (get m.shelf) index
 
--- whether there is an entry, as the machine has it where the records tell
+-- a record of the key's name was seen
+abbrev pub has_record : MemoryIndex → List ℕ → Bool
+has_record index key = is_some (record_at index.map.seen (record { 0 = file_name key }))
+
+-- whether there is an entry, as that tells
 abbrev pub AnswersHas : List ℕ → MemoryIndex → Answered → Type 0
 AnswersHas key index a =
-    (m : Machine) → RecordsTell index m → reply_of a ≡ Some (step m (HasEntry key)).reply
+    (m : Machine) → m.rest ≡ name_bytes index.update → reply_of a ≡ Some (step m (HasGiven key (has_record index key))).reply
 
 -- the records in memory once the update has ended: where it had ended, those of the map; and else those that were seen,
 -- with the records of the entries whose names were left to read

@@ -6,22 +6,23 @@ ghost use Rattle.cache_base.specs.Causes.{HasCause};
 ghost use Rattle.cache_base.specs.declared.limits.TheConstants.{SLOTS};
 ghost use Rattle.cache_script.specs.Command.{command_of};
 ghost use Rattle.cache_store.specs.Answering.{outcome_in, rest_of};
-ghost use Rattle.cache_store.specs.Evicting.{IsEviction, LooksBeforeChanges};
+ghost use Rattle.cache_store.specs.Evicting.{IsEviction, LeavesOthers, LooksBeforeChanges};
 ghost use Rattle.cache_store.specs.Faulting.{FailsForGood, LooksAtNothing, StaysAs};
 ghost use Rattle.cache_store.specs.Faults.{ending};
-ghost use Rattle.cache_store.specs.IndexCalls.{IsFresh, IsWritten, LooksAtNames, WritesIndex, names_read};
+ghost use Rattle.cache_store.specs.IndexCalls.{Flushes, IsFresh, IsWritten, LooksAtNames, MakesNoCall, NeverSyncs, OnlyLooks, Rebuilds, WritesIndex, names_read};
 ghost use Rattle.cache_store.specs.InUse.{SparesIndex};
 ghost use Rattle.cache_store.specs.Printed.{HasBadKey, IsPlain, Prints, is_check, is_plain, lists_findings};
-ghost use Rattle.cache_store.specs.Reads.{AreHeld, LastIsFirst};
+ghost use Rattle.cache_store.specs.Reads.{AreHeld, LastIsFirst, LeavesChunks};
 ghost use Rattle.cache_store.specs.Said.{IsCut, saying};
 ghost use Rattle.cache_store.specs.Saying.{CutsIn, SaysMore, TakesMore};
-ghost use Rattle.cache_theory.specs.Command.Command.{ElementOf, Flush, ReadPart, Rebuild, Verify};
+ghost use Rattle.cache_theory.specs.Command.Command.{ElementOf, Evict, Flush, ReadPart, Rebuild, Verify};
 ghost use Rattle.cache_theory.specs.Faulted.{fault_line};
 ghost use Rattle.cache_theory.specs.Given.{IsGiven};
 ghost use Rattle.cache_theory.specs.Text.{with_bytes};
 ghost use Rattle.disk_model.specs.Account.{Accounts, Ending, Looks};
 ghost use Rattle.disk_model.specs.Sound.{IsQuiet};
 ghost use Rattle.disk_model.specs.Told.{Told};
+ghost use Rattle.file_handles.specs.Unsynced.{SyncsNothing};
 ghost use Rattle.index_map.specs.Known.{SameBase};
 ghost use Rattle.index_theory.specs.Honest.{LeavesHonest};
 ghost use Rattle.index_theory.specs.Leaves.{LeavesIndex};
@@ -120,6 +121,7 @@ fn say_rest<K: Sink>(
 
 impl Store {
     ghost use Rattle.cache_store.specs.Answering.{AnswersOver, CutsRest, SendsRest};
+    ghost use Rattle.cache_store.specs.InMemory.{AnswersInMemory, CutsPlainLine, RepliesInMemory};
     ghost use Rattle.cache_store.specs.Open.{IsOpen, LeavesOpen};
     ghost use Rattle.cache_store.specs.Performing.{DoesWhatIsDone, HadEffect, PerformsFor};
     ghost use Rattle.cache_store.specs.Session.{open_of, session};
@@ -179,6 +181,10 @@ impl Store {
         ensures found { command_of c.now ≡ Verify → IfOk result (λ a. IsTrue D.tells →
             IsFoundIn (session D.Disk self.old disk.old) self.new.index.map a) }
         ensures bad_key { HasBadKey (command_of c.now) → result ≢ Ok Answered.Done }
+        ensures in_memory { MakesNoCall (command_of c.now) →
+            AnswersInMemory (open_of self.old) (command_of c.now) result
+            (K.taken sink.old) (saying K.Sink self.new.reply sink.new) }
+        ensures plainly { is_plain (command_of c.now) ≡ true → sink.new ≡ sink.old }
         ensures unsaid { IfOk result (λ a. a ≢ Answered.All → sink.new ≡ sink.old) }
         ensures still_empty { IfOk result (λ a.
             a ≢ Answered.All → self.new.reply.held ≡ []) }
@@ -196,6 +202,17 @@ impl Store {
         ensures flushed { command_of c.now ≡ Flush → OnOk result
             (self.new.index.update ≡ [] → IsFresh self.new.index.map) }
         ensures rebuilt { command_of c.now ≡ Rebuild → OnOk result (IsWritten self.new.index.map) }
+        ensures idle { MakesNoCall (command_of c.now) → disk.new ≡ disk.old }
+        ensures looking { OnlyLooks (command_of c.now) →
+            Looks D.Disk (ending result) disk.old disk.new }
+        ensures unsynced { NeverSyncs (kept self.old.handles) (command_of c.now) →
+            Told D.Disk SyncsNothing disk.old disk.new }
+        ensures evicts { (kb : ℕ) → command_of c.now ≡ Evict kb → HadEffect result → IsTrue D.tells →
+            LeavesOthers (session D.Disk self.old disk.old) kb self.new.index.map }
+        ensures flushes { command_of c.now ≡ Flush → HadEffect result →
+            Told D.Disk (Flushes self.old.index self.old.moment) disk.old disk.new }
+        ensures rebuilds { command_of c.now ≡ Rebuild → HadEffect result →
+            Told D.Disk (Rebuilds self.new.index.map self.old.moment) disk.old disk.new }
         // Where a look failed before anything was said, all is as before. Where the disk failed in another way, it was in a
         // change or a sync, or the reply is out up to its first chunk.
         ensures faulted { self.new.faulting ≡ true → result ≡ Err StoreFault.Disk }
@@ -215,6 +232,8 @@ impl Store {
         ensures recent { (slot from len : ℕ) → command_of c.now ≡ ReadPart slot from len →
             IfOk result (λ a. outcome_in a ≡ Verdict.Ok → IsTrue D.tells →
             LastIsFirst (kept self.old.handles) slot from len (kept self.new.handles)) }
+        ensures chunks { LeavesChunks (command_of c.now)
+            (kept self.old.handles) (kept self.new.handles) }
         ensures account { Accounts D.Disk (ending result) disk.old disk.new }
         ensures sink { let failed = IsErrOf result StoreFault.Sink in
             HasCause failed (K.faults sink.old) (K.faults sink.new) }
@@ -327,6 +346,11 @@ impl Store {
             Prints (command_of c.now) o (K.taken sink.old) (K.taken sink.new)) }
         ensures verifies { command_of c.now ≡ Verify → OnOk result (IsTrue D.tells →
             PrintsFound (session D.Disk self.old disk.old) self.new.index.map (K.taken sink.old) (K.taken sink.new)) }
+        ensures in_memory { MakesNoCall (command_of c.now) →
+            RepliesInMemory (open_of self.old) (command_of c.now) result
+            (K.taken sink.old) (K.taken sink.new) }
+        ensures cut { is_plain (command_of c.now) ≡ true →
+            OnErr result (CutsPlainLine (K.taken sink.old) (K.taken sink.new)) }
         ensures bad_key { HasBadKey (command_of c.now) → result ≢ Ok Verdict.Ok }
         ensures grows { IsTrue D.tells → TakesMore (K.taken sink.old) (K.taken sink.new) }
         ensures open { IsTrue D.tells → LeavesOpen result (session D.Disk self.new disk.new) }
@@ -343,16 +367,31 @@ impl Store {
         ensures flushed { command_of c.now ≡ Flush → OnOk result
             (self.new.index.update ≡ [] → IsFresh self.new.index.map) }
         ensures rebuilt { command_of c.now ≡ Rebuild → OnOk result (IsWritten self.new.index.map) }
+        ensures evicts { (kb : ℕ) → command_of c.now ≡ Evict kb → HadEffect result → IsTrue D.tells →
+            LeavesOthers (session D.Disk self.old disk.old) kb self.new.index.map }
+        ensures flushes { command_of c.now ≡ Flush → HadEffect result →
+            Told D.Disk (Flushes self.old.index self.old.moment) disk.old disk.new }
+        ensures rebuilds { command_of c.now ≡ Rebuild → HadEffect result →
+            Told D.Disk (Rebuilds self.new.index.map self.old.moment) disk.old disk.new }
 
-        // A `read` makes no call of the disk where all its chunks are held. Afterwards its last one is the most recent.
+        // A `read` makes no call of the disk where all its chunks are held. Afterwards its last one is the most recent. No
+        // other command drops a chunk, but a `close` those of its own entry.
         ensures held { (slot from len : ℕ) → command_of c.now ≡ ReadPart slot from len →
             AreHeld (kept self.old.handles) slot from len → disk.new ≡ disk.old }
         ensures recent { (slot from len : ℕ) → command_of c.now ≡ ReadPart slot from len →
             result ≡ Ok Verdict.Ok → IsTrue D.tells →
             LastIsFirst (kept self.old.handles) slot from len (kept self.new.handles) }
+        ensures chunks { LeavesChunks (command_of c.now)
+            (kept self.old.handles) (kept self.new.handles) }
 
-        // Calls and faults. A command that goes by the index looks at an entry for no name but those that it reads, and
-        // an eviction looks at the disk only before its first removal.
+        // Calls and faults. Some commands make no call of the disk, and some only look at it. A command that goes by the
+        // index looks at an entry for no name but those that it reads, and an eviction looks at the disk only before its
+        // first removal.
+        ensures idle { MakesNoCall (command_of c.now) → disk.new ≡ disk.old }
+        ensures looking { OnlyLooks (command_of c.now) →
+            Looks D.Disk (ending result) disk.old disk.new }
+        ensures unsynced { NeverSyncs (kept self.old.handles) (command_of c.now) →
+            Told D.Disk SyncsNothing disk.old disk.new }
         ensures looks { IfSome (names_read (command_of c.now) self.old.index.update)
             (λ names. LooksAtNames D.Disk names disk.old disk.new) }
         ensures looks_first { IsEviction (command_of c.now) →

@@ -4,7 +4,7 @@ ghost use Rattle.std.specs.List.{list_any};
 ghost use Rattle.std.specs.Prelude.{◌≡◌, [], Err, false, true, IfOk, IsErrOf, IsTrue, filter, length};
 ghost use Rattle.cache_base.specs.Causes.{HasCause};
 ghost use Rattle.cache_base.specs.Names.{AreRising};
-ghost use Rattle.cache_store.specs.Evicting.{ArePicked, AreUnused, AreVictims, DoomsAll, HoldsFiles, LooksBeforeChanges, has_file};
+ghost use Rattle.cache_store.specs.Evicting.{ArePicked, AreUnused, AreVictims, DoomsAll, HoldsFiles, LeavesOthers, LooksBeforeChanges, has_file};
 ghost use Rattle.cache_store.specs.Faults.{ending};
 ghost use Rattle.cache_store.specs.IndexCalls.{LooksAtNames};
 ghost use Rattle.cache_store.specs.Printed.{lists_findings};
@@ -17,6 +17,8 @@ ghost use Rattle.file_handles.specs.Cache.{cache};
 ghost use Rattle.file_handles.specs.Kept.{kept};
 ghost use Rattle.file_handles.specs.Removing.{FailsInChange};
 ghost use Rattle.index_map.specs.Known.{SameBase};
+ghost use Rattle.file_handles.specs.HeldChunks.{SameChunks};
+ghost use Rattle.file_handles.specs.Unsynced.{SyncsNothing};
 ghost use Rattle.index_theory.specs.Leaves.{LeavesIndex};
 ghost use Rattle.record_list.specs.Lists.{same_name};
 
@@ -84,6 +86,7 @@ fn remove_files<D: Disk>(
     ensures index { Told D.Disk LeavesIndex disk.old disk.new }
     ensures account { Accounts D.Disk (disk_ending result) disk.old disk.new }
     ensures change { FailsInChange D.Disk (disk_ending result) disk.new }
+    ensures unsynced { Told D.Disk SyncsNothing disk.old disk.new }
     ensures no_entry { LooksAtNoEntry D.Disk disk.old disk.new }
 {
     for name in names {
@@ -124,8 +127,12 @@ impl Store {
             DoesWhatIsDone (Evict kb) result (at self.old disk.old) (at self.new disk.new)
             (K.taken sink.old) (saying K.Sink self.new.reply sink.new) }
         ensures grows { TakesMore (K.taken sink.old) (K.taken sink.new) }
+        ensures evicts { HadEffect result → IsTrue D.tells →
+            LeavesOthers (session D.Disk self.old disk.old) kb self.new.index.map }
         ensures base { HadEffect result → SameBase self.old.index.map self.new.index.map }
         ensures index { Told D.Disk LeavesIndex disk.old disk.new }
+        ensures unsynced { Told D.Disk SyncsNothing disk.old disk.new }
+        ensures chunks { SameChunks (kept self.old.handles) (kept self.new.handles) }
         ensures unlisted { IfOk result (λ a. lists_findings a ≡ false) }
         ensures all { IfOk result (λ a. a ≡ Answered.All) }
         ensures names { LooksAtNames D.Disk (length self.old.index.update) disk.old disk.new }

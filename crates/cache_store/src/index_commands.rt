@@ -4,7 +4,7 @@ ghost use Rattle.std.specs.Prelude.{◌≡◌, ◌≢◌, ◌↔◌, [], Err, fa
 ghost use Rattle.cache_base.specs.Causes.{HasCause};
 ghost use Rattle.cache_store.specs.Answering.{HasOutcome};
 ghost use Rattle.cache_store.specs.Faults.{ending};
-ghost use Rattle.cache_store.specs.IndexCalls.{IsFresh, IsWritten, LooksAtNames};
+ghost use Rattle.cache_store.specs.IndexCalls.{Flushes, IsFresh, IsWritten, LooksAtNames, Rebuilds};
 ghost use Rattle.cache_store.specs.InUse.{SparesIndex};
 ghost use Rattle.cache_store.specs.Kept.{HoldsIndex};
 ghost use Rattle.cache_store.specs.Printed.{lists_findings};
@@ -18,6 +18,7 @@ ghost use Rattle.index_theory.specs.Apart.{IsApart};
 ghost use Rattle.index_theory.specs.Leaves.{LeavesIndex};
 ghost use Rattle.index_map.specs.Known.{SameBase};
 ghost use Rattle.index_theory.specs.Unclean.{IsUnclean};
+ghost use Rattle.startup_read.specs.Refreshing.{Refreshes};
 ghost use Rattle.startup_read.specs.Spares.{SparesEntries};
 
 use crate::StoreFault;
@@ -47,6 +48,8 @@ fn refresh<D: Disk>(
     ensures same { SparesIndex Flush index.old → index.new ≡ index.old }
 
     // The disk.
+    ensures written { index.old.update ≡ [] →
+        OnOk result (Told D.Disk (Refreshes index.old.map now) disk.old disk.new) }
     ensures unwritten { SparesIndex Flush index.old → Told D.Disk (λ s t. t ≡ s) disk.old disk.new }
     ensures holds { let was = index.old.map in let map = index.new.map in
         OnOk result (Told D.Disk (λ s t. HoldsIndex s was → HoldsIndex t map) disk.old disk.new) }
@@ -66,7 +69,9 @@ fn refresh<D: Disk>(
 impl Store {
     ghost use Rattle.cache_store.specs.Open.{IsOpen};
     ghost use Rattle.cache_store.specs.Faulting.{StaysAs};
-    ghost use Rattle.cache_store.specs.Performing.{AchievesFor, DoesFor};
+    ghost use Rattle.cache_store.specs.Performing.{AchievesFor, DoesWhatIsDone};
+    ghost use Rattle.file_handles.specs.HeldChunks.{SameChunks};
+    ghost use Rattle.file_handles.specs.Kept.{kept};
     ghost use Rattle.cache_store.specs.Session.{open_of, session};
 
     /// Ends the update, and says the records of all entries in name order.
@@ -80,10 +85,11 @@ impl Store {
         requires calm { self.old.faulting ≡ false }
         requires told { IsTrue D.tells → IsOpen (session D.Disk self.old disk.old) }
         ensures does { let at = session D.Disk in IsTrue D.tells →
-            DoesFor ListRecords result (at self.old disk.old) (at self.new disk.new)
+            DoesWhatIsDone ListRecords result (at self.old disk.old) (at self.new disk.new)
             (K.taken sink.old) (saying K.Sink self.new.reply sink.new) }
         ensures grows { TakesMore (K.taken sink.old) (K.taken sink.new) }
         ensures base { SameBase self.old.index.map self.new.index.map }
+        ensures chunks { SameChunks (kept self.old.handles) (kept self.new.handles) }
         ensures unlisted { IfOk result (λ a. lists_findings a ≡ false) }
         ensures all { IfOk result (λ a. a ≡ Answered.All) }
         ensures faulted { (self.new.faulting ≡ true) ↔ (result ≡ Err StoreFault.Disk) }
@@ -113,6 +119,7 @@ impl Store {
         ensures does { let at = session D.Disk in IsTrue D.tells →
             AchievesFor (StepUpdate n) result (at self.old disk.old) (at self.new disk.new) }
         ensures base { SameBase self.old.index.map self.new.index.map }
+        ensures chunks { SameChunks (kept self.old.handles) (kept self.new.handles) }
         ensures unlisted { IfOk result (λ a. lists_findings a ≡ false) }
         ensures not_said { result ≢ Ok Answered.All }
         ensures no_sink { result ≢ Err StoreFault.Sink }
@@ -140,11 +147,14 @@ impl Store {
         requires told { IsTrue D.tells → IsOpen (session D.Disk self.old disk.old) }
         ensures does { let at = session D.Disk in IsTrue D.tells →
             AchievesFor Flush result (at self.old disk.old) (at self.new disk.new) }
+        ensures chunks { SameChunks (kept self.old.handles) (kept self.new.handles) }
         ensures unlisted { IfOk result (λ a. lists_findings a ≡ false) }
         ensures done { IfOk result (λ a. a ≡ Answered.Done) }
         ensures no_sink { result ≢ Err StoreFault.Sink }
         ensures held { self.new.reply.held ≡ self.old.reply.held }
         ensures fresh { OnOk result (self.new.index.update ≡ [] → IsFresh self.new.index.map) }
+        ensures flushes { OnOk result
+            (Told D.Disk (Flushes self.old.index self.old.moment) disk.old disk.new) }
         ensures same { SparesIndex Flush self.old.index → self.new.index ≡ self.old.index }
         ensures index { SparesIndex Flush self.old.index → Told D.Disk LeavesIndex disk.old disk.new }
         ensures quiet { OnOk result (IsTrue D.tells → IsQuiet (D.state disk.new)) }
@@ -170,11 +180,14 @@ impl Store {
         ensures does { let at = session D.Disk in IsTrue D.tells →
             AchievesFor Rebuild result (at self.old disk.old) (at self.new disk.new) }
         ensures outcome { IfOk result (HasOutcome Rebuild) }
+        ensures chunks { SameChunks (kept self.old.handles) (kept self.new.handles) }
         ensures unlisted { IfOk result (λ a. lists_findings a ≡ false) }
         ensures not_said { result ≢ Ok Answered.All }
         ensures no_sink { result ≢ Err StoreFault.Sink }
         ensures held { self.new.reply.held ≡ self.old.reply.held }
         ensures written { OnOk result (IsWritten self.new.index.map) }
+        ensures rebuilds { OnOk result
+            (Told D.Disk (Rebuilds self.new.index.map self.old.moment) disk.old disk.new) }
         ensures quiet { OnOk result (IsTrue D.tells → IsQuiet (D.state disk.new)) }
         ensures unclean { IsTrue D.tells → IsUnclean (D.state disk.new) }
         ensures faulted { self.new.faulting ≡ true → result ≡ Err StoreFault.Disk }

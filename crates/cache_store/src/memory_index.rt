@@ -1,12 +1,10 @@
 //! The index in memory: the records of the entries, and the update that reads those which are not known yet.
 
 ghost use Rattle.std.specs.Prelude.{◌≡◌, ◌≢◌, [], IfOk, IsTrue, OnErr, OnOk, Some, drop, false, length, take};
-ghost use Rattle.cache_store.specs.Answering.{HasOutcome};
 ghost use Rattle.cache_store.specs.Evicting.{Forgets};
 ghost use Rattle.cache_store.specs.Printed.{lists_findings};
 ghost use Rattle.cache_store.specs.Records.{AnswersHas, EndsWith, Learns, TakenOff, TellsAtEnd, TellsOf};
 ghost use Rattle.cache_store.specs.Replied.{reply_of};
-ghost use Rattle.cache_theory.specs.Command.Command.{HasEntry};
 ghost use Rattle.cache_theory.specs.Step.{state_reply};
 ghost use Rattle.disk_model.specs.Account.{Looks, ending};
 ghost use Rattle.file_handles.specs.Effects.{IsPlainEffect};
@@ -161,7 +159,6 @@ impl MemoryIndex {
 
     /// Whether there is an entry of the key.
     pub(crate) fn has(&self, key: &[u8]) -> Answered
-        ensures outcome { HasOutcome (HasEntry key.now) result }
         ensures answers { AnswersHas key.now self.now result }
         ensures unsaid { result ≢ Answered.All }
         ensures unlisted { lists_findings result ≡ false }

@@ -4,7 +4,7 @@ ghost use Rattle.std.specs.Prelude.{◌≡◌, IfOk, IsTrue, None, OnOk};
 ghost use Rattle.cache_base.specs.Names.{AreRising};
 ghost use Rattle.cache_store.specs.InUse.{OpensInUse};
 ghost use Rattle.cache_store.specs.Kept.{HoldsIndex};
-ghost use Rattle.cache_store.specs.Open.{IsRest};
+ghost use Rattle.cache_store.specs.Open.{BeginsOn, IsRest};
 ghost use Rattle.cache_store.specs.Records.{SeesNone, TellsOf};
 ghost use Rattle.disk_model.specs.Account.{Accounts, Looks, LooksAtNoEntry, ending};
 ghost use Rattle.disk_model.specs.Listing.{AreEntries};
@@ -56,6 +56,8 @@ pub(crate) fn begin_index<D: Disk>(alloc: Global, disk: &mut D) -> Result<Memory
     ensures holds { IfOk result (λ index. IsTrue D.tells → HoldsIndex (D.state disk.new) index.map) }
     ensures based { IfOk result (λ index. IsTrue D.tells →
         OpensInUse (D.state disk.old) index.map (D.state disk.new)) }
+    ensures begins { IfOk result (λ index. IsTrue D.tells →
+        BeginsOn (standing (D.state disk.old)) index.map) }
 
     // The disk.
     ensures opened { OnOk result (Told D.Disk (λ s t. t ≡ opened_index s) disk.old disk.new) }

@@ -1,22 +1,23 @@
 //! Answers a command: by its reply, or by the line that tells of a failed look at the disk.
 
-ghost use Rattle.std.specs.Prelude.{ℕ, ◌≡◌, ◌≢◌, [], Err, Ok, true, false, IfOk, IfSome, IsErrOf, IsTrue, OnOk};
+ghost use Rattle.std.specs.Prelude.{ℕ, ◌≡◌, ◌≢◌, [], Err, Ok, true, false, IfOk, IfSome, IsErrOf, IsTrue, OnErr, OnOk};
 ghost use Rattle.cache_base.specs.Causes.{HasCause};
 ghost use Rattle.cache_script.specs.Command.{command_of};
-ghost use Rattle.cache_store.specs.Evicting.{IsEviction, LooksBeforeChanges};
+ghost use Rattle.cache_store.specs.Evicting.{IsEviction, LeavesOthers, LooksBeforeChanges};
 ghost use Rattle.cache_store.specs.Faulting.{FailsForGood, LooksAtNothing};
 ghost use Rattle.cache_store.specs.Faults.{ending};
 ghost use Rattle.cache_store.specs.InUse.{SparesIndex};
-ghost use Rattle.cache_store.specs.IndexCalls.{IsFresh, IsWritten, LooksAtNames, WritesIndex, names_read};
+ghost use Rattle.cache_store.specs.IndexCalls.{Flushes, IsFresh, IsWritten, LooksAtNames, MakesNoCall, NeverSyncs, OnlyLooks, Rebuilds, WritesIndex, names_read};
 ghost use Rattle.cache_store.specs.Outcomes.{Faults, verdict_in, verdict_of};
-ghost use Rattle.cache_store.specs.Printed.{HasBadKey, Prints};
-ghost use Rattle.cache_store.specs.Reads.{AreHeld, LastIsFirst};
+ghost use Rattle.cache_store.specs.Printed.{HasBadKey, Prints, is_plain};
+ghost use Rattle.cache_store.specs.Reads.{AreHeld, LastIsFirst, LeavesChunks};
 ghost use Rattle.cache_store.specs.Saying.{TakesMore};
-ghost use Rattle.cache_theory.specs.Command.Command.{Flush, ReadPart, Rebuild, Verify};
+ghost use Rattle.cache_theory.specs.Command.Command.{Evict, Flush, ReadPart, Rebuild, Verify};
 ghost use Rattle.cache_theory.specs.Given.{IsGiven};
-ghost use Rattle.disk_model.specs.Account.{Accounts};
+ghost use Rattle.disk_model.specs.Account.{Accounts, Looks};
 ghost use Rattle.disk_model.specs.Sound.{IsQuiet};
 ghost use Rattle.disk_model.specs.Told.{Told};
+ghost use Rattle.file_handles.specs.Unsynced.{SyncsNothing};
 ghost use Rattle.index_map.specs.Known.{SameBase};
 ghost use Rattle.index_theory.specs.Honest.{LeavesHonest};
 ghost use Rattle.index_theory.specs.Leaves.{LeavesIndex};
@@ -40,9 +41,10 @@ fn outcome_of(verdict: Verdict) -> Outcome
 }
 
 impl Store {
+    ghost use Rattle.cache_store.specs.InMemory.{CutsPlainLine, RepliesInMemory};
     ghost use Rattle.cache_store.specs.Open.{IsOpen, LeavesOpen};
     ghost use Rattle.cache_store.specs.Performing.{HadEffect, PerformsFor};
-    ghost use Rattle.cache_store.specs.Session.{session};
+    ghost use Rattle.cache_store.specs.Session.{open_of, session};
     ghost use Rattle.cache_store.specs.Verifying.{PrintsFound};
     ghost use Rattle.file_handles.specs.Cache.{cache};
     ghost use Rattle.file_handles.specs.Kept.{kept};
@@ -81,6 +83,11 @@ impl Store {
             Prints (command_of c.now) (verdict_of o) (K.taken sink.old) (K.taken sink.new)) }
         ensures verifies { self.new.faulting ≡ false → command_of c.now ≡ Verify → OnOk result (IsTrue D.tells →
             PrintsFound (session D.Disk self.old disk.old) self.new.index.map (K.taken sink.old) (K.taken sink.new)) }
+        ensures in_memory { MakesNoCall (command_of c.now) →
+            RepliesInMemory (open_of self.old) (command_of c.now) (verdict_in result)
+            (K.taken sink.old) (K.taken sink.new) }
+        ensures cut { self.new.faulting ≡ false → is_plain (command_of c.now) ≡ true →
+            OnErr result (CutsPlainLine (K.taken sink.old) (K.taken sink.new)) }
         ensures bad_key { HasBadKey (command_of c.now) → result ≢ Ok Outcome.Ok }
         ensures grows { IsTrue D.tells → TakesMore (K.taken sink.old) (K.taken sink.new) }
         ensures open { IsTrue D.tells → LeavesOpen result (session D.Disk self.new disk.new) }
@@ -100,16 +107,33 @@ impl Store {
         ensures rebuilt { self.new.faulting ≡ false → command_of c.now ≡ Rebuild →
             OnOk result (IsWritten self.new.index.map) }
 
-        // A `read` makes no call of the disk where all its chunks are held. Afterwards its last one is the most recent.
+        // An eviction leaves the records of all others. An index that is written has the moment of this store.
+        ensures evicts { (kb : ℕ) → self.new.faulting ≡ false → command_of c.now ≡ Evict kb → HadEffect result →
+            IsTrue D.tells → LeavesOthers (session D.Disk self.old disk.old) kb self.new.index.map }
+        ensures flushes { command_of c.now ≡ Flush → HadEffect result →
+            Told D.Disk (Flushes self.old.index self.old.moment) disk.old disk.new }
+        ensures rebuilds { self.new.faulting ≡ false → command_of c.now ≡ Rebuild → HadEffect result →
+            Told D.Disk (Rebuilds self.new.index.map self.old.moment) disk.old disk.new }
+
+        // A `read` makes no call of the disk where all its chunks are held. Afterwards its last one is the most recent. No
+        // other command drops a chunk, but a `close` those of its own entry.
         ensures held { (slot from len : ℕ) → command_of c.now ≡ ReadPart slot from len →
             AreHeld (kept self.old.handles) slot from len → disk.new ≡ disk.old }
         ensures recent { (slot from len : ℕ) → command_of c.now ≡ ReadPart slot from len →
             result ≡ Ok Outcome.Ok → IsTrue D.tells →
             LastIsFirst (kept self.old.handles) slot from len (kept self.new.handles) }
+        ensures chunks { LeavesChunks (command_of c.now)
+            (kept self.old.handles) (kept self.new.handles) }
 
-        // Calls and faults. A command that goes by the index looks at an entry for no name but those that it reads, and
-        // an eviction looks at the disk only before its first removal. Where the disk failed for good, it was in a change
-        // or a sync, as the last call, or the reply is out up to its first chunk.
+        // Calls and faults. Some commands make no call of the disk, and some only look at it. A command that goes by the
+        // index looks at an entry for no name but those that it reads, and an eviction looks at the disk only before its
+        // first removal. Where the disk failed for good, it was in a change or a sync, as the last call, or the reply is
+        // out up to its first chunk.
+        ensures idle { MakesNoCall (command_of c.now) → disk.new ≡ disk.old }
+        ensures looking { self.new.faulting ≡ false → OnlyLooks (command_of c.now) →
+            Looks D.Disk (ending result) disk.old disk.new }
+        ensures unsynced { NeverSyncs (kept self.old.handles) (command_of c.now) →
+            Told D.Disk SyncsNothing disk.old disk.new }
         ensures looks { IfSome (names_read (command_of c.now) self.old.index.update)
             (λ names. LooksAtNames D.Disk names disk.old disk.new) }
         ensures looks_first { self.new.faulting ≡ false → IsEviction (command_of c.now) →

@@ -1,9 +1,11 @@
 //! Opens the cache, and closes it.
 
-ghost use Rattle.std.specs.Prelude.{◌≡◌, ◌≢◌, IfOk, IsTrue, OnOk, Err};
-ghost use Rattle.disk_model.specs.Account.{Accounts, LooksAtNoEntry};
+ghost use Rattle.std.specs.Prelude.{◌≡◌, ◌≢◌, [], IfOk, IsTrue, OnOk, Err};
+ghost use Rattle.disk_model.specs.Account.{Accounts, FailsInChange, LooksAtNoEntry};
 ghost use Rattle.disk_model.specs.Sound.{IsQuiet};
+ghost use Rattle.disk_model.specs.State.{standing};
 ghost use Rattle.disk_model.specs.Told.{Told};
+ghost use Rattle.index_theory.specs.Leaves.{LeavesIndex};
 
 use crate::StoreFault;
 use crate::memory_index::MemoryIndex;
@@ -32,8 +34,8 @@ pub struct Store {
 
 impl Store {
     ghost use Rattle.cache_store.specs.Faults.{ending};
-    ghost use Rattle.cache_store.specs.InUse.{ClosesInUse, OpensInUse};
-    ghost use Rattle.cache_store.specs.Open.{Closes, ClosesHonestly, ClosesSafely, HasShelf, IsOpen, KeepsFound, Opens, OpensHonestly, OpensSafely};
+    ghost use Rattle.cache_store.specs.InUse.{ClosesInUse, ClosesWhole, OpensInUse};
+    ghost use Rattle.cache_store.specs.Open.{BeginsOn, Closes, ClosesHonestly, ClosesSafely, HasShelf, IsOpen, KeepsFound, Opens, OpensHonestly, OpensSafely};
     ghost use Rattle.cache_store.specs.Session.{session};
 
     /// Opens the cache at this moment: the files of doomed entries that an earlier run left are removed, the index is
@@ -48,6 +50,8 @@ impl Store {
         ensures shelf { IsTrue D.tells → HasShelf (D.state disk.old) }
         ensures based { IfOk result (λ store. IsTrue D.tells →
             OpensInUse (D.state disk.old) store.index.map (D.state disk.new)) }
+        ensures begins { IfOk result (λ store. IsTrue D.tells →
+            BeginsOn (standing (D.state disk.old)) store.index.map) }
 
         // What a crash leaves, at every exit.
         ensures safe { Told D.Disk (OpensSafely now) disk.old disk.new }
@@ -91,14 +95,21 @@ impl Store {
         ensures quiet { OnOk result (IsTrue D.tells → IsQuiet (D.state disk.new)) }
         ensures journal { OnOk result (Told D.Disk (ClosesInUse self.index) disk.old disk.new) }
 
+        // The files of the index: before the update has ended they are left alone, at every exit. Afterwards the index that
+        // is written, if any, has all records and the moment of this store.
+        ensures spares { self.index.update ≢ [] → Told D.Disk LeavesIndex disk.old disk.new }
+        ensures whole { OnOk result
+            (Told D.Disk (ClosesWhole self.index self.moment) disk.old disk.new) }
+
         // What a crash leaves, at every exit.
         ensures crash { IsTrue D.tells →
             ClosesSafely (session D.Disk self disk.old) (D.state disk.new) }
         ensures honest { IsTrue D.tells →
             ClosesHonestly result (session D.Disk self disk.old) (D.state disk.new) }
 
-        // Calls and faults. No entry is looked at.
+        // Calls and faults. No entry is looked at, and where the disk failed it was in a change or a sync.
         ensures no_sink { result ≢ Err StoreFault.Sink }
+        ensures change { FailsInChange D.Disk (ending result) disk.new }
         ensures no_entry { LooksAtNoEntry D.Disk disk.old disk.new }
         ensures account { Accounts D.Disk (ending result) disk.old disk.new }
     {

@@ -53,6 +53,8 @@ impl Store {
     ghost use Rattle.cache_store.specs.Session.{session};
     ghost use Rattle.cache_store.specs.Verifying.{IsFoundIn};
     ghost use Rattle.cache_theory.specs.Command.Command.{Verify};
+    ghost use Rattle.file_handles.specs.HeldChunks.{SameChunks};
+    ghost use Rattle.file_handles.specs.Kept.{kept};
 
     /// Ends the update, and finds what is wrong with the files of all entries and with their records. Entries that are
     /// being written are left out. Nothing is changed.
@@ -72,6 +74,7 @@ impl Store {
         ensures faulted { (self.new.faulting ≡ true) ↔ (result ≡ Err StoreFault.Disk) }
         ensures stays { let at = session D.Disk in self.new.faulting ≡ true → IsTrue D.tells →
             StaysAs (at self.old disk.old) (at self.new disk.new) }
+        ensures chunks { SameChunks (kept self.old.handles) (kept self.new.handles) }
         ensures not_said { result ≢ Ok Answered.All }
         ensures no_sink { result ≢ Err StoreFault.Sink }
         ensures held { self.new.reply.held ≡ self.old.reply.held }

@@ -1,7 +1,7 @@
 -- Commands one after the other, of which some are answered `fault`.
 use Rattle.std.proofs.Common.{◌≡◌, ℕ, suc, ◌+◌, ◌≤◌, List, [], ◌∷◌, ◌++◌, length, refl, sym, ap, subst, ◌∙◌, arith, append_assoc, append-nil}
 use Rattle.cache_theory.specs.Command.{Command}
-use Rattle.cache_theory.specs.Faulted.{AreRisingIn, FaultsAreInFront, FaultsAreWithin, KeptAreCounted, NextMayFault, fault_line, replies_from, unfaulted_from}
+use Rattle.cache_theory.specs.Faulted.{AreRisingIn, FaultsAreInFront, FaultsAreWithin, KeptAreCounted, NextIsNumbered, NextMayFault, fault_line, replies_from, unfaulted_from}
 use Rattle.cache_theory.specs.Machine.{Machine}
 use Rattle.cache_theory.specs.Step.{after, step}
 use Rattle.cache_theory.specs.Text.{replies_text, reply_text}
@@ -137,9 +137,11 @@ unfaulted_next n end faults (d ∷ cs) c is_end rising = elim (begins_at n end f
       ∙ sym (unfaulted_reply n end faults d cs rising_later)
 ]
 
+pub next_is_numbered : NextIsNumbered
+next_is_numbered p faults rising = rising_more 1 (suc p) faults (omega arith) rising
+
 pub next_may_fault : NextMayFault
 next_may_fault m cs c faults rising = record {
-  numbers = rising_more 1 (suc (length cs)) faults (omega arith) rising;
   replies = replies_next 1 (suc (length cs)) faults m cs c (omega arith) rising;
   kept = unfaulted_next 1 (suc (length cs)) faults cs c (omega arith) rising;
 }

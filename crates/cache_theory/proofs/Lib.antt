@@ -34,7 +34,7 @@ pub mod Evicting
 pub mod EvictLimit
 pub mod EvictNames
 pub mod WritingNames
-pub mod Acked
+pub mod InTurn
 pub mod RepliesLong
 pub mod TextsApart
 pub mod RepliesApart

@@ -6,7 +6,7 @@ use Rattle.cache_base.specs.Checks.{first_failing}
 use Rattle.cache_base.proofs.CheckLaws.{AllHold, all_hold}
 use Rattle.cache_theory.specs.Checks.{checks, with_value}
 use Rattle.cache_theory.specs.Command.{Command}
-use Rattle.cache_theory.specs.Command.Command.{At, Create, OpenKey, Append, Finish, SetElement, UnsetElement, UseEntry, Close, Doom, ListRecords, Evict, EvictNames, StepUpdate, Verify, VerifyRecords, Rebuild}
+use Rattle.cache_theory.specs.Command.Command.{At, Create, OpenKey, Append, Finish, SetElement, UnsetElement, UseEntry, Close, Doom, ListRecords, ListGiven, Evict, EvictNames, StepUpdate, Verify, VerifyRecords, Rebuild}
 use Rattle.cache_theory.specs.Command.Reply.{Done, NoneThere}
 use Rattle.cache_theory.specs.Given.{IsGiven}
 use Rattle.cache_theory.specs.Machine.{Machine, is_slot, object_of}
@@ -48,6 +48,7 @@ effect_proper m (UseEntry s) given proper hold =
 effect_proper m (Close s) given proper hold = proper_closed m s proper hold.0
 effect_proper m (Doom key) given proper hold = proper_doomed_under m (file_name key) proper
 effect_proper m ListRecords given proper hold = proper_rested m [] proper
+effect_proper m (ListGiven records) given proper hold = proper_rested m [] proper
 effect_proper m (Evict kb) given proper hold =
     proper_all_doomed (update_ended m) (evicted m kb) (proper_rested m [] proper)
 effect_proper m (EvictNames names) given proper hold =

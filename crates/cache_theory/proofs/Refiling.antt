@@ -8,7 +8,7 @@ use Rattle.std.proofs.lemmas.Map.Text.{is_eq-slice_cmp}
 use Rattle.cache_base.proofs.CheckLaws.{AllHold, all_hold}
 use Rattle.cache_theory.specs.Checks.{checks, with_value}
 use Rattle.cache_theory.specs.Command.{Command}
-use Rattle.cache_theory.specs.Command.Command.{Create, OpenKey, Append, Finish, SetElement, UnsetElement, UseEntry, Close, Doom, ListRecords, Evict, EvictNames, StepUpdate, Verify, VerifyRecords, Rebuild}
+use Rattle.cache_theory.specs.Command.Command.{Create, OpenKey, Append, Finish, SetElement, UnsetElement, UseEntry, Close, Doom, ListRecords, ListGiven, Evict, EvictNames, StepUpdate, Verify, VerifyRecords, Rebuild}
 use Rattle.cache_theory.specs.Command.Reply.{Done, NoneThere}
 use Rattle.cache_theory.specs.Laws.{EntriesHaveRecords}
 use Rattle.cache_theory.specs.Machine.{Machine, Object, has_slots, is_writer, number_of, object, object_of, on_shelf, used_by}
@@ -202,6 +202,7 @@ effect_refiled m (Close s) of proper hold =
     refiled_closed m s (slot_in_use m proper s hold.0).number
 effect_refiled m (Doom key) of proper hold = (λ q. removed_or m.shelf (file_name key) q, refl)
 effect_refiled m ListRecords of proper hold = absurd of
+effect_refiled m (ListGiven records) of proper hold = absurd of
 effect_refiled m (Evict kb) of proper hold = absurd of
 effect_refiled m (EvictNames names) of proper hold = absurd of
 effect_refiled m (StepUpdate n) of proper hold = absurd of

@@ -9,7 +9,7 @@ use Rattle.cache_base.specs.Checks.{first_failing}
 use Rattle.cache_base.specs.declared.name.Name.{Name}
 use Rattle.cache_theory.specs.Checks.{checks, with_value}
 use Rattle.cache_theory.specs.Command.{Command}
-use Rattle.cache_theory.specs.Command.Command.{Create, OpenKey, Append, Finish, SetElement, UnsetElement, UseEntry, Close, Doom, ListRecords, Evict, EvictNames, StepUpdate, Verify, VerifyRecords, Rebuild}
+use Rattle.cache_theory.specs.Command.Command.{Create, OpenKey, Append, Finish, SetElement, UnsetElement, UseEntry, Close, Doom, ListRecords, ListGiven, Evict, EvictNames, StepUpdate, Verify, VerifyRecords, Rebuild}
 use Rattle.cache_theory.specs.Command.Reply.{Done, NoneThere}
 use Rattle.cache_theory.specs.Laws.{ChangesLeaveRest, IsUnread}
 use Rattle.cache_theory.specs.Machine.{Machine, Object, has_slots, is_writer, number_of, object_of, on_shelf, used_by, waits_for}
@@ -172,6 +172,7 @@ effect_keeps m (Close s) name =
     keeps_then m done (released done s) name (keeps_finished m s name) (keeps_released done s name)
 effect_keeps m (Doom key) name = keeps_doomed m (file_name key) name
 effect_keeps m ListRecords name = λ waits. absurd (cc)
+effect_keeps m (ListGiven records) name = λ waits. absurd (cc)
 effect_keeps m (Evict kb) name = keeps_evicted m (evicted m kb) name
 effect_keeps m (EvictNames names) name = keeps_evicted m names name
 effect_keeps m (StepUpdate n) name = λ waits. record {

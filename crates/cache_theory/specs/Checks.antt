@@ -3,7 +3,7 @@ use Rattle.std.specs.Prelude.{Bool, List, None, Option, Some, [], is_some, lengt
 use Rattle.cache_base.specs.Limits.{chunks}
 use Rattle.cache_base.specs.declared.limits.TheConstants.{BLOCK_MAX, BODY_MAX, ELEMENTS_MAX}
 use Rattle.cache_theory.specs.Command.{Command}
-use Rattle.cache_theory.specs.Command.Command.{Create, OpenKey, Append, Finish, SetElement, UnsetElement, ElementOf, UseEntry, ReadPart, Close, Doom, Get, HasEntry}
+use Rattle.cache_theory.specs.Command.Command.{Create, OpenKey, Append, Finish, SetElement, UnsetElement, ElementOf, UseEntry, ReadPart, Close, Doom, Get, HasEntry, HasGiven}
 use Rattle.cache_theory.specs.Machine.{Machine, is_entry, is_slot, is_writer, object, object_of, on_shelf, used_by}
 use Rattle.cache_theory.specs.declared.refusal.Refusal.{Refusal}
 use Rattle.cache_theory.specs.declared.refusal.Refusal.TheVariants as refused
@@ -91,5 +91,6 @@ checks m (Close s) = slot_used m s ∷ []
 checks m (Doom key) = good_key key ∷ there m key ∷ []
 checks m (Get key) = good_key key ∷ not_writing m key ∷ there m key ∷ undamaged (on_shelf m key) ∷ []
 checks m (HasEntry key) = good_key key ∷ []
+checks m (HasGiven key there) = good_key key ∷ []
 -- the others are never refused
 checks m _ = []

@@ -1,5 +1,5 @@
 -- The commands of the machine, and what it answers.
-use Rattle.std.specs.Prelude.{ℕ, List}
+use Rattle.std.specs.Prelude.{Bool, ℕ, List}
 use Rattle.cache_base.specs.declared.name.Name.{Name}
 use Rattle.cache_check.specs.declared.finding.Finding.{Finding}
 use Rattle.cache_theory.specs.declared.refusal.Refusal.{Refusal}
@@ -21,7 +21,11 @@ pub data Command : Type 0 where
   Doom : (key : List ℕ) → Command
   Get : (key : List ℕ) → Command
   HasEntry : (key : List ℕ) → Command
+  -- the same where there is an entry or not, whatever stands; no script spells it
+  HasGiven : (key : List ℕ) (there : Bool) → Command
   ListRecords : Command
+  -- a list of these records, whatever the files say; no script spells it
+  ListGiven : (records : List IndexRecord) → Command
   Evict : (kb : ℕ) → Command
   -- an eviction of these names, whatever the records say; no script spells it
   EvictNames : (names : List Name) → Command

@@ -160,9 +160,12 @@ FaultsAreInFront = (m : Machine) (cs more : List Command) (faults : List ℕ) �
 abbrev pub with_next : ℕ → List ℕ → List ℕ
 with_next p faults = faults ++ suc p ∷ []
 
+-- the number of one command more is behind those of the first
+abbrev pub NextIsNumbered : Type 0
+NextIsNumbered = (p : ℕ) (faults : List ℕ) → AreFaults p faults → AreFaults (suc p) (with_next p faults)
+
 -- one command more is answered `fault`, and so is not kept
 pub record FaultsNext (m : Machine) (cs : List Command) (c : Command) (faults : List ℕ) : Type 0 where
-  pub numbers : AreFaults (suc (length cs)) (with_next (length cs) faults)
   pub replies : replies_but m (cs ++ c ∷ []) (with_next (length cs) faults) ≡ replies_but m cs faults ++ fault_line
   pub kept : unfaulted (with_next (length cs) faults) (cs ++ c ∷ []) ≡ unfaulted faults cs
 

@@ -4,13 +4,14 @@ use Rattle.std.specs.Prelude.{Bool, List, None, [], false, if◌then◌else◌, 
 use Rattle.std.specs.Str.{bytes_eq}
 use Rattle.cache_base.specs.declared.name.Name.{Name}
 use Rattle.cache_theory.specs.Command.{Command}
-use Rattle.cache_theory.specs.Command.Command.{Evict, EvictNames, Verify, VerifyRecords}
+use Rattle.cache_theory.specs.Command.Command.{Evict, EvictNames, HasEntry, HasGiven, ListGiven, ListRecords, Verify, VerifyRecords}
 use Rattle.cache_theory.specs.Crash.{IsSafe}
 use Rattle.cache_theory.specs.Machine.{Machine, open_names, waits_for}
 use Rattle.cache_theory.specs.Marks.{Marks, begun, touches}
 use Rattle.cache_theory.specs.Step.{after, all_doomed, evicted, fits_there, step, update_ended}
 use Rattle.cache_theory.specs.Table.{IsTable, get}
 use Rattle.disk_model.specs.State.{State}
+use Rattle.entry_name.specs.EntryName.{file_name}
 use Rattle.evictor.specs.Evict.{may_evict, total_kb}
 use Rattle.index_theory.specs.Scan.{scan, scanned}
 
@@ -80,9 +81,16 @@ abbrev pub EvictIsOfNames : Type 0
 EvictIsOfNames = (m : Machine) (kb : ℕ) → (step m (Evict kb) ≡ step m (EvictNames (evicted m kb)))
     × (touches m (Evict kb) ≡ touches m (EvictNames (evicted m kb)))
 
--- the machine's own check is that against the scan
+-- the machine's own check is that against the scan, its list is that of the scan, and an entry is there where one fits
 abbrev pub VerifyIsOfRecords : Type 0
 VerifyIsOfRecords = (m : Machine) → step m Verify ≡ step m (VerifyRecords (scan m.shelf))
+
+abbrev pub ListIsOfRecords : Type 0
+ListIsOfRecords = (m : Machine) → step m ListRecords ≡ step m (ListGiven (scan m.shelf))
+
+abbrev pub HasIsOfShelf : Type 0
+HasIsOfShelf = (m : Machine) (key : List ℕ)
+    → step m (HasEntry key) ≡ step m (HasGiven key (fits_there (file_name key) (get m.shelf (file_name key))))
 
 -- a disk that is safe by the marks of a begun eviction of no names is so by those of the machine's own, which are more
 abbrev pub BegunTouchesMore : Type 0

@@ -4,7 +4,7 @@ use Rattle.std.specs.Str.{bytes_eq}
 use Rattle.cache_base.specs.Checks.{first_failing}
 use Rattle.cache_theory.specs.Checks.{checks}
 use Rattle.cache_theory.specs.Command.{Command}
-use Rattle.cache_theory.specs.Command.Command.{Create, Doom, ListRecords, Evict, EvictNames, StepUpdate, Verify, VerifyRecords, Rebuild}
+use Rattle.cache_theory.specs.Command.Command.{Create, Doom, ListRecords, ListGiven, Evict, EvictNames, StepUpdate, Verify, VerifyRecords, Rebuild}
 use Rattle.cache_theory.specs.Machine.{Machine, Object, object}
 use Rattle.cache_theory.specs.Marks.{rewritten}
 use Rattle.cache_theory.specs.Proper.{IsProper}
@@ -43,6 +43,7 @@ IsRefiled m next (Some r) =
 -- a command that has the update read no names
 abbrev pub IsOfEntries : Command → Type 0
 IsOfEntries ListRecords = ⊥
+IsOfEntries (ListGiven records) = ⊥
 IsOfEntries (Evict kb) = ⊥
 IsOfEntries (EvictNames names) = ⊥
 IsOfEntries (StepUpdate n) = ⊥

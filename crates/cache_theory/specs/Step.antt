@@ -6,7 +6,7 @@ use Rattle.cache_base.specs.declared.name.Name.{Name}
 use Rattle.cache_check.specs.Findings.{findings}
 use Rattle.cache_theory.specs.Checks.{checks, with_value}
 use Rattle.cache_theory.specs.Command.{Command, Reply}
-use Rattle.cache_theory.specs.Command.Command.{At, Create, OpenKey, Append, Finish, SetElement, UnsetElement, ElementOf, UseEntry, ReadPart, Close, Doom, Get, HasEntry, ListRecords, Evict, EvictNames, Flush, StepUpdate, UpdateState, Verify, VerifyRecords, Rebuild}
+use Rattle.cache_theory.specs.Command.Command.{At, Create, OpenKey, Append, Finish, SetElement, UnsetElement, ElementOf, UseEntry, ReadPart, Close, Doom, Get, HasEntry, HasGiven, ListRecords, ListGiven, Evict, EvictNames, Flush, StepUpdate, UpdateState, Verify, VerifyRecords, Rebuild}
 use Rattle.cache_theory.specs.Command.Reply.{Done, Refused, NoneThere, Value, Part, Found, Yes, No, Unknown, Records, Evicted, Ready, Updating, Findings, Rebuilt}
 use Rattle.cache_theory.specs.Machine.{Machine, Object, Slot, has_slots, is_writer, nobody, number_of, object_of, on_shelf, open_names, used_by, waits_for, writing_names}
 use Rattle.cache_theory.specs.Table.{get, insert, remove}
@@ -139,11 +139,8 @@ fits_there name None = false
 fits_there name (Some content) = fits name content
 
 -- whether there is an entry, which is unknown of a name that the update has still to read
-abbrev pub has_reply : Machine → List ℕ → Reply
-has_reply m name =
-    if waits_for m name then Unknown
-    else if fits_there name (get m.shelf name) then Yes
-    else No
+abbrev pub has_reply : Machine → List ℕ → Bool → Reply
+has_reply m name there = if waits_for m name then Unknown else if there then Yes else No
 
 -- how far the update is, by the names that it has still to read
 abbrev pub state_reply : List (List ℕ) → Reply
@@ -167,8 +164,10 @@ effect m (ReadPart s from len) = answer m (Part (take len (drop from (object_of 
 effect m (Close s) = answer (released (finished_by m s) s) Done
 effect m (Doom key) = answer (doomed_under m (file_name key)) Done
 effect m (Get key) = answer m (found_reply (on_shelf m key))
-effect m (HasEntry key) = answer m (has_reply m (file_name key))
+effect m (HasEntry key) = answer m (has_reply m (file_name key) (fits_there (file_name key) (get m.shelf (file_name key))))
+effect m (HasGiven key there) = answer m (has_reply m (file_name key) there)
 effect m ListRecords = answer (update_ended m) (Records (scan m.shelf))
+effect m (ListGiven records) = answer (update_ended m) (Records records)
 effect m (Evict kb) = answer (all_doomed (update_ended m) (evicted m kb)) (Evicted (evicted m kb))
 effect m (EvictNames names) = answer (all_doomed (update_ended m) names) (Evicted names)
 effect m Flush = answer m Done

@@ -9,7 +9,7 @@ use Rattle.cache_check.specs.declared.finding.Finding.{Finding}
 use Rattle.cache_check.specs.declared.finding.What.{What}
 use Rattle.cache_check.specs.declared.finding.What.TheVariants as what
 use Rattle.cache_theory.specs.Command.{Command, Reply}
-use Rattle.cache_theory.specs.Command.Command.{At, Create, OpenKey, Append, Finish, SetElement, UnsetElement, ElementOf, UseEntry, ReadPart, Close, Doom, Get, HasEntry, ListRecords, Evict, EvictNames, Flush, StepUpdate, UpdateState, Verify, VerifyRecords, Rebuild}
+use Rattle.cache_theory.specs.Command.Command.{At, Create, OpenKey, Append, Finish, SetElement, UnsetElement, ElementOf, UseEntry, ReadPart, Close, Doom, Get, HasEntry, HasGiven, ListRecords, ListGiven, Evict, EvictNames, Flush, StepUpdate, UpdateState, Verify, VerifyRecords, Rebuild}
 use Rattle.cache_theory.specs.Command.Reply.{Done, Refused, NoneThere, Value, Part, Found, Yes, No, Unknown, Records, Evicted, Ready, Updating, Findings, Rebuilt}
 use Rattle.cache_theory.specs.Machine.{Machine}
 use Rattle.cache_theory.specs.Step.{replies}
@@ -156,6 +156,8 @@ command_words (Get key) = codes "get" ∷ key ∷ []
 command_words (HasEntry key) = codes "has" ∷ key ∷ []
 command_words ListRecords = codes "list" ∷ []
 command_words (Evict kb) = codes "evict" ∷ decimal kb ∷ []
+command_words (HasGiven key there) = []
+command_words (ListGiven records) = []
 command_words (EvictNames names) = []
 command_words Flush = codes "flush" ∷ []
 command_words (StepUpdate n) = codes "step" ∷ decimal n ∷ []
@@ -199,6 +201,8 @@ FieldsFit (Doom key) = AreBytes key × IsOneLine key
 FieldsFit (Get key) = AreBytes key × IsOneLine key
 FieldsFit (HasEntry key) = AreBytes key × IsOneLine key
 FieldsFit (Evict kb) = IsNumber kb
+FieldsFit (HasGiven key there) = ⊥
+FieldsFit (ListGiven records) = ⊥
 FieldsFit (EvictNames names) = ⊥
 FieldsFit (VerifyRecords records) = ⊥
 FieldsFit (StepUpdate n) = IsNumber n

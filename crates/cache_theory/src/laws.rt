@@ -1,11 +1,11 @@
 //! What commands keep: the shelf, the records, and what a crash may leave of the entries.
 
-ghost use Rattle.cache_theory.specs.Faulted.{CutIsTold, FaultCutIsTold, FaultedIsRead, FaultedIsTold, FaultsAreInFront, FaultsAreWithin, FrontIsTold, KeptAreCounted, NextMayFault, NoReplyIsFault, WholeIsTold};
+ghost use Rattle.cache_theory.specs.Faulted.{CutIsTold, FaultCutIsTold, FaultedIsRead, FaultedIsTold, FaultsAreInFront, FaultsAreWithin, FrontIsTold, KeptAreCounted, NextIsNumbered, NextMayFault, NoReplyIsFault, WholeIsTold};
 ghost use Rattle.cache_theory.specs.Keeps.{BeginKeeps, CreateFilesOnce, CreateKeeps, CreateLeavesUnpublished, CreateUnpublished, PublishFilesOnce, PublishKeeps, PublishLeavesUnpublished, QuietFilesOnce, QuietIsSafe, QuietUnpublished, RemoveFilesOnce, RemoveKeeps, RemoveLeavesUnpublished, RenameFilesOnce, RenameKeeps, RenameLeavesUnpublished, SafeIsCrashSafe, SyncFilesOnce, SyncKeeps, SyncLeavesUnpublished, WholeIsFine, WriteAsideKeeps, WriteFilesOnce, WriteKeeps, WriteLeavesUnpublished};
-ghost use Rattle.cache_theory.specs.Laws.{BegunTouchesMore, ChangesAreTouched, ChangesLeaveRest, EntriesHaveRecords, EvictIsOfNames, EvictMeetsLimit, EvictTakesOff, EvictedMayGo, ShelfStaysTable, UnusedAreTakenOff, VerifyIsOfRecords};
+ghost use Rattle.cache_theory.specs.Laws.{BegunTouchesMore, ChangesAreTouched, ChangesLeaveRest, EntriesHaveRecords, EvictIsOfNames, EvictMeetsLimit, EvictTakesOff, HasIsOfShelf, ListIsOfRecords, EvictedMayGo, ShelfStaysTable, UnusedAreTakenOff, VerifyIsOfRecords};
 ghost use Rattle.cache_theory.specs.Proper.{OpensProper, StaysProper};
 ghost use Rattle.cache_theory.specs.Refiled.{EntriesAreRefiled};
-ghost use Rattle.cache_theory.specs.Session.{AckedIsOne, CutIsAcked, MarksAreOfKept, WholeIsAcked};
+ghost use Rattle.cache_theory.specs.Session.{MarksAreOfKept};
 ghost use Rattle.cache_theory.specs.Text.{ReplyIsNotEmpty};
 ghost use Rattle.cache_theory.specs.Wording.{MarksAreWorded};
 
@@ -41,9 +41,12 @@ pub fn evict_is_of_names()
     ensures more { BegunTouchesMore }
 {}
 
-/// The machine's own check is that against the records of a scan.
-pub fn verify_is_of_records()
-    ensures { VerifyIsOfRecords }
+/// The machine's own check is that against the records of a scan, its list is that of these records, and an entry is
+/// there where one fits.
+pub fn replies_go_by_scan()
+    ensures verify { VerifyIsOfRecords }
+    ensures list { ListIsOfRecords }
+    ensures has { HasIsOfShelf }
 {}
 
 /// A command on entries changes what stands under one name at most, and no other name leaves the
@@ -114,13 +117,6 @@ pub fn replies_are_not_empty()
     ensures { ReplyIsNotEmpty }
 {}
 
-/// How many commands of a session are acknowledged is told by what went out.
-pub fn replies_tell_acked()
-    ensures whole { WholeIsAcked }
-    ensures cut { CutIsAcked }
-    ensures one { AckedIsOne }
-{}
-
 /// No reply begins with `fault`. So what went out tells how many commands are answered, and which of them by `fault`;
 /// and that is what it begins with.
 pub fn faults_are_told()
@@ -140,6 +136,7 @@ pub fn faults_are_left_out()
     ensures next { NextMayFault }
     ensures counted { KeptAreCounted }
     ensures within { FaultsAreWithin }
+    ensures numbered { NextIsNumbered }
     ensures marks { MarksAreOfKept }
 {}
 

@@ -2,10 +2,10 @@
 use Rattle.std.proofs.Common.{◌≡◌, List, [], ◌∷◌, ◌++◌, length, refl, sym, ap, subst, suc, ℕ, ◌∙◌, append_assoc}
 use Rattle.cache_theory.specs.Command.{Command}
 use Rattle.cache_theory.specs.Faulted.{AreFaults, fault_line, replies_but, unfaulted, with_next}
-use Rattle.cache_theory.specs.Machine.{Machine, opened}
+use Rattle.cache_theory.specs.Machine.{Machine}
 use Rattle.cache_theory.specs.Step.{after}
 use Rattle.cache_theory.specs.Text.{replies_text}
-use Rattle.cache_theory.proofs.FaultedOn.{faults_are_in_front, next_may_fault}
+use Rattle.cache_theory.proofs.FaultedOn.{faults_are_in_front, next_is_numbered, next_may_fault}
 
 pub one_longer : {X : Type 0} (ds : List X) (d : X) → suc (length ds) ≡ length (ds ++ d ∷ [])
 one_longer [] d = refl
@@ -17,7 +17,7 @@ module _ (ds : List Command) (d : Command) (faults : List ℕ) (numbers : AreFau
 
   -- the numbers are the same whatever the machine
   pub next_numbers : AreFaults (length (ds ++ d ∷ [])) (with_next (length ds) faults)
-  next_numbers = subst (λ n. AreFaults n with_d) (one_longer ds d) (next_may_fault (opened 0 [] []) ds d faults numbers).numbers
+  next_numbers = subst (λ n. AreFaults n with_d) (one_longer ds d) (next_is_numbered (length ds) faults numbers)
 
   -- those that are kept are the others
   pub next_kept : (m : Machine) (more : List Command) → unfaulted (with_next (length ds) faults) (ds ++ d ∷ more) ≡ unfaulted faults ds ++ more

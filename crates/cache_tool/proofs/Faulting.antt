@@ -1,5 +1,5 @@
 -- A command that ended in a failed look at the disk.
-use Rattle.std.proofs.Common.{◌≡◌, Bool, true, false, refl, Result, subst, sym, ap, ◌∙◌}
+use Rattle.std.proofs.Common.{◌≡◌, ◌≢◌, ◌⊎◌, inl, inr, Bool, true, false, refl, Result, Ok, subst, sym, ap, ◌∙◌}
 use Rattle.std.specs.Prelude.{Err, IsErrOf}
 use Rattle.cache_base.specs.declared.status.Status.{Status}
 use Rattle.cache_base.specs.declared.status.Status.TheVariants as status
@@ -9,6 +9,7 @@ use Rattle.cache_store.specs.Session.{Open, Session}
 use Rattle.cache_store.specs.declared.fault.StoreFault.{StoreFault}
 use Rattle.cache_store.specs.declared.fault.StoreFault.TheVariants as fault
 use Rattle.cache_tool.specs.Ending.{EndsSession}
+use Rattle.cache_tool.specs.Statuses.{IsClosing, status_in}
 use Rattle.disk_model.specs.Account.{Ending}
 use Rattle.disk_model.specs.State.{State}
 use Rattle.index_map.specs.Known.{Known, SameBase}
@@ -41,5 +42,16 @@ ends_by_disk ended before now ends = record {
         honest = λ closing. absurd closing;
         journal = λ closing. absurd closing;
         in_use = λ records closing. absurd closing;
+        unended = λ closing. absurd closing;
       };
 }
+
+-- the store was closed, or the disk failed in that
+pub closed_or : (came : Result Status StoreFault) (ended : Status) {P : Type 0} {R : Type 0} → (came ≡ Ok status.No) ⊎ (came ≡ Err fault.Memory)
+    → (ended ≡ status_in came) ⊎ ((ended ≡ status.Disk) ⊎ (ended ≡ status.Memory)) → ended ≢ status.Memory → (¬ (IsClosing (status_in came)) → ended ≡ status_in came)
+    → (ended ≡ status.No → P) → (IsClosing (status_in came) → ended ≡ status.Disk → R) → P ⊎ R
+closed_or came ended (inl is) (inl same) other dropped shut rose = inl (shut (same ∙ ap status_in is))
+closed_or came ended (inl is) (inr (inl disk)) other dropped shut rose = inr (rose (subst (λ c. IsClosing (status_in c)) (sym is) tt) disk)
+closed_or came ended (inl is) (inr (inr memory)) other dropped shut rose = absurd (other memory)
+closed_or came ended (inr is) ends other dropped shut rose =
+    absurd (other (dropped (λ closing. subst (λ c. IsClosing (status_in c)) is closing) ∙ ap status_in is))

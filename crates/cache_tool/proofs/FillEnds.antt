@@ -21,7 +21,6 @@ use Rattle.cache_theory.specs.Machine.{Machine}
 use Rattle.cache_theory.specs.Marks.{all_begun, marks_of}
 use Rattle.cache_theory.specs.Session.{marks_between}
 use Rattle.cache_theory.specs.Step.{after, step}
-use Rattle.cache_theory.specs.Text.{reply_text}
 use Rattle.cache_theory.proofs.Crashes.{safe_is_crash_safe}
 use Rattle.cache_tool.specs.Ending.{EndsSession, IsEnded}
 use Rattle.cache_tool.specs.Fill.{half_of, halving_commands, making_commands}
@@ -51,9 +50,8 @@ filled_where {right} {other} {moment} {count} {first} {m} so filled = record {
   summed = λ is. filled.summed (so is);
   evicts = filled.evicts;
   checks = filled.checks;
-  are_done = are_done_where so (after m (making_commands moment count first)) (halving_commands filled.kb) (filled.evicts ∷ (filled.checks ∷ (ListRecords ∷ []))) filled.are_done;
-  listed = filled.listed;
-  listed_is = λ is. filled.listed_is (so is);
+  lists = filled.lists;
+  are_done = are_done_where so (after m (making_commands moment count first)) (halving_commands filled.kb) (filled.evicts ∷ (filled.checks ∷ (filled.lists ∷ []))) filled.are_done;
 }
 
 none_printed : (known : Option (List ℕ)) (text : List ℕ) → IsPart known known text
@@ -128,7 +126,7 @@ module _ {moment : ℕ} (count given : ℕ) (m : Machine) (came : Result Status 
     crash = λ quiet. crash_safe t m done (safe_at_end dropped);
     images = λ quiet honest. images_at_end kept dropped honest;
     journal = λ closing. (closed (as_came (closes closing))).journal (closes closing);
-    in_use = λ closing. in_use_at_end (closes closing);
+    index = λ closing. in_use_at_end (closes closing);
   }
 
   -- an answer is printed
@@ -171,14 +169,14 @@ some_filled right moment count first m =
     let evicts = some_done right (Evict (half_of kb)) made in
     let next = (step made evicts.0).next in
     let checks = some_done (right ⊎ IsTrue false) Verify next in
+    let lists = some_done ((right ⊎ IsTrue false) ⊎ IsTrue false) ListRecords (step next checks.0).next in
     record {
       kb = kb;
       summed = λ is. refl;
       evicts = evicts.0;
       checks = checks.0;
-      are_done = (evicts.1, (checks.1, (refl, tt)));
-      listed = reply_text (step (step next checks.0).next ListRecords).reply;
-      listed_is = λ is. refl;
+      lists = lists.0;
+      are_done = (evicts.1, (checks.1, (lists.1, tt)));
     }
 
 fault_is_none : (f : StoreFault) → IsAnswer (status_in (Err f)) → ⊥
@@ -217,7 +215,7 @@ not_opened moment count first m f before t other safe images =
         crash = λ quiet. crash_safe t m (done_in filled) (all_begin_keep t m (done_in filled) (marks_of m) (safe quiet));
         images = images;
         journal = λ closing over. absurd (not_closing f other closing);
-        in_use = λ closing. absurd (not_closing f other closing);
+        index = λ closing. absurd (not_closing f other closing);
       };
     }
 

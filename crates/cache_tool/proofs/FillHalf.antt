@@ -51,6 +51,7 @@ module _ (before mid now : Session) (answer : Result Verdict StoreFault) (said :
     in_use = λ records told holds over.
         let used = leads.in_use records (so told) (record { has_base = base.has_base ∙ holds.has_base; same = λ name. base.records name ∙ holds.same name }) (tt, tt) in
         record { base = used.base; past = used.past ∙ ap (λ (s : State). past_header (standing s Index)) looked };
+    unended = λ spared. leads.unended (tt, tt) ∙ ap (λ (s : State). past_header (standing s Index)) looked;
   }
 
   sent_over : (names : List Name) (h : History) (kb : ℕ) → (Tells before h.machine → kb ≡ total_kb (scan h.machine.shelf)) → (Tells before h.machine → Tells mid (update_ended h.machine))
@@ -64,7 +65,7 @@ module _ (before mid now : Session) (answer : Result Verdict StoreFault) (said :
         is_done = subst (λ (c : Command). IsDoneFor (Tells before h.machine) (Evict (half_of kb)) h.machine c) is are;
         safe = subst (λ (g : History). IsSafe now.disk g.marks) (over_is names h) named.safe;
         stands = ok_then _ _ answer (leads_over names h so) named.next;
-        replied = ok_then _ _ answer (λ replied. replied ∙ ap reply_text (over_reply names h.machine)) (named.replied refl);
+        replied = ok_then _ _ answer (λ replied. replied ∙ ap reply_text (over_reply names h.machine)) named.replied;
       }
 
   pub half_evicted : (kb limit : ℕ) → EndsUpdate (Ok kb) before mid → IsTotal before kb → limit ≡ half_of kb → SendsCommand (Evict limit) answer mid now said → EvictsHalf answer before now said

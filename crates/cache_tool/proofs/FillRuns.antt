@@ -34,6 +34,7 @@ leads_begun c h before now keeps safe leads = record {
   keeps = begun_stands c h before now keeps safe leads.keeps;
   tells = leads.tells;
   in_use = leads.in_use;
+  unended = leads.unended;
 }
 
 -- no command

@@ -8,11 +8,11 @@ use Rattle.cache_store.specs.Session.{Session}
 use Rattle.cache_store.specs.declared.fault.Verdict.{Verdict}
 use Rattle.cache_store.specs.declared.fault.StoreFault.{StoreFault}
 use Rattle.cache_theory.specs.Command.{Command}
-use Rattle.cache_theory.specs.Command.Command.{Evict, ListRecords, Verify, VerifyRecords}
+use Rattle.cache_theory.specs.Command.Command.{Evict, ListRecords, Verify}
 use Rattle.cache_theory.specs.Crash.{IsSafe}
 use Rattle.cache_theory.specs.History.{History, unanswered}
 use Rattle.cache_theory.specs.Step.{step}
-use Rattle.cache_theory.specs.Text.{reply_text, with_number}
+use Rattle.cache_theory.specs.Text.{with_number}
 use Rattle.cache_tool.specs.Fill.{half_of, making_commands}
 use Rattle.cache_tool.specs.Filled.{AreFilled, lines_in, status_in_check}
 use Rattle.cache_tool.specs.FillProgress.{FillIsPerformed, HalfIsEvicted}
@@ -28,7 +28,7 @@ use Rattle.cache_tool.proofs.RightLaws.{leads_on}
 use Rattle.evictor.specs.Evict.{total_kb}
 use Rattle.index_theory.specs.Scan.{scan}
 
--- no eviction and no check reads all entries anew
+-- no eviction, no check and no list reads all entries anew
 right_still : (right other : Type 0) → (right → other) → right ⊎ (IsTrue false) → other
 right_still right other so (inl is) = so is
 right_still right other so (inr none) = absurd (true≢false (sym none))
@@ -45,25 +45,33 @@ module _ (moment count first : ℕ) (h : History) (start : Session) where
 
   -- what is done, by its parts
   module _ (kb : ℕ) (summed : right → kb ≡ total_kb (scan made.machine.shelf)) (d : Command) (evicts : IsDoneFor right (Evict (half_of kb)) made.machine d) where
-    module _ (e : Command) (checks : IsDoneFor right Verify (step made.machine d).next e) (listed : List ℕ)
-        (listed_is : right → listed ≡ reply_text (step (step (step made.machine d).next e).next ListRecords).reply) where
+    module _ (e : Command) (checks : IsDoneFor right Verify (step made.machine d).next e) (l : Command)
+        (lists : IsDoneFor right ListRecords (step (step made.machine d).next e).next l) where
       abbrev filled : AreFilled right moment count first h.machine
       filled = record {
         kb = kb;
         summed = summed;
         evicts = d;
         checks = e;
-        are_done = (evicts, (done_where (right_still right right (λ is. is)) Verify (step made.machine d).next e checks, (refl, tt)));
-        listed = listed;
-        listed_is = listed_is;
+        lists = l;
+        are_done = (
+          evicts,
+          (
+            done_where (right_still right right (λ is. is)) Verify (step made.machine d).next e checks,
+            (
+              done_where (right_still (right ⊎ IsTrue false) right (right_still right right (λ is. is))) ListRecords (step (step made.machine d).next e).next l lists,
+              tt,
+            ),
+          ),
+        );
       }
 
-      whole_same : all_unanswered (making ++ (d ∷ (e ∷ (ListRecords ∷ [])))) h ≡ all_unanswered (d ∷ (e ∷ (ListRecords ∷ []))) made
-      whole_same = unanswered-append making (d ∷ (e ∷ (ListRecords ∷ []))) h
+      whole_same : all_unanswered (making ++ (d ∷ (e ∷ (l ∷ [])))) h ≡ all_unanswered (d ∷ (e ∷ (l ∷ []))) made
+      whole_same = unanswered-append making (d ∷ (e ∷ (l ∷ []))) h
 
       -- a fault after which a crash loses no more than this
       failed_with : (came : Result Status StoreFault) (P : StoreFault → Type 0) (now : Session) (lines : List ℕ) → IsErrAnd came P
-          → IsSafe now.disk (all_unanswered (d ∷ (e ∷ (ListRecords ∷ []))) made).marks → FillIsPerformed moment count first h came start now lines
+          → IsSafe now.disk (all_unanswered (d ∷ (e ∷ (l ∷ []))) made).marks → FillIsPerformed moment count first h came start now lines
       failed_with (Ok s) P now lines failed safe = absurd failed
       failed_with (Err f) P now lines failed safe = record {
         filled = filled;
@@ -73,13 +81,13 @@ module _ (moment count first : ℕ) (h : History) (start : Session) where
         printed = tt;
       }
 
-      performed_with : (s : Status) (now : Session) (lines : List ℕ) → IsSafe now.disk (all_unanswered (d ∷ (e ∷ (ListRecords ∷ []))) made).marks
-          → LeadTo (making ++ (d ∷ (e ∷ (ListRecords ∷ [])))) start h.machine now (all_unanswered (d ∷ (e ∷ (ListRecords ∷ []))) made)
+      performed_with : (s : Status) (now : Session) (lines : List ℕ) → IsSafe now.disk (all_unanswered (d ∷ (e ∷ (l ∷ []))) made).marks
+          → LeadTo (making ++ (d ∷ (e ∷ (l ∷ [])))) start h.machine now (all_unanswered (d ∷ (e ∷ (l ∷ []))) made)
           → s ≡ status_in_check filled → lines ≡ lines_in filled → FillIsPerformed moment count first h (Ok s) start now lines
       performed_with s now lines safe leads status printed = record {
         filled = filled;
         safe = subst (λ (g : History). IsSafe now.disk g.marks) (sym whole_same) safe;
-        stands = subst (LeadTo (making ++ (d ∷ (e ∷ (ListRecords ∷ [])))) start h.machine now) (sym whole_same) leads;
+        stands = subst (LeadTo (making ++ (d ∷ (e ∷ (l ∷ [])))) start h.machine now) (sym whole_same) leads;
         status = status;
         printed = printed;
       }
@@ -90,8 +98,9 @@ module _ (moment count first : ℕ) (h : History) (start : Session) where
     unchecked_fails came P now lines failed safe =
         let m = (step made.machine d).next in
         let some = some_done right Verify m in
-        failed_with some.0 some.1 (reply_text (step (step m some.0).next ListRecords).reply) (λ told. refl) came P now lines failed
-        (all_begin_keep now.disk m (some.0 ∷ (ListRecords ∷ [])) (all_unanswered (d ∷ []) made).marks safe)
+        let last = some_done right ListRecords (step m some.0).next in
+        failed_with some.0 some.1 last.0 last.1 came P now lines failed
+        (all_begin_keep now.disk m (some.0 ∷ (last.0 ∷ [])) (all_unanswered (d ∷ []) made).marks safe)
 
   -- the eviction and what follows has not begun
   pub unevicted_fails : (came : Result Status StoreFault) (P : StoreFault → Type 0) (now : Session) (lines : List ℕ) → IsErrAnd came P
@@ -145,9 +154,10 @@ module _ (moment count first : ℕ) (h : History) (start : Session) where
 
         pub checked_fails : (came : Result Status StoreFault) (P : StoreFault → Type 0) (lines : List ℕ) → IsErrAnd came P → FillIsPerformed moment count first h came start further lines
         checked_fails came P lines failed =
+            let last = some_done right ListRecords checked.machine in
             failed_with half.kb (evicted_summed (Ok x) later said half) d (evicted_is (Ok x) later said half) e checked_is
-            (reply_text (step checked.machine ListRecords).reply) (λ told. refl) came P further lines failed
-            (all_begin_keep further.disk checked.machine (ListRecords ∷ []) checked.marks check.1.1.safe)
+            last.0 last.1 came P further lines failed
+            (all_begin_keep further.disk checked.machine (last.0 ∷ []) checked.marks check.1.1.safe)
 
       module _ (o : Verdict) (further : Session) (found : List ℕ) (check : DoneFor (Tells later evicted.machine) Verify evicted.machine (λ c. IsSent c evicted (Ok o) later further found)) where
         lead_checked : LeadTo (check.0 ∷ []) later evicted.machine further (unanswered check.0 evicted)
@@ -156,45 +166,35 @@ module _ (moment count first : ℕ) (h : History) (start : Session) where
         pub checked_keeps : KeepsTo further (unanswered check.0 evicted)
         checked_keeps = lead_checked.keeps
 
+        told_checked : right → Tells further (unanswered check.0 evicted).machine
+        told_checked told = lead_checked.tells (inl (told_evicted told))
+
         module _ (r : Result Verdict StoreFault) (last : Session) (text : List ℕ)
             (list : DoneFor (Tells further (unanswered check.0 evicted).machine) ListRecords (unanswered check.0 evicted).machine (λ c. IsSent c (unanswered check.0 evicted) r further last text)) where
-          sent_list : IsSent ListRecords (unanswered check.0 evicted) r further last text
-          sent_list = subst (λ (c : Command). IsSent c (unanswered check.0 evicted) r further last text) list.1.0 list.1.1
+          listed_is : IsDoneFor right ListRecords (unanswered check.0 evicted).machine list.0
+          listed_is = done_where told_checked ListRecords (unanswered check.0 evicted).machine list.0 list.1.0
 
           pub listed_fails : (came : Result Status StoreFault) (P : StoreFault → Type 0) (lines : List ℕ) → IsErrAnd came P → FillIsPerformed moment count first h came start last lines
           listed_fails came P lines failed =
               failed_with half.kb (evicted_summed (Ok x) later said half) d (evicted_is (Ok x) later said half) check.0 (checked_is (Ok o) further found check)
-              (reply_text (step (unanswered check.0 evicted).machine ListRecords).reply) (λ told. refl) came P last lines failed sent_list.safe
+              list.0 listed_is came P last lines failed list.1.1.safe
 
         module _ (q : Verdict) (last : Session) (text : List ℕ)
             (list : DoneFor (Tells further (unanswered check.0 evicted).machine) ListRecords (unanswered check.0 evicted).machine (λ c. IsSent c (unanswered check.0 evicted) (Ok q) further last text)) where
-          sent : IsSent ListRecords (unanswered check.0 evicted) (Ok q) further last text
-          sent = sent_list (Ok q) last text list
-
-          lead_listed : LeadTo (ListRecords ∷ []) further (unanswered check.0 evicted).machine last (unanswered ListRecords (unanswered check.0 evicted))
-          lead_listed = leads_begun ListRecords (unanswered check.0 evicted) further last checked_keeps sent.safe sent.next
-
-          text_is : right → text ≡ reply_text (step (unanswered check.0 evicted).machine ListRecords).reply
-          text_is told = sent.told (lead_checked.tells (inl (told_evicted told)))
-
-          found_is : found ≡ reply_text (step evicted.machine check.0).reply
-          found_is =
-              let records = check.1.0.0 in
-              let is : check.0 ≡ VerifyRecords records = check.1.0.1.0 in
-              let named : IsSent (VerifyRecords records) evicted (Ok o) later further found = subst (λ (c : Command). IsSent c evicted (Ok o) later further found) is check.1.1 in
-              named.replied refl ∙ ap (λ (c : Command). reply_text (step evicted.machine c).reply) (sym is)
+          lead_listed : LeadTo (list.0 ∷ []) further (unanswered check.0 evicted).machine last (unanswered list.0 (unanswered check.0 evicted))
+          lead_listed = leads_begun list.0 (unanswered check.0 evicted) further last checked_keeps list.1.1.safe list.1.1.next
 
           pub fill_performed : (s : Status) (lines : List ℕ) → s ≡ status_of o
               → lines ≡ (((with_number (codes "made") count) ++ first_line said) ++ first_line found) ++ first_line text → FillIsPerformed moment count first h (Ok s) start last lines
           fill_performed s lines status printed =
-              performed_with half.kb (evicted_summed (Ok x) later said half) d (evicted_is (Ok x) later said half) check.0 (checked_is (Ok o) further found check) text text_is
-              s last lines sent.safe
-              (leads_on making (d ∷ (check.0 ∷ (ListRecords ∷ []))) start h.machine mid made last (unanswered ListRecords (unanswered check.0 evicted)) refl leads
-              (leads_on (d ∷ []) (check.0 ∷ (ListRecords ∷ [])) mid made.machine later evicted last (unanswered ListRecords (unanswered check.0 evicted)) refl half.stands
-              (leads_on (check.0 ∷ []) (ListRecords ∷ []) later evicted.machine further (unanswered check.0 evicted) last (unanswered ListRecords (unanswered check.0 evicted)) refl lead_checked lead_listed)))
+              performed_with half.kb (evicted_summed (Ok x) later said half) d (evicted_is (Ok x) later said half) check.0 (checked_is (Ok o) further found check) list.0
+              (listed_is (Ok q) last text list) s last lines list.1.1.safe
+              (leads_on making (d ∷ (check.0 ∷ (list.0 ∷ []))) start h.machine mid made last (unanswered list.0 (unanswered check.0 evicted)) refl leads
+              (leads_on (d ∷ []) (check.0 ∷ (list.0 ∷ [])) mid made.machine later evicted last (unanswered list.0 (unanswered check.0 evicted)) refl half.stands
+              (leads_on (check.0 ∷ []) (list.0 ∷ []) later evicted.machine further (unanswered check.0 evicted) last (unanswered list.0 (unanswered check.0 evicted)) refl lead_checked lead_listed)))
               (status ∙ ap status_of check.1.1.outcome)
               (printed ∙ joined (with_number (codes "made") count) (first_line said) (first_line found) (first_line text)
-              ∙ (λ i. (with_number (codes "made") count) ++ (first_line (half.replied i) ++ (first_line (found_is i) ++ first_line text))))
+              ∙ (λ i. (with_number (codes "made") count) ++ (first_line (half.replied i) ++ (first_line (check.1.1.replied i) ++ first_line (list.1.1.replied i)))))
             where
               joined : (a b c d : List ℕ) → ((a ++ b) ++ c) ++ d ≡ a ++ (b ++ (c ++ d))
               joined a b c d = append_assoc (a ++ b) c d ∙ append_assoc a b (c ++ d)

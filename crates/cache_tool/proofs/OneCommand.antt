@@ -1,19 +1,18 @@
 -- What one command of a session comes to.
-use Rattle.std.proofs.Common.{◌≡◌, ◌≢◌, ◌⊎◌, inl, inr, ℕ, ◌∷◌, ◌∙◌, [], List, length, Option, Result, Ok, Err, true, refl, sym, ap, subst, arith}
+use Rattle.std.proofs.Common.{◌≡◌, ◌≢◌, ◌⊎◌, ⊎_elim, inl, inr, ℕ, ◌∷◌, ◌∙◌, [], List, length, Option, Result, Ok, Err, refl, sym, ap, subst, arith}
 use Rattle.std.specs.Io.KnownBytes.{Appends}
 use Rattle.std.specs.Prelude.{IsOkAnd, MatchResult, OnErr, OnOk}
-use Rattle.std.proofs.KnownBytes.{Appends-nil}
+use Rattle.std.proofs.KnownBytes.{Appends-nil, Keeps-refl}
 use Rattle.std.proofs.lemmas.List.{take_all}
 use Rattle.cache_base.specs.Causes.{Rose}
 use Rattle.cache_base.specs.declared.status.Status.{Status}
 use Rattle.cache_base.specs.declared.status.Status.TheVariants as status
 use Rattle.cache_store.specs.Answering.{outcome_of}
-use Rattle.cache_store.specs.DoneFor.{DoneFor}
 use Rattle.cache_store.specs.Faulting.{StaysAs}
 use Rattle.cache_store.specs.Faults.{ending}
 use Rattle.cache_store.specs.InUse.{HasShortJournal, OpensInUse}
 use Rattle.cache_store.specs.Open.{IsHonest, IsShut, LeavesOpen, Opens, OpensHonestly, StartsOn}
-use Rattle.cache_store.specs.Performing.{HadEffect, Keeps, MayTell, Performs}
+use Rattle.cache_store.specs.Performing.{HadEffect, Keeps, Performs}
 use Rattle.cache_store.specs.Said.{IsCut}
 use Rattle.cache_store.specs.Saying.{IsPart}
 use Rattle.cache_store.specs.Session.{Session}
@@ -21,7 +20,6 @@ use Rattle.cache_store.specs.declared.fault.Verdict.{Verdict}
 use Rattle.cache_store.specs.declared.fault.Verdict.TheVariants as outcome
 use Rattle.cache_store.specs.declared.fault.StoreFault.{StoreFault}
 use Rattle.cache_store.specs.declared.fault.StoreFault.TheVariants as fault
-use Rattle.cache_store.proofs.Represented.{keeps_marked, keeps_to, represents}
 use Rattle.cache_theory.specs.Command.{Command}
 use Rattle.cache_theory.specs.Command.Command.{Flush}
 use Rattle.cache_theory.specs.Crash.{IsSafe}
@@ -34,16 +32,18 @@ use Rattle.cache_theory.specs.Text.{reply_text}
 use Rattle.cache_theory.proofs.Begins.{begin_keeps}
 use Rattle.cache_theory.proofs.Crashes.{safe_is_crash_safe}
 use Rattle.cache_tool.specs.Ending.{EndsSession, IsEnded}
-use Rattle.cache_tool.specs.Right.{ComesRight, LeadTo, MaySayOn}
+use Rattle.cache_tool.specs.Right.{ComesRight, LeadTo}
 use Rattle.cache_tool.specs.Statuses.{IsAnswer, IsClosing, status_in, status_of}
 use Rattle.cache_tool.specs.Staying.{StaysOnce}
-use Rattle.cache_tool.specs.Verbs.{PrintsFault, PrintsLast}
+use Rattle.cache_tool.specs.Tally.{RoseBy}
+use Rattle.cache_tool.specs.Verbs.{IsUnopened, LeavesDisk, PrintsFault, PrintsLast, none_performed}
 use Rattle.cache_tool.specs.World.{Output}
-use Rattle.cache_tool.proofs.DoneLaws.{some_done}
-use Rattle.cache_tool.proofs.RightLaws.{leads_one, may_tell_one, opened_right, opened_says}
+use Rattle.cache_tool.proofs.RightLaws.{leads_none, leads_one, leads_still, opened_right}
 use Rattle.cache_tool.proofs.StayingLaws.{StaysWhole, stays_whole}
+use Rattle.disk_model.specs.Account.{Ending}
 use Rattle.disk_model.specs.Sound.{IsQuiet}
 use Rattle.disk_model.specs.State.{State, standing}
+use Rattle.index_map.specs.Known.{SameBase}
 use Rattle.index_theory.specs.Honest.{Honest, LeavesHonest}
 
 -- ---- the statuses
@@ -109,12 +109,12 @@ begun_at_mark t m Flush safe = begin_keeps t m Flush (marks_of m) safe
 begun_at_mark t m c safe = safe
 
 module _ (m : Machine) (c : Command) (before now : Output) (safe : IsQuiet before.disk → IsSafe now.disk (begun c (settled_at m)).marks) (images : IsQuiet before.disk → Honest (standing before.disk) → LeavesHonest now.disk) where
-  stopped : (ended : Status) → IsStop ended → (MaySayOn before.disk (c ∷ []) → IsPart before.taken now.taken (reply_text (step m c).reply)) → PrintsLast m (c ∷ []) ended before now
+  stopped : (ended : Status) → IsStop ended → IsPart before.taken now.taken (reply_text (step m c).reply) → PrintsLast m (c ∷ []) ended before now
   stopped ended stop part = record {
     answer = λ is. absurd (stop_is_no_answer ended stop is);
-    text = λ may. record {
+    text = record {
       printed = λ is. absurd (stop_is_no_answer ended stop is);
-      part = part may;
+      part = part;
       cut = λ is. absurd (stop_is_no_sink ended stop is);
     };
     silent = λ is. absurd (stop_is_no_source ended stop is);
@@ -124,20 +124,20 @@ module _ (m : Machine) (c : Command) (before now : Output) (safe : IsQuiet befor
       crash = λ quiet. safe_is_crash_safe now.disk (begun c (settled_at m)).marks (safe quiet);
       images = images;
       journal = λ closing over. absurd (stop_closes_not ended stop closing);
-      in_use = λ closing. absurd (stop_closes_not ended stop closing);
+      index = λ closing. absurd (stop_closes_not ended stop closing);
     };
   }
 
   -- what stands where the store was closed
   module _ (ended : Status) (shut : IsShut now.disk (step m c).next) (honest : ComesRight before.disk (c ∷ []) → IsHonest now.disk (step m c).next)
       (journal : (step m c).next.rest ≡ [] → HasShortJournal (standing now.disk)) (in_use : StaysWhole ended m (c ∷ []) before.disk now.disk) where
-    sunk : ended ≡ status.Sink → (MaySayOn before.disk (c ∷ []) → IsCut before.taken now.taken (reply_text (step m c).reply)) → PrintsLast m (c ∷ []) ended before now
+    sunk : ended ≡ status.Sink → IsCut before.taken now.taken (reply_text (step m c).reply) → PrintsLast m (c ∷ []) ended before now
     sunk sink cut = record {
       answer = λ is. absurd (sink_is_no_answer ended sink is);
-      text = λ may. record {
+      text = record {
         printed = λ is. absurd (sink_is_no_answer ended sink is);
-        part = cut_part before.taken now.taken (reply_text (step m c).reply) (cut may);
-        cut = λ is. cut may;
+        part = cut_part before.taken now.taken (reply_text (step m c).reply) cut;
+        cut = λ is. cut;
       };
       silent = λ is. absurd (cc);
       leaves = record {
@@ -146,17 +146,17 @@ module _ (m : Machine) (c : Command) (before now : Output) (safe : IsQuiet befor
         crash = λ quiet. safe_is_crash_safe now.disk (begun c (settled_at m)).marks (safe quiet);
         images = images;
         journal = λ closing over. journal over;
-        in_use = in_use;
+        index = in_use;
       };
     }
 
-    answered : (o : Verdict) → ended ≡ status_of o → o ≡ outcome_of (step m c).reply → (MaySayOn before.disk (c ∷ []) → Appends before.taken now.taken (reply_text (step m c).reply))
+    answered : (o : Verdict) → ended ≡ status_of o → o ≡ outcome_of (step m c).reply → Appends before.taken now.taken (reply_text (step m c).reply)
         → PrintsLast m (c ∷ []) ended before now
     answered o is replied printed = record {
       answer = λ answer. is ∙ ap status_of replied;
-      text = λ may. record {
-        printed = λ answer. printed may;
-        part = all_part before.taken now.taken (reply_text (step m c).reply) (printed may);
+      text = record {
+        printed = λ answer. printed;
+        part = all_part before.taken now.taken (reply_text (step m c).reply) printed;
         cut = λ sink. absurd (sink_is_no_answer ended sink (outcome_is_answer o ended is));
       };
       silent = λ source. absurd (source_is_no_answer ended source (outcome_is_answer o ended is));
@@ -166,7 +166,7 @@ module _ (m : Machine) (c : Command) (before now : Output) (safe : IsQuiet befor
         crash = λ quiet. safe_is_crash_safe now.disk (begun c (settled_at m)).marks (safe quiet);
         images = images;
         journal = λ closing over. journal over;
-        in_use = in_use;
+        index = in_use;
       };
     }
 
@@ -177,19 +177,23 @@ no_sink_stops answer fault.Memory ended failed no_sink is = inr is
 no_sink_stops answer fault.Disk ended failed no_sink is = inl is
 no_sink_stops answer fault.Sink ended failed no_sink is = absurd (no_sink failed)
 
-pub unopened_prints : {T : Type 0} (m : Machine) (c : Command) (before : Output) (t : State) (faults : ℕ) (answer : Result T StoreFault) (f : StoreFault) (ended : Status)
+pub unopened_prints : {T : Type 0} (m : Machine) (before : Output) (t : State) (faults : ℕ) (answer : Result T StoreFault) (f : StoreFault) (ended : Status)
     → answer ≡ Err f → answer ≢ Err fault.Sink → ended ≡ status_in (Err f) → (IsQuiet before.disk → IsSafe t (marks_of m)) → OpensHonestly before.disk t
-    → DoneFor (Honest (standing before.disk)) c m (λ d. PrintsLast m (d ∷ []) ended before (record before { disk = t; disk_faults = faults }))
-unopened_prints m c before t faults answer f ended failed no_sink is safe images =
-    let some = some_done (Honest (standing before.disk)) c m in
-    let d : Command = some.0 in (
-      d,
-      (
-        some.1,
-        stopped m d before (record before { disk = t; disk_faults = faults }) (λ quiet. begin_keeps t m d (marks_of m) (safe quiet)) images ended (no_sink_stops answer f ended failed no_sink is)
-            (λ may. none_part before.taken (reply_text (step m d).reply)),
-      ),
-    )
+    → IsUnopened m ended before (record before { disk = t; disk_faults = faults })
+unopened_prints m before t faults answer f ended failed no_sink is safe images =
+    let stop : IsStop ended = no_sink_stops answer f ended failed no_sink is in
+    record {
+      failed = stop;
+      silent = Keeps-refl before.taken;
+      leaves = record {
+        shut = λ closing. absurd (stop_closes_not ended stop closing);
+        honest = λ closing right. absurd (stop_closes_not ended stop closing);
+        crash = λ quiet. safe_is_crash_safe t (marks_of m) (safe quiet);
+        images = images;
+        journal = λ closing over. absurd (stop_closes_not ended stop closing);
+        index = λ closing. absurd (stop_closes_not ended stop closing);
+      };
+    }
 
 -- ---- it opened
 
@@ -201,6 +205,11 @@ pub came_open : (answer : Result Verdict StoreFault) (came : Result Status Store
 came_open (Ok o) (Ok s) now by still = still
 came_open (Ok o) (Err f) now by still = absurd by
 came_open (Err f) came now by still = λ none. still (sym (ap (λ r. ending r) by) ∙ none)
+
+-- the disk failed in the command where it did in what that came to
+pub came_ending : (answer : Result Verdict StoreFault) (came : Result Status StoreFault) → CameBy answer came → ending came ≡ Ending.NoneFailed → ending answer ≡ Ending.NoneFailed
+came_ending (Ok o) came by calm = refl
+came_ending (Err f) came by calm = sym (ap (λ r. ending r) by) ∙ calm
 
 came_ok : (o : Verdict) (came : Result Status StoreFault) → IsOkAnd came (λ s. s ≡ status_of o) → status_in came ≡ status_of o
 came_ok o (Ok s) is = is
@@ -222,10 +231,6 @@ module _ {moment : ℕ} (m : Machine) (c : Command) (before now : Output) (first
     in_use : h.machine ≡ (step m c).next → StaysWhole ended m (c ∷ []) before.disk now.disk
     in_use same = stays_whole before.disk now.disk m first last (c ∷ []) h ended opens is based leads closed same
 
-  -- the reply is the machine's
-  says : MaySayOn before.disk (c ∷ []) → MayTell c first m
-  says may = may_tell_one c first m (opened_says opens is (c ∷ []) may)
-
   -- it was performed, and the session was ended by what it came to
   pub performed_prints : (answer : Result Verdict StoreFault) (came : Result Status StoreFault) → Performs c m answer first last before.taken now.taken → Keeps c (settled_at m) answer last
       → (HadEffect answer → StaysOnce c first m last) → LeavesHonest last.disk
@@ -238,12 +243,12 @@ module _ {moment : ℕ} (m : Machine) (c : Command) (before now : Output) (first
       let end = closed h leads in
       let closing = outcome_closes o ended as_outcome in
       answered m c before now (λ quiet. begun_at_mark now.disk m c end.safe) (images h leads) ended (end.shut closing) (honest h leads closing) (end.journal closing) (in_use h leads refl)
-      o as_outcome performs.outcome (λ may. performs.printed (says may))
+      o as_outcome performs.outcome performs.printed
   performed_prints (Ok o) came performs keeps stays kept by (inr stop) dropped =
       let h : History = acked c (settled_at m) in
       let leads = leads_one c first m last h keeps.next (performs.tells tt) (stays tt) in
       stopped m c before now (λ quiet. begun_at_mark now.disk m c (closed h leads).safe) (images h leads) ended stop
-      (λ may. all_part before.taken now.taken (reply_text (step m c).reply) (performs.printed (says may)))
+      (all_part before.taken now.taken (reply_text (step m c).reply) performs.printed)
   performed_prints (Err fault.Sink) came performs keeps stays kept by (inl same) dropped =
       let sink = same ∙ ap status_in by in
       let h : History = unanswered c (settled_at m) in
@@ -251,39 +256,53 @@ module _ {moment : ℕ} (m : Machine) (c : Command) (before now : Output) (first
       let end = closed h leads in
       let closing : IsClosing ended = subst IsClosing (sym sink) tt in
       sunk m c before now (λ quiet. end.safe) (images h leads) ended (end.shut closing) (honest h leads closing) (end.journal closing) (in_use h leads refl)
-      sink (λ may. performs.cut (says may))
+      sink performs.cut
   performed_prints (Err fault.Sink) came performs keeps stays kept by (inr stop) dropped =
       let h : History = unanswered c (settled_at m) in
       let leads = leads_one c first m last h (keeps.unanswered refl) (performs.tells refl) (stays refl) in
       stopped m c before now (λ quiet. (closed h leads).safe) (images h leads) ended stop
-      (λ may. cut_part before.taken now.taken (reply_text (step m c).reply) (performs.cut (says may)))
+      (cut_part before.taken now.taken (reply_text (step m c).reply) performs.cut)
   performed_prints (Err fault.Disk) came performs keeps stays kept by same dropped =
       let left = dropped (λ closing. subst (λ x. IsClosing (status_in x)) by closing) in
       stopped m c before now (λ quiet. subst (λ x. IsSafe x (begun c (settled_at m)).marks) (sym left.1) keeps.safe) (λ quiet honest. subst LeavesHonest (sym left.1) kept) ended
-      (inl (left.0 ∙ ap status_in by)) (λ may. cut_part before.taken now.taken (reply_text (step m c).reply) (performs.cut (says may)))
+      (inl (left.0 ∙ ap status_in by)) (cut_part before.taken now.taken (reply_text (step m c).reply) performs.cut)
   performed_prints (Err fault.Memory) came performs keeps stays kept by same dropped =
       let left = dropped (λ closing. subst (λ x. IsClosing (status_in x)) by closing) in
       stopped m c before now (λ quiet. subst (λ x. IsSafe x (begun c (settled_at m)).marks) (sym left.1) keeps.safe) (λ quiet honest. subst LeavesHonest (sym left.1) kept) ended
-      (inr (left.0 ∙ ap status_in by)) (λ may. cut_part before.taken now.taken (reply_text (step m c).reply) (performs.cut (says may)))
+      (inr (left.0 ∙ ap status_in by)) (cut_part before.taken now.taken (reply_text (step m c).reply) performs.cut)
 
 -- ---- a look at the disk failed
 
--- the line was printed, or a part of it, and all stayed as it was
-pub faulted_prints : {moment : ℕ} (m : Machine) (before now : Output) (first last : Session) (ended : Status) → Opens moment before.disk first → StartsOn moment before.disk m → StaysAs first last → EndsSession ended last now.disk
-    → IsStop ended → Rose before.disk_faults now.disk_faults → IsPart before.taken now.taken fault_line → PrintsFault m ended before now
-faulted_prints m before now first last ended opens is stays ends stop rose part =
-    let keeps = opens.keeps m is in
-    let end = ends.each (settled_at m) (keeps_to (stays.keeps true (settled_at m) (keeps_marked keeps))) in
-    record {
-      failed = stop;
-      rose = rose;
-      part = part;
-      leaves = record {
-        shut = λ closing. absurd (stop_closes_not ended stop closing);
-        honest = λ closing right. absurd (stop_closes_not ended stop closing);
+module _ {moment : ℕ} (m : Machine) (before now : Output) (first last : Session) (opens : Opens moment before.disk first) (is : StartsOn moment before.disk m)
+    (based : OpensInUse before.disk first.open_store.index.map first.disk) (stays : StaysAs first last) (base : SameBase first.open_store.index.map last.open_store.index.map) where
+  leads : LeadTo [] first m last (settled_at m)
+  leads = leads_still [] first m first last (settled_at m) (leads_none first (settled_at m) (opens.keeps m is)) stays base
+
+  -- what the session left, in which no command was performed
+  fault_leaves : (ended : Status) → EndsSession ended last now.disk → LeavesDisk m (none_performed m) ended before.disk now.disk
+  fault_leaves ended ends =
+      let end = ends.each (settled_at m) leads.keeps in
+      record {
+        shut = end.shut;
+        honest = λ closing right. end.honest closing (leads.tells (opened_right opens is [] right));
         crash = λ quiet. safe_is_crash_safe now.disk (marks_of m) end.safe;
-        images = λ quiet honest. end.images (stays.tells m (represents keeps) (opens.tells m is honest));
-        journal = λ closing over. absurd (stop_closes_not ended stop closing);
-        in_use = λ closing. absurd (stop_closes_not ended stop closing);
-      };
-    }
+        images = λ quiet honest. end.images (leads.tells (inl (opens.tells m is honest)));
+        journal = end.journal;
+        index = stays_whole before.disk now.disk m first last [] (settled_at m) ended opens is based leads end refl;
+      }
+
+  -- the line was printed, or a part of it, and all stayed as it was
+  pub faulted_prints : (ended : Status) → EndsSession ended last now.disk → IsStop ended → Rose before.disk_faults now.disk_faults → IsPart before.taken now.taken fault_line
+      → (ended ≡ status.Disk → EndsSession status.No last now.disk ⊎ RoseBy 2 before.disk_faults now.disk_faults) → PrintsFault m ended before now
+  faulted_prints ended ends stop rose part closed = record {
+    failed = stop;
+    rose = rose;
+    part = part;
+    leaves = fault_leaves ended ends;
+    closed = λ disk. ⊎_elim (λ shut. inl (fault_leaves status.No shut)) (λ more. inr more) (closed disk);
+  }
+
+-- one fault after the other
+pub rose_twice : {P Q : Type 0} (a b c d : ℕ) → b ≡ a → Rose b c → P → (P → Q) ⊎ Rose c d → Q ⊎ RoseBy 2 a d
+rose_twice a b c d same first told (inl shut) = inl (shut told)
+rose_twice a b c d same first told (inr more) = inr (omega (arith, same, first, more))

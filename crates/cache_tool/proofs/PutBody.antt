@@ -18,7 +18,7 @@ use Rattle.cache_store.specs.declared.fault.Verdict.TheVariants as outcome
 use Rattle.cache_store.specs.declared.fault.StoreFault.{StoreFault}
 use Rattle.cache_tool.specs.declared.piece.Ended.{Ended}
 use Rattle.cache_tool.specs.declared.piece.Ended.TheVariants as ended
-use Rattle.cache_tool.specs.AnyDisk.{HoldsRefusal, IsRefusalLine, TakesAtMost, TakesTooMuch}
+use Rattle.cache_tool.specs.AnyDisk.{TakesAtMost}
 use Rattle.cache_tool.specs.Right.{LeadTo}
 use Rattle.cache_tool.specs.Put.{GivesPart, GivesWhole, appends}
 use Rattle.cache_tool.specs.PutProgress.{AgreesWith, AppendsPiece, AppendsSoFar, AreSent, BodyIsAppended, BodyIsSent, BodyOf, IsWriting, all_unanswered, piece_commands}
@@ -206,17 +206,6 @@ module _ {tells : Type 0} {room : ℕ} {left mid : Option (List ℕ)} {before be
       let is = so.room_is in
       let joined = length-append so.body piece in
       (so.body ++ piece, (Consumes-trans left mid now so.body piece so.read given, omega (arith, is, joined, fits)))
-
-  pub takes_too_much : room < length piece → TakesTooMuch left now
-  takes_too_much over =
-      let is = so.room_is in
-      let joined = length-append so.body piece in
-      (so.body ++ piece, (Consumes-trans left mid now so.body piece so.read given, omega (arith, is, joined, over)))
-
-  -- a piece that was refused was refused by the disk's command, or was too long
-  pub holds_refusal : (said : List ℕ) → IsRefusalLine said ⊎ (room < length piece) → HoldsRefusal said left now
-  holds_refusal said (inl line) = inl line
-  holds_refusal said (inr over) = inr (takes_too_much over)
 
 -- a status by an outcome is `No` for a refusal alone
 pub no_is_refused : (o : Verdict) (came : Status) → came ≡ status_of o → ◌≡◌ {A = Result Status StoreFault} (Ok came) (Ok status.No) → o ≡ outcome.Refused

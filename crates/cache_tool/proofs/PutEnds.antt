@@ -12,6 +12,7 @@ use Rattle.cache_store.specs.InUse.{HasShortJournal, OpensInUse}
 use Rattle.cache_store.specs.Open.{IsHonest, IsShut, Opens, OpensHonestly, StartsOn}
 use Rattle.cache_store.specs.Said.{IsCut}
 use Rattle.cache_store.specs.Saying.{IsPart}
+use Rattle.cache_store.specs.Printed.{PrintsRefusal}
 use Rattle.cache_store.specs.Session.{Session}
 use Rattle.cache_store.specs.declared.fault.StoreFault.{StoreFault}
 use Rattle.cache_store.specs.declared.fault.StoreFault.TheVariants as fault
@@ -23,8 +24,8 @@ use Rattle.cache_theory.specs.Marks.{all_begun, marks_of}
 use Rattle.cache_theory.specs.Session.{marks_between}
 use Rattle.cache_theory.specs.Step.{after}
 use Rattle.cache_theory.proofs.Crashes.{safe_is_crash_safe}
-use Rattle.disk_model.specs.Calls.{Counts, LastFails, StopsAtFault}
-use Rattle.cache_tool.specs.AnyDisk.{HoldsRefusal, PutRefuses}
+use Rattle.disk_model.specs.Calls.{Counts, FailsLast, StopsAtFault}
+use Rattle.cache_tool.specs.AnyDisk.{IsRefusalLine}
 use Rattle.cache_tool.specs.Ending.{EndsSession, IsEnded}
 use Rattle.cache_tool.specs.Put.{ArePut, put_commands}
 use Rattle.cache_tool.specs.Put.ArePut.{Broken, Whole}
@@ -32,7 +33,7 @@ use Rattle.cache_tool.specs.PutProgress.{PutIsPerformed, all_unanswered}
 use Rattle.cache_tool.specs.Right.{ComesRight, LeadTo}
 use Rattle.cache_tool.specs.Statuses.{IsAnswer, IsClosing, status_in}
 use Rattle.cache_tool.specs.Verbs.{PrintsLast}
-use Rattle.cache_tool.specs.World.{Output, Supply, World}
+use Rattle.cache_tool.specs.World.{Output, Supply}
 use Rattle.cache_tool.proofs.Begun.{all_begin_keep}
 use Rattle.cache_tool.proofs.PutWhole.{fault_is_none, not_closing, some_body}
 use Rattle.cache_tool.proofs.RightLaws.{opened_right}
@@ -91,7 +92,7 @@ not_opened m key from to f before t other calm some safe images =
         Whole body.0 body.1 refl,
         record {
           answer = λ answer. absurd (fault_is_none f answer);
-          text = λ may. record {
+          text = record {
             printed = λ answer. absurd (fault_is_none f answer);
             part = none_printed before.taken _;
             cut = λ sink. absurd (sink_is f other sink);
@@ -103,7 +104,7 @@ not_opened m key from to f before t other calm some safe images =
             crash = λ quiet. crash_safe t m (put_commands m key body.0) (all_begin_keep t m (put_commands m key body.0) (marks_of m) (safe quiet));
             images = images;
             journal = λ closing over. absurd (not_closing f other closing);
-            in_use = λ closing. absurd (not_closing f other closing);
+            index = λ closing. absurd (not_closing f other closing);
           };
         },
       ),
@@ -154,7 +155,7 @@ module _ {moment : ℕ} (m : Machine) (key : List ℕ) (from to : Supply) (came 
           are_put_at m key from to came final put.commands (λ a. subst IsAnswer is answer) put.are_put,
           record {
             answer = λ a. printed_same ended final a printed.same ∙ is ∙ reply.status;
-            text = λ may. record {
+            text = record {
               printed = λ a. subst (Appends before.taken taken) reply.replied (printed.all a);
               part = subst (IsPart before.taken taken) reply.replied printed.part;
               cut = λ sink. subst (IsCut before.taken taken) reply.replied (printed.cut sink);
@@ -166,7 +167,7 @@ module _ {moment : ℕ} (m : Machine) (key : List ℕ) (from to : Supply) (came 
               crash = λ quiet. crash_safe t m put.commands (closed closes).safe;
               images = λ quiet honest. images closes honest;
               journal = λ closing. journal (answer_closes ended answer);
-              in_use = λ closing. in_use (answer_closes ended answer);
+              index = λ closing. in_use (answer_closes ended answer);
             };
           },
         ),
@@ -181,7 +182,7 @@ module _ {moment : ℕ} (m : Machine) (key : List ℕ) (from to : Supply) (came 
       are_put_at m key from to came ended put.commands (λ a. absurd (other a)) put.are_put,
       record {
         answer = λ a. absurd (other a);
-        text = λ may. record {
+        text = record {
           printed = λ a. absurd (other a);
           part = none_printed before.taken _;
           cut = λ sink. absurd (no_sink sink);
@@ -193,7 +194,7 @@ module _ {moment : ℕ} (m : Machine) (key : List ℕ) (from to : Supply) (came 
           crash = λ quiet. crash_safe t m put.commands safe;
           images = λ quiet honest. left_honest honest;
           journal = journal;
-          in_use = in_use;
+          index = in_use;
         };
       },
     ),
@@ -261,13 +262,10 @@ no_came (Err fault.Disk) ended (inl same) no_is = absurd (let d : status.Disk �
 no_came (Err fault.Sink) ended (inl same) no_is = absurd (let d : status.Sink ≡ status.No = sym same ∙ no_is in cc)
 
 -- the refusal that is held is what is printed
-printed_refusal : (said : List ℕ) (before now : World) → HoldsRefusal said before.source.left now.source.left → Appends before.taken now.taken said → PutRefuses before now
-printed_refusal said before now (inl line) all = inl (line.0, subst (Appends before.taken now.taken) line.1 all)
-printed_refusal said before now (inr long) all = inr long
-
-pub put_refuses : (came : Result Status StoreFault) (ended : Status) (said : List ℕ) (before now : World) → EndsAs ended (status_in came) → ended ≡ status.No
-    → (came ≡ Ok status.No → HoldsRefusal said before.source.left now.source.left) → Appends before.taken now.taken said → PutRefuses before now
-put_refuses came ended said before now same no_is holds all = printed_refusal said before now (holds (no_came came ended same no_is)) all
+pub put_refuses : (came : Result Status StoreFault) (ended : Status) (said : List ℕ) (before now : Option (List ℕ)) → EndsAs ended (status_in came) → ended ≡ status.No
+    → (came ≡ Ok status.No → IsRefusalLine said) → Appends before now said → PrintsRefusal before now
+put_refuses came ended said before now same no_is holds all =
+    let is = holds (no_came came ended same no_is) in (is.0, subst (Appends before now) is.1 all)
 
 -- the faults of the disk, over the opening, the commands and the closing
 only_closes : (s : Status) → IsAnswer s ⊎ (s ≡ status.Source) → IsClosing s
@@ -303,12 +301,10 @@ disk_cause (Err fault.Sink) ended a b c d only other same first second dropped =
 
 module _ (a b : Counts) (went_on : b.failed ≡ a.failed) where
   pub stops_after : (c d : Counts) → c.failed ≡ b.failed → StopsAtFault c d → StopsAtFault a d
-  stops_after c d same (inl closed) = inl (closed ∙ same ∙ went_on)
-  stops_after c d same (inr last) = inr last
+  stops_after c d same stops = subst (λ failed. (d.failed ≡ failed) ⊎ FailsLast failed d) (same ∙ went_on) stops
 
   stops_at : (c d : Counts) → StopsAtFault b c → d ≡ c → StopsAtFault a d
-  stops_at c d (inl same) is = inl (ap (λ (n : Counts). n.failed) is ∙ same ∙ went_on)
-  stops_at c d (inr last) is = inr (subst LastFails (sym is) last)
+  stops_at c d stops is = subst (StopsAtFault a) (sym is) (stops_after b c refl stops)
 
   pub put_stops : (came : Result Status StoreFault) (c d : Counts) → (ending came ≡ Ending.NoneFailed → c.failed ≡ b.failed) → StopsAtFault b c → StopsAtFault c d
       → (¬ (IsClosing (status_in came)) → d ≡ c) → StopsAtFault a d

@@ -1,6 +1,6 @@
 -- What the machine does with the commands of a put.
-use Rattle.std.proofs.Common.{◌≡◌, ℕ, ◌+◌, ◌<◌, ◌≤◌, List, [], ◌∷◌, ◌++◌, length, true, false, Some, None, refl, sym, ap, subst, ◌∙◌, arith}
-use Rattle.std.specs.Prelude.{IfOk, Ok, OnOk, Option, Result, option_map, unwrap_or}
+use Rattle.std.proofs.Common.{◌≡◌, Bool, ℕ, ◌+◌, ◌<◌, ◌≤◌, List, [], ◌∷◌, ◌++◌, length, true, false, true≢false, Some, None, refl, sym, ap, subst, ◌∙◌, arith}
+use Rattle.std.specs.Prelude.{IfOk, Ok, OnOk, Option, Result, is_some, nat_le, not, option_map, unwrap_or}
 use Rattle.std.proofs.lemmas.Bool.{leb-true}
 use Rattle.std.proofs.lemmas.List.{append-nil}
 use Rattle.cache_base.specs.Checks.{first_failing}
@@ -11,11 +11,12 @@ use Rattle.cache_theory.specs.Command.{Command, Reply}
 use Rattle.cache_theory.specs.Command.Command.{Append, Close, Create}
 use Rattle.cache_theory.specs.Command.Reply.{Done, Findings, Refused}
 use Rattle.cache_theory.specs.History.{History}
-use Rattle.cache_theory.specs.Machine.{Machine, Object, Slot, number_of, object, object_of}
+use Rattle.cache_theory.specs.Machine.{Machine, Object, Slot, is_slot, is_writer, number_of, object, object_of}
 use Rattle.cache_theory.specs.Marks.{Marks, acked, begun}
 use Rattle.cache_theory.specs.Step.{changed, doomed_under, effect, entered, fresh, step, stepped}
 use Rattle.cache_theory.specs.Text.{reply_text}
 use Rattle.cache_theory.specs.declared.refusal.Refusal.{Refusal}
+use Rattle.cache_theory.specs.declared.refusal.Refusal.TheVariants as refused
 use Rattle.cache_theory.proofs.Objects.{length_more, nth-append_new, nth-set_same}
 use Rattle.cache_theory.proofs.Slots.{with_slot_same}
 use Rattle.std.proofs.Common.{length-set}
@@ -28,6 +29,7 @@ use Rattle.cache_store.specs.Session.{Session}
 use Rattle.cache_store.specs.declared.fault.Verdict.{Verdict}
 use Rattle.cache_store.specs.declared.fault.Verdict.TheVariants as outcome
 use Rattle.cache_store.specs.declared.fault.StoreFault.{StoreFault}
+use Rattle.cache_tool.specs.AnyDisk.{too_large_line}
 use Rattle.cache_tool.specs.PutProgress.{AreSent, IsRefused, IsSent, IsWriting, PieceIsSent}
 use Rattle.cache_tool.specs.Replies.{is_done}
 use Rattle.cache_tool.specs.Right.{LeadTo}
@@ -92,7 +94,7 @@ module _ (c : Command) (h : History) (answer : Result Verdict StoreFault) (befor
   pub sent_refused : answer ≡ Ok outcome.Refused → IsRefused h.machine c said
   sent_refused e =
       let is : outcome_of (step h.machine c).reply ≡ outcome.Refused = sym (sent_outcome outcome.Refused e) in
-      record { not_done = not_done_by h.machine c is; refused = is; replied = subst (λ a. OnOk a (said ≡ reply_text (step h.machine c).reply)) e (sends.replied plain.bare) }
+      record { not_done = not_done_by h.machine c is; refused = is; replied = subst (λ a. OnOk a (said ≡ reply_text (step h.machine c).reply)) e sends.replied }
 
   -- and so the command was performed
   pub sent_one : AreSent (c ∷ []) h answer before now said
@@ -192,3 +194,30 @@ piece_over h body bytes outcome.Ok before now said writes long sends =
     let done = sent_done (Append 0 bytes) h (Ok outcome.Ok) before now said (append_is_plain 0 bytes) sends refl in
     let within = append_within h.machine body bytes writes done in
     absurd (omega (arith, within, long))
+
+-- and so it is refused, whatever is said
+not_within : (a b : ℕ) → b < a → nat_le a b ≡ false
+not_within a b lt = go (nat_le a b) refl
+  where
+    go : (c : Bool) → nat_le a b ≡ c → nat_le a b ≡ false
+    go true e = absurd (let within = leb-true a b e in omega (arith, lt, within))
+    go false e = e
+
+long_reply : (m : Machine) (bytes : List ℕ) (slot writes draft room : Bool) → slot ≡ true → writes ≡ true → draft ≡ true → room ≡ false
+    → first_failing ((slot, refused.NoSlot) ∷ (writes, refused.NotWriter) ∷ (draft, refused.Finished) ∷ (room, refused.TooLarge) ∷ []) ≡ Some refused.TooLarge
+long_reply m bytes true true true false a b c d = refl
+long_reply m bytes false writes draft room a b c d = absurd (true≢false (sym a))
+long_reply m bytes true false draft room a b c d = absurd (true≢false (sym b))
+long_reply m bytes true true false room a b c d = absurd (true≢false (sym c))
+long_reply m bytes true true true true a b c d = absurd (true≢false d)
+
+pub piece_too_large : (m : Machine) (body bytes : List ℕ) → IsWriting m body → BODY_MAX < length body + length bytes → reply_text (step m (Append 0 bytes)).reply ≡ too_large_line
+unfolding checks reply_text
+piece_too_large m body bytes writes long =
+    let here = body_here m body bytes writes in
+    ap (λ r. reply_text (stepped m (Append 0 bytes) r).reply)
+    (long_reply m bytes (is_slot m 0) (is_writer m 0) (not (object_of m 0).finished) (nat_le (length (object_of m 0).version.body + length bytes) BODY_MAX)
+    (ap is_some writes.at)
+    (ap (λ x. unwrap_or (option_map (λ (slot : Slot). slot.writes) x) false) writes.at ∙ writes.writes)
+    (ap (λ (o : Object). not o.finished) (object_here m body bytes writes) ∙ ap not writes.unfinished)
+    (not_within (length (object_of m 0).version.body + length bytes) BODY_MAX (let same = ap length here in omega (arith, long, same))))

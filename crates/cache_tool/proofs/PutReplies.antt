@@ -1,5 +1,5 @@
 -- One command of a put, whose reply is held.
-use Rattle.std.proofs.Common.{◌≡◌, ◌≢◌, ℕ, ◌<◌, ◌+◌, List, [], ◌∷◌, ◌++◌, length, Some, refl, sym, ap, subst, ◌∙◌, arith, true≢false}
+use Rattle.std.proofs.Common.{◌≡◌, ◌≢◌, ℕ, ◌<◌, ◌+◌, List, [], ◌∷◌, ◌++◌, length, Some, refl, sym, ap, subst, ◌∙◌, arith}
 use Rattle.std.specs.Prelude.{Bool, Err, Ok, OnOk, Result, false, true, ◌==◌}
 use Rattle.std.proofs.lemmas.Bool.{eqb-true}
 use Rattle.std.proofs.lemmas.List.{nil_from_length}
@@ -15,11 +15,12 @@ use Rattle.cache_theory.specs.Command.Command.{Append}
 use Rattle.cache_theory.specs.History.{History, acked}
 use Rattle.cache_theory.specs.Step.{step}
 use Rattle.cache_theory.specs.Text.{reply_text}
+use Rattle.cache_tool.specs.AnyDisk.{too_large_line}
 use Rattle.cache_tool.specs.PutProgress.{IsSent, IsWriting, PieceIsSent, SendsCommand}
 use Rattle.cache_tool.specs.Right.{LeadTo}
 use Rattle.cache_tool.specs.Staying.{StaysOnce}
 use Rattle.cache_tool.proofs.DoneLaws.{done_itself}
-use Rattle.cache_tool.proofs.PutMachine.{piece_none, piece_over, piece_sent}
+use Rattle.cache_tool.proofs.PutMachine.{piece_none, piece_over, piece_sent, piece_too_large}
 use Rattle.cache_tool.proofs.RightLaws.{leads_one}
 
 -- what went out to a sink that held nothing is what it holds
@@ -29,8 +30,7 @@ sends_of c h answer first now before said none p kept stays = record {
   safe = kept.safe;
   next = leads answer kept.next p.tells stays;
   outcome = p.outcome;
-  replied = λ bare. held answer (p.printed (λ goes. absurd (true≢false (sym goes ∙ bare))));
-  told = λ told. held answer (p.printed (λ goes. told));
+  replied = held answer p.printed;
 }
   where
     leads : (a : Result Verdict StoreFault) → OnOk a (KeepsTo now (acked c h)) → (HadEffect a → ComesToTell c first h.machine → Tells now (step h.machine c).next)
@@ -60,12 +60,26 @@ pub piece_went : (h : History) (body piece : List ℕ) (answer : Result Verdict 
 piece_went h body [] answer before now said some writes sends = absurd (some refl)
 piece_went h body (x ∷ xs) answer before now said some writes sends = piece_sent h body x xs answer before now said writes sends
 
--- one for which there is no room
-pub over_went : (h : History) (body piece : List ℕ) (room : ℕ) (r : Verdict) (before now : Session) (said : List ℕ) → piece ≢ [] → room < length piece
-    → room + length body ≡ BODY_MAX → IsWriting h.machine body → IsSent (Append 0 piece) h (Ok r) before now said → PieceIsSent body piece h (Ok outcome.Refused) before now said
-over_went h body piece room r before now said some long is writes sends =
-    let refused = piece_over h body piece r before now said writes (omega (arith, long, is)) sends in
-    subst (λ x. PieceIsSent body piece h (Ok x) before now said) refused (piece_went h body piece (Ok r) before now said some writes sends)
+-- one for which there is no room, after which the refusal is held
+pub over_went : (h : History) (body piece : List ℕ) (room : ℕ) (r : Verdict) (before now : Session) (said held : List ℕ) → piece ≢ [] → room < length piece
+    → room + length body ≡ BODY_MAX → IsWriting h.machine body → held ≡ too_large_line → IsSent (Append 0 piece) h (Ok r) before now said
+    → PieceIsSent body piece h (Ok outcome.Refused) before now held
+over_went h body piece room r before now said held some long is writes line sends =
+    let over : BODY_MAX < length body + length piece = omega (arith, long, is) in
+    let refused = piece_over h body piece r before now said writes over sends in
+    let told : said ≡ held = sends.replied ∙ piece_too_large h.machine body piece writes over ∙ sym line in
+    subst (λ text. PieceIsSent body piece h (Ok outcome.Refused) before now text) told
+    (subst (λ x. PieceIsSent body piece h (Ok x) before now said) refused (piece_went h body piece (Ok r) before now said some writes sends))
+
+-- and one after which memory runs out before the refusal is held
+pub unsaid_went : (h : History) (body piece : List ℕ) (answer : Result Verdict StoreFault) (f : StoreFault) (before now : Session) (said held : List ℕ) → piece ≢ []
+    → IsWriting h.machine body → IsSent (Append 0 piece) h answer before now said → PieceIsSent body piece h (Err f) before now held
+unsaid_went h body piece answer f before now said held some writes sends = piece_went h body piece (Err f) before now held some writes (record {
+  safe = sends.safe;
+  next = tt;
+  outcome = tt;
+  replied = tt;
+})
 
 -- whether a piece is empty
 pub is_empty_of : (piece : List ℕ) (b : Bool) → b ≡ (length piece == 0) → b ≡ true → piece ≡ []

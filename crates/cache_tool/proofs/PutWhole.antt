@@ -220,7 +220,7 @@ module _ (h : History) (key : List ℕ) (from to : Supply) (start made_at : Sess
       close_went outcome.Refused sends = whole_refused h key from to start later said went.body went.body_of (closed_ran (Ok outcome.Refused) (sent_itself (Close 0) (Ok outcome.Refused) now later said refl sends _ appended_stands.keeps))
       close_went outcome.Ok sends =
           let sent = sent_itself (Close 0) (Ok outcome.Ok) now later said refl sends _ appended_stands.keeps in
-          whole_done h key from to start later said went.body went.body_of (closed_ran (Ok outcome.Ok) sent) (sym sent.outcome) (sent.replied refl)
+          whole_done h key from to start later said went.body went.body_of (closed_ran (Ok outcome.Ok) sent) (sym sent.outcome) sent.replied
 
 -- an outcome that is no refusal
 pub other_outcome : (r : Verdict) → r ≢ outcome.Refused → r ≡ outcome.Ok

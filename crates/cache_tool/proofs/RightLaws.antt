@@ -1,12 +1,11 @@
 -- What some commands say by the records in memory, and where these come to be right.
-use Rattle.std.proofs.Common.{◌≡◌, inl, inr, ℕ, List, [], ◌∷◌, ◌++◌, false, true, IsTrue, refl, sym, subst, ◌∙◌, append_assoc, true≢false}
-use Rattle.std.specs.List.{list_any}
-use Rattle.std.proofs.lemmas.Bool.{or_cases, or_left, or_right}
+use Rattle.std.proofs.Common.{◌≡◌, inl, inr, ℕ, List, [], ◌∷◌, ◌++◌, true, IsTrue, refl, ap, sym, subst, ◌∙◌, true≢false}
+use Rattle.std.proofs.lemmas.Bool.{or_cases}
 use Rattle.std.proofs.lemmas.List.Folds.{list_any-append}
 use Rattle.cache_store.specs.Faulting.{StaysAs}
-use Rattle.cache_store.specs.InUse.{HoldsBase}
+use Rattle.cache_store.specs.InUse.{HoldsBase, past_header}
 use Rattle.cache_store.specs.Open.{IsOpen, KeepsTo, Opens, StartsOn, Tells}
-use Rattle.cache_store.specs.Performing.{ComesToTell, MayTell, goes_by_records}
+use Rattle.cache_store.specs.Performing.{ComesToTell}
 use Rattle.cache_store.specs.Session.{Session}
 use Rattle.cache_store.proofs.Represented.{keeps_marked, keeps_to, represents}
 use Rattle.cache_theory.specs.Command.{Command}
@@ -14,10 +13,11 @@ use Rattle.cache_theory.specs.Command.Command.{Rebuild}
 use Rattle.cache_theory.specs.History.{History}
 use Rattle.cache_theory.specs.Machine.{Machine}
 use Rattle.cache_theory.specs.Step.{after}
-use Rattle.cache_tool.specs.Right.{AreRight, ComesRight, LeadTo, MaySay, MaySayOn, has_rebuild, is_rebuild}
-use Rattle.cache_tool.specs.Staying.{IsInUse, StaysOnce, StaysOverAll}
-use Rattle.cache_tool.proofs.StayingLaws.{both_in_use, none_in_use, same_in_use, stays_split}
-use Rattle.disk_model.specs.State.{State}
+use Rattle.cache_tool.specs.Right.{AreRight, ComesRight, LeadTo, has_rebuild, is_rebuild}
+use Rattle.cache_tool.specs.Staying.{AreSpared, IsInUse, KeepsPast, StaysOnce, StaysOverAll}
+use Rattle.cache_tool.proofs.StayingLaws.{both_in_use, none_in_use, same_in_use, spared_split, stays_split}
+use Rattle.disk_model.specs.State.{State, standing}
+use Rattle.disk_model.specs.declared.place.Place.TheVariants.{Index}
 use Rattle.index_map.specs.Known.{SameBase}
 use Rattle.index_record.specs.declared.record.IndexRecord.{IndexRecord}
 use Rattle.index_theory.specs.Honest.{LeavesHonest}
@@ -26,23 +26,6 @@ use Rattle.index_theory.proofs.UncleanLaws.{unclean_leaves_honest}
 -- a store that is open leaves no image whose index is trusted
 pub open_leaves_honest : (now : Session) → IsOpen now → LeavesHonest now.disk
 open_leaves_honest now open_still = unclean_leaves_honest now.disk open_still.1.matches.holds.unclean
-
--- ---- what may be said
-
--- of all commands, and so of the first
-pub may_say_first : (cs ds : List Command) (before : Session) (m : Machine) → MaySay (cs ++ ds) before m → MaySay cs before m
-may_say_first cs ds before m may = λ goes. may (list_any-append goes_by_records cs ds ∙ or_left (list_any goes_by_records cs) (list_any goes_by_records ds) goes)
-
-pub may_say_next : (cs : List Command) (c : Command) (ds : List Command) (before : Session) (m : Machine) → MaySay (cs ++ c ∷ ds) before m → MaySay (cs ++ c ∷ []) before m
-may_say_next cs c ds before m may = may_say_first (cs ++ c ∷ []) ds before m (subst (λ l. MaySay l before m) (sym (append_assoc cs (c ∷ []) ds)) may)
-
--- and of the last, after the first
-pub may_tell_last : (cs : List Command) (c : Command) (before : Session) (m : Machine) (now : Session) (h : History) → LeadTo cs before m now h → MaySay (cs ++ c ∷ []) before m → MayTell c now h.machine
-may_tell_last cs c before m now h leads may = λ goes.
-    leads.tells (inl (may (list_any-append goes_by_records cs (c ∷ []) ∙ or_right (list_any goes_by_records cs) (list_any goes_by_records (c ∷ [])) (or_left (goes_by_records c) false goes))))
-
-pub may_tell_one : (c : Command) (before : Session) (m : Machine) → MaySay (c ∷ []) before m → MayTell c before m
-may_tell_one c before m may = λ goes. may (or_left (goes_by_records c) false goes)
 
 -- ---- where the records come to be right
 
@@ -56,7 +39,7 @@ one_is_right c before m (inr rebuilt) = inr (rebuild_is c rebuilt)
 
 -- no command
 pub leads_none : (now : Session) (h : History) → KeepsTo now h → LeadTo [] now h.machine now h
-leads_none now h keeps = record { keeps = keeps; tells = tells; in_use = λ records told holds over. none_in_use records now holds }
+leads_none now h keeps = record { keeps = keeps; tells = tells; in_use = λ records told holds over. none_in_use records now holds; unended = λ spared. refl }
   where
     tells : AreRight [] now h.machine → Tells now h.machine
     tells (inl told) = told
@@ -68,19 +51,25 @@ pub leads_one : (c : Command) (before : Session) (m : Machine) (now : Session) (
 leads_one c before m now h keeps tells stays = record {
   keeps = keeps;
   tells = λ right. tells (one_is_right c before m right);
-  in_use = λ records told holds over. stays records told holds over.0;
+  in_use = λ records told holds over. stays.in_use records told holds over.0;
+  unended = λ spared. stays.unended spared.0;
 }
 
 -- some, and then more
 pub leads_on : (cs ds : List Command) (before : Session) (m : Machine) (mid : Session) (g : History) (now : Session) (h : History) → g.machine ≡ after m cs → LeadTo cs before m mid g → LeadTo ds mid g.machine now h
     → LeadTo (cs ++ ds) before m now h
-leads_on cs ds before m mid g now h same first second = record { keeps = second.keeps; tells = tells; in_use = in_use }
+leads_on cs ds before m mid g now h same first second = record { keeps = second.keeps; tells = tells; in_use = in_use; unended = unended }
   where
     in_use : (records : List IndexRecord) → Tells before m → HoldsBase records before.open_store.index.map → StaysOverAll records m (cs ++ ds) → IsInUse records before now
     in_use records told holds over =
         let parts = stays_split records m cs ds over in
         let here = first.in_use records told holds parts.0 in
         both_in_use records before mid now here (second.in_use records (first.tells (inl told)) here.base (subst (λ x. StaysOverAll records x ds) (sym same) parts.1))
+
+    unended : AreSpared m (cs ++ ds) → KeepsPast before.disk now.disk
+    unended spared =
+        let parts = spared_split m cs ds spared in
+        second.unended (subst (λ x. AreSpared x ds) (sym same) parts.1) ∙ first.unended parts.0
 
     tells : AreRight (cs ++ ds) before m → Tells now h.machine
     tells (inl told) = second.tells (inl (first.tells (inl told)))
@@ -98,15 +87,13 @@ leads_still cs before m mid now h leads stays base = record {
   in_use = λ records told holds over.
       let here = leads.in_use records told holds over in
       both_in_use records before mid now here (same_in_use records mid now base stays.disk here.base);
+  unended = λ spared. ap (λ s. past_header (standing s Index)) stays.disk ∙ leads.unended spared;
 }
 
 -- ---- after an opening
 
 module _ {moment : ℕ} {s : State} {now : Session} {m : Machine} (opens : Opens moment s now) (is : StartsOn moment s m) (cs : List Command) where
   -- the records are right where the directory was honest
-  pub opened_says : MaySayOn s cs → MaySay cs now m
-  opened_says may = λ goes. opens.tells m is (may goes)
-
   pub opened_right : ComesRight s cs → AreRight cs now m
   opened_right (inl honest) = inl (opens.tells m is honest)
   opened_right (inr rebuilt) = inr rebuilt

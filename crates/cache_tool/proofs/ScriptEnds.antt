@@ -29,7 +29,7 @@ use Rattle.cache_tool.specs.Verbs.{LeavesDisk, Reach, RunsScript, one_begun_afte
 use Rattle.cache_tool.specs.World.{Progress, World, world_of}
 use Rattle.cache_tool.proofs.DoneLaws.{all_done, are_done_where, done_as_long}
 use Rattle.cache_tool.proofs.Moments.{with_left}
-use Rattle.cache_tool.proofs.RightLaws.{opened_right, opened_says}
+use Rattle.cache_tool.proofs.RightLaws.{opened_right}
 use Rattle.cache_tool.proofs.ScriptMarks.{all_within, begun_next}
 use Rattle.cache_tool.proofs.ScriptReplies.{begins_more}
 use Rattle.cache_tool.proofs.ScriptTurns.{counts_more, counts_on}
@@ -61,7 +61,7 @@ runs_nothing moment ended (Some bytes) before t faults undone unnamed unfailed o
       counts = record { numbers = tt; counted = omega (arith, later); last = inl refl; disk = rose };
       are_done = subst (λ l. AreDoneFor (Honest (standing before.disk)) m (unfaulted [] cs) l) (sym kept) all.1;
       all = λ e. absurd (⊎_elim undone unnamed e);
-      replies = λ may. record {
+      replies = record {
         out = [];
         printed = Appends-nil before.taken;
         told = front_is_told m [] ds [] tt;
@@ -78,7 +78,7 @@ runs_nothing moment ended (Some bytes) before t faults undone unnamed unfailed o
         crash = λ quiet. safe_is_crash_safe t (marks_but m ds [] 0 (min (0 + 1) (length ds))) (all_within m [] ds [] tt (min (0 + 1) (length ds)) (take 1 ds) (begun_next [] ds) t (safe m is quiet));
         images = images;
         journal = λ closing over. absurd (open_still closing);
-        in_use = λ closing. absurd (open_still closing);
+        index = λ closing. absurd (open_still closing);
       };
     }
 
@@ -141,7 +141,7 @@ module _ (m : Machine) (acked : ℕ) (faults with_last : List ℕ) (cs : List Co
     crash = λ quiet. safe_is_crash_safe t (reach came).marks ended_safe;
     images = λ quiet honest. ended_images kept (opens.tells m starts honest);
     journal = λ closing. by closing (λ e. (after m (reach e).done).rest ≡ [] → HasShortJournal (standing t)) (λ c. ended_journal c closing);
-    in_use = λ closing. by closing (λ e. StaysWhole ended m (reach e).done s t) (λ c. ended_in_use s opens starts based c) closing;
+    index = λ closing. by closing (λ e. StaysWhole ended m (reach e).done s t) (λ c. ended_in_use s opens starts based c) closing;
   }
     where
       -- where the store was closed it ended as its commands did
@@ -182,8 +182,8 @@ runs_ended moment ended came s mid last t begun faults calm opens based performs
           };
           are_done = are_done_where (opens.tells m is) m (unfaulted r.with_last cs) (unfaulted r.with_last r.done) r.is_done.are_done;
           all = λ e. r.tells.all (⊎_elim (λ done. inl (as_came (subst IsClosing (sym done) tt) ∙ done)) (λ script. inr (as_came (subst IsClosing (sym script) tt) ∙ script)) e);
-          replies = λ may.
-              let said = r.tells.replies (opened_says opens is (unfaulted r.with_last r.done) may) in
+          replies =
+              let said = r.tells.replies in
               record {
                 out = said.out;
                 printed = said.printed;

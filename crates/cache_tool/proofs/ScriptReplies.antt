@@ -13,12 +13,10 @@ use Rattle.cache_theory.specs.Step.{after, step}
 use Rattle.cache_theory.specs.Text.{ScriptSpells, replies_text, reply_text}
 use Rattle.cache_theory.proofs.FaultedCuts.{cut_is_told, fault_cut_is_told, front_is_told, whole_is_told}
 use Rattle.cache_theory.proofs.FaultedOn.{faults_are_in_front}
-use Rattle.cache_tool.specs.Right.{MaySay}
 use Rattle.cache_tool.specs.Script.{AreTaken, bad_line}
 use Rattle.cache_tool.specs.ScriptProgress.{IsCutIn, TellsAcked}
 use Rattle.cache_tool.specs.World.{Progress}
-use Rattle.cache_tool.proofs.FaultedParts.{next_kept, next_replies}
-use Rattle.cache_tool.proofs.RightLaws.{may_say_first, may_say_next}
+use Rattle.cache_tool.proofs.FaultedParts.{next_replies}
 
 pub begins_more : (text more out : List ℕ) → BeginsWith text out → BeginsWith (text ++ more) out
 begins_more text more out b = (b.0 ++ more, ap (λ l. l ++ more) b.1 ∙ append_assoc out b.0 more)
@@ -35,7 +33,7 @@ begins_cut text first part rest n is = (
 module _ (m : Machine) (bytes : List ℕ) (before now : Progress) where
   -- the answers to the first commands
   pub tells_front : (cs rest ds more : List Command) (faults : List ℕ) (ended : Status) → length ds ≡ length cs → length rest ≡ length more → AreFaults (length ds) faults
-      → (MaySay (unfaulted faults ds) before.session m → Appends before.taken now.taken (replies_but m ds faults))
+      → Appends before.taken now.taken (replies_but m ds faults)
       → (ended ≡ status.Done → rest ≡ []) → ended ≢ status.Script → (ended ≡ status.Source → AreTaken before.source.left now.source.left cs)
       → TellsAcked m bytes (cs ++ rest) (ds ++ more) ended (length ds) faults faults before now
   tells_front cs rest ds more faults ended same others numbers out all unnamed taken =
@@ -43,9 +41,9 @@ module _ (m : Machine) (bytes : List ℕ) (before now : Progress) where
       let begins : BeginsWith (replies_but m (ds ++ more) faults) (replies_but m ds faults) = (replies_text (after m (unfaulted faults ds)) more, goes.replies) in
       record {
         all = all_acked;
-        replies = λ may. record {
+        replies = record {
           out = replies_but m ds faults;
-          printed = out (may_say_first (unfaulted faults ds) more before.session m (subst (λ l. MaySay l before.session m) goes.kept may));
+          printed = out;
           told = front_is_told m ds more faults numbers;
           front = begins_more (replies_but m (ds ++ more) faults) (bad_line (length (cs ++ rest) + 1)) (replies_but m ds faults) begins;
           no_line = λ whole. begins;
@@ -68,16 +66,16 @@ module _ (m : Machine) (bytes : List ℕ) (before now : Progress) where
 
   -- the answers to all commands went out, and of the line that names a bad one so many bytes
   pub tells_line : (cs ds : List Command) (faults : List ℕ) (n : ℕ) (ended : Status) → length ds ≡ length cs → AreFaults (length ds) faults
-      → (MaySay (unfaulted faults ds) before.session m → Appends before.taken now.taken (replies_but m ds faults ++ take n (bad_line (length cs + 1))))
+      → Appends before.taken now.taken (replies_but m ds faults ++ take n (bad_line (length cs + 1)))
       → (ended ≡ status.Script → take n (bad_line (length cs + 1)) ≡ bad_line (length cs + 1))
       → ended ≢ status.Done → ended ≢ status.Source → ¬ (ScriptSpells bytes cs) → TellsAcked m bytes cs ds ended (length ds) faults faults before now
   tells_line cs ds faults n ended same numbers out all undone unfailed unspelled =
       let text : List ℕ = bad_line (length cs + 1) in
       record {
         all = λ e. same;
-        replies = λ may. record {
+        replies = record {
           out = replies_but m ds faults ++ take n text;
-          printed = out may;
+          printed = out;
           told = whole_is_told m ds faults (take n text) numbers;
           front = (drop n text, ap (λ l. replies_but m ds faults ++ l) (sym (take-append-drop n text)) ∙ sym (append_assoc (replies_but m ds faults) (take n text) (drop n text)));
           no_line = λ whole. absurd (unspelled whole);
@@ -90,16 +88,15 @@ module _ (m : Machine) (bytes : List ℕ) (before now : Progress) where
 
   -- of the reply to the next command a part
   pub tells_cut : (cs ds more : List Command) (d : Command) (faults : List ℕ) (ended : Status) → AreFaults (length ds) faults
-      → (MaySay (unfaulted faults ds ++ d ∷ []) before.session m → IsCutIn ds faults d m before now)
+      → IsCutIn ds faults d m before now
       → ended ≢ status.Done → ended ≢ status.Script → ended ≢ status.Source → TellsAcked m bytes cs (ds ++ d ∷ more) ended (length ds) faults faults before now
-  tells_cut cs ds more d faults ended numbers cut_in undone unnamed unfailed =
+  tells_cut cs ds more d faults ended numbers is undone unnamed unfailed =
       let mid : Machine = after m (unfaulted faults ds) in
       let text : List ℕ = reply_text (step mid d).reply in
       let goes = faults_are_in_front m ds (d ∷ more) faults numbers in
       record {
         all = λ e. absurd (⊎_elim undone unnamed e);
-        replies = λ may.
-            let is : IsCutIn ds faults d m before now = cut_in (may_say_next (unfaulted faults ds) d more before.session m (subst (λ l. MaySay l before.session m) goes.kept may)) in
+        replies =
             let n : ℕ = is.cut in
             let begins : BeginsWith (replies_but m (ds ++ d ∷ more) faults) (replies_but m ds faults ++ take n text) =
             begins_cut (replies_but m (ds ++ d ∷ more) faults) (replies_but m ds faults) text (replies_text (step mid d).next more) n goes.replies in
@@ -118,16 +115,15 @@ module _ (m : Machine) (bytes : List ℕ) (before now : Progress) where
 
   -- of the line with which the next command was to be answered a part
   pub tells_fault_cut : (cs ds more : List Command) (d : Command) (faults : List ℕ) (ended : Status) → AreFaults (length ds) faults
-      → (MaySay (unfaulted faults ds) before.session m → (n : ℕ) × ((n < length fault_line) × Appends before.taken now.taken (replies_but m ds faults ++ take n fault_line)))
+      → (n : ℕ) × ((n < length fault_line) × Appends before.taken now.taken (replies_but m ds faults ++ take n fault_line))
       → ended ≢ status.Done → ended ≢ status.Script → ended ≢ status.Source
       → TellsAcked m bytes cs (ds ++ d ∷ more) ended (length ds) faults (with_next (length ds) faults) before now
-  tells_fault_cut cs ds more d faults ended numbers cut_in undone unnamed unfailed =
+  tells_fault_cut cs ds more d faults ended numbers is undone unnamed unfailed =
       let last : List ℕ = with_next (length ds) faults in
       let text : List ℕ = replies_but m (ds ++ d ∷ more) last in
       record {
         all = λ e. absurd (⊎_elim undone unnamed e);
-        replies = λ may.
-            let is = cut_in (may_say_first (unfaulted faults ds) more before.session m (subst (λ l. MaySay l before.session m) (next_kept ds d faults numbers m more) may)) in
+        replies =
             let n : ℕ = is.0 in
             let begins : BeginsWith text (replies_but m ds faults ++ take n fault_line) =
             begins_cut text (replies_but m ds faults) fault_line (replies_text (after m (unfaulted faults ds)) more) n (next_replies ds d faults numbers m more) in

@@ -12,7 +12,7 @@ use Rattle.cache_base.specs.Causes.{Rose}
 use Rattle.cache_store.specs.DoneFor.{IsDoneFor}
 use Rattle.cache_store.specs.Faulting.{StaysAs}
 use Rattle.cache_store.specs.Open.{KeepsTo, Tells}
-use Rattle.cache_store.specs.Performing.{ComesToTell, MayTell, PerformsAndKeeps, PerformsFor}
+use Rattle.cache_store.specs.Performing.{ComesToTell, PerformsAndKeeps, PerformsFor}
 use Rattle.cache_store.specs.Said.{IsCut}
 use Rattle.cache_store.specs.declared.fault.Verdict.{Verdict}
 use Rattle.cache_store.specs.declared.fault.StoreFault.{StoreFault}
@@ -25,7 +25,7 @@ use Rattle.cache_theory.specs.Machine.{Machine}
 use Rattle.cache_theory.specs.Step.{after, step}
 use Rattle.cache_theory.specs.Text.{reply_text, script_bytes}
 use Rattle.cache_theory.proofs.FaultedOn.{faults_are_in_front, faults_are_within, next_may_fault}
-use Rattle.cache_tool.specs.Right.{LeadTo, MaySay, has_rebuild}
+use Rattle.cache_tool.specs.Right.{LeadTo, has_rebuild}
 use Rattle.cache_tool.specs.ScriptProgress.{AreRead, ArePerformed, DoneForKept, EndsScript, FailsAfter, FailsInLine, FaultsAfter, HasPerformed, IsCutOff, PerformsAll, PerformsNext, all_answered}
 use Rattle.cache_tool.specs.Staying.{StaysFor, StaysOnce}
 use Rattle.cache_tool.specs.Tally.{RoseBy}
@@ -37,7 +37,7 @@ use Rattle.cache_tool.proofs.DoneKept.{done_kept_but, done_kept_on}
 use Rattle.cache_tool.proofs.DoneLaws.{done_rebuild, done_right, done_where}
 use Rattle.cache_tool.proofs.FaultedParts.{next_numbers, one_longer}
 use Rattle.cache_tool.proofs.Moments.{with_source}
-use Rattle.cache_tool.proofs.RightLaws.{leads_none, leads_on, leads_one, leads_still, may_say_first, may_tell_last}
+use Rattle.cache_tool.proofs.RightLaws.{leads_none, leads_on, leads_one, leads_still}
 use Rattle.cache_tool.proofs.StayingLaws.{stays_done}
 use Rattle.cache_tool.proofs.ScriptBytes.{more_length, nothing_read, read_bad, read_front, read_on, read_taken, read_whole}
 use Rattle.index_map.specs.Known.{SameBase}
@@ -59,7 +59,7 @@ module _ (before : Progress) where
     each = λ h keeps. record {
       done = [];
       is_done = record { as_many = refl; are_done = tt };
-      performed = record { stands = leads_none before.session h keeps; out = λ may. Appends-nil before.taken };
+      performed = record { stands = leads_none before.session h keeps; out = Appends-nil before.taken };
     };
   }
 
@@ -75,14 +75,9 @@ module _ (before : Progress) where
     one_leads g keeps tells stays =
         leads_on kept (d ∷ []) before.session h.machine mid.session (all_answered kept h) now.session g refl so_far.stands (leads_one d mid.session (after h.machine kept) now.session g keeps tells stays)
 
-    -- and may say what the machine does
-    one_says : MaySay (kept ++ d ∷ []) before.session h.machine → MayTell d mid.session (after h.machine kept)
-    one_says may = may_tell_last kept d before.session h.machine mid.session (all_answered kept h) so_far.stands may
-
     -- after the answers so far this went out
-    one_out : (text : List ℕ) → MaySay (kept ++ d ∷ []) before.session h.machine → Appends mid.taken now.taken text → Appends before.taken now.taken (replies_but h.machine ds faults ++ text)
-    one_out text may out =
-        Appends-trans before.taken mid.taken now.taken (replies_but h.machine ds faults) text (so_far.out (may_say_first kept (d ∷ []) before.session h.machine may)) out
+    one_out : (text : List ℕ) → Appends mid.taken now.taken text → Appends before.taken now.taken (replies_but h.machine ds faults ++ text)
+    one_out text out = Appends-trans before.taken mid.taken now.taken (replies_but h.machine ds faults) text so_far.out out
 
     -- where it is done for a command, all of this is done for the commands so far and this one
     one_done : (cs : List Command) (c : Command) → DoneForKept before.session h.machine cs ds faults → IsDoneFor (Tells mid.session (after h.machine kept)) c (after h.machine kept) d
@@ -102,8 +97,8 @@ module _ (before : Progress) where
           stands = subst (λ l. LeadTo l before.session h.machine now.session (all_answered l h)) (sym goes.kept)
               (subst (λ x. LeadTo (kept ++ d ∷ []) before.session h.machine now.session x) (sym (answered_more kept d h))
               (one_leads (acked d (all_answered kept h)) next.keeps.next (next.performs.tells tt) stays));
-          out = λ may. subst (Appends before.taken now.taken) (sym (goes.replies ∙ ap (λ l. replies_but h.machine ds faults ++ l) (append-nil (reply_text (step (after h.machine kept) d).reply))))
-              (let may_more = subst (λ l. MaySay l before.session h.machine) goes.kept may in one_out (reply_text (step (after h.machine kept) d).reply) may_more (next.performs.printed (one_says may_more)));
+          out = subst (Appends before.taken now.taken) (sym (goes.replies ∙ ap (λ l. replies_but h.machine ds faults ++ l) (append-nil (reply_text (step (after h.machine kept) d).reply))))
+              (one_out (reply_text (step (after h.machine kept) d).reply) next.performs.printed);
         }
 
     -- it failed
@@ -111,9 +106,9 @@ module _ (before : Progress) where
         → IsCutOff ds faults d f h before now
     broke_off f next stays = record {
       safe = next.keeps.safe;
-      cut = λ may.
-          let tail = next.performs.cut (one_says may) in
-          record { cut = tail.0; short = tail.1.0; out = one_out (take tail.0 (reply_text (step (after h.machine kept) d).reply)) may tail.1.1 };
+      cut =
+          let tail = next.performs.cut in
+          record { cut = tail.0; short = tail.1.0; out = one_out (take tail.0 (reply_text (step (after h.machine kept) d).reply)) tail.1.1 };
       effect = λ sink. one_leads (unanswered d (all_answered kept h)) (next.keeps.unanswered sink) (next.performs.tells sink) (stays sink);
     }
 
@@ -128,14 +123,14 @@ module _ (before : Progress) where
           let next = next_may_fault h.machine ds d faults numbers in
           record {
             stands = subst (λ l. LeadTo l before.session h.machine now.session (all_answered l h)) (sym next.kept) still_leads;
-            out = λ may. subst (Appends before.taken now.taken) (sym next.replies)
-                (Appends-trans before.taken mid.taken now.taken (replies_but h.machine ds faults) fault_line (so_far.out (subst (λ l. MaySay l before.session h.machine) next.kept may)) said);
+            out = subst (Appends before.taken now.taken) (sym next.replies)
+                (Appends-trans before.taken mid.taken now.taken (replies_but h.machine ds faults) fault_line so_far.out said);
           }
 
       -- or by a part of it
-      faulted_off : IsCut mid.taken now.taken fault_line → MaySay kept before.session h.machine
+      faulted_off : IsCut mid.taken now.taken fault_line
           → (n : ℕ) × ((n < length fault_line) × Appends before.taken now.taken (replies_but h.machine ds faults ++ take n fault_line))
-      faulted_off (n, (short, out)) may = (n, (short, Appends-trans before.taken mid.taken now.taken (replies_but h.machine ds faults) (take n fault_line) (so_far.out may) out))
+      faulted_off (n, (short, out)) = (n, (short, Appends-trans before.taken mid.taken now.taken (replies_but h.machine ds faults) (take n fault_line) so_far.out out))
 
   -- one command more was performed
   module _ (mid now : Progress) (cs : List Command) (c : Command) (faults : List ℕ) (numbers : AreFaults (length cs) faults) (performs : PerformsAll cs faults before mid) where

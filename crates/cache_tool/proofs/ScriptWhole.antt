@@ -127,7 +127,7 @@ module _ (bytes : List ℕ) (m : Machine) (start : Progress) where
         is_done = some.is_done;
         tells =
             tells_line m bytes before (with_taken mid taken) read ds faults n came some.is_done.as_many numbers
-            (λ may. Appends-trans before.taken mid.taken taken (replies_but m ds faults) (take n (bad_line (length read + 1))) (some.performed.out may) part) all undone unfailed unspelled;
+            (Appends-trans before.taken mid.taken taken (replies_but m ds faults) (take n (bad_line (length read + 1))) some.performed.out part) all undone unfailed unspelled;
         leaves =
             subst (λ l. LeavesScript m (one_begun_after m (length ds) faults faults came l) came before.session mid.session) (append-nil ds)
             (keeps_front m ds [] faults came before.session mid.session numbers some.performed.stands (ap (λ l. performed came (length ds) (length l)) (append-nil ds) ∙ same (length ds)));
@@ -188,7 +188,7 @@ ran_nothing (Err f) before is = subst (λ x. PerformsScript (Err x) before befor
           (record {
             done = [];
             is_done = record { as_many = refl; are_done = tt };
-            performed = record { stands = leads_none before.session (settled_at m) keeps; out = λ may. Appends-nil before.taken };
+            performed = record { stands = leads_none before.session (settled_at m) keeps; out = Appends-nil before.taken };
           }) (λ e. absurd (cc e)) (λ e. absurd (cc e)) (λ e. absurd (cc e)) (λ e. absurd (cc e)) (λ a n. refl);
     }
 

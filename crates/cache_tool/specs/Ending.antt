@@ -1,5 +1,5 @@
 -- How a session ends.
-use Rattle.std.specs.Prelude.{List, [], ◌≡◌}
+use Rattle.std.specs.Prelude.{List, [], ◌≡◌, ◌≢◌}
 use Rattle.cache_base.specs.declared.status.Status.{Status}
 use Rattle.cache_store.specs.InUse.{HasShortJournal, HoldsBase, StaysInUse}
 use Rattle.cache_store.specs.Open.{IsHonest, IsShut, KeepsTo, Tells}
@@ -10,6 +10,7 @@ use Rattle.cache_tool.specs.Statuses.{IsClosing}
 use Rattle.cache_tool.specs.Staying.{EndsInUse}
 use Rattle.disk_model.specs.State.{State, standing}
 use Rattle.index_record.specs.declared.record.IndexRecord.{IndexRecord}
+use Rattle.index_theory.specs.Leaves.{LeavesIndex}
 use Rattle.index_theory.specs.Honest.{LeavesHonest}
 use Rattle.index_theory.specs.Scan.{scan}
 
@@ -25,6 +26,8 @@ pub record IsEnded (ended : Status) (h : History) (before : Session) (now : Stat
   pub in_use : (records : List IndexRecord) → IsClosing ended → Tells before h.machine
       → HoldsBase records before.open_store.index.map → EndsInUse records h.machine
       → StaysInUse records (scan h.machine.shelf) before.disk now
+  -- before the update has ended the files of the index are left alone
+  pub unended : IsClosing ended → h.machine.rest ≢ [] → LeavesIndex before.disk now
 
 -- whatever history the disk kept to
 pub record EndsSession (ended : Status) (before : Session) (now : State) : Type 0 where

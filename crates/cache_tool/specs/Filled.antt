@@ -4,7 +4,6 @@ use Rattle.cache_base.specs.declared.status.Status.{Status}
 use Rattle.cache_store.specs.Answering.{outcome_of}
 use Rattle.cache_store.specs.Open.{StartsOn}
 use Rattle.cache_theory.specs.Command.{Command, Reply}
-use Rattle.cache_theory.specs.Command.Command.{ListRecords}
 use Rattle.cache_theory.specs.Machine.{Machine}
 use Rattle.cache_theory.specs.Step.{after, step}
 use Rattle.cache_theory.specs.Text.{reply_text, with_number}
@@ -20,10 +19,10 @@ use Rattle.index_theory.specs.Honest.{Honest}
 use Rattle.index_theory.specs.Scan.{scan}
 
 -- the first lines of some replies, after the number of the entries
-abbrev pub fill_lines : ℕ → Reply → Reply → List ℕ → List ℕ
+abbrev pub fill_lines : ℕ → Reply → Reply → Reply → List ℕ
 fill_lines count evicted found listed =
     with_number (codes "made") count
-    ++ (first_line (reply_text evicted) ++ (first_line (reply_text found) ++ first_line listed))
+    ++ (first_line (reply_text evicted) ++ (first_line (reply_text found) ++ first_line (reply_text listed)))
 
 -- what is done for a machine: the entries are made and synced, half of all is evicted, and all is checked and listed. The
 -- limit of the eviction goes by records, which are those of all entries where they are right; and so do the eviction, the
@@ -33,22 +32,19 @@ pub record AreFilled (right : Type 0) (now count first : ℕ) (m : Machine) : Ty
   pub summed : right → kb ≡ total_kb (scan (after m (making_commands now count first)).shelf)
   pub evicts : Command
   pub checks : Command
+  pub lists : Command
   pub are_done : AreDoneFor right (after m (making_commands now count first)) (halving_commands kb)
-      (evicts ∷ (checks ∷ (ListRecords ∷ [])))
-  -- what the list says
-  pub listed : List ℕ
-  pub listed_is : right → let made = after m (making_commands now count first) in
-      listed ≡ reply_text (step (after made (evicts ∷ (checks ∷ []))) ListRecords).reply
+      (evicts ∷ (checks ∷ (lists ∷ [])))
 
 -- the commands that are done, the lines that are printed, and the status, which is that of the check
 module _ {right : Type 0} {now count first : ℕ} {m : Machine} (filled : AreFilled right now count first m) where
   abbrev pub done_in : List Command
-  done_in = making_commands now count first ++ (filled.evicts ∷ (filled.checks ∷ (ListRecords ∷ [])))
+  done_in = making_commands now count first ++ (filled.evicts ∷ (filled.checks ∷ (filled.lists ∷ [])))
 
   abbrev pub lines_in : List ℕ
   lines_in = let made = after m (making_commands now count first) in
-      fill_lines count (step made filled.evicts).reply
-      (step (step made filled.evicts).next filled.checks).reply filled.listed
+      let evicted = step made filled.evicts in let checked = step evicted.next filled.checks in
+      fill_lines count evicted.reply checked.reply (step checked.next filled.lists).reply
 
   abbrev pub status_in_check : Status
   status_in_check = let made = after m (making_commands now count first) in

@@ -7,7 +7,6 @@ use Rattle.cache_base.specs.declared.status.Status.TheVariants as status
 use Rattle.cache_store.specs.Answering.{outcome_of}
 use Rattle.cache_store.specs.DoneFor.{DoneFor}
 use Rattle.cache_store.specs.Open.{KeepsTo, Tells}
-use Rattle.cache_store.specs.Performing.{goes_by_records}
 use Rattle.cache_store.specs.Session.{Session}
 use Rattle.cache_store.specs.declared.fault.Verdict.{Verdict}
 use Rattle.cache_store.specs.declared.fault.Verdict.TheVariants as outcome
@@ -34,9 +33,7 @@ pub record IsSent (c : Command) (h : History) (answer : Result Verdict StoreFaul
   pub safe : IsSafe now.disk (begun c h).marks
   pub next : OnOk answer (LeadTo (c ∷ []) before h.machine now (acked c h))
   pub outcome : IfOk answer (λ r. r ≡ outcome_of (step h.machine c).reply)
-  pub replied : goes_by_records c ≡ false → OnOk answer (said ≡ reply_text (step h.machine c).reply)
-  -- also where the reply goes by records that are right
-  pub told : Tells before h.machine → OnOk answer (said ≡ reply_text (step h.machine c).reply)
+  pub replied : OnOk answer (said ≡ reply_text (step h.machine c).reply)
 
 -- whatever history the disk kept to, of what is done for it
 pub record SendsCommand (c : Command) (answer : Result Verdict StoreFault) (before now : Session)

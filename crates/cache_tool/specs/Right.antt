@@ -3,13 +3,12 @@ use Rattle.std.specs.List.{list_any}
 use Rattle.std.specs.Prelude.{Bool, IsTrue, List, false, true, ◌⊎◌}
 use Rattle.cache_store.specs.InUse.{HoldsBase}
 use Rattle.cache_store.specs.Open.{KeepsTo, Tells}
-use Rattle.cache_store.specs.Performing.{goes_by_records}
 use Rattle.cache_store.specs.Session.{Session}
 use Rattle.cache_theory.specs.Command.{Command}
 use Rattle.cache_theory.specs.Command.Command.{Rebuild}
 use Rattle.cache_theory.specs.History.{History}
 use Rattle.cache_theory.specs.Machine.{Machine}
-use Rattle.cache_tool.specs.Staying.{IsInUse, StaysOverAll}
+use Rattle.cache_tool.specs.Staying.{AreSpared, IsInUse, KeepsPast, StaysOverAll}
 use Rattle.disk_model.specs.State.{State, standing}
 use Rattle.index_record.specs.declared.record.IndexRecord.{IndexRecord}
 use Rattle.index_theory.specs.Honest.{Honest}
@@ -24,19 +23,11 @@ has_rebuild cs = list_any is_rebuild cs
 
 -- Of commands after an opening.
 
--- all replies are the machine's: none goes by the records, or the directory was honest
-abbrev pub MaySayOn : State → List Command → Type 0
-MaySayOn s cs = IsTrue (list_any goes_by_records cs) → Honest (standing s)
-
 -- the records are right after them: the directory was honest, or all entries were read anew
 abbrev pub ComesRight : State → List Command → Type 0
 ComesRight s cs = Honest (standing s) ⊎ IsTrue (has_rebuild cs)
 
 -- Of commands in a session that stood for this machine before them.
-
--- all replies are the machine's: none goes by the records, or these were right
-abbrev pub MaySay : List Command → Session → Machine → Type 0
-MaySay cs before m = IsTrue (list_any goes_by_records cs) → Tells before m
 
 -- the records are right after them: they were so before, or all entries were read anew
 abbrev pub AreRight : List Command → Session → Machine → Type 0
@@ -50,3 +41,5 @@ pub record LeadTo (cs : List Command) (before : Session) (m : Machine) (now : Se
   -- where the records were right, the index stays in use as long as few of them differ from it
   pub in_use : (records : List IndexRecord) → Tells before m → HoldsBase records before.open_store.index.map
       → StaysOverAll records m cs → IsInUse records before now
+  -- and before the update has ended it is unchanged, whatever the records are
+  pub unended : AreSpared m cs → KeepsPast before.disk now.disk

@@ -20,7 +20,7 @@ use Rattle.cache_theory.specs.Marks.{all_acked}
 use Rattle.cache_theory.specs.Step.{after, step}
 use Rattle.cache_theory.specs.Text.{CommandsIn, IsCommand, ScriptSpells, SpellsFront, reply_text, script_bytes}
 use Rattle.cache_tool.specs.DoneFor.{AreDoneFor}
-use Rattle.cache_tool.specs.Right.{LeadTo, MaySay}
+use Rattle.cache_tool.specs.Right.{LeadTo}
 use Rattle.cache_tool.specs.Script.{AreTaken}
 use Rattle.cache_tool.specs.Statuses.{IsClosing, status_in}
 use Rattle.cache_tool.specs.Tally.{RoseBy}
@@ -49,8 +49,7 @@ pub record ArePerformed (cs : List Command) (faults : List ℕ) (h : History) (b
     : Type 0 where
   pub stands : let kept = unfaulted faults cs in
       LeadTo kept before.session h.machine now.session (all_answered kept h)
-  pub out : MaySay (unfaulted faults cs) before.session h.machine
-      → Appends before.taken now.taken (replies_but h.machine cs faults)
+  pub out : Appends before.taken now.taken (replies_but h.machine cs faults)
 
 -- this is done for so many commands, and for each of those that are kept
 pub record DoneForKept (before : Session) (m : Machine) (cs done : List Command) (faults : List ℕ) : Type 0 where
@@ -83,8 +82,7 @@ pub record IsCutIn (cs : List Command) (faults : List ℕ) (c : Command) (m : Ma
 pub record IsCutOff (cs : List Command) (faults : List ℕ) (c : Command) (f : StoreFault) (h : History)
     (before now : Progress) : Type 0 where
   pub safe : IsSafe now.session.disk (begun c (all_answered (unfaulted faults cs) h)).marks
-  pub cut : MaySay (unfaulted faults cs ++ c ∷ []) before.session h.machine
-      → IsCutIn cs faults c h.machine before now
+  pub cut : IsCutIn cs faults c h.machine before now
   pub effect : f ≡ fault.Sink → LeadTo (unfaulted faults cs ++ c ∷ []) before.session h.machine
       now.session (unanswered c (all_answered (unfaulted faults cs) h))
 
@@ -104,8 +102,7 @@ pub record SomeFaultCut (cs : List Command) (faults : List ℕ) (h : History) (b
   pub is_done : DoneForKept before.session h.machine cs done faults
   pub stands : let kept = unfaulted faults done in
       LeadTo kept before.session h.machine now.session (all_answered kept h)
-  pub cut : MaySay (unfaulted faults done) before.session h.machine
-      → (n : ℕ) × ((n < length fault_line)
+  pub cut : (n : ℕ) × ((n < length fault_line)
       × Appends before.taken now.taken (replies_but h.machine done faults ++ take n fault_line))
 
 -- whatever history the disk kept to
@@ -184,8 +181,7 @@ pub record PerformsNext (tells : Bool) (answer : Result (Option Ended) StoreFaul
 pub record TellsAcked (m : Machine) (bytes : List ℕ) (cs done : List Command) (ended : Status) (a : ℕ)
     (faults with_last : List ℕ) (before now : Progress) : Type 0 where
   pub all : (ended ≡ status.Done) ⊎ (ended ≡ status.Script) → a ≡ length cs
-  pub replies : MaySay (unfaulted with_last done) before.session m
-      → TellsReplies m bytes cs done ended a faults with_last before.taken now.taken
+  pub replies : TellsReplies m bytes cs done ended a faults with_last before.taken now.taken
   pub source : ended ≡ status.Source → AreTaken before.source.left now.source.left (take a cs)
 
 -- they lead to a history, and what may be undone there may be undone by these marks

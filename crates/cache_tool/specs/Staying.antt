@@ -1,14 +1,15 @@
 -- An index that stays in use over the commands of a session.
-use Rattle.std.specs.Prelude.{List, Result, [], ⊤, ◌∷◌, ◌≡◌}
+use Rattle.std.specs.Prelude.{List, Result, [], ⊤, ◌∷◌, ◌≡◌, ◌≢◌}
 use Rattle.cache_store.specs.InUse.{FewDiffer, HoldsBase, StaysOver, past_header}
 use Rattle.cache_store.specs.Open.{Represents, Tells}
 use Rattle.cache_store.specs.Performing.{HadEffect}
 use Rattle.cache_store.specs.Session.{Session}
 use Rattle.cache_store.specs.declared.fault.StoreFault.{StoreFault}
 use Rattle.cache_theory.specs.Command.{Command}
+use Rattle.cache_theory.specs.Command.Command.{Flush, Rebuild}
 use Rattle.cache_theory.specs.Machine.{Machine}
 use Rattle.cache_theory.specs.Step.{step}
-use Rattle.disk_model.specs.State.{standing}
+use Rattle.disk_model.specs.State.{State, standing}
 use Rattle.disk_model.specs.declared.place.Place.TheVariants.{Index}
 use Rattle.index_record.specs.declared.record.IndexRecord.{IndexRecord}
 
@@ -17,20 +18,35 @@ abbrev pub StaysOverAll : List IndexRecord → Machine → List Command → Type
 StaysOverAll records m [] = ⊤
 StaysOverAll records m (c ∷ cs) = StaysOver records m c × StaysOverAll records (step m c).next cs
 
+-- before the update has ended no command writes the index but a `rebuild`, which ends it
+abbrev pub IsSpared : Machine → Command → Type 0
+IsSpared m Flush = m.rest ≢ []
+IsSpared m Rebuild = ⊥
+IsSpared m _ = ⊤
+
+abbrev pub AreSpared : Machine → List Command → Type 0
+AreSpared m [] = ⊤
+AreSpared m (c ∷ cs) = IsSpared m c × AreSpared (step m c).next cs
+
 -- the update has ended, and few records of the scan differ from these
 pub record EndsInUse (records : List IndexRecord) (m : Machine) : Type 0 where
   pub ended : m.rest ≡ []
   pub few : FewDiffer records m
 
+-- the index is unchanged past its header
+abbrev pub KeepsPast : State → State → Type 0
+KeepsPast s t = past_header (standing t Index) ≡ past_header (standing s Index)
+
 -- in a session the index of these records is in use still, and unchanged past its header
 pub record IsInUse (records : List IndexRecord) (before now : Session) : Type 0 where
   pub base : HoldsBase records now.open_store.index.map
-  pub past : past_header (standing now.disk Index) ≡ past_header (standing before.disk Index)
+  pub past : KeepsPast before.disk now.disk
 
--- so it is after one command, for a machine
-abbrev pub StaysOnce : Command → Session → Machine → Session → Type 0
-StaysOnce c before m now = (records : List IndexRecord) → Tells before m
-    → HoldsBase records before.open_store.index.map → StaysOver records m c → IsInUse records before now
+-- so it is after one command, for a machine; and before the update has ended, whatever the records are
+pub record StaysOnce (c : Command) (before : Session) (m : Machine) (now : Session) : Type 0 where
+  pub in_use : (records : List IndexRecord) → Tells before m
+      → HoldsBase records before.open_store.index.map → StaysOver records m c → IsInUse records before now
+  pub unended : IsSpared m c → KeepsPast before.disk now.disk
 
 -- and whatever machine the store stands for, once the command has had its effect
 abbrev pub StaysFor : {T : Type 0} → Command → Result T StoreFault → Session → Session → Type 0

@@ -5,7 +5,7 @@ use Rattle.cache_base.specs.Causes.{Rose}
 use Rattle.cache_base.specs.declared.status.Status.{Status}
 use Rattle.cache_base.specs.declared.status.Status.TheVariants as status
 use Rattle.cache_store.specs.Answering.{outcome_of}
-use Rattle.cache_store.specs.DoneFor.{DoneFor}
+use Rattle.cache_store.specs.DoneFor.{AreOfShelf, DoneBy, IsOfShelf}
 use Rattle.cache_store.specs.InUse.{HasShortJournal, StaysInUse}
 use Rattle.cache_store.specs.Open.{IsHonest, IsShut, StartsOn}
 use Rattle.cache_store.specs.Said.{IsCut}
@@ -22,20 +22,22 @@ use Rattle.cache_theory.specs.Text.{CommandsIn, ScriptSpells, reply_text}
 use Rattle.cache_tool.specs.DoneFor.{AreDoneFor}
 use Rattle.cache_tool.specs.Put.{ArePut}
 use Rattle.cache_tool.specs.Replies.{last_reply}
-use Rattle.cache_tool.specs.Right.{ComesRight, MaySayOn}
+use Rattle.cache_tool.specs.Right.{ComesRight}
 use Rattle.cache_tool.specs.Script.{AreTaken, bad_line, performed}
 use Rattle.cache_tool.specs.Statuses.{IsAnswer, IsClosing, status_of}
-use Rattle.cache_tool.specs.Staying.{EndsInUse, StaysOverAll}
+use Rattle.cache_tool.specs.Staying.{EndsInUse, KeepsPast, StaysOverAll}
 use Rattle.cache_tool.specs.Tally.{RoseBy}
 use Rattle.cache_tool.specs.World.{Output, World, output_of}
 use Rattle.disk_model.specs.Sound.{IsQuiet}
 use Rattle.disk_model.specs.State.{State, standing}
-use Rattle.disk_model.specs.declared.place.Place.TheVariants.{Index}
-use Rattle.index_theory.specs.Honest.{Honest, LeavesHonest, index_records}
+use Rattle.disk_model.specs.declared.place.Place.TheVariants.{Index, Log}
+use Rattle.index_record.specs.declared.record.IndexRecord.{IndexRecord}
+use Rattle.index_theory.specs.Honest.{Honest, LeavesHonest, index_records, journal_records}
 use Rattle.index_theory.specs.Scan.{scan}
 use Rattle.index_theory.specs.Start.{start_of}
 use Rattle.index_theory.specs.declared.kinds.Start.{Start}
 use Rattle.index_theory.specs.declared.kinds.Start.TheVariants.{Build, Ready}
+use Rattle.record_list.specs.Change.{IsApplied}
 
 -- Commands are performed one after the other, from the first on.
 
@@ -60,6 +62,15 @@ one_begun_after m acked faults with_last ended cs = record {
   marks = marks_but m cs faults acked (min (acked + 1) (length cs));
 }
 
+-- what a session over these commands leaves of an index that could be read, where it held s and holds t
+pub record KeepsIndex (m : Machine) (cs : List Command) (s t : State) : Type 0 where
+  -- in an honest directory it stays in use, where few records come to differ from it: it is unchanged past its header,
+  -- and the journal spells what differs
+  pub in_use : Honest (standing s) → let base = index_records (standing s Index) in
+      StaysOverAll base m cs → EndsInUse base (after m cs) → StaysInUse base (scan (after m cs).shelf) s t
+  -- in any directory it is unchanged past its header, where the update has not ended
+  pub unended : (after m cs).rest ≢ [] → KeepsPast s t
+
 -- what they leave on a disk that held s and holds t
 pub record LeavesDisk (m : Machine) (r : Reach) (ended : Status) (s t : State) : Type 0 where
   -- where the store was closed nothing is pending, no doomed file stands, and the entries are those of the machine
@@ -73,12 +84,8 @@ pub record LeavesDisk (m : Machine) (r : Reach) (ended : Status) (s t : State) :
   pub images : IsQuiet s → Honest (standing s) → LeavesHonest t
   -- where the store was closed and the update has ended, the journal has few records
   pub journal : IsClosing ended → (after m r.done).rest ≡ [] → HasShortJournal (standing t)
-  -- and an index that could be read stays in use in an honest directory, where few records come to differ from it: it
-  -- is unchanged past its header, and the journal spells what differs
-  pub in_use : IsClosing ended → Honest (standing s) → start_of (standing s) ≢ Build
-      → let base = index_records (standing s Index) in
-      StaysOverAll base m r.done → EndsInUse base (after m r.done)
-      → StaysInUse base (scan (after m r.done).shelf) s t
+  -- and of an index that could be read this is left
+  pub index : IsClosing ended → start_of (standing s) ≢ Build → KeepsIndex m r.done s t
 
 -- the text of the last reply is printed, or it is cut
 pub record PrintsText (text : List ℕ) (ended : Status) (before now : Output) : Type 0 where
@@ -92,24 +99,45 @@ pub record PrintsLast (m : Machine) (cs : List Command) (ended : Status) (before
     : Type 0 where
   -- with an answer the status is that of the last reply
   pub answer : IsAnswer ended → ended ≡ status_of (outcome_of (last_reply m cs))
-  -- what is printed is its text, unless it goes by records that are not right
-  pub text : MaySayOn before.disk cs → PrintsText (reply_text (last_reply m cs)) ended before now
+  -- what is printed is its text
+  pub text : PrintsText (reply_text (last_reply m cs)) ended before now
   pub silent : ended ≡ status.Source → Keeps before.taken now.taken
   pub leaves : LeavesDisk m (all_begun_none_acked m cs) ended before.disk now.disk
 
 -- A look at the disk failed before anything of the reply was said: the line that tells it is printed, or a part of it,
--- the store was closed unless memory ran out, and no command was performed.
+-- and no command was performed.
 pub record PrintsFault (m : Machine) (ended : Status) (before now : Output) : Type 0 where
   pub failed : (ended ≡ status.Disk) ⊎ (ended ≡ status.Memory)
   pub rose : Rose before.disk_faults now.disk_faults
   pub part : IsPart before.taken now.taken fault_line
   pub leaves : LeavesDisk m (none_performed m) ended before.disk now.disk
+  -- the store was closed, unless the disk failed once more or memory ran out
+  pub closed : ended ≡ status.Disk
+      → LeavesDisk m (none_performed m) status.No before.disk now.disk ⊎ RoseBy 2 before.disk_faults now.disk_faults
 
--- words other than `run` and `put`: the command is performed, and its reply is printed, or the line `fault`
+-- The store did not open: nothing is printed, and no command has begun.
+pub record IsUnopened (m : Machine) (ended : Status) (before now : Output) : Type 0 where
+  pub failed : (ended ≡ status.Disk) ⊎ (ended ≡ status.Memory)
+  pub silent : Keeps before.taken now.taken
+  pub leaves : LeavesDisk m (none_performed m) ended before.disk now.disk
+
+-- the records by which a command goes that is performed right after the opening: those of all entries in an honest
+-- directory; and where the index is trusted those of it with its journal applied, whatever the entries are
+pub record AreAtOpening (s : State) (m : Machine) (records : List IndexRecord) : Type 0 where
+  pub honest : AreOfShelf (Honest (standing s)) m records
+  pub trusted : start_of (standing s) ≡ Ready
+      → IsApplied (index_records (standing s Index)) (journal_records (standing s Log)) records
+
+-- what is done for such a command
+abbrev pub DoneAtOpening : State → Command → Machine → (Command → Type 0) → Type 0
+DoneAtOpening s c m P = DoneBy (AreAtOpening s m) (IsOfShelf (Honest (standing s)) m) c m P
+
+-- words other than `run` and `put`: the command is performed, and its reply is printed; or the line `fault` is, or the store
+-- did not open
 abbrev pub AnswersCommand : ℕ → Command → Status → Output → Output → Type 0
 AnswersCommand moment c ended before now = (m : Machine) → StartsOn moment before.disk m
-    → DoneFor (Honest (standing before.disk)) c m (λ d. PrintsLast m (d ∷ []) ended before now)
-    ⊎ PrintsFault m ended before now
+    → DoneAtOpening before.disk c m (λ d. PrintsLast m (d ∷ []) ended before now)
+    ⊎ (PrintsFault m ended before now ⊎ IsUnopened m ended before now)
 
 -- the words look at no entry: `flush` never does, and `list` and `evict` do not where the index is trusted
 abbrev pub LooksAtNone : Command → Start → Type 0
@@ -118,14 +146,15 @@ LooksAtNone ListRecords start = start ≡ Ready
 LooksAtNone (Evict kb) start = start ≡ Ready
 LooksAtNone _ start = ⊥
 
--- `put`, of a source that tells its bytes: the entry gets them as its body
+-- `put`, of a source that tells its bytes: the entry gets them as its body; or the line `fault` is printed, and nothing
+-- of them was read
 abbrev pub StoresEntry : ℕ → List ℕ → Status → World → World → Type 0
 StoresEntry moment key ended before now =
     IsSome before.source.left
     → (m : Machine) → StartsOn moment before.disk m
     → ((cs : List Command) × (ArePut m key before.source now.source ended cs
     × PrintsLast m cs ended (output_of before) (output_of now)))
-    ⊎ PrintsFault m ended (output_of before) (output_of now)
+    ⊎ (PrintsFault m ended (output_of before) (output_of now) × (now.source ≡ before.source))
 
 -- What went out are the answers to what was done for commands. It tells how many are answered, and which of them by
 -- `fault`. The command behind them may have been answered so, too, with an answer that was cut.
@@ -165,10 +194,8 @@ pub record PrintsReplies (m : Machine) (bytes : List ℕ) (cs : List Command) (e
   pub are_done : AreDoneFor (Honest (standing before.disk)) m (unfaulted with_last cs) (unfaulted with_last done)
   -- all of them are acknowledged, where none failed
   pub all : (ended ≡ status.Done) ⊎ (ended ≡ status.Script) → acked ≡ length cs
-  -- what is printed are their answers, and tells how many are acknowledged, unless a reply goes by records that are not
-  -- right
-  pub replies : MaySayOn before.disk (unfaulted with_last done)
-      → TellsReplies m bytes cs done ended acked faults with_last before.taken now.taken
+  -- what is printed are their answers, and tells how many are acknowledged
+  pub replies : TellsReplies m bytes cs done ended acked faults with_last before.taken now.taken
   -- a source that failed gave these commands whole
   pub source : ended ≡ status.Source
       → AreTaken before.source.left now.source.left (take acked cs)

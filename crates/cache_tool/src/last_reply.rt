@@ -1,10 +1,10 @@
 //! A sink that holds the reply to the last command.
 
-ghost use Rattle.std.specs.Prelude.{◌≡◌, ◌<◌, ◌≤◌, [], length, IfOk, IsErrOf};
+ghost use Rattle.std.specs.Prelude.{◌≡◌, ◌<◌, ◌≤◌, [], length, IfOk, IsErrOf, OnOk};
 ghost use Rattle.std.specs.Io.KnownBytes.{WriteAppends};
 ghost use Rattle.cache_base.specs.Causes.{HasCause};
 
-use cache_base::Bytes;
+use cache_base::{Bytes, NoMemory};
 use cache_io::{Sink, SinkFault};
 use std::alloc::Global;
 
@@ -16,6 +16,7 @@ pub(crate) struct LastReply {
 }
 
 impl LastReply {
+    ghost use Rattle.cache_tool.specs.AnyDisk.{too_large_line};
     ghost use Rattle.cache_tool.specs.HeldReply.{said_in};
 
     /// No reply.
@@ -33,6 +34,14 @@ impl LastReply {
         ensures { said_in self.new ≡ [] }
     {
         self.text = Bytes::new(self.alloc);
+    }
+
+    /// Makes the refusal of a body that is too long the reply.
+    pub(crate) fn say_too_large(&mut self) -> Result<(), NoMemory>
+        ensures { OnOk result (said_in self.new ≡ too_large_line) }
+    {
+        self.clear();
+        self.text.extend(b"too large\n")
     }
 
     /// Lends the reply.

@@ -5,9 +5,9 @@ ghost use Rattle.std.specs.Io.KnownBytes.{IsAtEnd};
 ghost use Rattle.cache_base.specs.Causes.{Rose};
 ghost use Rattle.cache_base.specs.declared.limits.TheConstants.{BODY_MAX, PIECE_MAX};
 ghost use Rattle.cache_store.specs.IndexCalls.{LooksAtNames};
-ghost use Rattle.cache_store.specs.Printed.{PrintsNo, PrintsOk, is_plain};
+ghost use Rattle.cache_store.specs.Printed.{PrintsNo, PrintsOk, PrintsRefusal, is_plain};
 ghost use Rattle.cache_store.specs.Saying.{TakesMore};
-ghost use Rattle.cache_tool.specs.AnyDisk.{PutRefuses, TakesAtMost};
+ghost use Rattle.cache_tool.specs.AnyDisk.{TakesAtMost};
 ghost use Rattle.cache_tool.specs.Filled.{FillsCache};
 ghost use Rattle.cache_tool.specs.Script.{HasBadCommand, HasScript, IsScript};
 ghost use Rattle.cache_tool.specs.Statuses.{IsAnswer, IsClosing};
@@ -43,10 +43,11 @@ use std::alloc::Global;
 /// failed. Looks in the opening, in the closing and in `fill` end the run, as does one behind a part of a reply.
 ///
 /// The clauses on contents hold where the disk and the source tell theirs. Those on a crash hold where nothing was
-/// pending at the call, and speak of every exit, whatever the status. The replies to `list` and `has` go by the records in
-/// memory: where one of them is among the commands, what is printed is the machine's where the directory was honest. What
-/// `evict` removes and `verify` finds goes by them too: there it is what the machine removes and finds, and elsewhere the
-/// entries that have to go by the records that there are, and what is wrong with these records and the files.
+/// pending at the call, and speak of every exit, whatever the status.
+///
+/// `list`, `has`, `evict` and `verify` go by the records in memory. Where the directory was honest these are right, and the
+/// commands come to what the machine's do. Elsewhere they print, remove and find what the records that there are tell: right
+/// after an opening with a trusted index these are its records with the journal applied.
 pub fn run<D: Disk, S: Source, K: Sink>(
     alloc: Global,
     words: &[String],
@@ -92,13 +93,11 @@ pub fn run<D: Disk, S: Source, K: Sink>(
     ensures fill_ignored { WhenFill (asked_in words.now) (λ now count first. source.new ≡ source.old) }
 
     // On any disk, also on one that tells nothing, the status is that of the printed reply: `ok` with `Done`, for a `put`
-    // and for a command whose reply is `ok` or a refusal; and with `No` a refusal, or for `verify` what was found, except
-    // for a `put` of too long a body.
+    // and for a command whose reply is `ok` or a refusal; and with `No` a refusal, or for `verify` what was found.
     ensures put_done { result ≡ Status.Done →
         WhenPut (asked_in words.now) (λ now key. PrintsOk (K.taken sink.old) (K.taken sink.new)) }
-    ensures put_no { let at = world S.Source K.Sink D.Disk in result ≡ Status.No →
-        WhenPut (asked_in words.now) (λ now key.
-        PutRefuses (at source.old sink.old disk.old) (at source.new sink.new disk.new)) }
+    ensures put_no { result ≡ Status.No →
+        WhenPut (asked_in words.now) (λ now key. PrintsRefusal (K.taken sink.old) (K.taken sink.new)) }
     ensures one_done { result ≡ Status.Done → WhenOne (asked_in words.now) (λ now c.
         is_plain c ≡ true → PrintsOk (K.taken sink.old) (K.taken sink.new)) }
     ensures one_no { result ≡ Status.No → WhenOne (asked_in words.now) (λ now c.

@@ -8,11 +8,11 @@ ghost use Rattle.cache_script.specs.Command.{command_of};
 ghost use Rattle.cache_store.specs.Faulting.{LooksAtNothing, StaysAs};
 ghost use Rattle.cache_store.specs.Faults.{ending};
 ghost use Rattle.cache_store.specs.Open.{IsOpen, LeavesOpen};
-ghost use Rattle.cache_store.specs.Printed.{HasBadKey, Prints, PrintsOk};
+ghost use Rattle.cache_store.specs.Printed.{HasBadKey, Prints, PrintsOk, PrintsRefusal};
 ghost use Rattle.cache_store.specs.Saying.{TakesMore};
 ghost use Rattle.cache_store.specs.Session.{session};
 ghost use Rattle.cache_theory.specs.Given.{IsGiven};
-ghost use Rattle.cache_tool.specs.AnyDisk.{HoldsRefusal, IsRefusalLine, PutRefuses, TakesAtMost, ok_line};
+ghost use Rattle.cache_tool.specs.AnyDisk.{IsRefusalLine, TakesAtMost, ok_line};
 ghost use Rattle.cache_tool.specs.HeldReply.{said_in};
 ghost use Rattle.cache_tool.specs.PutProgress.{AppendsBody, AppendsPiece, PerformsPut, SendsCommand};
 ghost use Rattle.cache_tool.specs.Statuses.{IsAnswer, IsClosing};
@@ -22,6 +22,7 @@ ghost use Rattle.disk_model.specs.Account.{Accounts, Ending, Looks};
 ghost use Rattle.disk_model.specs.Calls.{StopsAtFault};
 ghost use Rattle.disk_model.specs.Sound.{IsQuiet};
 ghost use Rattle.entry_key.specs.Writing.{may_write};
+ghost use Rattle.index_map.specs.Known.{SameBase};
 ghost use Rattle.index_theory.specs.Honest.{LeavesHonest};
 
 use crate::last_reply::LastReply;
@@ -61,6 +62,7 @@ pub(crate) fn send<D: Disk>(
     ensures looked { store.new.faulting ≡ true → Looks D.Disk Ending.OneFailed disk.old disk.new }
     ensures stays { let at = session D.Disk in store.new.faulting ≡ true → IsTrue D.tells →
         StaysAs (at store.old disk.old) (at store.new disk.new) }
+    ensures same_base { store.new.faulting ≡ true → SameBase store.old.index.map store.new.index.map }
     ensures bare { LooksAtNothing (command_of c.now) → store.new.faulting ≡ false }
 {
     said.clear();
@@ -68,7 +70,7 @@ pub(crate) fn send<D: Disk>(
 }
 
 // Appends a piece to the body, unless it is empty. The body has room for so many bytes more, and the machine refuses a
-// piece that is longer: so it counts as refused, whatever the disk is.
+// piece that is longer: so it is refused, whatever the disk is.
 fn append_piece<D: Disk>(
     alloc: Global,
     store: &mut Store,
@@ -82,8 +84,7 @@ fn append_piece<D: Disk>(
         let now = at store.new disk.new in IsTrue D.tells →
         AppendsPiece piece.now room result before now (said_in said.new) }
     ensures fits { result ≡ Ok Verdict.Ok → length piece.now ≤ room }
-    ensures refused { result ≡ Ok Verdict.Refused →
-        IsRefusalLine (said_in said.new) ⊎ (room < length piece.now) }
+    ensures refused { result ≡ Ok Verdict.Refused → IsRefusalLine (said_in said.new) }
     ensures open { IsTrue D.tells → LeavesOpen result (session D.Disk store.new disk.new) }
     ensures honest { IsTrue D.tells → LeavesHonest (D.state disk.new) }
     ensures no_sink { result ≢ Err StoreFault.Sink }
@@ -99,6 +100,7 @@ fn append_piece<D: Disk>(
     };
     let outcome = send(alloc, store, &append, said, disk)?;
     if piece.len() > room {
+        said.say_too_large()?;
         return Ok(Verdict::Refused);
     }
     Ok(outcome)
@@ -130,8 +132,7 @@ fn append_all<D: Disk, S: Source>(
     ensures source { result ≡ Ok Status.Source → Rose (S.faults source.old) (S.faults source.new) }
     ensures calm { IfOk result (λ s. IsAnswer s → S.faults source.new ≡ S.faults source.old) }
     ensures taken { TakesAtMost (BODY_LEN + PIECE_LEN) (S.left source.old) (S.left source.new) }
-    ensures refused { result ≡ Ok Status.No →
-        HoldsRefusal (said_in said.new) (S.left source.old) (S.left source.new) }
+    ensures refused { result ≡ Ok Status.No → IsRefusalLine (said_in said.new) }
     ensures open { IsTrue D.tells → LeavesOpen result (session D.Disk store.new disk.new) }
     ensures honest { IsTrue D.tells → LeavesHonest (D.state disk.new) }
     ensures no_sink { result ≢ Err StoreFault.Sink }
@@ -175,8 +176,7 @@ fn perform_put<D: Disk, S: Source>(
     ensures calm { IfOk result (λ s. IsAnswer s → S.faults source.new ≡ S.faults source.old) }
     ensures taken { TakesAtMost (BODY_LEN + PIECE_LEN) (S.left source.old) (S.left source.new) }
     ensures done { result ≡ Ok Status.Done → said_in said.new ≡ ok_line }
-    ensures refused { result ≡ Ok Status.No →
-        HoldsRefusal (said_in said.new) (S.left source.old) (S.left source.new) }
+    ensures refused { result ≡ Ok Status.No → IsRefusalLine (said_in said.new) }
     ensures open { IsTrue D.tells → LeavesOpen result (session D.Disk store.new disk.new) }
     ensures honest { IsTrue D.tells → LeavesHonest (D.state disk.new) }
     ensures no_sink { result ≢ Err StoreFault.Sink }
@@ -187,6 +187,10 @@ fn perform_put<D: Disk, S: Source>(
     ensures stays { let at = session D.Disk in
         result ≡ Err StoreFault.Disk → store.new.faulting ≡ true → IsTrue D.tells →
         StaysAs (at store.old disk.old) (at store.new disk.new) }
+    ensures same_base { result ≡ Err StoreFault.Disk → store.new.faulting ≡ true →
+        SameBase store.old.index.map store.new.index.map }
+    ensures unread_fault { result ≡ Err StoreFault.Disk → store.new.faulting ≡ true →
+        source.new ≡ source.old }
 {
     let mut piece = new_piece(alloc)?;
     let create = Command::Create { slot: SLOT, key };
@@ -220,8 +224,7 @@ pub(crate) fn put<D: Disk, S: Source, K: Sink>(
     ensures unread { may_write key.now ≡ false → source.new ≡ source.old }
     ensures taken { TakesAtMost (BODY_LEN + PIECE_LEN) (S.left source.old) (S.left source.new) }
     ensures done { result ≡ Status.Done → PrintsOk (K.taken sink.old) (K.taken sink.new) }
-    ensures refused { let at = world S.Source K.Sink D.Disk in result ≡ Status.No →
-        PutRefuses (at source.old sink.old disk.old) (at source.new sink.new disk.new) }
+    ensures refused { result ≡ Status.No → PrintsRefusal (K.taken sink.old) (K.taken sink.new) }
     ensures others { (result ≢ Status.Words) × (result ≢ Status.Script) }
     ensures quiet { IsClosing result → IsTrue D.tells → IsQuiet (D.state disk.new) }
     ensures stops { IsTrue D.tells → StopsAtFault (D.counts disk.old) (D.counts disk.new) }

@@ -71,6 +71,16 @@ pub(crate) fn end<D: Disk>(store: Store, came: Result<Status, StoreFault>, disk:
     }
 }
 
+// What a session comes to whose last line was said, or whose sink failed in it: its store is closed, unless memory ran out.
+fn after_line(said: Result<(), StoreFault>) -> Result<Status, StoreFault>
+    ensures { (result ≡ Ok Status.No) ⊎ (result ≡ Err StoreFault.Memory) }
+{
+    match said {
+        Err(StoreFault::Memory) => Err(StoreFault::Memory),
+        _ => Ok(Status::No),
+    }
+}
+
 /// Ends a session whose command ended in a failed look at the disk, with all as it was: the line that tells it is printed,
 /// and the store is closed unless memory ran out. The status is that of a disk that failed, whatever else did.
 pub(crate) fn end_faulted<D: Disk, K: Sink>(mut store: Store, sink: &mut K, disk: &mut D) -> Status
@@ -78,15 +88,15 @@ pub(crate) fn end_faulted<D: Disk, K: Sink>(mut store: Store, sink: &mut K, disk
     ensures failed { (result ≡ Status.Disk) ⊎ (result ≡ Status.Memory) }
     ensures ends { IsTrue D.tells →
         EndsSession result (session D.Disk store disk.old) (D.state disk.new) }
+    ensures closed { result ≡ Status.Disk →
+        (IsTrue D.tells → EndsSession Status.No (session D.Disk store disk.old) (D.state disk.new))
+        ⊎ Rose (D.faults disk.old) (D.faults disk.new) }
     ensures part { IsPart (K.taken sink.old) (K.taken sink.new) fault_line }
     ensures no_entry { LooksAtNoEntry D.Disk disk.old disk.new }
     ensures later { D.faults disk.old ≤ D.faults disk.new }
     ensures stops { IsTrue D.tells → StopsAtFault (D.counts disk.old) (D.counts disk.new) }
 {
-    let came = match store.say_fault(sink) {
-        Err(StoreFault::Memory) => Err(StoreFault::Memory),
-        _ => Ok(Status::No),
-    };
+    let came = after_line(store.say_fault(sink));
     match end(store, came, disk) {
         Status::Memory => Status::Memory,
         _ => Status::Disk,

@@ -10,11 +10,11 @@ use Rattle.disk_model.specs.Sound.{room, AreInside, IsSound, IsQuiet}
 use Rattle.disk_model.specs.Image.{Files, Reaches, IsReached, shortest, longest, MayHold, MayStand, IsImageAt, IsImage}
 
 -- where a write does not reach, it changes nothing
-written-kept : (w : Write) (c : List ℕ) (i : ℕ) → room w ≤ length c → i < length (written w c) → Reaches i w ⊎ ((i < length c) × (get_or (written w c) i 0 ≡ get_or c i 0))
+pub written-kept : (w : Write) (c : List ℕ) (i : ℕ) → room w ≤ length c → i < length (written w c) → Reaches i w ⊎ ((i < length c) × (get_or (written w c) i 0 ≡ get_or c i 0))
 written-kept (End from bytes) c i inside lt = grind (arith, common_steps)
 written-kept (Patch from bytes) c i inside lt = grind (arith, common_steps)
 
-content-kept : (synced : List ℕ) (writes : List Write) (i : ℕ) → AreInside synced writes → i < length (content_after synced writes) → IsReached i writes ⊎ (get_or (content_after synced writes) i 0 ≡ get_or synced i 0)
+pub content-kept : (synced : List ℕ) (writes : List Write) (i : ℕ) → AreInside synced writes → i < length (content_after synced writes) → IsReached i writes ⊎ (get_or (content_after synced writes) i 0 ≡ get_or synced i 0)
 content-kept synced [] i inside lt = inr refl
 content-kept synced (w ∷ earlier) i inside lt =
     elim (written-kept w (content_after synced earlier) i (inside 0 w refl) lt) [

@@ -11,6 +11,7 @@ pub mod MemListing
 pub mod MemPlaces
 pub mod MemReached
 pub mod Images
+pub mod Prefixes
 pub mod MemImages
 pub mod MemFill
 pub mod MemReplay

@@ -57,9 +57,14 @@ counted_read _ c = counted c
 abbrev pub LastFails : Counts → Type 0
 LastFails c = (c.failed.change ≡ c.calls) ⊎ (c.failed.sync ≡ c.calls)
 
--- no change and no sync failed since, or the last call did
+-- the last call was a change that failed, and nothing else failed since; or a sync, likewise
+abbrev pub FailsLast : LastFailed → Counts → Type 0
+FailsLast before now =
+    (now.failed ≡ record before { change = now.calls }) ⊎ (now.failed ≡ record before { sync = now.calls })
+
+-- no change and no sync failed since, or the last call alone did
 abbrev pub StopsAtFault : Counts → Counts → Type 0
-StopsAtFault before now = (now.failed ≡ before.failed) ⊎ LastFails now
+StopsAtFault before now = (now.failed ≡ before.failed) ⊎ FailsLast before.failed now
 
 -- a file stands there, and a write may begin at `from`
 abbrev pub MayWriteAt : Option (List ℕ) → ℕ → Type 0

@@ -7,6 +7,7 @@ pub mod Standing
 pub mod Listing
 pub mod Silent
 pub mod Image
+pub mod Prefixes
 pub mod Writes
 pub mod Calls
 pub mod Account

@@ -1,9 +1,10 @@
-// A disk as it reads is one of the images that a crash may leave.
+//! What images have of what a disk holds.
 
 ghost use Rattle.std.specs.Prelude.{◌≡◌, IsTrue};
 ghost use Rattle.disk_model.specs.State.{standing};
 ghost use Rattle.disk_model.specs.Sound.{IsQuiet};
 ghost use Rattle.disk_model.specs.Image.{Files, IsImage};
+ghost use Rattle.disk_model.specs.Prefixes.{UnreachedIsKept};
 ghost use Rattle.disk_model.specs.declared.place.Place.{Place as Where};
 
 use crate::Disk;
@@ -13,4 +14,10 @@ pub fn reads_as_image<D: Disk>(_disk: &D)
     ensures one { IsTrue D.tells → IsImage (D.state _disk.now) (standing (D.state _disk.now)) }
     ensures only { IsTrue D.tells → IsQuiet (D.state _disk.now) → (image : Files) → IsImage (D.state _disk.now) image
         → (place : Where) → image place ≡ standing (D.state _disk.now) place }
+{}
+
+/// The first bytes of a file are the same in each image where no write reached them since the last sync, wherever the file
+/// stands there.
+pub fn unreached_is_kept<D: Disk>(_disk: &D)
+    ensures { IsTrue D.tells → UnreachedIsKept (D.state _disk.now) }
 {}

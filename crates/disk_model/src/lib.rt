@@ -14,7 +14,7 @@ mod mem_table;
 mod place;
 
 pub use disk::{Disk, DiskFault};
-pub use laws::reads_as_image;
+pub use laws::{reads_as_image, unreached_is_kept};
 pub use liar_disk::LiarDisk;
 pub use mem_disk::MemDisk;
 pub use mem_image::ImageFault;

@@ -2,7 +2,7 @@
 use Rattle.std.proofs.Common.{◌≡◌, ◌⊎◌, ◌∙◌, Result, Ok, Err, IsErrAnd, IsTrue, refl, sym, subst, arith}
 use Rattle.cache_base.specs.Causes.{HasCause}
 use Rattle.disk_model.specs.Account.{Accounts, Ending, IsCalm, Looks, ending as disk_ending, fault_ending as disk_fault_ending}
-use Rattle.disk_model.specs.Calls.{LastFails}
+use Rattle.disk_model.specs.Calls.{FailsLast}
 use Rattle.disk_model.specs.declared.disk.Disk.{Ghosts}
 use Rattle.disk_model.specs.declared.disk.DiskFault.{DiskFault}
 use Rattle.disk_model.specs.declared.disk.DiskFault.TheVariants as disk
@@ -17,7 +17,7 @@ pub accounts_then : {Self : _} (D : Ghosts Self) (e : Ending) (a b c : Self) →
 accounts_then D e a b c first last = record {
   cause = subst (λ n. HasCause (e ≡ Ending.OneFailed) n (D.faults c)) (first.cause.kept (λ failed. cc)) last.cause;
   went_on = λ none told. last.went_on none told ∙ first.went_on refl told;
-  stops = λ told. subst (λ failed. ((D.counts c).failed ≡ failed) ⊎ LastFails (D.counts c)) (first.went_on refl told) (last.stops told);
+  stops = λ told. subst (λ failed. ((D.counts c).failed ≡ failed) ⊎ FailsLast failed (D.counts c)) (first.went_on refl told) (last.stops told);
 }
 
 -- a call that makes none of the disk

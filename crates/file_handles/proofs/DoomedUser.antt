@@ -106,12 +106,12 @@ module _ (s t : State) (k a : Kept) (name : Name) (p : ℕ) (x : Object) (is : p
       go None e = dooms_not s t w name xs f (sets.moves e) touched safe
       go (Some n) e = let done = (sets.stays n e).0 in absurd (cc)
 
-  module _ (b : Kept) (xs : List ℕ) (n : ℕ) (sound : IsSound s) (same : xs ≡ numbers_in k.objects) (sets : SetsAside name x.aside xs (Ok n) s t) (taken : a ≡ with_object k p None) (put : b ≡ with_object a p (Some (doomed_as x n))) where
+  module _ (b : Kept) (xs : List ℕ) (n : ℕ) (sound : IsSound s) (same : x.aside ≡ None → xs ≡ numbers_in k.objects) (sets : SetsAside name x.aside xs (Ok n) s t) (taken : a ≡ with_object k p None) (put : b ≡ with_object a p (Some (doomed_as x n))) where
     pub set_aside_there : {d : Bool} (m : Machine) (w : Marks) → is_touched w name.0 ≡ true → KeepsWhere d (cache_at k s) (history_of m w) → (IsTrue d → IsSafe t w) × KeepsWhere d (cache_at b t) (history_of (doomed_under m name.0) w)
     set_aside_there {d} m w touched stand = go x.aside refl
       where
         go : (o : Option ℕ) → x.aside ≡ o → (IsTrue d → IsSafe t w) × KeepsWhere d (cache_at b t) (history_of (doomed_under m name.0) w)
-        go None e = dooms_there s t k a b name p x n sound is at e (subst (λ ys. IsLeastFree ys n) same (sets.number e)) (sets.moves e n (sets.number e)) taken put m w touched stand
+        go None e = dooms_there s t k a b name p x n sound is at e (subst (λ ys. IsLeastFree ys n) (same e) (sets.number e)) (sets.moves e n (sets.number e)) taken put m w touched stand
         go (Some c) e =
             let stays = sets.stays c e in
             let both : Ok n ≡ Ok c = stays.0 in

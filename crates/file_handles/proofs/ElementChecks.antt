@@ -1,9 +1,9 @@
 -- The checks of the commands on elements, by what the handles have.
 use Rattle.std.proofs.Common.{◌≡◌, ℕ, ◌<◌, List, length, ◌&&◌, arith, eqb-true, IfSome, IsSome, IsSomeAnd, [], ◌∷◌, Bool, true, false, cond, not, Option, Some, None, Result, Ok, Err, IfErr, IsErrAnd, refl, sym, ap, subst, ◌∙◌}
-use Rattle.std.specs.Prelude.{◌||◌, ◌==◌, nat_lt}
-use Rattle.std.proofs.lemmas.Bool.{and_from, and_left, and_right, eqb-false, le-ltb, lt-ltb}
+use Rattle.std.specs.Prelude.{◌||◌, ◌==◌, nat_le, nat_lt}
+use Rattle.std.proofs.lemmas.Bool.{and_from, and_left, and_parts, and_right, eqb-false, le-ltb, lt-ltb}
 use Rattle.cache_base.specs.Checks.{first_failing}
-use Rattle.cache_base.specs.declared.limits.TheConstants.{SLOTS}
+use Rattle.cache_base.specs.declared.limits.TheConstants.{ELEMENTS_MAX, SLOTS}
 use Rattle.cache_base.proofs.CheckLaws.{all_hold}
 use Rattle.cache_theory.specs.Checks.{checks, good_element, small_parts, with_value}
 use Rattle.cache_theory.specs.Command.{Command}
@@ -11,13 +11,15 @@ use Rattle.cache_theory.specs.Command.Command.{ElementOf, SetElement, UnsetEleme
 use Rattle.cache_theory.specs.Machine.{Machine, Object as MachineObject, is_slot, is_writer, object, object_of}
 use Rattle.cache_theory.specs.declared.refusal.Refusal.{Refusal}
 use Rattle.cache_theory.specs.declared.refusal.Refusal.TheVariants.{BadElement, NoSlot, NotWriter, TooLarge}
-use Rattle.entry_parts.specs.Elements.{Element}
-use Rattle.entry_parts.specs.Setting.{has_zero, with_element}
+use Rattle.entry_parts.specs.Elements.{Element, elements_bytes}
+use Rattle.entry_parts.specs.Setting.{has_zero, set_fault, with_element}
+use Rattle.entry_parts.specs.declared.fault.PartsFault.TheVariants as bad
 use Rattle.file_handles.specs.Held.{elements_in, is_draft}
 use Rattle.file_handles.specs.Kept.{Kept, object_at, use_at, used}
 use Rattle.file_handles.specs.Refuses.{EndsIn, HasAt, Passes, Refuses}
 use Rattle.file_handles.specs.Setting.{are_small}
 use Rattle.file_handles.specs.Stands.{HandlesStand}
+use Rattle.file_handles.specs.declared.object.Entry.{Entry}
 use Rattle.file_handles.specs.declared.object.Object.{Object}
 use Rattle.file_handles.specs.declared.object.Use.{Use}
 use Rattle.file_handles.proofs.ElementEntries.{finished_is, small_is}
@@ -146,3 +148,17 @@ set_ends_by k s small name value passes some name_good value_good p x found ther
     fits_is ∙ ap (λ es. are_small x.entry (with_element name value es)) same
     ∙ small_is x.entry (object m (number p)) name value (there_held k m number stand s small p x has).held_entry
     ∙ ap (λ (o : MachineObject). (small_parts (with_value name value o.version)).0) (sym (there_object k m number stand s small p x has)))))
+
+-- an element that an entry has room for may be set
+pub settable : (name value : List ℕ) (e : Entry) (es : List Element) → (length name == 0) ≡ false → has_zero name ≡ false → has_zero value ≡ false → are_small e (with_element name value es) ≡ true
+    → set_fault name value es ≡ None
+settable name value e es some name_good value_good small =
+    let parts = and_parts (nat_lt 0 (length name) && not (has_zero name)) (not (has_zero value)) (good name value some name_good value_good) in
+    holds (nat_lt 0 (length name) && not (has_zero name)) bad.BadName _ parts.0
+    ∙ holds (not (has_zero value)) bad.BadBytes _ parts.1
+    ∙ holds (nat_le (length (elements_bytes (with_element name value es))) ELEMENTS_MAX) bad.TooLarge None (and_parts (nat_le (length (elements_bytes (with_element name value es))) ELEMENTS_MAX) _ small).0
+
+-- of any object
+pub of_any : (o : Option Object) → IfSome o (λ x. Unit {0})
+of_any None = tt
+of_any (Some x) = tt

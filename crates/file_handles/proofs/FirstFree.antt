@@ -129,8 +129,8 @@ module _ (s : State) (k : Kept) (somehow : RepresentsSome (cache_at k s)) (name 
   takes_first t (Err Memory) is = subst (TakesFirstFree s) (sym is) not_moved
 
 -- or whether it moved at all
-pub takes_aside : (s t : State) (k : Kept) → RepresentsSome (cache_at k s) → (name : Name) (aside : Option ℕ) (xs : List ℕ) → xs ≡ numbers_in k.objects → length xs < SLOTS → (r : Result ℕ DiskFault) → SetsAside name aside xs r s t → TakesFirstFree s t
+pub takes_aside : (s t : State) (k : Kept) → RepresentsSome (cache_at k s) → (name : Name) (aside : Option ℕ) (xs : List ℕ) → (aside ≡ None → xs ≡ numbers_in k.objects) → length xs < SLOTS → (r : Result ℕ DiskFault) → SetsAside name aside xs r s t → TakesFirstFree s t
 takes_aside s t k somehow name None xs same few r sets =
     let l = least_free (numbers_in k.objects) in
-    takes_first s k somehow name l.0 l.1 (subst (λ ys. length ys < SLOTS) same few) t r (sets.moves refl l.0 (subst (λ ys. IsLeastFree ys l.0) (sym same) l.1))
+    takes_first s k somehow name l.0 l.1 (subst (λ ys. length ys < SLOTS) (same refl) few) t r (sets.moves refl l.0 (subst (λ ys. IsLeastFree ys l.0) (sym (same refl)) l.1))
 takes_aside s t k somehow name (Some n) xs same few r sets = takes_none s t (λ d. ap (λ u. standing u (Doomed d)) (sets.stays n refl).1)

@@ -49,7 +49,7 @@ no_index name (Some n) of = of
 
 -- An object that is changed: its file alone is written to.
 
-named_file : (files : ℕ → File) (name : Option ℕ) (c : List ℕ) → content_of files name ≡ Some c → (file : ℕ) × (name ≡ Some file)
+pub named_file : (files : ℕ → File) (name : Option ℕ) (c : List ℕ) → content_of files name ≡ Some c → (file : ℕ) × (name ≡ Some file)
 named_file files None c is = absurd (let never : None ≡ Some c = is in cc)
 named_file files (Some file) c is = (file, refl)
 

@@ -9,7 +9,7 @@ use Rattle.cache_base.specs.declared.name.Name.{Name}
 use Rattle.cache_base.proofs.CheckLaws.{all_hold}
 use Rattle.cache_theory.specs.Checks.{checks, with_value}
 use Rattle.cache_theory.specs.Command.{Command}
-use Rattle.cache_theory.specs.Command.Command.{At, Create, OpenKey, Append, Finish, SetElement, UnsetElement, ElementOf, UseEntry, ReadPart, Close, Doom, Get, Flush, HasEntry, ListRecords, Evict, EvictNames, StepUpdate, UpdateState, Verify, VerifyRecords, Rebuild}
+use Rattle.cache_theory.specs.Command.Command.{At, Create, OpenKey, Append, Finish, SetElement, UnsetElement, ElementOf, UseEntry, ReadPart, Close, Doom, Get, Flush, HasEntry, HasGiven, ListRecords, ListGiven, Evict, EvictNames, StepUpdate, UpdateState, Verify, VerifyRecords, Rebuild}
 use Rattle.cache_theory.specs.Command.Reply.{Done, NoneThere}
 use Rattle.cache_theory.specs.Machine.{Machine, Object as MachineObject, is_slot, is_writer, number_of, object_of, on_shelf, used_by}
 use Rattle.cache_theory.specs.Marks.{rewritten}
@@ -198,7 +198,9 @@ learnt_scanned m (Doom key) of proper fine q = gone m proper q (Doom key) key fi
 learnt_scanned m (Get key) of proper fine q = by_effect m proper q (Get key) fine refl
 learnt_scanned m Flush of proper fine q = by_effect m proper q Flush fine refl
 learnt_scanned m (HasEntry key) of proper fine q = by_effect m proper q (HasEntry key) fine refl
+learnt_scanned m (HasGiven key there) of proper fine q = by_effect m proper q (HasGiven key there) fine refl
 learnt_scanned m ListRecords of proper fine q = absurd of
+learnt_scanned m (ListGiven records) of proper fine q = absurd of
 learnt_scanned m (Evict kb) of proper fine q = absurd of
 learnt_scanned m (EvictNames names) of proper fine q = absurd of
 learnt_scanned m (StepUpdate n) of proper fine q = absurd of

@@ -35,6 +35,7 @@ pub mod DoomedKeeps
 pub mod DoomedUser
 pub mod IndexPublished
 pub mod IndexLeft
+pub mod UnsyncedLaws
 pub mod FirstFree
 pub mod FoundFile
 pub mod FoundLoad
@@ -60,11 +61,13 @@ pub mod Evicted
 pub mod ReleasedFiles
 pub mod ReleasedSlot
 pub mod ClosedSlot
+pub mod ClosedChunks
 pub mod EffectLaws
 pub mod LearntLaws
 pub mod LearntRest
 pub mod ClosedAll
 pub mod Parts
 pub mod PartsSlots
+pub mod ChunkLists
 pub mod ReadChunks
 pub mod ReadKept

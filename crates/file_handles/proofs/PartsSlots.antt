@@ -1,6 +1,6 @@
 -- Whose body a slot reads.
 use Rattle.std.proofs.Common.{◌≡◌, ◌≢◌, ◌∙◌, ℕ, ◌<◌, length, cond, Some, None, Result, Ok, Err, IfErr, IsErrAnd, sym, ap, subst, OnOk}
-use Rattle.std.specs.Prelude.{IfOk, is_some, option_map}
+use Rattle.std.specs.Prelude.{IfOk, OnErr, is_some, option_map}
 use Rattle.cache_base.specs.declared.limits.TheConstants.{SLOTS}
 use Rattle.cache_theory.specs.Checks.{checks}
 use Rattle.cache_theory.specs.Command.Command.{ReadPart}
@@ -79,3 +79,8 @@ never_both {T = T} {E = E} r x e good bad = let never : ◌≡◌ {A = Result T 
 pub on_err : {T E : Type 0} (P : Type 0) (r : Result T E) (e : E) → r ≡ Err e → OnOk r P
 on_err {T = T} {E = E} P (Ok x) e is = absurd (let never : ◌≡◌ {A = Result T E} (Ok x) (Err e) = is in cc)
 on_err P (Err f) e is = tt
+
+-- and what holds anyway is said of an error
+pub on_error : {T E : Type 0} (P : Type 0) (r : Result T E) (e : E) → r ≡ Err e → P → OnErr r P
+on_error {T = T} {E = E} P (Ok x) e is p = absurd (let never : ◌≡◌ {A = Result T E} (Ok x) (Err e) = is in cc)
+on_error P (Err f) e is p = p

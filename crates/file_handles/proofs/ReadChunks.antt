@@ -5,7 +5,7 @@ use Rattle.std.specs.Prelude.{option_and_then}
 use Rattle.cache_base.specs.declared.limits.TheConstants.{SLOTS}
 use Rattle.cache_theory.specs.Machine.{Machine, Object as MachineObject, object as object_of_number, object_of}
 use Rattle.cache_theory.proofs.Reading.{some_of}
-use Rattle.chunk_cache.specs.Cached.{CachedChunk, StandsFirst, bytes_of, cached, looked_at}
+use Rattle.chunk_cache.specs.Cached.{CachedChunk, bytes_of, cached, looked_at}
 use Rattle.chunk_cache.proofs.Lookups.{look_leaves}
 use Rattle.chunk_cache.proofs.Properties.{All-bytes_of, All-looked_at}
 use Rattle.chunk_store.specs.Chunks.{chunk}
@@ -14,7 +14,7 @@ use Rattle.file_handles.specs.Changes.{IsFiledAs}
 use Rattle.file_handles.specs.Held.{object_place}
 use Rattle.file_handles.specs.HeldChunks.{ChunksStand, HasChunk, IsChunkInUse}
 use Rattle.file_handles.specs.Kept.{Kept, object_at, object_in, use_at}
-use Rattle.file_handles.specs.Reading.{HasChunkOf, IsOfChunk, IsPartHeld, IsStoredChunk, LosesNone, SameButChunks, part_of_body, rest_part}
+use Rattle.file_handles.specs.Reading.{ForChunk, HasChunkOf, IsOfChunk, IsPartHeld, IsStoredChunk, LosesNone, SameButChunks, part_of_body, rest_part}
 use Rattle.file_handles.specs.Stands.{HandlesStand, Stands}
 use Rattle.file_handles.specs.declared.object.Object.{Object}
 use Rattle.file_handles.specs.declared.object.Use.{Use}
@@ -110,18 +110,17 @@ module _ (k : Kept) (slot : ℕ) (u : Use) (used : use_at k slot ≡ Some u) (x 
   pub chunk_held : (c : StoredChunk) → IsStoredChunk x from len c → IsPartHeld k slot from len → IsSome (bytes_of c.number c.index k.chunks)
   chunk_held c is held = held x c.number c.index in_slot is.of_chunk
 
-  -- it stands first where the chunk does that was read
-  pub chunk_first : (c : StoredChunk) → IsStoredChunk x from len c → (chunks : List CachedChunk) → StandsFirst c.number c.index chunks
-      → (y : Object) (number index : ℕ) → object_in k slot ≡ Some y → IsOfChunk y from len number index → StandsFirst number index chunks
-  chunk_first c is chunks first y number index own of_chunk =
+  -- what holds of the chunk that was read
+  pub for_chunk : (c : StoredChunk) → IsStoredChunk x from len c → (P : ℕ → ℕ → Type 0) → P c.number c.index → ForChunk k slot from len P
+  for_chunk c is P holds y number index own of_chunk =
       let same = one_in_slot k slot x y in_slot own in
       let n : number ≡ c.number = sym of_chunk.numbered ∙ ap (λ (z : Object). z.number) same ∙ is.of_chunk.numbered in
       let i : index ≡ c.index = of_chunk.index_is ∙ sym is.of_chunk.index_is in
-      subst (λ (n : ℕ). StandsFirst n index chunks) (sym n) (subst (λ (i : ℕ). StandsFirst c.number i chunks) (sym i) first)
+      subst (λ (n : ℕ). P n index) (sym n) (subst (λ (i : ℕ). P c.number i) (sym i) holds)
 
   -- and there is none for a part of no chunk
-  pub none_first : HasChunkOf x from len None → (chunks : List CachedChunk) (y : Object) (number index : ℕ) → object_in k slot ≡ Some y → IsOfChunk y from len number index → StandsFirst number index chunks
-  none_first none chunks y number index own of_chunk = absurd (none number index (subst (λ (z : Object). IsOfChunk z from len number index) (one_in_slot k slot x y in_slot own) of_chunk))
+  pub for_none : HasChunkOf x from len None → (P : ℕ → ℕ → Type 0) → ForChunk k slot from len P
+  for_none none P y number index own of_chunk = absurd (none number index (subst (λ (z : Object). IsOfChunk z from len number index) (one_in_slot k slot x y in_slot own) of_chunk))
 
   module _ (m : Machine) (number : ℕ → ℕ) (stand : HandlesStand k m number) (small : slot < SLOTS) where
     whose : object_of m slot ≡ object_of_number m (number u.place)

@@ -1,5 +1,7 @@
 -- When a slot is given up.
-use Rattle.std.specs.Prelude.{Bool, IsSome, IsSomeAnd, List, None, OnOk, Option, Result, Some, false, option_map, unwrap_or, ℕ, ◌==◌, ◌≡◌}
+use Rattle.std.specs.List.{list_any}
+use Rattle.std.specs.Option.{option_map_or}
+use Rattle.std.specs.Prelude.{Bool, IsSome, IsSomeAnd, List, None, OnOk, Option, Result, Some, false, if◌then◌else◌, is_some, option_map, unwrap_or, ℕ, ◌&&◌, ◌==◌, ◌≡◌}
 use Rattle.cache_theory.specs.Command.Command.{Close}
 use Rattle.cache_theory.specs.Crash.{IsSafe}
 use Rattle.cache_theory.specs.Ever.{entries}
@@ -7,13 +9,14 @@ use Rattle.cache_theory.specs.History.{History, begun}
 use Rattle.cache_theory.specs.Machine.{Machine, is_writer, object_of}
 use Rattle.cache_theory.specs.Step.{finished_by, released}
 use Rattle.cache_theory.specs.Table.{get}
+use Rattle.chunk_cache.specs.Cached.{CachedChunk, without_entry}
 use Rattle.disk_model.specs.Image.{Files}
 use Rattle.disk_model.specs.State.{State, removed, standing}
 use Rattle.disk_model.specs.declared.disk.DiskFault.{DiskFault}
 use Rattle.disk_model.specs.declared.place.Place.TheVariants.{Doomed}
 use Rattle.file_handles.specs.Cache.{Cache}
 use Rattle.file_handles.specs.Held.{is_draft, object_place}
-use Rattle.file_handles.specs.Kept.{object_at, use_at}
+use Rattle.file_handles.specs.Kept.{Kept, number_at, object_at, use_at, with_use}
 use Rattle.file_handles.specs.Stands.{KeepsTo, KeepsWhere, ReachesHistory, Represents}
 use Rattle.file_handles.specs.declared.fault.HandleFault.{HandleFault}
 use Rattle.file_handles.specs.declared.object.Object.{Object}
@@ -23,10 +26,19 @@ use Rattle.file_handles.specs.declared.object.Use.{Use}
 abbrev pub is_use_of : ℕ → Option Use → Bool
 is_use_of p u = unwrap_or (option_map (λ v. v.place == p) u) false
 
+-- a slot but this one uses the place
+abbrev pub other_uses : Kept → ℕ → ℕ → Bool
+other_uses k slot place = list_any (is_use_of place) (with_use k slot None).slots
+
 -- a draft
 abbrev pub is_some_draft : Option Object → Bool
 is_some_draft None = false
 is_some_draft (Some x) = is_draft x.entry
+
+-- the slot writes an entry that is not finished
+abbrev pub writes_draft : Kept → ℕ → Bool
+writes_draft k slot = unwrap_or
+    (option_map (λ u. u.writes && is_some_draft (object_at k u.place)) (use_at k slot)) false
 
 -- the disk without the file that stands aside, if it does
 abbrev pub without_doomed : Option ℕ → State → State
@@ -74,3 +86,25 @@ pub record ClosesAll (answer : Result (Unit {0}) DiskFault) (before : Cache) (t 
     : Type 0 where
   pub closed : (m : Machine) → Represents before m → OnOk answer (IsClosed (standing t) m)
   pub crash : (h : History) → KeepsTo before h → IsSafe t h.marks
+
+-- Which chunks are held once a slot is given up.
+
+-- all but those of the object of this number, if there is one
+abbrev pub without_object : Option ℕ → List CachedChunk → List CachedChunk
+without_object number chunks = option_map_or (λ n. without_entry n chunks) number chunks
+
+-- once a slot has left this place: none of the object there, if no other slot uses it
+abbrev pub chunks_left : Kept → ℕ → ℕ → List CachedChunk
+chunks_left k slot place =
+    if other_uses k slot place then k.chunks else without_object (number_at k place) k.chunks
+
+-- once it has left the place that it has, if it has one
+abbrev pub chunks_closed : Kept → ℕ → List CachedChunk
+chunks_closed k slot = option_map_or (λ u. chunks_left k slot u.place) (use_at k slot) k.chunks
+
+-- a slot is given up, and then those chunks are held; before that no chunk goes
+pub record ClosesChunks {T : Type 0} (slot : ℕ) (answer : Result T HandleFault)
+    (before after : Kept) : Type 0 where
+  pub given_up : OnOk answer (use_at after slot ≡ None)
+  pub chunks : after.chunks
+      ≡ (if is_some (use_at after slot) then before.chunks else chunks_closed before slot)

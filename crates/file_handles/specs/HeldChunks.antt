@@ -1,9 +1,9 @@
 -- The chunks of bodies that are held in memory.
 use Rattle.std.specs.List.{All}
-use Rattle.std.specs.Prelude.{List, Some, if◌then◌else◌, length, ℕ, ◌/◌, ◌<◌, ◌≡◌, ◌≤◌}
+use Rattle.std.specs.Prelude.{IsSome, List, None, Some, if◌then◌else◌, length, ℕ, ◌/◌, ◌<◌, ◌≡◌, ◌≤◌, ◌⊎◌}
 use Rattle.cache_base.specs.Limits.{chunk_size, chunks}
 use Rattle.cache_theory.specs.Machine.{Machine, Object as MachineObject, object as object_of_number}
-use Rattle.chunk_cache.specs.Cached.{CachedChunk}
+use Rattle.chunk_cache.specs.Cached.{CachedChunk, bytes_of, looked_at, with_chunk, with_room}
 use Rattle.chunk_store.specs.Chunks.{chunk}
 use Rattle.file_handles.specs.Kept.{Kept, object_at}
 use Rattle.file_handles.specs.declared.object.Object.{Object}
@@ -37,3 +37,20 @@ pub record ChunksStand (k : Kept) (m : Machine) (number : ℕ → ℕ) : Type 0 
 pub record KeepsChunks (o next : MachineObject) : Type 0 where
   pub more : chunks_on_disk o ≤ chunks_on_disk next
   pub same : (i : ℕ) → i < chunks_on_disk o → chunk o.version.body i ≡ chunk next.version.body i
+
+-- Which chunks are held after a call.
+
+-- the same, in the same order
+abbrev pub SameChunks : Kept → Kept → Type 0
+SameChunks before after = after.chunks ≡ before.chunks
+
+-- the chunk comes first: as it was where it was held, and else with these bytes, so that the least
+-- recent chunk of a full cache goes
+pub record PutsFirst (number index : ℕ) (before after : List CachedChunk) : Type 0 where
+  pub held : IsSome (bytes_of number index before) → after ≡ looked_at number index before
+  pub bytes : List ℕ
+  pub read : bytes_of number index before ≡ None → after ≡ with_chunk number index bytes before
+
+-- no chunk is gone but, perhaps, the least recent one of a full cache
+abbrev pub MayLoseLast : List CachedChunk → List CachedChunk → Type 0
+MayLoseLast before after = (after ≡ before) ⊎ (after ≡ with_room before)

@@ -1,5 +1,5 @@
 -- What the handles keep: an object at some of the places, a use for some of the slots, and chunks of bodies.
-use Rattle.std.specs.Prelude.{Err, List, None, Ok, Option, Result, Some, if◌then◌else◌, option_and_then, slice_get, slice_set, unwrap_or, ℕ, ◌+◌}
+use Rattle.std.specs.Prelude.{Err, List, None, Ok, Option, Result, Some, if◌then◌else◌, option_and_then, option_map, slice_get, slice_set, unwrap_or, ℕ, ◌+◌}
 use Rattle.cache_theory.specs.declared.refusal.Refusal.{Refusal}
 use Rattle.cache_theory.specs.declared.refusal.Refusal.TheVariants as refused
 use Rattle.chunk_cache.specs.Cached.{CachedChunk, without_entry}
@@ -27,6 +27,10 @@ use_at k s = unwrap_or (slice_get k.slots s) None
 
 abbrev pub object_in : Kept → ℕ → Option Object
 object_in k s = option_and_then (λ u. object_at k u.place) (use_at k s)
+
+-- the number of the object at a place
+abbrev pub number_at : Kept → ℕ → Option ℕ
+number_at k p = option_map (λ x. x.number) (object_at k p)
 
 -- another object at a place, or none, and another use of a slot
 abbrev pub with_object : Kept → ℕ → Option Object → Kept

@@ -23,3 +23,4 @@ pub mod Refuses
 pub mod Removing
 pub mod Failing
 pub mod Users
+pub mod Unsynced

@@ -1,5 +1,5 @@
 -- What a read gives of a body, and which chunks are held after it.
-use Rattle.std.specs.Prelude.{IsSome, List, None, OnOk, Option, Result, Some, [], drop, if◌then◌else◌, length, min, nat_le, take, ℕ, ◌%◌, ◌-◌, ◌/◌, ◌<◌, ◌==◌, ◌||◌, ◌≡◌}
+use Rattle.std.specs.Prelude.{IsSome, List, None, OnErr, OnOk, Option, Result, Some, [], drop, if◌then◌else◌, length, min, nat_le, take, ℕ, ◌%◌, ◌-◌, ◌/◌, ◌<◌, ◌==◌, ◌||◌, ◌≡◌, ◌⊎◌}
 use Rattle.cache_base.specs.Limits.{chunk_size}
 use Rattle.cache_theory.specs.Machine.{Machine, object_of}
 use Rattle.cache_theory.specs.Proper.{IsProper}
@@ -8,7 +8,7 @@ use Rattle.disk_model.specs.State.{standing}
 use Rattle.file_handles.specs.Answers.{OnRead}
 use Rattle.file_handles.specs.Cache.{Cache}
 use Rattle.file_handles.specs.Held.{body_len_in, object_place, rest_in}
-use Rattle.file_handles.specs.HeldChunks.{ChunksStand}
+use Rattle.file_handles.specs.HeldChunks.{ChunksStand, MayLoseLast, PutsFirst}
 use Rattle.file_handles.specs.Kept.{Kept, object_in}
 use Rattle.file_handles.specs.Stands.{HandlesStand, Represents, Stands}
 use Rattle.file_handles.specs.declared.object.Entry.{Entry}
@@ -60,16 +60,20 @@ rest_part e from len =
     if len == 0 || nat_le (body_len_in e) from then []
     else take len (drop (from % chunk_size) (rest_in e))
 
--- the part of the slot's object is held, if it is of a chunk at all
+-- P holds of the chunk of the slot's object that the part is of, if it is of one
+abbrev pub ForChunk : Kept → ℕ → ℕ → ℕ → (ℕ → ℕ → Type 0) → Type 0
+ForChunk k slot from len P =
+    (x : Object) (number index : ℕ) → object_in k slot ≡ Some x → IsOfChunk x from len number index
+    → P number index
+
+-- the part is held, if it is of a chunk at all
 abbrev pub IsPartHeld : Kept → ℕ → ℕ → ℕ → Type 0
 IsPartHeld k slot from len =
-    (x : Object) (number index : ℕ) → object_in k slot ≡ Some x → IsOfChunk x from len number index
-    → IsSome (bytes_of number index k.chunks)
+    ForChunk k slot from len (λ number index. IsSome (bytes_of number index k.chunks))
 
 -- it is of no chunk
 abbrev pub IsOfNone : Kept → ℕ → ℕ → ℕ → Type 0
-IsOfNone k slot from len =
-    (x : Object) (number index : ℕ) → object_in k slot ≡ Some x → IsOfChunk x from len number index → ⊥
+IsOfNone k slot from len = ForChunk k slot from len (λ number index. ⊥)
 
 -- The handles after a read.
 
@@ -89,19 +93,27 @@ HoldsAsBefore before after =
     (m : Machine) (number : ℕ → ℕ) → Stands (standing before.disk) before.handles m number
     → ChunksStand after m number
 
--- a part of the slot's body was read: with an Ok its chunk is the most recent, and where it was held before the read no
--- chunk goes; a part of no chunk changes nothing
+-- a part of the slot's body was read: with an Ok its chunk is put first, and otherwise it may be, or
+-- the least recent chunk of a full cache may be gone; a part of no chunk changes nothing
 pub record HasRead {T E : Type 0} (tells : Type 0) (slot from len : ℕ) (answer : Result T E)
     (before : Cache) (after : Kept) : Type 0 where
   pub same : SameButChunks before.handles after
-  pub first : OnOk answer ((x : Object) (number index : ℕ) → object_in before.handles slot ≡ Some x
-      → IsOfChunk x from len number index → StandsFirst number index after.chunks)
+  pub put : OnOk answer (ForChunk before.handles slot from len (λ number index.
+      PutsFirst number index before.handles.chunks after.chunks))
+  pub either : ForChunk before.handles slot from len (λ number index.
+      PutsFirst number index before.handles.chunks after.chunks
+      ⊎ MayLoseLast before.handles.chunks after.chunks)
+  -- so with an Ok it is the most recent, and where it was held before the read no chunk goes
+  pub first : OnOk answer (ForChunk before.handles slot from len (λ number index.
+      StandsFirst number index after.chunks))
   pub none_lost : IsPartHeld before.handles slot from len → LosesNone before.handles after
   pub unread : IsOfNone before.handles slot from len → after ≡ before.handles
   pub holds : tells → HoldsAsBefore before after
 
--- the same, and where the look at the disk failed nothing changes
-pub record HasReadOrNot {T : Type 0} (tells : Type 0) (slot from len : ℕ) (answer : Result T HandleFault)
-    (before : Cache) (after : Kept) : Type 0 where
+-- the same, and without an Ok no chunk is put first; where the look at the disk failed nothing
+-- changes
+pub record HasReadOrNot {T : Type 0} (tells : Type 0) (slot from len : ℕ)
+    (answer : Result T HandleFault) (before : Cache) (after : Kept) : Type 0 where
   pub has_read : HasRead tells slot from len answer before after
+  pub failed : OnErr answer (MayLoseLast before.handles.chunks after.chunks)
   pub unread : OnRead answer (after ≡ before.handles)

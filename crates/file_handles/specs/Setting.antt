@@ -1,12 +1,12 @@
 -- A change of an entry: of its elements, or one more use.
-use Rattle.std.specs.Prelude.{Bool, List, None, Option, Some, if◌then◌else◌, length, nat_le, ℕ, ◌&&◌, ◌≤◌}
+use Rattle.std.specs.Prelude.{Bool, List, None, Option, Some, if◌then◌else◌, length, nat_le, ℕ, ⊤, ◌&&◌, ◌≡◌, ◌≤◌}
 use Rattle.cache_base.specs.Limits.{chunks}
 use Rattle.cache_base.specs.declared.limits.TheConstants.{BLOCK_MAX, ELEMENTS_MAX}
 use Rattle.entry_file.specs.Version.{Version}
 use Rattle.entry_metadata.specs.Metadata.{block_length}
 use Rattle.entry_parts.specs.Elements.{Element, elements_bytes}
 use Rattle.entry_parts.specs.Header.{used_header}
-use Rattle.entry_parts.specs.Setting.{with_element, without_element}
+use Rattle.entry_parts.specs.Setting.{set_fault, with_element, without_element}
 use Rattle.entry_parts.specs.declared.header.Header.{Header}
 use Rattle.frecency.specs.Frecency.{next as next_frecency}
 use Rattle.file_handles.specs.Held.{body_len_in, key_in}
@@ -31,6 +31,12 @@ header_by (change.Use now) h = used_header h now (next_frecency h.frecency now)
 abbrev pub with_change : Change → Version → Version
 with_change c v =
     record v { header = header_by c v.header; elements = changed_by c v.elements }
+
+-- the element that a change sets, if it sets one, may be set
+abbrev pub MaySet : Change → List Element → Type 0
+MaySet (change.Set name value) es = set_fault name.now value.now es ≡ None
+MaySet (change.Remove name) es = ⊤
+MaySet (change.Use now) es = ⊤
 
 -- the entry has room for these elements
 abbrev pub HasRoom : Entry → List Element → Type 0

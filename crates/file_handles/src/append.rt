@@ -9,6 +9,7 @@ ghost use Rattle.disk_model.specs.Told.{Told};
 ghost use Rattle.file_handles.specs.Answers.{OnRefused, done_or, ending};
 ghost use Rattle.file_handles.specs.Growing.{AnswersInChunk, FitsInChunk, grow_fault};
 ghost use Rattle.file_handles.specs.Held.{rest_in};
+ghost use Rattle.file_handles.specs.Unsynced.{SyncsNothing};
 ghost use Rattle.index_theory.specs.Leaves.{LeavesIndex};
 
 use crate::object::{Draft, Entry, Object};
@@ -35,6 +36,7 @@ impl Handles {
     ghost use Rattle.file_handles.specs.Cache.{cache};
     ghost use Rattle.file_handles.specs.Carries.{CarriesOut};
     ghost use Rattle.file_handles.specs.Changes.{ChangesThere, IsFiledAt, appended};
+    ghost use Rattle.file_handles.specs.HeldChunks.{SameChunks};
     ghost use Rattle.file_handles.specs.Kept.{kept, object_at as object_kept_at};
     ghost use Rattle.file_handles.specs.Refuses.{Passes, Refuses, UsesObject};
     ghost use Rattle.file_handles.specs.Stands.{HandlesStand, RepresentsSome};
@@ -72,6 +74,7 @@ impl Handles {
         ensures within { IfSome (object_kept_at (kept self.old) place)
             (λ x. length (rest_in x.entry) + length b.now < CHUNK →
             (result ≡ Ok tt) × (disk.new ≡ disk.old)) }
+        ensures chunks { SameChunks (kept self.old) (kept self.new) }
         ensures refused { OnRefused result (λ _. ⊥) }
         ensures no_read { result ≢ Err HandleFault.Read }
         ensures account { Accounts D.Disk (ending result) disk.old disk.new }
@@ -119,8 +122,10 @@ impl Handles {
         ensures within { (m : Machine) (number : ℕ → ℕ) → HandlesStand (kept self.old) m number →
             FitsInChunk m slot b.now → disk.new ≡ disk.old }
         ensures within_reply { AnswersInChunk (kept self.old) slot b.now result }
+        ensures chunks { SameChunks (kept self.old) (kept self.new) }
         ensures unchanged { OnRefused result (λ _. disk.new ≡ disk.old) }
         ensures no_read { result ≢ Err HandleFault.Read }
+        ensures unsynced { Told D.Disk SyncsNothing disk.old disk.new }
         ensures index { Told D.Disk LeavesIndex disk.old disk.new }
         ensures account { Accounts D.Disk (ending result) disk.old disk.new }
         ensures change { FailsInChange D.Disk (ending result) disk.new }

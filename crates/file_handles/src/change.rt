@@ -4,10 +4,11 @@ ghost use Rattle.std.specs.Prelude.{◌≡◌, ◌<◌, ◌≤◌, IfOk, IfSome,
 ghost use Rattle.cache_base.specs.declared.limits.TheConstants.{ELEMENTS_MAX, SLOTS};
 ghost use Rattle.disk_model.specs.Account.{Accounts, FailsInChange};
 ghost use Rattle.entry_parts.specs.Elements.{elements_bytes};
+ghost use Rattle.entry_parts.specs.declared.fault.PartsFault;
 ghost use Rattle.file_handles.specs.Answers.{OnRefused, ending};
 ghost use Rattle.file_handles.specs.Effects.{IsLearntOf, IsPlainEffect};
 ghost use Rattle.file_handles.specs.Held.{elements_in, is_draft};
-ghost use Rattle.file_handles.specs.Setting.{HasRoom, changed_by, header_by, with_change};
+ghost use Rattle.file_handles.specs.Setting.{HasRoom, MaySet, changed_by, header_by, with_change};
 
 use crate::finish::learnt_of;
 use crate::object::{Draft, Entry, Object};
@@ -16,7 +17,7 @@ use cache_base::{Moment, NoMemory};
 use disk_model::Disk;
 use entry_file::rewrite_meta;
 use entry_metadata::Meta;
-use entry_parts::{Elements, Header};
+use entry_parts::{Elements, Header, PartsFault};
 use frecency::next as next_frecency;
 use std::alloc::Global;
 
@@ -41,15 +42,23 @@ fn changed_header(header: Header, change: Change<'_>) -> Header
     }
 }
 
+// What the only fault of an element that may be set becomes.
+fn out_of_memory(_fault: PartsFault) -> NoMemory
+    requires { _fault ≡ PartsFault.Memory }
+{
+    NoMemory
+}
+
 // The elements after the change.
 fn changed_elements(elements: Elements, change: Change<'_>) -> Result<Elements, NoMemory>
+    requires { MaySet change elements }
     ensures { IfOk result (λ after. after ≡ changed_by change.entry elements) }
 {
     let mut elements = elements;
     match change {
         Change::Set { name, value } => {
-            if elements.set(name, value).is_err() {
-                return Err(NoMemory);
+            if let Err(fault) = elements.set(name, value) {
+                return Err(out_of_memory(fault));
             }
         }
         Change::Remove { name } => {
@@ -62,7 +71,8 @@ fn changed_elements(elements: Elements, change: Change<'_>) -> Result<Elements, 
 
 // The draft after the change.
 fn changed_draft(draft: Draft, change: Change<'_>) -> Result<Draft, NoMemory>
-    requires { length (elements_bytes (changed_by change draft.elements)) ≤ ELEMENTS_MAX }
+    requires room { length (elements_bytes (changed_by change draft.elements)) ≤ ELEMENTS_MAX }
+    requires settable { MaySet change draft.elements }
     ensures header { IfOk result (λ after. after.header ≡ header_by change.entry draft.header) }
     ensures elements { IfOk result (λ after.
         after.elements ≡ changed_by change.entry draft.elements) }
@@ -86,7 +96,8 @@ fn changed_draft(draft: Draft, change: Change<'_>) -> Result<Draft, NoMemory>
 
 // The metadata after the change.
 fn changed_meta(meta: Meta, change: Change<'_>) -> Result<Meta, NoMemory>
-    requires { HasRoom (Entry.Finished meta) (changed_by change meta.elements) }
+    requires room { HasRoom (Entry.Finished meta) (changed_by change meta.elements) }
+    requires settable { MaySet change meta.elements }
     ensures header { IfOk result (λ after. after.header ≡ header_by change.entry meta.header) }
     ensures elements { IfOk result (λ after.
         after.elements ≡ changed_by change.entry meta.elements) }
@@ -114,6 +125,7 @@ fn changed_meta(meta: Meta, change: Change<'_>) -> Result<Meta, NoMemory>
 impl Handles {
     ghost use Rattle.file_handles.specs.Cache.{cache};
     ghost use Rattle.file_handles.specs.Changes.{ChangesThere, IsFiledAt, with_version};
+    ghost use Rattle.file_handles.specs.HeldChunks.{SameChunks};
     ghost use Rattle.file_handles.specs.Kept.{kept, object_at as object_kept_at};
 
     /// Makes a change of the object at a place. The metadata of a finished entry are rewritten.
@@ -127,6 +139,8 @@ impl Handles {
         requires place { place < SLOTS }
         requires room { IsSomeAnd (object_kept_at (kept self.old) place)
             (λ x. HasRoom x.entry (changed_by change (elements_in x.entry))) }
+        requires settable { IfSome (object_kept_at (kept self.old) place)
+            (λ x. MaySet change (elements_in x.entry)) }
         requires told { IsTrue D.tells → IsFiledAt (cache D.Disk self.old disk.old) place }
         ensures changes { let at = cache D.Disk in IsTrue D.tells →
             ChangesThere place (with_version (with_change change.entry)) result
@@ -136,6 +150,7 @@ impl Handles {
         ensures effect { IfOk result (IsLearntOf
             (with_version (with_change change.entry)) (object_kept_at (kept self.old) place)) }
         ensures plain { IfOk result IsPlainEffect }
+        ensures chunks { SameChunks (kept self.old) (kept self.new) }
         ensures refused { OnRefused result (λ _. ⊥) }
         ensures no_read { result ≢ Err HandleFault.Read }
         ensures account { Accounts D.Disk (ending result) disk.old disk.new }

@@ -1,6 +1,6 @@
 //! Closes a slot, and all slots at the end.
 
-ghost use Rattle.std.specs.Prelude.{◌≡◌, ◌<◌, ◌&&◌, IfOk, IsSome, IsTrue, OnOk, Some, length, ◌≢◌, Err};
+ghost use Rattle.std.specs.Prelude.{◌≡◌, ◌<◌, ◌&&◌, IfOk, IsSome, IsTrue, None, OnOk, Some, false, length, ◌≢◌, Err};
 ghost use Rattle.std.specs.List.{list_any};
 ghost use Rattle.cache_base.specs.declared.limits.TheConstants.{SLOTS};
 ghost use Rattle.cache_theory.specs.Command.Command.{Close};
@@ -12,6 +12,7 @@ ghost use Rattle.file_handles.specs.Answers.{OnRefused, done_or, ending};
 ghost use Rattle.file_handles.specs.Closing.{is_some_draft, is_use_of, let_go_by};
 ghost use Rattle.file_handles.specs.Effects.{HasEffect, IsPlainEffect};
 ghost use Rattle.file_handles.specs.Held.{object_place};
+ghost use Rattle.file_handles.specs.Unsynced.{SyncsNothing};
 ghost use Rattle.index_theory.specs.Leaves.{LeavesIndex};
 
 use crate::object::{Entry, Object, Use};
@@ -57,8 +58,9 @@ fn let_go<D: Disk>(disk: &mut D, object: &Object) -> Result<(), DiskFault>
 impl Handles {
     ghost use Rattle.file_handles.specs.Cache.{cache};
     ghost use Rattle.file_handles.specs.Carries.{CarriesOut};
-    ghost use Rattle.file_handles.specs.Closing.{ClosesAll, FinishesFirst, GivesUp, MayGiveUp};
-    ghost use Rattle.file_handles.specs.Kept.{kept, object_at as object_kept_at, object_in, use_at};
+    ghost use Rattle.file_handles.specs.Closing.{ClosesAll, ClosesChunks, FinishesFirst, GivesUp, MayGiveUp, chunks_left, writes_draft};
+    ghost use Rattle.file_handles.specs.HeldChunks.{SameChunks};
+    ghost use Rattle.file_handles.specs.Kept.{kept, number_at, object_at as object_kept_at, object_in, use_at};
     ghost use Rattle.file_handles.specs.Stands.{RepresentsSome};
 
     // Whether the use is a writer's, of a draft.
@@ -89,8 +91,13 @@ impl Handles {
             MayGiveUp slot used.place (cache D.Disk self.new disk.new)) }
         ensures effect { IfOk result (HasEffect (kept self.old) (Close slot)) }
         ensures plain { IfOk result IsPlainEffect }
+        ensures chunks { SameChunks (kept self.old) (kept self.new) }
+        ensures slots { (kept self.new).slots ≡ (kept self.old).slots }
+        ensures numbered { OnOk result
+            (number_at (kept self.new) used.place ≡ number_at (kept self.old) used.place) }
         ensures refused { OnRefused result (λ _. ⊥) }
         ensures no_read { result ≢ Err HandleFault.Read }
+        ensures same { writes_draft (kept self.old) slot ≡ false → disk.new ≡ disk.old }
         ensures index { Told D.Disk LeavesIndex disk.old disk.new }
         ensures account { Accounts D.Disk (ending result) disk.old disk.new }
         ensures change { FailsInChange D.Disk (ending result) disk.new }
@@ -109,6 +116,9 @@ impl Handles {
         requires told { IsTrue D.tells → MayGiveUp slot place (cache D.Disk self.old disk.old) }
         ensures gives_up { let at = cache D.Disk in IsTrue D.tells →
             GivesUp slot result (at self.old disk.old) (at self.new disk.new) }
+        ensures given_up { use_at (kept self.new) slot ≡ None }
+        ensures chunks { (kept self.new).chunks ≡ chunks_left (kept self.old) slot place }
+        ensures unsynced { Told D.Disk SyncsNothing disk.old disk.new }
         ensures index { Told D.Disk LeavesIndex disk.old disk.new }
         ensures account { Accounts D.Disk (disk_ending result) disk.old disk.new }
         ensures change { FailsInChange D.Disk (disk_ending result) disk.new }
@@ -140,8 +150,11 @@ impl Handles {
             CarriesOut (Close slot) (done_or result) (at self.old disk.old) (at self.new disk.new) }
         ensures effect { IfOk result (HasEffect (kept self.old) (Close slot)) }
         ensures plain { IfOk result IsPlainEffect }
+        ensures chunks { ClosesChunks slot result (kept self.old) (kept self.new) }
         ensures unchanged { OnRefused result (λ _. IsTrue D.tells → disk.new ≡ disk.old) }
         ensures no_read { result ≢ Err HandleFault.Read }
+        ensures unsynced { writes_draft (kept self.old) slot ≡ false →
+            Told D.Disk SyncsNothing disk.old disk.new }
         ensures index { Told D.Disk LeavesIndex disk.old disk.new }
         ensures account { Accounts D.Disk (ending result) disk.old disk.new }
         ensures change { FailsInChange D.Disk (ending result) disk.new }

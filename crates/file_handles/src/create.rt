@@ -17,6 +17,7 @@ ghost use Rattle.file_handles.specs.Dooming.{TakesFirstFree};
 ghost use Rattle.file_handles.specs.Effects.{HasEffect, IsPlainEffect};
 ghost use Rattle.file_handles.specs.Held.{IsHeldAs};
 ghost use Rattle.file_handles.specs.declared.fault.HandleFault.TheVariants.{Memory};
+ghost use Rattle.file_handles.specs.Unsynced.{SyncsNothing};
 ghost use Rattle.index_theory.specs.Leaves.{LeavesIndex};
 
 use crate::doom::doomed_numbers;
@@ -119,6 +120,7 @@ impl Handles {
     ghost use Rattle.file_handles.specs.Carries.{CarriesOutAt};
     ghost use Rattle.file_handles.specs.Dooming.{DoomsUnder, numbers_in};
     ghost use Rattle.file_handles.specs.Failing.{LeavesAll};
+    ghost use Rattle.file_handles.specs.HeldChunks.{SameChunks};
     ghost use Rattle.file_handles.specs.Kept.{kept};
     ghost use Rattle.file_handles.specs.Stands.{RepresentsSome};
 
@@ -128,9 +130,11 @@ impl Handles {
         ensures dooms { let at = cache D.Disk in IsTrue D.tells →
             DoomsUnder name.now.0 result (at self.old disk.old) (at self.new disk.new) }
         ensures numbered { Told D.Disk TakesFirstFree disk.old disk.new }
+        ensures chunks { SameChunks (kept self.old) (kept self.new) }
         ensures refused { OnRefused result (λ _. ⊥) }
         ensures read { OnRead result (LeavesAll D.Disk (kept self.old) (kept self.new) disk.old disk.new) }
         ensures change { result ≡ Err HandleFault.Disk → FailsInChange D.Disk (ending result) disk.new }
+        ensures unsynced { Told D.Disk SyncsNothing disk.old disk.new }
         ensures index { Told D.Disk LeavesIndex disk.old disk.new }
         ensures account { Accounts D.Disk (ending result) disk.old disk.new }
     {
@@ -172,9 +176,11 @@ impl Handles {
         ensures plain { IfOk result IsPlainEffect }
         ensures bad_key { may_write_of key.now ≡ false → OnOk result ⊥ }
         ensures numbered { Told D.Disk TakesFirstFree disk.old disk.new }
+        ensures chunks { SameChunks (kept self.old) (kept self.new) }
         ensures unchanged { OnRefused result (λ _. disk.new ≡ disk.old) }
         ensures read { OnRead result (LeavesAll D.Disk (kept self.old) (kept self.new) disk.old disk.new) }
         ensures change { result ≡ Err HandleFault.Disk → FailsInChange D.Disk (ending result) disk.new }
+        ensures unsynced { Told D.Disk SyncsNothing disk.old disk.new }
         ensures index { Told D.Disk LeavesIndex disk.old disk.new }
         ensures account { Accounts D.Disk (ending result) disk.old disk.new }
     {

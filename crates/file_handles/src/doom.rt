@@ -11,6 +11,7 @@ ghost use Rattle.disk_model.specs.State.{standing};
 ghost use Rattle.disk_model.specs.declared.place.Place.TheVariants.{Entry as EntryAt};
 ghost use Rattle.file_handles.specs.Dooming.{SetsAside, TakesFirstFree, numbers_in};
 ghost use Rattle.file_handles.specs.Effects.{HasEffect, IsPlainEffect};
+ghost use Rattle.file_handles.specs.Unsynced.{SyncsNothing};
 ghost use Rattle.index_theory.specs.Leaves.{LeavesIndex};
 
 use crate::find::look;
@@ -33,6 +34,7 @@ pub(crate) struct DoomedNumbers {
 
 pub(crate) fn doomed_numbers(objects: &[Option<Object>; SLOTS]) -> DoomedNumbers
     ensures count { result.count ≤ SLOTS }
+    ensures rows { length objects.now ≡ SLOTS }
     ensures numbers { take result.count result.numbers ≡ numbers_in objects.now }
 {
     let mut numbers = [0; SLOTS];
@@ -74,6 +76,7 @@ impl Handles {
     ghost use Rattle.file_handles.specs.Cache.{cache};
     ghost use Rattle.file_handles.specs.Carries.{CarriesOut};
     ghost use Rattle.file_handles.specs.Dooming.{DoomsUnder, EndsOn};
+    ghost use Rattle.file_handles.specs.HeldChunks.{SameChunks};
     ghost use Rattle.file_handles.specs.Kept.{kept};
     ghost use Rattle.file_handles.specs.Failing.{LeavesAll};
     ghost use Rattle.file_handles.specs.Loading.{user_place};
@@ -93,16 +96,14 @@ impl Handles {
         ensures dooms { let at = cache D.Disk in IsTrue D.tells →
             DoomsUnder name.now.0 result (at self.old disk.old) (at self.new disk.new) }
         ensures numbered { Told D.Disk TakesFirstFree disk.old disk.new }
+        ensures chunks { SameChunks (kept self.old) (kept self.new) }
         ensures refused { OnRefused result (λ _. ⊥) }
         ensures no_read { result ≢ Err HandleFault.Read }
+        ensures unsynced { Told D.Disk SyncsNothing disk.old disk.new }
         ensures index { Told D.Disk LeavesIndex disk.old disk.new }
         ensures account { Accounts D.Disk (ending result) disk.old disk.new }
         ensures change { FailsInChange D.Disk (ending result) disk.new }
     {
-        let doomed = doomed_numbers(&self.objects);
-        if doomed.count >= SLOTS {
-            return Err(HandleFault::Memory);
-        }
         let object = self.take(place);
         let Object {
             number,
@@ -111,6 +112,8 @@ impl Handles {
             entry,
             ..
         } = object;
+        // Those of the other objects, so fewer than the table has rows.
+        let doomed = doomed_numbers(&self.objects);
         let moved_to = set_aside(disk, name, aside, &doomed.numbers[..doomed.count])?;
         self.put_entry(place, number, own, true, Some(moved_to), entry);
         Ok(())
@@ -131,8 +134,10 @@ impl Handles {
             × ((disk.new ≡ disk.old) × (kept self.new ≡ kept self.old)) }
         ensures some { IfOk result (λ doomed.
             doomed ≡ is_some (user_place (kept self.old) name.now)) }
+        ensures chunks { SameChunks (kept self.old) (kept self.new) }
         ensures refused { OnRefused result (λ _. ⊥) }
         ensures no_read { result ≢ Err HandleFault.Read }
+        ensures unsynced { Told D.Disk SyncsNothing disk.old disk.new }
         ensures index { Told D.Disk LeavesIndex disk.old disk.new }
         ensures account { Accounts D.Disk (ending result) disk.old disk.new }
         ensures change { FailsInChange D.Disk (ending result) disk.new }
@@ -186,9 +191,11 @@ impl Handles {
         ensures effect { IfOk result (HasEffect (kept self.old) (Doom key.now)) }
         ensures plain { IfOk result IsPlainEffect }
         ensures numbered { Told D.Disk TakesFirstFree disk.old disk.new }
+        ensures chunks { SameChunks (kept self.old) (kept self.new) }
         ensures unchanged { OnRefused result (λ _. Told D.Disk (λ s t. t ≡ s) disk.old disk.new) }
         ensures read { OnRead result (LeavesAll D.Disk (kept self.old) (kept self.new) disk.old disk.new) }
         ensures change { result ≡ Err HandleFault.Disk → FailsInChange D.Disk (ending result) disk.new }
+        ensures unsynced { Told D.Disk SyncsNothing disk.old disk.new }
         ensures index { Told D.Disk LeavesIndex disk.old disk.new }
         ensures account { Accounts D.Disk (ending result) disk.old disk.new }
     {

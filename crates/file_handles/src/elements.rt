@@ -1,6 +1,6 @@
 //! Reads and changes the elements of an entry in use.
 
-ghost use Rattle.std.specs.Prelude.{ℕ, List, Some, ◌+◌, ◌≡◌, ◌<◌, ◌≤◌, IfErr, IfNone, IfOk, IfSome, IsSomeAnd, IsTrue, OnOk, length, option_map, ◌≢◌, Err};
+ghost use Rattle.std.specs.Prelude.{ℕ, List, None, Some, ◌+◌, ◌≡◌, ◌<◌, ◌≤◌, IfErr, IfNone, IfOk, IfSome, IsSomeAnd, IsTrue, OnOk, length, option_map, ◌≢◌, Err};
 ghost use Rattle.cache_base.specs.Limits.{chunks as chunks_of};
 ghost use Rattle.cache_base.specs.declared.limits.TheConstants.{ELEMENTS_MAX, SLOTS};
 ghost use Rattle.cache_theory.specs.Command.Command.{ElementOf, SetElement, UnsetElement};
@@ -10,11 +10,12 @@ ghost use Rattle.disk_model.specs.Account.{Accounts, FailsInChange};
 ghost use Rattle.disk_model.specs.Told.{Told};
 ghost use Rattle.entry_metadata.specs.Metadata.{block_length};
 ghost use Rattle.entry_parts.specs.Elements.{elements_bytes};
-ghost use Rattle.entry_parts.specs.Setting.{has_zero as has_zero_in, with_element};
+ghost use Rattle.entry_parts.specs.Setting.{has_zero as has_zero_in, set_fault, with_element};
 ghost use Rattle.file_handles.specs.Answers.{OnRefused, done_or, done_or_none, ending};
 ghost use Rattle.file_handles.specs.Effects.{HasEffect, IsPlainEffect};
 ghost use Rattle.file_handles.specs.Held.{body_len_in, elements_in, key_in};
 ghost use Rattle.file_handles.specs.Setting.{HasRoom, are_small, small_len};
+ghost use Rattle.file_handles.specs.Unsynced.{SyncsNothing};
 ghost use Rattle.index_theory.specs.Leaves.{LeavesIndex};
 
 use crate::change::Change;
@@ -85,6 +86,7 @@ fn may_have(entry: &Entry, elements: &Elements, name: &[u8], value: &[u8]) -> bo
 impl Handles {
     ghost use Rattle.file_handles.specs.Cache.{cache};
     ghost use Rattle.file_handles.specs.Carries.{Answers, CarriesOut};
+    ghost use Rattle.file_handles.specs.HeldChunks.{SameChunks};
     ghost use Rattle.file_handles.specs.Kept.{kept, object_at as object_kept_at};
     ghost use Rattle.file_handles.specs.Refuses.{HasAt, Passes, Refuses, UsesObject};
     ghost use Rattle.file_handles.specs.Stands.{RepresentsSome};
@@ -116,6 +118,8 @@ impl Handles {
         ensures passes { OnOk result (Passes (kept self.now) (SetElement slot name.now value.now)) }
         ensures object { IfOk result (λ place. UsesObject (kept self.now) slot place
             (λ x. HasRoom x.entry (with_element name.now value.now (elements_in x.entry)))) }
+        ensures settable { IfOk result (λ place. IfSome (object_kept_at (kept self.now) place)
+            (λ x. set_fault name.now value.now (elements_in x.entry) ≡ None)) }
     {
         let place = self.may_change(slot)?;
         if name.is_empty() || has_zero(name) || has_zero(value) {
@@ -147,8 +151,10 @@ impl Handles {
         ensures effect { IfOk result
             (HasEffect (kept self.old) (SetElement slot name.now value.now)) }
         ensures plain { IfOk result IsPlainEffect }
+        ensures chunks { SameChunks (kept self.old) (kept self.new) }
         ensures unchanged { OnRefused result (λ _. disk.new ≡ disk.old) }
         ensures no_read { result ≢ Err HandleFault.Read }
+        ensures unsynced { Told D.Disk SyncsNothing disk.old disk.new }
         ensures index { Told D.Disk LeavesIndex disk.old disk.new }
         ensures account { Accounts D.Disk (ending result) disk.old disk.new }
         ensures change { FailsInChange D.Disk (ending result) disk.new }
@@ -174,9 +180,11 @@ impl Handles {
         ensures effect { IfOk result (λ some.
             IfSome some (HasEffect (kept self.old) (UnsetElement slot name.now))) }
         ensures plain { IfOk result (λ some. IfSome some IsPlainEffect) }
+        ensures chunks { SameChunks (kept self.old) (kept self.new) }
         ensures unchanged { OnRefused result (λ _. disk.new ≡ disk.old) }
         ensures no_read { result ≢ Err HandleFault.Read }
         ensures none_there { IfOk result (λ effect. IfNone effect (disk.new ≡ disk.old)) }
+        ensures unsynced { Told D.Disk SyncsNothing disk.old disk.new }
         ensures index { Told D.Disk LeavesIndex disk.old disk.new }
         ensures account { Accounts D.Disk (ending result) disk.old disk.new }
         ensures change { FailsInChange D.Disk (ending result) disk.new }

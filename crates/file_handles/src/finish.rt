@@ -15,7 +15,7 @@ ghost use Rattle.index_theory.specs.Leaves.{LeavesIndex};
 
 use crate::object::{Draft, Entry, Object};
 use crate::{Effect, HandleFault, Handles};
-use cache_base::{BODY_MAX, Name};
+use cache_base::Name;
 use cache_theory::Refusal;
 use disk_model::{Disk, DiskFault, Place};
 use entry_metadata::{Meta, block_len};
@@ -72,7 +72,8 @@ impl Handles {
     ghost use Rattle.file_handles.specs.Carries.{CarriesOut};
     ghost use Rattle.file_handles.specs.Changes.{IsFiledAt, completed};
     ghost use Rattle.file_handles.specs.Publishing.{CompletesThere};
-    ghost use Rattle.file_handles.specs.Kept.{kept, object_at as object_kept_at, object_in};
+    ghost use Rattle.file_handles.specs.HeldChunks.{SameChunks};
+    ghost use Rattle.file_handles.specs.Kept.{kept, number_at, object_at as object_kept_at, object_in};
     ghost use Rattle.file_handles.specs.Refuses.{Passes, Refuses, UsesObject};
     ghost use Rattle.file_handles.specs.Stands.{RepresentsSome};
 
@@ -107,6 +108,10 @@ impl Handles {
         ensures effect { IfOk result
             (IsLearntOf completed (object_kept_at (kept self.old) place)) }
         ensures plain { IfOk result IsPlainEffect }
+        ensures chunks { SameChunks (kept self.old) (kept self.new) }
+        ensures slots { (kept self.new).slots ≡ (kept self.old).slots }
+        ensures numbered { OnOk result
+            (number_at (kept self.new) place ≡ number_at (kept self.old) place) }
         ensures refused { OnRefused result (λ _. ⊥) }
         ensures no_read { result ≢ Err HandleFault.Read }
         ensures account { Accounts D.Disk (ending result) disk.old disk.new }
@@ -124,10 +129,6 @@ impl Handles {
         let Entry::Draft(draft) = entry else {
             unreachable!();
         };
-        // No body is longer, so that its block is small.
-        if draft.body.len() as usize > BODY_MAX {
-            return Err(HandleFault::Memory);
-        }
         let Draft {
             body,
             header,
@@ -157,6 +158,7 @@ impl Handles {
             (at self.old disk.old) (at self.new disk.new) }
         ensures effect { IfOk result (HasEffect (kept self.old) (Finish slot)) }
         ensures plain { IfOk result IsPlainEffect }
+        ensures chunks { SameChunks (kept self.old) (kept self.new) }
         ensures unchanged { OnRefused result (λ _. disk.new ≡ disk.old) }
         ensures no_read { result ≢ Err HandleFault.Read }
         ensures index { Told D.Disk LeavesIndex disk.old disk.new }

@@ -21,6 +21,7 @@ impl Handles {
     ghost use Rattle.file_handles.specs.Cache.{cache};
     ghost use Rattle.file_handles.specs.Carries.{CarriesOut};
     ghost use Rattle.file_handles.specs.Joining.{AddsTo, JoinsAt};
+    ghost use Rattle.file_handles.specs.HeldChunks.{SameChunks};
     ghost use Rattle.file_handles.specs.Kept.{kept};
     ghost use Rattle.file_handles.specs.Stands.{HandlesStand, RepresentsSome};
 
@@ -37,7 +38,8 @@ impl Handles {
     pub(crate) fn add(&mut self, slot: u8, object: Object, writes: bool) -> Result<(), HandleFault>
         requires slot { slot < SLOTS }
         requires numbered { object.number ≡ (kept self.old).made }
-        ensures { AddsTo slot object writes result (kept self.old) (kept self.new) }
+        ensures adds { AddsTo slot object writes result (kept self.old) (kept self.new) }
+        ensures chunks { SameChunks (kept self.old) (kept self.new) }
     {
         let Some(place) = self.free_place() else {
             return Err(HandleFault::Memory);
@@ -66,6 +68,7 @@ impl Handles {
         ensures carried { let at = cache D.Disk in IsTrue D.tells →
             CarriesOut (OpenKey slot key.now) (done_or result)
             (at self.old disk.old) (at self.new disk.new) }
+        ensures chunks { SameChunks (kept self.old) (kept self.new) }
         ensures read { OnRead result (kept self.new ≡ kept self.old) }
         ensures no_change { result ≢ Err HandleFault.Disk }
         ensures in_use { (m : Machine) (number : ℕ → ℕ) → IsProper m →

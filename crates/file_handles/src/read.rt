@@ -1,11 +1,11 @@
 //! Reads the body of the entry in a slot.
 
-ghost use Rattle.std.specs.Prelude.{ℕ, ◌%◌, ◌≡◌, ◌≢◌, ◌<◌, ◌≤◌, Err, IfErr, IfOk, IfSome, IsSome, IsTrue, None, Ok, OnOk, length, take, drop};
+ghost use Rattle.std.specs.Prelude.{ℕ, ◌%◌, ◌≡◌, ◌≢◌, ◌<◌, ◌≤◌, Err, IfErr, IfOk, IfSome, IsSome, IsTrue, None, Ok, OnErr, OnOk, length, take, drop};
 ghost use Rattle.std.specs.Borrow.{sem};
 ghost use Rattle.cache_base.specs.Limits.{chunk_size, chunks};
 ghost use Rattle.cache_base.specs.declared.limits.TheConstants.{SLOTS};
 ghost use Rattle.cache_theory.specs.Command.Command.{ReadPart};
-ghost use Rattle.chunk_cache.specs.Cached.{StandsFirst, bytes_of, looked_at};
+ghost use Rattle.chunk_cache.specs.Cached.{bytes_of, looked_at};
 ghost use Rattle.chunk_store.specs.Chunks.{chunk as chunk_of};
 ghost use Rattle.disk_model.specs.Account.{Looks};
 ghost use Rattle.disk_model.specs.State.{standing};
@@ -108,6 +108,7 @@ fn read_over<D: Disk>(
 
 impl Handles {
     ghost use Rattle.file_handles.specs.Cache.{cache};
+    ghost use Rattle.file_handles.specs.HeldChunks.{MayLoseLast, PutsFirst};
     ghost use Rattle.file_handles.specs.Kept.{kept, object_at as object_kept_at};
     ghost use Rattle.file_handles.specs.Reading.{HasChunkOf};
     ghost use Rattle.file_handles.specs.declared.object.Object.{Object};
@@ -201,8 +202,9 @@ impl Handles {
         chunk: &StoredChunk,
     ) -> Result<(), HandleFault>
         requires { chunk.now.index < chunks chunk.now.stored }
-        ensures first { OnOk result
-            (StandsFirst chunk.now.number chunk.now.index (kept self.new).chunks) }
+        ensures put { OnOk result (PutsFirst chunk.now.number chunk.now.index
+            (kept self.old).chunks (kept self.new).chunks) }
+        ensures failed { OnErr result (MayLoseLast (kept self.old).chunks (kept self.new).chunks) }
         ensures found { OnOk result
             (IsSome (bytes_of chunk.now.number chunk.now.index (kept self.new).chunks)) }
         ensures same { SameButChunks (kept self.old) (kept self.new) }

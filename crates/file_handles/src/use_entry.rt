@@ -7,6 +7,7 @@ ghost use Rattle.disk_model.specs.Account.{Accounts, FailsInChange};
 ghost use Rattle.disk_model.specs.Told.{Told};
 ghost use Rattle.file_handles.specs.Answers.{OnRefused, done_or, ending};
 ghost use Rattle.file_handles.specs.Effects.{HasEffectAt, IsPlainEffect};
+ghost use Rattle.file_handles.specs.Unsynced.{SyncsNothing};
 ghost use Rattle.index_theory.specs.Leaves.{LeavesIndex};
 
 use crate::change::Change;
@@ -19,6 +20,7 @@ use std::alloc::Global;
 impl Handles {
     ghost use Rattle.file_handles.specs.Cache.{cache};
     ghost use Rattle.file_handles.specs.Carries.{CarriesOutAt};
+    ghost use Rattle.file_handles.specs.HeldChunks.{SameChunks};
     ghost use Rattle.file_handles.specs.Kept.{kept, object_at as object_kept_at};
     ghost use Rattle.file_handles.specs.Refuses.{HasAt, Passes, Refuses};
     ghost use Rattle.file_handles.specs.Stands.{RepresentsSome};
@@ -52,8 +54,10 @@ impl Handles {
             (at self.old disk.old) (at self.new disk.new) }
         ensures effect { IfOk result (HasEffectAt now (kept self.old) (UseEntry slot)) }
         ensures plain { IfOk result IsPlainEffect }
+        ensures chunks { SameChunks (kept self.old) (kept self.new) }
         ensures unchanged { OnRefused result (λ _. disk.new ≡ disk.old) }
         ensures no_read { result ≢ Err HandleFault.Read }
+        ensures unsynced { Told D.Disk SyncsNothing disk.old disk.new }
         ensures index { Told D.Disk LeavesIndex disk.old disk.new }
         ensures account { Accounts D.Disk (ending result) disk.old disk.new }
         ensures change { FailsInChange D.Disk (ending result) disk.new }

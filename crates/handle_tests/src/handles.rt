@@ -7,6 +7,7 @@ mod doomed;
 mod elements;
 mod refusals;
 mod sessions;
+mod slots;
 mod users;
 
 use cache_base::{Moment, Name, Names, NoMemory};
@@ -32,6 +33,8 @@ const Y: &[u8] = b":https://y/";
 #[derive(Clone, Copy)]
 enum Call<'a> {
     Create(u8, &'a [u8], Moment),
+    // Each slot writes an entry: the first that of the key `:!`.
+    CreateAll,
     Open(u8, &'a [u8]),
     Append(u8, &'a [u8]),
     // A whole chunk of this byte.
@@ -66,8 +69,10 @@ enum Answer<'a> {
     // The index learns nothing.
     Same,
     Gone(&'a [u8]),
-    // The record of the key X: its moment, content type and size. Its key has no origin, and so the hash of none.
+    // The record of the key X: its moment, content type and size.
     Wrote(Moment, u8, u32),
+    // The same of this key.
+    WroteUnder(&'a [u8], Moment, u8, u32),
     // Fetch count, last modified, frecency, and the length of the body.
     Found(u32, Moment, Moment, u32),
     Bytes(&'a [u8]),
@@ -79,20 +84,28 @@ enum Answer<'a> {
 
 type Row<'a> = (Call<'a>, Answer<'a>);
 
+// The record of an entry whose key has no origin, and so the hash of none.
+fn wrote(key: &[u8], frecency: Moment, content: u8, size_kb: u32) -> Option<Effect> {
+    Some(Effect::Wrote(IndexRecord {
+        name: name_of(key),
+        frecency,
+        origin: 0xDA39_A3EE_5E6B_4B0D,
+        on_start: NO_TIME,
+        on_stop: NO_TIME,
+        content,
+        flags: INITIALIZED | size_kb,
+    }))
+}
+
 // What the index has to learn, where the answer is that.
 fn effect_of(answer: &Answer<'_>) -> Option<Effect> {
     match *answer {
         Answer::Same => Some(Effect::Same),
         Answer::Gone(key) => Some(Effect::Gone(name_of(key))),
-        Answer::Wrote(frecency, content, size_kb) => Some(Effect::Wrote(IndexRecord {
-            name: name_of(X),
-            frecency,
-            origin: 0xDA39_A3EE_5E6B_4B0D,
-            on_start: NO_TIME,
-            on_stop: NO_TIME,
-            content,
-            flags: INITIALIZED | size_kb,
-        })),
+        Answer::Wrote(frecency, content, size_kb) => wrote(X, frecency, content, size_kb),
+        Answer::WroteUnder(key, frecency, content, size_kb) => {
+            wrote(key, frecency, content, size_kb)
+        }
         _ => None,
     }
 }
@@ -206,6 +219,18 @@ fn append_chunk(
         Ok(chunk) => handles.append(disk, slot, &chunk),
         Err(_) => Err(HandleFault::Memory),
     }
+}
+
+// Makes an entry for each slot, whose keys differ in their last byte.
+fn create_all(
+    rt: &HostRuntime,
+    handles: &mut Handles,
+    disk: &mut HostDisk<'_>,
+) -> Result<(), HandleFault> {
+    for slot in 0..64 {
+        let _effect = handles.create(rt.alloc(), disk, slot, &[b':', b'!' + slot], 1)?;
+    }
+    Ok(())
 }
 
 // Evicts an entry, if no slot uses it.
@@ -332,6 +357,7 @@ fn answers(
 ) -> bool {
     let alloc = rt.alloc();
     match *call {
+        Call::CreateAll => is_done(create_all(rt, handles, disk), wanted),
         Call::CloseAll => are_closed(rt, handles, disk),
         Call::Doom(key) => learns(handles.doom(alloc, disk, key), wanted),
         Call::Find(key) => is_found(rt, handles, disk, key, wanted),

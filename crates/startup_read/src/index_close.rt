@@ -11,7 +11,7 @@ ghost use Rattle.index_theory.specs.Apart.{IsApart};
 ghost use Rattle.index_theory.specs.Closing.{closed, flagged, log_synced};
 ghost use Rattle.disk_model.specs.Told.{Told};
 ghost use Rattle.index_theory.specs.Unclean.{IsUnclean};
-ghost use Rattle.disk_model.specs.Account.{Accounts, LooksAtNoEntry, ending};
+ghost use Rattle.disk_model.specs.Account.{Accounts, FailsInChange, LooksAtNoEntry, ending};
 ghost use Rattle.startup_read.specs.Closing as spec;
 ghost use Rattle.startup_read.specs.Kept.{KeepsIndex};
 ghost use Rattle.startup_read.specs.Spares.{SparesEntries};
@@ -40,6 +40,7 @@ fn write_log<D: Disk>(disk: &mut D, bytes: &[u8]) -> Result<(), DiskFault>
         (Told D.Disk (λ s t. t ≡ log_synced bytes.now s) disk.old disk.new) }
     ensures amid { Told D.Disk (spec.IsAmidLogging bytes.now) disk.old disk.new }
     ensures account { Accounts D.Disk (ending result) disk.old disk.new }
+    ensures change { FailsInChange D.Disk (ending result) disk.new }
     ensures no_entry { LooksAtNoEntry D.Disk disk.old disk.new }
 {
     disk.create(&Place::Log)?;
@@ -54,6 +55,7 @@ fn clear_flag<D: Disk>(disk: &mut D) -> Result<(), DiskFault>
         (Told D.Disk (λ s t. t ≡ settled (flagged (be32 0) s)) disk.old disk.new) }
     ensures amid { Told D.Disk spec.IsAmidClearing disk.old disk.new }
     ensures account { Accounts D.Disk (ending result) disk.old disk.new }
+    ensures change { FailsInChange D.Disk (ending result) disk.new }
     ensures no_entry { LooksAtNoEntry D.Disk disk.old disk.new }
 {
     disk.patch(&Place::Index, FLAG_AT, &UP_TO_DATE.to_be_bytes())?;
@@ -66,6 +68,7 @@ fn log_and_clear<D: Disk>(disk: &mut D, bytes: &[u8]) -> Result<(), DiskFault>
     ensures closed { OnOk result (Told D.Disk (λ s t. t ≡ closed bytes.now s) disk.old disk.new) }
     ensures amid { Told D.Disk (spec.IsAmidLogging bytes.now) disk.old disk.new }
     ensures account { Accounts D.Disk (ending result) disk.old disk.new }
+    ensures change { FailsInChange D.Disk (ending result) disk.new }
     ensures no_entry { LooksAtNoEntry D.Disk disk.old disk.new }
 {
     write_log(disk, bytes)?;
@@ -85,6 +88,7 @@ fn close_ended<D: Disk>(
     ensures closed { OnOk result (Told D.Disk (spec.ClosesIndex map.old now) disk.old disk.new) }
     ensures amid { Told D.Disk (spec.IsAmidClosing map.old now) disk.old disk.new }
     ensures account { Accounts D.Disk (ending result) disk.old disk.new }
+    ensures change { FailsInChange D.Disk (ending result) disk.new }
     ensures no_entry { LooksAtNoEntry D.Disk disk.old disk.new }
 {
     refresh_index(alloc, disk, map, now)?;
@@ -128,6 +132,7 @@ pub fn close_index<D: Disk>(
 
     // Calls and faults.
     ensures account { Accounts D.Disk (ending result) disk.old disk.new }
+    ensures change { FailsInChange D.Disk (ending result) disk.new }
     ensures no_entry { LooksAtNoEntry D.Disk disk.old disk.new }
 {
     if ended {

@@ -15,9 +15,10 @@ mod liar;
 mod one;
 mod put;
 mod script;
+mod slots;
 mod verify;
 
-use cache_base::{Bytes, NoMemory, Numbers, Status};
+use cache_base::{Bytes, Names, NoMemory, Numbers, Status};
 use cache_io::{MemSink, MemSource};
 use cache_tool::run;
 use disk_model::{Disk, MemDisk, Place};

@@ -58,3 +58,19 @@ fn an_unused_entry_is_removed(rt: HostRuntime) -> Result<(), Fail> {
     assert!(rt; rows_answered(&rt, UNUSED)? == UNUSED.len());
     Ok(())
 }
+
+const ALL_DRAFTS: &[Row<'static>] = &[
+    (Call::CreateAll, Answer::Done),
+    (Call::Doom(b":!"), Answer::Gone(b":!")),
+    (Call::Append(0, b"on"), Answer::Done),
+    (Call::Finish(0), Answer::Same),
+    (Call::FileLen("cache/doomed/64"), Answer::Nothing),
+    (Call::CloseAll, Answer::Done),
+];
+
+// Where every slot writes an entry, all their files stand aside already, and a draft is doomed without another number.
+#[test]
+fn a_draft_is_doomed_among_64(rt: HostRuntime) -> Result<(), Fail> {
+    assert!(rt; rows_answered(&rt, ALL_DRAFTS)? == ALL_DRAFTS.len());
+    Ok(())
+}

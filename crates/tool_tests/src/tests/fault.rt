@@ -1,8 +1,9 @@
 //! A look at the disk that fails: the command is answered by the line `fault`, and all is as it was.
 
+use super::get::{HEAD, file_of_two_chunks, repeated};
 use super::{
-    FILE, GET, KEY, OPENING, bytes, call, copy_file, disk_with, ends, one_number, place_of,
-    words_of,
+    FILE, GET, KEY, OPENING, Row, bytes, call, comes_so, copy_file, disk_with, ends, one_number,
+    place_of, words_of,
 };
 use cache_base::{Bytes, Status};
 use cache_io::{MemSink, MemSource};
@@ -170,5 +171,64 @@ fn a_failed_check_leaves_the_update(rt: HostRuntime) -> Result<(), Fail> {
         }
     }
     assert!(rt; told > 5);
+    Ok(())
+}
+
+// Words and a script for a body of two chunks, and what is printed before it.
+type Printing<'a> = (&'a str, &'a [u8], &'a [u8]);
+
+const TWO_CHUNKS: [Printing<'static>; 2] = [
+    (GET, b"", HEAD),
+    (
+        "1000 run",
+        b"open 1 :https://example.com/\nread 1 0 262145\nflush\n",
+        b"ok\ndata 262145\n",
+    ),
+];
+
+// The look at the second chunk that is printed, by its number among the calls: the size, the last four bytes, the block and
+// both chunks come before, and the first chunk once more.
+const SECOND_CHUNK: u32 = OPENING + 7;
+
+// Whether the run ends there, with all out up to the first chunk.
+fn ends_after_a_chunk(alloc: Global, file: &[u8], printing: &Printing<'_>) -> Result<bool, Fail> {
+    let (line, input, before) = *printing;
+    let text = repeated(alloc, before, b'a', 262_144, b"")?;
+    let mut disk = disk_with(alloc, KEY, file)?;
+    disk.fail_at(one_number(alloc, SECOND_CHUNK)?);
+    let row: Row<'_> = (line, input, Status::Disk, text.as_slice());
+    Ok(comes_so(alloc, &mut disk, &row)? && disk.calls() == u64::from(SECOND_CHUNK))
+}
+
+// A look that fails where a part of the reply is out ends the run. No call follows, and the reply is not taken back.
+#[test]
+fn a_reply_stops_at_the_second_chunk(rt: HostRuntime) -> Result<(), Fail> {
+    let file = file_of_two_chunks(rt.alloc())?;
+    for index in 0..TWO_CHUNKS.len() {
+        let so = ends_after_a_chunk(rt.alloc(), file.as_slice(), &TWO_CHUNKS[index])?;
+        assert!(rt; so, "row {index}");
+    }
+    Ok(())
+}
+
+// The first chunk of a `read` cannot be read, and then it can.
+const READ_AGAIN: &[u8] = b"open 1 :https://example.com/\nread 1 0 262145\nread 1 262143 2\n";
+
+fn is_read_again(alloc: Global, file: &[u8]) -> Result<bool, Fail> {
+    let mut disk = disk_with(alloc, KEY, file)?;
+    disk.fail_at(one_number(alloc, OPENING + 6)?);
+    let text = b"ok\nfault\ndata 2\nab\n";
+    comes_so(
+        alloc,
+        &mut disk,
+        &("1000 run", READ_AGAIN, Status::Done, text),
+    )
+}
+
+// A look that fails at the first chunk of a `read` is answered by the line, and nothing else of the reply is out.
+#[test]
+fn a_read_that_fails_is_read_again(rt: HostRuntime) -> Result<(), Fail> {
+    let file = file_of_two_chunks(rt.alloc())?;
+    assert!(rt; is_read_again(rt.alloc(), file.as_slice())?);
     Ok(())
 }

@@ -201,7 +201,7 @@ fn an_old_file_is_read_among_the_doomed(rt: HostRuntime) -> Result<(), Fail> {
 }
 
 // So many times this byte, and what stands before and after.
-fn repeated(
+pub(super) fn repeated(
     alloc: Global,
     before: &[u8],
     byte: u8,
@@ -215,14 +215,14 @@ fn repeated(
 }
 
 // The file of the entry of a chunk of `a` and a `b`, as `put` writes it.
-fn file_of_two_chunks(alloc: Global) -> Result<Bytes, Fail> {
+pub(super) fn file_of_two_chunks(alloc: Global) -> Result<Bytes, Fail> {
     let body = repeated(alloc, b"", b'a', 262_144, b"b")?;
     let mut disk = MemDisk::new(alloc);
     put_on(alloc, &mut disk, body.as_slice())
 }
 
 // What a `get` prints of it before the body.
-const HEAD: &[u8] = b"found 1 1000 1000 1000 4294967295 0 0 262145\n\n";
+pub(super) const HEAD: &[u8] = b"found 1 1000 1000 1000 4294967295 0 0 262145\n\n";
 
 fn prints_each(alloc: Global, file: &[u8]) -> Result<bool, Fail> {
     let text = repeated(alloc, HEAD, b'a', 262_144, b"b\n")?;

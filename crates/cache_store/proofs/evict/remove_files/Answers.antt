@@ -6,6 +6,7 @@ use Rattle.cache_store.proofs.CalmAccounts.{fault_handed_on}
 use Rattle.cache_store.proofs.NamesDoomed.{Completes, next_done, next_fails, none_left, rest_holds, rest_unused}
 use Rattle.file_handles.specs.Cache.{cache}
 use Rattle.file_handles.specs.Kept.{Kept, kept}
+use Rattle.file_handles.proofs.UnsyncedLaws.{then_unsynced}
 use Rattle.cache_store.proofs.evict.remove_files.Goals as goal
 
 pub evict-requires-clause-unused : goal.evict-requires-clause-unused
@@ -39,6 +40,7 @@ loop-name-preserved g c =
           _ (c.in_ok-evict.ensures.evicts told);
       kept = search rules;
       index = search rules;
+      unsynced = λ told. then_unsynced _ _ _ (c.loop-name.invariant.unsynced told) (c.evict.ensures.unsynced told);
       calm = search rules;
       looks = search rules;
     }
@@ -64,3 +66,6 @@ returns-clause-dooms g c = λ told.
     let i = c.loop-name.name-index in
     none_left names (drop i names) (cache g.D.Disk c.args.handles.now c.args.disk.now) (cache g.D.Disk c.loop-name.handles c.loop-name.disk)
     (drop_of_length-le names (let past = c.loop-name-test.false in omega (arith, past))) (c.loop-name.invariant.completes told)
+
+pub returns-in_err-evict-clause-unsynced : goal.returns-in_err-evict-clause-unsynced
+returns-in_err-evict-clause-unsynced g c = λ told. then_unsynced _ _ _ (c.loop-name.invariant.unsynced told) (c.evict.ensures.unsynced told)

@@ -2,7 +2,7 @@ use Rattle.std.proofs.Common.{◌∙◌, sym, IsTrue}
 use Rattle.disk_model.specs.State.{standing}
 use Rattle.index_theory.specs.Start.{start_of}
 use Rattle.startup_read.proofs.KeptLaws.{unready_sees_none}
-use Rattle.cache_store.proofs.BasedIndex.{begun_based, opens_based}
+use Rattle.cache_store.proofs.BasedIndex.{begins_on, begun_based, begun_on, opens_based}
 use Rattle.cache_store.proofs.BegunIndex.{begun_holds, begun_rest, begun_tells, build_unready, ready_rest, same_opens_honest, update_unready}
 use Rattle.cache_store.proofs.OpenedIndex.{opened_entries}
 use Rattle.cache_store.proofs.opening.begin_index.Goals as goal
@@ -77,3 +77,18 @@ returns-in-Build-clause-based g c =
     let t = g.D.Disk.state c.open_index.new.disk in
     begun_based c.begin_update-in-Build.result (IsTrue g.D.Disk.tells) s t (g.D.Disk.state c.begin_update-in-Build.new.disk) c.in_ok-start.field-0.map c.begin_update-in-Build.ensures.looks.state
     (λ told. opens_based s t c.in_ok-start.field-0.map (c.in_ok-start.ensures.map told) (c.in_ok-start.ensures.opened told)) c.begin_update-in-Build.ensures.base
+
+pub returns-in-Ready-clause-begins : goal.returns-in-Ready-clause-begins
+returns-in-Ready-clause-begins g c = λ told. begins_on (standing (g.D.Disk.state c.args.disk.now)) c.in_ok-start.field-0.map (c.in_ok-start.ensures.map told)
+
+pub returns-in-Update-clause-begins : goal.returns-in-Update-clause-begins
+returns-in-Update-clause-begins g c =
+    let files = standing (g.D.Disk.state c.args.disk.now) in
+    begun_on c.begin_update.result (IsTrue g.D.Disk.tells) files c.in_ok-start.field-0.map
+    (λ told. update_unready c.in_ok-start.field-0.start (start_of files) c.in-Update.is (c.in_ok-start.ensures.start told)) c.in_ok-start.ensures.map c.begin_update.ensures.base
+
+pub returns-in-Build-clause-begins : goal.returns-in-Build-clause-begins
+returns-in-Build-clause-begins g c =
+    let files = standing (g.D.Disk.state c.args.disk.now) in
+    begun_on c.begin_update-in-Build.result (IsTrue g.D.Disk.tells) files c.in_ok-start.field-0.map
+    (λ told. build_unready c.in_ok-start.field-0.start (start_of files) c.in-Build.is (c.in_ok-start.ensures.start told)) c.in_ok-start.ensures.map c.begin_update-in-Build.ensures.base

@@ -14,5 +14,8 @@ returns-clause-counted c = on.kept_are_counted
 pub returns-clause-within : goal.returns-clause-within
 returns-clause-within c = on.faults_are_within
 
+pub returns-clause-numbered : goal.returns-clause-numbered
+returns-clause-numbered c = on.next_is_numbered
+
 pub returns-clause-marks : goal.returns-clause-marks
 returns-clause-marks c = marks.marks_are_of_kept

@@ -9,9 +9,10 @@ use Rattle.cache_store.proofs.Represented.{represents}
 use Rattle.cache_theory.specs.Faulted.{fault_line}
 use Rattle.cache_theory.specs.History.{settled_at}
 use Rattle.cache_tool.specs.World.{output}
-use Rattle.cache_tool.proofs.DoneLaws.{done_right, done_where}
+use Rattle.cache_tool.proofs.DoneLaws.{begun_records, done_at_opening, done_right}
 use Rattle.cache_tool.proofs.EntryLooks.{nothing_to_read, reads_none}
-use Rattle.cache_tool.proofs.OneCommand.{came_open, faulted_prints, performed_prints, unopened_prints}
+use Rattle.cache_tool.proofs.OneCommand.{came_ending, came_open, faulted_prints, performed_prints, rose_twice, unopened_prints}
+use Rattle.cache_tool.proofs.PutEnds.{put_stops}
 use Rattle.cache_tool.proofs.StayingLaws.{stays_done, stays_for}
 use Rattle.disk_model.specs.State.{standing}
 use Rattle.index_theory.specs.Start.{start_of}
@@ -19,8 +20,8 @@ use Rattle.cache_tool.proofs.one.perform_one.Goals as goal
 
 pub returns-in-Err-clause-answers : goal.returns-in-Err-clause-answers
 returns-in-Err-clause-answers g c = λ tells m is.
-    inl (unopened_prints m _ (output g.K.Sink g.D.Disk c.args.sink.now c.args.disk.now) _ (g.D.Disk.faults c.open.new.disk) c.open.result c.in-Err.fault c.status_of_fault.result c.in-Err.is c.open.ensures.no_sink
-    c.status_of_fault.ensures (c.open.ensures.safe tells m is) (c.open.ensures.honest tells))
+    inr (inr (unopened_prints m (output g.K.Sink g.D.Disk c.args.sink.now c.args.disk.now) _ (g.D.Disk.faults c.open.new.disk) c.open.result c.in-Err.fault c.status_of_fault.result c.in-Err.is c.open.ensures.no_sink
+    c.status_of_fault.ensures (c.open.ensures.safe tells m is) (c.open.ensures.honest tells)))
 
 pub returns-then-faulting-clause-answers : goal.returns-then-faulting-clause-answers
 returns-then-faulting-clause-answers g c = λ tells m is.
@@ -30,10 +31,13 @@ returns-then-faulting-clause-answers g c = λ tells m is.
     let calm : g.D.Disk.faults c.open.new.disk ≡ g.D.Disk.faults c.args.disk.now = c.in-Ok.ensures.account.cause.kept (λ e. cc e) in
     let rose = (command.looked failed).cause.rose refl in
     let later = c.end_faulted.ensures.later in
-    inr (faulted_prints m (output g.K.Sink g.D.Disk c.args.sink.now c.args.disk.now) (output g.K.Sink g.D.Disk c.end_faulted.new.sink c.end_faulted.new.disk)
-    (session g.D.Disk c.in-Ok.store c.open.new.disk) (session g.D.Disk c.attempt-answered.new.self c.attempt-answered.new.disk) c.end_faulted.result
-    (c.in-Ok.ensures.opens tells) is (command.stays failed tells) (c.end_faulted.ensures.ends tells) c.end_faulted.ensures.failed (omega (arith, calm, rose, later))
-    (subst (λ taken. IsPart taken (g.K.Sink.taken c.end_faulted.new.sink) fault_line) same c.end_faulted.ensures.part))
+    inr (inl (faulted_prints m (output g.K.Sink g.D.Disk c.args.sink.now c.args.disk.now) (output g.K.Sink g.D.Disk c.end_faulted.new.sink c.end_faulted.new.disk)
+    (session g.D.Disk c.in-Ok.store c.open.new.disk) (session g.D.Disk c.attempt-answered.new.self c.attempt-answered.new.disk)
+    (c.in-Ok.ensures.opens tells) is (c.in-Ok.ensures.based tells) (command.stays failed tells) (command.same_base failed) c.end_faulted.result (c.end_faulted.ensures.ends tells)
+    c.end_faulted.ensures.failed (omega (arith, calm, rose, later))
+    (subst (λ taken. IsPart taken (g.K.Sink.taken c.end_faulted.new.sink) fault_line) same c.end_faulted.ensures.part)
+    (λ disk. rose_twice (g.D.Disk.faults c.args.disk.now) (g.D.Disk.faults c.open.new.disk) (g.D.Disk.faults c.attempt-answered.new.disk) (g.D.Disk.faults c.end_faulted.new.disk) calm rose tells
+    (c.end_faulted.ensures.closed disk))))
 
 pub returns-clause-answers : goal.returns-clause-answers
 returns-clause-answers g c = λ tells m is.
@@ -47,7 +51,9 @@ returns-clause-answers g c = λ tells m is.
     inl (
       does.0,
       (
-        done_where (opens.tells m is) (command_of c.args.command.now) m does.0 done,
+        done_at_opening (g.D.Disk.state c.args.disk.now) before m (opens.tells m is)
+            (begun_records (g.D.Disk.state c.args.disk.now) before (c.in-Ok.ensures.begins tells) (nothing_to_read c.args.now (g.D.Disk.state c.args.disk.now) before (c.open.ensures.shelf tells) opens))
+            (command_of c.args.command.now) does.0 does.1.0,
         performed_prints m does.0 (output g.K.Sink g.D.Disk c.args.sink.now c.args.disk.now) (output g.K.Sink g.D.Disk c.attempt-answered.new.sink c.end.new.disk) before
             last _ opens is (c.in-Ok.ensures.based tells) (c.end.ensures.ends tells) c.attempt-answered.result c.map.result does.1.1.performs does.1.1.keeps
             (λ had. stays_done (Tells before m) (command_of c.args.command.now) before m last does.0 done (stays m (represents keeps) had)) (c.attempt-answered.ensures.honest tells) c.map.ensures.cases c.end.ensures.same
@@ -85,3 +91,10 @@ returns-clause-no_entry g c = λ none told.
     c.in-Ok.store.index.update none ready c.attempt-answered.ensures.looks told in
     let ended = c.end.ensures.no_entry told in
     omega (arith, opened, performed, ended)
+
+pub returns-clause-stops : goal.returns-clause-stops
+returns-clause-stops g c = λ told.
+    let command = c.attempt-answered.ensures.account in
+    put_stops (g.D.Disk.counts c.args.disk.now) (g.D.Disk.counts c.open.new.disk) (c.in-Ok.ensures.account.went_on refl told) c.map.result
+    (g.D.Disk.counts c.attempt-answered.new.disk) (g.D.Disk.counts c.end.new.disk) (λ calm. command.went_on (came_ending c.attempt-answered.result c.map.result c.map.ensures.cases calm) told)
+    (command.stops told) (c.end.ensures.stops told) (λ dropped. ap g.D.Disk.counts (c.end.ensures.dropped dropped).1)

@@ -6,7 +6,7 @@ use Rattle.cache_store.specs.Session.{session}
 use Rattle.cache_tool.specs.HeldReply.{said_in}
 use Rattle.cache_tool.specs.World.{supply}
 use Rattle.cache_tool.proofs.Handed.{handed_on, handed_open}
-use Rattle.cache_tool.proofs.PutBody.{filled_ahead, filled_fits, filled_full, filled_length, last_broken, last_ended, last_failed, last_refused, holds_refusal, no_is_refused, so_far_more, so_far_none, takes_at_most}
+use Rattle.cache_tool.proofs.PutBody.{filled_ahead, filled_fits, filled_full, filled_length, last_broken, last_ended, last_failed, last_refused, no_is_refused, so_far_more, so_far_none, takes_at_most}
 use Rattle.cache_tool.proofs.put.append_all.Goals as goal
 
 pub pieces-init : goal.pieces-init
@@ -121,13 +121,11 @@ returns-in-Refused-clause-taken g c =
 
 pub returns-in-End-clause-refused : goal.returns-in-End-clause-refused
 returns-in-End-clause-refused g c = λ no.
-    holds_refusal c.pieces.invariant.so_far (g.S.Source.left c.fill-filled.new.source) (take c.fill-filled.result.count c.fill-filled.new.piece) c.fill-filled.ensures.bytes
-    (said_in c.append_piece.new.said) (c.in_ok-outcome.ensures.refused (ap (λ o. Ok o) (no_is_refused c.in_ok-outcome.outcome c.status_of.result c.status_of.ensures no)))
+    c.in_ok-outcome.ensures.refused (ap (λ o. Ok o) (no_is_refused c.in_ok-outcome.outcome c.status_of.result c.status_of.ensures no))
 
 pub returns-in-Refused-clause-refused : goal.returns-in-Refused-clause-refused
 returns-in-Refused-clause-refused g c = λ no.
-    holds_refusal c.pieces.invariant.so_far (g.S.Source.left c.fill-filled.new.source) (take c.fill-filled.result.count c.fill-filled.new.piece) c.fill-filled.ensures.bytes
-    (said_in c.append_piece.new.said) (c.in_ok-outcome.ensures.refused (ap (λ o. Ok o) c.in-Refused.is))
+    c.in_ok-outcome.ensures.refused (ap (λ o. Ok o) c.in-Refused.is)
 
 pub returns-in_err-outcome-clause-bare : goal.returns-in_err-outcome-clause-bare
 returns-in_err-outcome-clause-bare g c = λ calm. c.append_piece.ensures.bare (c.pieces.invariant.bare calm)

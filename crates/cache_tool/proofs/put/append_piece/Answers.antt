@@ -1,10 +1,11 @@
 use Rattle.std.proofs.Common.{arith, refl}
 use Rattle.cache_base.proofs.ByteLaws.{all_below}
 use Rattle.cache_store.specs.Session.{session}
+use Rattle.cache_store.specs.declared.fault.StoreFault.TheVariants as fault
 use Rattle.cache_theory.specs.Command.Command.{Append}
 use Rattle.cache_tool.proofs.Handed.{handed_on, handed_open}
 use Rattle.cache_tool.proofs.RightLaws.{open_leaves_honest}
-use Rattle.cache_tool.proofs.PutReplies.{empty_went, is_empty_of, not_empty_of, over_went, piece_went, sent_itself}
+use Rattle.cache_tool.proofs.PutReplies.{empty_went, is_empty_of, not_empty_of, over_went, piece_went, sent_itself, unsaid_went}
 use Rattle.cache_tool.proofs.put.append_piece.Goals as goal
 
 pub returns-then-is_empty-clause-appends : goal.returns-then-is_empty-clause-appends
@@ -23,11 +24,19 @@ returns-in_err-outcome-clause-appends g c =
       each = λ h body stands writes room. piece_went h body c.args.piece.now _ _ _ _ some writes (sent_itself (Append 0 c.args.piece.now) _ _ _ _ refl (c.in_err-outcome.ensures.sends told) h stands);
     })
 
+pub returns-in_err-say_too_large-clause-appends : goal.returns-in_err-say_too_large-clause-appends
+returns-in_err-say_too_large-clause-appends g c =
+    let some = not_empty_of c.args.piece.now c.is_empty.result c.is_empty.ensures c.if-is_empty.false in
+    let failed = handed_on c.from_residual-in_err-say_too_large.result fault.Memory c.from_residual-in_err-say_too_large.ensures.1 in
+    λ told. rw failed (record {
+      each = λ h body stands writes room. unsaid_went h body c.args.piece.now _ _ _ _ _ _ some writes (sent_itself (Append 0 c.args.piece.now) _ _ _ _ refl (c.in_ok-outcome.ensures.sends told) h stands);
+    })
+
 pub returns-then-piece-room-clause-appends : goal.returns-then-piece-room-clause-appends
 returns-then-piece-room-clause-appends g c =
     let some = not_empty_of c.args.piece.now c.is_empty.result c.is_empty.ensures c.if-is_empty.false in
     λ told. record {
-      each = λ h body stands writes room. over_went h body c.args.piece.now c.args.room _ _ _ _ some c.if-piece-room.true room writes (sent_itself (Append 0 c.args.piece.now) _ _ _ _ refl (c.in_ok-outcome.ensures.sends told) h stands);
+      each = λ h body stands writes room. over_went h body c.args.piece.now c.args.room _ _ _ _ _ some c.if-piece-room.true room writes c.in_ok-say_too_large.ensures (sent_itself (Append 0 c.args.piece.now) _ _ _ _ refl (c.in_ok-outcome.ensures.sends told) h stands);
     }
 
 pub returns-clause-appends : goal.returns-clause-appends

@@ -111,6 +111,8 @@ returns g c = record {
   account = search rules;
   looked = λ disk. absurd (let one : ◌≡◌ {A = Result Status StoreFault} (Ok c.in_ok-appended.appended) (Err fault.Disk) = disk in cc);
   stays = λ disk. absurd (let one : ◌≡◌ {A = Result Status StoreFault} (Ok c.in_ok-appended.appended) (Err fault.Disk) = disk in cc);
+  same_base = λ disk. absurd (let one : ◌≡◌ {A = Result Status StoreFault} (Ok c.in_ok-appended.appended) (Err fault.Disk) = disk in cc);
+  unread_fault = λ disk. absurd (let one : ◌≡◌ {A = Result Status StoreFault} (Ok c.in_ok-appended.appended) (Err fault.Disk) = disk in cc);
 }
 
 pub returns-in_err-outcome-clause-open : goal.returns-in_err-outcome-clause-open
@@ -140,3 +142,18 @@ returns-in_err-outcome-clause-looked g c = λ disk failed. absurd (true≢false 
 
 pub returns-in_err-outcome-clause-stays : goal.returns-in_err-outcome-clause-stays
 returns-in_err-outcome-clause-stays g c = λ disk failed. absurd (true≢false (sym failed ∙ c.send-in-Done.ensures.bare tt))
+
+pub returns-in_err-send-clause-same_base : goal.returns-in_err-send-clause-same_base
+returns-in_err-send-clause-same_base g c = λ disk failed. c.send.ensures.same_base failed
+
+pub returns-in_err-appended-clause-same_base : goal.returns-in_err-appended-clause-same_base
+returns-in_err-appended-clause-same_base g c = λ disk failed. absurd (true≢false (sym failed ∙ c.append_all.ensures.bare (no_look c.in_ok-send.field-0 c.send.new.store.faulting c.in_ok-send.ensures.faulted)))
+
+pub returns-in_err-outcome-clause-same_base : goal.returns-in_err-outcome-clause-same_base
+returns-in_err-outcome-clause-same_base g c = λ disk failed. absurd (true≢false (sym failed ∙ c.send-in-Done.ensures.bare tt))
+
+pub returns-in_err-appended-clause-unread_fault : goal.returns-in_err-appended-clause-unread_fault
+returns-in_err-appended-clause-unread_fault g c = λ disk failed. absurd (true≢false (sym failed ∙ c.append_all.ensures.bare (no_look c.in_ok-send.field-0 c.send.new.store.faulting c.in_ok-send.ensures.faulted)))
+
+pub returns-in_err-outcome-clause-unread_fault : goal.returns-in_err-outcome-clause-unread_fault
+returns-in_err-outcome-clause-unread_fault g c = λ disk failed. absurd (true≢false (sym failed ∙ c.send-in-Done.ensures.bare tt))

@@ -6,9 +6,9 @@ use Rattle.cache_store.specs.Session.{session}
 use Rattle.cache_theory.specs.History.{settled_at}
 use Rattle.cache_tool.specs.HeldReply.{said_in}
 use Rattle.cache_tool.specs.Statuses.{status_in}
-use Rattle.cache_tool.specs.World.{output, supply, world}
+use Rattle.cache_tool.specs.World.{output, supply}
 use Rattle.cache_tool.proofs.Growing.{takes_none, takes_part}
-use Rattle.cache_tool.proofs.OneCommand.{faulted_prints}
+use Rattle.cache_tool.proofs.OneCommand.{faulted_prints, rose_twice}
 use Rattle.cache_tool.proofs.PutEnds.{Printed, answered, disk_cause, ended_no_sink, never_others, never_sink, not_answered, not_opened, put_refuses, put_stops, source_came, stops_after}
 use Rattle.cache_tool.proofs.StatusLaws.{no_answer}
 use Rattle.cache_tool.proofs.put.put.Goals as goal
@@ -85,9 +85,15 @@ returns-then-faulting-clause-stores g c = λ told some m is.
     let calm : g.D.Disk.faults c.open.new.disk ≡ g.D.Disk.faults c.args.disk.now = c.in-Ok.ensures.account.cause.kept (λ e. cc e) in
     let rose = (put.looked disk failed).cause.rose refl in
     let later = c.end_faulted.ensures.later in
-    inr (faulted_prints m (output g.K.Sink g.D.Disk c.args.sink.now c.args.disk.now) (output g.K.Sink g.D.Disk c.end_faulted.new.sink c.end_faulted.new.disk)
-    (session g.D.Disk c.in-Ok.store c.open.new.disk) (session g.D.Disk c.perform_put-came.new.store c.perform_put-came.new.disk) c.end_faulted.result
-    (c.in-Ok.ensures.opens told) is (put.stays disk failed told) (c.end_faulted.ensures.ends told) c.end_faulted.ensures.failed (omega (arith, calm, rose, later)) c.end_faulted.ensures.part)
+    inr (
+      faulted_prints m (output g.K.Sink g.D.Disk c.args.sink.now c.args.disk.now) (output g.K.Sink g.D.Disk c.end_faulted.new.sink c.end_faulted.new.disk)
+          (session g.D.Disk c.in-Ok.store c.open.new.disk) (session g.D.Disk c.perform_put-came.new.store c.perform_put-came.new.disk)
+          (c.in-Ok.ensures.opens told) is (c.in-Ok.ensures.based told) (put.stays disk failed told) (put.same_base disk failed) c.end_faulted.result (c.end_faulted.ensures.ends told)
+          c.end_faulted.ensures.failed (omega (arith, calm, rose, later)) c.end_faulted.ensures.part
+          (λ is_disk. rose_twice (g.D.Disk.faults c.args.disk.now) (g.D.Disk.faults c.open.new.disk) (g.D.Disk.faults c.perform_put-came.new.disk) (g.D.Disk.faults c.end_faulted.new.disk) calm rose told
+          (c.end_faulted.ensures.closed is_disk)),
+      ap (supply g.S.Source) (put.unread_fault disk failed),
+    )
 
 pub returns-then-faulting-clause-stops : goal.returns-then-faulting-clause-stops
 returns-then-faulting-clause-stops g c = λ told.
@@ -97,9 +103,7 @@ returns-then-faulting-clause-stops g c = λ told.
 
 pub returns-in-No-clause-refused : goal.returns-in-No-clause-refused
 returns-in-No-clause-refused g c = λ is.
-    let at = world g.S.Source g.K.Sink g.D.Disk in
-    put_refuses c.perform_put-came.result c.end.result (said_in c.perform_put-came.new.said) (at c.args.source.now c.args.sink.now c.args.disk.now)
-    (at c.perform_put-came.new.source c.print_answer-in-No.new.sink c.end.new.disk) c.end.ensures.same c.in-No.is c.perform_put-came.ensures.refused (subst (Appends (g.K.Sink.taken c.args.sink.now) (g.K.Sink.taken c.print_answer-in-No.new.sink)) c.as_slice-in-No.ensures (c.print_answer-in-No.ensures.all (inr is)))
+    put_refuses c.perform_put-came.result c.end.result (said_in c.perform_put-came.new.said) (g.K.Sink.taken c.args.sink.now) (g.K.Sink.taken c.print_answer-in-No.new.sink) c.end.ensures.same c.in-No.is c.perform_put-came.ensures.refused (subst (Appends (g.K.Sink.taken c.args.sink.now) (g.K.Sink.taken c.print_answer-in-No.new.sink)) c.as_slice-in-No.ensures (c.print_answer-in-No.ensures.all (inr is)))
 
 pub returns-in-Done-clause-grows : goal.returns-in-Done-clause-grows
 returns-in-Done-clause-grows g c = takes_part (g.K.Sink.taken c.args.sink.now) (g.K.Sink.taken c.print_answer.new.sink) (said_in c.perform_put-came.new.said)

@@ -11,7 +11,7 @@ use Rattle.cache_theory.specs.History.{History}
 use Rattle.cache_tool.specs.Ending.{IsEnded}
 use Rattle.cache_tool.specs.Statuses.{IsClosing, status_in}
 use Rattle.cache_tool.proofs.RightLaws.{open_leaves_honest}
-use Rattle.cache_tool.proofs.StayingLaws.{ends_in_use, ends_short}
+use Rattle.cache_tool.proofs.StayingLaws.{ends_in_use, ends_short, rest_left}
 use Rattle.cache_tool.proofs.session.end.Goals as goal
 
 -- a store that failed to close was not closed
@@ -19,6 +19,12 @@ not_closed : (answer : Result (Unit {0}) StoreFault) (f : StoreFault) (ended : S
 not_closed answer fault.Memory ended failed not_sink is closing = subst IsClosing is closing
 not_closed answer fault.Disk ended failed not_sink is closing = subst IsClosing is closing
 not_closed answer fault.Sink ended failed not_sink is closing = not_sink failed
+
+-- and ended in a failure of the disk, or out of memory
+not_other : (answer : Result (Unit {0}) StoreFault) (f : StoreFault) (ended : Status) → answer ≡ Err f → answer ≢ Err fault.Sink → ended ≡ status_in (Err f) → ended ≢ status.Disk → ended ≢ status.Memory → ⊥
+not_other answer fault.Memory ended failed not_sink is not_disk not_memory = not_memory is
+not_other answer fault.Disk ended failed not_sink is not_disk not_memory = not_disk is
+not_other answer fault.Sink ended failed not_sink is not_disk not_memory = not_sink failed
 
 -- a store that is only dropped
 dropped : (ended : Status) → ¬ (IsClosing ended) → (now : Session) (h : History) → KeepsTo now h → IsEnded ended h now now.disk
@@ -29,6 +35,7 @@ dropped ended still now h keeps = record {
   honest = λ closing right. absurd (still closing);
   journal = λ closing over. absurd (still closing);
   in_use = λ records closing. absurd (still closing);
+  unended = λ closing. absurd (still closing);
 }
 
 pub returns-in-Err-Disk-clause-ends : goal.returns-in-Err-Disk-clause-ends
@@ -50,6 +57,7 @@ returns-in-Ok-close-clause-ends g c = λ tells. record {
         honest = λ closing right. honest.honest h.machine (represents keeps) right;
         journal = λ closing over. ends_short _ _ h keeps closes over;
         in_use = λ records closing right holds ends. ends_in_use _ _ h keeps closes records right holds ends;
+        unended = λ closing rest. c.in-Ok-close.ensures.spares (rest_left _ h keeps rest) tells;
       };
 }
 
@@ -66,5 +74,14 @@ returns-in-Err-clause-ends g c = λ tells. record {
         honest = λ closing right. absurd (still closing);
         journal = λ closing over. absurd (still closing);
         in_use = λ records closing. absurd (still closing);
+        unended = λ closing. absurd (still closing);
       };
 }
+
+pub returns-in-Err-clause-quiet : goal.returns-in-Err-clause-quiet
+returns-in-Err-clause-quiet g c = λ closing.
+    absurd (not_closed c.close.result c.in-Err.fault c.status_of_fault.result c.in-Err.is c.close.ensures.no_sink c.status_of_fault.ensures closing)
+
+pub returns-in-Err-clause-went_on : goal.returns-in-Err-clause-went_on
+returns-in-Err-clause-went_on g c = λ not_disk not_memory.
+    absurd (not_other c.close.result c.in-Err.fault c.status_of_fault.result c.in-Err.is c.close.ensures.no_sink c.status_of_fault.ensures not_disk not_memory)

@@ -1,33 +1,20 @@
 use Rattle.std.proofs.Common.{◌∙◌, refl, sym, ap}
 use Rattle.std.specs.Prelude.{is_some}
-use Rattle.cache_store.specs.declared.answered.Answered.TheVariants as answered
-use Rattle.cache_store.proofs.HasEntry.{bad_outcome, good_outcome, has_bad, has_no, has_unknown, has_yes}
+use Rattle.cache_store.proofs.HasEntry.{has_bad, has_no, has_unknown, has_yes}
 use Rattle.cache_store.proofs.memory_index.MemoryIndex.has.Goals as goal
-
-pub returns-then-not-may_write-clause-outcome : goal.returns-then-not-may_write-clause-outcome
-returns-then-not-may_write-clause-outcome c = bad_outcome c.args.key.now (sym c.may_write.ensures ∙ c.if-not-may_write.true)
 
 pub returns-then-not-may_write-clause-answers : goal.returns-then-not-may_write-clause-answers
 returns-then-not-may_write-clause-answers c = has_bad c.args.key.now c.args.self.now (sym c.may_write.ensures ∙ c.if-not-may_write.true)
-
-pub returns-then-waits_for-clause-outcome : goal.returns-then-waits_for-clause-outcome
-returns-then-waits_for-clause-outcome c = good_outcome c.args.key.now answered.Unknown (sym c.may_write.ensures ∙ c.if-not-may_write.false) refl
 
 pub returns-then-waits_for-clause-answers : goal.returns-then-waits_for-clause-answers
 returns-then-waits_for-clause-answers c =
     has_unknown c.args.key.now c.args.self.now (sym c.may_write.ensures ∙ c.if-not-may_write.false) c.name_of-name.result c.name_of-name.ensures
     (sym c.waits_for.ensures.waits ∙ c.if-waits_for.true)
 
-pub returns-then-is_some-clause-outcome : goal.returns-then-is_some-clause-outcome
-returns-then-is_some-clause-outcome c = good_outcome c.args.key.now answered.Yes (sym c.may_write.ensures ∙ c.if-not-may_write.false) refl
-
 pub returns-then-is_some-clause-answers : goal.returns-then-is_some-clause-answers
 returns-then-is_some-clause-answers c =
     has_yes c.args.key.now c.args.self.now (sym c.may_write.ensures ∙ c.if-not-may_write.false) c.name_of-name.result c.name_of-name.ensures
     (sym c.waits_for.ensures.waits ∙ c.if-waits_for.false) (ap is_some (sym c.get.ensures.record) ∙ sym c.is_some.ensures ∙ c.if-is_some.true)
-
-pub returns-else-is_some-clause-outcome : goal.returns-else-is_some-clause-outcome
-returns-else-is_some-clause-outcome c = good_outcome c.args.key.now answered.No (sym c.may_write.ensures ∙ c.if-not-may_write.false) refl
 
 pub returns-else-is_some-clause-answers : goal.returns-else-is_some-clause-answers
 returns-else-is_some-clause-answers c =

@@ -2,17 +2,21 @@ use Rattle.std.proofs.Common.{◌≡◌, [], ap, subst, sym}
 use Rattle.cache_script.specs.Command.{command_of}
 use Rattle.index_theory.proofs.UncleanLaws.{unclean_leaves_honest}
 use Rattle.cache_store.specs.Answering.{rest_of}
+use Rattle.cache_store.specs.Evicting.{LeavesOthers}
+use Rattle.cache_store.specs.InMemory.{CutsPlainLine}
 use Rattle.cache_store.specs.IndexCalls.{IsFresh}
 use Rattle.file_handles.specs.Kept.{kept}
 use Rattle.cache_store.specs.Reads.{LastIsFirst}
 use Rattle.cache_store.specs.Said.{saying}
 use Rattle.cache_store.specs.Session.{Open, open_of, session}
 use Rattle.cache_store.specs.Verifying.{PrintsFound}
+use Rattle.cache_store.proofs.EvictDoes.{had_handed}
 use Rattle.cache_store.proofs.GetChunks.{handed_disk}
 use Rattle.cache_store.proofs.Stays.{handed_fault}
 use Rattle.cache_store.proofs.PerformOpen.{performs_open}
 use Rattle.cache_store.proofs.PerformWhole.{does_performs, fails_performs}
 use Rattle.cache_store.proofs.PrintedLaws.{prints_found, prints_outcome}
+use Rattle.cache_store.proofs.RepliedInMemory.{cut_in_memory, cut_of, none_of_line, out_in_memory, part_of_line, plain_unsaid, when_err}
 use Rattle.cache_store.proofs.SaidMore.{of_ok, when_ok}
 use Rattle.cache_store.proofs.TakenMore.{rest_takes}
 use Rattle.cache_store.proofs.ReadsHeld.{outcome_ok}
@@ -78,3 +82,30 @@ returns-in_err-answered-clause-faulted g c = λ faulting.
 pub returns-in_err-answered-clause-fails : goal.returns-in_err-answered-clause-fails
 returns-in_err-answered-clause-fails g c = λ calm failed told.
     c.perform.ensures.change calm (handed_disk c.from_residual.result c.in_err-answered.field-0.0 c.perform.result c.from_residual.ensures.1 c.in_err-answered.was failed) told
+
+pub returns-in_err-answered-clause-in_memory : goal.returns-in_err-answered-clause-in_memory
+returns-in_err-answered-clause-in_memory g c idle =
+    cut_in_memory _ (command_of c.args.c.now) c.in_err-answered.field-0.0 c.from_residual.result _ _ (saying g.K.Sink c.perform.new.self.reply c.perform.new.sink) c.from_residual.ensures.1 (c.in_err-answered.ensures.in_memory idle)
+
+pub returns-clause-in_memory : goal.returns-clause-in_memory
+returns-clause-in_memory g c idle =
+    out_in_memory _ (command_of c.args.c.now) c.in_ok-answered.answered c.finish_reply.result _ (saying g.K.Sink c.perform.new.self.reply c.perform.new.sink) (g.K.Sink.taken c.finish_reply.new.sink)
+    c.finish_reply.ensures.printed c.finish_reply.ensures.cut (c.in_ok-answered.ensures.in_memory idle)
+
+pub returns-in_err-answered-clause-cut : goal.returns-in_err-answered-clause-cut
+returns-in_err-answered-clause-cut g c plain =
+    when_err c.from_residual.result _ (subst (CutsPlainLine (g.K.Sink.taken c.args.sink.now)) (sym (ap g.K.Sink.taken (c.in_err-answered.ensures.plainly plain))) (none_of_line (g.K.Sink.taken c.args.sink.now)))
+
+pub returns-clause-cut : goal.returns-clause-cut
+returns-clause-cut g c plain =
+    cut_of c.finish_reply.result (part_of_line c.in_ok-answered.answered (g.K.Sink.taken c.args.sink.now) (saying g.K.Sink c.perform.new.self.reply c.perform.new.sink) (g.K.Sink.taken c.finish_reply.new.sink)
+    (c.in_ok-answered.ensures.plain plain) (ap g.K.Sink.taken (c.in_ok-answered.ensures.plainly plain)) (c.in_ok-answered.ensures.still_empty (plain_unsaid c.in_ok-answered.answered (c.in_ok-answered.ensures.plain plain))))
+    c.finish_reply.ensures.cut
+
+pub returns-in_err-answered-clause-evicts : goal.returns-in_err-answered-clause-evicts
+returns-in_err-answered-clause-evicts g c kb is had told =
+    c.in_err-answered.ensures.evicts kb is (had_handed c.from_residual.result c.in_err-answered.field-0.0 c.from_residual.ensures.1 had) told
+
+pub returns-clause-evicts : goal.returns-clause-evicts
+returns-clause-evicts g c kb is had told =
+    subst (λ (o : Open). LeavesOthers (session g.D.Disk c.args.self.now c.args.disk.now) kb o.index.map) (sym c.finish_reply.ensures.open) (c.in_ok-answered.ensures.evicts kb is tt told)

@@ -1,7 +1,7 @@
 use Rattle.cache_theory.proofs.Crashes.{safe_is_crash_safe}
 use Rattle.cache_store.specs.Session.{session}
 use Rattle.cache_store.proofs.Closed.{closes_failed, failed_honestly, images_honest, is_honest, left_honest, shut, spared_crash}
-use Rattle.cache_store.proofs.ClosedInUse.{closed_in_use}
+use Rattle.cache_store.proofs.ClosedInUse.{closed_in_use, not_ended, synced_left}
 use Rattle.cache_store.proofs.store.Store.close.Goals as goal
 
 pub returns-in_err-closed-clause-crash : goal.returns-in_err-closed-clause-crash
@@ -68,3 +68,20 @@ returns-clause-journal g c = λ told.
     let d = c.close_all-closed.new.disk in
     closed_in_use c.args.self.index c.args.self.moment (g.D.Disk.state c.args.disk.now) (g.D.Disk.state d) (g.D.Disk.state c.close_index.new.disk) c.ended.result c.ended.ensures.ended (g.met.D.Disk.sound d told)
     (c.close_all-closed.ensures.index told) c.close_index.ensures.known (λ e. c.in_ok-close_index.ensures.closed e told)
+
+pub returns-in_err-close_index-clause-spares : goal.returns-in_err-close_index-clause-spares
+returns-in_err-close_index-clause-spares g c = λ left told.
+    let d = g.D.Disk.state c.close_all-closed.new.disk in
+    synced_left (g.D.Disk.state c.args.disk.now) d (g.D.Disk.state c.close_index.new.disk) c.close_index.result (g.met.D.Disk.sound c.close_all-closed.new.disk told)
+    (c.close_all-closed.ensures.index told) (c.close_index.ensures.synced (not_ended c.ended.result c.args.self.index.update c.ended.ensures.ended left) told)
+
+pub returns-clause-spares : goal.returns-clause-spares
+returns-clause-spares g c = λ left told.
+    let d = g.D.Disk.state c.close_all-closed.new.disk in
+    synced_left (g.D.Disk.state c.args.disk.now) d (g.D.Disk.state c.close_index.new.disk) c.close_index.result (g.met.D.Disk.sound c.close_all-closed.new.disk told)
+    (c.close_all-closed.ensures.index told) (c.close_index.ensures.synced (not_ended c.ended.result c.args.self.index.update c.ended.ensures.ended left) told)
+
+pub returns-clause-whole : goal.returns-clause-whole
+returns-clause-whole g c = λ told. record {
+  whole = λ none. (g.D.Disk.state c.close_all-closed.new.disk, (c.close_all-closed.ensures.index told, c.in_ok-close_index.ensures.closed (c.ended.ensures.ended.1 none) told));
+}

@@ -1,4 +1,7 @@
+use Rattle.std.proofs.Common.{◌∙◌, sym, true≢false}
+use Rattle.cache_script.specs.Command.{command_of}
 use Rattle.cache_store.specs.Session.{open_of, session}
+use Rattle.cache_store.proofs.RepliedInMemory.{makes_no_look}
 use Rattle.cache_store.proofs.Stays.{open_still}
 use Rattle.cache_store.proofs.store.Store.command.Goals as goal
 
@@ -11,3 +14,18 @@ pub returns-then-self-clause-open : goal.returns-then-self-clause-open
 returns-then-self-clause-open g c = λ told none.
     open_still (session g.D.Disk c.args.self.now c.args.disk.now) (open_of c.attempt-answered.new.self) (open_of c.say_fault.new.self) (g.D.Disk.state c.attempt-answered.new.disk) c.say_fault.ensures.open
     (c.attempt-answered.ensures.stays c.if-self.true told) (c.requires.told told)
+
+-- a command that makes no call never fails in a look
+pub returns-in_err-say_fault-clause-in_memory : goal.returns-in_err-say_fault-clause-in_memory
+returns-in_err-say_fault-clause-in_memory g c idle =
+    absurd (true≢false (sym c.if-self.true ∙ c.attempt-answered.ensures.bare (makes_no_look (command_of c.args.c.now) idle)))
+
+pub returns-then-self-clause-in_memory : goal.returns-then-self-clause-in_memory
+returns-then-self-clause-in_memory g c idle =
+    absurd (true≢false (sym c.if-self.true ∙ c.attempt-answered.ensures.bare (makes_no_look (command_of c.args.c.now) idle)))
+
+pub returns-in-Ok-clause-evicts : goal.returns-in-Ok-clause-evicts
+returns-in-Ok-clause-evicts g c kb calm is had told = c.in-Ok.ensures.evicts kb is tt told
+
+pub returns-in-Err-clause-evicts : goal.returns-in-Err-clause-evicts
+returns-in-Err-clause-evicts g c kb calm is had told = c.in-Err.ensures.evicts kb is had told

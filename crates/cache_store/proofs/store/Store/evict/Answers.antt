@@ -6,11 +6,12 @@ use Rattle.file_handles.specs.Kept.{kept}
 use Rattle.cache_store.specs.Evicting.{ArePicked, AreUnused, Forgets}
 use Rattle.cache_store.specs.Said.{saying}
 use Rattle.cache_store.specs.Saying.{CutsIn, SaysMore}
-use Rattle.cache_store.proofs.EvictDoes.{evict_does, evict_fails, evict_looks, evict_stops, removes}
+use Rattle.cache_store.proofs.EvictDoes.{evict_leaves, evict_does, evict_fails, evict_looks, evict_stops, removes}
 use Rattle.cache_store.proofs.ListDoes.{no_sink}
 use Rattle.cache_store.proofs.Stays.{ended_apart, look_stays, noted_disk}
 use Rattle.cache_store.proofs.TakenMore.{cuts_takes, says_takes}
 use Rattle.cache_store.proofs.VictimsApart.{files_hold, picked_unused}
+use Rattle.file_handles.proofs.UnsyncedLaws.{same_unsynced, then_unsynced}
 use Rattle.cache_store.proofs.store.Store.evict.Goals as goal
 
 pub returns-in-Err-clause-does : goal.returns-in-Err-clause-does
@@ -112,3 +113,47 @@ returns-in_err-say_listing-clause-grows g c =
 pub returns-clause-grows : goal.returns-clause-grows
 returns-clause-grows g c =
     says_takes (saying g.K.Sink c.args.self.now.reply c.args.sink.now) (saying g.K.Sink c.say_listing.new.reply c.say_listing.new.sink) _ c.requires.empty c.in_ok-say_listing.ensures.says
+
+pub returns-in_err-say_listing-clause-evicts : goal.returns-in_err-say_listing-clause-evicts
+returns-in_err-say_listing-clause-evicts g c = λ had told.
+    evict_leaves c.args.kb (kept c.args.self.now.handles) (kept c.remove_files.new.handles) c.args.self.now.moment
+    (g.D.Disk.state c.args.disk.now) (g.D.Disk.state c.finish_apart.new.disk) (g.D.Disk.state c.remove_files.new.disk) c.args.self.now.index (record { map = c.finish_apart.new.self.map; update = c.in-Ok.ended }) c.in_ok-names.names (Ok tt)
+    (ended_apart (g.D.Disk.state c.args.disk.now) (g.D.Disk.state c.finish_apart.new.disk) c.args.self.now.index c.finish_apart.new.self.map c.in-Ok.ended (c.in-Ok.ensures.looks.state told)
+    c.in-Ok.ensures.ended c.in-Ok.ensures.base (c.in-Ok.ensures.records told) (c.in-Ok.ensures.tells told))
+    c.in_ok-names.ensures
+    (removes c.in_ok-names.names c.as_slice.result.now c.in-Ok-standing.files c.as_slice-2.result.now (Ok tt) (kept c.args.self.now.handles) (kept c.remove_files.new.handles)
+    (g.D.Disk.state c.args.disk.now) (g.D.Disk.state c.finish_apart.new.disk) (g.D.Disk.state c.standing.new.disk) (g.D.Disk.state c.remove_files.new.disk)
+    c.as_slice.ensures c.as_slice-2.ensures (c.in-Ok-standing.ensures.stand told) (c.in-Ok.ensures.looks.state told) (c.in-Ok-standing.ensures.looks.state told)
+    (c.in_ok-remove_files.ensures.dooms told) (c.in_ok-remove_files.ensures.index told))
+    c.forget.new.self (subst (λ (ns : List Name). Forgets ns c.finish_apart.new.self.map c.forget.new.self.map) c.as_slice-3.ensures c.forget.ensures.forgets)
+
+pub returns-clause-evicts : goal.returns-clause-evicts
+returns-clause-evicts g c = λ had told.
+    evict_leaves c.args.kb (kept c.args.self.now.handles) (kept c.remove_files.new.handles) c.args.self.now.moment
+    (g.D.Disk.state c.args.disk.now) (g.D.Disk.state c.finish_apart.new.disk) (g.D.Disk.state c.remove_files.new.disk) c.args.self.now.index (record { map = c.finish_apart.new.self.map; update = c.in-Ok.ended }) c.in_ok-names.names (Ok tt)
+    (ended_apart (g.D.Disk.state c.args.disk.now) (g.D.Disk.state c.finish_apart.new.disk) c.args.self.now.index c.finish_apart.new.self.map c.in-Ok.ended (c.in-Ok.ensures.looks.state told)
+    c.in-Ok.ensures.ended c.in-Ok.ensures.base (c.in-Ok.ensures.records told) (c.in-Ok.ensures.tells told))
+    c.in_ok-names.ensures
+    (removes c.in_ok-names.names c.as_slice.result.now c.in-Ok-standing.files c.as_slice-2.result.now (Ok tt) (kept c.args.self.now.handles) (kept c.remove_files.new.handles)
+    (g.D.Disk.state c.args.disk.now) (g.D.Disk.state c.finish_apart.new.disk) (g.D.Disk.state c.standing.new.disk) (g.D.Disk.state c.remove_files.new.disk)
+    c.as_slice.ensures c.as_slice-2.ensures (c.in-Ok-standing.ensures.stand told) (c.in-Ok.ensures.looks.state told) (c.in-Ok-standing.ensures.looks.state told)
+    (c.in_ok-remove_files.ensures.dooms told) (c.in_ok-remove_files.ensures.index told))
+    c.forget.new.self (subst (λ (ns : List Name). Forgets ns c.finish_apart.new.self.map c.forget.new.self.map) c.as_slice-3.ensures c.forget.ensures.forgets)
+
+pub returns-in-Err-clause-unsynced : goal.returns-in-Err-clause-unsynced
+returns-in-Err-clause-unsynced g c = λ told. same_unsynced (c.in-Err.ensures.looks.state told)
+
+pub returns-in_err-names-clause-unsynced : goal.returns-in_err-names-clause-unsynced
+returns-in_err-names-clause-unsynced g c = λ told. same_unsynced (c.in-Ok.ensures.looks.state told)
+
+pub returns-in-Err-standing-clause-unsynced : goal.returns-in-Err-standing-clause-unsynced
+returns-in-Err-standing-clause-unsynced g c = λ told. same_unsynced (c.in-Err-standing.ensures.looks.state told ∙ c.in-Ok.ensures.looks.state told)
+
+pub returns-in_err-remove_files-clause-unsynced : goal.returns-in_err-remove_files-clause-unsynced
+returns-in_err-remove_files-clause-unsynced g c = λ told. then_unsynced _ _ _ (same_unsynced (c.in-Ok-standing.ensures.looks.state told ∙ c.in-Ok.ensures.looks.state told)) (c.remove_files.ensures.unsynced told)
+
+pub returns-in_err-say_listing-clause-unsynced : goal.returns-in_err-say_listing-clause-unsynced
+returns-in_err-say_listing-clause-unsynced g c = λ told. then_unsynced _ _ _ (same_unsynced (c.in-Ok-standing.ensures.looks.state told ∙ c.in-Ok.ensures.looks.state told)) (c.remove_files.ensures.unsynced told)
+
+pub returns-clause-unsynced : goal.returns-clause-unsynced
+returns-clause-unsynced g c = λ told. then_unsynced _ _ _ (same_unsynced (c.in-Ok-standing.ensures.looks.state told ∙ c.in-Ok.ensures.looks.state told)) (c.remove_files.ensures.unsynced told)

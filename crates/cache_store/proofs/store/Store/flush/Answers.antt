@@ -46,3 +46,9 @@ returns-in_err-sync-clause-account g c = record {
 
 pub returns-in_err-refresh-clause-change : goal.returns-in_err-refresh-clause-change
 returns-in_err-refresh-clause-change g c = change_handed g.D.Disk c.from_residual.result c.in_err-refresh.field-0.0 c.refresh.new.disk c.from_residual.ensures.1 c.in_err-refresh.ensures.change
+
+pub returns-clause-flushes : goal.returns-clause-flushes
+returns-clause-flushes g c = λ told. record {
+  ended = λ none. (g.D.Disk.state c.refresh.new.disk, (c.in_ok-refresh.ensures.written none told, c.in_ok-sync.ensures.state told));
+  going_on = λ left. c.in_ok-sync.ensures.state told ∙ ap settled (c.in_ok-refresh.ensures.unwritten (λ none. absurd (left none)) told);
+}

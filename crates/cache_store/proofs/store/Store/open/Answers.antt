@@ -1,7 +1,7 @@
 use Rattle.std.proofs.Common.{false, refl, arith}
 use Rattle.cache_store.specs.Session.{open_of}
 use Rattle.cache_store.proofs.Opened.{begun_honest, begun_safe, cleared_honest, cleared_safe, keeps_found, nothing_removed, opened_safe, opens, opens_open}
-use Rattle.cache_store.proofs.StartAlong.{in_use_along}
+use Rattle.cache_store.proofs.StartAlong.{begins_along, in_use_along}
 use Rattle.file_handles.proofs.IndexLeft.{cleared_left}
 use Rattle.cache_store.proofs.Shelves.{shelf_exists}
 use Rattle.cache_store.proofs.store.Store.open.Goals as goal
@@ -84,3 +84,8 @@ pub returns-clause-based : goal.returns-clause-based
 returns-clause-based g c = λ told.
     in_use_along (g.D.Disk.state c.args.disk.now) (g.D.Disk.state c.clear.new.disk) (cleared_left (g.D.Disk.state c.args.disk.now) (g.D.Disk.state c.clear.new.disk) (c.clear.ensures.removes told)).stands
     c.in_ok-index.index.map (g.D.Disk.state c.begin_index.new.disk) (c.in_ok-index.ensures.based told)
+
+pub returns-clause-begins : goal.returns-clause-begins
+returns-clause-begins g c = λ told.
+    begins_along (g.D.Disk.state c.args.disk.now) (g.D.Disk.state c.clear.new.disk) (cleared_left (g.D.Disk.state c.args.disk.now) (g.D.Disk.state c.clear.new.disk) (c.clear.ensures.removes told)).stands
+    c.in_ok-index.index.map (c.in_ok-index.ensures.begins told)

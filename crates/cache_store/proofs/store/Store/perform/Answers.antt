@@ -1,21 +1,24 @@
-use Rattle.std.proofs.Common.{◌≡◌, IfOk, IsTrue, true, refl, sym, ap, subst, ◌∙◌}
+use Rattle.std.proofs.Common.{◌≡◌, ℕ, IfOk, IsTrue, true, refl, sym, ap, subst, ◌∙◌}
 use Rattle.cache_store.specs.Faulting.{has_failed_look}
 use Rattle.cache_store.proofs.Stays.{err_failed_look, on_failed_look, parts_stay}
 use Rattle.cache_script.specs.Command.{command_of}
 use Rattle.cache_theory.specs.Command.Command.{At, Append, Close, Create, Doom, ElementOf, Evict, Finish, Flush, Get, HasEntry, ListRecords, OpenKey, ReadPart, Rebuild, SetElement, StepUpdate, UnsetElement, UpdateState, UseEntry, Verify}
 use Rattle.cache_theory.specs.Given.{IsGiven}
 use Rattle.cache_store.specs.Answering.{outcome_in}
+use Rattle.cache_store.specs.Evicting.{LeavesOthers}
 use Rattle.cache_store.specs.Reads.{AreHeld, LastIsFirst}
 use Rattle.cache_store.specs.Said.{saying}
-use Rattle.cache_store.specs.Session.{session}
+use Rattle.cache_store.specs.Session.{open_of, session}
 use Rattle.cache_store.specs.declared.fault.Verdict.TheVariants as outcome
 use Rattle.file_handles.proofs.ReadKept.{read_keeps}
 use Rattle.file_handles.specs.Kept.{kept}
+use Rattle.cache_store.proofs.EvictDoes.{kb_of}
 use Rattle.cache_store.proofs.LearntAchieves.{append_achieves, close_achieves, create_achieves, doom_achieves, finish_achieves, open_achieves, set_achieves, unset_achieves, use_achieves}
 use Rattle.cache_store.proofs.PerformDoes.{as_command, at_does, by_name, done_unsaid, has_does, reading_does, reading_does_with, state_does, unsaid_does, unsaid_done}
 use Rattle.cache_store.proofs.TakenMore.{open_takes}
 use Rattle.file_handles.proofs.IndexLeft.{same_left}
 use Rattle.cache_store.proofs.ReadsHeld.{same_read}
+use Rattle.cache_store.proofs.RepliedInMemory.{at_in_memory, element_in_memory, has_in_memory, state_in_memory}
 use Rattle.cache_store.proofs.store.Store.perform.Goals as goal
 
 pub returns-in-At-clause-does : goal.returns-in-At-clause-does
@@ -108,8 +111,8 @@ returns-in-Get-clause-does g c = λ told.
 pub returns-in-Has-clause-does : goal.returns-in-Has-clause-does
 returns-in-Has-clause-does g c = λ told.
     let was = saying g.K.Sink c.args.self.now.reply c.args.sink.now in
-    as_command _ (HasEntry c.in-Has.key.now) _ _ _ _ _ (ap command_of c.in-Has.is) (λ m. refl)
-    (has_does c.in-Has.key.now c.has.result (session g.D.Disk c.args.self.now c.args.disk.now) was c.has.ensures.unsaid c.requires.empty c.has.ensures.outcome c.has.ensures.answers)
+    by_name _ (HasEntry c.in-Has.key.now) _ _ _ _ _ (ap command_of c.in-Has.is)
+    (has_does c.in-Has.key.now c.has.result (session g.D.Disk c.args.self.now c.args.disk.now) was c.has.ensures.unsaid c.requires.empty c.has.ensures.answers)
 
 pub returns-in-State-clause-does : goal.returns-in-State-clause-does
 returns-in-State-clause-does g c = λ told.
@@ -119,7 +122,7 @@ returns-in-State-clause-does g c = λ told.
 
 pub returns-in-List-clause-does : goal.returns-in-List-clause-does
 returns-in-List-clause-does g c = λ told.
-    as_command _ ListRecords _ _ _ _ _ (ap command_of c.in-List.is) (λ m. refl)
+    by_name _ ListRecords _ _ _ _ _ (ap command_of c.in-List.is)
     (c.say_list.ensures.does told)
 
 pub returns-in-Evict-clause-does : goal.returns-in-Evict-clause-does
@@ -192,3 +195,24 @@ returns-in-Doom-clause-stays g c = λ noted told.
     let all = on_failed_look c.doom-answer.result _ failed c.doom-answer.ensures.read in
     parts_stay (kept c.args.self.now.handles) (kept c.doom-answer.new.self) c.args.self.now.moment (g.D.Disk.state c.args.disk.now) (g.D.Disk.state c.doom-answer.new.disk) c.args.self.now.index c.learn_of-in-Doom.new.self
     all.handles (err_failed_look c.doom-answer.result _ failed c.learn_of-in-Doom.ensures.unlearnt) (all.looks.state told)
+
+pub returns-in-At-clause-in_memory : goal.returns-in-At-clause-in_memory
+returns-in-At-clause-in_memory g c idle =
+    at_in_memory (open_of c.args.self.now) _ c.in-At.now (saying g.K.Sink c.args.self.now.reply c.args.sink.now) (ap command_of c.in-At.is) c.requires.empty
+
+pub returns-in-State-clause-in_memory : goal.returns-in-State-clause-in_memory
+returns-in-State-clause-in_memory g c idle =
+    state_in_memory (open_of c.args.self.now) _ c.state.result (saying g.K.Sink c.args.self.now.reply c.args.sink.now) (ap command_of c.in-State.is) c.state.ensures.unsaid c.requires.empty c.state.ensures.reply
+
+pub returns-in-Has-clause-in_memory : goal.returns-in-Has-clause-in_memory
+returns-in-Has-clause-in_memory g c idle =
+    has_in_memory (open_of c.args.self.now) _ c.in-Has.key.now c.has.result (saying g.K.Sink c.args.self.now.reply c.args.sink.now) (ap command_of c.in-Has.is) c.has.ensures.unsaid c.requires.empty c.has.ensures.answers
+
+pub returns-in-Element-clause-in_memory : goal.returns-in-Element-clause-in_memory
+returns-in-Element-clause-in_memory g c idle =
+    element_in_memory (open_of c.args.self.now) _ c.in-Element.slot c.in-Element.name.now c.say_element.result (g.K.Sink.taken c.args.sink.now)
+    (saying g.K.Sink c.say_element.new.self.reply c.say_element.new.sink) (ap command_of c.in-Element.is) c.say_element.ensures.answers
+
+pub returns-in-Evict-clause-evicts : goal.returns-in-Evict-clause-evicts
+returns-in-Evict-clause-evicts g c kb is had told =
+    subst (λ (n : ℕ). LeavesOthers (session g.D.Disk c.args.self.now c.args.disk.now) n c.evict.new.self.index.map) (ap kb_of (sym (ap command_of c.in-Evict.is) ∙ is)) (c.evict.ensures.evicts had told)

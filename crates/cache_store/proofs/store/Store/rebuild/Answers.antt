@@ -1,7 +1,9 @@
-use Rattle.std.proofs.Common.{◌≡◌, Err, refl, subst, sym}
+use Rattle.std.proofs.Common.{◌≡◌, List, Err, refl, subst, sym}
 use Rattle.cache_theory.specs.Command.Command.{Rebuild}
 use Rattle.cache_store.specs.Faults.{of_disk}
 use Rattle.disk_model.specs.State.{State}
+use Rattle.index_record.specs.declared.record.IndexRecord.{IndexRecord}
+use Rattle.startup_read.specs.Writing.{WritesIndex}
 use Rattle.index_theory.specs.Ever.{entries_on}
 use Rattle.file_handles.specs.Kept.{kept}
 use Rattle.cache_store.specs.Records.{TellsOf}
@@ -55,3 +57,14 @@ pub returns-clause-unclean : goal.returns-clause-unclean
 returns-clause-unclean g c = λ told.
     synced_unclean _ (g.D.Disk.state c.write_index.new.disk) _ (c.in_ok-sync.ensures.state told)
     (unclean_from _ _ _ (c.in-Ok.ensures.looks.state told) (c.in_ok-write_index.ensures.unclean told)) c.args.self.now.index.map (c.requires.told told).1.matches.holds
+
+pub returns-clause-rebuilds : goal.returns-clause-rebuilds
+returns-clause-rebuilds g c = λ told.
+    let u = g.D.Disk.state c.write_index.new.disk in (
+      u,
+      (
+        subst (λ (s : State). WritesIndex c.write_index.new.map.records c.args.self.now.moment s u) (c.in-Ok.ensures.looks.state told)
+            (subst (λ (rs : List IndexRecord). WritesIndex rs c.args.self.now.moment (g.D.Disk.state c.scan.new.disk) u) (sym (written_records c.in-Ok.index.map c.write_index.new.map c.in_ok-write_index.ensures.map).records) (c.in_ok-write_index.ensures.written told)),
+        c.in_ok-sync.ensures.state told,
+      ),
+    )

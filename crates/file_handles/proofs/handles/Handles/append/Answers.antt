@@ -16,6 +16,7 @@ use Rattle.file_handles.proofs.IndexLeft.{change_left}
 use Rattle.cache_theory.specs.Step.{stepped}
 use Rattle.file_handles.specs.declared.fault.HandleFault.TheVariants as fault
 use Rattle.file_handles.proofs.PartsSlots.{err_is}
+use Rattle.file_handles.proofs.UnsyncedLaws.{change_unsynced}
 use Rattle.file_handles.proofs.handles.Handles.append.Goals as goal
 
 pub append_at-requires-clause-told : goal.append_at-requires-clause-told
@@ -67,3 +68,9 @@ pub returns-in_err-place-clause-within_reply : goal.returns-in_err-place-clause-
 returns-in_err-place-clause-within_reply g c = λ m number proper stand fits.
     ap done_or (err_is c.from_residual.result (fault.Refused c.in_err-place.field-0.0) c.from_residual.ensures.1)
     ∙ ap (λ o. Some (stepped m (Append c.args.slot c.args.b.now) o).reply) (sym (c.in_err-place.ensures.refused c.args.b.now refl m number proper stand))
+
+pub returns-clause-unsynced : goal.returns-clause-unsynced
+returns-clause-unsynced g c told =
+    let there = the_object _ _ c.in_ok-place.ensures.object in
+    change_unsynced (g.D.Disk.state c.args.disk.now) (g.D.Disk.state c.append_at.new.disk) (kept c.args.self.now) (kept c.append_at.new.self) c.in_ok-place.place there.0 (appended c.args.b.now) c.append_at.result
+    there.1.0 (filed_somehow _ _ _ (c.requires.told told)) (c.append_at.ensures.changes told)

@@ -1,6 +1,9 @@
-use Rattle.std.proofs.Common.{sym, ◌∙◌}
+use Rattle.std.proofs.Common.{ap, refl, sym, ◌∙◌}
 use Rattle.file_handles.specs.Answers.{fault_of}
 use Rattle.file_handles.specs.Kept.{kept}
+use Rattle.file_handles.specs.declared.fault.HandleFault.TheVariants as fault
+use Rattle.file_handles.proofs.ClosedChunks.{closed, unclosed}
+use Rattle.file_handles.proofs.PartsSlots.{err_is, on_err}
 use Rattle.file_handles.proofs.Accounting.{account_then_handed_on}
 use Rattle.file_handles.proofs.ClosedSlot.{closed_leaves, closed_safe, faulted_leaves, unused_leaves}
 use Rattle.file_handles.proofs.DoomedCommand.{no_refusal}
@@ -8,6 +11,7 @@ use Rattle.file_handles.proofs.ElementSlots.{use_found}
 use Rattle.file_handles.proofs.Histories.{history_of}
 use Rattle.file_handles.proofs.Where.{carries_out}
 use Rattle.file_handles.proofs.IndexLeft.{then_left}
+use Rattle.file_handles.proofs.UnsyncedLaws.{same_unsynced, then_unsynced}
 use Rattle.file_handles.proofs.handles.Handles.close.Goals as goal
 
 pub returns-in_err-used-clause-carried : goal.returns-in_err-used-clause-carried
@@ -47,3 +51,42 @@ pub returns-in_err-give_up-clause-account : goal.returns-in_err-give_up-clause-a
 returns-in_err-give_up-clause-account g c =
     account_then_handed_on g.D.Disk c.give_up.result c.in_err-give_up.field-0.0 c.from_residual-in_err-give_up.result c.args.disk.now c.finish_first.new.disk c.give_up.new.disk c.in_err-give_up.was
     c.from_residual-in_err-give_up.ensures.1 c.in_ok-effect.ensures.account c.give_up.ensures.account
+
+pub returns-in_err-used-clause-chunks : goal.returns-in_err-used-clause-chunks
+returns-in_err-used-clause-chunks g c = record {
+  given_up = on_err _ c.from_residual.result (fault.Refused c.in_err-used.field-0.0) (err_is c.from_residual.result (fault.Refused c.in_err-used.field-0.0) c.from_residual.ensures.1);
+  chunks = unclosed (kept c.args.self.now) (kept c.args.self.now) c.args.slot refl refl;
+}
+
+pub returns-in_err-effect-clause-chunks : goal.returns-in_err-effect-clause-chunks
+returns-in_err-effect-clause-chunks g c = record {
+  given_up = on_err _ c.from_residual-in_err-effect.result c.in_err-effect.field-0.0 (err_is c.from_residual-in_err-effect.result c.in_err-effect.field-0.0 c.from_residual-in_err-effect.ensures.1);
+  chunks = unclosed (kept c.args.self.now) (kept c.finish_first.new.self) c.args.slot c.finish_first.ensures.slots c.finish_first.ensures.chunks;
+}
+
+pub returns-in_err-give_up-clause-chunks : goal.returns-in_err-give_up-clause-chunks
+returns-in_err-give_up-clause-chunks g c =
+    let f = fault_of c.in_err-give_up.field-0.0 in
+    record {
+      given_up = on_err _ c.from_residual-in_err-give_up.result f (err_is c.from_residual-in_err-give_up.result f c.from_residual-in_err-give_up.ensures.1);
+      chunks = closed (kept c.args.self.now) (kept c.finish_first.new.self) (kept c.give_up.new.self) c.args.slot c.in_ok-used.used (use_found _ _ (sym c.use_of.ensures ∙ c.in_ok-used.was))
+          c.finish_first.ensures.slots c.in_ok-effect.ensures.numbered c.finish_first.ensures.chunks c.give_up.ensures.given_up c.give_up.ensures.chunks;
+    }
+
+pub returns-clause-chunks : goal.returns-clause-chunks
+returns-clause-chunks g c = record {
+  given_up = c.give_up.ensures.given_up;
+  chunks = closed (kept c.args.self.now) (kept c.finish_first.new.self) (kept c.give_up.new.self) c.args.slot c.in_ok-used.used (use_found _ _ (sym c.use_of.ensures ∙ c.in_ok-used.was))
+      c.finish_first.ensures.slots c.in_ok-effect.ensures.numbered c.finish_first.ensures.chunks c.give_up.ensures.given_up c.give_up.ensures.chunks;
+}
+
+pub returns-in_err-effect-clause-unsynced : goal.returns-in_err-effect-clause-unsynced
+returns-in_err-effect-clause-unsynced g c = λ none told. same_unsynced (ap g.D.Disk.state (c.finish_first.ensures.same none))
+
+pub returns-in_err-give_up-clause-unsynced : goal.returns-in_err-give_up-clause-unsynced
+returns-in_err-give_up-clause-unsynced g c = λ none told.
+    then_unsynced (g.D.Disk.state c.args.disk.now) (g.D.Disk.state c.finish_first.new.disk) (g.D.Disk.state c.give_up.new.disk) (same_unsynced (ap g.D.Disk.state (c.finish_first.ensures.same none))) (c.give_up.ensures.unsynced told)
+
+pub returns-clause-unsynced : goal.returns-clause-unsynced
+returns-clause-unsynced g c = λ none told.
+    then_unsynced (g.D.Disk.state c.args.disk.now) (g.D.Disk.state c.finish_first.new.disk) (g.D.Disk.state c.give_up.new.disk) (same_unsynced (ap g.D.Disk.state (c.finish_first.ensures.same none))) (c.give_up.ensures.unsynced told)

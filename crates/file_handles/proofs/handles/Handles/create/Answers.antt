@@ -11,6 +11,7 @@ use Rattle.file_handles.proofs.FirstFree.{may_take}
 use Rattle.file_handles.proofs.JoinedOpen.{used_none}
 use Rattle.file_handles.proofs.Where.{carries_out_at}
 use Rattle.file_handles.proofs.IndexLeft.{made_left, then_left}
+use Rattle.file_handles.proofs.UnsyncedLaws.{made_unsynced, then_unsynced}
 use Rattle.file_handles.proofs.handles.Handles.create.Goals as goal
 
 pub returns-then-is_ok-clause-carried : goal.returns-then-is_ok-clause-carried
@@ -86,7 +87,7 @@ returns-in_err-add-clause-carried g c = λ tells. carries_out_at (λ b m w momen
     (g.met.D.Disk.sound c.doom_there.new.disk tells) stands (inl (c.in_ok-object.ensures.state tells).made)
     in
     failed_on_leaves c.from_residual-in_err-add.result c.in_err-add.field-0.0 (g.D.Disk.state c.drafted.new.disk) (kept c.add.new.self) (Create c.args.slot c.args.key.now)
-    c.from_residual-in_err-add.ensures.1 (λ refusal same. c.in_err-add.ensures.refused refusal same) m w safe)
+    c.from_residual-in_err-add.ensures.1 (λ refusal same. c.in_err-add.ensures.adds.refused refusal same) m w safe)
 
 pub returns-clause-carried : goal.returns-clause-carried
 returns-clause-carried g c = λ tells. carries_out_at (λ b m w moment stand.
@@ -102,7 +103,7 @@ returns-clause-carried g c = λ tells. carries_out_at (λ b m w moment stand.
     added_leaves s k c.args.slot c.args.key.now c.name_of-name.result may m w stand (g.D.Disk.state c.doom_there.new.disk) (g.D.Disk.state c.drafted.new.disk) (kept c.doom_there.new.self) c.in_ok-aside.aside
     (g.met.D.Disk.sound c.doom_there.new.disk tells) stands (kept c.add.new.self) c.in_ok-object.object (all_below 256 c.args.key.now (λ i. omega (arith, c.type_inv.key i))) (c.in_ok-object.ensures.state tells).made
     c.in_ok-object.ensures.draft.1.0 c.in_ok-aside.ensures.least.free
-    (subst (λ n. IsHeldAs c.in_ok-object.object (fresh n c.args.key.now)) (sym moment) c.in_ok-object.ensures.draft.1.1) c.in_ok-add.ensures.added (omega arith) (λ p lt. omega arith))
+    (subst (λ n. IsHeldAs c.in_ok-object.object (fresh n c.args.key.now)) (sym moment) c.in_ok-object.ensures.draft.1.1) c.in_ok-add.ensures.adds.added (omega arith) (λ p lt. omega arith))
 
 pub returns-in_err-object-clause-index : goal.returns-in_err-object-clause-index
 returns-in_err-object-clause-index g c told =
@@ -139,3 +140,18 @@ returns-clause-numbered g c = λ tells.
 
 pub returns-clause-effect : goal.returns-clause-effect
 returns-clause-effect g c = λ m number proper stand. ap (λ n. Gone (record { 0 = n })) c.name_of-name.ensures
+
+pub returns-in_err-object-clause-unsynced : goal.returns-in_err-object-clause-unsynced
+returns-in_err-object-clause-unsynced g c told =
+    then_unsynced (g.D.Disk.state c.args.disk.now) (g.D.Disk.state c.doom_there.new.disk) (g.D.Disk.state c.drafted.new.disk) (c.doom_there.ensures.unsynced told)
+    (made_unsynced c.drafted.result _ _ c.in_ok-aside.aside (c.drafted.ensures.state told))
+
+pub returns-in_err-add-clause-unsynced : goal.returns-in_err-add-clause-unsynced
+returns-in_err-add-clause-unsynced g c told =
+    then_unsynced (g.D.Disk.state c.args.disk.now) (g.D.Disk.state c.doom_there.new.disk) (g.D.Disk.state c.drafted.new.disk) (c.doom_there.ensures.unsynced told)
+    (made_unsynced c.drafted.result _ _ c.in_ok-aside.aside (c.drafted.ensures.state told))
+
+pub returns-clause-unsynced : goal.returns-clause-unsynced
+returns-clause-unsynced g c told =
+    then_unsynced (g.D.Disk.state c.args.disk.now) (g.D.Disk.state c.doom_there.new.disk) (g.D.Disk.state c.drafted.new.disk) (c.doom_there.ensures.unsynced told)
+    (made_unsynced c.drafted.result _ _ c.in_ok-aside.aside (c.drafted.ensures.state told))

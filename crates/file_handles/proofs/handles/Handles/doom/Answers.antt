@@ -15,6 +15,7 @@ use Rattle.file_handles.proofs.DoomedCommand.{bare_stands, doom_touches, doomed_
 use Rattle.file_handles.proofs.Histories.{history_of}
 use Rattle.file_handles.proofs.Where.{carries_out}
 use Rattle.file_handles.proofs.IndexLeft.{removed_left, same_left, then_left}
+use Rattle.file_handles.proofs.UnsyncedLaws.{removed_unsynced, same_unsynced, then_unsynced}
 use Rattle.file_handles.proofs.handles.Handles.doom.Goals as goal
 
 pub returns-in_err-name-clause-carried : goal.returns-in_err-name-clause-carried
@@ -112,3 +113,26 @@ returns-in_ok-remove-clause-effect g c = λ m number proper stand. ap (λ n. Gon
 
 pub returns-else-not-branch-clause-effect : goal.returns-else-not-branch-clause-effect
 returns-else-not-branch-clause-effect g c = λ m number proper stand. ap (λ n. Gone (record { 0 = n })) c.in_ok-name.ensures.named
+
+pub returns-in_err-name-clause-unsynced : goal.returns-in_err-name-clause-unsynced
+returns-in_err-name-clause-unsynced g c told = same_unsynced (c.may_doom.ensures.looks.state told)
+
+pub returns-in_err-doom_user-clause-unsynced : goal.returns-in_err-doom_user-clause-unsynced
+returns-in_err-doom_user-clause-unsynced g c told =
+    then_unsynced (g.D.Disk.state c.args.disk.now) (g.D.Disk.state c.may_doom.new.disk) (g.D.Disk.state c.doom_user.new.disk) (same_unsynced (c.may_doom.ensures.looks.state told)) (c.doom_user.ensures.unsynced told)
+
+pub returns-else-not-branch-clause-unsynced : goal.returns-else-not-branch-clause-unsynced
+returns-else-not-branch-clause-unsynced g c told =
+    then_unsynced (g.D.Disk.state c.args.disk.now) (g.D.Disk.state c.may_doom.new.disk) (g.D.Disk.state c.doom_user.new.disk) (same_unsynced (c.may_doom.ensures.looks.state told)) (c.doom_user.ensures.unsynced told)
+
+pub returns-in_err-remove-clause-unsynced : goal.returns-in_err-remove-clause-unsynced
+returns-in_err-remove-clause-unsynced g c told =
+    then_unsynced (g.D.Disk.state c.args.disk.now) (g.D.Disk.state c.doom_user.new.disk) (g.D.Disk.state c.remove.new.self)
+    (then_unsynced _ (g.D.Disk.state c.may_doom.new.disk) _ (same_unsynced (c.may_doom.ensures.looks.state told)) (c.doom_user.ensures.unsynced told))
+    (removed_unsynced c.remove.result _ _ c.in_ok-name.name (c.remove.ensures.state told))
+
+pub returns-in_ok-remove-clause-unsynced : goal.returns-in_ok-remove-clause-unsynced
+returns-in_ok-remove-clause-unsynced g c told =
+    then_unsynced (g.D.Disk.state c.args.disk.now) (g.D.Disk.state c.doom_user.new.disk) (g.D.Disk.state c.remove.new.self)
+    (then_unsynced _ (g.D.Disk.state c.may_doom.new.disk) _ (same_unsynced (c.may_doom.ensures.looks.state told)) (c.doom_user.ensures.unsynced told))
+    (removed_unsynced c.remove.result _ _ c.in_ok-name.name (c.remove.ensures.state told))

@@ -1,15 +1,17 @@
-use Rattle.std.proofs.Common.{◌<◌, Ok, sym, subst, arith}
+use Rattle.std.proofs.Common.{sym}
 use Rattle.std.proofs.lemmas.Result.{IfOk-from_err}
 use Rattle.cache_base.specs.declared.limits.TheConstants.{SLOTS}
 use Rattle.cache_theory.specs.Step.{doomed_under}
 use Rattle.file_handles.specs.Cache.{cache_at}
 use Rattle.file_handles.specs.Kept.{kept}
 use Rattle.file_handles.specs.Stands.{KeepsWhere}
+use Rattle.file_handles.proofs.DoomedNumbers.{few_left, numbers_left}
 use Rattle.file_handles.proofs.DoomedUser.{not_set_aside, set_aside_there, user_there_or_aside}
 use Rattle.file_handles.proofs.FirstFree.{takes_aside}
 use Rattle.file_handles.proofs.Histories.{history_of}
 use Rattle.file_handles.proofs.User.{user_is_there}
 use Rattle.file_handles.proofs.IndexLeft.{doomed_left}
+use Rattle.file_handles.proofs.UnsyncedLaws.{doomed_unsynced}
 use Rattle.file_handles.proofs.handles.Handles.doom_at.Goals as goal
 
 pub take-object-requires-clause-there : goal.take-object-requires-clause-there
@@ -40,20 +42,25 @@ returns-clause-dooms g c = λ tells. record {
       let s = g.D.Disk.state c.args.disk.now in
       let t = g.D.Disk.state c.set_aside.new.disk in
       let done = set_aside_there s t (kept c.args.self.now) (kept c.take-object.new.self) c.args.name.now c.args.place c.take-object.result c.requires.user c.take-object.ensures.found
-      (kept c.put_entry.new.self) _ c.in_ok-moved_to.moved_to (g.met.D.Disk.sound c.args.disk.now tells) c.doomed_numbers-doomed.ensures.numbers (c.in_ok-moved_to.ensures.moves tells)
+      (kept c.put_entry.new.self) _ c.in_ok-moved_to.moved_to (g.met.D.Disk.sound c.args.disk.now tells)
+      (numbers_left (kept c.args.self.now) (kept c.take-object.new.self) c.args.place c.take-object.result c.take-object.ensures.found c.take-object.ensures.kept _ c.doomed_numbers-doomed.ensures.numbers) (c.in_ok-moved_to.ensures.moves tells)
       c.take-object.ensures.kept c.put_entry.ensures h.machine h.marks touched stand in
       record { safe = done.0; next = done.1 };
 }
 
 pub returns-in_err-moved_to-clause-numbered : goal.returns-in_err-moved_to-clause-numbered
 returns-in_err-moved_to-clause-numbered g c = λ tells.
-    takes_aside (g.D.Disk.state c.args.disk.now) (g.D.Disk.state c.set_aside.new.disk) (kept c.args.self.now) (c.requires.told tells) c.args.name.now c.take-object.result.aside _ c.doomed_numbers-doomed.ensures.numbers
-    (omega arith) c.set_aside.result (c.set_aside.ensures.moves tells)
+    takes_aside (g.D.Disk.state c.args.disk.now) (g.D.Disk.state c.set_aside.new.disk) (kept c.args.self.now) (c.requires.told tells) c.args.name.now c.take-object.result.aside _
+    (numbers_left (kept c.args.self.now) (kept c.take-object.new.self) c.args.place c.take-object.result c.take-object.ensures.found c.take-object.ensures.kept _ c.doomed_numbers-doomed.ensures.numbers)
+    (few_left (kept c.args.self.now) (kept c.take-object.new.self) c.args.place c.take-object.result c.take-object.ensures.found c.take-object.ensures.kept _ c.doomed_numbers-doomed.ensures.numbers c.doomed_numbers-doomed.ensures.rows)
+    c.set_aside.result (c.set_aside.ensures.moves tells)
 
 pub returns-clause-numbered : goal.returns-clause-numbered
 returns-clause-numbered g c = λ tells.
-    takes_aside (g.D.Disk.state c.args.disk.now) (g.D.Disk.state c.set_aside.new.disk) (kept c.args.self.now) (c.requires.told tells) c.args.name.now c.take-object.result.aside _ c.doomed_numbers-doomed.ensures.numbers
-    (omega arith) c.set_aside.result (c.set_aside.ensures.moves tells)
+    takes_aside (g.D.Disk.state c.args.disk.now) (g.D.Disk.state c.set_aside.new.disk) (kept c.args.self.now) (c.requires.told tells) c.args.name.now c.take-object.result.aside _
+    (numbers_left (kept c.args.self.now) (kept c.take-object.new.self) c.args.place c.take-object.result c.take-object.ensures.found c.take-object.ensures.kept _ c.doomed_numbers-doomed.ensures.numbers)
+    (few_left (kept c.args.self.now) (kept c.take-object.new.self) c.args.place c.take-object.result c.take-object.ensures.found c.take-object.ensures.kept _ c.doomed_numbers-doomed.ensures.numbers c.doomed_numbers-doomed.ensures.rows)
+    c.set_aside.result (c.set_aside.ensures.moves tells)
 
 pub returns-in_err-moved_to-clause-index : goal.returns-in_err-moved_to-clause-index
 returns-in_err-moved_to-clause-index g c told =
@@ -62,3 +69,15 @@ returns-in_err-moved_to-clause-index g c told =
 pub returns-clause-index : goal.returns-clause-index
 returns-clause-index g c told =
     doomed_left c.set_aside.result (g.D.Disk.state c.args.disk.now) (g.D.Disk.state c.set_aside.new.disk) c.args.name.now c.take-object.result.aside _ (g.met.D.Disk.sound c.args.disk.now told) (c.set_aside.ensures.moves told)
+
+pub returns-in_err-moved_to-clause-unsynced : goal.returns-in_err-moved_to-clause-unsynced
+returns-in_err-moved_to-clause-unsynced g c told =
+    doomed_unsynced c.set_aside.result (g.D.Disk.state c.args.disk.now) (g.D.Disk.state c.set_aside.new.disk) c.args.name.now c.take-object.result.aside _ (c.set_aside.ensures.moves told)
+
+pub returns-clause-unsynced : goal.returns-clause-unsynced
+returns-clause-unsynced g c told =
+    doomed_unsynced c.set_aside.result (g.D.Disk.state c.args.disk.now) (g.D.Disk.state c.set_aside.new.disk) c.args.name.now c.take-object.result.aside _ (c.set_aside.ensures.moves told)
+
+pub set_aside-requires-clause-few : goal.set_aside-requires-clause-few
+set_aside-requires-clause-few g c =
+    few_left (kept c.args.self.now) (kept c.take-object.new.self) c.args.place c.take-object.result c.take-object.ensures.found c.take-object.ensures.kept _ c.doomed_numbers-doomed.ensures.numbers c.doomed_numbers-doomed.ensures.rows

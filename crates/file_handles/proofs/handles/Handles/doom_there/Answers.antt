@@ -4,6 +4,7 @@ use Rattle.file_handles.specs.Kept.{kept}
 use Rattle.file_handles.proofs.DoomedCommand.{none_if, some_if}
 use Rattle.file_handles.proofs.GoneUnder.{gone_done_by, gone_fails_by}
 use Rattle.file_handles.proofs.IndexLeft.{gone_left, then_left}
+use Rattle.file_handles.proofs.UnsyncedLaws.{gone_unsynced, then_unsynced}
 use Rattle.file_handles.proofs.handles.Handles.doom_there.Goals as goal
 
 pub returns-in_err-doom_user-clause-dooms : goal.returns-in_err-doom_user-clause-dooms
@@ -43,3 +44,13 @@ pub returns-clause-index : goal.returns-clause-index
 returns-clause-index g c told =
     then_left (g.D.Disk.state c.args.disk.now) (g.D.Disk.state c.doom_user.new.disk) (g.D.Disk.state c.remove_file.new.disk) (c.doom_user.ensures.index told)
     (gone_left c.remove_file.result _ _ c.args.name.now (c.remove_file.ensures.state told))
+
+pub returns-in_err-remove_file-clause-unsynced : goal.returns-in_err-remove_file-clause-unsynced
+returns-in_err-remove_file-clause-unsynced g c told =
+    then_unsynced (g.D.Disk.state c.args.disk.now) (g.D.Disk.state c.doom_user.new.disk) (g.D.Disk.state c.remove_file.new.disk) (c.doom_user.ensures.unsynced told)
+    (gone_unsynced c.remove_file.result _ _ c.args.name.now (c.remove_file.ensures.state told))
+
+pub returns-clause-unsynced : goal.returns-clause-unsynced
+returns-clause-unsynced g c told =
+    then_unsynced (g.D.Disk.state c.args.disk.now) (g.D.Disk.state c.doom_user.new.disk) (g.D.Disk.state c.remove_file.new.disk) (c.doom_user.ensures.unsynced told)
+    (gone_unsynced c.remove_file.result _ _ c.args.name.now (c.remove_file.ensures.state told))

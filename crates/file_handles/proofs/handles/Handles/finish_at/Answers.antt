@@ -6,6 +6,7 @@ use Rattle.file_handles.specs.Kept.{kept, with_object}
 use Rattle.file_handles.specs.Publishing.IsAmidPublishing.{Published}
 use Rattle.file_handles.specs.declared.object.Entry.TheVariants.{Finished}
 use Rattle.file_handles.specs.declared.object.Object.{Object}
+use Rattle.file_handles.proofs.ClosedChunks.{same_number}
 use Rattle.file_handles.proofs.Completed.{completed_becomes, completed_held, completed_stands, completed_writes}
 use Rattle.file_handles.proofs.EffectLaws.{held_is_learnt}
 use Rattle.file_handles.proofs.ElementChecks.{is_there}
@@ -61,3 +62,8 @@ returns-clause-effect g c =
     subst (λ (o : Option Object). IsLearntOf completed o c.learnt_of-effect.result) (sym c.take-object.ensures.found) (λ o held new.
     c.learnt_of-effect.ensures.held
     ∙ held_is_learnt x.number x.name x.doomed _ (Finished c.in_ok-meta.meta) (completed o) (completed_held x c.in-Draft.draft c.in-Draft.is c.in_ok-meta.meta c.in_ok-meta.ensures.meta o held) new)
+
+pub returns-clause-numbered : goal.returns-clause-numbered
+returns-clause-numbered g c =
+    same_number (kept c.args.self.now) (kept c.put_entry.new.self) c.args.place c.take-object.result _ c.take-object.ensures.found
+    (put_back (kept c.args.self.now) (kept c.take-object.new.self) (kept c.put_entry.new.self) c.args.place (Some _) c.take-object.ensures.kept c.put_entry.ensures) refl

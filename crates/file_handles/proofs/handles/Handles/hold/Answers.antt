@@ -1,11 +1,13 @@
-use Rattle.std.proofs.Common.{refl, sym, subst, ◌∙◌}
+use Rattle.std.proofs.Common.{ap, refl, sym, subst, ◌∙◌}
 use Rattle.std.specs.List.{All}
 use Rattle.std.specs.Prelude.{IsSome}
 use Rattle.std.proofs.lemmas.List.Elements.{All-take}
-use Rattle.chunk_cache.specs.Cached.{bytes_of}
+use Rattle.chunk_cache.specs.Cached.{bytes_of, with_chunk, with_room}
 use Rattle.chunk_cache.proofs.Properties.{All-looked_at, All-with_chunk}
 use Rattle.file_handles.specs.HeldChunks.{IsChunkInUse}
 use Rattle.file_handles.specs.Kept.{kept}
+use Rattle.file_handles.proofs.ChunkLists.{kept_put}
+use Rattle.file_handles.proofs.ElementReads.{mapped_none}
 use Rattle.file_handles.proofs.ReadChunks.{list_stands, looked_finds, new_in_use}
 use Rattle.file_handles.proofs.handles.Handles.hold.Goals as goal
 
@@ -60,3 +62,11 @@ returns-clause-holds g c = λ place x from len told at is m number stands.
     (subst (All P) (sym c.in_ok-keep.ensures.ok)
     (All-with_chunk P n i c.read_over.new.bytes c.evict.new.self room
     (new_in_use s k m number stands place x at from len c.args.chunk.now is c.read_over.new.bytes (c.in_ok-read_over.ensures.chunk told))))
+
+pub returns-clause-put : goal.returns-clause-put
+returns-clause-put g c =
+    let n = c.args.chunk.now.number in
+    let i = c.args.chunk.now.index in
+    let bytes = c.read_over.new.bytes in
+    kept_put n i c.args.self.now.chunks c.keep.new.self bytes (mapped_none _ c.look.result _ c.look.ensures.bytes (sym c.if-is_some.ensures))
+    (c.in_ok-keep.ensures.ok ∙ ap (with_chunk n i bytes) (c.evict.ensures.chunks ∙ ap with_room c.look.follows.holds-at-none))

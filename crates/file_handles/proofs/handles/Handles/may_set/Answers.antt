@@ -1,11 +1,12 @@
-use Rattle.std.proofs.Common.{◌≡◌, sym, ◌∙◌, ap, false, true}
-use Rattle.entry_parts.specs.Setting.{with_element}
+use Rattle.std.proofs.Common.{◌≡◌, sym, ◌∙◌, ap, false, subst, true, None, IfSome}
+use Rattle.entry_parts.specs.Setting.{set_fault, with_element}
 use Rattle.cache_theory.specs.Checks.{good_element}
 use Rattle.file_handles.specs.Held.{elements_in}
 use Rattle.file_handles.specs.Kept.{kept}
 use Rattle.file_handles.specs.Refuses.{HasAt}
 use Rattle.file_handles.specs.Setting.{are_small}
-use Rattle.file_handles.proofs.ElementChecks.{at_object, bad_name, bad_value, empty_name, set_bad, set_ends_by, some_object}
+use Rattle.file_handles.specs.declared.object.Object.{Object}
+use Rattle.file_handles.proofs.ElementChecks.{at_object, bad_name, bad_value, empty_name, set_bad, set_ends_by, settable, some_object}
 use Rattle.file_handles.proofs.ElementEntries.{small_has_room}
 use Rattle.file_handles.proofs.PartsSlots.{refused_on}
 use Rattle.file_handles.proofs.handles.Handles.may_set.Goals as goal
@@ -44,3 +45,13 @@ returns-else-may_have-clause-refused c =
 
 pub returns-in_err-place-clause-refused : goal.returns-in_err-place-clause-refused
 returns-in_err-place-clause-refused c = refused_on c.from_residual.result c.in_err-place.field-0.0 _ c.from_residual.ensures.1 (c.in_err-place.ensures.refused_set c.args.name.now c.args.value.now)
+
+pub returns-then-may_have-clause-settable : goal.returns-then-may_have-clause-settable
+returns-then-may_have-clause-settable c =
+    let name = c.args.name.now in
+    let value = c.args.value.now in
+    let x = c.in_ok-object.object.now in
+    let P : Object → Type 0 = λ x. set_fault name value (elements_in x.entry) ≡ None in
+    subst (λ o. IfSome o P) (sym c.in_ok-object.ensures.found)
+    (settable name value x.entry (elements_in x.entry) (sym c.if-is_empty.ensures) (sym c.if-has_zero.ensures) (sym c.if-has_zero-2.ensures)
+    (ap (λ es. are_small x.entry (with_element name value es)) (sym c.elements.ensures) ∙ sym c.if-may_have.ensures))

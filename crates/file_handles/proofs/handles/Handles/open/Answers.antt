@@ -49,7 +49,7 @@ returns-clause-carried g c = λ told.
     (added_leaves s k c.args.slot c.args.key.now c.requires.slot (used_none (use_at k c.args.slot) c.use_of.result c.use_of.ensures (sym c.is_ok.ensures.value ∙ c.if-is_ok.false))
     (sym c.may_write.ensures ∙ c.if-not-may_write.false) c.name_of-name.result c.name_of-name.ensures (omega arith) (sym c.used_by.ensures ∙ c.in_default.is)
     c.in_ok-meta.meta _ refl (subst P c.in_ok-meta.was (c.load.ensures.loads told))
-    c.add.result (kept c.add.new.self) c.add.ensures (λ p lt. omega arith))
+    c.add.result (kept c.add.new.self) c.add.ensures.adds (λ p lt. omega arith))
 
 pub returns-in_err-meta-clause-in_use : goal.returns-in_err-meta-clause-in_use
 returns-in_err-meta-clause-in_use g c = λ m number proper stand some.

@@ -1,4 +1,4 @@
-use Rattle.std.proofs.Common.{◌≡◌, ◌∙◌, ℕ, List, Bor, Err, Option, Some, None, refl, sym, subst, ap}
+use Rattle.std.proofs.Common.{◌≡◌, ◌⊎◌, ◌∙◌, inl, inr, ℕ, List, Bor, Err, Option, Some, None, refl, sym, subst, ap}
 use Rattle.std.specs.Prelude.{IfSome}
 use Rattle.std.specs.Bool.{IsTrue}
 use Rattle.cache_theory.specs.Command.Command.{ReadPart}
@@ -8,6 +8,7 @@ use Rattle.chunk_cache.proofs.Properties.{look_puts_first}
 use Rattle.disk_model.specs.Account.{Ending, Looks}
 use Rattle.file_handles.specs.Answers.{ending}
 use Rattle.file_handles.specs.Cache.{cache_at}
+use Rattle.file_handles.specs.HeldChunks.{MayLoseLast, PutsFirst}
 use Rattle.file_handles.specs.Kept.{Kept, kept, object_at, use_at}
 use Rattle.file_handles.specs.Reading.{ForBody, HasChunkOf, part_of_body, rest_part}
 use Rattle.file_handles.specs.Refuses.{Refuses}
@@ -15,9 +16,10 @@ use Rattle.file_handles.specs.declared.fault.HandleFault.{HandleFault}
 use Rattle.file_handles.specs.declared.fault.HandleFault.TheVariants as fault
 use Rattle.file_handles.specs.declared.read.StoredChunk.{StoredChunk}
 use Rattle.file_handles.proofs.Accounting.{looks_nowhere}
+use Rattle.file_handles.proofs.ChunkLists.{put_again}
 use Rattle.file_handles.proofs.ElementSlots.{use_found}
-use Rattle.file_handles.proofs.PartsSlots.{err_is, error_changes, error_reads, error_says, error_unread, never_both, on_err, part_no_slot, part_passes}
-use Rattle.file_handles.proofs.ReadChunks.{chunk_first, chunk_held, chunk_lent, in_slot, looked_loses_none, looked_stands, none_first, one_there, rest_lent, same_looked}
+use Rattle.file_handles.proofs.PartsSlots.{err_is, error_changes, error_reads, error_says, error_unread, never_both, on_err, on_error, part_no_slot, part_passes}
+use Rattle.file_handles.proofs.ReadChunks.{chunk_held, chunk_lent, for_chunk, for_none, in_slot, looked_loses_none, looked_stands, one_there, rest_lent, same_looked}
 use Rattle.file_handles.proofs.handles.Handles.read_part.Goals as goal
 
 pub returns-in_err-used : goal.returns-in_err-used
@@ -38,11 +40,14 @@ returns-in_err-used g c =
         record {
           has_read = record {
             same = refl;
+            put = on_err _ c.from_residual.result (fault.Refused f) is;
+            either = λ x number index own of_chunk. inr (inl refl);
             first = on_err _ c.from_residual.result (fault.Refused f) is;
             none_lost = λ held n i some. some;
             unread = λ none. refl;
             holds = λ told m number stands. stands.handles.chunks;
           };
+          failed = on_error _ c.from_residual.result (fault.Refused f) is (inl refl);
           unread = error_reads c.from_residual.result (fault.Refused f) _ is (λ never. refl);
         },
       ),
@@ -78,11 +83,14 @@ returns-in_err-hold-in-Some g c =
         record {
           has_read = record {
             same = c.hold.ensures.same;
+            put = on_err _ c.from_residual-in_err-hold-in-Some.result e is;
+            either = λ x number index own of_chunk. inr c.in_err-hold-in-Some.ensures.failed;
             first = on_err _ c.from_residual-in_err-hold-in-Some.result e is;
             none_lost = λ held. (c.hold.ensures.held (chunk_held k c.args.slot u found there.0 there.1.0 c.args.from c.args.len chunk there.1.1 held)).1.1;
             unread = λ none. absurd (none there.0 chunk.number chunk.index (in_slot k c.args.slot u found there.0 there.1.0 c.args.from c.args.len) there.1.1.of_chunk);
             holds = λ told. c.hold.ensures.holds u.place there.0 c.args.from c.args.len told there.1.0 there.1.1;
           };
+          failed = on_error _ c.from_residual-in_err-hold-in-Some.result e is c.in_err-hold-in-Some.ensures.failed;
           unread = error_reads c.from_residual-in_err-hold-in-Some.result e _ is (λ read. c.in_err-hold-in-Some.ensures.read read);
         },
       ),
@@ -109,14 +117,18 @@ returns-in_ok-hold-in-Some g c =
     (subst (λ (o : Option StoredChunk). IfSome (object_at k u.place) (λ x. HasChunkOf x c.args.from c.args.len o)) c.in-Some.is c.in_ok-chunk.ensures.chunk) in
     let mid = kept c.hold.new.self in
     let after = kept c.lend_chunk.follows.lender-at-none in
-    let looked = c.lend_chunk.follows.holds-at-none in (
+    let looked = c.lend_chunk.follows.holds-at-none in
+    let Put : ℕ → ℕ → Type 0 = λ number index. PutsFirst number index k.chunks after.chunks in
+    let put : PutsFirst chunk.number chunk.index k.chunks after.chunks = put_again chunk.number chunk.index k.chunks mid.chunks after.chunks c.in_ok-hold-in-Some.ensures.put (ap (λ (j : Kept). j.chunks) looked) in (
       (
         refl,
         λ _. tt,
         record {
           has_read = record {
             same = same_looked k mid after _ c.hold.ensures.same looked;
-            first = chunk_first k c.args.slot u found there.0 there.1.0 c.args.from c.args.len chunk there.1.1 after.chunks
+            put = for_chunk k c.args.slot u found there.0 there.1.0 c.args.from c.args.len chunk there.1.1 Put put;
+            either = for_chunk k c.args.slot u found there.0 there.1.0 c.args.from c.args.len chunk there.1.1 (λ number index. Put number index ⊎ MayLoseLast k.chunks after.chunks) (inl put);
+            first = for_chunk k c.args.slot u found there.0 there.1.0 c.args.from c.args.len chunk there.1.1 (λ number index. StandsFirst number index after.chunks)
                 (subst (λ (j : Kept). StandsFirst chunk.number chunk.index j.chunks) (sym looked) (look_puts_first chunk.number chunk.index mid.chunks c.in_ok-hold-in-Some.ensures.found));
             none_lost = λ held.
                 looked_loses_none k mid after chunk.number chunk.index
@@ -125,6 +137,7 @@ returns-in_ok-hold-in-Some g c =
             holds = λ told m number stands.
                 looked_stands mid after m number chunk.number chunk.index looked (c.hold.ensures.holds u.place there.0 c.args.from c.args.len told there.1.0 there.1.1 m number stands);
           };
+          failed = tt;
           unread = tt;
         },
       ),
@@ -155,11 +168,14 @@ returns-in-None g c =
         record {
           has_read = record {
             same = refl;
-            first = none_first k c.args.slot u found there.0 there.1.0 c.args.from c.args.len there.1.1 k.chunks;
+            put = for_none k c.args.slot u found there.0 there.1.0 c.args.from c.args.len there.1.1 (λ number index. PutsFirst number index k.chunks k.chunks);
+            either = λ x number index own of_chunk. inr (inl refl);
+            first = for_none k c.args.slot u found there.0 there.1.0 c.args.from c.args.len there.1.1 (λ number index. StandsFirst number index k.chunks);
             none_lost = λ held n i some. some;
             unread = λ none. refl;
             holds = λ told m number stands. stands.handles.chunks;
           };
+          failed = tt;
           unread = tt;
         },
       ),

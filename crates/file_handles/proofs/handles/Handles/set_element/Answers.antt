@@ -17,6 +17,7 @@ use Rattle.file_handles.proofs.ElementCommands.{IsFinished, set_leaves, set_make
 use Rattle.file_handles.proofs.Places.{filed_somehow}
 use Rattle.file_handles.proofs.Refused.{refused_answer}
 use Rattle.file_handles.proofs.IndexLeft.{change_left}
+use Rattle.file_handles.proofs.UnsyncedLaws.{change_unsynced}
 use Rattle.file_handles.proofs.handles.Handles.set_element.Goals as goal
 
 pub change_at-requires-clause-told : goal.change_at-requires-clause-told
@@ -61,3 +62,9 @@ returns-clause-index g c told =
     let there = the_object _ _ c.in_ok-place.ensures.object in
     change_left (g.D.Disk.state c.args.disk.now) (g.D.Disk.state c.change_at.new.disk) (kept c.args.self.now) (kept c.change_at.new.self) c.in_ok-place.place there.0 (_) c.change_at.result
     (g.met.D.Disk.sound c.args.disk.now told) there.1.0 (filed_somehow _ _ _ (c.requires.told told)) (c.change_at.ensures.changes told)
+
+pub returns-clause-unsynced : goal.returns-clause-unsynced
+returns-clause-unsynced g c told =
+    let there = the_object _ _ c.in_ok-place.ensures.object in
+    change_unsynced (g.D.Disk.state c.args.disk.now) (g.D.Disk.state c.change_at.new.disk) (kept c.args.self.now) (kept c.change_at.new.self) c.in_ok-place.place there.0 (_) c.change_at.result
+    there.1.0 (filed_somehow _ _ _ (c.requires.told told)) (c.change_at.ensures.changes told)

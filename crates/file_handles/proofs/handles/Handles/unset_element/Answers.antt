@@ -9,13 +9,14 @@ use Rattle.file_handles.specs.Kept.{kept, object_at}
 use Rattle.file_handles.specs.Refuses.{HasAt}
 use Rattle.file_handles.proofs.EffectLaws.{change_effect, unsets_rewrite}
 use Rattle.file_handles.proofs.EntryChanged.{with_elements}
-use Rattle.file_handles.proofs.ElementChecks.{at_object, if_object, some_object}
+use Rattle.file_handles.proofs.ElementChecks.{at_object, if_object, of_any, some_object}
 use Rattle.file_handles.proofs.ElementCommands.{IsFinished, fault_reply, unset_leaves, unset_makes}
 use Rattle.file_handles.proofs.ElementEntries.{room_without}
 use Rattle.file_handles.proofs.ElementReads.{mapped_none, mapped_some, unset_none_leaves}
 use Rattle.file_handles.proofs.Places.{filed_somehow}
 use Rattle.file_handles.proofs.Refused.{refused_answer_or_none}
 use Rattle.file_handles.proofs.IndexLeft.{change_left}
+use Rattle.file_handles.proofs.UnsyncedLaws.{change_unsynced}
 use Rattle.file_handles.proofs.handles.Handles.unset_element.Goals as goal
 
 pub returns-then-is_none-clause-carried : goal.returns-then-is_none-clause-carried
@@ -85,3 +86,16 @@ pub returns-clause-index : goal.returns-clause-index
 returns-clause-index g c told =
     change_left (g.D.Disk.state c.args.disk.now) (g.D.Disk.state c.change_at.new.disk) (kept c.args.self.now) (kept c.change_at.new.self) c.in_ok-place.place c.in_ok-object_at.field-0.now (_) c.change_at.result
     (g.met.D.Disk.sound c.args.disk.now told) c.in_ok-object_at.ensures.found (filed_somehow _ _ _ (c.requires.told told)) (c.change_at.ensures.changes told)
+
+pub returns-in_err-effect-clause-unsynced : goal.returns-in_err-effect-clause-unsynced
+returns-in_err-effect-clause-unsynced g c told =
+    change_unsynced (g.D.Disk.state c.args.disk.now) (g.D.Disk.state c.change_at.new.disk) (kept c.args.self.now) (kept c.change_at.new.self) c.in_ok-place.place c.in_ok-object_at.field-0.now (_) c.change_at.result
+    c.in_ok-object_at.ensures.found (filed_somehow _ _ _ (c.requires.told told)) (c.change_at.ensures.changes told)
+
+pub returns-clause-unsynced : goal.returns-clause-unsynced
+returns-clause-unsynced g c told =
+    change_unsynced (g.D.Disk.state c.args.disk.now) (g.D.Disk.state c.change_at.new.disk) (kept c.args.self.now) (kept c.change_at.new.self) c.in_ok-place.place c.in_ok-object_at.field-0.now (_) c.change_at.result
+    c.in_ok-object_at.ensures.found (filed_somehow _ _ _ (c.requires.told told)) (c.change_at.ensures.changes told)
+
+pub change_at-requires-clause-settable : goal.change_at-requires-clause-settable
+change_at-requires-clause-settable g c = of_any _

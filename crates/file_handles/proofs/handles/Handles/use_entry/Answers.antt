@@ -9,13 +9,14 @@ use Rattle.file_handles.specs.Kept.{kept, object_at}
 use Rattle.file_handles.specs.Refuses.{HasAt}
 use Rattle.file_handles.proofs.Carried.{change_carried_at}
 use Rattle.file_handles.proofs.EffectLaws.{change_effect_at}
-use Rattle.file_handles.proofs.ElementChecks.{if_object, the_object}
+use Rattle.file_handles.proofs.ElementChecks.{if_object, of_any, the_object}
 use Rattle.file_handles.proofs.ElementCommands.{IsFinished, writes_finished}
 use Rattle.file_handles.proofs.IndexLeft.{change_left}
 use Rattle.file_handles.proofs.Places.{filed_somehow}
 use Rattle.file_handles.proofs.Refused.{refused_answer}
 use Rattle.file_handles.proofs.UseCommand.{use_makes}
 use Rattle.file_handles.proofs.Where.{at_moment}
+use Rattle.file_handles.proofs.UnsyncedLaws.{change_unsynced}
 use Rattle.file_handles.proofs.handles.Handles.use_entry.Goals as goal
 
 pub returns-in_err-place-clause-carried : goal.returns-in_err-place-clause-carried
@@ -55,3 +56,12 @@ returns-clause-index g c told =
     let there = the_object _ _ c.in_ok-place.ensures.object in
     change_left (g.D.Disk.state c.args.disk.now) (g.D.Disk.state c.change_at.new.disk) (kept c.args.self.now) (kept c.change_at.new.self) c.in_ok-place.place there.0 (_) c.change_at.result
     (g.met.D.Disk.sound c.args.disk.now told) there.1.0 (filed_somehow _ _ _ (c.requires.told told)) (c.change_at.ensures.changes told)
+
+pub returns-clause-unsynced : goal.returns-clause-unsynced
+returns-clause-unsynced g c told =
+    let there = the_object _ _ c.in_ok-place.ensures.object in
+    change_unsynced (g.D.Disk.state c.args.disk.now) (g.D.Disk.state c.change_at.new.disk) (kept c.args.self.now) (kept c.change_at.new.self) c.in_ok-place.place there.0 (_) c.change_at.result
+    there.1.0 (filed_somehow _ _ _ (c.requires.told told)) (c.change_at.ensures.changes told)
+
+pub change_at-requires-clause-settable : goal.change_at-requires-clause-settable
+change_at-requires-clause-settable g c = of_any _
