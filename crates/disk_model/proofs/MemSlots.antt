@@ -65,6 +65,13 @@ module _ (m n : Slots) (p : Place) (new : Slot) (put : Updates place_ord.ghosts.
       go true = refl
       go false = has
 
+-- where there is no slot, nothing is settled
+pub nothing_settled : (m n : Slots) (p : Place) → n ≡ m → slot_at m p ≡ None → synced_names_in n ≡ with_name p (names_in m p) (synced_names_in m)
+nothing_settled m n p same none =
+    ap synced_names_in same
+    ∙ sym (with_name-same p (synced_names_in m))
+    ∙ ap (λ file. with_name p file (synced_names_in m)) (ap synced_of none ∙ sym (ap now_of none))
+
 pub none_there : {X : Type 0} (o : Option X) → is_some o ≡ false → o ≡ None
 none_there None is = refl
 none_there (Some x) is = cc

@@ -7,7 +7,7 @@ use Rattle.std.proofs.lemmas.Bool.Decides.{Decides-eqb}
 use Rattle.std.proofs.lemmas.Map.Lookups.{CmpEqualImpliesEq, exact_bytes, exact_unsigned}
 use Rattle.std.proofs.lemmas.Map.Views.{tells_apart}
 use Rattle.disk_model.specs.declared.place.Place.{Place}
-use Rattle.disk_model.specs.declared.place.Place.TheVariants.{Entry, Doomed, Index, Log, Tmp}
+use Rattle.disk_model.specs.declared.place.Place.TheVariants.{Entry, Doomed, Index, Log, Tmp, Clear}
 use Rattle.disk_model.specs.contracts.place.PlaceOrd.TheImpl as place_ord
 use Rattle.disk_model.specs.contracts.place.PlaceOrd.TheImpl.Laws.{total-law}
 use Rattle.disk_model.specs.Place.{is_same}
@@ -18,6 +18,7 @@ is_same-refl (Doomed a) = (Decides-eqb a a).1 refl
 is_same-refl Index = refl
 is_same-refl Log = refl
 is_same-refl Tmp = refl
+is_same-refl Clear = refl
 
 pub one_same : (p q : Place) → is_same p q ≡ true → p ≡ q
 one_same (Entry a) (Entry b) e = ap (λ l. Entry (record { 0 = l })) ((bytes_decides a.0 b.0).0 e)
@@ -25,6 +26,7 @@ one_same (Doomed a) (Doomed b) e = ap Doomed ((Decides-eqb a b).0 e)
 one_same Index Index e = refl
 one_same Log Log e = refl
 one_same Tmp Tmp e = refl
+one_same Clear Clear e = refl
 one_same p q e = cc
 
 pub is_same-apart : (p q : Place) → p ≢ q → is_same p q ≡ false
@@ -46,6 +48,7 @@ places_apart (Doomed a) (Doomed b) e = ap Doomed (exact_unsigned a b e)
 places_apart Index Index e = refl
 places_apart Log Log e = refl
 places_apart Tmp Tmp e = refl
+places_apart Clear Clear e = refl
 places_apart p q e = cc
 
 -- the order's equality is the test

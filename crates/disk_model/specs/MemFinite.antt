@@ -18,7 +18,7 @@ use Rattle.cache_base.specs.Bytes.{AreBytes}
 use Rattle.cache_base.specs.Names.{name_cmp}
 use Rattle.cache_base.specs.declared.name.Name.{Name}
 use Rattle.disk_model.specs.declared.place.Place.{Place}
-use Rattle.disk_model.specs.declared.place.Place.TheVariants.{Entry, Doomed, Index, Log, Tmp}
+use Rattle.disk_model.specs.declared.place.Place.TheVariants.{Entry, Doomed, Index, Log, Tmp, Clear}
 use Rattle.disk_model.specs.declared.place.NameStep.{NameStep}
 use Rattle.disk_model.specs.contracts.place.PlaceOrd.TheImpl as place_ord
 use Rattle.disk_model.specs.State.{File, content, content_of, names_now, names_after}
@@ -67,6 +67,7 @@ with_place (Doomed number) now files = files
 with_place Index now files = files
 with_place Log now files = files
 with_place Tmp now files = files
+with_place Clear now files = files
 
 -- the entry files that stand, by name
 abbrev entry_files : List (Place × Slot) → FinMap name_cmp ℕ
@@ -85,6 +86,7 @@ module _ (name : Name) where
   at_place Index now files = refl
   at_place Log now files = refl
   at_place Tmp now files = refl
+  at_place Clear now files = refl
 
   now_first : (b : Bool) (slot : Slot) (rest : Option Slot) → now_of (cond b (Some slot) rest) ≡ cond b slot.now (now_of rest)
   now_first true slot rest = refl

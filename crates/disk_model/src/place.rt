@@ -15,6 +15,8 @@ pub enum Place {
     Log,
     /// The file `index.tmp`, which becomes `index`.
     Tmp,
+    /// The file `clear`, which stands while the entries of an origin are cleared.
+    Clear,
 }
 
 /// A change of the names since the last sync. Files go by their numbers.

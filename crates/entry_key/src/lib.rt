@@ -12,6 +12,6 @@ mod writing;
 
 pub use key_fault::KeyFault;
 pub use laws::{reads_exactly, reads_or_fails};
-pub use origin::origin_hash;
+pub use origin::{hash_of_origin, origin_hash};
 pub use tags::{KeyTags, parse};
 pub use writing::may_write;

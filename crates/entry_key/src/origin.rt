@@ -1,5 +1,6 @@
 //! The hash of a key's origin.
 
+ghost use Rattle.std.specs.Int.{from_be_bytes, w64};
 ghost use Rattle.std.specs.Prelude.{ℕ, ◌≡◌, ◌<◌, ◌==◌, IfSome, List, length, position};
 ghost use Rattle.entry_key.specs.Key.{doubled};
 ghost use Rattle.entry_key.specs.Tags.{value_hash};
@@ -30,13 +31,27 @@ fn sha1_of_spelled(spelled: &[u8]) -> [u8; 20]
     hasher.finalize()
 }
 
+// The first eight bytes of a SHA-1, as a number.
+fn first_eight(hash: &[u8; 20]) -> u64
+    ensures { result ≡ from_be_bytes w64 hash.now }
+{
+    u64::from_be_bytes([
+        hash[0], hash[1], hash[2], hash[3], hash[4], hash[5], hash[6], hash[7],
+    ])
+}
+
 /// The first eight bytes of the SHA-1 of the origin's value, with its doubled commas made single.
 #[tactic(auto, unfolding(crate::specs::Tags::value_hash))]
 pub fn origin_hash(tags: &KeyTags<'_>) -> u64
     ensures { (value : List ℕ) → tags.now.origin.now ≡ doubled value → result ≡ value_hash value }
 {
-    let hash = sha1_of_spelled(tags.origin);
-    u64::from_be_bytes([
-        hash[0], hash[1], hash[2], hash[3], hash[4], hash[5], hash[6], hash[7],
-    ])
+    first_eight(&sha1_of_spelled(tags.origin))
+}
+
+/// The same hash of an origin as it stands, with its commas single: the hash of the keys whose tag spells it.
+#[tactic(auto, unfolding(crate::specs::Tags::value_hash))]
+pub fn hash_of_origin(origin: &[u8]) -> u64
+    ensures { result ≡ value_hash origin.now }
+{
+    first_eight(&Sha1::digest(origin))
 }

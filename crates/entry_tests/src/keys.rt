@@ -1,4 +1,6 @@
-use entry_key::{KeyFault, may_write, origin_hash, parse, reads_exactly, reads_or_fails};
+use entry_key::{
+    KeyFault, hash_of_origin, may_write, origin_hash, parse, reads_exactly, reads_or_fails,
+};
 
 // A key, whether it is anonymous, its origin, what its other values say, and its address.
 type Row<'a> = (&'a [u8], bool, &'a [u8], &'a [u8], &'a [u8]);
@@ -83,6 +85,26 @@ fn origins_are_hashed_with_single_commas(rt: HostRuntime) {
     for index in 0..rows.len() {
         let (key, hash) = rows[index];
         assert!(rt; has_origin(key, hash), "row {index}");
+    }
+}
+
+// Whether an origin as it stands has the hash of the key that spells it.
+fn agree(origin: &[u8], key: &[u8], hash: u64) -> bool {
+    hash_of_origin(origin) == hash && has_origin(key, hash)
+}
+
+#[test]
+fn an_origin_as_it_stands_has_the_hash_of_its_keys(rt: HostRuntime) {
+    // By hashlib, as above; that of `^a` too.
+    let rows = [
+        (b"".as_slice(), b":x".as_slice(), 0xDA39_A3EE_5E6B_4B0D),
+        (b"^a", b"O^a,:x", 0xF87F_B192_D266_1A8C),
+        (b"^a,b", b"O^a,,b,:x", 0x6939_6327_0C2B_8367),
+        (b",,", b"O,,,,,:x", 0x7DC5_4589_A828_EFB2),
+    ];
+    for index in 0..rows.len() {
+        let (origin, key, hash) = rows[index];
+        assert!(rt; agree(origin, key, hash), "row {index}");
     }
 }
 

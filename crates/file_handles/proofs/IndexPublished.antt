@@ -1,13 +1,13 @@
 -- A file that is moved to an entry's place right after a sync leaves the index alone.
-use Rattle.std.proofs.Common.{◌≡◌, ◌≢◌, ◌⊎◌, inl, inr, ℕ, Some, None, refl, sym, ap, subst, ◌∙◌}
+use Rattle.std.proofs.Common.{◌≡◌, ◌≢◌, inl, inr, ℕ, Some, None, subst, ◌∙◌}
 use Rattle.cache_base.specs.declared.name.Name.{Name}
 use Rattle.disk_model.specs.Sound.{IsSound}
 use Rattle.disk_model.specs.State.{State, names_now, renamed, settled, with_name}
 use Rattle.disk_model.specs.declared.place.Place.{Place}
-use Rattle.disk_model.specs.declared.place.Place.TheVariants.{Doomed, Entry, Index, Log, Tmp}
+use Rattle.disk_model.specs.declared.place.Place.TheVariants.{Clear, Doomed, Entry, Index, Log, Tmp}
 use Rattle.disk_model.proofs.Sound.{found}
 use Rattle.disk_model.proofs.Standing.{settled_same}
-use Rattle.index_theory.specs.Apart.{IsApart, IsEntry, IsOfIndex}
+use Rattle.index_theory.specs.Apart.{IsEntry, IsOfIndex}
 use Rattle.index_theory.specs.Ever.{EverAt}
 use Rattle.index_theory.specs.Leaves.{LeavesIndex}
 use Rattle.index_theory.proofs.EverSteps.{ever_renamed, ever_settled}
@@ -21,6 +21,7 @@ index_no_entry (Doomed n) of is = of
 index_no_entry Index of is = is
 index_no_entry Log of is = is
 index_no_entry Tmp of is = is
+index_no_entry Clear of is = of
 
 module _ (s : State) (d : ℕ) (name : Name) (sound : IsSound s) where
   abbrev moved : State

@@ -1,8 +1,10 @@
-//! Tests of records, of the index's files, of what reads and writes them, and of the check of all entries.
+//! Tests of records, of the index's files, of what reads and writes them, of the check of all entries, and of what a clearing needs.
 #![tactic(auto)]
 
 #[cfg(test)]
 mod checks;
+#[cfg(test)]
+mod clearing;
 #[cfg(test)]
 mod evictions;
 #[cfg(test)]

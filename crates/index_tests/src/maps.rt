@@ -66,8 +66,8 @@ fn after_gone(alloc: Global) -> Result<RecordMap, NoMemory> {
     RecordMap::with_journal(alloc, base, &changes)
 }
 
-// A map over the same base, whose records were seen or not.
-fn over_base(alloc: Global, seen: bool) -> Result<RecordMap, NoMemory> {
+/// A map over the same base, whose records were seen or not.
+pub(crate) fn over_base(alloc: Global, seen: bool) -> Result<RecordMap, NoMemory> {
     RecordMap::with_base(alloc, pair(alloc, 1, 2)?, seen)
 }
 

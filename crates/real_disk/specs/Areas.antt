@@ -1,6 +1,6 @@
 -- The folders that places lie in.
 use Rattle.disk_model.specs.declared.place.Place.{Place}
-use Rattle.disk_model.specs.declared.place.Place.TheVariants.{Entry, Doomed as InDoomed, Index, Log, Tmp}
+use Rattle.disk_model.specs.declared.place.Place.TheVariants.{Entry, Doomed as InDoomed, Index, Log, Tmp, Clear}
 use Rattle.real_disk.specs.declared.paths.Area.{Area}
 use Rattle.real_disk.specs.declared.paths.Area.TheVariants.{Top, Entries, Doomed}
 
@@ -10,3 +10,4 @@ area_in (InDoomed number) = Doomed
 area_in Index = Top
 area_in Log = Top
 area_in Tmp = Top
+area_in Clear = Top

@@ -19,10 +19,13 @@ pub(crate) const LOG: &str = "index.log";
 
 pub(crate) const TMP: &str = "index.tmp";
 
+/// The mark of a clearing.
+pub(crate) const CLEAR: &str = "clear";
+
 /// A folder that places lie in.
 #[derive(Clone, Copy, Debug, PartialEq, Eq, PartialOrd, Ord)]
 pub(crate) enum Area {
-    /// The folder of the cache, with the files of the index.
+    /// The folder of the cache, with the files of the index and the mark of a clearing.
     Top,
     /// The folder of entries.
     Entries,
@@ -40,6 +43,7 @@ pub(crate) fn area_of(place: &Place) -> Area
         Place::Index => Area::Top,
         Place::Log => Area::Top,
         Place::Tmp => Area::Top,
+        Place::Clear => Area::Top,
     }
 }
 
@@ -77,6 +81,7 @@ pub(crate) fn path_of<R: AllocGlobal>(
         Place::Index => path_in(rt, dir, INDEX),
         Place::Log => path_in(rt, dir, LOG),
         Place::Tmp => path_in(rt, dir, TMP),
+        Place::Clear => path_in(rt, dir, CLEAR),
     }
 }
 

@@ -22,7 +22,7 @@ use std::rt::Files;
 pub(crate) struct Standing {
     entries: AllSynced<Name>,
     doomed: AllSynced<u32>,
-    index: AllSynced<Place>,
+    top: AllSynced<Place>,
 }
 
 impl<R: Files + AllocGlobal + Clone + Drop> Tree<'_, R> {
@@ -64,10 +64,10 @@ impl<R: Files + AllocGlobal + Clone + Drop> Tree<'_, R> {
         Ok(found)
     }
 
-    // The places of the index at which a file stands.
-    fn index_files(&self) -> io::Result<BTreeSet<Place, Global>> {
+    // The places in the folder of the cache itself at which a file stands.
+    fn top_files(&self) -> io::Result<BTreeSet<Place, Global>> {
         let mut found = BTreeSet::new(self.rt.alloc());
-        'places: for place in [Place::Index, Place::Log, Place::Tmp] {
+        'places: for place in [Place::Index, Place::Log, Place::Tmp, Place::Clear] {
             match fs::symlink_metadata(self.rt, self.path(&place)?.as_str()) {
                 Ok(there) if there.is_file() => {
                     found.insert(place)?;
@@ -93,10 +93,9 @@ impl<R: Files + AllocGlobal + Clone + Drop> Tree<'_, R> {
             doomed: sync_listed(self.doomed()?, |number| {
                 sync_at(rt, dir, numbers, &Place::Doomed(*number))
             })?,
-            index: sync_listed(
-                self.index_files()?,
-                |place| sync_at(rt, dir, numbers, place),
-            )?,
+            top: sync_listed(self.top_files()?, |place| {
+                sync_at(rt, dir, numbers, place)
+            })?,
         };
         self.sync_above()?;
         Ok(standing)

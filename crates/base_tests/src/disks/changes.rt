@@ -14,6 +14,37 @@ fn a_rename_moves_and_replaces(rt: HostRuntime) -> Result<(), Fail> {
     all_answered(&rt, rt.alloc(), RENAMED)
 }
 
+// A file of the doomed takes the place `clear`, as a mark does, and goes from there.
+const CLEARING: &[Row<'static>] = &[
+    (Call::Size(Place::Clear), Answer::Number(3)),
+    (Call::Make(Place::Doomed(64), b"mark"), Answer::Done),
+    (Call::Sync, Answer::Done),
+    (Call::Rename(Place::Doomed(64), Place::Clear), Answer::Done),
+    (Call::File(Place::Clear), Answer::Bytes(b"mark")),
+    (Call::SyncedFile(Place::Clear), Answer::Bytes(b"old")),
+    (Call::File(Place::Doomed(64)), Answer::Nothing),
+    (
+        Call::Read(Place::Clear, 1, b"........"),
+        Answer::Read(3, b"ark....."),
+    ),
+    (Call::Patch(Place::Clear, 0, b"M"), Answer::Done),
+    (Call::File(Place::Clear), Answer::Bytes(b"Mark")),
+    (
+        Call::Crash(0, &[(Place::Clear, b"old"), (Place::Doomed(64), b"mark")]),
+        Answer::Done,
+    ),
+    (Call::Crash(1, &[(Place::Clear, b"mark")]), Answer::Done),
+    (Call::Crash(1, &[(Place::Clear, b"old")]), Answer::Nothing),
+    (Call::Remove(Place::Clear), Answer::Done),
+    (Call::File(Place::Clear), Answer::Nothing),
+    (Call::Remove(Place::Clear), Answer::Nothing),
+];
+
+#[test]
+fn a_mark_is_moved_to_its_place_and_removed(rt: HostRuntime) -> Result<(), Fail> {
+    all_answered_with(&rt, rt.alloc(), Place::Clear, b"old", CLEARING)
+}
+
 const PATCHED: &[Row<'static>] = &[
     (Call::Make(ENTRY, b"hello"), Answer::Done),
     (Call::Patch(ENTRY, 1, b"ipp"), Answer::Done),

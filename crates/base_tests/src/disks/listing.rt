@@ -11,6 +11,7 @@ const LISTED: &[Row<'static>] = &[
     (Call::Make(Place::Entry(NAME_258), b"b"), Answer::Done),
     (Call::Make(Place::Doomed(9), b"d"), Answer::Done),
     (Call::Make(Place::Index, b"i"), Answer::Done),
+    (Call::Make(Place::Clear, b"m"), Answer::Done),
     (Call::Make(Place::Entry(NAME_7), b"a"), Answer::Done),
     (Call::Make(Place::Doomed(2), b"c"), Answer::Done),
     (Call::Make(Place::Entry(NAME_9), b"gone"), Answer::Done),

@@ -112,6 +112,7 @@ const MIXED: &[Row<'static>] = &[
     (Call::MakeFolder("mixed/index"), Answer::Done),
     (Call::MakeFolder("mixed/doomed/7"), Answer::Done),
     (Call::Link("nowhere", "mixed/index.log"), Answer::Done),
+    (Call::Link("nowhere", "mixed/clear"), Answer::Done),
     (Call::Link("nowhere", "mixed/doomed/8"), Answer::Done),
 ];
 

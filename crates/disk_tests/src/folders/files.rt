@@ -42,6 +42,8 @@ const PATHS: &[Row<'static>] = &[
     (Call::File("cache/index.log"), Answer::Bytes(b"index.log")),
     (Call::Make(Place::Tmp, b"index.tmp"), Answer::Done),
     (Call::File("cache/index.tmp"), Answer::Bytes(b"index.tmp")),
+    (Call::Make(Place::Clear, b"clear"), Answer::Done),
+    (Call::File("cache/clear"), Answer::Bytes(b"clear")),
     (Call::Sync, Answer::Done),
 ];
 
@@ -164,6 +166,29 @@ const RENAMED_INTO_A_FOLDER: &[Row<'static>] = &[
 #[test]
 fn a_rename_makes_the_folder(rt: HostRuntime) -> Result<(), Fail> {
     assert!(rt; rows_answered(&rt, "moved", RENAMED_INTO_A_FOLDER)? == RENAMED_INTO_A_FOLDER.len());
+    Ok(())
+}
+
+const MARKED: &[Row<'static>] = &[
+    (Call::Size(Place::Clear), Answer::Nothing),
+    (Call::Make(Place::Clear, b"older"), Answer::Done),
+    (Call::Make(Place::Doomed(64), b"mark"), Answer::Done),
+    (Call::Sync, Answer::Done),
+    (Call::Rename(Place::Doomed(64), Place::Clear), Answer::Done),
+    (Call::File("marked/clear"), Answer::Bytes(b"mark")),
+    (Call::File("marked/doomed/64"), Answer::Nothing),
+    (Call::Mode("marked/clear", 0o600), Answer::Done),
+    (Call::Size(Place::Clear), Answer::Number(4)),
+    (Call::Read(Place::Clear, 0), Answer::Bytes(b"mark")),
+    (Call::Remove(Place::Clear), Answer::Done),
+    (Call::Sync, Answer::Done),
+    (Call::File("marked/clear"), Answer::Nothing),
+];
+
+// As a mark is stored over an older one, and removed.
+#[test]
+fn a_file_of_the_doomed_moves_to_the_top_folder(rt: HostRuntime) -> Result<(), Fail> {
+    assert!(rt; rows_answered(&rt, "marked", MARKED)? == MARKED.len());
     Ok(())
 }
 
