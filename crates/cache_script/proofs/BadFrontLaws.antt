@@ -3,9 +3,9 @@ use Rattle.std.proofs.Common.{◌≡◌, ◌≢◌, ℕ, ◌+◌, ◌-◌, ◌<�
 use Rattle.std.proofs.lemmas.Bool.{ltb-true, ltb-false}
 use Rattle.std.proofs.lemmas.List.{append_assoc, append-nil, take-append-le, take-append-drop, take_at, length-append, length-drop, length-take-le, get_or_append_left, get_or_at, get_or-take, get_or-drop}
 use Rattle.cache_base.specs.Bytes.{AreBytes}
-use Rattle.cache_base.specs.declared.limits.TheConstants.{LINE_MAX, PIECE_MAX, SCRIPT_MAX}
+use Rattle.cache_base.specs.declared.limits.TheConstants.{ALT_MAX, LINE_MAX, SCRIPT_MAX}
 use Rattle.cache_theory.specs.Command.{Command}
-use Rattle.cache_theory.specs.Command.Command.{Append, SetElement}
+use Rattle.cache_theory.specs.Command.Command.{Append, SetElement, PutAlt}
 use Rattle.cache_theory.specs.Text.{IsCommand, IsOneLine, NoMore, command_words, command_data, command_bytes, line, spaced}
 use Rattle.cache_script.specs.Front.{Begins, HasLine, HasLineOf, HasNoCommand, IsBadFront, IsPart, IsSearched}
 use Rattle.cache_script.specs.Front.IsBadFront.{BadLine, LongLine, NoNewline, TooLong, CutAtLimit}
@@ -62,6 +62,7 @@ ends : (c : Command) → (front : List ℕ) × (command_bytes c ≡ front ++ 10 
 unfolding command_bytes
 ends (Append s bytes) = (line (command_words (Append s bytes)) ++ bytes, sym (append_assoc (line (command_words (Append s bytes))) bytes (10 ∷ [])))
 ends (SetElement s name value) = (line (command_words (SetElement s name value)) ++ value, sym (append_assoc (line (command_words (SetElement s name value))) value (10 ∷ [])))
+ends (PutAlt s kind bytes) = (line (command_words (PutAlt s kind bytes)) ++ bytes, sym (append_assoc (line (command_words (PutAlt s kind bytes))) bytes (10 ∷ [])))
 ends c = (spaced (command_words c), append-nil (line (command_words c)))
 
 last_is_newline : (c : Command) → get_or (command_bytes c) (length (command_bytes c) - 1) 0 ≡ 10
@@ -195,7 +196,7 @@ module _ (used : ℕ) (bytes : List ℕ) (end : ℕ) (form : Form) (are : AreByt
       let parts = cut_parts 10 bytes (take end bytes) (drop (end + 1) bytes) has.cutting in
       (bytes_front (take end bytes) (10 ∷ drop (end + 1) bytes) (subst AreBytes parts.0 are), parts.1)
 
-  pub len_short : n ≤ LINE_MAX + PIECE_MAX + 2
+  pub len_short : n ≤ LINE_MAX + ALT_MAX + 2
   len_short = omega (arith, counted, has.short, data_most form (told (take end bytes) form one has.tells).1)
 
   -- a command has the line

@@ -5,11 +5,11 @@ use Rattle.std.specs.Option.{option_map, option_and_then}
 use Rattle.std.proofs.lemmas.Bool.Decides.{nat_tests}
 use Rattle.std.proofs.lemmas.Slice.Eq.{bytes_eq-Decides}
 use Rattle.cache_base.specs.Bytes.{AreBytes}
-use Rattle.cache_base.specs.declared.limits.TheConstants.{ELEMENTS_MAX, PIECE_MAX, SLOTS}
+use Rattle.cache_base.specs.declared.limits.TheConstants.{ALT_MAX, ELEMENTS_MAX, PIECE_MAX, SLOTS}
 use Rattle.cache_theory.specs.Command.Command.{At, Finish, UseEntry, ReadPart, Close, Evict, StepUpdate}
 use Rattle.cache_theory.specs.Command.{Command}
 use Rattle.cache_theory.specs.Text.{FieldsFit, IsOneLine, command_words, spaced}
-use Rattle.cache_script.specs.Lines.{Form, Tells, cut, number_below, slot_in, read_in, set_in, slot_form, verb_form, form_in}
+use Rattle.cache_script.specs.Lines.{Form, Tells, cut, number_below, slot_in, len_in, read_in, slot_form, number_form, verb_form, form_in}
 use Rattle.cache_base.specs.Numbers.{number_in}
 use Rattle.cache_script.proofs.CutLaws.{Lacks, IsCut, cut_is}
 use Rattle.cache_script.proofs.LineLaws.{all_behind, line_read}
@@ -62,16 +62,16 @@ line_behind b xs ys h = ((all_behind (λ x. x < 256) xs (b ∷ ys) h.0).1, (all_
 abbrev slot_text : List ℕ → ℕ → List ℕ → List ℕ
 slot_text verb s rest = verb ++ 32 ∷ (decimal s ++ 32 ∷ rest)
 
-set_spelled : (verb : List ℕ) (s : ℕ) (rest : List ℕ) → s < SLOTS → IsLine rest → verb ≡ codes "set"
-    → IfSome (option_and_then (λ (parts : List ℕ × List ℕ). set_in s parts.0 parts.1) (cut 32 rest)) (Tells (slot_text verb s rest))
-set_spelled verb s rest small line is =
-    chained (λ (parts : List ℕ × List ℕ). set_in s parts.0 parts.1) (cut 32 rest) (Lacks 32 rest) (IsCut 32 rest) (Tells (slot_text verb s rest))
-    (λ parts h. mapped (λ n. Form.SetLine s n parts.1) (number_below (ELEMENTS_MAX + 1) parts.0) (IsBelow (ELEMENTS_MAX + 1) parts.0) (Tells (slot_text verb s rest))
-    (λ n k. (
-      ap (λ v. slot_text v s rest) is ∙ ap (λ r. slot_text (codes "set") s r) (h.0 ∙ ap (λ d. d ++ 32 ∷ parts.1) k.0),
-      (small, (line_behind 32 parts.0 parts.1 (subst IsLine h.0 line), omega (arith, k.1))),
-    ))
-    (below_spelled (ELEMENTS_MAX + 1) parts.0)) (cut_is 32 rest)
+-- the text is a length below the limit, a space and one line
+abbrev IsMeasured : ℕ → List ℕ → ℕ × List ℕ → Type 0
+IsMeasured limit text parts = (text ≡ decimal parts.0 ++ 32 ∷ parts.1) × ((parts.0 < limit) × IsLine parts.1)
+
+len_spelled : (limit : ℕ) (text : List ℕ) → IsLine text → IfSome (len_in limit text) (IsMeasured limit text)
+len_spelled limit text line =
+    chained (λ (parts : List ℕ × List ℕ). option_map (λ (n : ℕ). (n, parts.1)) (number_below limit parts.0)) (cut 32 text) (Lacks 32 text) (IsCut 32 text) (IsMeasured limit text)
+    (λ parts h. mapped (λ (n : ℕ). (n, parts.1)) (number_below limit parts.0) (IsBelow limit parts.0) (IsMeasured limit text)
+    (λ n k. (h.0 ∙ ap (λ d. d ++ 32 ∷ parts.1) k.0, (k.1, line_behind 32 parts.0 parts.1 (subst IsLine h.0 line))))
+    (below_spelled limit parts.0)) (cut_is 32 text)
 
 read_spelled : (verb : List ℕ) (s : ℕ) (rest : List ℕ) → s < SLOTS → verb ≡ codes "read"
     → IfSome (option_and_then (λ (parts : List ℕ × List ℕ). read_in s parts.0 parts.1) (cut 32 rest)) (Tells (slot_text verb s rest))
@@ -97,8 +97,13 @@ slot_spelled verb s rest small line =
     (verb_case verb (codes "append") _ _ P
     (λ is. mapped (λ n. Form.AppendLine s n) (number_below (PIECE_MAX + 1) rest) (IsBelow (PIECE_MAX + 1) rest) P
     (λ n h. (same (codes "append") is ∙ ap (λ r. slot_text (codes "append") s r) h.0, (small, omega (arith, h.1)))) (below_spelled (PIECE_MAX + 1) rest))
-    (verb_case verb (codes "set") _ _ P (set_spelled verb s rest small line)
-    (verb_case verb (codes "read") _ _ P (read_spelled verb s rest small) tt))))))
+    (verb_case verb (codes "set") _ _ P
+    (λ is. mapped (λ (parts : ℕ × List ℕ). Form.SetLine s parts.0 parts.1) (len_in (ELEMENTS_MAX + 1) rest) (IsMeasured (ELEMENTS_MAX + 1) rest) P
+    (λ parts h. (same (codes "set") is ∙ ap (λ r. slot_text (codes "set") s r) h.0, (small, (h.1.1, omega (arith, h.1.0))))) (len_spelled (ELEMENTS_MAX + 1) rest line))
+    (verb_case verb (codes "putalt") _ _ P
+    (λ is. mapped (λ (parts : ℕ × List ℕ). Form.AltLine s parts.0 parts.1) (len_in (ALT_MAX + 1) rest) (IsMeasured (ALT_MAX + 1) rest) P
+    (λ parts h. (same (codes "putalt") is ∙ ap (λ r. slot_text (codes "putalt") s r) h.0, (small, (h.1.1, omega (arith, h.1.0))))) (len_spelled (ALT_MAX + 1) rest line))
+    (verb_case verb (codes "read") _ _ P (read_spelled verb s rest small) tt)))))))
 
 -- a verb and what follows it as one text
 abbrev verb_text : List ℕ → List ℕ → List ℕ
@@ -114,17 +119,14 @@ more_spelled verb rest line =
     (slot_spelled verb s parts.1 k.1 (line_behind 32 parts.0 parts.1 (subst IsLine h.0 line))))
     (below_spelled SLOTS parts.0)) (cut_is 32 rest)
 
-verb_spelled : (verb rest : List ℕ) → IsLine rest → IfSome (verb_form verb rest) (Tells (verb_text verb rest))
-unfolding verb_form
-verb_spelled verb rest line =
+number_form_spelled : (verb rest : List ℕ) → IsLine rest → IfSome (number_form verb rest) (Tells (verb_text verb rest))
+unfolding number_form
+number_form_spelled verb rest line =
     let P : Form → Type 0 = Tells (verb_text verb rest) in
     let same = λ (w : List ℕ) (is : verb ≡ w). ap (λ v. verb_text v rest) is in
     verb_case verb (codes "at") _ _ P
     (λ is. mapped (λ n. Form.WholeLine (At n)) (number_in rest) (λ n. (rest ≡ decimal n) × (n < 2 ^ 32)) P
     (λ n h. (same (codes "at") is ∙ ap (λ r. verb_text (codes "at") r) h.0, (h.1, refl))) (number_spelled rest))
-    (verb_case verb (codes "doom") _ _ P (λ is. (same (codes "doom") is, (line, refl)))
-    (verb_case verb (codes "get") _ _ P (λ is. (same (codes "get") is, (line, refl)))
-    (verb_case verb (codes "has") _ _ P (λ is. (same (codes "has") is, (line, refl)))
     (verb_case verb (codes "evict") _ _ P
     (λ is. mapped (λ n. Form.WholeLine (Evict n)) (number_in rest)
     (λ n. (rest ≡ decimal n) × (n < 2 ^ 32)) P
@@ -145,7 +147,19 @@ verb_spelled verb rest line =
     (λ is. mapped (λ s. Form.WholeLine (UseEntry s)) (slot_in rest) (IsBelow SLOTS rest) P
     (λ s h. (same (codes "use") is ∙ ap (λ r. verb_text (codes "use") r) h.0, (h.1, refl)))
     (below_spelled SLOTS rest))
-    (more_spelled verb rest line)))))))))
+    (more_spelled verb rest line))))))
+
+verb_spelled : (verb rest : List ℕ) → IsLine rest → IfSome (verb_form verb rest) (Tells (verb_text verb rest))
+unfolding verb_form
+verb_spelled verb rest line =
+    let P : Form → Type 0 = Tells (verb_text verb rest) in
+    let same = λ (w : List ℕ) (is : verb ≡ w). ap (λ v. verb_text v rest) is in
+    verb_case verb (codes "doom") _ _ P (λ is. (same (codes "doom") is, (line, refl)))
+    (verb_case verb (codes "get") _ _ P (λ is. (same (codes "get") is, (line, refl)))
+    (verb_case verb (codes "getalt") _ _ P (λ is. (same (codes "getalt") is, (line, refl)))
+    (verb_case verb (codes "main") _ _ P (λ is. (same (codes "main") is, (line, refl)))
+    (verb_case verb (codes "has") _ _ P (λ is. (same (codes "has") is, (line, refl)))
+    (number_form_spelled verb rest line)))))
 
 pub form_spelled : (text : List ℕ) → IsLine text → IfSome (form_in text) (Tells text)
 unfolding form_in

@@ -5,7 +5,7 @@ use Rattle.std.proofs.lemmas.Bool.Decides.{Decides-eqb}
 use Rattle.std.proofs.lemmas.List.{append_assoc, take_at}
 use Rattle.cache_base.specs.declared.limits.TheConstants.{SLOTS}
 use Rattle.cache_theory.specs.Command.{Command}
-use Rattle.cache_theory.specs.Command.Command.{At, Create, OpenKey, Append, Finish, SetElement, UnsetElement, ElementOf, UseEntry, ReadPart, Close, Doom, Get, HasEntry, HasGiven, ListRecords, ListGiven, Evict, EvictNames, Flush, StepUpdate, UpdateState, Verify, VerifyRecords, Rebuild}
+use Rattle.cache_theory.specs.Command.Command.{At, Create, OpenKey, Append, Finish, SetElement, UnsetElement, ElementOf, PutAlt, UseEntry, ReadPart, Close, Doom, Get, GetAlt, MainBody, HasEntry, HasGiven, ListRecords, ListGiven, Evict, EvictNames, Flush, StepUpdate, UpdateState, Verify, VerifyRecords, Rebuild}
 use Rattle.cache_theory.specs.Text.{FieldsFit, IsOneLine, command_words, command_data, command_bytes, spaced, NoneBeginsAnother}
 use Rattle.cache_script.specs.Lines.{Form, form_of, cut, form_in}
 use Rattle.cache_script.proofs.CutLaws.{Lacks, cut_at}
@@ -49,6 +49,9 @@ one_line (SetElement s name value) fits =
     (one_line_pair (decimal (length value)) name (one_line_number (length value) (omega (arith, fits.1.1.1))) fits.1.0.1)
 one_line (UnsetElement s name) fits = one_line_slot (codes "unset") s name fits.0 (lacks_by 10 (codes "unset") refl) fits.1.1
 one_line (ElementOf s name) fits = one_line_slot (codes "element") s name fits.0 (lacks_by 10 (codes "element") refl) fits.1.1
+one_line (PutAlt s kind bytes) fits =
+    one_line_slot (codes "putalt") s (decimal (length bytes) ++ 32 ∷ kind) fits.0 (lacks_by 10 (codes "putalt") refl)
+    (one_line_pair (decimal (length bytes)) kind (one_line_number (length bytes) (omega (arith, fits.1.1.1))) fits.1.0.1)
 one_line (UseEntry s) fits =
     one_line_pair (codes "use") (decimal s) (lacks_by 10 (codes "use") refl)
     (one_line_number s (omega arith))
@@ -58,6 +61,8 @@ one_line (ReadPart s from len) fits =
 one_line (Close s) fits = one_line_pair (codes "close") (decimal s) (lacks_by 10 (codes "close") refl) (one_line_number s (omega arith))
 one_line (Doom key) fits = one_line_pair (codes "doom") key (lacks_by 10 (codes "doom") refl) fits.1
 one_line (Get key) fits = one_line_pair (codes "get") key (lacks_by 10 (codes "get") refl) fits.1
+one_line (GetAlt key) fits = one_line_pair (codes "getalt") key (lacks_by 10 (codes "getalt") refl) fits.1
+one_line (MainBody key) fits = one_line_pair (codes "main") key (lacks_by 10 (codes "main") refl) fits.1
 one_line (HasEntry key) fits =
     one_line_pair (codes "has") key (lacks_by 10 (codes "has") refl) fits.1
 one_line (HasGiven key there) fits = absurd fits
@@ -107,6 +112,7 @@ abbrev pub completed : Form → List ℕ → Command
 completed (Form.WholeLine c) rest = c
 completed (Form.AppendLine s len) rest = Append s (take len rest)
 completed (Form.SetLine s len name) rest = SetElement s name (take len rest)
+completed (Form.AltLine s len kind) rest = PutAlt s kind (take len rest)
 
 taken_back : (bytes after : List ℕ) → take (length bytes) ((bytes ++ 10 ∷ []) ++ after) ≡ bytes
 taken_back bytes after = ap (take (length bytes)) (append_assoc bytes (10 ∷ []) after) ∙ take_at bytes (10 ∷ after) (length bytes) refl
@@ -114,6 +120,7 @@ taken_back bytes after = ap (take (length bytes)) (append_assoc bytes (10 ∷ []
 pub completed_is : (c : Command) (after : List ℕ) → completed (form_of c) (command_data c ++ after) ≡ c
 completed_is (Append s bytes) after = ap (λ b. Append s b) (taken_back bytes after)
 completed_is (SetElement s name value) after = ap (λ v. SetElement s name v) (taken_back value after)
+completed_is (PutAlt s kind bytes) after = ap (λ b. PutAlt s kind b) (taken_back bytes after)
 completed_is c after = refl
 
 -- the command with a line that is read so is known from what stands behind the line

@@ -6,9 +6,9 @@ use Rattle.std.specs.Option.{option_map}
 use Rattle.std.proofs.lemmas.List.{append_assoc, take_rest, take_more, drop_at, drop-drop, take-append-drop, length-append, length-take-le, length-replicate, get_or_append_left, get_or_at}
 use Rattle.cache_base.proofs.ByteLaws.{bytes_take}
 use Rattle.cache_base.specs.Bytes.{AreBytes}
-use Rattle.cache_base.specs.declared.limits.TheConstants.{LINE_MAX, PIECE_MAX}
+use Rattle.cache_base.specs.declared.limits.TheConstants.{ALT_MAX, LINE_MAX}
 use Rattle.cache_theory.specs.Command.{Command}
-use Rattle.cache_theory.specs.Command.Command.{Append, SetElement}
+use Rattle.cache_theory.specs.Command.Command.{Append, SetElement, PutAlt}
 use Rattle.cache_theory.specs.Text.{FieldsFit, IsCommand, command_words, command_data, command_bytes, spaced}
 use Rattle.cache_script.specs.Front.{Begins, HasNoCommand, cut_by}
 use Rattle.cache_script.specs.Lines.{Form, FormFits, Tells, form_of, form_words, cut, data_len, form_in}
@@ -68,6 +68,7 @@ no_command_line bytes none = λ c after is e. none_or_some none (ap (cut 10) e �
 pub length_data : (c : Command) → length (command_data c) ≡ data_len (form_of c)
 length_data (Append s bytes) = length-append bytes (10 ∷ [])
 length_data (SetElement s name value) = length-append value (10 ∷ [])
+length_data (PutAlt s kind bytes) = length-append bytes (10 ∷ [])
 length_data c = refl
 
 -- the last byte behind the line is a newline
@@ -77,6 +78,7 @@ newline_behind bytes after = ap (λ l. get_or l (length bytes + 1 - 1) 0) (appen
 data_ends : (c : Command) (after : List ℕ) → 0 < data_len (form_of c) → get_or (command_data c ++ after) (data_len (form_of c) - 1) 0 ≡ 10
 data_ends (Append s bytes) after some = newline_behind bytes after
 data_ends (SetElement s name value) after some = newline_behind value after
+data_ends (PutAlt s kind bytes) after some = newline_behind bytes after
 data_ends c after some = absurd (omega arith)
 
 -- the form of the line is the command's
@@ -115,6 +117,7 @@ completed_words : (form : Form) (rest : List ℕ) → FormFits form → data_len
 completed_words (Form.WholeLine c) rest fits enough = refl
 completed_words (Form.AppendLine s len) rest fits enough = ap (λ n. codes "append" ∷ decimal s ∷ decimal n ∷ []) (length-take-le len rest (omega arith))
 completed_words (Form.SetLine s len name) rest fits enough = ap (λ n. codes "set" ∷ decimal s ∷ decimal n ∷ name ∷ []) (length-take-le len rest (omega arith))
+completed_words (Form.AltLine s len kind) rest fits enough = ap (λ n. codes "putalt" ∷ decimal s ∷ decimal n ∷ kind ∷ []) (length-take-le len rest (omega arith))
 
 -- bytes, and the newline behind them
 taken_more : (len : ℕ) (rest : List ℕ) → len + 1 ≤ length rest → get_or rest (len + 1 - 1) 0 ≡ 10 → take len rest ++ 10 ∷ [] ≡ take (len + 1) rest
@@ -127,11 +130,13 @@ completed_data : (form : Form) (rest : List ℕ) → FormFits form → data_len 
 completed_data (Form.WholeLine c) rest fits enough newline = fits.1
 completed_data (Form.AppendLine s len) rest fits enough newline = taken_more len rest enough (newline (omega arith))
 completed_data (Form.SetLine s len name) rest fits enough newline = taken_more len rest enough (newline (omega arith))
+completed_data (Form.AltLine s len kind) rest fits enough newline = taken_more len rest enough (newline (omega arith))
 
 completed_fits : (form : Form) (rest : List ℕ) → FormFits form → AreBytes rest → data_len form ≤ length rest → FieldsFit (completed form rest)
 completed_fits (Form.WholeLine c) rest fits bytes enough = fits.0
 completed_fits (Form.AppendLine s len) rest fits bytes enough = (fits.0, (bytes_take len rest bytes, omega (arith, fits.1, length-take-le len rest (omega arith))))
 completed_fits (Form.SetLine s len name) rest fits bytes enough = (fits.0, (fits.1.0, (bytes_take len rest bytes, omega (arith, fits.1.1, length-take-le len rest (omega arith)))))
+completed_fits (Form.AltLine s len kind) rest fits bytes enough = (fits.0, (fits.1.0, (bytes_take len rest bytes, omega (arith, fits.1.1, length-take-le len rest (omega arith)))))
 
 pub bytes_front : (xs ys : List ℕ) → AreBytes (xs ++ ys) → AreBytes xs
 bytes_front [] ys h = tt
@@ -199,10 +204,11 @@ line_makes text form line short tells =
     (λ some. get_or_at (replicate (n - 1) 0) 10 [] 0 (n - 1) (length-replicate (n - 1) 0)) in
     (completed form rest, made.is, made.line)
 
-pub data_most : (form : Form) → FormFits form → data_len form ≤ PIECE_MAX + 1
+pub data_most : (form : Form) → FormFits form → data_len form ≤ ALT_MAX + 1
 data_most (Form.WholeLine c) fits = omega arith
 data_most (Form.AppendLine s len) fits = omega (arith, fits.1)
 data_most (Form.SetLine s len name) fits = omega (arith, fits.1.1)
+data_most (Form.AltLine s len kind) fits = omega (arith, fits.1.1)
 
 -- fewer bytes stand behind the line than the command has there
 pub data_begun : (bytes text rest : List ℕ) (form : Form) → cut 10 bytes ≡ Some (text, rest) → form_in text ≡ Some form → length rest < data_len form → HasNoCommand bytes

@@ -6,11 +6,11 @@ use Rattle.std.specs.Str.Parse.{AllDigits}
 use Rattle.std.proofs.lemmas.Bool.Decides.{nat_tests}
 use Rattle.std.proofs.lemmas.Str.Parse.{digit_from_value}
 use Rattle.std.proofs.lemmas.Fmt.{digits_decimal}
-use Rattle.cache_base.specs.declared.limits.TheConstants.{ELEMENTS_MAX, PIECE_MAX, SLOTS}
+use Rattle.cache_base.specs.declared.limits.TheConstants.{ALT_MAX, ELEMENTS_MAX, PIECE_MAX, SLOTS}
 use Rattle.cache_theory.specs.Command.{Command}
-use Rattle.cache_theory.specs.Command.Command.{At, Create, OpenKey, Append, Finish, SetElement, UnsetElement, ElementOf, UseEntry, ReadPart, Close, Doom, Get, HasEntry, HasGiven, ListRecords, ListGiven, Evict, EvictNames, Flush, StepUpdate, UpdateState, Verify, VerifyRecords, Rebuild}
+use Rattle.cache_theory.specs.Command.Command.{At, Create, OpenKey, Append, Finish, SetElement, UnsetElement, ElementOf, PutAlt, UseEntry, ReadPart, Close, Doom, Get, GetAlt, MainBody, HasEntry, HasGiven, ListRecords, ListGiven, Evict, EvictNames, Flush, StepUpdate, UpdateState, Verify, VerifyRecords, Rebuild}
 use Rattle.cache_theory.specs.Text.{FieldsFit, command_words, spaced}
-use Rattle.cache_script.specs.Lines.{Form, form_of, cut, number_below, slot_in, read_in, set_in, slot_form, verb_form, form_in}
+use Rattle.cache_script.specs.Lines.{Form, form_of, cut, number_below, slot_in, len_in, read_in, slot_form, number_form, verb_form, form_in}
 use Rattle.cache_base.specs.Numbers.{number_in}
 use Rattle.cache_script.proofs.CutLaws.{Lacks, cut_at}
 use Rattle.cache_base.proofs.NumberLaws.{own, number_read}
@@ -44,11 +44,21 @@ with_slot verb s rest r small here =
     (cut_at 32 (decimal s) rest (lacks_decimal 32 s (omega arith) (omega arith)))
     ∙ ap (λ o. option_and_then (λ (t : ℕ). slot_form verb t rest) o) (below_read SLOTS s small (omega arith)) ∙ here
 
+len_read : (limit len : ℕ) (more : List ℕ) → len < limit → limit ≤ 2 ^ 32 → len_in limit (decimal len ++ 32 ∷ more) ≡ Some (len, more)
+len_read limit len more less most =
+    ap (λ o. option_and_then (λ (parts : List ℕ × List ℕ). option_map (λ (n : ℕ). (n, parts.1)) (number_below limit parts.0)) o)
+    (cut_at 32 (decimal len) more (lacks_decimal 32 len (omega arith) (omega arith)))
+    ∙ ap (λ o. option_map (λ (n : ℕ). (n, more)) o) (below_read limit len less most)
+
 set_read : (s len : ℕ) (name : List ℕ) → len ≤ ELEMENTS_MAX → slot_form (codes "set") s (decimal len ++ 32 ∷ name) ≡ Some (Form.SetLine s len name)
 unfolding slot_form
 set_read s len name small =
-    ap (λ o. option_and_then (λ (parts : List ℕ × List ℕ). set_in s parts.0 parts.1) o) (cut_at 32 (decimal len) name (lacks_decimal 32 len (omega arith) (omega arith)))
-    ∙ ap (λ o. option_map (λ n. Form.SetLine s n name) o) (below_read (ELEMENTS_MAX + 1) len (omega arith) (omega arith))
+    ap (λ o. option_map (λ (parts : ℕ × List ℕ). Form.SetLine s parts.0 parts.1) o) (len_read (ELEMENTS_MAX + 1) len name (omega arith) (omega arith))
+
+alt_read : (s len : ℕ) (kind : List ℕ) → len ≤ ALT_MAX → slot_form (codes "putalt") s (decimal len ++ 32 ∷ kind) ≡ Some (Form.AltLine s len kind)
+unfolding slot_form
+alt_read s len kind small =
+    ap (λ o. option_map (λ (parts : ℕ × List ℕ). Form.AltLine s parts.0 parts.1) o) (len_read (ALT_MAX + 1) len kind (omega arith) (omega arith))
 
 part_read : (s from len : ℕ) → from < 2 ^ 32 → len < 2 ^ 32 → slot_form (codes "read") s (decimal from ++ 32 ∷ decimal len) ≡ Some (Form.WholeLine (ReadPart s from len))
 unfolding slot_form
@@ -62,7 +72,7 @@ unfolding slot_form
 append_read s len small = ap (λ o. option_map (λ n. Form.AppendLine s n) o) (below_read (PIECE_MAX + 1) len (omega arith) (omega arith))
 
 pub line_read : (c : Command) → FieldsFit c → form_in (spaced (command_words c)) ≡ Some (form_of c)
-unfolding form_in verb_form slot_form
+unfolding form_in verb_form number_form slot_form
 line_read (At now) fits = ap (λ o. option_map (λ n. Form.WholeLine (At n)) o) (number_read now fits)
 line_read (Create s key) fits = with_slot (codes "create") s key _ fits.0 refl
 line_read (OpenKey s key) fits = with_slot (codes "open") s key _ fits.0 refl
@@ -71,12 +81,15 @@ line_read (Finish s) fits = ap (λ o. option_map (λ n. Form.WholeLine (Finish n
 line_read (SetElement s name value) fits = with_slot (codes "set") s (decimal (length value) ++ 32 ∷ name) _ fits.0 (set_read s (length value) name fits.1.1.1)
 line_read (UnsetElement s name) fits = with_slot (codes "unset") s name _ fits.0 refl
 line_read (ElementOf s name) fits = with_slot (codes "element") s name _ fits.0 refl
+line_read (PutAlt s kind bytes) fits = with_slot (codes "putalt") s (decimal (length bytes) ++ 32 ∷ kind) _ fits.0 (alt_read s (length bytes) kind fits.1.1.1)
 line_read (UseEntry s) fits =
     ap (λ o. option_map (λ n. Form.WholeLine (UseEntry n)) o) (below_read SLOTS s fits (omega arith))
 line_read (ReadPart s from len) fits = with_slot (codes "read") s (decimal from ++ 32 ∷ decimal len) _ fits.0 (part_read s from len fits.1.0 fits.1.1)
 line_read (Close s) fits = ap (λ o. option_map (λ n. Form.WholeLine (Close n)) o) (below_read SLOTS s fits (omega arith))
 line_read (Doom key) fits = refl
 line_read (Get key) fits = refl
+line_read (GetAlt key) fits = refl
+line_read (MainBody key) fits = refl
 line_read (HasEntry key) fits = refl
 line_read (HasGiven key there) fits = absurd fits
 line_read ListRecords fits = refl

@@ -3,9 +3,9 @@ use Rattle.std.specs.Prelude.{◌≡◌, ℕ, ◌+◌, ◌<◌, ◌≤◌, List,
 use Rattle.std.specs.Cmp.Lexicographic.{pointwise}
 use Rattle.std.specs.Option.{option_map, option_and_then}
 use Rattle.cache_base.specs.Bytes.{AreBytes}
-use Rattle.cache_base.specs.declared.limits.TheConstants.{ELEMENTS_MAX, PIECE_MAX, SLOTS}
+use Rattle.cache_base.specs.declared.limits.TheConstants.{ALT_MAX, ELEMENTS_MAX, PIECE_MAX, SLOTS}
 use Rattle.cache_theory.specs.Command.{Command}
-use Rattle.cache_theory.specs.Command.Command.{At, Create, OpenKey, Append, Finish, SetElement, UnsetElement, ElementOf, UseEntry, ReadPart, Close, Doom, Get, HasEntry, ListRecords, Evict, Flush, StepUpdate, UpdateState, Verify, Rebuild}
+use Rattle.cache_theory.specs.Command.Command.{At, Create, OpenKey, Append, Finish, SetElement, UnsetElement, ElementOf, PutAlt, UseEntry, ReadPart, Close, Doom, Get, GetAlt, MainBody, HasEntry, ListRecords, Evict, Flush, StepUpdate, UpdateState, Verify, Rebuild}
 use Rattle.cache_theory.specs.Text.{FieldsFit, IsOneLine, command_data, command_words, spaced}
 use Rattle.cache_script.specs.Command.{command_of}
 use Rattle.cache_base.specs.Numbers.{number_in}
@@ -17,11 +17,13 @@ pub data Form : Type 0 where
   WholeLine : (command : Command) → Form
   AppendLine : (slot len : ℕ) → Form
   SetLine : (slot len : ℕ) (name : List ℕ) → Form
+  AltLine : (slot len : ℕ) (kind : List ℕ) → Form
 
 -- what the line of a command tells
 abbrev pub form_of : Command → Form
 form_of (Append s bytes) = Form.AppendLine s (length bytes)
 form_of (SetElement s name value) = Form.SetLine s (length value) name
+form_of (PutAlt s kind bytes) = Form.AltLine s (length bytes) kind
 form_of c = Form.WholeLine c
 
 -- the same of a line of the code
@@ -29,6 +31,7 @@ abbrev pub line_form : Line → Form
 line_form (line.Whole c) = Form.WholeLine (command_of c)
 line_form (line.Append s len) = Form.AppendLine s len
 line_form (line.Set s len name) = Form.SetLine s len name.now
+line_form (line.PutAlt s len kind) = Form.AltLine s len kind.now
 
 -- what stands before the first such byte and what behind it, where there is one
 abbrev pub cut : ℕ → List ℕ → Option (List ℕ × List ℕ)
@@ -46,8 +49,9 @@ slot_in word = number_below SLOTS word
 abbrev pub read_in : ℕ → List ℕ → List ℕ → Option Form
 read_in s from len = option_and_then (λ f. option_map (λ n. Form.WholeLine (ReadPart s f n)) (number_in len)) (number_in from)
 
-abbrev pub set_in : ℕ → List ℕ → List ℕ → Option Form
-set_in s len name = option_map (λ n. Form.SetLine s n name) (number_below (ELEMENTS_MAX + 1) len)
+-- a length below a limit, and what follows it
+abbrev pub len_in : ℕ → List ℕ → Option (ℕ × List ℕ)
+len_in limit text = option_and_then (λ parts. option_map (λ n. (n, parts.1)) (number_below limit parts.0)) (cut 32 text)
 
 -- a verb, a slot, and what follows them
 unfoldable pub slot_form : List ℕ → ℕ → List ℕ → Option Form
@@ -57,17 +61,15 @@ slot_form verb s rest =
     else if pointwise nat_eq verb (codes "unset") then Some (Form.WholeLine (UnsetElement s rest))
     else if pointwise nat_eq verb (codes "element") then Some (Form.WholeLine (ElementOf s rest))
     else if pointwise nat_eq verb (codes "append") then option_map (λ n. Form.AppendLine s n) (number_below (PIECE_MAX + 1) rest)
-    else if pointwise nat_eq verb (codes "set") then option_and_then (λ parts. set_in s parts.0 parts.1) (cut 32 rest)
+    else if pointwise nat_eq verb (codes "set") then option_map (λ parts. Form.SetLine s parts.0 parts.1) (len_in (ELEMENTS_MAX + 1) rest)
+    else if pointwise nat_eq verb (codes "putalt") then option_map (λ parts. Form.AltLine s parts.0 parts.1) (len_in (ALT_MAX + 1) rest)
     else if pointwise nat_eq verb (codes "read") then option_and_then (λ parts. read_in s parts.0 parts.1) (cut 32 rest)
     else None
 
--- a verb, and what follows it
-unfoldable pub verb_form : List ℕ → List ℕ → Option Form
-verb_form verb rest =
+-- a verb, a number, and where that is a slot maybe more
+unfoldable pub number_form : List ℕ → List ℕ → Option Form
+number_form verb rest =
     if pointwise nat_eq verb (codes "at") then option_map (λ n. Form.WholeLine (At n)) (number_in rest)
-    else if pointwise nat_eq verb (codes "doom") then Some (Form.WholeLine (Doom rest))
-    else if pointwise nat_eq verb (codes "get") then Some (Form.WholeLine (Get rest))
-    else if pointwise nat_eq verb (codes "has") then Some (Form.WholeLine (HasEntry rest))
     else if pointwise nat_eq verb (codes "evict") then option_map (λ n. Form.WholeLine (Evict n)) (number_in rest)
     else if pointwise nat_eq verb (codes "step")
     then option_map (λ n. Form.WholeLine (StepUpdate n)) (number_in rest)
@@ -75,6 +77,16 @@ verb_form verb rest =
     else if pointwise nat_eq verb (codes "close") then option_map (λ s. Form.WholeLine (Close s)) (slot_in rest)
     else if pointwise nat_eq verb (codes "use") then option_map (λ s. Form.WholeLine (UseEntry s)) (slot_in rest)
     else option_and_then (λ parts. option_and_then (λ s. slot_form verb s parts.1) (slot_in parts.0)) (cut 32 rest)
+
+-- a verb, and what follows it
+unfoldable pub verb_form : List ℕ → List ℕ → Option Form
+verb_form verb rest =
+    if pointwise nat_eq verb (codes "doom") then Some (Form.WholeLine (Doom rest))
+    else if pointwise nat_eq verb (codes "get") then Some (Form.WholeLine (Get rest))
+    else if pointwise nat_eq verb (codes "getalt") then Some (Form.WholeLine (GetAlt rest))
+    else if pointwise nat_eq verb (codes "main") then Some (Form.WholeLine (MainBody rest))
+    else if pointwise nat_eq verb (codes "has") then Some (Form.WholeLine (HasEntry rest))
+    else number_form verb rest
 
 -- what a line tells, if it is the line of a command
 unfoldable pub form_in : List ℕ → Option Form
@@ -91,12 +103,14 @@ abbrev pub form_words : Form → List (List ℕ)
 form_words (Form.WholeLine c) = command_words c
 form_words (Form.AppendLine s len) = codes "append" ∷ decimal s ∷ decimal len ∷ []
 form_words (Form.SetLine s len name) = codes "set" ∷ decimal s ∷ decimal len ∷ name ∷ []
+form_words (Form.AltLine s len kind) = codes "putalt" ∷ decimal s ∷ decimal len ∷ kind ∷ []
 
 -- its fields are within their limits, and a whole command has no bytes behind its line
 abbrev pub FormFits : Form → Type 0
 FormFits (Form.WholeLine c) = FieldsFit c × (command_data c ≡ [])
 FormFits (Form.AppendLine s len) = (s < SLOTS) × (len ≤ PIECE_MAX)
 FormFits (Form.SetLine s len name) = (s < SLOTS) × ((AreBytes name × IsOneLine name) × (len ≤ ELEMENTS_MAX))
+FormFits (Form.AltLine s len kind) = (s < SLOTS) × ((AreBytes kind × IsOneLine kind) × (len ≤ ALT_MAX))
 
 -- the text is the line of what it tells
 abbrev pub Tells : List ℕ → Form → Type 0
@@ -107,3 +121,4 @@ abbrev pub data_len : Form → ℕ
 data_len (Form.WholeLine c) = 0
 data_len (Form.AppendLine s len) = len + 1
 data_len (Form.SetLine s len name) = len + 1
+data_len (Form.AltLine s len kind) = len + 1

@@ -44,6 +44,12 @@ pub enum Command<'a> {
         slot: u8,
         name: &'a [u8],
     },
+    /// The alternative data of the entry are of this kind and these bytes, at most `ALT_MAX`.
+    PutAlt {
+        slot: u8,
+        kind: &'a [u8],
+        alt: &'a [u8],
+    },
     /// One more fetch of the entry is counted, and its frecency rises.
     UseEntry {
         slot: u8,
@@ -64,6 +70,14 @@ pub enum Command<'a> {
     },
     /// The whole entry of the key.
     Get {
+        key: &'a [u8],
+    },
+    /// The alternative data of the entry of the key, with their kind.
+    GetAlt {
+        key: &'a [u8],
+    },
+    /// The body of the entry of the key, without its alternative data.
+    MainBody {
         key: &'a [u8],
     },
     /// Whether there is an entry of the key.

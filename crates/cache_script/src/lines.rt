@@ -4,10 +4,10 @@ ghost use Rattle.std.specs.Prelude.{◌≡◌, ◌≢◌, IfNone, IfSome};
 ghost use Rattle.std.specs.Option.{option_map};
 ghost use Rattle.cache_theory.specs.Command.{Command as MachineCommand};
 ghost use Rattle.cache_theory.specs.Text.{FieldsFit, IsOneLine, command_words, spaced};
-ghost use Rattle.cache_script.specs.Lines.{Tells, cut as cut_of, number_below as number_below_of, slot_in, set_in, read_in, slot_form, verb_form, form_in, line_form};
+ghost use Rattle.cache_script.specs.Lines.{Tells, cut as cut_of, number_below as number_below_of, slot_in, len_in, read_in, slot_form, number_form, verb_form, form_in, line_form};
 
 use crate::Command;
-use cache_base::{ELEMENTS_MAX, PIECE_MAX, SLOTS, number};
+use cache_base::{ALT_MAX, ELEMENTS_MAX, PIECE_MAX, SLOTS, number};
 use memchr::memchr;
 
 /// What the line of a command tells of it.
@@ -19,6 +19,8 @@ pub(crate) enum Line<'a> {
     Append { slot: u8, len: u32 },
     /// So many bytes follow, which are the value of the element.
     Set { slot: u8, len: u32, name: &'a [u8] },
+    /// So many bytes follow, which are alternative data of the kind.
+    PutAlt { slot: u8, len: u32, kind: &'a [u8] },
 }
 
 /// What stands before the first such byte, and what behind it.
@@ -43,11 +45,13 @@ fn slot(word: &[u8]) -> Option<u8>
     Some(slot as u8)
 }
 
-fn set_line<'a>(slot: u8, len: &[u8], name: &'a [u8]) -> Option<Line<'a>>
-    ensures { option_map line_form result ≡ set_in slot len.now name.now }
+// A length below a limit, and what follows it.
+fn len_and_more(text: &[u8], limit: u32) -> Option<(u32, &[u8])>
+    ensures { option_map (λ parts. (parts.0, parts.1.now)) result ≡ len_in limit text.now }
 {
-    let len = number_below(len, ELEMENTS_MAX as u32 + 1)?;
-    Some(Line::Set { slot, len, name })
+    let (len, more) = cut(text, b' ')?;
+    let len = number_below(len, limit)?;
+    Some((len, more))
 }
 
 fn read_line<'a>(slot: u8, from: &[u8], len: &[u8]) -> Option<Line<'a>>
@@ -80,8 +84,12 @@ fn slot_line<'a>(verb: &[u8], slot: u8, rest: &'a [u8]) -> Option<Line<'a>>
         return Some(Line::Append { slot, len });
     }
     if verb == b"set".as_slice() {
-        let (len, name) = cut(rest, b' ')?;
-        return set_line(slot, len, name);
+        let (len, name) = len_and_more(rest, ELEMENTS_MAX as u32 + 1)?;
+        return Some(Line::Set { slot, len, name });
+    }
+    if verb == b"putalt".as_slice() {
+        let (len, kind) = len_and_more(rest, ALT_MAX as u32 + 1)?;
+        return Some(Line::PutAlt { slot, len, kind });
     }
     if verb == b"read".as_slice() {
         let (from, len) = cut(rest, b' ')?;
@@ -90,23 +98,14 @@ fn slot_line<'a>(verb: &[u8], slot: u8, rest: &'a [u8]) -> Option<Line<'a>>
     None
 }
 
-// What a verb tells that has more behind it.
-#[tactic(auto, unfolding(crate::specs::Lines::verb_form))]
-fn verb_line<'a>(verb: &[u8], rest: &'a [u8]) -> Option<Line<'a>>
-    ensures { option_map line_form result ≡ verb_form verb.now rest.now }
+// What a verb tells that has a number behind it.
+#[tactic(auto, unfolding(crate::specs::Lines::number_form))]
+fn number_line<'a>(verb: &[u8], rest: &'a [u8]) -> Option<Line<'a>>
+    ensures { option_map line_form result ≡ number_form verb.now rest.now }
 {
     if verb == b"at".as_slice() {
         let now = number(rest)?;
         return Some(Line::Whole(Command::At { now }));
-    }
-    if verb == b"doom".as_slice() {
-        return Some(Line::Whole(Command::Doom { key: rest }));
-    }
-    if verb == b"get".as_slice() {
-        return Some(Line::Whole(Command::Get { key: rest }));
-    }
-    if verb == b"has".as_slice() {
-        return Some(Line::Whole(Command::Has { key: rest }));
     }
     if verb == b"evict".as_slice() {
         let kb = number(rest)?;
@@ -130,6 +129,29 @@ fn verb_line<'a>(verb: &[u8], rest: &'a [u8]) -> Option<Line<'a>>
     }
     let (first, rest) = cut(rest, b' ')?;
     slot_line(verb, slot(first)?, rest)
+}
+
+// What a verb tells that has more behind it.
+#[tactic(auto, unfolding(crate::specs::Lines::verb_form))]
+fn verb_line<'a>(verb: &[u8], rest: &'a [u8]) -> Option<Line<'a>>
+    ensures { option_map line_form result ≡ verb_form verb.now rest.now }
+{
+    if verb == b"doom".as_slice() {
+        return Some(Line::Whole(Command::Doom { key: rest }));
+    }
+    if verb == b"get".as_slice() {
+        return Some(Line::Whole(Command::Get { key: rest }));
+    }
+    if verb == b"getalt".as_slice() {
+        return Some(Line::Whole(Command::GetAlt { key: rest }));
+    }
+    if verb == b"main".as_slice() {
+        return Some(Line::Whole(Command::MainBody { key: rest }));
+    }
+    if verb == b"has".as_slice() {
+        return Some(Line::Whole(Command::Has { key: rest }));
+    }
+    number_line(verb, rest)
 }
 
 #[tactic(auto, unfolding(crate::specs::Lines::form_in))]

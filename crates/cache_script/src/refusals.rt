@@ -33,6 +33,8 @@ pub fn refusal_text(alloc: Global, r: &Refusal) -> Result<String, NoMemory>
         Refusal::TooLarge => "too large",
         Refusal::BadKey => "bad key",
         Refusal::BadElement => "bad element",
+        Refusal::HasAlt => "has alt",
+        Refusal::NoAlt => "no alt",
     };
     Ok(String::from_str(alloc, text)?)
 }

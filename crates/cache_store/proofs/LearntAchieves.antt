@@ -6,7 +6,7 @@ use Rattle.std.proofs.lemmas.Result.{IfOk-weaker}
 use Rattle.cache_base.specs.Checks.{first_failing}
 use Rattle.cache_theory.specs.Checks.{checks}
 use Rattle.cache_theory.specs.Command.{Command, Reply}
-use Rattle.cache_theory.specs.Command.Command.{Create, OpenKey, Append, Finish, SetElement, UnsetElement, UseEntry, Close, Doom}
+use Rattle.cache_theory.specs.Command.Command.{Create, OpenKey, Append, Finish, SetElement, UnsetElement, UseEntry, PutAlt, Close, Doom}
 use Rattle.cache_theory.specs.Command.Reply.{Done, Refused, NoneThere}
 use Rattle.cache_theory.specs.History.{History}
 use Rattle.cache_theory.specs.Machine.{Machine, object_of}
@@ -224,6 +224,10 @@ set_done : (s : ℕ) (name value : List ℕ) → StaysUnlessDone (SetElement s n
 unfolding effect StaysUnlessDone
 set_done s name value m other = absurd (other refl)
 
+put_done : (s : ℕ) (kind bytes : List ℕ) → StaysUnlessDone (PutAlt s kind bytes)
+unfolding effect StaysUnlessDone
+put_done s kind bytes m other = absurd (other refl)
+
 close_done : (s : ℕ) → StaysUnlessDone (Close s)
 unfolding effect StaysUnlessDone
 close_done s m other = absurd (other refl)
@@ -264,6 +268,10 @@ module _ (r : Result Effect HandleFault) (answer : Result Answered StoreFault) (
   pub set_achieves : (s : ℕ) (name value : List ℕ) → CarriesOut (SetElement s name value) (done_or r) (cache_of before) (cache_of after)
       → IfOk r (HasEffect before.open_store.handles (SetElement s name value)) → AchievesFor (SetElement s name value) answer before after
   set_achieves s name value = handled_achieves (SetElement s name value) tt tt (set_done s name value)
+
+  pub put_achieves : (s : ℕ) (kind bytes : List ℕ) → CarriesOut (PutAlt s kind bytes) (done_or r) (cache_of before) (cache_of after)
+      → IfOk r (HasEffect before.open_store.handles (PutAlt s kind bytes)) → AchievesFor (PutAlt s kind bytes) answer before after
+  put_achieves s kind bytes = handled_achieves (PutAlt s kind bytes) tt tt (put_done s kind bytes)
 
   pub close_achieves : (s : ℕ) → CarriesOut (Close s) (done_or r) (cache_of before) (cache_of after)
       → IfOk r (HasEffect before.open_store.handles (Close s)) → AchievesFor (Close s) answer before after

@@ -9,8 +9,10 @@ pub mod FaultLine
 pub mod FilesAmong
 pub mod Forgotten
 pub mod FoundOnShelf
-pub mod GetAnswers
-pub mod GetChunks
+pub mod FoundAnswers
+pub mod HandedFaults
+pub mod BodyRanges
+pub mod ShownParts
 pub mod HasEntry
 pub mod IndexAchieves
 pub mod IndexWrites

@@ -1,5 +1,5 @@
 -- How the records of all entries are listed.
-use Rattle.std.proofs.Common.{◌≡◌, ◌≢◌, ◌∙◌, ℕ, List, [], Result, Ok, Err, IsErrAnd, refl, sym, ap, subst}
+use Rattle.std.proofs.Common.{◌≡◌, ◌≢◌, ℕ, List, [], Result, Ok, Err, IsErrAnd, refl, sym, ap, subst}
 use Rattle.cache_store.specs.Answering.{AnswersTo, outcome_of}
 use Rattle.cache_store.specs.Faults.{of_disk}
 use Rattle.cache_store.specs.Kept.{HoldsIndex}

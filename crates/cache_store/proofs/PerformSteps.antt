@@ -6,7 +6,7 @@ use Rattle.cache_base.specs.Checks.{first_failing}
 use Rattle.cache_base.specs.declared.name.Name.{Name}
 use Rattle.cache_theory.specs.Checks.{checks}
 use Rattle.cache_theory.specs.Command.{Command}
-use Rattle.cache_theory.specs.Command.Command.{At, OpenKey, Finish, UnsetElement, ElementOf, ReadPart, Close, Get, HasGiven, Evict, EvictNames, Flush, UpdateState}
+use Rattle.cache_theory.specs.Command.Command.{At, OpenKey, Finish, UnsetElement, ElementOf, ReadPart, Close, Get, GetAlt, MainBody, HasGiven, Evict, EvictNames, Flush, UpdateState}
 use Rattle.cache_theory.specs.Command.Reply.{Done, NoneThere}
 use Rattle.cache_theory.specs.Machine.{Machine, has_slots, is_writer, number_of, object_of, on_shelf, used_by}
 use Rattle.cache_theory.specs.Marks.{Marks, acked, begun}
@@ -24,6 +24,8 @@ abbrev pub IsReading : Command → Type 0
 IsReading (ElementOf s name) = ⊤
 IsReading (ReadPart s from len) = ⊤
 IsReading (Get key) = ⊤
+IsReading (GetAlt key) = ⊤
+IsReading (MainBody key) = ⊤
 IsReading (HasGiven key there) = ⊤
 IsReading UpdateState = ⊤
 IsReading _ = ⊥
@@ -33,6 +35,8 @@ unfolding effect
 reading_effect m (ElementOf s name) is = refl
 reading_effect m (ReadPart s from len) is = refl
 reading_effect m (Get key) is = refl
+reading_effect m (GetAlt key) is = refl
+reading_effect m (MainBody key) is = refl
 reading_effect m (HasGiven key there) is = refl
 reading_effect m UpdateState is = refl
 reading_effect m c is = absurd is

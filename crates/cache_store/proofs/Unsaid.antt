@@ -1,19 +1,11 @@
 -- An answer of which nothing is said yet.
-use Rattle.std.proofs.Common.{◌≡◌, ◌≢◌, ℕ, List, [], Option, Result, Ok, Err, refl, sym, ap, subst}
+use Rattle.std.proofs.Common.{◌≡◌, ◌≢◌, ℕ, List, [], Option, Result, Ok, Err, refl, ap}
 use Rattle.std.specs.Prelude.{IfErr, IfOk, IfSome, OnOk, ⊤}
 use Rattle.std.proofs.KnownBytes.{Appends-nil}
 use Rattle.std.proofs.lemmas.Option.{IfSome_then}
 use Rattle.cache_theory.specs.Command.{Reply}
-use Rattle.cache_theory.specs.Command.Command.{Get}
-use Rattle.cache_theory.specs.Machine.{Machine}
-use Rattle.cache_theory.specs.Step.{step}
 use Rattle.cache_theory.specs.Text.{reply_text}
 use Rattle.cache_theory.proofs.RepliesLong.{replies_are_not_empty}
-use Rattle.disk_model.specs.State.{State}
-use Rattle.file_handles.specs.Answers.{reply_in}
-use Rattle.file_handles.specs.Found.{FindsIn}
-use Rattle.file_handles.specs.declared.fault.HandleFault.{HandleFault}
-use Rattle.file_handles.specs.declared.fault.HandleFault.TheVariants as handle
 use Rattle.cache_store.specs.Answering.{AnswersTo, SaysOf, outcome_in, outcome_of, rest_of}
 use Rattle.cache_store.specs.Performing.{HadEffect}
 use Rattle.cache_store.specs.Replied.{replied, reply_of}
@@ -76,11 +68,3 @@ unsaid_effect (Err f) unsaid P = λ same. absurd (cc)
 pub unsaid_had : (answer : Result Answered StoreFault) → IsUnsaid answer → (P : Type 0) → HadEffect answer → OnOk answer P → P
 unsaid_had (Ok a) unsaid P had is = is
 unsaid_had (Err f) unsaid P had is = let never : (f ≡ fault.Sink → P) = unsaid_effect (Err f) unsaid P in never had
-
--- what the machine replies where the handles find nothing
-pub finds_reply : (key : List ℕ) (f : HandleFault) (s : State) (m : Machine) → FindsIn key (Err f) s m → (answer : Result Answered StoreFault) → replied answer ≡ reply_in f
-    → IfSome (replied answer) (λ q. q ≡ (step m (Get key)).reply)
-finds_reply key (handle.Refused r) s m finds answer is = subst (λ (o : Option Reply). IfSome o (λ q. q ≡ (step m (Get key)).reply)) (sym is) (sym (finds.none r refl))
-finds_reply key handle.Disk s m finds answer is = subst (λ (o : Option Reply). IfSome o (λ q. q ≡ (step m (Get key)).reply)) (sym is) tt
-finds_reply key handle.Read s m finds answer is = subst (λ (o : Option Reply). IfSome o (λ q. q ≡ (step m (Get key)).reply)) (sym is) tt
-finds_reply key handle.Memory s m finds answer is = subst (λ (o : Option Reply). IfSome o (λ q. q ≡ (step m (Get key)).reply)) (sym is) tt

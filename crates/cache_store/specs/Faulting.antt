@@ -9,12 +9,12 @@ use Rattle.cache_store.specs.Session.{Session}
 use Rattle.cache_store.specs.declared.fault.StoreFault.{StoreFault}
 use Rattle.cache_store.specs.declared.fault.StoreFault.TheVariants as fault
 use Rattle.cache_theory.specs.Command.{Command, Reply}
-use Rattle.cache_theory.specs.Command.Command.{Append, At, Close, ElementOf, Finish, Flush, Get, HasEntry, ReadPart, SetElement, UnsetElement, UpdateState, UseEntry}
-use Rattle.cache_theory.specs.Command.Reply.{Found, Part}
+use Rattle.cache_theory.specs.Command.Command.{Append, At, Close, ElementOf, Finish, Flush, Get, GetAlt, HasEntry, MainBody, ReadPart, SetElement, UnsetElement, UpdateState, UseEntry}
+use Rattle.cache_theory.specs.Command.Reply.{AltData, Found, Main, Part}
 use Rattle.cache_theory.specs.History.{History}
 use Rattle.cache_theory.specs.Machine.{Machine}
 use Rattle.cache_theory.specs.Step.{step}
-use Rattle.cache_theory.specs.Text.{with_number}
+use Rattle.cache_theory.specs.Text.{alt_line, with_number}
 use Rattle.disk_model.specs.Calls.{Counts, LastFails}
 use Rattle.disk_model.specs.declared.disk.DiskFault.{DiskFault}
 use Rattle.disk_model.specs.declared.disk.DiskFault.TheVariants as disk
@@ -39,6 +39,13 @@ is_failed_look handle.Memory = false
 abbrev pub has_failed_look : {T : Type 0} → Result T HandleFault → Bool
 has_failed_look (Ok value) = false
 has_failed_look (Err f) = is_failed_look f
+
+-- the handles refuse
+abbrev pub is_refusal : HandleFault → Bool
+is_refusal (handle.Refused r) = true
+is_refusal handle.Read = false
+is_refusal handle.Disk = false
+is_refusal handle.Memory = false
 
 -- the store's fault for one of the handles that is no refusal
 abbrev pub of_handles : HandleFault → StoreFault
@@ -75,6 +82,10 @@ abbrev pub reply_front : Command → Reply → Option (List ℕ)
 reply_front (ReadPart s from len) (Part bytes) =
     Some (with_number (codes "data") (length bytes) ++ take (chunk_size - from % chunk_size) bytes)
 reply_front (Get key) (Found v) = Some (head_text (version_meta v) ++ take chunk_size v.body)
+reply_front (GetAlt key) (AltData alt bytes) =
+    Some (alt_line alt.kind (length bytes) ++ take (chunk_size - alt.offset % chunk_size) bytes)
+reply_front (MainBody key) (Main bytes) =
+    Some (with_number (codes "main") (length bytes) ++ take chunk_size bytes)
 reply_front _ _ = None
 
 -- so much of the machine's reply is out, and maybe more

@@ -4,7 +4,7 @@ use Rattle.cache_base.specs.declared.limits.TheConstants.{CHANGED_MAX}
 use Rattle.cache_base.specs.declared.name.Name.{Name}
 use Rattle.cache_store.specs.declared.memory_index.MemoryIndex.{MemoryIndex}
 use Rattle.cache_theory.specs.Command.{Command}
-use Rattle.cache_theory.specs.Command.Command.{At, Close, ElementOf, Evict, EvictNames, Finish, Flush, Get, HasEntry, ListRecords, OpenKey, ReadPart, Rebuild, StepUpdate, UpdateState, Verify}
+use Rattle.cache_theory.specs.Command.Command.{At, Close, ElementOf, Evict, EvictNames, Finish, Flush, Get, GetAlt, HasEntry, ListRecords, MainBody, OpenKey, ReadPart, Rebuild, StepUpdate, UpdateState, Verify}
 use Rattle.disk_model.specs.State.{State, settled}
 use Rattle.disk_model.specs.declared.disk.Disk.{Ghosts}
 use Rattle.file_handles.specs.Closing.{writes_draft}
@@ -43,6 +43,8 @@ abbrev pub OnlyLooks : Command → Type 0
 OnlyLooks (OpenKey s key) = ⊤
 OnlyLooks (ReadPart s from len) = ⊤
 OnlyLooks (Get key) = ⊤
+OnlyLooks (GetAlt key) = ⊤
+OnlyLooks (MainBody key) = ⊤
 OnlyLooks ListRecords = ⊤
 OnlyLooks (StepUpdate n) = ⊤
 OnlyLooks Verify = ⊤

@@ -14,6 +14,7 @@ pub mod Open
 pub mod Outcomes
 pub mod Performing
 pub mod Prefix
+pub mod Showing
 pub mod Printed
 pub mod Records
 pub mod Reads

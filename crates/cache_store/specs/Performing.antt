@@ -1,7 +1,7 @@
 -- What one command does.
 use Rattle.std.specs.Prelude.{Bool, Err, IfErr, IfOk, IfSome, IsTrue, List, Ok, OnErr, OnOk, Option, Result, false, true, ℕ, ⊤, ◌≡◌, ◌⊎◌}
 use Rattle.std.specs.Io.KnownBytes.{Appends}
-use Rattle.cache_store.specs.Answering.{AnswersTo, outcome_in, outcome_of}
+use Rattle.cache_store.specs.Answering.{AnswersTo, outcome_of}
 use Rattle.cache_store.specs.DoneFor.{AreOfShelf, DoneBy, IsOfShelf}
 use Rattle.cache_store.specs.Open.{KeepsTo, KeepsWhere, Represents, Tells}
 use Rattle.cache_store.specs.Records.{AreAtEnd, has_record}
@@ -12,7 +12,7 @@ use Rattle.cache_store.specs.declared.answered.Answered.{Answered}
 use Rattle.cache_store.specs.declared.fault.Verdict.{Verdict}
 use Rattle.cache_store.specs.declared.fault.StoreFault.{StoreFault}
 use Rattle.cache_store.specs.declared.fault.StoreFault.TheVariants as fault
-use Rattle.cache_theory.specs.Command.{Command, Reply}
+use Rattle.cache_theory.specs.Command.{Command}
 use Rattle.cache_theory.specs.Command.Command.{HasEntry, ListRecords, Evict, Verify, Rebuild}
 use Rattle.cache_theory.specs.Crash.{IsCrashSafe, IsSafe}
 use Rattle.cache_theory.specs.History.{History, acked, begun, unanswered as left_unanswered}

@@ -1,5 +1,5 @@
 -- What a file begins with.
-use Rattle.std.specs.Prelude.{IfSome, List, Option, Some, length, take, ℕ, ◌≡◌, ◌≤◌}
+use Rattle.std.specs.Prelude.{IfSome, List, Option, Some, drop, length, take, ℕ, ◌-◌, ◌≡◌, ◌≤◌}
 use Rattle.chunk_store.specs.Chunks.{chunk}
 use Rattle.disk_model.specs.State.{State, standing}
 use Rattle.disk_model.specs.declared.place.Place.{Place}
@@ -13,3 +13,7 @@ HasChunkAt file len index bytes =
 abbrev pub ForPrefix : State → Place → ℕ → (List ℕ → Type 0) → Type 0
 ForPrefix s place len P =
     (content : List ℕ) → standing s place ≡ Some content → len ≤ length content → P (take len content)
+
+-- the bytes of a body from a place on, up to another
+abbrev pub range_of : ℕ → ℕ → List ℕ → List ℕ
+range_of from to body = take (to - from) (drop from body)

@@ -7,7 +7,7 @@ use Rattle.cache_store.specs.declared.answered.Answered.TheVariants as answered
 use Rattle.cache_store.specs.declared.fault.Verdict.{Verdict}
 use Rattle.cache_store.specs.declared.fault.Verdict.TheVariants as outcome
 use Rattle.cache_theory.specs.Command.{Command}
-use Rattle.cache_theory.specs.Command.Command.{Create, UnsetElement, ElementOf, ReadPart, Get, HasEntry, ListRecords, Evict, EvictNames, StepUpdate, UpdateState, Verify, VerifyRecords, Rebuild}
+use Rattle.cache_theory.specs.Command.Command.{Create, UnsetElement, ElementOf, ReadPart, Get, GetAlt, MainBody, HasEntry, ListRecords, Evict, EvictNames, StepUpdate, UpdateState, Verify, VerifyRecords, Rebuild}
 use Rattle.cache_theory.specs.Text.{findings_text, line, refusal_words}
 use Rattle.cache_theory.specs.declared.refusal.Refusal.{Refusal}
 use Rattle.entry_key.specs.Writing.{may_write}
@@ -18,6 +18,8 @@ is_plain (UnsetElement s name) = false
 is_plain (ElementOf s name) = false
 is_plain (ReadPart s from len) = false
 is_plain (Get key) = false
+is_plain (GetAlt key) = false
+is_plain (MainBody key) = false
 is_plain (HasEntry key) = false
 is_plain ListRecords = false
 is_plain (Evict kb) = false

@@ -1,12 +1,13 @@
 -- What a `read` finds held, and what it leaves so.
-use Rattle.std.specs.Prelude.{Some, if◌then◌else◌, is_some, min, ℕ, ⊤, ◌+◌, ◌<◌, ◌≡◌, ◌≤◌}
+use Rattle.std.specs.Prelude.{Some, if◌then◌else◌, is_some, min, ℕ, ⊤, ◌+◌, ◌<◌, ◌≡◌, ◌≤◌, ◌⊎◌}
 use Rattle.chunk_cache.specs.Cached.{StandsFirst}
 use Rattle.cache_theory.specs.Command.{Command}
-use Rattle.cache_theory.specs.Command.Command.{Close, ReadPart}
+use Rattle.cache_theory.specs.Command.Command.{Close, PutAlt, ReadPart}
 use Rattle.file_handles.specs.Closing.{chunks_closed}
 use Rattle.file_handles.specs.Held.{body_len_in}
 use Rattle.file_handles.specs.HeldChunks.{SameChunks}
 use Rattle.file_handles.specs.Kept.{Kept, object_in, use_at}
+use Rattle.file_handles.specs.PuttingAlt.{chunks_but_own}
 use Rattle.file_handles.specs.Reading.{IsOfChunk, IsPartHeld}
 use Rattle.file_handles.specs.declared.object.Object.{Object}
 
@@ -21,10 +22,12 @@ LastIsFirst before slot from len after =
     → at + 1 ≡ min (from + len) (body_len_in x.entry) → IsOfChunk x at 1 number index
     → StandsFirst number index after.chunks
 
--- the chunks that are held after a command: those of before, but for a `read`; and a `close` drops those of its own entry
--- alone, with the last slot of the entry
+-- the chunks that are held after a command: those of before, but for a `read`; a `close` drops those of its own entry
+-- alone, with the last slot of the entry; and a `putalt` those of its own entry alone, or none
 abbrev pub LeavesChunks : Command → Kept → Kept → Type 0
 LeavesChunks (ReadPart slot from len) before after = ⊤
 LeavesChunks (Close slot) before after =
     after.chunks ≡ (if is_some (use_at after slot) then before.chunks else chunks_closed before slot)
+LeavesChunks (PutAlt slot kind bytes) before after =
+    SameChunks before after ⊎ (after.chunks ≡ chunks_but_own before slot)
 LeavesChunks c before after = SameChunks before after

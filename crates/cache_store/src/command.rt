@@ -32,6 +32,7 @@ use crate::answered::{Answered, answer_of};
 use crate::faulting::has_failed;
 use crate::pending::Pending;
 use crate::replies::counted;
+use crate::showing::Shown;
 use crate::store::Store;
 use crate::verify::say_found;
 use crate::{StoreFault, Verdict};
@@ -268,6 +269,11 @@ impl Store {
                 self.index.learn_of_some(answer)
             }
             Command::Element { slot, name } => self.say_element(alloc, slot, name, sink),
+            Command::PutAlt { slot, kind, alt } => {
+                let answer = self.handles.put_alt(alloc, disk, slot, kind, alt);
+                self.faulting = has_failed(&answer);
+                self.index.learn_of(answer)
+            }
             Command::UseEntry { slot } => {
                 let now = self.moment;
                 let answer = self.handles.use_entry(alloc, disk, slot, now);
@@ -285,7 +291,9 @@ impl Store {
                 self.faulting = has_failed(&answer);
                 self.index.learn_of(answer)
             }
-            Command::Get { key } => self.say_get(alloc, disk, key, sink),
+            Command::Get { key } => self.say_shown(alloc, disk, Shown::Whole, key, sink),
+            Command::GetAlt { key } => self.say_shown(alloc, disk, Shown::Alt, key, sink),
+            Command::MainBody { key } => self.say_shown(alloc, disk, Shown::Main, key, sink),
             Command::Has { key } => Ok(self.index.has(key)),
             Command::List => self.say_list(alloc, disk, sink),
             Command::Evict { kb } => self.evict(alloc, disk, kb, sink),

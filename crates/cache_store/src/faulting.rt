@@ -1,7 +1,7 @@
 //! A look at the disk that fails before anything of the reply is said, so that the command is answered by `fault`.
 
-ghost use Rattle.std.specs.Prelude.{◌≡◌};
-ghost use Rattle.cache_store.specs.Faulting.{has_failed_look, is_failed_look, is_failure, of_handles};
+ghost use Rattle.std.specs.Prelude.{◌≡◌, false};
+ghost use Rattle.cache_store.specs.Faulting.{has_failed_look, is_failed_look, is_failure, is_refusal, of_handles};
 ghost use Rattle.cache_store.specs.Faults.{of_disk};
 
 use crate::StoreFault;
@@ -49,12 +49,13 @@ pub(crate) fn has_failed<T>(answer: &Result<T, HandleFault>) -> bool
 
 /// The store's fault for one of the handles, which is no refusal.
 pub(crate) fn handles_fault(fault: HandleFault) -> StoreFault
+    requires { is_refusal fault ≡ false }
     ensures { result ≡ of_handles fault }
 {
     match fault {
         HandleFault::Read => StoreFault::Disk,
         HandleFault::Disk => StoreFault::Disk,
         HandleFault::Memory => StoreFault::Memory,
-        HandleFault::Refused(_) => StoreFault::Memory,
+        HandleFault::Refused(_) => unreachable!(),
     }
 }

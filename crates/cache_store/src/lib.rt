@@ -7,7 +7,7 @@ mod command;
 mod evict;
 mod fault;
 mod faulting;
-mod get;
+mod found_body;
 mod index_commands;
 mod kilobytes;
 mod laws;
@@ -19,6 +19,7 @@ mod outcome;
 mod pending;
 mod read;
 mod replies;
+mod showing;
 mod store;
 mod verify;
 

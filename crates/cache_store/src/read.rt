@@ -1,10 +1,10 @@
 //! Replies to a `read`.
 
-ghost use Rattle.std.specs.Prelude.{◌≡◌, ◌≢◌, ◌<◌, ◌≤◌, ◌+◌, ◌++◌, ◌^◌, [], Err, false, true, IfOk, IsErrOf, IsTrue, OnErr, OnOk, codes, drop, length, take};
+ghost use Rattle.std.specs.Prelude.{◌≡◌, ◌≢◌, ◌<◌, ◌≤◌, ◌+◌, ◌++◌, ◌^◌, [], Err, false, true, IfErr, IfOk, IsErrOf, IsSome, IsTrue, OnErr, OnOk, codes, drop, length, take};
 ghost use Rattle.cache_base.specs.Causes.{HasCause};
 ghost use Rattle.cache_base.specs.declared.limits.TheConstants.{SLOTS};
 ghost use Rattle.cache_store.specs.Answering.{outcome_in};
-ghost use Rattle.cache_store.specs.Faulting.{SendsFrontFor};
+ghost use Rattle.cache_store.specs.Faulting.{SendsFrontFor, is_refusal};
 ghost use Rattle.cache_store.specs.Faults.{ending};
 ghost use Rattle.cache_store.specs.Printed.{lists_findings};
 ghost use Rattle.cache_store.specs.Reads.{AreHeld, LastIsFirst};
@@ -15,7 +15,7 @@ ghost use Rattle.cache_theory.specs.Text.{with_bytes, with_number};
 ghost use Rattle.disk_model.specs.Account.{Looks};
 ghost use Rattle.file_handles.specs.Answers.{ending as handle_ending};
 ghost use Rattle.file_handles.specs.Cache.{cache};
-ghost use Rattle.file_handles.specs.Kept.{kept};
+ghost use Rattle.file_handles.specs.Kept.{kept, object_in};
 ghost use Rattle.file_handles.specs.Reading.{ForBody, HasRead, HasReadOrNot, HoldsAsBefore, IsPartHeld, SameButChunks, part_of_body};
 ghost use Rattle.file_handles.specs.Stands.{RepresentsSome};
 
@@ -42,6 +42,7 @@ fn say_part<D: Disk, K: Sink>(
     sink: &mut K,
 ) -> Result<u64, StoreFault>
     requires slot { slot < SLOTS }
+    requires there { IsSome (object_in (kept handles.old) slot) }
     requires told { IsTrue D.tells → RepresentsSome (cache D.Disk handles.old disk.old) }
     ensures says { let at = saying K.Sink in IfOk result (λ n. IsTrue D.tells →
         ForBody (cache D.Disk handles.old disk.old) slot (λ body.
@@ -84,7 +85,9 @@ fn fetch<D: Disk>(
     len: u64,
 ) -> Result<(), HandleFault>
     requires slot { slot < SLOTS }
+    requires there { IsSome (object_in (kept handles.old) slot) }
     requires told { IsTrue D.tells → RepresentsSome (cache D.Disk handles.old disk.old) }
+    ensures no_refusal { IfErr result (λ f. is_refusal f ≡ false) }
     ensures read { let before = cache D.Disk handles.old disk.old in
         HasReadOrNot (IsTrue D.tells) slot from len result before (kept handles.new) }
     ensures fetched { OnOk result (IsPartHeld (kept handles.new) slot from len) }
@@ -110,6 +113,7 @@ fn say_parts<D: Disk, K: Sink>(
     sink: &mut K,
 ) -> Result<(), StoreFault>
     requires slot { slot < SLOTS }
+    requires there { IsSome (object_in (kept handles.old) slot) }
     requires small { from + len < 2 ^ 64 }
     requires first { IsPartHeld (kept handles.old) slot from len }
     requires told { IsTrue D.tells → RepresentsSome (cache D.Disk handles.old disk.old) }
@@ -168,6 +172,7 @@ fn say_bytes<D: Disk, K: Sink>(
     sink: &mut K,
 ) -> Result<(), StoreFault>
     requires slot { slot < SLOTS }
+    requires there { IsSome (object_in (kept handles.old) slot) }
     requires small { from + len < 2 ^ 64 }
     requires first { IsPartHeld (kept handles.old) slot from len }
     requires told { IsTrue D.tells → RepresentsSome (cache D.Disk handles.old disk.old) }

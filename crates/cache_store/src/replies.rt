@@ -1,8 +1,9 @@
 //! The text of replies.
 
 ghost use Rattle.std.specs.Prelude.{◌≡◌, ◌++◌, ◌∷◌, IfOk, OnOk, decimal};
+ghost use Rattle.cache_store.specs.EntryText.{head_text};
 ghost use Rattle.cache_store.specs.Texts.{fields, found_line};
-ghost use Rattle.cache_theory.specs.Text.{with_number};
+ghost use Rattle.cache_theory.specs.Text.{alt_line, with_number};
 ghost use Rattle.entry_metadata.specs.Meta.{meta_of};
 
 use cache_base::{Bytes, NoMemory};
@@ -37,9 +38,9 @@ pub(crate) fn counted(alloc: Global, word: &[u8], count: u64) -> Result<Bytes, N
     Ok(line)
 }
 
-/// The line of numbers of an entry.
+// The line of numbers of an entry.
 #[tactic(auto, unfolding(crate::specs::Texts::found_line))]
-pub(crate) fn head(alloc: Global, meta: &Meta) -> Result<Bytes, NoMemory>
+fn head(alloc: Global, meta: &Meta) -> Result<Bytes, NoMemory>
     ensures { IfOk result (λ line. line ≡ found_line (meta_of meta.now)) }
 {
     let header = meta.header;
@@ -56,6 +57,29 @@ pub(crate) fn head(alloc: Global, meta: &Meta) -> Result<Bytes, NoMemory>
     let mut line = Bytes::new(alloc);
     line.extend(b"found")?;
     extend_fields(alloc, &mut line, &numbers)?;
+    line.push(b'\n')?;
+    Ok(line)
+}
+
+/// The text of an entry before its body: its numbers and its elements.
+pub(crate) fn entry_head(alloc: Global, meta: &Meta) -> Result<Bytes, NoMemory>
+    ensures { IfOk result (λ text. text ≡ head_text (meta_of meta.now)) }
+{
+    let mut text = head(alloc, meta)?;
+    text.extend(meta.elements.print())?;
+    text.push(b'\n')?;
+    Ok(text)
+}
+
+/// The line of alternative data: their length and their kind.
+pub(crate) fn alt_head(alloc: Global, kind: &[u8], len: u64) -> Result<Bytes, NoMemory>
+    ensures { IfOk result (λ line. line ≡ alt_line kind.now len) }
+{
+    let mut line = Bytes::new(alloc);
+    line.extend(b"alt")?;
+    extend_field(alloc, &mut line, len)?;
+    line.push(b' ')?;
+    line.extend(kind)?;
     line.push(b'\n')?;
     Ok(line)
 }

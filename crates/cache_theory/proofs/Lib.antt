@@ -15,6 +15,8 @@ pub mod Slots
 pub mod FileBytes
 pub mod Elements
 pub mod Versions
+pub mod AltData
+pub mod AltReplies
 pub mod Users
 pub mod Slotted
 pub mod Storing

@@ -4,15 +4,16 @@ use Rattle.std.specs.Prelude.{is_none}
 use Rattle.std.proofs.lemmas.Bool.{cond_both, not-true}
 use Rattle.cache_base.specs.Checks.{first_failing}
 use Rattle.cache_base.proofs.CheckLaws.{AllHold, all_hold}
-use Rattle.cache_theory.specs.Checks.{checks, with_value}
+use Rattle.cache_theory.specs.Checks.{checks, with_alt_data, with_value}
 use Rattle.cache_theory.specs.Command.{Command}
-use Rattle.cache_theory.specs.Command.Command.{At, Create, OpenKey, Append, Finish, SetElement, UnsetElement, UseEntry, Close, Doom, ListRecords, ListGiven, Evict, EvictNames, StepUpdate, Verify, VerifyRecords, Rebuild}
+use Rattle.cache_theory.specs.Command.Command.{At, Create, OpenKey, Append, Finish, SetElement, UnsetElement, UseEntry, PutAlt, Close, Doom, ListRecords, ListGiven, Evict, EvictNames, StepUpdate, Verify, VerifyRecords, Rebuild}
 use Rattle.cache_theory.specs.Command.Reply.{Done, NoneThere}
 use Rattle.cache_theory.specs.Given.{IsGiven}
 use Rattle.cache_theory.specs.Machine.{Machine, is_slot, object_of}
 use Rattle.cache_theory.specs.Proper.{IsProper, StaysProper}
 use Rattle.cache_theory.specs.Step.{answer, changed, effect, evicted, stepped, update_ended, used}
 use Rattle.cache_theory.specs.declared.refusal.Refusal.{Refusal}
+use Rattle.cache_theory.proofs.AltData.{object_with_alt}
 use Rattle.cache_theory.proofs.Changes.{object_is, proper_changed, proper_closed, proper_created, proper_finished, proper_joined}
 use Rattle.cache_theory.proofs.Dooming.{proper_doomed_under}
 use Rattle.cache_theory.proofs.Rested.{proper_all_doomed, proper_rested}
@@ -45,6 +46,10 @@ effect_proper m (UseEntry s) given proper hold =
     let is : is_slot m s ≡ true = hold.0 in
     proper_changed m s (used m.moment) proper is refl
     (object_used m.moment (object_of m s) proper.moment (object_is m s proper is))
+effect_proper m (PutAlt s kind bytes) given proper hold =
+    let is : is_slot m s ≡ true = hold.0 in
+    proper_changed m s (with_alt_data kind bytes) proper is refl
+    (object_with_alt (object_of m s) kind bytes hold.1.1.0 given.1.0 given.1.1 hold.1.1.1.1.0 hold.1.1.1.1.1.0 hold.1.1.1.1.1.1.0 (object_is m s proper is))
 effect_proper m (Close s) given proper hold = proper_closed m s proper hold.0
 effect_proper m (Doom key) given proper hold = proper_doomed_under m (file_name key) proper
 effect_proper m ListRecords given proper hold = proper_rested m [] proper

@@ -6,9 +6,9 @@ use Rattle.std.proofs.lemmas.Bool.{cond_both, not-true}
 use Rattle.std.proofs.lemmas.Slice.Eq.{bytes_eq-Decides}
 use Rattle.std.proofs.lemmas.Map.Text.{is_eq-slice_cmp}
 use Rattle.cache_base.proofs.CheckLaws.{AllHold, all_hold}
-use Rattle.cache_theory.specs.Checks.{checks, with_value}
+use Rattle.cache_theory.specs.Checks.{checks, with_alt_data, with_value}
 use Rattle.cache_theory.specs.Command.{Command}
-use Rattle.cache_theory.specs.Command.Command.{Create, OpenKey, Append, Finish, SetElement, UnsetElement, UseEntry, Close, Doom, ListRecords, ListGiven, Evict, EvictNames, StepUpdate, Verify, VerifyRecords, Rebuild}
+use Rattle.cache_theory.specs.Command.Command.{Create, OpenKey, Append, Finish, SetElement, UnsetElement, UseEntry, PutAlt, Close, Doom, ListRecords, ListGiven, Evict, EvictNames, StepUpdate, Verify, VerifyRecords, Rebuild}
 use Rattle.cache_theory.specs.Command.Reply.{Done, NoneThere}
 use Rattle.cache_theory.specs.Laws.{EntriesHaveRecords}
 use Rattle.cache_theory.specs.Machine.{Machine, Object, has_slots, is_writer, number_of, object, object_of, on_shelf, used_by}
@@ -198,6 +198,8 @@ effect_refiled m (UnsetElement s key) of proper hold =
     (element key (object_of m s).version.elements) (slot_in_use m proper s hold.0).number
 effect_refiled m (UseEntry s) of proper hold =
     refiled_changed m s (used m.moment) (slot_in_use m proper s hold.0).number
+effect_refiled m (PutAlt s kind bytes) of proper hold =
+    refiled_changed m s (with_alt_data kind bytes) (slot_in_use m proper s hold.0).number
 effect_refiled m (Close s) of proper hold =
     refiled_closed m s (slot_in_use m proper s hold.0).number
 effect_refiled m (Doom key) of proper hold = (λ q. removed_or m.shelf (file_name key) q, refl)

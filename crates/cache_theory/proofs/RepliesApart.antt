@@ -4,7 +4,7 @@ use Rattle.std.proofs.Math.Seq.{take-append-le}
 use Rattle.cache_theory.specs.Command.{Reply}
 use Rattle.cache_theory.specs.declared.refusal.Refusal.{Refusal}
 use Rattle.cache_theory.specs.declared.refusal.Refusal.TheVariants as refused
-use Rattle.cache_theory.specs.Command.Reply.{Done, Refused, NoneThere, Value, Part, Found, Yes, No, Unknown, Records, Evicted, Ready, Updating, Findings, Rebuilt}
+use Rattle.cache_theory.specs.Command.Reply.{Done, Refused, NoneThere, Value, Part, Found, AltData, Main, Yes, No, Unknown, Records, Evicted, Ready, Updating, Findings, Rebuilt}
 use Rattle.cache_theory.specs.Faulted.{NoReplyIsFault, fault_line}
 use Rattle.cache_theory.specs.Text.{found_line, line, reply_text, refusal_words}
 use Rattle.cache_theory.proofs.TextsApart.{Differ}
@@ -28,6 +28,8 @@ refusal_differs refused.Finished = second_differs 102 105 97 _ _ (λ e. omega (a
 refusal_differs refused.TooLarge = first_differs 116 102 _ _ (λ e. omega (arith, e))
 refusal_differs refused.BadKey = first_differs 98 102 _ _ (λ e. omega (arith, e))
 refusal_differs refused.BadElement = first_differs 98 102 _ _ (λ e. omega (arith, e))
+refusal_differs refused.HasAlt = first_differs 104 102 _ _ (λ e. omega (arith, e))
+refusal_differs refused.NoAlt = first_differs 110 102 _ _ (λ e. omega (arith, e))
 
 pub reply_differs : (r : Reply) → Differ (reply_text r) fault_line
 unfolding reply_text found_line fault_line
@@ -37,6 +39,8 @@ reply_differs NoneThere = first_differs 110 102 _ _ (λ e. omega (arith, e))
 reply_differs (Value value) = first_differs 118 102 _ _ (λ e. omega (arith, e))
 reply_differs (Part bytes) = first_differs 100 102 _ _ (λ e. omega (arith, e))
 reply_differs (Found v) = second_differs 102 111 97 _ _ (λ e. omega (arith, e))
+reply_differs (AltData alt bytes) = first_differs 97 102 _ _ (λ e. omega (arith, e))
+reply_differs (Main bytes) = first_differs 109 102 _ _ (λ e. omega (arith, e))
 reply_differs Yes = first_differs 121 102 _ _ (λ e. omega (arith, e))
 reply_differs No = first_differs 110 102 _ _ (λ e. omega (arith, e))
 reply_differs Unknown = first_differs 117 102 _ _ (λ e. omega (arith, e))

@@ -2,7 +2,7 @@
 use Rattle.std.proofs.Common.{ℕ, ◌<◌, List, [], ◌∷◌, ◌++◌, codes, decimal, flat_map, length, arith, length-append}
 use Rattle.cache_base.specs.declared.name.Name.{Name}
 use Rattle.cache_check.specs.declared.finding.Finding.{Finding}
-use Rattle.cache_theory.specs.Command.Reply.{Done, Refused, NoneThere, Value, Part, Found, Yes, No, Unknown, Records, Evicted, Ready, Updating, Findings, Rebuilt}
+use Rattle.cache_theory.specs.Command.Reply.{Done, Refused, NoneThere, Value, Part, Found, AltData, Main, Yes, No, Unknown, Records, Evicted, Ready, Updating, Findings, Rebuilt}
 use Rattle.cache_theory.specs.Text.{ReplyIsNotEmpty, finding_words, found_line, line, record_words, refusal_words, reply_text, version_text, with_bytes, with_number}
 use Rattle.entry_file.specs.Version.{Version, version_meta}
 use Rattle.entry_metadata.specs.Metadata.{Meta}
@@ -48,6 +48,10 @@ replies_are_not_empty NoneThere = line_long (codes "none" ∷ [])
 replies_are_not_empty (Value value) = bytes_long (codes "value") value
 replies_are_not_empty (Part bytes) = bytes_long (codes "data") bytes
 replies_are_not_empty (Found v) = found_long v
+replies_are_not_empty (AltData alt bytes) =
+    longer (line (codes "alt" ∷ decimal (length bytes) ∷ alt.kind ∷ [])) (bytes ++ 10 ∷ [])
+    (line_long (codes "alt" ∷ decimal (length bytes) ∷ alt.kind ∷ []))
+replies_are_not_empty (Main bytes) = bytes_long (codes "main") bytes
 replies_are_not_empty Yes = line_long (codes "yes" ∷ [])
 replies_are_not_empty No = line_long (codes "no" ∷ [])
 replies_are_not_empty Unknown = line_long (codes "unknown" ∷ [])

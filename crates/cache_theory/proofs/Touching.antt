@@ -8,9 +8,9 @@ use Rattle.std.proofs.lemmas.Slice.Eq.{bytes_eq-Decides}
 use Rattle.cache_base.specs.Checks.{first_failing}
 use Rattle.cache_base.specs.declared.name.Name.{Name}
 use Rattle.cache_base.proofs.CheckLaws.{AllHold, all_hold}
-use Rattle.cache_theory.specs.Checks.{checks, with_value}
+use Rattle.cache_theory.specs.Checks.{checks, with_alt_data, with_value}
 use Rattle.cache_theory.specs.Command.{Command}
-use Rattle.cache_theory.specs.Command.Command.{Create, OpenKey, Append, Finish, SetElement, UnsetElement, UseEntry, Close, Doom, Evict, EvictNames}
+use Rattle.cache_theory.specs.Command.Command.{Create, OpenKey, Append, Finish, SetElement, UnsetElement, UseEntry, PutAlt, Close, Doom, Evict, EvictNames}
 use Rattle.cache_theory.specs.Command.Reply.{Done, NoneThere}
 use Rattle.cache_theory.specs.Laws.{ChangesAreTouched}
 use Rattle.cache_theory.specs.Machine.{Machine, Object, has_slots, is_writer, number_of, object, object_of, on_shelf, used_by}
@@ -167,6 +167,8 @@ effect_stays m (UnsetElement s key) name hold none =
     (λ there. stays_changed m s (λ v. record v { elements = without_element key v.elements }) name
     refl (unset_none m s key name there none))
 effect_stays m (UseEntry s) name hold none = stays_changed m s (used m.moment) name refl none
+effect_stays m (PutAlt s kind bytes) name hold none =
+    stays_changed m s (with_alt_data kind bytes) name refl none
 effect_stays m (Close s) name hold none =
     ap (λ t. get t name) (released_shelf (finished_by m s) s) ∙ stays_finished m s name none
 effect_stays m (Doom key) name hold none =

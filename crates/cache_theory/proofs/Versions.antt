@@ -42,7 +42,7 @@ is_key key h =
 
 -- The hashes of a body's chunks.
 
-hash_words : (body : List ℕ) (a n : ℕ) → AllByRecursion (λ h. h < 2 ^ 16) (map (λ i. hash16_of (chunk body i)) (range_with_len a n))
+pub hash_words : (body : List ℕ) (a n : ℕ) → AllByRecursion (λ h. h < 2 ^ 16) (map (λ i. hash16_of (chunk body i)) (range_with_len a n))
 hash_words body a zero = tt
 hash_words body a (suc n) = (omega arith, hash_words body (a + 1) n)
 

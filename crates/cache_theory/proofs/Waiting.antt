@@ -7,9 +7,9 @@ use Rattle.std.proofs.lemmas.Bool.{cond_both, or_cases, or_left, or_right}
 use Rattle.std.proofs.lemmas.Slice.Eq.{bytes_eq-Decides}
 use Rattle.cache_base.specs.Checks.{first_failing}
 use Rattle.cache_base.specs.declared.name.Name.{Name}
-use Rattle.cache_theory.specs.Checks.{checks, with_value}
+use Rattle.cache_theory.specs.Checks.{checks, with_alt_data, with_value}
 use Rattle.cache_theory.specs.Command.{Command}
-use Rattle.cache_theory.specs.Command.Command.{Create, OpenKey, Append, Finish, SetElement, UnsetElement, UseEntry, Close, Doom, ListRecords, ListGiven, Evict, EvictNames, StepUpdate, Verify, VerifyRecords, Rebuild}
+use Rattle.cache_theory.specs.Command.Command.{Create, OpenKey, Append, Finish, SetElement, UnsetElement, UseEntry, PutAlt, Close, Doom, ListRecords, ListGiven, Evict, EvictNames, StepUpdate, Verify, VerifyRecords, Rebuild}
 use Rattle.cache_theory.specs.Command.Reply.{Done, NoneThere}
 use Rattle.cache_theory.specs.Laws.{ChangesLeaveRest, IsUnread}
 use Rattle.cache_theory.specs.Machine.{Machine, Object, has_slots, is_writer, number_of, object_of, on_shelf, used_by, waits_for}
@@ -167,6 +167,7 @@ effect_keeps m (SetElement s key value) name = keeps_changed m s (with_value key
 effect_keeps m (UnsetElement s key) name =
     keeps_unset m s key name (is_none (element key (object_of m s).version.elements))
 effect_keeps m (UseEntry s) name = keeps_changed m s (used m.moment) name
+effect_keeps m (PutAlt s kind bytes) name = keeps_changed m s (with_alt_data kind bytes) name
 effect_keeps m (Close s) name =
     let done : Machine = finished_by m s in
     keeps_then m done (released done s) name (keeps_finished m s name) (keeps_released done s name)

@@ -1,9 +1,10 @@
 -- The checks of a command, in order: the first that fails is the refusal.
-use Rattle.std.specs.Prelude.{Bool, List, None, Option, Some, [], is_some, length, nat_le, nat_lt, not, option_map, true, false, unwrap_or, ℕ, ◌&&◌, ◌+◌, ◌||◌, ◌∷◌}
+use Rattle.std.specs.Prelude.{Bool, List, None, Option, Some, [], codes, is_none, is_some, length, nat_le, nat_lt, not, option_map, true, false, unwrap_or, ℕ, ◌&&◌, ◌+◌, ◌++◌, ◌||◌, ◌∷◌}
+use Rattle.alt_data.specs.AltData.{Alt, alt_of, is_kind, with_alt}
 use Rattle.cache_base.specs.Limits.{chunks}
 use Rattle.cache_base.specs.declared.limits.TheConstants.{BLOCK_MAX, BODY_MAX, ELEMENTS_MAX}
 use Rattle.cache_theory.specs.Command.{Command}
-use Rattle.cache_theory.specs.Command.Command.{Create, OpenKey, Append, Finish, SetElement, UnsetElement, ElementOf, UseEntry, ReadPart, Close, Doom, Get, HasEntry, HasGiven}
+use Rattle.cache_theory.specs.Command.Command.{Create, OpenKey, Append, Finish, SetElement, UnsetElement, ElementOf, UseEntry, PutAlt, ReadPart, Close, Doom, Get, GetAlt, MainBody, HasEntry, HasGiven}
 use Rattle.cache_theory.specs.Machine.{Machine, is_entry, is_slot, is_writer, object, object_of, on_shelf, used_by}
 use Rattle.cache_theory.specs.declared.refusal.Refusal.{Refusal}
 use Rattle.cache_theory.specs.declared.refusal.Refusal.TheVariants as refused
@@ -12,7 +13,7 @@ use Rattle.entry_file.specs.EntryFile.Reading.{Whole, Damaged, Nothing}
 use Rattle.entry_file.specs.Version.{Version}
 use Rattle.entry_key.specs.Writing.{may_write}
 use Rattle.entry_metadata.specs.Metadata.{block_length}
-use Rattle.entry_parts.specs.Elements.{elements_bytes}
+use Rattle.entry_parts.specs.Elements.{element, elements_bytes}
 use Rattle.entry_parts.specs.Setting.{has_zero, with_element}
 
 -- a check: it holds, or the command is refused so
@@ -33,6 +34,9 @@ writer m s = (is_writer m s, refused.NotWriter)
 
 abbrev pub unfinished : Machine → ℕ → Check
 unfinished m s = (not (object_of m s).finished, refused.Finished)
+
+abbrev pub finished : Machine → ℕ → Check
+finished m s = ((object_of m s).finished, refused.Unfinished)
 
 -- the elements of an unfinished entry are its writer's alone
 abbrev pub may_set : Machine → ℕ → Check
@@ -69,6 +73,28 @@ with_value name value v = record v { elements = with_element name value v.elemen
 abbrev pub good_element : List ℕ → List ℕ → Check
 good_element name value = (nat_lt 0 (length name) && not (has_zero name) && not (has_zero value), refused.BadElement)
 
+-- no element tells of alternative data yet
+abbrev pub no_alt : Machine → ℕ → Check
+no_alt m s = (is_none (element (codes "alt-data") (object_of m s).version.elements), refused.HasAlt)
+
+-- alternative data may be of this kind
+abbrev pub good_kind : List ℕ → Check
+good_kind kind = (is_kind kind, refused.BadElement)
+
+-- the version with alternative data of this kind behind its body
+abbrev pub with_alt_data : List ℕ → List ℕ → Version → Version
+with_alt_data kind bytes v = record v { body = v.body ++ bytes; elements = with_alt v.body kind v.elements }
+
+-- the alternative data of a version
+abbrev pub alt_in_version : Version → Option Alt
+alt_in_version v = alt_of v.elements (length v.body)
+
+-- the entry has alternative data
+abbrev pub has_alt : Reading → Check
+has_alt (Whole v) = (is_some (alt_in_version v), refused.NoAlt)
+has_alt (Damaged d) = (true, refused.NoAlt)
+has_alt Nothing = (true, refused.NoAlt)
+
 -- the elements of a version, and its block, are not too large
 abbrev pub small_parts : Version → Check
 small_parts v = (
@@ -86,10 +112,15 @@ checks m (SetElement s name value) = slot_used m s ∷ may_set m s ∷ good_elem
 checks m (UnsetElement s name) = slot_used m s ∷ may_set m s ∷ []
 checks m (ElementOf s name) = slot_used m s ∷ []
 checks m (UseEntry s) = slot_used m s ∷ []
+checks m (PutAlt s kind bytes) =
+    slot_used m s ∷ writer m s ∷ finished m s ∷ no_alt m s ∷ good_kind kind ∷ room_for m s (length bytes)
+    ∷ small_parts (with_alt_data kind bytes (object_of m s).version) ∷ []
 checks m (ReadPart s from len) = slot_used m s ∷ []
 checks m (Close s) = slot_used m s ∷ []
 checks m (Doom key) = good_key key ∷ there m key ∷ []
 checks m (Get key) = good_key key ∷ not_writing m key ∷ there m key ∷ undamaged (on_shelf m key) ∷ []
+checks m (GetAlt key) = good_key key ∷ not_writing m key ∷ there m key ∷ undamaged (on_shelf m key) ∷ has_alt (on_shelf m key) ∷ []
+checks m (MainBody key) = good_key key ∷ not_writing m key ∷ there m key ∷ undamaged (on_shelf m key) ∷ []
 checks m (HasEntry key) = good_key key ∷ []
 checks m (HasGiven key there) = good_key key ∷ []
 -- the others are never refused

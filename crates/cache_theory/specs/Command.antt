@@ -1,5 +1,6 @@
 -- The commands of the machine, and what it answers.
 use Rattle.std.specs.Prelude.{Bool, ℕ, List}
+use Rattle.alt_data.specs.AltData.{Alt}
 use Rattle.cache_base.specs.declared.name.Name.{Name}
 use Rattle.cache_check.specs.declared.finding.Finding.{Finding}
 use Rattle.cache_theory.specs.declared.refusal.Refusal.{Refusal}
@@ -16,10 +17,14 @@ pub data Command : Type 0 where
   UnsetElement : (slot : ℕ) (name : List ℕ) → Command
   ElementOf : (slot : ℕ) (name : List ℕ) → Command
   UseEntry : (slot : ℕ) → Command
+  -- these bytes are kept behind the body as alternative data of this kind
+  PutAlt : (slot : ℕ) (kind bytes : List ℕ) → Command
   ReadPart : (slot from len : ℕ) → Command
   Close : (slot : ℕ) → Command
   Doom : (key : List ℕ) → Command
   Get : (key : List ℕ) → Command
+  GetAlt : (key : List ℕ) → Command
+  MainBody : (key : List ℕ) → Command
   HasEntry : (key : List ℕ) → Command
   -- the same where there is an entry or not, whatever stands; no script spells it
   HasGiven : (key : List ℕ) (there : Bool) → Command
@@ -48,6 +53,10 @@ pub data Reply : Type 0 where
   Part : (bytes : List ℕ) → Reply
   -- a whole entry
   Found : (version : Version) → Reply
+  -- the alternative data of an entry, with where they begin and their kind
+  AltData : (alt : Alt) (bytes : List ℕ) → Reply
+  -- the main body of an entry
+  Main : (bytes : List ℕ) → Reply
   -- whether there is an entry, which is unknown while the update of the index waits for the name
   Yes : Reply
   No : Reply

@@ -3,7 +3,7 @@ use Rattle.std.specs.Prelude.{⊤, ◌<◌, ◌^◌}
 use Rattle.cache_base.specs.Bytes.{AreBytes}
 use Rattle.cache_base.specs.declared.limits.TheConstants.{SLOTS}
 use Rattle.cache_theory.specs.Command.{Command}
-use Rattle.cache_theory.specs.Command.Command.{At, Create, OpenKey, Append, Finish, SetElement, UnsetElement, ElementOf, UseEntry, ReadPart, Close, Doom, Get, HasEntry, Evict, StepUpdate}
+use Rattle.cache_theory.specs.Command.Command.{At, Create, OpenKey, Append, Finish, SetElement, UnsetElement, ElementOf, UseEntry, PutAlt, ReadPart, Close, Doom, Get, GetAlt, MainBody, HasEntry, Evict, StepUpdate}
 
 -- numbers fit their types, slots are those that there are, and texts are bytes
 abbrev pub IsGiven : Command → Type 0
@@ -16,10 +16,13 @@ IsGiven (SetElement s name value) = (s < SLOTS) × (AreBytes name × AreBytes va
 IsGiven (UnsetElement s name) = (s < SLOTS) × AreBytes name
 IsGiven (ElementOf s name) = (s < SLOTS) × AreBytes name
 IsGiven (UseEntry s) = s < SLOTS
+IsGiven (PutAlt s kind bytes) = (s < SLOTS) × (AreBytes kind × AreBytes bytes)
 IsGiven (ReadPart s from len) = s < SLOTS
 IsGiven (Close s) = s < SLOTS
 IsGiven (Doom key) = AreBytes key
 IsGiven (Get key) = AreBytes key
+IsGiven (GetAlt key) = AreBytes key
+IsGiven (MainBody key) = AreBytes key
 IsGiven (HasEntry key) = AreBytes key
 IsGiven (Evict kb) = kb < 2 ^ 32
 IsGiven (StepUpdate n) = n < 2 ^ 32

@@ -3,12 +3,14 @@ use Rattle.std.specs.List.{AllByRecursion, list_any}
 use Rattle.std.specs.Prelude.{Bool, List, None, [], false, if◌then◌else◌, is_some, map, true, ℕ, ◌≡◌, ◌≤◌, ◌⊎◌}
 use Rattle.std.specs.Str.{bytes_eq}
 use Rattle.cache_base.specs.declared.name.Name.{Name}
-use Rattle.cache_theory.specs.Command.{Command}
-use Rattle.cache_theory.specs.Command.Command.{Evict, EvictNames, HasEntry, HasGiven, ListGiven, ListRecords, Verify, VerifyRecords}
+use Rattle.cache_theory.specs.Checks.{alt_in_version}
+use Rattle.cache_theory.specs.Command.{Command, Reply}
+use Rattle.cache_theory.specs.Command.Command.{Evict, EvictNames, Get, GetAlt, HasEntry, HasGiven, ListGiven, ListRecords, MainBody, Verify, VerifyRecords}
+use Rattle.cache_theory.specs.Command.Reply.{Found}
 use Rattle.cache_theory.specs.Crash.{IsSafe}
 use Rattle.cache_theory.specs.Machine.{Machine, open_names, waits_for}
 use Rattle.cache_theory.specs.Marks.{Marks, begun, touches}
-use Rattle.cache_theory.specs.Step.{after, all_doomed, evicted, fits_there, step, update_ended}
+use Rattle.cache_theory.specs.Step.{after, all_doomed, alt_reply_of, evicted, fits_there, main_reply_of, step, update_ended}
 use Rattle.cache_theory.specs.Table.{IsTable, get}
 use Rattle.disk_model.specs.State.{State}
 use Rattle.entry_name.specs.EntryName.{file_name}
@@ -91,6 +93,25 @@ ListIsOfRecords = (m : Machine) → step m ListRecords ≡ step m (ListGiven (sc
 abbrev pub HasIsOfShelf : Type 0
 HasIsOfShelf = (m : Machine) (key : List ℕ)
     → step m (HasEntry key) ≡ step m (HasGiven key (fits_there (file_name key) (get m.shelf (file_name key))))
+
+-- the replies to a `getalt` and to a `main`, by that to a `get`
+abbrev pub alt_reply_by : Reply → Reply
+alt_reply_by (Found v) = alt_reply_of v (alt_in_version v)
+alt_reply_by r = r
+
+abbrev pub main_reply_by : Reply → Reply
+main_reply_by (Found v) = main_reply_of v
+main_reply_by r = r
+
+abbrev pub AltIsOfGet : Type 0
+AltIsOfGet = (m : Machine) (key : List ℕ)
+    → ((step m (GetAlt key)).reply ≡ alt_reply_by (step m (Get key)).reply)
+    × ((step m (MainBody key)).reply ≡ main_reply_by (step m (Get key)).reply)
+
+-- and so they leave the machine as it is
+abbrev pub AltStays : Type 0
+AltStays = (m : Machine) (key : List ℕ)
+    → ((step m (GetAlt key)).next ≡ m) × ((step m (MainBody key)).next ≡ m)
 
 -- a disk that is safe by the marks of a begun eviction of no names is so by those of the machine's own, which are more
 abbrev pub BegunTouchesMore : Type 0

@@ -6,7 +6,7 @@ use Rattle.std.specs.Str.{bytes_eq}
 use Rattle.cache_base.specs.Checks.{first_failing}
 use Rattle.cache_theory.specs.Checks.{checks}
 use Rattle.cache_theory.specs.Command.{Command}
-use Rattle.cache_theory.specs.Command.Command.{Create, Append, Finish, SetElement, UnsetElement, UseEntry, Close, Doom, Evict, EvictNames, Flush}
+use Rattle.cache_theory.specs.Command.Command.{Create, Append, Finish, SetElement, UnsetElement, UseEntry, PutAlt, Close, Doom, Evict, EvictNames, Flush}
 use Rattle.cache_theory.specs.Machine.{Machine, Object, is_writer, number_of, object, object_of}
 use Rattle.cache_theory.specs.Step.{effect, evicted, step}
 use Rattle.cache_theory.specs.Table.{get}
@@ -45,6 +45,7 @@ rewritten m (Finish s) = Some (number_of m s)
 rewritten m (SetElement s name value) = if (object_of m s).finished then Some (number_of m s) else None
 rewritten m (UnsetElement s name) = if (object_of m s).finished && is_some (element name (object_of m s).version.elements) then Some (number_of m s) else None
 rewritten m (UseEntry s) = if (object_of m s).finished then Some (number_of m s) else None
+rewritten m (PutAlt s kind bytes) = if (object_of m s).finished then Some (number_of m s) else None
 rewritten m (Close s) = if is_writer m s && not (object_of m s).finished then Some (number_of m s) else None
 rewritten m _ = None
 
@@ -53,6 +54,7 @@ abbrev pub rewritten_in_place : Machine → Command → Option ℕ
 rewritten_in_place m (SetElement s name value) = rewritten m (SetElement s name value)
 rewritten_in_place m (UnsetElement s name) = rewritten m (UnsetElement s name)
 rewritten_in_place m (UseEntry s) = rewritten m (UseEntry s)
+rewritten_in_place m (PutAlt s kind bytes) = rewritten m (PutAlt s kind bytes)
 rewritten_in_place m _ = None
 
 -- the name of an object, if it is undoomed
@@ -74,6 +76,7 @@ touches m (Finish s) = name_of_some m (rewritten m (Finish s))
 touches m (SetElement s name value) = name_of_some m (rewritten m (SetElement s name value))
 touches m (UnsetElement s name) = name_of_some m (rewritten m (UnsetElement s name))
 touches m (UseEntry s) = name_of_some m (rewritten m (UseEntry s))
+touches m (PutAlt s kind bytes) = name_of_some m (rewritten m (PutAlt s kind bytes))
 touches m (Close s) = name_of_some m (rewritten m (Close s))
 touches m _ = []
 

@@ -1,13 +1,14 @@
 -- One step of the machine for each command.
 use Rattle.std.specs.Prelude.{Bool, List, None, Option, Some, [], drop, false, filter, if◌then◌else◌, is_none, length, not, slice_get, slice_set, take, true, unwrap_or, ℕ, ◌&&◌, ◌==◌, ◌++◌, ◌||◌, ◌∷◌}
 use Rattle.std.specs.Str.{bytes_eq}
+use Rattle.alt_data.specs.AltData.{Alt, main_body}
 use Rattle.cache_base.specs.Checks.{first_failing}
 use Rattle.cache_base.specs.declared.name.Name.{Name}
 use Rattle.cache_check.specs.Findings.{findings}
-use Rattle.cache_theory.specs.Checks.{checks, with_value}
+use Rattle.cache_theory.specs.Checks.{alt_in_version, checks, with_alt_data, with_value}
 use Rattle.cache_theory.specs.Command.{Command, Reply}
-use Rattle.cache_theory.specs.Command.Command.{At, Create, OpenKey, Append, Finish, SetElement, UnsetElement, ElementOf, UseEntry, ReadPart, Close, Doom, Get, HasEntry, HasGiven, ListRecords, ListGiven, Evict, EvictNames, Flush, StepUpdate, UpdateState, Verify, VerifyRecords, Rebuild}
-use Rattle.cache_theory.specs.Command.Reply.{Done, Refused, NoneThere, Value, Part, Found, Yes, No, Unknown, Records, Evicted, Ready, Updating, Findings, Rebuilt}
+use Rattle.cache_theory.specs.Command.Command.{At, Create, OpenKey, Append, Finish, SetElement, UnsetElement, ElementOf, UseEntry, PutAlt, ReadPart, Close, Doom, Get, GetAlt, MainBody, HasEntry, HasGiven, ListRecords, ListGiven, Evict, EvictNames, Flush, StepUpdate, UpdateState, Verify, VerifyRecords, Rebuild}
+use Rattle.cache_theory.specs.Command.Reply.{Done, Refused, NoneThere, Value, Part, Found, AltData, Main, Yes, No, Unknown, Records, Evicted, Ready, Updating, Findings, Rebuilt}
 use Rattle.cache_theory.specs.Machine.{Machine, Object, Slot, has_slots, is_writer, nobody, number_of, object_of, on_shelf, open_names, used_by, waits_for, writing_names}
 use Rattle.cache_theory.specs.Table.{get, insert, remove}
 use Rattle.cache_theory.specs.declared.refusal.Refusal.{Refusal}
@@ -133,6 +134,24 @@ found_reply (Whole v) = Found v
 found_reply (Damaged d) = Refused (refused.Damaged d)
 found_reply Nothing = Refused refused.Absent
 
+-- the alternative data of a version, as the reply
+abbrev pub alt_reply_of : Version → Option Alt → Reply
+alt_reply_of v None = Refused refused.NoAlt
+alt_reply_of v (Some alt) = AltData alt (drop alt.offset v.body)
+
+abbrev pub alt_reply : Reading → Reply
+alt_reply (Whole v) = alt_reply_of v (alt_in_version v)
+alt_reply (Damaged d) = Refused (refused.Damaged d)
+alt_reply Nothing = Refused refused.Absent
+
+abbrev pub main_reply_of : Version → Reply
+main_reply_of v = Main (main_body (alt_in_version v) v.body)
+
+abbrev pub main_reply : Reading → Reply
+main_reply (Whole v) = main_reply_of v
+main_reply (Damaged d) = Refused (refused.Damaged d)
+main_reply Nothing = Refused refused.Absent
+
 -- whether a content stands there that fits under the name
 abbrev pub fits_there : List ℕ → Option (List ℕ) → Bool
 fits_there name None = false
@@ -160,10 +179,13 @@ effect m (UnsetElement s name) =
     else answer (changed m s (λ v. record v { elements = without_element name v.elements })) Done
 effect m (ElementOf s name) = answer m (element_reply (element name (object_of m s).version.elements))
 effect m (UseEntry s) = answer (changed m s (used m.moment)) Done
+effect m (PutAlt s kind bytes) = answer (changed m s (with_alt_data kind bytes)) Done
 effect m (ReadPart s from len) = answer m (Part (take len (drop from (object_of m s).version.body)))
 effect m (Close s) = answer (released (finished_by m s) s) Done
 effect m (Doom key) = answer (doomed_under m (file_name key)) Done
 effect m (Get key) = answer m (found_reply (on_shelf m key))
+effect m (GetAlt key) = answer m (alt_reply (on_shelf m key))
+effect m (MainBody key) = answer m (main_reply (on_shelf m key))
 effect m (HasEntry key) = answer m (has_reply m (file_name key) (fits_there (file_name key) (get m.shelf (file_name key))))
 effect m (HasGiven key there) = answer m (has_reply m (file_name key) there)
 effect m ListRecords = answer (update_ended m) (Records (scan m.shelf))

@@ -3,14 +3,14 @@ use Rattle.std.specs.List.{AllByRecursion, join_with_byte}
 use Rattle.std.specs.Prelude.{List, [], codes, decimal, flat_map, length, ℕ, ⊤, ◌+◌, ◌++◌, ◌<◌, ◌^◌, ◌∷◌, ◌≡◌, ◌≢◌, ◌≤◌}
 use Rattle.std.specs.Int.{to_be_bytes, w64}
 use Rattle.cache_base.specs.Bytes.{AreBytes, be16, be32}
-use Rattle.cache_base.specs.declared.limits.TheConstants.{ELEMENTS_MAX, LINE_MAX, PIECE_MAX, SCRIPT_MAX, SLOTS}
+use Rattle.cache_base.specs.declared.limits.TheConstants.{ALT_MAX, ELEMENTS_MAX, LINE_MAX, PIECE_MAX, SCRIPT_MAX, SLOTS}
 use Rattle.cache_base.specs.declared.name.Name.{Name}
 use Rattle.cache_check.specs.declared.finding.Finding.{Finding}
 use Rattle.cache_check.specs.declared.finding.What.{What}
 use Rattle.cache_check.specs.declared.finding.What.TheVariants as what
 use Rattle.cache_theory.specs.Command.{Command, Reply}
-use Rattle.cache_theory.specs.Command.Command.{At, Create, OpenKey, Append, Finish, SetElement, UnsetElement, ElementOf, UseEntry, ReadPart, Close, Doom, Get, HasEntry, HasGiven, ListRecords, ListGiven, Evict, EvictNames, Flush, StepUpdate, UpdateState, Verify, VerifyRecords, Rebuild}
-use Rattle.cache_theory.specs.Command.Reply.{Done, Refused, NoneThere, Value, Part, Found, Yes, No, Unknown, Records, Evicted, Ready, Updating, Findings, Rebuilt}
+use Rattle.cache_theory.specs.Command.Command.{At, Create, OpenKey, Append, Finish, SetElement, UnsetElement, ElementOf, UseEntry, PutAlt, ReadPart, Close, Doom, Get, GetAlt, MainBody, HasEntry, HasGiven, ListRecords, ListGiven, Evict, EvictNames, Flush, StepUpdate, UpdateState, Verify, VerifyRecords, Rebuild}
+use Rattle.cache_theory.specs.Command.Reply.{Done, Refused, NoneThere, Value, Part, Found, AltData, Main, Yes, No, Unknown, Records, Evicted, Ready, Updating, Findings, Rebuilt}
 use Rattle.cache_theory.specs.Machine.{Machine}
 use Rattle.cache_theory.specs.Step.{replies}
 use Rattle.cache_theory.specs.declared.refusal.Refusal.{Refusal}
@@ -47,10 +47,20 @@ refusal_words refused.Finished = codes "finished" ∷ []
 refusal_words refused.TooLarge = codes "too large" ∷ []
 refusal_words refused.BadKey = codes "bad key" ∷ []
 refusal_words refused.BadElement = codes "bad element" ∷ []
+refusal_words refused.HasAlt = codes "has alt" ∷ []
+refusal_words refused.NoAlt = codes "no alt" ∷ []
 
 -- a word, the number of bytes that follow, the bytes and a newline
 abbrev pub with_bytes : List ℕ → List ℕ → List ℕ
 with_bytes word bytes = line (word ∷ decimal (length bytes) ∷ []) ++ (bytes ++ 10 ∷ [])
+
+-- the line of alternative data: their length and their kind
+abbrev pub alt_line : List ℕ → ℕ → List ℕ
+alt_line kind len = line (codes "alt" ∷ decimal len ∷ kind ∷ [])
+
+-- the same, and the bytes
+abbrev pub alt_text : List ℕ → List ℕ → List ℕ
+alt_text kind bytes = alt_line kind (length bytes) ++ (bytes ++ 10 ∷ [])
 
 -- the line of an entry's numbers
 unfoldable pub found_line : Meta → List ℕ
@@ -120,6 +130,8 @@ reply_text NoneThere = line (codes "none" ∷ [])
 reply_text (Value value) = with_bytes (codes "value") value
 reply_text (Part bytes) = with_bytes (codes "data") bytes
 reply_text (Found v) = version_text v
+reply_text (AltData alt bytes) = alt_text alt.kind bytes
+reply_text (Main bytes) = with_bytes (codes "main") bytes
 reply_text Yes = line (codes "yes" ∷ [])
 reply_text No = line (codes "no" ∷ [])
 reply_text Unknown = line (codes "unknown" ∷ [])
@@ -149,10 +161,13 @@ command_words (SetElement s name value) = codes "set" ∷ decimal s ∷ decimal 
 command_words (UnsetElement s name) = codes "unset" ∷ decimal s ∷ name ∷ []
 command_words (ElementOf s name) = codes "element" ∷ decimal s ∷ name ∷ []
 command_words (UseEntry s) = codes "use" ∷ decimal s ∷ []
+command_words (PutAlt s kind bytes) = codes "putalt" ∷ decimal s ∷ decimal (length bytes) ∷ kind ∷ []
 command_words (ReadPart s from len) = codes "read" ∷ decimal s ∷ decimal from ∷ decimal len ∷ []
 command_words (Close s) = codes "close" ∷ decimal s ∷ []
 command_words (Doom key) = codes "doom" ∷ key ∷ []
 command_words (Get key) = codes "get" ∷ key ∷ []
+command_words (GetAlt key) = codes "getalt" ∷ key ∷ []
+command_words (MainBody key) = codes "main" ∷ key ∷ []
 command_words (HasEntry key) = codes "has" ∷ key ∷ []
 command_words ListRecords = codes "list" ∷ []
 command_words (Evict kb) = codes "evict" ∷ decimal kb ∷ []
@@ -170,6 +185,7 @@ command_words Rebuild = codes "rebuild" ∷ []
 abbrev pub command_data : Command → List ℕ
 command_data (Append s bytes) = bytes ++ 10 ∷ []
 command_data (SetElement s name value) = value ++ 10 ∷ []
+command_data (PutAlt s kind bytes) = bytes ++ 10 ∷ []
 command_data _ = []
 
 -- the bytes of a command
@@ -195,10 +211,13 @@ FieldsFit (SetElement s name value) = (s < SLOTS) × ((AreBytes name × IsOneLin
 FieldsFit (UnsetElement s name) = (s < SLOTS) × (AreBytes name × IsOneLine name)
 FieldsFit (ElementOf s name) = (s < SLOTS) × (AreBytes name × IsOneLine name)
 FieldsFit (UseEntry s) = s < SLOTS
+FieldsFit (PutAlt s kind bytes) = (s < SLOTS) × ((AreBytes kind × IsOneLine kind) × (AreBytes bytes × (length bytes ≤ ALT_MAX)))
 FieldsFit (ReadPart s from len) = (s < SLOTS) × (IsNumber from × IsNumber len)
 FieldsFit (Close s) = s < SLOTS
 FieldsFit (Doom key) = AreBytes key × IsOneLine key
 FieldsFit (Get key) = AreBytes key × IsOneLine key
+FieldsFit (GetAlt key) = AreBytes key × IsOneLine key
+FieldsFit (MainBody key) = AreBytes key × IsOneLine key
 FieldsFit (HasEntry key) = AreBytes key × IsOneLine key
 FieldsFit (Evict kb) = IsNumber kb
 FieldsFit (HasGiven key there) = ⊥

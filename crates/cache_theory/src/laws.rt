@@ -2,7 +2,7 @@
 
 ghost use Rattle.cache_theory.specs.Faulted.{CutIsTold, FaultCutIsTold, FaultedIsRead, FaultedIsTold, FaultsAreInFront, FaultsAreWithin, FrontIsTold, KeptAreCounted, NextIsNumbered, NextMayFault, NoReplyIsFault, WholeIsTold};
 ghost use Rattle.cache_theory.specs.Keeps.{BeginKeeps, CreateFilesOnce, CreateKeeps, CreateLeavesUnpublished, CreateUnpublished, PublishFilesOnce, PublishKeeps, PublishLeavesUnpublished, QuietFilesOnce, QuietIsSafe, QuietUnpublished, RemoveFilesOnce, RemoveKeeps, RemoveLeavesUnpublished, RenameFilesOnce, RenameKeeps, RenameLeavesUnpublished, SafeIsCrashSafe, SyncFilesOnce, SyncKeeps, SyncLeavesUnpublished, WholeIsFine, WriteAsideKeeps, WriteFilesOnce, WriteKeeps, WriteLeavesUnpublished};
-ghost use Rattle.cache_theory.specs.Laws.{BegunTouchesMore, ChangesAreTouched, ChangesLeaveRest, EntriesHaveRecords, EvictIsOfNames, EvictMeetsLimit, EvictTakesOff, HasIsOfShelf, ListIsOfRecords, EvictedMayGo, ShelfStaysTable, UnusedAreTakenOff, VerifyIsOfRecords};
+ghost use Rattle.cache_theory.specs.Laws.{AltIsOfGet, AltStays, BegunTouchesMore, ChangesAreTouched, ChangesLeaveRest, EntriesHaveRecords, EvictIsOfNames, EvictMeetsLimit, EvictTakesOff, HasIsOfShelf, ListIsOfRecords, EvictedMayGo, ShelfStaysTable, UnusedAreTakenOff, VerifyIsOfRecords};
 ghost use Rattle.cache_theory.specs.Proper.{OpensProper, StaysProper};
 ghost use Rattle.cache_theory.specs.Refiled.{EntriesAreRefiled};
 ghost use Rattle.cache_theory.specs.Session.{MarksAreOfKept};
@@ -47,6 +47,12 @@ pub fn replies_go_by_scan()
     ensures verify { VerifyIsOfRecords }
     ensures list { ListIsOfRecords }
     ensures has { HasIsOfShelf }
+{}
+
+/// A `getalt` and a `main` answer by what a `get` finds, and refuse where it does. They change nothing.
+pub fn alt_goes_by_get()
+    ensures replies { AltIsOfGet }
+    ensures stays { AltStays }
 {}
 
 /// A command on entries changes what stands under one name at most, and no other name leaves the

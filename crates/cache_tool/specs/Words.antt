@@ -7,7 +7,7 @@ use Rattle.std.specs.declared.option.Option.{Option}
 use Rattle.std.specs.declared.string.String.{String}
 use Rattle.cache_base.specs.Numbers.{number_in}
 use Rattle.cache_theory.specs.Command.{Command}
-use Rattle.cache_theory.specs.Command.Command.{Doom, Evict, Flush, Get, ListRecords, Rebuild, Verify}
+use Rattle.cache_theory.specs.Command.Command.{Doom, Evict, Flush, Get, GetAlt, ListRecords, MainBody, Rebuild, Verify}
 
 -- what the words ask for, at a moment
 pub data Asked : Type 0 where
@@ -39,6 +39,8 @@ verbs =
     Verb.Alone (codes "run") (λ now. Asked.Run now)
     ∷ (Verb.WithKey (codes "put") (λ now key. Asked.Put now key)
     ∷ (Verb.WithKey (codes "get") (λ now key. Asked.One now (Get key))
+    ∷ (Verb.WithKey (codes "getalt") (λ now key. Asked.One now (GetAlt key))
+    ∷ (Verb.WithKey (codes "main") (λ now key. Asked.One now (MainBody key))
     ∷ (Verb.WithKey (codes "doom") (λ now key. Asked.One now (Doom key))
     ∷ (Verb.WithNumber (codes "evict") (λ now kb. Asked.One now (Evict kb))
     ∷ (Verb.Alone (codes "flush") (λ now. Asked.One now Flush)
@@ -46,7 +48,7 @@ verbs =
     ∷ (Verb.Alone (codes "verify") (λ now. Asked.One now Verify)
     ∷ (Verb.Alone (codes "rebuild") (λ now. Asked.One now Rebuild)
     ∷ (Verb.WithNumbers (codes "fill") fill_limit (λ now count first. Asked.Fill now count first)
-    ∷ [])))))))))
+    ∷ [])))))))))))
 
 -- a number from 1 up to the limit
 abbrev pub IsCount : ℕ → ℕ → Type 0
@@ -94,6 +96,8 @@ abbrev pub with_word : ℕ → List ℕ → List ℕ → Option Asked
 with_word now verb word =
     if pointwise nat_eq verb (codes "put") then Some (Asked.Put now word)
     else if pointwise nat_eq verb (codes "get") then Some (Asked.One now (Get word))
+    else if pointwise nat_eq verb (codes "getalt") then Some (Asked.One now (GetAlt word))
+    else if pointwise nat_eq verb (codes "main") then Some (Asked.One now (MainBody word))
     else if pointwise nat_eq verb (codes "doom") then Some (Asked.One now (Doom word))
     else if pointwise nat_eq verb (codes "evict") then option_map (λ kb. Asked.One now (Evict kb)) (number_in word)
     else None

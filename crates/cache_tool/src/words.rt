@@ -15,8 +15,8 @@ pub(crate) enum Asked<'a> {
     Run { now: Moment },
     /// `NOW put KEY`
     Put { now: Moment, key: &'a [u8] },
-    /// `NOW get KEY`, `NOW doom KEY`, `NOW evict KB`, `NOW flush`, `NOW list`, `NOW verify`,
-    /// `NOW rebuild`
+    /// `NOW get KEY`, `NOW getalt KEY`, `NOW main KEY`, `NOW doom KEY`, `NOW evict KB`,
+    /// `NOW flush`, `NOW list`, `NOW verify`, `NOW rebuild`
     One { now: Moment, command: Command<'a> },
     /// `NOW fill N FIRST`
     Fill { now: Moment, count: u32, first: u32 },
@@ -62,6 +62,14 @@ fn with_word<'a>(now: Moment, verb: &str, word: &'a [u8]) -> Option<Asked<'a>>
         "get" => Some(Asked::One {
             now,
             command: Command::Get { key: word },
+        }),
+        "getalt" => Some(Asked::One {
+            now,
+            command: Command::GetAlt { key: word },
+        }),
+        "main" => Some(Asked::One {
+            now,
+            command: Command::MainBody { key: word },
         }),
         "doom" => Some(Asked::One {
             now,

@@ -1,5 +1,5 @@
 -- The account of calls in sequence, and of one whose answer is handed on.
-use Rattle.std.proofs.Common.{◌≡◌, ◌⊎◌, ◌∙◌, Result, Ok, Err, IsErrAnd, IsTrue, refl, sym, subst, arith}
+use Rattle.std.proofs.Common.{◌≡◌, ◌⊎◌, ◌∙◌, inl, Result, Ok, Err, IsErrAnd, ap, refl, sym, subst, arith}
 use Rattle.cache_base.specs.Causes.{HasCause}
 use Rattle.disk_model.specs.Account.{Accounts, Ending, IsCalm, Looks, ending as disk_ending, fault_ending as disk_fault_ending}
 use Rattle.disk_model.specs.Calls.{FailsLast}
@@ -42,3 +42,20 @@ account_handed_on D r f (Err e) before now at is account = subst (λ e. Accounts
 pub account_then_handed_on : {T X : Type 0} {Self : _} (D : Ghosts Self) (r : Result X DiskFault) (f : DiskFault) (out : Result T HandleFault) (a b c : Self) → r ≡ Err f → IsErrAnd out (λ e. e ≡ fault_of f)
     → Accounts D Ending.NoneFailed a b → Accounts D (disk_ending r) b c → Accounts D (ending out) a c
 account_then_handed_on D r f out a b c at is first last = account_handed_on D r f out a c at is (accounts_then D (disk_ending r) a b c first last)
+
+-- a fault of the disk that is handed on as it is, after calls none of which failed
+pub calm_accounts : {Self : _} (D : Ghosts Self) (a b : Self) → IsCalm D a b → Accounts D Ending.NoneFailed a b
+calm_accounts D a b calm = record {
+  cause = record { later = let same = calm.faults in omega (arith, same); rose = λ failed. absurd (cc); kept = λ not. calm.faults };
+  went_on = λ none told. calm.no_change told;
+  stops = λ told. inl (calm.no_change told);
+}
+
+pub fault_handed_on : {T X : Type 0} (r : Result X DiskFault) (f : DiskFault) (out : Result T DiskFault) → r ≡ Err f → IsErrAnd out (λ e. e ≡ f) → disk_ending out ≡ disk_ending r
+fault_handed_on r f (Ok value) at is = absurd is
+fault_handed_on r f (Err e) at is = ap disk_fault_ending is ∙ sym (ap disk_ending at)
+
+pub calm_then_handed_on : {T X : Type 0} {Self : _} (D : Ghosts Self) (r : Result X DiskFault) (f : DiskFault) (out : Result T DiskFault) (a b c : Self) → r ≡ Err f → IsErrAnd out (λ e. e ≡ f)
+    → IsCalm D a b → Accounts D (disk_ending r) b c → Accounts D (disk_ending out) a c
+calm_then_handed_on D r f out a b c at is calm last =
+    subst (λ e. Accounts D e a c) (sym (fault_handed_on r f out at is)) (accounts_then D (disk_ending r) a b c (calm_accounts D a b calm) last)

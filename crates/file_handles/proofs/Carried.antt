@@ -20,7 +20,7 @@ use Rattle.file_handles.specs.Carries.{CarriesOut, CarriesOutAt}
 use Rattle.file_handles.specs.Changes.{ChangesAt}
 use Rattle.file_handles.specs.Held.{IsHeldAs}
 use Rattle.file_handles.specs.Kept.{Kept, with_object}
-use Rattle.file_handles.specs.Refuses.{HasAt, Passes}
+use Rattle.file_handles.specs.Refuses.{HasAt}
 use Rattle.file_handles.specs.Stands.{HandlesStand, KeepsWhere}
 use Rattle.file_handles.specs.declared.fault.HandleFault.{HandleFault}
 use Rattle.file_handles.specs.declared.fault.HandleFault.TheVariants as fault
@@ -34,7 +34,7 @@ use Rattle.file_handles.proofs.Where.{LeavesWhere, carries_out, carries_out_at}
 -- a command that passes its checks and makes this change of the slot's object in the machines that are `At`, and writes to
 -- its file only where `Writes` holds of the object, which may then go `Out`
 pub record MakesChangeAt (At : Machine → Type 0) (Out : Marks → ℕ → MachineObject → Type 0) (k : Kept) (c : Command) (slot : ℕ) (change : MachineObject → MachineObject) (Writes : MachineObject → Type 0) : Type 0 where
-  pub passes : Passes k c
+  pub passes : (m : Machine) (number : ℕ → ℕ) → IsProper m → HandlesStand k m number → At m → first_failing (checks m c) ≡ None
   pub acks : (m : Machine) (w : Marks) → acked m c w ≡ begun m c w
   pub effects : (m : Machine) (number : ℕ → ℕ) → HandlesStand k m number → At m → first_failing (checks m c) ≡ None
       → effect m c ≡ answer (stored m (number_of m slot) (change (object_of m slot))) Done
@@ -56,7 +56,7 @@ module _ (At : Machine → Type 0) (Out : Marks → ℕ → MachineObject → Ty
   slot_number = there_number k m is.number is.stands.handles slot small p x has
 
   pub change_passes : first_failing (checks m c) ≡ None
-  change_passes = makes.passes m is.number is.stands.proper is.stands.handles
+  change_passes = makes.passes m is.number is.stands.proper is.stands.handles at
 
   pub change_may : MayStand m (is.number p) (change (object m (is.number p)))
   change_may = record {
@@ -125,7 +125,7 @@ module _ (At : Machine → Type 0) (s t : State) (k after : Kept) (c : Command) 
             (subst (λ (l : Kept). KeepsWhere b (cache_at l t) (history_of (stored m (is.number p) (change (object m (is.number p)))) (begun m c w))) (sym put) stands)
 
 -- such a command is carried out: a fault is no refusal
-change_where : (At : Machine → Type 0) (s t : State) → IsSound s → (k after : Kept) (c : Command) (slot : ℕ) → slot < SLOTS → (p : ℕ) (x : Object) → HasAt k slot p x
+pub change_where : (At : Machine → Type 0) (s t : State) → IsSound s → (k after : Kept) (c : Command) (slot : ℕ) → slot < SLOTS → (p : ℕ) (x : Object) → HasAt k slot p x
     → (change : MachineObject → MachineObject) (Writes : MachineObject → Type 0) → MakesChangeAt At MayGoOut k c slot change Writes → {T : Type 0} (r : Result T HandleFault)
     → ChangesAt p change r (cache_at k s) (cache_at after t) x → ((o : MachineObject) → IsHeldAs x o → Writes o ⊎ (t ≡ s)) → OnRefused r (λ _. ⊥)
     → (b : Bool) (m : Machine) (w : Marks) → At m → KeepsWhere b (cache_at k s) (history_of m w) → LeavesWhere b c (history_of m w) (done_or r) (cache_at after t)

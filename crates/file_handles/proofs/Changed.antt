@@ -135,8 +135,8 @@ module _ {b : Bool} (s : State) (k : Kept) (m : Machine) (w : Marks) (is : Keeps
     wrote_once on = let file = file_of_it in write_files_once s t file.0 (writes_weaker s t file.0 (IsMomentOf o) (λ c. Unit {0}) (λ c moment. tt) (writes file.0 file.1)) (is.crash_kept on).once
 
     -- the call changed the object to y
-    module _ (y : Object) (sound : IsSound s) (becomes : Becomes x y (object m (is.number p)) o t) where
-      changed_to : IsChangedTo x y (object m (is.number p)) o
+    module _ (y : Object) (sound : IsSound s) (becomes : Becomes k.chunks x y (object m (is.number p)) o t) where
+      changed_to : IsChangedTo k.chunks x y (object m (is.number p)) o
       changed_to = record { same_object = becomes.same_object; keeps_chunks = becomes.keeps_chunks; as_held = becomes.as_held }
 
       same_aside : is_aside o ≡ is_aside (object m (is.number p))
@@ -254,22 +254,22 @@ module _ {b : Bool} (s : State) (k : Kept) (m : Machine) (w : Marks) (is : Keeps
 
 -- at every exit a crash may lose no more than the marks allow
 pub changed_safe : {b : Bool} (s t : State) (k : Kept) (m : Machine) (w : Marks) (is : KeepsWhere b (cache_at k s) (history_of m w)) (p : ℕ) (x : Object) (change : MachineObject → MachineObject) (changed : Result Object HandleFault)
-    → object_at k p ≡ Some x → Changes x change changed s t → MayStand m (is.number p) (change (object m (is.number p))) → MayGoOut w (is.number p) (change (object m (is.number p))) → IsTrue b → IsSafe t w
+    → object_at k p ≡ Some x → Changes k.chunks x change changed s t → MayStand m (is.number p) (change (object m (is.number p))) → MayGoOut w (is.number p) (change (object m (is.number p))) → IsTrue b → IsSafe t w
 changed_safe s t k m w is p x change changed at changes may out =
     wrote_safe s k m w is p x at (change (object m (is.number p))) may t (changes.writes (object m (is.number p)) (is_filed s k m is.number is.stands p x at)) out
 
 -- and after an Ok all stands for the machine with the object changed, where that is safe
 pub changed_in_safe : {b : Bool} (s t : State) (k : Kept) (m : Machine) (w : Marks) (is : KeepsWhere b (cache_at k s) (history_of m w)) (p : ℕ) (x y : Object) (change : MachineObject → MachineObject) (changed : Result Object HandleFault)
-    → IsSound s → object_at k p ≡ Some x → Changes x change changed s t → changed ≡ Ok y → MayStand m (is.number p) (change (object m (is.number p)))
+    → IsSound s → object_at k p ≡ Some x → Changes k.chunks x change changed s t → changed ≡ Ok y → MayStand m (is.number p) (change (object m (is.number p)))
     → (IsTrue b → IsSafe t w) → KeepsWhere b (cache_at (with_object k p (Some y)) t) (history_of (stored m (is.number p) (change (object m (is.number p)))) w)
 changed_in_safe s t k m w is p x y change changed sound at changes ok may safe =
     let o : MachineObject = object m (is.number p) in
     let filed = is_filed s k m is.number is.stands p x at in
-    let at_ok : IfOk {E = HandleFault} (Ok y) (λ y. (o : MachineObject) → IsFiledAs x o s → Becomes x y o (change o) t) = subst (λ (r : Result Object HandleFault). IfOk r (λ y. (o : MachineObject) → IsFiledAs x o s → Becomes x y o (change o) t)) ok changes.becomes in
+    let at_ok : IfOk {E = HandleFault} (Ok y) (λ y. (o : MachineObject) → IsFiledAs x o s → Becomes k.chunks x y o (change o) t) = subst (λ (r : Result Object HandleFault). IfOk r (λ y. (o : MachineObject) → IsFiledAs x o s → Becomes k.chunks x y o (change o) t)) ok changes.becomes in
     wrote_in s k m w is p x at (change o) may t (changes.writes o filed) y sound (at_ok o filed) safe
 
 pub changed_in : {b : Bool} (s t : State) (k : Kept) (m : Machine) (w : Marks) (is : KeepsWhere b (cache_at k s) (history_of m w)) (p : ℕ) (x y : Object) (change : MachineObject → MachineObject) (changed : Result Object HandleFault)
-    → IsSound s → object_at k p ≡ Some x → Changes x change changed s t → changed ≡ Ok y → MayStand m (is.number p) (change (object m (is.number p)))
+    → IsSound s → object_at k p ≡ Some x → Changes k.chunks x change changed s t → changed ≡ Ok y → MayStand m (is.number p) (change (object m (is.number p)))
     → MayGoOut w (is.number p) (change (object m (is.number p))) → KeepsWhere b (cache_at (with_object k p (Some y)) t) (history_of (stored m (is.number p) (change (object m (is.number p)))) w)
 changed_in s t k m w is p x y change changed sound at changes ok may out =
     changed_in_safe s t k m w is p x y change changed sound at changes ok may (changed_safe s t k m w is p x change changed at changes may out)

@@ -1,8 +1,8 @@
 -- The handles stand for the machine with an object changed.
-use Rattle.std.proofs.Common.{◌≡◌, ◌≢◌, inl, inr, ℕ, List, Some, true, false, refl, sym, ap, subst, ◌∙◌, arith, length-set}
+use Rattle.std.proofs.Common.{◌≡◌, ◌≢◌, ◌⊎◌, inl, inr, ℕ, List, get_or, Some, true, false, refl, sym, ap, subst, ◌∙◌, arith, length-set}
+use Rattle.std.specs.List.{All}
 use Rattle.std.specs.Prelude.{IsSome, slice_get, slice_set}
 use Rattle.std.proofs.lemmas.Bool.{cases_Bool, cases_eq}
-use Rattle.std.proofs.lemmas.List.Elements.{All-weaker}
 use Rattle.std.proofs.lemmas.Option.{slice_get_within}
 use Rattle.cache_theory.specs.Crash.{IsCrashKept, WasUnder}
 use Rattle.cache_theory.specs.Machine.{Machine, Object as MachineObject, object}
@@ -16,17 +16,17 @@ use Rattle.chunk_cache.specs.Cached.{CachedChunk}
 use Rattle.disk_model.specs.State.{State}
 use Rattle.entry_name.specs.EntryName.{file_name}
 use Rattle.file_handles.specs.Held.{IsHeldAs}
-use Rattle.file_handles.specs.HeldChunks.{ChunksStand, IsChunkInUse, KeepsChunks}
+use Rattle.file_handles.specs.HeldChunks.{ChunksStand, HasNoneOf, IsChunkInUse, KeepsChunks}
 use Rattle.file_handles.specs.Kept.{Kept, object_at, with_object}
 use Rattle.file_handles.specs.Stands.{HandlesStand, IsAt, IsObjectOf}
 use Rattle.file_handles.specs.declared.object.Object.{Object}
 use Rattle.file_handles.proofs.HeldChunkLaws.{chunk_on, keeps_own}
 use Rattle.file_handles.proofs.KeptLaws.{object_set_here, object_set_other, place_within}
 
--- the object x becomes y, which is the machine's object changed to o
-pub record IsChangedTo (x y : Object) (was o : MachineObject) : Type 0 where
+-- the object x becomes y, which is the machine's object changed to o, where these chunks are held
+pub record IsChangedTo (held : List CachedChunk) (x y : Object) (was o : MachineObject) : Type 0 where
   pub same_object : y.number ≡ x.number
-  pub keeps_chunks : KeepsChunks was o
+  pub keeps_chunks : HasNoneOf x.number held ⊎ KeepsChunks was o
   pub as_held : IsHeldAs y o
 
 module _ (k : Kept) (m : Machine) (number : ℕ → ℕ) (proper : IsProper m) (stand : HandlesStand k m number) (p : ℕ) (x : Object) (at : object_at k p ≡ Some x) (o : MachineObject) (may : MayStand m (number p) o) where
@@ -58,7 +58,7 @@ module _ (k : Kept) (m : Machine) (number : ℕ → ℕ) (proper : IsProper m) (
       kept.unburied j (object m j) (nth_there m.objects j (omega (arith, lt, l))) was
 
   -- the handles
-  module _ (y : Object) (becomes : IsChangedTo x y (object m (number p)) o) where
+  module _ (y : Object) (becomes : IsChangedTo k.chunks x y (object m (number p)) o) where
     -- what is at the places then, and was before
     pub here : (q : ℕ) → q ≡ p → object_at (with_object k p (Some y)) q ≡ Some y
     here q same = object_set_here k p q (Some y) (place_within k p x at) same
@@ -97,19 +97,25 @@ module _ (k : Kept) (m : Machine) (number : ℕ → ℕ) (proper : IsProper m) (
     numbered_at : (q : ℕ) (z : Object) → object_at k q ≡ Some z → number q ≡ z.number
     numbered_at = stand.chunks.numbered
 
-    chunk_next : (c : CachedChunk) → IsChunkInUse k m c → IsChunkInUse (with_object k p (Some y)) (stored m (number p) o) c
-    chunk_next c in_use = elim (cases_eq in_use.place p) [
+    chunk_next : (c : CachedChunk) → (c.entry ≡ x.number → KeepsChunks (object m (number p)) o) → IsChunkInUse k m c → IsChunkInUse (with_object k p (Some y)) (stored m (number p) o) c
+    chunk_next c keeps in_use = elim (cases_eq in_use.place p) [
       | inl same ↦
           let own : c.entry ≡ number p = sym (numbered_at in_use.place in_use.object in_use.at_place ∙ in_use.numbered) ∙ ap number same in
           chunk_on k (with_object k p (Some y)) m (stored m (number p) o) c in_use.place y (here in_use.place same) (becomes.same_object ∙ sym (numbered_at p x at) ∙ sym own)
           (subst (λ (i : ℕ). KeepsChunks (object m i) (object (stored m (number p) o) i)) (sym own)
-          (subst (KeepsChunks (object m (number p))) (sym (stored_here m (number p) o proper may (number p) refl)) becomes.keeps_chunks))
+          (subst (KeepsChunks (object m (number p))) (sym (stored_here m (number p) o proper may (number p) refl)) (keeps (own ∙ numbered_at p x at))))
           in_use
       | inr apart ↦
           let other : c.entry ≢ number p =
           λ e. apart (stand.apart in_use.place p in_use.object x in_use.at_place at (numbered_at in_use.place in_use.object in_use.at_place ∙ in_use.numbered ∙ e)) in
           chunk_on k (with_object k p (Some y)) m (stored m (number p) o) c in_use.place in_use.object (there in_use.place apart ∙ in_use.at_place) in_use.numbered
           (keeps_own _ _ (stored_there m (number p) o proper may c.entry other)) in_use
+    ]
+
+    chunks_held : All (IsChunkInUse (with_object k p (Some y)) (stored m (number p) o)) k.chunks
+    chunks_held i d lt = elim becomes.keeps_chunks [
+      | inl none ↦ chunk_next (get_or k.chunks i d) (λ own. absurd (none i d lt own)) (stand.chunks.held i d lt)
+      | inr keeps ↦ chunk_next (get_or k.chunks i d) (λ own. keeps) (stand.chunks.held i d lt)
     ]
 
     chunks_next : ChunksStand (with_object k p (Some y)) (stored m (number p) o) number
@@ -122,7 +128,7 @@ module _ (k : Kept) (m : Machine) (number : ℕ → ℕ) (proper : IsProper m) (
         | inr apart ↦ numbered_at q z (sym (there q apart) ∙ at_q)
       ];
       made = (let l = length-set m.objects (number p) o in let made = stand.chunks.made in omega (arith, l, made));
-      held = All-weaker (IsChunkInUse k m) (IsChunkInUse (with_object k p (Some y)) (stored m (number p) o)) chunk_next k.chunks stand.chunks.held;
+      held = chunks_held;
     }
 
     pub handles_on : HandlesStand (with_object k p (Some y)) (stored m (number p) o) number

@@ -5,8 +5,9 @@ use Rattle.std.specs.Option.{option_map_or}
 use Rattle.std.specs.Prelude.{is_some, option_map, slice_get, slice_set, unwrap_or}
 use Rattle.std.proofs.lemmas.Option.{unwrap_or-slice_get}
 use Rattle.cache_base.specs.declared.limits.TheConstants.{SLOTS}
-use Rattle.chunk_cache.specs.Cached.{CachedChunk, without_entry}
-use Rattle.file_handles.specs.Closing.{chunks_closed, chunks_left, is_use_of, without_object}
+use Rattle.chunk_cache.specs.Cached.{without_entry}
+use Rattle.file_handles.specs.Closing.{chunks_closed, chunks_left, without_object}
+use Rattle.file_handles.specs.Seats.{is_use_of}
 use Rattle.file_handles.specs.HeldChunks.{SameChunks}
 use Rattle.file_handles.specs.Kept.{Kept, number_at, object_at, use_at, with_object, with_use}
 use Rattle.file_handles.specs.declared.object.Object.{Object}
@@ -37,11 +38,6 @@ module _ (k : Kept) (slot s place : ℕ) (same : s ≡ slot) where
 
   pub left_shared : list_any (is_use_of place) (slice_set k.slots s None) ≡ true → k.chunks ≡ chunks_left k slot place
   left_shared used = sym (ap (λ b. cond b k.chunks (without_object (number_at k place) k.chunks)) (others_are true used))
-
-  pub left_bare : list_any (is_use_of place) (slice_set k.slots s None) ≡ false → object_at k place ≡ None → k.chunks ≡ chunks_left k slot place
-  left_bare free none =
-      sym (ap (λ b. cond b k.chunks (without_object (number_at k place) k.chunks)) (others_are false free)
-      ∙ ap (λ o. without_object (option_map (λ (z : Object). z.number) o) k.chunks) none)
 
   pub left_last : list_any (is_use_of place) (slice_set k.slots s None) ≡ false → (x : Object) → object_at k place ≡ Some x → without_entry x.number k.chunks ≡ chunks_left k slot place
   left_last free x at =

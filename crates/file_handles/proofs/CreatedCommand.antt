@@ -1,5 +1,5 @@
 -- What a `create` leaves at each exit.
-use Rattle.std.proofs.Common.{◌≡◌, ◌≢◌, ◌⊎◌, ℕ, ◌<◌, List, [], ◌∷◌, length, Bool, true, false, not, Option, Some, None, Result, Ok, Err, is_ok, refl, sym, ap, subst, ◌∙◌, IsTrue}
+use Rattle.std.proofs.Common.{◌≡◌, ◌⊎◌, ℕ, ◌<◌, List, [], ◌∷◌, length, Bool, true, false, not, Option, Some, None, Result, Ok, Err, is_ok, refl, sym, ap, subst, ◌∙◌, IsTrue}
 use Rattle.std.specs.List.{Contains}
 use Rattle.cache_base.specs.Bytes.{AreBytes}
 use Rattle.cache_base.specs.Checks.{first_failing}
@@ -28,7 +28,6 @@ use Rattle.file_handles.specs.Joining.{Adds}
 use Rattle.file_handles.specs.Kept.{Kept, use_at, used}
 use Rattle.file_handles.specs.Stands.{KeepsWhere, RepresentsSome}
 use Rattle.file_handles.specs.declared.fault.HandleFault.{HandleFault}
-use Rattle.file_handles.specs.declared.fault.HandleFault.TheVariants as fault
 use Rattle.file_handles.specs.declared.object.Object.{Object}
 use Rattle.file_handles.specs.declared.object.Use.{Use}
 use Rattle.file_handles.proofs.Begun.{begun_in}
@@ -139,7 +138,3 @@ doom_numbered s u k after name (m, stands) dooms =
     let h = history_of m (record { marked = m; touched = name.0 ∷ []; since = []; in_place = [] }) in
     let next = (dooms.leaves false h (touched_first name.0 []) (bare_in {h = h} stands)).next in
     (doomed_under m name.0, (next.number, next.stands))
-
--- out of memory is no refusal
-pub memory_only : (f : HandleFault) (refusal : Refusal) → f ≡ fault.Memory → f ≡ fault.Refused refusal → ⊥
-memory_only f refusal is same = let both : fault.Memory ≡ fault.Refused refusal = sym is ∙ same in cc

@@ -25,11 +25,11 @@ numbers_same objects i x lt is none =
     one_more_place objects i x lt is ∙ ap (λ o. numbers_in (take i objects) ++ filter_map (λ (y : Option ℕ). y) (o ∷ [])) none ∙ append-nil (numbers_in (take i objects))
 
 -- the number of each doomed object is one of them
-kept_number : (o : Option ℕ) (rest : List ℕ) (d : ℕ) → Contains rest d → Contains (cons_option o rest) d
+pub kept_number : (o : Option ℕ) (rest : List ℕ) (d : ℕ) → Contains rest d → Contains (cons_option o rest) d
 kept_number None rest d h = h
 kept_number (Some e) rest d h = Contains-append_right (e ∷ []) rest d h
 
-new_number : (o : Option ℕ) (rest : List ℕ) (d : ℕ) → o ≡ Some d → Contains (cons_option o rest) d
+pub new_number : (o : Option ℕ) (rest : List ℕ) (d : ℕ) → o ≡ Some d → Contains (cons_option o rest) d
 new_number o rest d is = subst (λ x. Contains (cons_option x rest) d) (sym is) (Contains-append_left (d ∷ []) rest d (0, omega arith, refl))
 
 pub number_of_doomed : (objects : List (Option Object)) (p d : ℕ) → number_in (unwrap_or (slice_get objects p) None) ≡ Some d → Contains (numbers_in objects) d
@@ -44,7 +44,7 @@ numbers_without (x ∷ xs) zero none = ap (λ n. cons_option n (numbers_in xs)) 
 numbers_without (x ∷ xs) (suc p) none = ap (cons_option (number_in x)) (numbers_without xs p none)
 
 -- there are no more of them than places, and fewer where a place has no object
-at_most_one : (o : Option ℕ) (rest : List ℕ) → length (cons_option o rest) ≤ length rest + 1
+pub at_most_one : (o : Option ℕ) (rest : List ℕ) → length (cons_option o rest) ≤ length rest + 1
 at_most_one None rest = omega arith
 at_most_one (Some n) rest = omega arith
 

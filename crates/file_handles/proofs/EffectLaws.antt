@@ -77,11 +77,11 @@ pub learnt_unfinished : (o : MachineObject) → o.finished ≡ false → learnt_
 unfolding learnt_if
 learnt_unfinished o un = ap (λ b. learnt_if o (b && not o.doomed)) un
 
-learnt_doomed : (o : MachineObject) → o.doomed ≡ true → learnt_of o ≡ effect.Same
+pub learnt_doomed : (o : MachineObject) → o.doomed ≡ true → learnt_of o ≡ effect.Same
 unfolding learnt_if
 learnt_doomed o doomed = ap (λ b. learnt_if o (o.finished && not b)) doomed ∙ ap (learnt_if o) (and_false o.finished)
 
-learnt_whole : (o : MachineObject) → o.finished ≡ true → o.doomed ≡ false → IsVersion o.version
+pub learnt_whole : (o : MachineObject) → o.finished ≡ true → o.doomed ≡ false → IsVersion o.version
     → learnt_of o ≡ effect.Wrote (record_of_meta (object_name o) (version_meta o.version) (file_len (version_meta o.version)))
 unfolding learnt_if
 learnt_whole o done undoomed is = (λ i. learnt_if o (done i && not (undoomed i))) ∙ ap (learnt_under (object_name o)) (record_is o.version is)
@@ -109,7 +109,7 @@ module _ (At : Machine → Type 0) {Out : Marks → ℕ → MachineObject → Ty
       → ((m : Machine) (number : ℕ → ℕ) → HandlesStand k m number → rewritten m c ≡ (if (change (object_of m slot)).finished then Some (number_of m slot) else None))
       → IsLearntOf change (object_at k p) e → (m : Machine) (number : ℕ → ℕ) → At m → IsProper m → HandlesStand k m number → e ≡ learnt m c
   effect_where e by_step writes is m number at proper stand =
-      let fine = makes.passes m number proper stand in
+      let fine = makes.passes m number proper stand at in
       let i : ℕ = number_of m slot in
       let o : MachineObject = change (object_of m slot) in
       let held : IsHeldAs x (object_of m slot) = subst (λ (o : MachineObject). IsHeldAs x o) (sym (there_object k m number stand slot small p x has)) (there_held k m number stand slot small p x has) in

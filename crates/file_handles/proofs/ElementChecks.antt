@@ -6,7 +6,6 @@ use Rattle.cache_base.specs.Checks.{first_failing}
 use Rattle.cache_base.specs.declared.limits.TheConstants.{ELEMENTS_MAX, SLOTS}
 use Rattle.cache_base.proofs.CheckLaws.{all_hold}
 use Rattle.cache_theory.specs.Checks.{checks, good_element, small_parts, with_value}
-use Rattle.cache_theory.specs.Command.{Command}
 use Rattle.cache_theory.specs.Command.Command.{ElementOf, SetElement, UnsetElement}
 use Rattle.cache_theory.specs.Machine.{Machine, Object as MachineObject, is_slot, is_writer, object, object_of}
 use Rattle.cache_theory.specs.declared.refusal.Refusal.{Refusal}
@@ -23,7 +22,7 @@ use Rattle.file_handles.specs.declared.object.Entry.{Entry}
 use Rattle.file_handles.specs.declared.object.Object.{Object}
 use Rattle.file_handles.specs.declared.object.Use.{Use}
 use Rattle.file_handles.proofs.ElementEntries.{finished_is, small_is}
-use Rattle.file_handles.proofs.ElementSlots.{has_object, no_slot, no_use_found, slot_is, slot_number, slot_writes, there_held, there_object}
+use Rattle.file_handles.proofs.ElementSlots.{no_slot, no_use_found, slot_is, slot_number, slot_writes, there_held, there_object}
 
 -- a refusal that is handed on
 pub handed_on : {T : Type 0} (r : Result T Refusal) (f : Refusal) (P : Refusal → Type 0) → IsErrAnd r (λ e. e ≡ f) → P f → IfErr r P
@@ -56,9 +55,6 @@ module _ (k : Kept) (s : ℕ) (small : s < SLOTS) where
   element_no_slot r is name m number proper stand =
       let parts = no_use_found (use_at k s) r is in
       fails (is_slot m s) NoSlot _ (no_slot k m number stand s small parts.0) ∙ ap Some (sym parts.1)
-
-  pub has_some : (c : Command) (end : Option Refusal) (u : Use) → use_at k s ≡ Some u → object_at k u.place ≡ None → EndsIn k c end
-  has_some c end u at none m number proper stand = absurd (has_object k m number stand s small u at none)
 
   -- whether a slot may change elements
   module _ (u : Use) (x : Object) (at : use_at k s ≡ Some u) (found : object_at k u.place ≡ Some x) (may : Bool) (may_is : (u.writes || not (is_draft x.entry)) ≡ may) where
@@ -120,10 +116,6 @@ the_object (Some x) P is = (x, (refl, is))
 pub is_there : (o : Option Object) (P : Object → Type 0) → IsSomeAnd o P → IsSome o
 is_there None P is = absurd is
 is_there (Some x) P is = refl
-
-pub not_there : (o : Option Object) (P : Object → Type 0) → IsSomeAnd o P → o ≡ None → ⊥
-not_there None P is none = is
-not_there (Some x) P is none = cc
 
 -- what is known of it beside
 pub both_right : (o : Option Object) (P Q : Object → Type 0) → IsSomeAnd o (λ x. P x × Q x) → IsSomeAnd o Q

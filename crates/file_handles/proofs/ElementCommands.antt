@@ -47,7 +47,7 @@ pub set_makes : (k : Kept) (slot : ℕ) (name value : List ℕ) → AreBytes nam
     → MakesChange k (SetElement slot name value) slot (with_elements (with_element name value)) IsFinished
 unfolding checks effect
 set_makes k slot name value name_bytes value_bytes passes = record {
-  passes = passes;
+  passes = λ m number proper stand at. passes m number proper stand;
   acks = λ m w. refl;
   effects = λ m number stand at fine. refl;
   objects = λ m proper fine.
@@ -68,7 +68,7 @@ module _ (k : Kept) (slot : ℕ) (small : slot < SLOTS) (p : ℕ) (x : Object) (
   pub unset_makes : MakesChange k (UnsetElement slot name) slot (with_elements (without_element name)) IsFinished
   unfolding checks effect
   unset_makes = record {
-    passes = passes;
+    passes = λ m number proper stand at. passes m number proper stand;
     acks = λ m w. refl;
     effects = λ m number stand at fine.
         ap (λ (o : Option (List ℕ)). cond (is_none o) (answer m NoneThere) (answer (changed m slot (λ v. record v { elements = without_element name v.elements })) Done)) (element_there m number stand);

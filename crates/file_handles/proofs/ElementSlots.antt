@@ -1,5 +1,5 @@
 -- What the machine has in a slot that the handles have.
-use Rattle.std.proofs.Common.{◌≡◌, ℕ, ◌<◌, true, false, Option, Some, None, Result, Ok, Err, IsSome, is_some, refl, ap, ◌∙◌}
+use Rattle.std.proofs.Common.{◌≡◌, ℕ, ◌<◌, true, false, Option, Some, None, Result, Ok, Err, is_some, refl, ap, ◌∙◌}
 use Rattle.std.specs.Prelude.{option_map}
 use Rattle.cache_base.specs.declared.limits.TheConstants.{SLOTS}
 use Rattle.cache_theory.specs.Machine.{Machine, is_slot, is_writer, number_of, object, object_of}
@@ -7,7 +7,7 @@ use Rattle.cache_theory.specs.declared.refusal.Refusal.{Refusal}
 use Rattle.cache_theory.specs.declared.refusal.Refusal.TheVariants.{NoSlot}
 use Rattle.cache_theory.proofs.Slots.{is_slot_of, is_writer_of, number_is}
 use Rattle.file_handles.specs.Held.{IsHeldAs}
-use Rattle.file_handles.specs.Kept.{Kept, object_at, use_at, used}
+use Rattle.file_handles.specs.Kept.{Kept, use_at, used}
 use Rattle.file_handles.specs.Refuses.{HasAt}
 use Rattle.file_handles.specs.Stands.{HandlesStand, slot_of}
 use Rattle.file_handles.specs.declared.object.Object.{Object}
@@ -48,14 +48,6 @@ module _ (k : Kept) (m : Machine) (number : ℕ → ℕ) (stand : HandlesStand k
 
     pub slot_writes : is_writer m s ≡ u.writes
     slot_writes = is_writer_of m s (number u.place) u.writes slot_has
-
-    -- which has an object
-    pub has_object : object_at k u.place ≡ None → ⊥
-    has_object none = go (object_at k u.place) none (stand.used s u at)
-      where
-        go : (o : Option Object) → o ≡ None → IsSome o → ⊥
-        go None e some = cc
-        go (Some x) e some = cc
 
   module _ (p : ℕ) (x : Object) (has : HasAt k s p x) where
     -- an object of the slot

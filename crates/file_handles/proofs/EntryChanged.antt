@@ -4,6 +4,7 @@ use Rattle.cache_theory.specs.Machine.{Object as MachineObject}
 use Rattle.cache_theory.specs.Stands.{IsObjectFile, object_file}
 use Rattle.cache_theory.proofs.EntryFiles.{finished_file_is, unfinished_file_is, unfinished_there}
 use Rattle.cache_theory.proofs.Reading.{some_of}
+use Rattle.chunk_cache.specs.Cached.{CachedChunk}
 use Rattle.disk_model.specs.State.{State, standing}
 use Rattle.disk_model.specs.Writes.{WritesAt}
 use Rattle.disk_model.specs.declared.place.Place.{Place}
@@ -95,11 +96,11 @@ module _ (hs : Header → Header) (es : List Element → List Element) where
       }
 
   -- what becomes of an object with another entry
-  entry_becomes : (x : Object) (o : MachineObject) (s t : State) (e : Entry) → IsFiledAs x o s → IsEntryOf e (with_changed o) → standing t (object_place x) ≡ Some (object_file (with_changed o))
-      → Becomes x (record { number = x.number; name = x.name; doomed = x.doomed; aside = x.aside; entry = e }) o (with_changed o) t
+  entry_becomes : {held : List CachedChunk} (x : Object) (o : MachineObject) (s t : State) (e : Entry) → IsFiledAs x o s → IsEntryOf e (with_changed o) → standing t (object_place x) ≡ Some (object_file (with_changed o))
+      → Becomes held x (record { number = x.number; name = x.name; doomed = x.doomed; aside = x.aside; entry = e }) o (with_changed o) t
   entry_becomes x o s t e filed is file = record {
     same_object = refl;
-    keeps_chunks = record { more = omega arith; same = λ i lt. refl };
+    keeps_chunks = inr (record { more = omega arith; same = λ i lt. refl });
     same_place = refl;
     same_name = refl;
     same_number = refl;
@@ -147,15 +148,15 @@ module _ (hs : Header → Header) (es : List Element → List Element) where
           (writes_at_weaker place (λ c. c ≡ file_of (rewritten (meta_of new) old_file)) (IsMomentOf (with_changed o)) s t (λ c is. inr (entry_is.0, is ∙ whole))
           (writes old_file (ap (standing s) same ∙ stands_whole)))
 
-      pub meta_becomes : ((content : List ℕ) → standing s place ≡ Some content → standing t place ≡ Some (file_of (rewritten (meta_of new) content)))
-          → Becomes x (record { number = x.number; name = x.name; doomed = x.doomed; aside = x.aside; entry = Finished new }) o (with_changed o) t
+      pub meta_becomes : {held : List CachedChunk} → ((content : List ℕ) → standing s place ≡ Some content → standing t place ≡ Some (file_of (rewritten (meta_of new) content)))
+          → Becomes held x (record { number = x.number; name = x.name; doomed = x.doomed; aside = x.aside; entry = Finished new }) o (with_changed o) t
       meta_becomes stands =
           entry_becomes x o s t (Finished new) filed (entry_is.0, meta_is)
           (ap (standing t) (sym same) ∙ stands old_file (ap (standing s) same ∙ stands_whole) ∙ ap Some (whole ∙ sym (finished_file_is (with_changed o) entry_is.0)))
 
   -- one that is being written
-  pub draft_becomes : (x : Object) (o : MachineObject) (s : State) → IsFiledAs x o s → (old new : DraftOf) → x.entry ≡ Draft old → IsDraftWith hs es old new
-      → Becomes x (record { number = x.number; name = x.name; doomed = x.doomed; aside = x.aside; entry = Draft new }) o (with_changed o) s
+  pub draft_becomes : {held : List CachedChunk} (x : Object) (o : MachineObject) (s : State) → IsFiledAs x o s → (old new : DraftOf) → x.entry ≡ Draft old → IsDraftWith hs es old new
+      → Becomes held x (record { number = x.number; name = x.name; doomed = x.doomed; aside = x.aside; entry = Draft new }) o (with_changed o) s
   draft_becomes x o s filed old new is with =
       let was = subst (λ (e : Entry). IsEntryOf e o) is filed.as_held.held_entry in
       entry_becomes x o s s (Draft new) filed (draft_held x o filed.as_held old new is with).held_entry

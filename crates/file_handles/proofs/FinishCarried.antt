@@ -1,5 +1,5 @@
 -- An object is finished by a command, or the disk failed on the way.
-use Rattle.std.proofs.Common.{◌≡◌, inl, inr, ℕ, ◌<◌, Bool, true, false, Some, None, Result, Ok, Err, IsTrue, refl, sym, ap, subst, ◌∙◌}
+use Rattle.std.proofs.Common.{◌≡◌, inl, inr, ℕ, ◌<◌, Bool, true, false, Some, None, Result, Ok, Err, IsTrue, refl, sym, subst}
 use Rattle.std.specs.Prelude.{IfOk, IsOkAnd}
 use Rattle.cache_base.specs.declared.limits.TheConstants.{SLOTS}
 use Rattle.cache_theory.specs.Command.{Command}

@@ -1,7 +1,8 @@
 -- A draft that gets bytes more.
-use Rattle.std.proofs.Common.{◌≡◌, refl, inl, List, ◌++◌, Some, sym, ap, subst, ◌∙◌, ℕ}
+use Rattle.std.proofs.Common.{◌≡◌, refl, inl, inr, List, ◌++◌, Some, sym, ap, subst, ◌∙◌, ℕ}
 use Rattle.cache_theory.specs.Machine.{Object as MachineObject}
 use Rattle.cache_theory.proofs.EntryFiles.{unfinished_file_is, unfinished_there}
+use Rattle.chunk_cache.specs.Cached.{CachedChunk}
 use Rattle.chunk_store.specs.Stored.{unfinished_file}
 use Rattle.disk_model.specs.State.{State, names_now, standing}
 use Rattle.disk_model.specs.Writes.{WritesAt}
@@ -23,10 +24,10 @@ module _ (x : Object) (d : Draft) (is : x.entry ≡ entry.Draft d) (b : List ℕ
   grown_writes writes o filed file now = writes_weaker s t file IsUnfinished (IsMomentOf (appended b o)) (λ c un. inl un.unfit) (writes file (ap (names_now s) at ∙ now))
 
   -- and it is the draft of the longer body
-  pub grown_becomes : (e : Draft) → e.header ≡ d.header → e.key ≡ d.key → e.elements ≡ d.elements
+  pub grown_becomes : {held_chunks : List CachedChunk} (e : Draft) → e.header ≡ d.header → e.key ≡ d.key → e.elements ≡ d.elements
       → ((body : List ℕ) → HasBody (held d.body) body → HasBody (held e.body) (body ++ b))
       → ((body : List ℕ) → HasBody (held d.body) body → standing s place ≡ Some (unfinished_file body) → standing t place ≡ Some (unfinished_file (body ++ b)))
-      → (o : MachineObject) → IsFiledAs x o s → Becomes x (record { number = x.number; name = x.name; doomed = x.doomed; aside = x.aside; entry = entry.Draft e }) o (appended b o) t
+      → (o : MachineObject) → IsFiledAs x o s → Becomes held_chunks x (record { number = x.number; name = x.name; doomed = x.doomed; aside = x.aside; entry = entry.Draft e }) o (appended b o) t
   grown_becomes e header key elements body stands o filed =
       let was : IsEntryOf (entry.Draft d) o = subst (λ z. IsEntryOf z o) is filed.as_held.held_entry in
       let now : IsDraftOf e (appended b o).version = record {
@@ -37,7 +38,7 @@ module _ (x : Object) (d : Draft) (is : x.entry ≡ entry.Draft d) (b : List ℕ
       } in
       record {
         same_object = refl;
-        keeps_chunks = keeps_appended b o was.0;
+        keeps_chunks = inr (keeps_appended b o was.0);
         same_place = refl;
         same_name = refl;
         same_number = refl;

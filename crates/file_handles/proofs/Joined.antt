@@ -1,5 +1,5 @@
 -- A slot that begins to use an object.
-use Rattle.std.proofs.Common.{◌≡◌, ◌∙◌, ℕ, ◌<◌, Bool, true, Option, Some, None, get_or, refl, sym, ap, subst}
+use Rattle.std.proofs.Common.{◌≡◌, ◌∙◌, ℕ, ◌<◌, ◌+◌, Bool, true, Option, Some, None, get_or, refl, sym, ap}
 use Rattle.std.specs.List.{position}
 use Rattle.std.specs.Prelude.{Ok, is_none, slice_set}
 use Rattle.std.proofs.lemmas.List.Quantifiers.{position-Some}
@@ -7,7 +7,7 @@ use Rattle.std.proofs.lemmas.Option.{unwrap_or-slice_get}
 use Rattle.cache_base.specs.declared.limits.TheConstants.{SLOTS}
 use Rattle.file_handles.specs.Finding.{is_free}
 use Rattle.file_handles.specs.Joining.{AddsTo, JoinsAt}
-use Rattle.file_handles.specs.Kept.{Kept, object_at, with_new, with_use}
+use Rattle.file_handles.specs.Kept.{Kept, object_at, with_object, with_use}
 use Rattle.file_handles.specs.declared.object.Object.{Object}
 use Rattle.file_handles.specs.declared.object.Use.{Use}
 
@@ -25,17 +25,24 @@ free_is_none k p is = go (object_at k p) refl
     go None at = refl
     go (Some x) at = absurd (let e : get_or k.objects p None ≡ Some x = sym (unwrap_or-slice_get k.objects p None) ∙ at in let n = sym (ap (λ (o : Option Object). is_none o) e) ∙ here in cc)
 
--- an object that is put at the place that was found free, for a slot
-pub added : (slot : ℕ) (x : Object) (writes : Bool) (before put after : Kept) (p : ℕ) → p < SLOTS → position is_free before.objects ≡ Some p → x.number ≡ before.made → put ≡ with_new before p x → JoinsAt slot p writes put after
+-- an object that is put at the place that was found free, for a slot that has joined it
+pub added : (slot : ℕ) (x : Object) (writes : Bool) (before joined after : Kept) (made p : ℕ) → made ≡ before.made + 1 → p < SLOTS → position is_free before.objects ≡ Some p → x.number ≡ before.made
+    → JoinsAt slot p writes (record before { made = made }) joined → after ≡ with_object joined p (Some x)
     → AddsTo slot x writes (Ok tt) before after
-added slot x writes before put after p ranged found numbered is joins = record {
+added slot x writes before joined after made p more ranged found numbered joins put = record {
   added = record {
     place = p;
     ranged = ranged;
     free = free_is_none before p found;
     numbered = numbered;
-    joins = let P : Kept → Type 0 = λ k. JoinsAt slot p writes k after in subst P is joins;
+    joins = record {
+      use_ = joins.use_;
+      placed = joins.placed;
+      writing = joins.writing;
+      same = put ∙ ap (λ k. with_object k p (Some x)) joins.same ∙ ap (λ n. record (with_use (with_object before p (Some x)) slot (Some joins.use_)) { made = n }) more;
+    };
   };
   refused = tt;
   memory = tt;
+  all_made = tt;
 }

@@ -7,9 +7,9 @@ use Rattle.std.proofs.lemmas.Bool.{cases_Bool, not-true}
 use Rattle.cache_base.specs.Checks.{first_failing}
 use Rattle.cache_base.specs.declared.name.Name.{Name}
 use Rattle.cache_base.proofs.CheckLaws.{all_hold}
-use Rattle.cache_theory.specs.Checks.{checks, with_value}
+use Rattle.cache_theory.specs.Checks.{checks, with_alt_data, with_value}
 use Rattle.cache_theory.specs.Command.{Command}
-use Rattle.cache_theory.specs.Command.Command.{At, Create, OpenKey, Append, Finish, SetElement, UnsetElement, ElementOf, UseEntry, ReadPart, Close, Doom, Get, Flush, HasEntry, HasGiven, ListRecords, ListGiven, Evict, EvictNames, StepUpdate, UpdateState, Verify, VerifyRecords, Rebuild}
+use Rattle.cache_theory.specs.Command.Command.{At, Create, OpenKey, Append, Finish, SetElement, UnsetElement, ElementOf, UseEntry, PutAlt, ReadPart, Close, Doom, Get, GetAlt, MainBody, Flush, HasEntry, HasGiven, ListRecords, ListGiven, Evict, EvictNames, StepUpdate, UpdateState, Verify, VerifyRecords, Rebuild}
 use Rattle.cache_theory.specs.Command.Reply.{Done, NoneThere}
 use Rattle.cache_theory.specs.Machine.{Machine, Object as MachineObject, is_slot, is_writer, number_of, object_of, on_shelf, used_by}
 use Rattle.cache_theory.specs.Marks.{rewritten}
@@ -160,6 +160,12 @@ module _ (m : Machine) (proper : IsProper m) (q : Name) where
         let all = all_hold (checks m (UseEntry s)) fine in
         stored_learnt m (number_of m s) (with_version (used m.moment) (object_of m s)) q (within all.0) (changed m s (used m.moment)) refl refl
 
+    puts : (kind bytes : List ℕ) → first_failing (checks m (PutAlt s kind bytes)) ≡ None → Scans m (PutAlt s kind bytes) q (effect m (PutAlt s kind bytes)).next
+    unfolding checks effect
+    puts kind bytes fine =
+        let all = all_hold (checks m (PutAlt s kind bytes)) fine in
+        stored_learnt m (number_of m s) (with_version (with_alt_data kind bytes) (object_of m s)) q (within all.0) (changed m s (with_alt_data kind bytes)) refl refl
+
     closes : first_failing (checks m (Close s)) ≡ None → Scans m (Close s) q (effect m (Close s)).next
     unfolding checks effect
     closes fine = go (is_writer m s && not (object_of m s).finished)
@@ -192,10 +198,13 @@ learnt_scanned m (SetElement s name value) of proper fine q = by_effect m proper
 learnt_scanned m (UnsetElement s name) of proper fine q = by_effect m proper q (UnsetElement s name) fine (unsets m proper q s name fine)
 learnt_scanned m (ElementOf s name) of proper fine q = by_effect m proper q (ElementOf s name) fine refl
 learnt_scanned m (UseEntry s) of proper fine q = by_effect m proper q (UseEntry s) fine (uses m proper q s fine)
+learnt_scanned m (PutAlt s kind bytes) of proper fine q = by_effect m proper q (PutAlt s kind bytes) fine (puts m proper q s kind bytes fine)
 learnt_scanned m (ReadPart s from len) of proper fine q = by_effect m proper q (ReadPart s from len) fine refl
 learnt_scanned m (Close s) of proper fine q = by_effect m proper q (Close s) fine (closes m proper q s fine)
 learnt_scanned m (Doom key) of proper fine q = gone m proper q (Doom key) key fine refl
 learnt_scanned m (Get key) of proper fine q = by_effect m proper q (Get key) fine refl
+learnt_scanned m (GetAlt key) of proper fine q = by_effect m proper q (GetAlt key) fine refl
+learnt_scanned m (MainBody key) of proper fine q = by_effect m proper q (MainBody key) fine refl
 learnt_scanned m Flush of proper fine q = by_effect m proper q Flush fine refl
 learnt_scanned m (HasEntry key) of proper fine q = by_effect m proper q (HasEntry key) fine refl
 learnt_scanned m (HasGiven key there) of proper fine q = by_effect m proper q (HasGiven key there) fine refl

@@ -5,9 +5,9 @@ use Rattle.std.proofs.lemmas.Bool.{and_parts}
 use Rattle.cache_base.specs.Checks.{first_failing}
 use Rattle.cache_base.specs.declared.name.Name.{Name}
 use Rattle.cache_base.proofs.CheckLaws.{AllHold, all_hold}
-use Rattle.cache_theory.specs.Checks.{checks, with_value}
+use Rattle.cache_theory.specs.Checks.{checks, with_alt_data, with_value}
 use Rattle.cache_theory.specs.Command.{Command}
-use Rattle.cache_theory.specs.Command.Command.{Create, Doom, Finish, SetElement, UnsetElement, UseEntry, Close}
+use Rattle.cache_theory.specs.Command.Command.{Create, Doom, Finish, SetElement, UnsetElement, UseEntry, PutAlt, Close}
 use Rattle.cache_theory.specs.Command.Reply.{Done, NoneThere}
 use Rattle.cache_theory.specs.Machine.{Machine, Object as MachineObject, is_writer, number_of, object, object_of}
 use Rattle.cache_theory.specs.Marks.{rewritten}
@@ -67,6 +67,8 @@ written_done m (UnsetElement s name) proper hold =
     (unset_done m s (slot_in_use m proper s hold.0).number (λ v. record v { elements = without_element name v.elements }) (element name (object_of m s).version.elements))
 written_done m (UseEntry s) proper hold =
     where_done (changed m s (used m.moment)) (number_of m s) (object_of m s).finished (changed_done m s (slot_in_use m proper s hold.0).number (used m.moment))
+written_done m (PutAlt s kind bytes) proper hold =
+    where_done (changed m s (with_alt_data kind bytes)) (number_of m s) (object_of m s).finished (changed_done m s (slot_in_use m proper s hold.0).number (with_alt_data kind bytes))
 written_done m (Close s) proper hold =
     where_done (released (finished_by m s) s) (number_of m s) (is_writer m s && not (object_of m s).finished) (λ writes.
     ap (λ objects. (nth objects (number_of m s)).finished) (released_objects (finished_by m s) s) ∙ completed_done m s (slot_in_use m proper s hold.0).number writes)

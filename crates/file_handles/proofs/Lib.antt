@@ -17,6 +17,8 @@ pub mod InChunk
 pub mod ElementChecks
 pub mod ElementMarks
 pub mod Writers
+pub mod LiveUses
+pub mod NoSlots
 pub mod PutBack
 pub mod Grown
 pub mod Completed
@@ -43,6 +45,7 @@ pub mod FoundUser
 pub mod FoundShelf
 pub mod Found
 pub mod Joined
+pub mod SeatLaws
 pub mod DoomedChecks
 pub mod DoomedCarried
 pub mod DoomedBut
@@ -71,3 +74,6 @@ pub mod PartsSlots
 pub mod ChunkLists
 pub mod ReadChunks
 pub mod ReadKept
+pub mod AltChecks
+pub mod LongerEntry
+pub mod AltCommand

@@ -1,8 +1,8 @@
 -- The part of a body in a chunk.
-use Rattle.std.proofs.Common.{◌≡◌, ◌∙◌, inl, inr, ℕ, ◌+◌, ◌-◌, ◌*◌, ◌/◌, ◌%◌, ◌<◌, ◌≤◌, List, [], ◌++◌, length, length-append, length-drop, min, take, drop, Bool, true, false, cond, refl, sym, ap, arith}
+use Rattle.std.proofs.Common.{◌≡◌, ◌∙◌, inl, inr, ℕ, ◌+◌, ◌-◌, ◌*◌, ◌/◌, ◌%◌, ◌<◌, ◌≤◌, List, [], length, length-drop, min, take, drop, Bool, true, false, cond, refl, sym, ap, arith}
 use Rattle.std.proofs.Common.{◌⊎◌, None, Result, Ok, Err, eqb-true}
 use Rattle.std.specs.Prelude.{◌==◌, ◌||◌, OnOk, nat_le}
-use Rattle.std.proofs.lemmas.List.{drop-drop, drop-take, drop_all, length-take, length-take-le, take-append-drop, take-take, take_all, take_at}
+use Rattle.std.proofs.lemmas.List.{drop-drop, drop-take, drop_all, length-take, length-take-le, take-append-drop, take-take, take_all}
 use Rattle.std.proofs.lemmas.Bool.{cases_Bool, eqb-false, leb-false, leb-true}
 use Rattle.std.proofs.Common.{leb}
 use Rattle.cache_theory.specs.Machine.{Object as MachineObject}

@@ -16,7 +16,7 @@ use Rattle.file_handles.specs.declared.fault.HandleFault.{HandleFault}
 use Rattle.file_handles.specs.declared.fault.HandleFault.TheVariants as fault
 use Rattle.file_handles.specs.declared.object.Object.{Object}
 use Rattle.file_handles.specs.declared.object.Use.{Use}
-use Rattle.file_handles.proofs.ElementSlots.{has_object, no_slot, no_use_found, slot_number, use_found}
+use Rattle.file_handles.proofs.ElementSlots.{no_slot, no_use_found, slot_number, use_found}
 use Rattle.file_handles.proofs.ElementEntries.{body_len_is}
 
 -- a refusal that is handed on
@@ -38,11 +38,7 @@ module _ (k : Kept) (s : ℕ) (small : s < SLOTS) where
   part_passes u found from len m number proper stand =
       ap (λ b. cond b None (Some NoSlot)) (ap is_some (stand.slots s small ∙ ap (option_map (slot_of number)) found))
 
-  -- and it has an object
-  pub part_no_object : (r : Refusal) (u : Use) → used (use_at k s) ≡ Ok u → object_at k u.place ≡ None → (from len : ℕ) → Refuses k (ReadPart s from len) r
-  part_no_object r u is none from len m number proper stand = absurd (has_object k m number stand s small u (use_found (use_at k s) u is) none)
-
-  -- which is the machine's
+  -- its object is the machine's
   pub part_object : (m : Machine) (number : ℕ → ℕ) → HandlesStand k m number → (u : Use) → used (use_at k s) ≡ Ok u → object_of m s ≡ object m (number u.place)
   part_object m number stand u is = ap (object m) (slot_number k m number stand s small u (use_found (use_at k s) u is))
 

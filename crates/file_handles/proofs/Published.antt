@@ -1,10 +1,9 @@
 -- An unfinished object is finished: its file is written whole, and published where the object is undoomed.
-use Rattle.std.proofs.Common.{◌≡◌, ◌≢◌, inl, inr, ℕ, List, Option, Some, None, Result, Ok, is_some, true, false, refl, sym, ap, subst, ◌∙◌, arith, length-set, Bool, IsTrue}
+use Rattle.std.proofs.Common.{◌≡◌, ◌≢◌, inl, inr, ℕ, List, Option, Some, None, is_some, true, false, refl, sym, ap, subst, ◌∙◌, arith, length-set, Bool, IsTrue}
 use Rattle.std.specs.Prelude.{if◌then◌else◌}
-use Rattle.std.proofs.lemmas.Bool.{cases_Bool, cases_eq}
-use Rattle.cache_base.specs.declared.name.Name.{Name}
+use Rattle.std.proofs.lemmas.Bool.{cases_eq}
 use Rattle.cache_theory.specs.Crash.{IsCrashKept, IsFine, IsSafe, WasUnder}
-use Rattle.cache_theory.specs.Ever.{EverAt, IsFiledOnce, IsUnpublished, entries, entry_place}
+use Rattle.cache_theory.specs.Ever.{EverAt, IsFiledOnce, IsUnpublished, entry_place}
 use Rattle.cache_theory.specs.Machine.{Machine, Object as MachineObject, object}
 use Rattle.cache_theory.specs.Marks.{IsSince, Marks, is_buried, is_touched}
 use Rattle.cache_theory.specs.Stands.{AsideStand, EntriesStand, HasObjectFile, IsHeldAside, is_aside, object_file}
@@ -23,10 +22,10 @@ use Rattle.cache_theory.proofs.Storing.{MayStand, proper_stored, stored_there}
 use Rattle.cache_theory.proofs.Unpublished.{sync_leaves_unpublished, write_leaves_unpublished}
 use Rattle.disk_model.specs.Sound.{IsSound}
 use Rattle.disk_model.specs.Standing.{Moves, Puts}
-use Rattle.disk_model.specs.State.{State, content, content_of, names_now, renamed, settled, standing}
+use Rattle.disk_model.specs.State.{State, content, content_of, names_now, settled, standing}
 use Rattle.disk_model.specs.Writes.{WritesAt, WritesTo}
 use Rattle.disk_model.specs.declared.place.Place.TheVariants.{Doomed, Entry}
-use Rattle.disk_model.proofs.Places.{is_same-apart, is_same-refl}
+use Rattle.disk_model.proofs.Places.{is_same-apart}
 use Rattle.disk_model.proofs.Sound.{sound_settled}
 use Rattle.disk_model.proofs.Standing.{renamed_moves, settled_same}
 use Rattle.disk_model.proofs.Written.{writes_puts}
@@ -34,7 +33,7 @@ use Rattle.entry_file.specs.Version.{IsFileOf, file_of}
 use Rattle.entry_file.proofs.EntryLaws.{is_file_of}
 use Rattle.entry_name.specs.EntryName.{file_name}
 use Rattle.file_handles.specs.Cache.{cache_at}
-use Rattle.file_handles.specs.Changes.{Becomes, IsMomentOf}
+use Rattle.file_handles.specs.Changes.{IsMomentOf}
 use Rattle.file_handles.specs.Held.{IsHeldAs, object_place, place_of}
 use Rattle.file_handles.specs.HeldChunks.{KeepsChunks}
 use Rattle.file_handles.specs.Kept.{Kept, object_at, with_object}
@@ -177,7 +176,7 @@ module _ {b : Bool} (s : State) (k : Kept) (m : Machine) (w : Marks) (is : Keeps
           ∙ puts.others (Doomed e) (λ same. apart (one_doomed e d (same ∙ place_is)))
 
       -- the object becomes y
-      module _ (y : Object) (becomes : IsChangedTo x y (object m (is.number p)) o) (no_more : y.aside ≡ None) where
+      module _ (y : Object) (becomes : IsChangedTo k.chunks x y (object m (is.number p)) o) (no_more : y.aside ≡ None) where
         out_o : is_aside o ≡ false
         out_o = sym becomes.as_held.aside ∙ ap is_some no_more
 
@@ -302,10 +301,10 @@ module _ {b : Bool} (s : State) (k : Kept) (m : Machine) (w : Marks) (is : Keeps
       → KeepsWhere b (cache_at (with_object k p (Some y)) (published_by x.name x.doomed x.aside u)) (history_of (stored m (is.number p) o) w)
   whole_in y sound_s sound becomes_whole is_o out = go x.doomed x.aside refl refl
     where
-      changed_to : IsChangedTo x y (object m (is.number p)) o
+      changed_to : IsChangedTo k.chunks x y (object m (is.number p)) o
       changed_to = record {
         same_object = becomes_whole.same_object;
-        keeps_chunks = subst (λ z. KeepsChunks (object m (is.number p)) z) (sym is_o) becomes_whole.keeps_chunks;
+        keeps_chunks = inr (subst (λ z. KeepsChunks (object m (is.number p)) z) (sym is_o) becomes_whole.keeps_chunks);
         as_held = subst (IsHeldAs y) (sym is_o) becomes_whole.as_held;
       }
 

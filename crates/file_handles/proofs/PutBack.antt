@@ -21,7 +21,7 @@ use Rattle.file_handles.specs.declared.object.Object.{Object}
 pub put_back : (k mid after : Kept) (p : ℕ) (x : Option Object) → mid ≡ with_object k p None → after ≡ with_object mid p x → after ≡ with_object k p x
 put_back k mid after p x taken put = put ∙ ap (λ j. with_object j p x) taken ∙ ap (λ objects. record k { objects = objects }) (set-set k.objects p None x)
 
-one_object : (k : Kept) (p : ℕ) (x y : Object) → object_at k p ≡ Some x → object_at k p ≡ Some y → x ≡ y
+pub one_object : (k : Kept) (p : ℕ) (x y : Object) → object_at k p ≡ Some x → object_at k p ≡ Some y → x ≡ y
 one_object k p x y at also = let both : Some x ≡ Some y = sym at ∙ also in cc
 
 module _ {T : Type 0} (p : ℕ) (change : MachineObject → MachineObject) (answer : Result T HandleFault) (s t : State) (before after : Kept) (x : Object) (at : object_at before p ≡ Some x)
@@ -35,7 +35,7 @@ module _ {T : Type 0} (p : ℕ) (change : MachineObject → MachineObject) (answ
   })
 
   -- and else the changed object
-  pub changes_done : (y : Object) → ((o : MachineObject) → IsFiledAs x o s → Becomes x y o (change o) t) → after ≡ with_object before p (Some y) → (z : Object) → object_at before p ≡ Some z
+  pub changes_done : (y : Object) → ((o : MachineObject) → IsFiledAs x o s → Becomes before.chunks x y o (change o) t) → after ≡ with_object before p (Some y) → (z : Object) → object_at before p ≡ Some z
       → ChangesAt p change answer (cache_at before s) (cache_at after t) z
   changes_done y becomes put z also = subst (ChangesAt p change answer (cache_at before s) (cache_at after t)) (one_object before p x z at also) (record {
     changed = Ok y;

@@ -11,7 +11,7 @@ use Rattle.cache_theory.specs.Step.{released, with_slot}
 use Rattle.cache_theory.proofs.Releasing.{without_slot, without_use}
 use Rattle.cache_theory.proofs.Slots.{HasSlot, same_use, slot_kept, use_of, with_slot_other, with_slot_same}
 use Rattle.entry_name.specs.EntryName.{file_name}
-use Rattle.file_handles.specs.Closing.{is_use_of}
+use Rattle.file_handles.specs.Seats.{is_use_of}
 use Rattle.file_handles.specs.Kept.{Kept, object_at, use_at, with_use}
 use Rattle.file_handles.specs.Stands.{HandlesStand, slot_of}
 use Rattle.file_handles.specs.declared.object.Object.{Object}

@@ -25,7 +25,8 @@ use Rattle.disk_model.specs.declared.place.Place.TheVariants.{Doomed}
 use Rattle.disk_model.proofs.Sound.{found}
 use Rattle.disk_model.proofs.Standing.{removed_puts}
 use Rattle.file_handles.specs.Cache.{cache_at}
-use Rattle.file_handles.specs.Closing.{is_use_of, let_go_by, without_doomed}
+use Rattle.file_handles.specs.Closing.{let_go_by, without_doomed}
+use Rattle.file_handles.specs.Seats.{is_use_of}
 use Rattle.file_handles.specs.HeldChunks.{IsChunkInUse}
 use Rattle.file_handles.specs.Kept.{Kept, object_at, use_at, with_object, with_use, without_chunks}
 use Rattle.file_handles.specs.Stands.{HandlesStand, IsAt, KeepsWhere}

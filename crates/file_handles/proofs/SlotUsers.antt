@@ -9,7 +9,7 @@ use Rattle.cache_base.specs.declared.name.Name.{Name}
 use Rattle.cache_theory.specs.Machine.{Machine}
 use Rattle.cache_theory.specs.Proper.{IsProper}
 use Rattle.cache_theory.proofs.Slots.{HasSlot, same_use, slot_of as slot_with, use_of}
-use Rattle.file_handles.specs.Closing.{is_use_of}
+use Rattle.file_handles.specs.Seats.{is_use_of}
 use Rattle.file_handles.specs.Finding.{is_user}
 use Rattle.file_handles.specs.Kept.{Kept, object_at, use_at}
 use Rattle.file_handles.specs.Stands.{HandlesStand, slot_of}

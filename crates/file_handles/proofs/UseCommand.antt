@@ -40,7 +40,7 @@ pub use_makes : (now : ℕ) → now < 2 ^ 32 → (k : Kept) (slot : ℕ) → Pas
     → MakesChangeAt (λ m. m.moment ≡ now) MayGoOut k (UseEntry slot) slot (with_version (used now)) IsFinished
 unfolding checks effect
 use_makes now within k slot passes = record {
-  passes = passes;
+  passes = λ m number proper stand at. passes m number proper stand;
   acks = λ m w. refl;
   effects = λ m number stand moment fine. ap (λ n. answer (changed m slot (used n)) Done) moment;
   objects = λ m proper fine.

@@ -33,7 +33,7 @@ append_out m w slot bytes passes un = record {
 pub append_makes : (k : Kept) (slot : ℕ) (bytes : List ℕ) → AreBytes bytes → Passes k (Append slot bytes) → MakesChange k (Append slot bytes) slot (appended bytes) (λ o. Unit {0})
 unfolding checks effect
 append_makes k slot bytes are passes = record {
-  passes = passes;
+  passes = λ m number proper stand at. passes m number proper stand;
   acks = λ m w. refl;
   effects = λ m number stand at fine. refl;
   objects = λ m proper fine.
@@ -51,7 +51,7 @@ append_makes k slot bytes are passes = record {
 pub finish_makes : (k : Kept) (slot : ℕ) → Passes k (Finish slot) → MakesChangeAt (λ m. Unit {0}) MayFinish k (Finish slot) slot completed (λ o. o.finished ≡ false)
 unfolding checks effect
 finish_makes k slot passes = record {
-  passes = passes;
+  passes = λ m number proper stand at. passes m number proper stand;
   acks = λ m w. refl;
   effects = λ m number stand at fine.
       let all = all_hold (checks m (Finish slot)) fine in

@@ -57,7 +57,7 @@ finish_ends_by (entry.Draft d) o is = ap (λ b. cond (not b) None (Some refused.
 
 module _ (k : Kept) (s : ℕ) (small : s < SLOTS) where
   -- no slot that writes
-  no_writer : (r : Refusal) → writing (use_at k s) ≡ Err r → (m : Machine) (number : ℕ → ℕ) → HandlesStand k m number → (rest : List Check) → first_failing (slot_used m s ∷ writer m s ∷ rest) ≡ Some r
+  pub no_writer : (r : Refusal) → writing (use_at k s) ≡ Err r → (m : Machine) (number : ℕ → ℕ) → HandlesStand k m number → (rest : List Check) → first_failing (slot_used m s ∷ writer m s ∷ rest) ≡ Some r
   no_writer r is m number stand rest = go (use_at k s) refl is
     where
       unused : use_at k s ≡ None → refused.NoSlot ≡ r → first_failing (slot_used m s ∷ writer m s ∷ rest) ≡ Some r
@@ -85,13 +85,13 @@ module _ (k : Kept) (s : ℕ) (small : s < SLOTS) where
   finish_no_writer r is m number proper stand = no_writer r is m number stand (unfinished m s ∷ [])
 
   module _ (u : Use) (x : Object) (is : writing (use_at k s) ≡ Ok u) (found : object_at k u.place ≡ Some x) where
-    is_writing : (m : Machine) (number : ℕ → ℕ) → HandlesStand k m number → (rest : List Check) → first_failing (slot_used m s ∷ writer m s ∷ rest) ≡ first_failing rest
+    pub is_writing : (m : Machine) (number : ℕ → ℕ) → HandlesStand k m number → (rest : List Check) → first_failing (slot_used m s ∷ writer m s ∷ rest) ≡ first_failing rest
     is_writing m number stand rest =
         let parts = writer_found (use_at k s) u is in
         cond-true (is_slot m s) _ (Some refused.NoSlot) (slot_is k m number stand s small u parts.0)
         ∙ cond-true (is_writer m s) _ (Some refused.NotWriter) (slot_writes k m number stand s small u parts.0 ∙ parts.1)
 
-    object_is : (m : Machine) (number : ℕ → ℕ) → HandlesStand k m number → object_of m s ≡ object m (number u.place)
+    pub object_is : (m : Machine) (number : ℕ → ℕ) → HandlesStand k m number → object_of m s ≡ object m (number u.place)
     object_is m number stand = ap (object m) (slot_number k m number stand s small u (writer_found (use_at k s) u is).0)
 
     pub append_ends : (bytes : List ℕ) (more : ℕ) → length bytes ≡ more → EndsIn k (Append s bytes) (ending (grow_fault x.entry more))

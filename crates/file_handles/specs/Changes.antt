@@ -3,13 +3,14 @@ use Rattle.std.specs.Prelude.{IfOk, IsOkAnd, List, OnOk, Result, Some, false, tr
 use Rattle.cache_theory.specs.Machine.{Object as MachineObject}
 use Rattle.cache_theory.specs.Proper.{IsObject}
 use Rattle.cache_theory.specs.Stands.{HasObjectFile, object_file}
+use Rattle.chunk_cache.specs.Cached.{CachedChunk}
 use Rattle.disk_model.specs.State.{State, standing}
 use Rattle.disk_model.specs.Writes.{WritesAt}
 use Rattle.entry_file.specs.EntryFile.{fits}
 use Rattle.entry_file.specs.Version.{Version, file_of}
 use Rattle.file_handles.specs.Cache.{Cache}
 use Rattle.file_handles.specs.Held.{IsHeldAs, object_place}
-use Rattle.file_handles.specs.HeldChunks.{KeepsChunks}
+use Rattle.file_handles.specs.HeldChunks.{HasNoneOf, KeepsChunks}
 use Rattle.file_handles.specs.Kept.{object_at, with_object}
 use Rattle.file_handles.specs.declared.fault.HandleFault.{HandleFault}
 use Rattle.file_handles.specs.declared.object.Object.{Object}
@@ -26,29 +27,32 @@ pub record IsFiledAs (x : Object) (o : MachineObject) (s : State) : Type 0 where
   pub object : IsObject o
   pub file : HasObjectFile o (standing s (object_place x))
 
--- the object that x becomes is that of a change of the machine's object from `o` to `next`
-pub record Becomes (x y : Object) (o next : MachineObject) (t : State) : Type 0 where
+-- the object that x becomes is that of a change of the machine's object from `o` to `next`. Its chunks that are on the disk
+-- stay as they are, unless none of them is held
+pub record Becomes (held : List CachedChunk) (x y : Object) (o next : MachineObject) (t : State)
+    : Type 0 where
   pub same_object : y.number ≡ x.number
-  pub keeps_chunks : KeepsChunks o next
+  pub keeps_chunks : HasNoneOf x.number held ⊎ KeepsChunks o next
   pub same_place : object_place y ≡ object_place x
   pub same_name : y.name ≡ x.name
   pub same_number : y.aside ≡ x.aside
   pub as_held : IsHeldAs y next
   pub file : standing t (object_place x) ≡ Some (object_file next)
 
--- a call makes this change of every machine's object that x is: at every exit its file alone was
--- written to, and after an Ok it is changed
-pub record Changes (x : Object) (change : MachineObject → MachineObject)
+-- a call makes this change of every machine's object that x is, where these chunks are held: at
+-- every exit its file alone was written to, and after an Ok it is changed
+pub record Changes (held : List CachedChunk) (x : Object) (change : MachineObject → MachineObject)
     (changed : Result Object HandleFault) (s t : State) : Type 0 where
   pub writes : (o : MachineObject) → IsFiledAs x o s
       → WritesAt (object_place x) (IsMomentOf (change o)) s t
-  pub becomes : IfOk changed (λ y. (o : MachineObject) → IsFiledAs x o s → Becomes x y o (change o) t)
+  pub becomes : IfOk changed (λ y. (o : MachineObject) → IsFiledAs x o s
+      → Becomes held x y o (change o) t)
 
 -- it makes it of the object at a place, and changes nothing else of the handles
 pub record ChangesAt {T : Type 0} (p : ℕ) (change : MachineObject → MachineObject)
     (answer : Result T HandleFault) (before after : Cache) (x : Object) : Type 0 where
   pub changed : Result Object HandleFault
-  pub changes : Changes x change changed before.disk after.disk
+  pub changes : Changes before.handles.chunks x change changed before.disk after.disk
   pub put_back : OnOk answer
       (IsOkAnd changed (λ y. after.handles ≡ with_object before.handles p (Some y)))
 

@@ -1,7 +1,7 @@
 -- When a slot is given up.
 use Rattle.std.specs.List.{list_any}
 use Rattle.std.specs.Option.{option_map_or}
-use Rattle.std.specs.Prelude.{Bool, IsSome, IsSomeAnd, List, None, OnOk, Option, Result, Some, false, if◌then◌else◌, is_some, option_map, unwrap_or, ℕ, ◌&&◌, ◌==◌, ◌≡◌}
+use Rattle.std.specs.Prelude.{Bool, IsSome, IsSomeAnd, List, None, OnOk, Option, Result, Some, false, if◌then◌else◌, is_some, option_map, unwrap_or, ℕ, ◌&&◌, ◌≡◌}
 use Rattle.cache_theory.specs.Command.Command.{Close}
 use Rattle.cache_theory.specs.Crash.{IsSafe}
 use Rattle.cache_theory.specs.Ever.{entries}
@@ -17,14 +17,10 @@ use Rattle.disk_model.specs.declared.place.Place.TheVariants.{Doomed}
 use Rattle.file_handles.specs.Cache.{Cache}
 use Rattle.file_handles.specs.Held.{is_draft, object_place}
 use Rattle.file_handles.specs.Kept.{Kept, number_at, object_at, use_at, with_use}
+use Rattle.file_handles.specs.Seats.{is_use_of}
 use Rattle.file_handles.specs.Stands.{KeepsTo, KeepsWhere, ReachesHistory, Represents}
 use Rattle.file_handles.specs.declared.fault.HandleFault.{HandleFault}
 use Rattle.file_handles.specs.declared.object.Object.{Object}
-use Rattle.file_handles.specs.declared.object.Use.{Use}
-
--- the use is of this place
-abbrev pub is_use_of : ℕ → Option Use → Bool
-is_use_of p u = unwrap_or (option_map (λ v. v.place == p) u) false
 
 -- a slot but this one uses the place
 abbrev pub other_uses : Kept → ℕ → ℕ → Bool

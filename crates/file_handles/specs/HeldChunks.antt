@@ -1,6 +1,6 @@
 -- The chunks of bodies that are held in memory.
 use Rattle.std.specs.List.{All}
-use Rattle.std.specs.Prelude.{IsSome, List, None, Some, if◌then◌else◌, length, ℕ, ◌/◌, ◌<◌, ◌≡◌, ◌≤◌, ◌⊎◌}
+use Rattle.std.specs.Prelude.{IsSome, List, None, Some, if◌then◌else◌, length, ℕ, ◌/◌, ◌<◌, ◌≡◌, ◌≢◌, ◌≤◌, ◌⊎◌}
 use Rattle.cache_base.specs.Limits.{chunk_size, chunks}
 use Rattle.cache_theory.specs.Machine.{Machine, Object as MachineObject, object as object_of_number}
 use Rattle.chunk_cache.specs.Cached.{CachedChunk, bytes_of, looked_at, with_chunk, with_room}
@@ -37,6 +37,10 @@ pub record ChunksStand (k : Kept) (m : Machine) (number : ℕ → ℕ) : Type 0 
 pub record KeepsChunks (o next : MachineObject) : Type 0 where
   pub more : chunks_on_disk o ≤ chunks_on_disk next
   pub same : (i : ℕ) → i < chunks_on_disk o → chunk o.version.body i ≡ chunk next.version.body i
+
+-- none of the chunks is of the object of this number
+abbrev pub HasNoneOf : ℕ → List CachedChunk → Type 0
+HasNoneOf number held = All (λ c. c.entry ≢ number) held
 
 -- Which chunks are held after a call.
 

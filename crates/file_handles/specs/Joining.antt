@@ -1,5 +1,5 @@
 -- How a slot begins to use an object.
-use Rattle.std.specs.Prelude.{Bool, IfErr, None, OnOk, Result, Some, ℕ, ◌<◌, ◌≡◌}
+use Rattle.std.specs.Prelude.{Bool, IfErr, None, OnErr, OnOk, Result, Some, ℕ, ◌-◌, ◌<◌, ◌^◌, ◌≡◌}
 use Rattle.cache_base.specs.declared.limits.TheConstants.{SLOTS}
 use Rattle.file_handles.specs.Answers.{OnRefused}
 use Rattle.file_handles.specs.Kept.{Kept, object_at, with_new, with_use}
@@ -23,9 +23,10 @@ pub record Adds (slot : ℕ) (object : Object) (writes : Bool) (before after : K
   pub numbered : object.number ≡ before.made
   pub joins : JoinsAt slot place writes (with_new before place object) after
 
--- so it is after an Ok, and the only fault is that memory ran out
+-- so it is after an Ok, and the only fault is that so many objects were made that there is no number for one more
 pub record AddsTo (slot : ℕ) (object : Object) (writes : Bool)
     (answer : Result (Unit {0}) HandleFault) (before after : Kept) : Type 0 where
   pub added : OnOk answer (Adds slot object writes before after)
   pub refused : OnRefused answer (λ r. ⊥)
   pub memory : IfErr answer (λ f. f ≡ fault.Memory)
+  pub all_made : OnErr answer (before.made ≡ 2 ^ 64 - 1)

@@ -1,5 +1,5 @@
 -- What the handles keep: an object at some of the places, a use for some of the slots, and chunks of bodies.
-use Rattle.std.specs.Prelude.{Err, List, None, Ok, Option, Result, Some, if◌then◌else◌, option_and_then, option_map, slice_get, slice_set, unwrap_or, ℕ, ◌+◌}
+use Rattle.std.specs.Prelude.{Err, List, None, Ok, Option, Result, Some, if◌then◌else◌, is_some, option_and_then, option_map, slice_get, slice_set, unwrap_or, ℕ, ◌+◌}
 use Rattle.cache_theory.specs.declared.refusal.Refusal.{Refusal}
 use Rattle.cache_theory.specs.declared.refusal.Refusal.TheVariants as refused
 use Rattle.chunk_cache.specs.Cached.{CachedChunk, without_entry}
@@ -16,7 +16,7 @@ pub record Kept : Type 0 where
   pub chunks : List CachedChunk
 
 abbrev pub kept : Handles → Kept
-kept h = record { objects = h.objects; slots = h.slots; made = h.made; chunks = h.chunks }
+kept h = record { objects = h.table.objects; slots = h.table.slots; made = h.made; chunks = h.chunks }
 
 -- the object at a place, the use of a slot, and the object of a slot
 abbrev pub object_at : Kept → ℕ → Option Object
@@ -27,6 +27,13 @@ use_at k s = unwrap_or (slice_get k.slots s) None
 
 abbrev pub object_in : Kept → ℕ → Option Object
 object_in k s = option_and_then (λ u. object_at k u.place) (use_at k s)
+
+-- the use of a slot, where its object is there
+abbrev pub if_there : Kept → Use → Option Use
+if_there k u = if is_some (object_at k u.place) then Some u else None
+
+abbrev pub live_use : Kept → ℕ → Option Use
+live_use k s = option_and_then (if_there k) (use_at k s)
 
 -- the number of the object at a place
 abbrev pub number_at : Kept → ℕ → Option ℕ

@@ -1,5 +1,6 @@
 pub mod Answers
 pub mod Held
+pub mod Seats
 pub mod Kept
 pub mod Cache
 pub mod HeldChunks
@@ -11,6 +12,7 @@ pub mod Publishing
 pub mod Finding
 pub mod Growing
 pub mod Setting
+pub mod PuttingAlt
 pub mod Reading
 pub mod Resting
 pub mod Loading

@@ -1,5 +1,5 @@
 -- Commands that the machine refuses, and those that it does not, as the handles alone tell.
-use Rattle.std.specs.Prelude.{IsSomeAnd, None, Option, Some, option_map, ℕ, ◌<◌, ◌≡◌}
+use Rattle.std.specs.Prelude.{Err, IsSomeAnd, None, Option, Result, Some, option_map, ℕ, ◌↔◌, ◌<◌, ◌≡◌}
 use Rattle.cache_base.specs.Checks.{first_failing}
 use Rattle.cache_base.specs.declared.limits.TheConstants.{SLOTS}
 use Rattle.cache_theory.specs.Checks.{checks}
@@ -7,8 +7,11 @@ use Rattle.cache_theory.specs.Command.{Command}
 use Rattle.cache_theory.specs.Machine.{Machine}
 use Rattle.cache_theory.specs.Proper.{IsProper}
 use Rattle.cache_theory.specs.declared.refusal.Refusal.{Refusal}
-use Rattle.file_handles.specs.Kept.{Kept, object_at, use_at}
+use Rattle.cache_theory.specs.declared.refusal.Refusal.TheVariants as refused
+use Rattle.file_handles.specs.Kept.{Kept, object_at, object_in, use_at}
 use Rattle.file_handles.specs.Stands.{HandlesStand}
+use Rattle.file_handles.specs.declared.fault.HandleFault.{HandleFault}
+use Rattle.file_handles.specs.declared.fault.HandleFault.TheVariants as fault
 use Rattle.file_handles.specs.declared.object.Object.{Object}
 
 -- whatever machine the handles stand for, its checks of the command end so
@@ -22,6 +25,18 @@ Refuses k c r = EndsIn k c (Some r)
 
 abbrev pub Passes : Kept → Command → Type 0
 Passes k c = EndsIn k c None
+
+-- the slot has no object, and that is the refusal
+abbrev pub HasNoObject : Kept → ℕ → Refusal → Type 0
+HasNoObject k s r = (r ≡ refused.NoSlot) × (object_in k s ≡ None)
+
+-- a check ends with the refusal `no slot` exactly where the slot has no object
+abbrev pub ChecksNoSlot : {T : Type 0} → Kept → ℕ → Result T Refusal → Type 0
+ChecksNoSlot k s answer = (answer ≡ Err refused.NoSlot) ↔ (object_in k s ≡ None)
+
+-- and so does a call
+abbrev pub TellsNoSlot : {T : Type 0} → Kept → ℕ → Result T HandleFault → Type 0
+TellsNoSlot k s answer = (answer ≡ Err (fault.Refused refused.NoSlot)) ↔ (object_in k s ≡ None)
 
 -- the slot has this place, and this object is there
 pub record HasAt (k : Kept) (s p : ℕ) (x : Object) : Type 0 where

@@ -4,7 +4,7 @@ use Rattle.std.specs.Str.{bytes_eq}
 use Rattle.cache_base.specs.declared.name.Name.{Name}
 use Rattle.cache_theory.specs.Machine.{Machine, open_names, writing_names}
 use Rattle.cache_theory.specs.Proper.{IsProper}
-use Rattle.file_handles.specs.Closing.{is_use_of}
+use Rattle.file_handles.specs.Seats.{is_use_of}
 use Rattle.file_handles.specs.Held.{is_draft}
 use Rattle.file_handles.specs.Kept.{Kept}
 use Rattle.file_handles.specs.Loading.{user_place}

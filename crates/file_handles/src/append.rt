@@ -38,7 +38,7 @@ impl Handles {
     ghost use Rattle.file_handles.specs.Changes.{ChangesThere, IsFiledAt, appended};
     ghost use Rattle.file_handles.specs.HeldChunks.{SameChunks};
     ghost use Rattle.file_handles.specs.Kept.{kept, object_at as object_kept_at};
-    ghost use Rattle.file_handles.specs.Refuses.{Passes, Refuses, UsesObject};
+    ghost use Rattle.file_handles.specs.Refuses.{ChecksNoSlot, Passes, Refuses, TellsNoSlot, UsesObject};
     ghost use Rattle.file_handles.specs.Stands.{HandlesStand, RepresentsSome};
 
     // The place of the draft to which a slot may append so many bytes.
@@ -46,13 +46,14 @@ impl Handles {
         requires { slot < SLOTS }
         ensures refused { IfErr result (λ r. (bytes : List ℕ) → length bytes ≡ more →
             Refuses (kept self.now) (Append slot bytes) r) }
+        ensures no_slot { ChecksNoSlot (kept self.now) slot result }
         ensures passes { OnOk result ((bytes : List ℕ) → length bytes ≡ more →
             Passes (kept self.now) (Append slot bytes)) }
         ensures object { IfOk result (λ place.
             UsesObject (kept self.now) slot place (λ x. grow_fault x.entry more ≡ Ok tt)) }
     {
         let used = self.writing(slot)?;
-        let object = self.object_at(used.place)?;
+        let object = self.object_at(used.place);
         may_grow(&object.entry, more)?;
         Ok(used.place)
     }
@@ -123,6 +124,7 @@ impl Handles {
             FitsInChunk m slot b.now → disk.new ≡ disk.old }
         ensures within_reply { AnswersInChunk (kept self.old) slot b.now result }
         ensures chunks { SameChunks (kept self.old) (kept self.new) }
+        ensures no_slot { TellsNoSlot (kept self.old) slot result }
         ensures unchanged { OnRefused result (λ _. disk.new ≡ disk.old) }
         ensures no_read { result ≢ Err HandleFault.Read }
         ensures unsynced { Told D.Disk SyncsNothing disk.old disk.new }

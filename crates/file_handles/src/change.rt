@@ -49,8 +49,8 @@ fn out_of_memory(_fault: PartsFault) -> NoMemory
     NoMemory
 }
 
-// The elements after the change.
-fn changed_elements(elements: Elements, change: Change<'_>) -> Result<Elements, NoMemory>
+/// The elements after the change.
+pub(crate) fn changed_elements(elements: Elements, change: Change<'_>) -> Result<Elements, NoMemory>
     requires { MaySet change elements }
     ensures { IfOk result (λ after. after ≡ changed_by change.entry elements) }
 {

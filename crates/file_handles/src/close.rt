@@ -1,6 +1,6 @@
 //! Closes a slot, and all slots at the end.
 
-ghost use Rattle.std.specs.Prelude.{◌≡◌, ◌<◌, ◌&&◌, IfOk, IsSome, IsTrue, None, OnOk, Some, false, length, ◌≢◌, Err};
+ghost use Rattle.std.specs.Prelude.{◌≡◌, ◌<◌, ◌&&◌, IfOk, IsSome, IsTrue, None, OnOk, Some, false, length, option_map, slice_get, slice_set, unwrap_or, ◌≢◌, Err};
 ghost use Rattle.std.specs.List.{list_any};
 ghost use Rattle.cache_base.specs.declared.limits.TheConstants.{SLOTS};
 ghost use Rattle.cache_theory.specs.Command.Command.{Close};
@@ -9,9 +9,10 @@ ghost use Rattle.disk_model.specs.Calls.{if_done};
 ghost use Rattle.disk_model.specs.State.{standing};
 ghost use Rattle.disk_model.specs.Told.{Told};
 ghost use Rattle.file_handles.specs.Answers.{OnRefused, done_or, ending};
-ghost use Rattle.file_handles.specs.Closing.{is_some_draft, is_use_of, let_go_by};
+ghost use Rattle.file_handles.specs.Closing.{is_some_draft, let_go_by};
 ghost use Rattle.file_handles.specs.Effects.{HasEffect, IsPlainEffect};
 ghost use Rattle.file_handles.specs.Held.{object_place};
+ghost use Rattle.file_handles.specs.Seats.{is_use_of};
 ghost use Rattle.file_handles.specs.Unsynced.{SyncsNothing};
 ghost use Rattle.index_theory.specs.Leaves.{LeavesIndex};
 
@@ -40,6 +41,15 @@ fn is_used(slots: &[Option<Use>; SLOTS], place: usize) -> bool
     slots.iter().any(|used| uses(used, place))
 }
 
+// Takes what is at a place out of the table.
+fn take_at(objects: &mut [Option<Object>; SLOTS], place: usize) -> Option<Object>
+    requires { place < SLOTS }
+    ensures found { result ≡ unwrap_or (slice_get objects.old place) None }
+    ensures taken { objects.new ≡ slice_set objects.old place None }
+{
+    objects[place].take()
+}
+
 // Removes the file of an object that no slot uses any more, if it stands aside.
 fn let_go<D: Disk>(disk: &mut D, object: &Object) -> Result<(), DiskFault>
     requires { IsTrue D.tells → IsSome (standing (D.state disk.old) (object_place object.now)) }
@@ -61,17 +71,16 @@ impl Handles {
     ghost use Rattle.file_handles.specs.Closing.{ClosesAll, ClosesChunks, FinishesFirst, GivesUp, MayGiveUp, chunks_left, writes_draft};
     ghost use Rattle.file_handles.specs.HeldChunks.{SameChunks};
     ghost use Rattle.file_handles.specs.Kept.{kept, number_at, object_at as object_kept_at, object_in, use_at};
+    ghost use Rattle.file_handles.specs.Refuses.{TellsNoSlot};
     ghost use Rattle.file_handles.specs.Stands.{RepresentsSome};
 
     // Whether the use is a writer's, of a draft.
     fn is_finished_by(&self, used: Use) -> bool
+        requires { IsSome (object_kept_at (kept self.now) used.place) }
         ensures { result ≡ (used.writes
             && is_some_draft (object_kept_at (kept self.now) used.place)) }
     {
-        match &self.objects[used.place] {
-            Some(object) => used.writes && matches!(object.entry, Entry::Draft(_)),
-            None => false,
-        }
+        used.writes && matches!(self.object_at(used.place).entry, Entry::Draft(_))
     }
 
     // Finishes the entry of a slot that writes it, if it is not finished, before the slot is given up.
@@ -84,6 +93,7 @@ impl Handles {
     ) -> Result<Effect, HandleFault>
         requires slot { slot < SLOTS }
         requires used { use_at (kept self.old) slot ≡ Some used }
+        requires in_place { IsSome (object_kept_at (kept self.old) used.place) }
         requires told { IsTrue D.tells → RepresentsSome (cache D.Disk self.old disk.old) }
         ensures finishes { let at = cache D.Disk in IsTrue D.tells →
             FinishesFirst slot result (at self.old disk.old) (at self.new disk.new) }
@@ -113,6 +123,8 @@ impl Handles {
     fn give_up<D: Disk>(&mut self, disk: &mut D, slot: u8, place: usize) -> Result<(), DiskFault>
         requires slot { slot < SLOTS }
         requires place { place < SLOTS }
+        requires used { option_map (λ u. u.place) (use_at (kept self.old) slot) ≡ Some place }
+        requires there { IsSome (object_kept_at (kept self.old) place) }
         requires told { IsTrue D.tells → MayGiveUp slot place (cache D.Disk self.old disk.old) }
         ensures gives_up { let at = cache D.Disk in IsTrue D.tells →
             GivesUp slot result (at self.old disk.old) (at self.new disk.new) }
@@ -123,16 +135,18 @@ impl Handles {
         ensures account { Accounts D.Disk (disk_ending result) disk.old disk.new }
         ensures change { FailsInChange D.Disk (disk_ending result) disk.new }
     {
-        self.slots[usize::from(slot)] = None;
-        if is_used(&self.slots, place) {
+        // Each object has a slot that uses it: so it goes with its last one.
+        let table = &mut self.table;
+        table.slots[usize::from(slot)] = None;
+        if is_used(&table.slots, place) {
             return Ok(());
         }
-        match self.take_any(place) {
+        match take_at(&mut table.objects, place) {
             Some(object) => {
                 self.chunks.forget(object.number);
                 let_go(disk, &object)
             }
-            None => Ok(()),
+            None => unreachable!(),
         }
     }
 
@@ -151,6 +165,7 @@ impl Handles {
         ensures effect { IfOk result (HasEffect (kept self.old) (Close slot)) }
         ensures plain { IfOk result IsPlainEffect }
         ensures chunks { ClosesChunks slot result (kept self.old) (kept self.new) }
+        ensures no_slot { TellsNoSlot (kept self.old) slot result }
         ensures unchanged { OnRefused result (λ _. IsTrue D.tells → disk.new ≡ disk.old) }
         ensures no_read { result ≢ Err HandleFault.Read }
         ensures unsynced { writes_draft (kept self.old) slot ≡ false →
@@ -159,7 +174,7 @@ impl Handles {
         ensures account { Accounts D.Disk (ending result) disk.old disk.new }
         ensures change { FailsInChange D.Disk (ending result) disk.new }
     {
-        let used = self.use_of(slot)?;
+        let used = self.live_use(slot)?;
         let effect = self.finish_first(alloc, disk, slot, used)?;
         self.give_up(disk, slot, used.place)?;
         Ok(effect)
@@ -175,7 +190,7 @@ impl Handles {
         ensures change { FailsInChange D.Disk (disk_ending result) disk.new }
         ensures no_entry { LooksAtNoEntry D.Disk disk.old disk.new }
     {
-        for object in &self.objects {
+        for object in &self.table.objects {
             if let Some(object) = object {
                 let_go(disk, object)?;
             }

@@ -1,6 +1,6 @@
 //! Makes a new entry, which a slot writes.
 
-ghost use Rattle.std.specs.Prelude.{◌≡◌, ◌≢◌, ◌<◌, Err, false, true, IfErr, IfOk, IsTrue, OnOk, Some, is_some, length};
+ghost use Rattle.std.specs.Prelude.{◌≡◌, ◌≢◌, ◌<◌, Err, false, true, IfOk, IsTrue, None, OnOk, Some, is_some, length};
 ghost use Rattle.cache_base.specs.declared.limits.TheConstants.{SLOTS};
 ghost use Rattle.cache_theory.specs.Command.Command.{Create};
 ghost use Rattle.cache_theory.specs.Step.{fresh};
@@ -16,13 +16,12 @@ ghost use Rattle.file_handles.specs.Creating.{MayHaveMade, MayHaveRemoved};
 ghost use Rattle.file_handles.specs.Dooming.{TakesFirstFree};
 ghost use Rattle.file_handles.specs.Effects.{HasEffect, IsPlainEffect};
 ghost use Rattle.file_handles.specs.Held.{IsHeldAs};
-ghost use Rattle.file_handles.specs.declared.fault.HandleFault.TheVariants.{Memory};
 ghost use Rattle.file_handles.specs.Unsynced.{SyncsNothing};
 ghost use Rattle.index_theory.specs.Leaves.{LeavesIndex};
 
 use crate::doom::doomed_numbers;
 use crate::fault::look_fault;
-use crate::object::{Draft, Entry, Object, Use};
+use crate::object::{Draft, Entry, Object};
 use crate::{Effect, HandleFault, Handles};
 use cache_base::{Bytes, Moment, Name, NoMemory, SLOTS};
 use cache_theory::Refusal;
@@ -109,19 +108,13 @@ fn remove_file<D: Disk>(disk: &mut D, name: &Name) -> Result<(), HandleFault>
     Ok(())
 }
 
-// The tables have a row for each slot: it tells the lengths to a caller whose handles changed.
-fn has_rows(objects: &[Option<Object>; SLOTS], slots: &[Option<Use>; SLOTS])
-    ensures objects { length objects.now ≡ SLOTS }
-    ensures slots { length slots.now ≡ SLOTS }
-{}
-
 impl Handles {
     ghost use Rattle.file_handles.specs.Cache.{cache};
     ghost use Rattle.file_handles.specs.Carries.{CarriesOutAt};
     ghost use Rattle.file_handles.specs.Dooming.{DoomsUnder, numbers_in};
     ghost use Rattle.file_handles.specs.Failing.{LeavesAll};
     ghost use Rattle.file_handles.specs.HeldChunks.{SameChunks};
-    ghost use Rattle.file_handles.specs.Kept.{kept};
+    ghost use Rattle.file_handles.specs.Kept.{kept, use_at};
     ghost use Rattle.file_handles.specs.Stands.{RepresentsSome};
 
     // Dooms what stands under a name: the undoomed object in use, or else the file that is there.
@@ -130,6 +123,7 @@ impl Handles {
         ensures dooms { let at = cache D.Disk in IsTrue D.tells →
             DoomsUnder name.now.0 result (at self.old disk.old) (at self.new disk.new) }
         ensures numbered { Told D.Disk TakesFirstFree disk.old disk.new }
+        ensures slots { (kept self.new).slots ≡ (kept self.old).slots }
         ensures chunks { SameChunks (kept self.old) (kept self.new) }
         ensures refused { OnRefused result (λ _. ⊥) }
         ensures read { OnRead result (LeavesAll D.Disk (kept self.old) (kept self.new) disk.old disk.new) }
@@ -145,17 +139,16 @@ impl Handles {
         Ok(())
     }
 
-    // The least number that no file in use has, if there are fewer than the table has rows.
-    fn free_number(&self) -> Result<u32, HandleFault>
-        ensures least { IfOk result (IsLeastFree (numbers_in (kept self.now).objects)) }
-        ensures few { OnOk result (length (numbers_in (kept self.now).objects) < SLOTS) }
-        ensures memory { IfErr result (λ f. f ≡ Memory) }
+    // The least number that no file in use has. While a slot is free they are fewer than the table has rows.
+    fn free_number(&self, slot: u8) -> u32
+        requires slot { slot < SLOTS }
+        requires free { use_at (kept self.now) slot ≡ None }
+        ensures least { IsLeastFree (numbers_in (kept self.now).objects) result }
+        ensures few { length (numbers_in (kept self.now).objects) < SLOTS }
     {
-        let aside = doomed_numbers(&self.objects);
-        if aside.count >= SLOTS {
-            return Err(HandleFault::Memory);
-        }
-        Ok(least(&aside.numbers[..aside.count]))
+        self.has_rows();
+        let aside = doomed_numbers(&self.table.objects);
+        least(&aside.numbers[..aside.count])
     }
 
     /// Makes a new entry of a key at this moment, which the slot writes. What stood under the name is doomed.
@@ -192,8 +185,8 @@ impl Handles {
         }
         let name = name_of(key);
         self.doom_there(disk, &name)?;
-        has_rows(&self.objects, &self.slots);
-        let aside = self.free_number()?;
+        self.has_rows();
+        let aside = self.free_number(slot);
         let object = drafted(alloc, disk, self.made, name, aside, key, now)?;
         self.add(slot, object, true)?;
         Ok(Effect::Gone(name))

@@ -42,10 +42,8 @@ pub(crate) fn doomed_numbers(objects: &[Option<Object>; SLOTS]) -> DoomedNumbers
     for object in objects {
         if let Some(object) = object {
             if let Some(number) = object.aside {
-                if count < SLOTS {
-                    numbers[count] = number;
-                    count += 1;
-                }
+                numbers[count] = number;
+                count += 1;
             }
         }
     }
@@ -96,6 +94,7 @@ impl Handles {
         ensures dooms { let at = cache D.Disk in IsTrue D.tells →
             DoomsUnder name.now.0 result (at self.old disk.old) (at self.new disk.new) }
         ensures numbered { Told D.Disk TakesFirstFree disk.old disk.new }
+        ensures slots { (kept self.new).slots ≡ (kept self.old).slots }
         ensures chunks { SameChunks (kept self.old) (kept self.new) }
         ensures refused { OnRefused result (λ _. ⊥) }
         ensures no_read { result ≢ Err HandleFault.Read }
@@ -113,7 +112,7 @@ impl Handles {
             ..
         } = object;
         // Those of the other objects, so fewer than the table has rows.
-        let doomed = doomed_numbers(&self.objects);
+        let doomed = doomed_numbers(&self.table.objects);
         let moved_to = set_aside(disk, name, aside, &doomed.numbers[..doomed.count])?;
         self.put_entry(place, number, own, true, Some(moved_to), entry);
         Ok(())
@@ -134,6 +133,7 @@ impl Handles {
             × ((disk.new ≡ disk.old) × (kept self.new ≡ kept self.old)) }
         ensures some { IfOk result (λ doomed.
             doomed ≡ is_some (user_place (kept self.old) name.now)) }
+        ensures slots { (kept self.new).slots ≡ (kept self.old).slots }
         ensures chunks { SameChunks (kept self.old) (kept self.new) }
         ensures refused { OnRefused result (λ _. ⊥) }
         ensures no_read { result ≢ Err HandleFault.Read }

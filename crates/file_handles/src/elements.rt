@@ -1,6 +1,6 @@
 //! Reads and changes the elements of an entry in use.
 
-ghost use Rattle.std.specs.Prelude.{ℕ, List, None, Some, ◌+◌, ◌≡◌, ◌<◌, ◌≤◌, IfErr, IfNone, IfOk, IfSome, IsSomeAnd, IsTrue, OnOk, length, option_map, ◌≢◌, Err};
+ghost use Rattle.std.specs.Prelude.{ℕ, List, None, Some, ◌+◌, ◌≡◌, ◌<◌, ◌≤◌, IfErr, IfNone, IfOk, IfSome, IsSome, IsSomeAnd, IsTrue, OnOk, length, option_map, ◌≢◌, Err};
 ghost use Rattle.cache_base.specs.Limits.{chunks as chunks_of};
 ghost use Rattle.cache_base.specs.declared.limits.TheConstants.{ELEMENTS_MAX, SLOTS};
 ghost use Rattle.cache_theory.specs.Command.Command.{ElementOf, SetElement, UnsetElement};
@@ -87,8 +87,8 @@ impl Handles {
     ghost use Rattle.file_handles.specs.Cache.{cache};
     ghost use Rattle.file_handles.specs.Carries.{Answers, CarriesOut};
     ghost use Rattle.file_handles.specs.HeldChunks.{SameChunks};
-    ghost use Rattle.file_handles.specs.Kept.{kept, object_at as object_kept_at};
-    ghost use Rattle.file_handles.specs.Refuses.{HasAt, Passes, Refuses, UsesObject};
+    ghost use Rattle.file_handles.specs.Kept.{kept, object_at as object_kept_at, object_in};
+    ghost use Rattle.file_handles.specs.Refuses.{ChecksNoSlot, HasAt, HasNoObject, Passes, Refuses, TellsNoSlot, UsesObject};
     ghost use Rattle.file_handles.specs.Stands.{RepresentsSome};
 
     // The place of the object whose elements a slot may change.
@@ -98,13 +98,14 @@ impl Handles {
             Refuses (kept self.now) (UnsetElement slot name) r) }
         ensures refused_set { IfErr result (λ r. (name value : List ℕ) →
             Refuses (kept self.now) (SetElement slot name value) r) }
+        ensures no_slot { ChecksNoSlot (kept self.now) slot result }
         ensures passes { OnOk result ((name : List ℕ) →
             Passes (kept self.now) (UnsetElement slot name)) }
         ensures object { IfOk result (λ place.
             IsSomeAnd (object_kept_at (kept self.now) place) (HasAt (kept self.now) slot place)) }
     {
-        let used = self.use_of(slot)?;
-        match self.object_at(used.place)?.entry {
+        let used = self.live_use(slot)?;
+        match self.object_at(used.place).entry {
             Entry::Draft(_) if !used.writes => Err(Refusal::NotWriter),
             _ => Ok(used.place),
         }
@@ -115,6 +116,7 @@ impl Handles {
         requires { slot < SLOTS }
         ensures refused { IfErr result (λ r.
             Refuses (kept self.now) (SetElement slot name.now value.now) r) }
+        ensures no_slot { ChecksNoSlot (kept self.now) slot result }
         ensures passes { OnOk result (Passes (kept self.now) (SetElement slot name.now value.now)) }
         ensures object { IfOk result (λ place. UsesObject (kept self.now) slot place
             (λ x. HasRoom x.entry (with_element name.now value.now (elements_in x.entry)))) }
@@ -125,7 +127,7 @@ impl Handles {
         if name.is_empty() || has_zero(name) || has_zero(value) {
             return Err(Refusal::BadElement);
         }
-        let object = self.object_at(place)?;
+        let object = self.object_at(place);
         if may_have(&object.entry, object.elements(), name, value) {
             Ok(place)
         } else {
@@ -152,6 +154,7 @@ impl Handles {
             (HasEffect (kept self.old) (SetElement slot name.now value.now)) }
         ensures plain { IfOk result IsPlainEffect }
         ensures chunks { SameChunks (kept self.old) (kept self.new) }
+        ensures no_slot { TellsNoSlot (kept self.old) slot result }
         ensures unchanged { OnRefused result (λ _. disk.new ≡ disk.old) }
         ensures no_read { result ≢ Err HandleFault.Read }
         ensures unsynced { Told D.Disk SyncsNothing disk.old disk.new }
@@ -181,6 +184,7 @@ impl Handles {
             IfSome some (HasEffect (kept self.old) (UnsetElement slot name.now))) }
         ensures plain { IfOk result (λ some. IfSome some IsPlainEffect) }
         ensures chunks { SameChunks (kept self.old) (kept self.new) }
+        ensures no_slot { TellsNoSlot (kept self.old) slot result }
         ensures unchanged { OnRefused result (λ _. disk.new ≡ disk.old) }
         ensures no_read { result ≢ Err HandleFault.Read }
         ensures none_there { IfOk result (λ effect. IfNone effect (disk.new ≡ disk.old)) }
@@ -190,7 +194,7 @@ impl Handles {
         ensures change { FailsInChange D.Disk (ending result) disk.new }
     {
         let place = self.may_change(slot)?;
-        if self.object_at(place)?.elements().get(name).is_none() {
+        if self.object_at(place).elements().get(name).is_none() {
             return Ok(None);
         }
         let effect = self.change_at(alloc, disk, place, Change::Remove { name })?;
@@ -204,9 +208,11 @@ impl Handles {
             (element_reply (option_map (λ bytes. bytes.now) value))) }
         ensures refused { IfErr result (λ r.
             Answers (kept self.now) (ElementOf slot name.now) (Refused r)) }
+        ensures no_object { IfErr result (HasNoObject (kept self.now) slot) }
+        ensures object { OnOk result (IsSome (object_in (kept self.now) slot)) }
     {
-        let used = self.use_of(slot)?;
-        let object = self.object_at(used.place)?;
+        let used = self.live_use(slot)?;
+        let object = self.object_at(used.place);
         Ok(object.elements().get(name))
     }
 }

@@ -18,7 +18,7 @@ pub enum HandleFault {
     Read,
     /// A change of the disk failed. The handles may only be dropped.
     Disk,
-    /// Memory ran out. The handles may only be dropped.
+    /// Memory ran out, or so many objects were made that no number is left. The handles may only be dropped.
     Memory,
 }
 

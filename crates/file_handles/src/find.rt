@@ -1,7 +1,8 @@
 //! Finds the entry of a key, and whether it is in use.
 
-ghost use Rattle.std.specs.Prelude.{◌≡◌, ◌≢◌, ◌<◌, ◌≤◌, Err, None, false, IfOk, IfSome, IsTrue, OnOk, length, take};
+ghost use Rattle.std.specs.Prelude.{◌≡◌, ◌≢◌, ◌<◌, ◌≤◌, Err, None, false, IfOk, IfSome, IsSome, IsTrue, OnOk, length, take};
 ghost use Rattle.cache_base.specs.Limits.{chunks as chunks_of};
+ghost use Rattle.cache_base.specs.declared.limits.TheConstants.{SLOTS};
 ghost use Rattle.cache_theory.specs.Machine.{is_entry};
 ghost use Rattle.cache_theory.specs.declared.refusal.Refusal.TheVariants as refused;
 ghost use Rattle.chunk_store.specs.Chunks.{chunk as chunk_of};
@@ -120,18 +121,21 @@ pub(crate) fn load<D: Disk>(
 impl Handles {
     ghost use Rattle.file_handles.specs.Cache.{cache};
     ghost use Rattle.file_handles.specs.Found.{Finds, HoldsLast};
-    ghost use Rattle.file_handles.specs.Kept.{kept};
+    ghost use Rattle.file_handles.specs.Kept.{kept, object_at as object_kept_at};
     ghost use Rattle.file_handles.specs.Loading.{is_writing as is_writing_in, used_place};
     ghost use Rattle.file_handles.specs.Stands.{RepresentsSome};
 
     /// The place of the undoomed object in use that has this key, whose name is given.
     pub(crate) fn used_by(&self, name: &Name, key: &[u8]) -> Option<usize>
-        ensures { result ≡ used_place (kept self.now) name.now key.now }
+        ensures found { result ≡ used_place (kept self.now) name.now key.now }
+        ensures ranged { IfSome result (λ place. place < SLOTS) }
+        ensures there { IfSome result (λ place. IsSome (object_kept_at (kept self.now) place)) }
     {
         let place = self.user(name)?;
-        match self.objects.get(place) {
-            Some(Some(object)) if object.key() == key => Some(place),
-            _ => None,
+        if self.object_at(place).key() == key {
+            Some(place)
+        } else {
+            None
         }
     }
 
@@ -142,10 +146,7 @@ impl Handles {
         let Some(place) = self.used_by(name, key) else {
             return false;
         };
-        match self.objects.get(place) {
-            Some(Some(object)) => matches!(object.entry, Entry::Draft(_)),
-            _ => false,
-        }
+        matches!(self.object_at(place).entry, Entry::Draft(_))
     }
 
     /// The metadata of the finished entry of a key. Every chunk is checked against its hash. The file stands under its

@@ -74,19 +74,20 @@ impl Handles {
     ghost use Rattle.file_handles.specs.Publishing.{CompletesThere};
     ghost use Rattle.file_handles.specs.HeldChunks.{SameChunks};
     ghost use Rattle.file_handles.specs.Kept.{kept, number_at, object_at as object_kept_at, object_in};
-    ghost use Rattle.file_handles.specs.Refuses.{Passes, Refuses, UsesObject};
+    ghost use Rattle.file_handles.specs.Refuses.{ChecksNoSlot, Passes, Refuses, TellsNoSlot, UsesObject};
     ghost use Rattle.file_handles.specs.Stands.{RepresentsSome};
 
     // The place of the draft that a slot may finish.
     fn may_finish(&self, slot: u8) -> Result<usize, Refusal>
         requires { slot < SLOTS }
         ensures refused { IfErr result (λ r. Refuses (kept self.now) (Finish slot) r) }
+        ensures no_slot { ChecksNoSlot (kept self.now) slot result }
         ensures passes { OnOk result (Passes (kept self.now) (Finish slot)) }
         ensures object { IfOk result (λ place.
             UsesObject (kept self.now) slot place (λ x. is_draft x.entry ≡ true)) }
     {
         let used = self.writing(slot)?;
-        match self.object_at(used.place)?.entry {
+        match self.object_at(used.place).entry {
             Entry::Draft(_) => Ok(used.place),
             Entry::Finished(_) => Err(Refusal::Finished),
         }
@@ -159,6 +160,7 @@ impl Handles {
         ensures effect { IfOk result (HasEffect (kept self.old) (Finish slot)) }
         ensures plain { IfOk result IsPlainEffect }
         ensures chunks { SameChunks (kept self.old) (kept self.new) }
+        ensures no_slot { TellsNoSlot (kept self.old) slot result }
         ensures unchanged { OnRefused result (λ _. disk.new ≡ disk.old) }
         ensures no_read { result ≢ Err HandleFault.Read }
         ensures index { Told D.Disk LeavesIndex disk.old disk.new }

@@ -1,9 +1,10 @@
 //! The table of entries in use, and of the slots that use them.
 
-ghost use Rattle.std.specs.Prelude.{◌≡◌, ◌<◌, EachIndex, IfErr, IfOk, IsSome, None, Some, slice_index_or};
-ghost use Rattle.std.specs.List.{position};
+ghost use Rattle.std.specs.Prelude.{◌≡◌, ◌<◌, EachIndex, IfOk, IfSome, IsSome, None, Some, slice_index_or, true, length};
+ghost use Rattle.std.specs.List.{list_any, position};
 ghost use Rattle.cache_base.specs.declared.limits.TheConstants.{SLOTS};
 ghost use Rattle.file_handles.specs.Finding.{is_free, is_user};
+ghost use Rattle.file_handles.specs.Seats.{AreUsed, is_use_of};
 
 use crate::object::{Entry, Object, Use};
 use cache_base::{Buffer, Bytes, Name, NoMemory, SLOTS};
@@ -11,11 +12,18 @@ use cache_theory::{Refusal, opens_proper};
 use chunk_cache::ChunkCache;
 use std::alloc::Global;
 
+/// The objects in use, and the uses of the slots. While a slot is free there is room for one more object.
+#[derive(Drop)]
+pub(crate) struct Table {
+    pub(crate) objects: [Option<Object>; SLOTS],
+    pub(crate) slots: [Option<Use>; SLOTS],
+    pub(crate) ghost are_used: { AreUsed objects slots },
+}
+
 /// The entries in use. After a call that changes them has answered `Disk` or `Memory` they may only be dropped.
 #[derive(Drop)]
 pub struct Handles {
-    pub(crate) objects: [Option<Object>; SLOTS],
-    pub(crate) slots: [Option<Use>; SLOTS],
+    pub(crate) table: Table,
     // How many objects were made: so no number is used twice.
     pub(crate) made: u64,
     // The chunks that were read last, of objects in use.
@@ -29,7 +37,7 @@ pub struct Handles {
 impl Handles {
     ghost use Rattle.file_handles.specs.Carries.{Begins};
     ghost use Rattle.file_handles.specs.Held.{object_with};
-    ghost use Rattle.file_handles.specs.Kept.{kept, object_at as object_kept_at, use_at, used as used_or, with_object, writing as writing_or};
+    ghost use Rattle.file_handles.specs.Kept.{kept, live_use as live_use_of, object_at as object_kept_at, use_at, used as used_or, with_object, writing as writing_or};
     ghost use Rattle.file_handles.specs.Loading.{user_place};
 
     /// Handles with no entry in use. The memory for the chunk that is checked is taken here; that for chunks that are read
@@ -39,8 +47,10 @@ impl Handles {
     {
         opens_proper();
         Ok(Handles {
-            objects: no_objects(),
-            slots: no_uses(),
+            table: Table {
+                objects: no_objects(),
+                slots: no_uses(),
+            },
             made: 0,
             chunks: ChunkCache::new(alloc)?,
             chunk: Buffer::new(alloc)?,
@@ -53,18 +63,35 @@ impl Handles {
         requires { slot < SLOTS }
         ensures { result ≡ used_or (use_at (kept self.now) slot) }
     {
-        match self.slots[usize::from(slot)] {
+        match self.table.slots[usize::from(slot)] {
             Some(used) => Ok(used),
             None => Err(Refusal::NoSlot),
         }
     }
 
-    /// The use of a slot, if it writes.
-    pub(crate) fn writing(&self, slot: u8) -> Result<Use, Refusal>
+    /// The use of a slot whose object is there. The object is gone where a change of it failed: the slot has none then.
+    pub(crate) fn live_use(&self, slot: u8) -> Result<Use, Refusal>
         requires { slot < SLOTS }
-        ensures { result ≡ writing_or (use_at (kept self.now) slot) }
+        ensures used { result ≡ used_or (live_use_of (kept self.now) slot) }
+        ensures there { IfOk result (λ used.
+            IsSome (object_kept_at (kept self.now) used.place)) }
     {
         let used = self.use_of(slot)?;
+        if self.table.objects[used.place].is_some() {
+            Ok(used)
+        } else {
+            Err(Refusal::NoSlot)
+        }
+    }
+
+    /// The same, if the slot writes.
+    pub(crate) fn writing(&self, slot: u8) -> Result<Use, Refusal>
+        requires { slot < SLOTS }
+        ensures used { result ≡ writing_or (live_use_of (kept self.now) slot) }
+        ensures there { IfOk result (λ used.
+            IsSome (object_kept_at (kept self.now) used.place)) }
+    {
+        let used = self.live_use(slot)?;
         if used.writes {
             Ok(used)
         } else {
@@ -72,26 +99,16 @@ impl Handles {
         }
     }
 
-    /// The object at a place. A place without one is answered as a slot that is not in use.
-    pub(crate) fn object_at(&self, place: usize) -> Result<&Object, Refusal>
-        requires { place < SLOTS }
-        ensures found { IfOk result (λ object.
-            object_kept_at (kept self.now) place ≡ Some object.now) }
-        ensures none { IfErr result (λ _. object_kept_at (kept self.now) place ≡ None) }
+    /// The object at a place.
+    pub(crate) fn object_at(&self, place: usize) -> &Object
+        requires place { place < SLOTS }
+        requires there { IsSome (object_kept_at (kept self.now) place) }
+        ensures { object_kept_at (kept self.now) place ≡ Some result.now }
     {
-        match &self.objects[place] {
-            Some(object) => Ok(object),
-            None => Err(Refusal::NoSlot),
+        match &self.table.objects[place] {
+            Some(object) => object,
+            None => unreachable!(),
         }
-    }
-
-    /// Takes what is at a place out of the table.
-    pub(crate) fn take_any(&mut self, place: usize) -> Option<Object>
-        requires { place < SLOTS }
-        ensures found { result ≡ object_kept_at (kept self.old) place }
-        ensures kept { kept self.new ≡ with_object (kept self.old) place None }
-    {
-        self.objects[place].take()
     }
 
     /// Takes the object at a place out of the table.
@@ -100,22 +117,25 @@ impl Handles {
         requires there { IsSome (object_kept_at (kept self.old) place) }
         ensures found { object_kept_at (kept self.old) place ≡ Some result }
         ensures kept { kept self.new ≡ with_object (kept self.old) place None }
+        ensures used { list_any (is_use_of place) (kept self.new).slots ≡ true }
     {
-        match self.take_any(place) {
+        let table = &mut self.table;
+        match table.objects[place].take() {
             Some(object) => object,
             None => unreachable!(),
         }
     }
 
-    /// Puts an object at a place.
+    /// Puts an object at a place that a slot uses.
     pub(crate) fn put(&mut self, place: usize, object: Object)
-        requires { place < SLOTS }
+        requires place { place < SLOTS }
+        requires used { list_any (is_use_of place) (kept self.old).slots ≡ true }
         ensures { kept self.new ≡ with_object (kept self.old) place (Some object) }
     {
-        self.objects[place] = Some(object);
+        self.table.objects[place] = Some(object);
     }
 
-    /// Puts an object of these parts at a place.
+    /// Puts an object of these parts at a place that a slot uses.
     pub(crate) fn put_entry(
         &mut self,
         place: usize,
@@ -125,7 +145,8 @@ impl Handles {
         aside: Option<u32>,
         entry: Entry,
     )
-        requires { place < SLOTS }
+        requires place { place < SLOTS }
+        requires used { list_any (is_use_of place) (kept self.old).slots ≡ true }
         ensures { kept self.new
             ≡ with_object (kept self.old) place (Some (object_with number name doomed aside entry)) }
     {
@@ -141,22 +162,56 @@ impl Handles {
         );
     }
 
-    /// The first place that no object has.
-    pub(crate) fn free_place(&self) -> Option<usize>
+    /// The table has a row for each slot: it tells the lengths to a caller.
+    pub(crate) fn has_rows(&self)
+        ensures objects { length (kept self.now).objects ≡ SLOTS }
+        ensures slots { length (kept self.now).slots ≡ SLOTS }
+    {
+        have_rows(&self.table.objects, &self.table.slots);
+    }
+
+    // The first place that no object has, if there is one.
+    fn first_free(&self) -> Option<usize>
         ensures { result ≡ position is_free (kept self.now).objects }
     {
-        self.objects.iter().position(|object| object.is_none())
+        self.table
+            .objects
+            .iter()
+            .position(|object| object.is_none())
+    }
+
+    /// The first place that no object has. There is one while a slot is free.
+    pub(crate) fn free_place(&self, slot: u8) -> usize
+        requires slot { slot < SLOTS }
+        requires free { use_at (kept self.now) slot ≡ None }
+        ensures { position is_free (kept self.now).objects ≡ Some result }
+    {
+        self.has_rows();
+        match self.first_free() {
+            Some(place) => place,
+            None => unreachable!(),
+        }
     }
 
     /// The place of the undoomed object in use of a name.
     pub(crate) fn user(&self, name: &Name) -> Option<usize>
-        ensures { result ≡ user_place (kept self.now) name.now }
+        ensures found { result ≡ user_place (kept self.now) name.now }
+        ensures ranged { IfSome result (λ place. place < SLOTS) }
+        ensures there { IfSome result (λ place. IsSome (object_kept_at (kept self.now) place)) }
     {
-        self.objects
+        self.has_rows();
+        self.table
+            .objects
             .iter()
             .position(|object| is_user_of(object, name))
     }
 }
+
+// The lengths of the arrays.
+fn have_rows(objects: &[Option<Object>; SLOTS], slots: &[Option<Use>; SLOTS])
+    ensures objects { length objects.now ≡ SLOTS }
+    ensures slots { length slots.now ≡ SLOTS }
+{}
 
 // A table with no object.
 fn no_objects() -> [Option<Object>; SLOTS]

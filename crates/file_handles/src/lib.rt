@@ -17,6 +17,7 @@ mod handles;
 mod laws;
 mod object;
 mod open;
+mod put_alt;
 mod read;
 mod use_entry;
 mod users;

@@ -1,12 +1,14 @@
 //! Opens the entry of a key, which a slot reads.
 
-ghost use Rattle.std.specs.Prelude.{ℕ, ◌≡◌, ◌≢◌, ◌<◌, Err, IsSome, IsTrue, None, Some};
+ghost use Rattle.std.specs.Prelude.{ℕ, ◌≡◌, ◌≢◌, ◌<◌, Err, IsSome, IsTrue, None, Some, true};
+ghost use Rattle.std.specs.List.{list_any};
 ghost use Rattle.cache_base.specs.declared.limits.TheConstants.{SLOTS};
 ghost use Rattle.cache_theory.specs.Command.Command.{OpenKey};
 ghost use Rattle.cache_theory.specs.Machine.{Machine, used_by};
 ghost use Rattle.cache_theory.specs.Proper.{IsProper};
 ghost use Rattle.disk_model.specs.Account.{Looks};
 ghost use Rattle.file_handles.specs.Answers.{OnRead, done_or, ending};
+ghost use Rattle.file_handles.specs.Seats.{is_use_of};
 
 use crate::find::load;
 use crate::object::{Entry, Object, Use};
@@ -22,35 +24,38 @@ impl Handles {
     ghost use Rattle.file_handles.specs.Carries.{CarriesOut};
     ghost use Rattle.file_handles.specs.Joining.{AddsTo, JoinsAt};
     ghost use Rattle.file_handles.specs.HeldChunks.{SameChunks};
-    ghost use Rattle.file_handles.specs.Kept.{kept};
+    ghost use Rattle.file_handles.specs.Kept.{kept, use_at};
     ghost use Rattle.file_handles.specs.Stands.{HandlesStand, RepresentsSome};
 
-    /// Makes a slot a user of the object at a place.
+    /// Makes a free slot a user of the object at a place.
     pub(crate) fn join(&mut self, slot: u8, place: usize, writes: bool)
         requires slot { slot < SLOTS }
+        requires free { use_at (kept self.old) slot ≡ None }
         requires place { place < SLOTS }
-        ensures { JoinsAt slot place writes (kept self.old) (kept self.new) }
+        ensures joins { JoinsAt slot place writes (kept self.old) (kept self.new) }
+        ensures used { list_any (is_use_of place) (kept self.new).slots ≡ true }
     {
-        self.slots[usize::from(slot)] = Some(Use { place, writes });
+        self.has_rows();
+        let table = &mut self.table;
+        table.slots[usize::from(slot)] = Some(Use { place, writes });
     }
 
-    /// Puts a new object at the first free place, for a slot.
+    /// Puts a new object at the first free place, for a slot that is free.
     pub(crate) fn add(&mut self, slot: u8, object: Object, writes: bool) -> Result<(), HandleFault>
         requires slot { slot < SLOTS }
+        requires free { use_at (kept self.old) slot ≡ None }
         requires numbered { object.number ≡ (kept self.old).made }
         ensures adds { AddsTo slot object writes result (kept self.old) (kept self.new) }
         ensures chunks { SameChunks (kept self.old) (kept self.new) }
     {
-        let Some(place) = self.free_place() else {
-            return Err(HandleFault::Memory);
-        };
         // No run makes so many objects.
         let Some(made) = self.made.checked_add(1) else {
             return Err(HandleFault::Memory);
         };
+        let place = self.free_place(slot);
         self.made = made;
-        self.put(place, object);
         self.join(slot, place, writes);
+        self.put(place, object);
         Ok(())
     }
 
@@ -74,6 +79,9 @@ impl Handles {
         ensures in_use { (m : Machine) (number : ℕ → ℕ) → IsProper m →
             HandlesStand (kept self.old) m number → IsSome (used_by m key.now) →
             disk.new ≡ disk.old }
+        ensures no_memory { (m : Machine) (number : ℕ → ℕ) → IsProper m →
+            HandlesStand (kept self.old) m number → IsSome (used_by m key.now) →
+            result ≢ Err HandleFault.Memory }
         ensures looks { Looks D.Disk (ending result) disk.old disk.new }
     {
         if self.use_of(slot).is_ok() {

@@ -109,10 +109,10 @@ fn read_over<D: Disk>(
 impl Handles {
     ghost use Rattle.file_handles.specs.Cache.{cache};
     ghost use Rattle.file_handles.specs.HeldChunks.{MayLoseLast, PutsFirst};
-    ghost use Rattle.file_handles.specs.Kept.{kept, object_at as object_kept_at};
+    ghost use Rattle.file_handles.specs.Kept.{kept, object_at as object_kept_at, object_in};
     ghost use Rattle.file_handles.specs.Reading.{HasChunkOf};
     ghost use Rattle.file_handles.specs.declared.object.Object.{Object};
-    ghost use Rattle.file_handles.specs.Refuses.{Passes, Refuses};
+    ghost use Rattle.file_handles.specs.Refuses.{HasNoObject, Passes, Refuses};
     ghost use Rattle.file_handles.specs.Resting.{RestsWith};
     ghost use Rattle.file_handles.specs.Stands.{RepresentsSome};
 
@@ -123,11 +123,13 @@ impl Handles {
             ForBodyHeld (kept self.now) slot (λ body. len ≡ length body)) }
         ensures refused { IfErr result (λ r. (from len : ℕ) →
             Refuses (kept self.now) (ReadPart slot from len) r) }
+        ensures no_object { IfErr result (HasNoObject (kept self.now) slot) }
+        ensures object { OnOk result (IsSome (object_in (kept self.now) slot)) }
         ensures passes { OnOk result ((from len : ℕ) →
             Passes (kept self.now) (ReadPart slot from len)) }
     {
-        let user = self.use_of(slot)?;
-        Ok(self.object_at(user.place)?.body_len())
+        let user = self.live_use(slot)?;
+        Ok(self.object_at(user.place).body_len())
     }
 
     /// At most `len` bytes of the body of the entry in a slot, from an offset up to the end of its chunk or of the body.
@@ -147,6 +149,8 @@ impl Handles {
             ForBody (cache D.Disk self.old disk.old) slot
             (λ body. part.now ≡ part_of_body body from len)) }
         ensures refused { OnRefused result (Refuses (kept self.old) (ReadPart slot from len)) }
+        ensures no_object { OnRefused result (HasNoObject (kept self.old) slot) }
+        ensures object { OnOk result (IsSome (object_in (kept self.old) slot)) }
         ensures passes { OnOk result (Passes (kept self.old) (ReadPart slot from len)) }
         // Once the part is given back.
         ensures* read { let before = cache D.Disk self.old disk.old in
@@ -156,8 +160,8 @@ impl Handles {
         ensures no_change { result ≢ Err HandleFault.Disk }
         ensures looks { Looks D.Disk (ending result) disk.old disk.new }
     {
-        let used = self.use_of(slot)?;
-        match self.chunk_of_part(used.place, from, len)? {
+        let used = self.live_use(slot)?;
+        match self.chunk_of_part(used.place, from, len) {
             Some(chunk) => {
                 self.hold(alloc, disk, &chunk)?;
                 Ok(self.lend_chunk(&chunk, from, len))
@@ -167,31 +171,24 @@ impl Handles {
     }
 
     // The chunk of a part of the body of the object at a place, if the part has bytes that are on the disk.
-    fn chunk_of_part(
-        &self,
-        place: usize,
-        from: u64,
-        len: u64,
-    ) -> Result<Option<StoredChunk>, Refusal>
-        requires { place < SLOTS }
-        ensures chunk { IfOk result (λ chunk.
-            IfSome (object_kept_at (kept self.now) place) (λ x. HasChunkOf x from len chunk)) }
-        ensures index { IfOk result (λ chunk.
-            IfSome chunk (λ c. c.index < chunks c.stored)) }
-        ensures there { OnOk result (IsSome (object_kept_at (kept self.now) place)) }
-        ensures none { IfErr result (λ _. object_kept_at (kept self.now) place ≡ None) }
+    fn chunk_of_part(&self, place: usize, from: u64, len: u64) -> Option<StoredChunk>
+        requires place { place < SLOTS }
+        requires there { IsSome (object_kept_at (kept self.now) place) }
+        ensures chunk { IfSome (object_kept_at (kept self.now) place)
+            (λ x. HasChunkOf x from len result) }
+        ensures index { IfSome result (λ c. c.index < chunks c.stored) }
     {
-        let object = self.object_at(place)?;
+        let object = self.object_at(place);
         let stored = object.body_len() - object.rest().len() as u32;
         if len == 0 || from >= u64::from(stored) {
-            return Ok(None);
+            return None;
         }
-        Ok(Some(StoredChunk {
+        Some(StoredChunk {
             number: object.number,
             index: (from / CHUNK as u64) as u32,
             file: object.file_place(),
             stored,
-        }))
+        })
     }
 
     // Makes a chunk the most recent of those that are held. It is read by one call of the disk where it was not held.
@@ -248,12 +245,11 @@ impl Handles {
 
     // A part of what of the body of the object at a place is not on the disk.
     fn lend_rest(&self, place: usize, from: u64, len: u64) -> &[u8]
+        requires place { place < SLOTS }
+        requires there { IsSome (object_kept_at (kept self.now) place) }
         ensures { IfSome (object_kept_at (kept self.now) place)
             (λ x. result.now ≡ rest_part x.entry from len) }
     {
-        match self.objects.get(place) {
-            Some(Some(object)) => rest_of(object, from, len),
-            _ => &[],
-        }
+        rest_of(self.object_at(place), from, len)
     }
 }

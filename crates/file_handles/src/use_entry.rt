@@ -22,19 +22,19 @@ impl Handles {
     ghost use Rattle.file_handles.specs.Carries.{CarriesOutAt};
     ghost use Rattle.file_handles.specs.HeldChunks.{SameChunks};
     ghost use Rattle.file_handles.specs.Kept.{kept, object_at as object_kept_at};
-    ghost use Rattle.file_handles.specs.Refuses.{HasAt, Passes, Refuses};
+    ghost use Rattle.file_handles.specs.Refuses.{ChecksNoSlot, HasAt, Passes, Refuses, TellsNoSlot};
     ghost use Rattle.file_handles.specs.Stands.{RepresentsSome};
 
     // The place of the object of a slot.
     fn place_of(&self, slot: u8) -> Result<usize, Refusal>
         requires { slot < SLOTS }
         ensures refused { IfErr result (λ r. Refuses (kept self.now) (UseEntry slot) r) }
+        ensures no_slot { ChecksNoSlot (kept self.now) slot result }
         ensures passes { OnOk result (Passes (kept self.now) (UseEntry slot)) }
         ensures object { IfOk result (λ place.
             IsSomeAnd (object_kept_at (kept self.now) place) (HasAt (kept self.now) slot place)) }
     {
-        let used = self.use_of(slot)?;
-        let _object = self.object_at(used.place)?;
+        let used = self.live_use(slot)?;
         Ok(used.place)
     }
 
@@ -55,6 +55,7 @@ impl Handles {
         ensures effect { IfOk result (HasEffectAt now (kept self.old) (UseEntry slot)) }
         ensures plain { IfOk result IsPlainEffect }
         ensures chunks { SameChunks (kept self.old) (kept self.new) }
+        ensures no_slot { TellsNoSlot (kept self.old) slot result }
         ensures unchanged { OnRefused result (λ _. disk.new ≡ disk.old) }
         ensures no_read { result ≢ Err HandleFault.Read }
         ensures unsynced { Told D.Disk SyncsNothing disk.old disk.new }

@@ -6,7 +6,7 @@ ghost use Rattle.std.specs.List.{list_any};
 ghost use Rattle.cache_base.specs.Names.{AreRising, name_cmp};
 ghost use Rattle.cache_base.specs.declared.name.Name.{Name as AName};
 ghost use Rattle.evictor.specs.Evict.{has_name};
-ghost use Rattle.file_handles.specs.Closing.{is_use_of};
+ghost use Rattle.file_handles.specs.Seats.{is_use_of};
 ghost use Rattle.file_handles.specs.Users.{counts, is_counted};
 
 use crate::Handles;
@@ -85,7 +85,7 @@ impl Handles {
         ensures { result ≡ users_of (kept self.now) name.now }
     {
         match self.user(name) {
-            Some(place) => count_uses(&self.slots, place),
+            Some(place) => count_uses(&self.table.slots, place),
             None => 0,
         }
     }
@@ -96,7 +96,7 @@ impl Handles {
         ensures unused { IfOk result (λ names. (name : AName) →
             has_name names name ≡ false → users_of (kept self.now) name ≡ 0) }
     {
-        let set = name_set(alloc, &self.objects, Asked::All)?;
+        let set = name_set(alloc, &self.table.objects, Asked::All)?;
         listed(alloc, set)
     }
 
@@ -104,7 +104,7 @@ impl Handles {
     pub fn writing_names(&self, alloc: Global) -> Result<Names, NoMemory>
         ensures { IfOk result (AreWritingNames (kept self.now)) }
     {
-        let set = name_set(alloc, &self.objects, Asked::Drafts)?;
+        let set = name_set(alloc, &self.table.objects, Asked::Drafts)?;
         listed(alloc, set)
     }
 }

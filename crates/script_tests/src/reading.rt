@@ -111,6 +111,24 @@ fn lines_of_the_index_are_commands(rt: HostRuntime) -> Result<(), Fail> {
 }
 
 #[test]
+fn lines_of_alternative_data_are_commands(rt: HostRuntime) -> Result<(), Fail> {
+    let scripts: [&[u8]; 10] = [
+        b"putalt 0 3 js bytecode\nabc\n",
+        b"putalt 63 0 \n\n",
+        b"putalt 0 0 text/javascript\n\n",
+        b"putalt 0 1 \n\n\n",
+        b"putalt 0 2  a  b \n\n\n\n",
+        b"getalt :x\n",
+        b"getalt \n",
+        b"getalt a key\n",
+        b"main :x\n",
+        b"main \n",
+    ];
+    all_count(&rt, rt.alloc(), &scripts, Ok(1))?;
+    Ok(())
+}
+
+#[test]
 fn other_lines_are_bad(rt: HostRuntime) -> Result<(), Fail> {
     let scripts: [&[u8]; 27] = [
         b"\n",
@@ -159,6 +177,32 @@ fn other_lines_of_the_index_are_bad(rt: HostRuntime) -> Result<(), Fail> {
         b"step 4294967296\n",
         b"state 1\n",
         b"rebuilt\n",
+    ];
+    all_count(&rt, rt.alloc(), &scripts, Err(ScriptFault::Script(1)))?;
+    Ok(())
+}
+
+#[test]
+fn other_lines_of_alternative_data_are_bad(rt: HostRuntime) -> Result<(), Fail> {
+    let scripts: [&[u8]; 18] = [
+        b"putalt\n",
+        b"putalt 0\n",
+        b"putalt 0 1\n5\n",
+        b"putalt 0 type\n5\n",
+        b"putalt  0 1 n\n5\n",
+        b"putalt 64 1 n\n5\n",
+        b"putalt 00 1 n\n5\n",
+        b"putalt 0 01 n\n5\n",
+        b"putalt 0 +1 n\n5\n",
+        b"putalt 0 4194305 n\n",
+        b"putalt 0 4294967296 n\n",
+        b"putalt 0 1 n\n55\n",
+        b"putalt 0 1 n\n5",
+        b"putalt 0 2 n\n5\n",
+        b"getalt\n",
+        b"Getalt :x\n",
+        b"main\n",
+        b"maine :x\n",
     ];
     all_count(&rt, rt.alloc(), &scripts, Err(ScriptFault::Script(1)))?;
     Ok(())
@@ -261,6 +305,26 @@ fn a_piece_has_at_most_1048576_bytes(rt: HostRuntime) -> Result<(), Fail> {
     Ok(())
 }
 
+// So many commands with the longest alternative data, each after a short command.
+fn long_alts(alloc: Global, alts: usize) -> Result<Bytes, NoMemory> {
+    let alt = vec![in alloc; b'x'; 4_194_304]?;
+    let mut script = Bytes::new(alloc);
+    for _ in 0..alts {
+        script.extend(b"use 0\nputalt 0 4194304 js\n")?;
+        script.extend(alt.as_slice())?;
+        script.push(b'\n')?;
+    }
+    Ok(script)
+}
+
+#[test]
+fn alternative_data_have_at_most_4194304_bytes(rt: HostRuntime) -> Result<(), Fail> {
+    let script = long_alts(rt.alloc(), 2)?;
+    assert_eq!(rt; count_in(rt.alloc(), script.as_slice(), 65_536)?, Ok(4));
+    assert_eq!(rt; count_in(rt.alloc(), script.as_slice(), 5_000_000)?, Ok(4));
+    Ok(())
+}
+
 fn plan(alloc: Global, number: u32) -> Result<Numbers, NoMemory> {
     let mut list = Numbers::new(alloc);
     list.push(number)?;
@@ -304,13 +368,15 @@ fn all_end(
 
 #[test]
 fn no_more_is_read_at_a_bad_command(rt: HostRuntime) -> Result<(), Fail> {
-    let scripts: [&[u8]; 6] = [
+    let scripts: [&[u8]; 8] = [
         b"\n",
         b"fly\n",
         b"append 0 1048577\n",
         b"append 0 0\nx",
         b"append 0 1\nab",
         b"set 0 1 n\n55",
+        b"putalt 0 4194305 n\n",
+        b"putalt 0 1 n\n55",
     ];
     all_end(&rt, rt.alloc(), &scripts, ScriptFault::Script(1))?;
     let line = begun_line(rt.alloc(), 20_001)?;
@@ -322,7 +388,14 @@ fn no_more_is_read_at_a_bad_command(rt: HostRuntime) -> Result<(), Fail> {
 
 #[test]
 fn more_is_read_at_a_command_that_is_begun(rt: HostRuntime) -> Result<(), Fail> {
-    let scripts: [&[u8]; 4] = [b"fly", b"append 0 1\n", b"append 0 1\na", b"at 5\n"];
+    let scripts: [&[u8]; 6] = [
+        b"fly",
+        b"append 0 1\n",
+        b"append 0 1\na",
+        b"putalt 0 4194304 n\n",
+        b"getalt a key",
+        b"at 5\n",
+    ];
     all_end(&rt, rt.alloc(), &scripts, ScriptFault::Source)?;
     let line = begun_line(rt.alloc(), 20_000)?;
     all_end(&rt, rt.alloc(), &[line.as_slice()], ScriptFault::Source)?;
@@ -483,6 +556,30 @@ fn commands_of_the_index_have_their_fields(rt: HostRuntime) -> Result<(), Fail> 
     Ok(())
 }
 
+const FIELDS_OF_ALTERNATIVE_DATA: &[Option<Command<'static>>] = &[
+    Some(Command::PutAlt {
+        slot: 63,
+        kind: b"js byte code ",
+        alt: b"a\n",
+    }),
+    Some(Command::PutAlt {
+        slot: 0,
+        kind: b"",
+        alt: b"",
+    }),
+    Some(Command::GetAlt { key: b"a key" }),
+    Some(Command::MainBody { key: b":x " }),
+    None,
+];
+
+#[test]
+fn commands_of_alternative_data_have_their_fields(rt: HostRuntime) -> Result<(), Fail> {
+    let script = b"putalt 63 2 js byte code \na\n\nputalt 0 0 \n\ngetalt a key\nmain :x \n";
+    let given = commands_of(rt.alloc(), script, FIELDS_OF_ALTERNATIVE_DATA)?;
+    assert!(rt; given == FIELDS_OF_ALTERNATIVE_DATA.len());
+    Ok(())
+}
+
 fn texts_are(rt: &impl Abort, alloc: Global, table: &[(Refusal, &str)]) -> Result<(), NoMemory> {
     for (refusal, text) in table {
         assert_eq!(rt; refusal_text(alloc, refusal)?.as_str(), *text);
@@ -508,6 +605,8 @@ fn refusals_have_their_texts(rt: HostRuntime) -> Result<(), Fail> {
         (Refusal::TooLarge, "too large"),
         (Refusal::BadKey, "bad key"),
         (Refusal::BadElement, "bad element"),
+        (Refusal::HasAlt, "has alt"),
+        (Refusal::NoAlt, "no alt"),
     ];
     texts_are(&rt, rt.alloc(), &table)?;
     Ok(())

@@ -4,6 +4,7 @@ ghost use Rattle.std.specs.Prelude.{◌<◌};
 ghost use Rattle.disk_model.specs.MemDisk.{state_in};
 ghost use Rattle.disk_model.specs.Sound.{IsQuiet};
 
+mod alt;
 mod chunks;
 mod crash;
 mod evict;

@@ -8,7 +8,7 @@ fn prints(alloc: Global, disk: &mut MemDisk, line: &str, text: &[u8]) -> Result<
 }
 
 // What stands at a place, or what was synced.
-fn content_of<'a>(disk: &'a MemDisk, synced: bool, place: &Place) -> Option<&'a [u8]> {
+pub(super) fn content_of<'a>(disk: &'a MemDisk, synced: bool, place: &Place) -> Option<&'a [u8]> {
     if synced {
         disk.synced_file(place)
     } else {
@@ -30,7 +30,7 @@ fn add_file(
 }
 
 // What stands under a key in an image.
-type Content<'a> = (&'a str, Option<&'a [u8]>);
+pub(super) type Content<'a> = (&'a str, Option<&'a [u8]>);
 
 // Adds these contents of the keys' files, and the files of the index and those that stand aside, as
 // they read or as they were synced.
@@ -59,7 +59,7 @@ fn add_files(
 }
 
 // The image with all names as they are, or as they were synced, with these contents of the keys' files.
-fn image_of(
+pub(super) fn image_of(
     alloc: Global,
     disk: &MemDisk,
     synced: bool,

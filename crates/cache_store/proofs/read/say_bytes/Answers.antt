@@ -4,7 +4,7 @@ use Rattle.cache_theory.specs.Machine.{object_of}
 use Rattle.cache_store.specs.Said.{saying}
 use Rattle.cache_store.specs.Saying.{CutsIn, SaysMore}
 use Rattle.cache_theory.specs.Text.{with_number}
-use Rattle.cache_store.proofs.GetChunks.{front_then, handed_disk, sink_not_disk}
+use Rattle.cache_store.proofs.HandedFaults.{front_then, handed_disk, sink_not_disk}
 use Rattle.file_handles.specs.Reading.{part_of_body}
 use Rattle.cache_store.proofs.SaidMore.{when_err}
 use Rattle.cache_store.proofs.SayingLaws.{cuts_first, cuts_front, cuts_then, says_then, stops_cut}

@@ -5,7 +5,7 @@ use Rattle.file_handles.specs.Reading.{IsPartHeld}
 use Rattle.cache_store.specs.Reads.{LastIsFirst}
 use Rattle.cache_store.specs.Said.{saying}
 use Rattle.cache_store.specs.Saying.{SaysMore}
-use Rattle.cache_store.proofs.GetChunks.{handed_disk}
+use Rattle.cache_store.proofs.HandedFaults.{handed_disk}
 use Rattle.cache_store.proofs.PartWhole.{all_is, front_sent, not_first, part, part_longer, says_with_part, stops_in_part}
 use Rattle.cache_store.proofs.ReadsHeld.{goes_on, held_on, holds_then, len_of, none_past, part_held, recent_all, recent_more, same_then}
 use Rattle.cache_store.proofs.SaidMore.{when_err}

@@ -3,7 +3,7 @@ use Rattle.std.proofs.lemmas.List.{take_more_set}
 use Rattle.file_handles.specs.Dooming.{number_in}
 use Rattle.file_handles.proofs.DoomedNumbers.{numbers_more, numbers_same}
 use Rattle.file_handles.proofs.doom.doomed_numbers.Goals as goal
-use Rattle.file_handles.proofs.doom.doomed_numbers.Goals.{in-Some+in-Some-aside+then-count-lt-SLOTS, in-Some+in-Some-aside+else-count-lt-SLOTS, in-Some+in_default-aside, in_default}
+use Rattle.file_handles.proofs.doom.doomed_numbers.Goals.{in-Some+in-Some-aside, in-Some+in_default-aside, in_default}
 
 -- the prefix of an array is as before where array and count are
 same_front : (numbers numbers' : List ℕ) (count count' : ℕ) → count' ≡ count → numbers' ≡ numbers → take count' numbers' ≡ take count numbers
@@ -18,7 +18,7 @@ loop-object-preserved c =
     let same = c.object-item.is in
     let within : i < length objects = let lt = c.loop-object-test.true in let l = c.type_inv.objects in omega (arith, lt, l) in
     elim c.match-object.branch [
-      | in-Some+in-Some-aside+then-count-lt-SLOTS w ↦
+      | in-Some+in-Some-aside w ↦
           let number : ℕ = w.in-Some-aside.number in
           let doomed : number_in c.object-item.result ≡ Some number = ap number_in (same ∙ w.in-Some.is) ∙ w.in-Some-aside.is in
           record {
@@ -26,12 +26,10 @@ loop-object-preserved c =
             long = ap length w.numbers-is ∙ length-set c.loop-object.numbers c.loop-object.count number ∙ before.long;
             so_far =
                 ap (λ n. take n c.match-object.numbers) w.count-is ∙ ap (take (c.loop-object.count + 1)) w.numbers-is
-                ∙ take_more_set c.loop-object.numbers c.loop-object.count number (let lt = w.if-count-lt-SLOTS.true in let l = before.long in omega (arith, lt, l))
+                ∙ take_more_set c.loop-object.numbers c.loop-object.count number (let lt = c.loop-object-test.true in let l = c.type_inv.objects in let rows = before.long in omega (arith, lt, l, rows, few))
                 ∙ ap (λ l. l ++ number ∷ []) before.so_far
                 ∙ sym (numbers_more objects i c.object-item.result number within same doomed);
           }
-      | in-Some+in-Some-aside+else-count-lt-SLOTS w ↦
-          let full = w.if-count-lt-SLOTS.false in let lt = c.loop-object-test.true in let l = c.type_inv.objects in absurd (omega (arith, full, lt, l, few))
       | in-Some+in_default-aside w ↦
           let none : number_in c.object-item.result ≡ None = ap number_in (same ∙ w.in-Some.is) ∙ w.in_default-aside.is in
           record {

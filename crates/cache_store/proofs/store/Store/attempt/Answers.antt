@@ -11,7 +11,7 @@ use Rattle.cache_store.specs.Said.{saying}
 use Rattle.cache_store.specs.Session.{Open, open_of, session}
 use Rattle.cache_store.specs.Verifying.{PrintsFound}
 use Rattle.cache_store.proofs.EvictDoes.{had_handed}
-use Rattle.cache_store.proofs.GetChunks.{handed_disk}
+use Rattle.cache_store.proofs.HandedFaults.{handed_disk}
 use Rattle.cache_store.proofs.Stays.{handed_fault}
 use Rattle.cache_store.proofs.PerformOpen.{performs_open}
 use Rattle.cache_store.proofs.PerformWhole.{does_performs, fails_performs}

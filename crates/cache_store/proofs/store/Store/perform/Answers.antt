@@ -2,7 +2,7 @@ use Rattle.std.proofs.Common.{◌≡◌, ℕ, IfOk, IsTrue, true, refl, sym, ap,
 use Rattle.cache_store.specs.Faulting.{has_failed_look}
 use Rattle.cache_store.proofs.Stays.{err_failed_look, on_failed_look, parts_stay}
 use Rattle.cache_script.specs.Command.{command_of}
-use Rattle.cache_theory.specs.Command.Command.{At, Append, Close, Create, Doom, ElementOf, Evict, Finish, Flush, Get, HasEntry, ListRecords, OpenKey, ReadPart, Rebuild, SetElement, StepUpdate, UnsetElement, UpdateState, UseEntry, Verify}
+use Rattle.cache_theory.specs.Command.Command.{At, Append, Close, Create, Doom, ElementOf, Evict, Finish, Flush, Get, GetAlt, HasEntry, ListRecords, MainBody, OpenKey, PutAlt, ReadPart, Rebuild, SetElement, StepUpdate, UnsetElement, UpdateState, UseEntry, Verify}
 use Rattle.cache_theory.specs.Given.{IsGiven}
 use Rattle.cache_store.specs.Answering.{outcome_in}
 use Rattle.cache_store.specs.Evicting.{LeavesOthers}
@@ -13,7 +13,7 @@ use Rattle.cache_store.specs.declared.fault.Verdict.TheVariants as outcome
 use Rattle.file_handles.proofs.ReadKept.{read_keeps}
 use Rattle.file_handles.specs.Kept.{kept}
 use Rattle.cache_store.proofs.EvictDoes.{kb_of}
-use Rattle.cache_store.proofs.LearntAchieves.{append_achieves, close_achieves, create_achieves, doom_achieves, finish_achieves, open_achieves, set_achieves, unset_achieves, use_achieves}
+use Rattle.cache_store.proofs.LearntAchieves.{append_achieves, close_achieves, create_achieves, doom_achieves, finish_achieves, open_achieves, put_achieves, set_achieves, unset_achieves, use_achieves}
 use Rattle.cache_store.proofs.PerformDoes.{as_command, at_does, by_name, done_unsaid, has_does, reading_does, reading_does_with, state_does, unsaid_does, unsaid_done}
 use Rattle.cache_store.proofs.TakenMore.{open_takes}
 use Rattle.file_handles.proofs.IndexLeft.{same_left}
@@ -106,7 +106,7 @@ returns-in-ReadPart-clause-does g c = λ told.
 pub returns-in-Get-clause-does : goal.returns-in-Get-clause-does
 returns-in-Get-clause-does g c = λ told.
     as_command _ (Get c.in-Get.key.now) _ _ _ _ _ (ap command_of c.in-Get.is) (λ m. refl)
-    (reading_does (Get c.in-Get.key.now) tt c.say_get.result (session g.D.Disk c.args.self.now c.args.disk.now) _ _ _ (c.say_get.ensures.looks.state told) c.say_get.ensures.open (c.say_get.ensures.answers told))
+    (reading_does (Get c.in-Get.key.now) tt c.say_shown.result (session g.D.Disk c.args.self.now c.args.disk.now) _ _ _ (c.say_shown.ensures.looks.state told) c.say_shown.ensures.open (c.say_shown.ensures.answers told))
 
 pub returns-in-Has-clause-does : goal.returns-in-Has-clause-does
 returns-in-Has-clause-does g c = λ told.
@@ -162,8 +162,8 @@ returns-in-ReadPart-clause-grows g c = λ told.
 
 pub returns-in-Get-clause-grows : goal.returns-in-Get-clause-grows
 returns-in-Get-clause-grows g c = λ told.
-    open_takes (Get c.in-Get.key.now) c.say_get.result (session g.D.Disk c.args.self.now c.args.disk.now) (g.K.Sink.taken c.args.sink.now)
-    (saying g.K.Sink c.say_get.new.self.reply c.say_get.new.sink) (c.requires.told told) (c.say_get.ensures.answers told)
+    open_takes (Get c.in-Get.key.now) c.say_shown.result (session g.D.Disk c.args.self.now c.args.disk.now) (g.K.Sink.taken c.args.sink.now)
+    (saying g.K.Sink c.say_shown.new.self.reply c.say_shown.new.sink) (c.requires.told told) (c.say_shown.ensures.answers told)
 
 pub returns-in-ReadPart-clause-held : goal.returns-in-ReadPart-clause-held
 returns-in-ReadPart-clause-held g c slot from len is =
@@ -216,3 +216,37 @@ returns-in-Element-clause-in_memory g c idle =
 pub returns-in-Evict-clause-evicts : goal.returns-in-Evict-clause-evicts
 returns-in-Evict-clause-evicts g c kb is had told =
     subst (λ (n : ℕ). LeavesOthers (session g.D.Disk c.args.self.now c.args.disk.now) n c.evict.new.self.index.map) (ap kb_of (sym (ap command_of c.in-Evict.is) ∙ is)) (c.evict.ensures.evicts had told)
+
+pub returns-in-GetAlt-clause-does : goal.returns-in-GetAlt-clause-does
+returns-in-GetAlt-clause-does g c = λ told.
+    as_command _ (GetAlt c.in-GetAlt.key.now) _ _ _ _ _ (ap command_of c.in-GetAlt.is) (λ m. refl)
+    (reading_does (GetAlt c.in-GetAlt.key.now) tt c.say_shown-in-GetAlt.result (session g.D.Disk c.args.self.now c.args.disk.now) _ _ _ (c.say_shown-in-GetAlt.ensures.looks.state told) c.say_shown-in-GetAlt.ensures.open (c.say_shown-in-GetAlt.ensures.answers told))
+
+pub returns-in-MainBody-clause-does : goal.returns-in-MainBody-clause-does
+returns-in-MainBody-clause-does g c = λ told.
+    as_command _ (MainBody c.in-MainBody.key.now) _ _ _ _ _ (ap command_of c.in-MainBody.is) (λ m. refl)
+    (reading_does (MainBody c.in-MainBody.key.now) tt c.say_shown-in-MainBody.result (session g.D.Disk c.args.self.now c.args.disk.now) _ _ _ (c.say_shown-in-MainBody.ensures.looks.state told) c.say_shown-in-MainBody.ensures.open (c.say_shown-in-MainBody.ensures.answers told))
+
+pub returns-in-GetAlt-clause-grows : goal.returns-in-GetAlt-clause-grows
+returns-in-GetAlt-clause-grows g c = λ told.
+    open_takes (GetAlt c.in-GetAlt.key.now) c.say_shown-in-GetAlt.result (session g.D.Disk c.args.self.now c.args.disk.now) (g.K.Sink.taken c.args.sink.now)
+    (saying g.K.Sink c.say_shown-in-GetAlt.new.self.reply c.say_shown-in-GetAlt.new.sink) (c.requires.told told) (c.say_shown-in-GetAlt.ensures.answers told)
+
+pub returns-in-MainBody-clause-grows : goal.returns-in-MainBody-clause-grows
+returns-in-MainBody-clause-grows g c = λ told.
+    open_takes (MainBody c.in-MainBody.key.now) c.say_shown-in-MainBody.result (session g.D.Disk c.args.self.now c.args.disk.now) (g.K.Sink.taken c.args.sink.now)
+    (saying g.K.Sink c.say_shown-in-MainBody.new.self.reply c.say_shown-in-MainBody.new.sink) (c.requires.told told) (c.say_shown-in-MainBody.ensures.answers told)
+
+pub returns-in-PutAlt-clause-does : goal.returns-in-PutAlt-clause-does
+returns-in-PutAlt-clause-does g c = λ told.
+    let was = saying g.K.Sink c.args.self.now.reply c.args.sink.now in
+    as_command _ (PutAlt c.in-PutAlt.slot c.in-PutAlt.kind.now c.in-PutAlt.alt.now) _ _ _ _ _ (ap command_of c.in-PutAlt.is) (λ m. refl)
+    (unsaid_does (PutAlt c.in-PutAlt.slot c.in-PutAlt.kind.now c.in-PutAlt.alt.now) c.learn_of-in-PutAlt.result _ _ was c.learn_of-in-PutAlt.ensures.learnt.not_said c.learn_of-in-PutAlt.ensures.learnt.no_sink c.requires.empty
+    (put_achieves c.put_alt-answer.result c.learn_of-in-PutAlt.result (session g.D.Disk c.args.self.now c.args.disk.now) _ refl c.learn_of-in-PutAlt.ensures.learnt (c.put_alt-answer.ensures.index told) c.in-PutAlt.slot c.in-PutAlt.kind.now c.in-PutAlt.alt.now (c.put_alt-answer.ensures.carried told) c.put_alt-answer.ensures.effect))
+
+pub returns-in-PutAlt-clause-stays : goal.returns-in-PutAlt-clause-stays
+returns-in-PutAlt-clause-stays g c = λ noted told.
+    let failed : has_failed_look c.put_alt-answer.result ≡ true = sym c.has_failed-self-in-PutAlt.ensures ∙ noted in
+    let all = on_failed_look c.put_alt-answer.result _ failed c.put_alt-answer.ensures.read in
+    parts_stay (kept c.args.self.now.handles) (kept c.put_alt-answer.new.self) c.args.self.now.moment (g.D.Disk.state c.args.disk.now) (g.D.Disk.state c.put_alt-answer.new.disk) c.args.self.now.index c.learn_of-in-PutAlt.new.self
+    all.handles (err_failed_look c.put_alt-answer.result _ failed c.learn_of-in-PutAlt.ensures.unlearnt) (all.looks.state told)

@@ -17,6 +17,7 @@ use Rattle.cache_theory.specs.Step.{stepped}
 use Rattle.file_handles.specs.declared.fault.HandleFault.TheVariants as fault
 use Rattle.file_handles.proofs.PartsSlots.{err_is}
 use Rattle.file_handles.proofs.UnsyncedLaws.{change_unsynced}
+use Rattle.file_handles.proofs.NoSlots.{call_handed_on, call_passed}
 use Rattle.file_handles.proofs.handles.Handles.append.Goals as goal
 
 pub append_at-requires-clause-told : goal.append_at-requires-clause-told
@@ -74,3 +75,11 @@ returns-clause-unsynced g c told =
     let there = the_object _ _ c.in_ok-place.ensures.object in
     change_unsynced (g.D.Disk.state c.args.disk.now) (g.D.Disk.state c.append_at.new.disk) (kept c.args.self.now) (kept c.append_at.new.self) c.in_ok-place.place there.0 (appended c.args.b.now) c.append_at.result
     there.1.0 (filed_somehow _ _ _ (c.requires.told told)) (c.append_at.ensures.changes told)
+
+pub returns-in_err-place-clause-no_slot : goal.returns-in_err-place-clause-no_slot
+returns-in_err-place-clause-no_slot g c =
+    call_handed_on (kept c.args.self.now) c.args.slot c.in_err-place.field-0.0 c.may_append.result c.from_residual.result c.in_err-place.was c.from_residual.ensures.1 c.may_append.ensures.no_slot
+
+pub returns-clause-no_slot : goal.returns-clause-no_slot
+returns-clause-no_slot g c =
+    call_passed (kept c.args.self.now) c.args.slot c.in_ok-place.place c.may_append.result c.append_at.result c.in_ok-place.was c.may_append.ensures.no_slot c.append_at.ensures.refused

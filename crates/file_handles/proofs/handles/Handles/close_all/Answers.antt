@@ -3,7 +3,7 @@ use Rattle.std.proofs.lemmas.Result.{IfOk-from_err}
 use Rattle.disk_model.specs.Account.{IsCalm}
 use Rattle.index_theory.specs.Leaves.{LeavesIndex}
 use Rattle.file_handles.specs.Kept.{kept}
-use Rattle.file_handles.proofs.Accounting.{calm_then}
+use Rattle.file_handles.proofs.Accounting.{calm_then, calm_then_handed_on, fault_handed_on}
 use Rattle.file_handles.proofs.ClosedAll.{IsDroppedTo, all_closed, all_failed, item_at, next_somehow, none_dropped, one_dropped}
 use Rattle.file_handles.proofs.IndexLeft.{let_go_left, then_left}
 use Rattle.file_handles.proofs.handles.Handles.close_all.Goals.{in-Some+in_ok-let_go, in_default}
@@ -11,13 +11,13 @@ use Rattle.file_handles.proofs.handles.Handles.close_all.Goals as goal
 
 pub let_go-requires : goal.let_go-requires
 let_go-requires g c told =
-    let within : c.loop-object.object-index < length c.args.self.objects = let lt = c.loop-object-test.true in let l = c.loop-object.invariant.long in omega (arith, lt, l) in
+    let within : c.loop-object.object-index < length c.args.self.table.objects = let lt = c.loop-object-test.true in let l = c.loop-object.invariant.long in omega (arith, lt, l) in
     next_somehow (g.D.Disk.state c.args.disk.now) (g.D.Disk.state c.loop-object.disk) (kept c.args.self) c.loop-object.object-index c.in-Some.object (c.requires.told told)
     (item_at (kept c.args.self) c.loop-object.object-index c.object-item.result _ within c.in-Some.is) (c.loop-object.invariant.to told)
 
 pub returns-in_err-let_go-clause-closes : goal.returns-in_err-let_go-clause-closes
 returns-in_err-let_go-clause-closes g c told =
-    let within : c.loop-object.object-index < length c.args.self.objects = let lt = c.loop-object-test.true in let l = c.loop-object.invariant.long in omega (arith, lt, l) in
+    let within : c.loop-object.object-index < length c.args.self.table.objects = let lt = c.loop-object-test.true in let l = c.loop-object.invariant.long in omega (arith, lt, l) in
     record {
       crash = λ h is. all_failed (kept c.args.self) c.loop-object.object-index c.in-Some.object c.let_go.result (g.D.Disk.state c.args.disk.now) (g.D.Disk.state c.loop-object.disk) (g.D.Disk.state c.let_go.new.disk)
           (item_at (kept c.args.self) c.loop-object.object-index c.object-item.result _ within c.in-Some.is) (c.let_go.ensures.state told) (c.loop-object.invariant.to told) h.machine h.marks is;
@@ -31,7 +31,7 @@ loop-object-preserved g c =
     let s = g.D.Disk.state c.args.disk.now in
     let t = g.D.Disk.state c.loop-object.disk in
     let before = c.loop-object.invariant in
-    let within : i < length c.args.self.objects = let lt = c.loop-object-test.true in let l = c.loop-object.invariant.long in omega (arith, lt, l) in
+    let within : i < length c.args.self.table.objects = let lt = c.loop-object-test.true in let l = c.loop-object.invariant.long in omega (arith, lt, l) in
     elim c.match-object.branch [
       | in-Some+in_ok-let_go w ↦ record {
         long = before.long;
@@ -54,7 +54,7 @@ loop-object-preserved g c =
 
 pub returns-clause-closes : goal.returns-clause-closes
 returns-clause-closes g c told =
-    let all : length c.args.self.objects ≤ c.loop-object.object-index = let l = c.loop-object.invariant.long in let a = c.loop-object-test.false in omega (arith, l, a) in
+    let all : length c.args.self.table.objects ≤ c.loop-object.object-index = let l = c.loop-object.invariant.long in let a = c.loop-object-test.false in omega (arith, l, a) in
     all_closed (g.D.Disk.state c.args.disk.now) (g.D.Disk.state c.loop-object.disk) (kept c.args.self) c.loop-object.object-index all (c.loop-object.invariant.to told)
 
 pub returns-in_err-let_go-clause-index : goal.returns-in_err-let_go-clause-index
@@ -70,3 +70,11 @@ returns-in_err-let_go-clause-no_entry g c told = c.let_go.ensures.no_entry told 
 
 pub returns-clause-no_entry : goal.returns-clause-no_entry
 returns-clause-no_entry g c told = c.loop-object.invariant.looks told
+
+pub returns-in_err-let_go-clause-account : goal.returns-in_err-let_go-clause-account
+returns-in_err-let_go-clause-account g c =
+    calm_then_handed_on g.D.Disk c.let_go.result c.in_err-let_go.field-0.0 c.from_residual.result _ _ _ c.in_err-let_go.was c.from_residual.ensures.1 c.loop-object.invariant.calm c.let_go.ensures.account
+
+pub returns-in_err-let_go-clause-change : goal.returns-in_err-let_go-clause-change
+returns-in_err-let_go-clause-change g c = λ failed.
+    c.let_go.ensures.change (sym (fault_handed_on c.let_go.result c.in_err-let_go.field-0.0 c.from_residual.result c.in_err-let_go.was c.from_residual.ensures.1) ∙ failed)

@@ -1,11 +1,12 @@
-use Rattle.std.proofs.Common.{◌∙◌, inl, sym, ap, subst, arith}
+use Rattle.std.proofs.Common.{◌∙◌, None, inl, sym, ap, subst, arith}
+use Rattle.std.specs.Prelude.{slice_get, unwrap_or}
 use Rattle.cache_base.proofs.ByteLaws.{all_below}
 use Rattle.cache_theory.specs.Command.Command.{Create}
 use Rattle.cache_theory.specs.Step.{fresh}
 use Rattle.file_handles.specs.Held.{IsHeldAs}
 use Rattle.file_handles.specs.Kept.{kept, use_at}
 use Rattle.file_handles.specs.declared.fault.Effect.TheVariants.{Gone}
-use Rattle.file_handles.proofs.CreatedCommand.{added_leaves, bad_key_leaves, doom_done, doom_fails, doom_numbered, draft_safe, may_create_by, memory_only, taken_leaves}
+use Rattle.file_handles.proofs.CreatedCommand.{added_leaves, bad_key_leaves, doom_done, doom_fails, doom_numbered, draft_safe, may_create_by, taken_leaves}
 use Rattle.file_handles.proofs.DoomedCommand.{failed_on_leaves}
 use Rattle.file_handles.proofs.FirstFree.{may_take}
 use Rattle.file_handles.proofs.JoinedOpen.{used_none}
@@ -39,20 +40,6 @@ returns-in_err-doom_there-clause-carried g c = λ tells. carries_out_at (λ b m 
     failed_on_leaves c.from_residual.result c.in_err-doom_there.field-0.0 (g.D.Disk.state c.doom_there.new.disk) (kept c.doom_there.new.self) (Create c.args.slot c.args.key.now)
     c.from_residual.ensures.1 (λ refusal same. c.in_err-doom_there.ensures.refused refusal same) m w safe)
 
-pub returns-in_err-aside-clause-carried : goal.returns-in_err-aside-clause-carried
-returns-in_err-aside-clause-carried g c = λ tells. carries_out_at (λ b m w moment stand.
-    let k = kept c.args.self.now in
-    let s = g.D.Disk.state c.args.disk.now in
-    let may =
-    may_create_by k c.args.slot c.args.key.now c.name_of-name.result c.requires.slot c.use_of.result c.use_of.ensures c.is_ok.result c.may_write.result c.is_ok.ensures.value c.if-is_ok.false
-    c.may_write.ensures c.if-not-may_write.false c.name_of-name.ensures
-    in
-    let stands =
-    doom_done s k c.args.slot c.args.key.now c.name_of-name.result may m w stand (g.D.Disk.state c.doom_there.new.disk) (kept c.doom_there.new.self) (c.in_ok-doom_there.ensures.dooms tells)
-    in
-    failed_on_leaves c.from_residual-in_err-aside.result c.in_err-aside.field-0.0 (g.D.Disk.state c.doom_there.new.disk) (kept c.doom_there.new.self) (Create c.args.slot c.args.key.now)
-    c.from_residual-in_err-aside.ensures.1 (λ refusal same. memory_only c.in_err-aside.field-0.0 refusal c.in_err-aside.ensures.memory same) m w (λ on. (stands.crash_kept on).safe))
-
 pub returns-in_err-object-clause-carried : goal.returns-in_err-object-clause-carried
 returns-in_err-object-clause-carried g c = λ tells. carries_out_at (λ b m w moment stand.
     let k = kept c.args.self.now in
@@ -65,7 +52,7 @@ returns-in_err-object-clause-carried g c = λ tells. carries_out_at (λ b m w mo
     doom_done s k c.args.slot c.args.key.now c.name_of-name.result may m w stand (g.D.Disk.state c.doom_there.new.disk) (kept c.doom_there.new.self) (c.in_ok-doom_there.ensures.dooms tells)
     in
     let safe =
-    draft_safe s k c.args.slot c.args.key.now c.name_of-name.result may m w stand (g.D.Disk.state c.doom_there.new.disk) (g.D.Disk.state c.drafted.new.disk) (kept c.doom_there.new.self) c.in_ok-aside.aside
+    draft_safe s k c.args.slot c.args.key.now c.name_of-name.result may m w stand (g.D.Disk.state c.doom_there.new.disk) (g.D.Disk.state c.drafted.new.disk) (kept c.doom_there.new.self) c.free_number-aside.result
     (g.met.D.Disk.sound c.doom_there.new.disk tells) stands (c.in_err-object.ensures.state tells).either
     in
     failed_on_leaves c.from_residual-in_err-object.result c.in_err-object.field-0.0 (g.D.Disk.state c.drafted.new.disk) (kept c.doom_there.new.self) (Create c.args.slot c.args.key.now)
@@ -83,7 +70,7 @@ returns-in_err-add-clause-carried g c = λ tells. carries_out_at (λ b m w momen
     doom_done s k c.args.slot c.args.key.now c.name_of-name.result may m w stand (g.D.Disk.state c.doom_there.new.disk) (kept c.doom_there.new.self) (c.in_ok-doom_there.ensures.dooms tells)
     in
     let safe =
-    draft_safe s k c.args.slot c.args.key.now c.name_of-name.result may m w stand (g.D.Disk.state c.doom_there.new.disk) (g.D.Disk.state c.drafted.new.disk) (kept c.doom_there.new.self) c.in_ok-aside.aside
+    draft_safe s k c.args.slot c.args.key.now c.name_of-name.result may m w stand (g.D.Disk.state c.doom_there.new.disk) (g.D.Disk.state c.drafted.new.disk) (kept c.doom_there.new.self) c.free_number-aside.result
     (g.met.D.Disk.sound c.doom_there.new.disk tells) stands (inl (c.in_ok-object.ensures.state tells).made)
     in
     failed_on_leaves c.from_residual-in_err-add.result c.in_err-add.field-0.0 (g.D.Disk.state c.drafted.new.disk) (kept c.add.new.self) (Create c.args.slot c.args.key.now)
@@ -100,43 +87,43 @@ returns-clause-carried g c = λ tells. carries_out_at (λ b m w moment stand.
     let stands =
     doom_done s k c.args.slot c.args.key.now c.name_of-name.result may m w stand (g.D.Disk.state c.doom_there.new.disk) (kept c.doom_there.new.self) (c.in_ok-doom_there.ensures.dooms tells)
     in
-    added_leaves s k c.args.slot c.args.key.now c.name_of-name.result may m w stand (g.D.Disk.state c.doom_there.new.disk) (g.D.Disk.state c.drafted.new.disk) (kept c.doom_there.new.self) c.in_ok-aside.aside
+    added_leaves s k c.args.slot c.args.key.now c.name_of-name.result may m w stand (g.D.Disk.state c.doom_there.new.disk) (g.D.Disk.state c.drafted.new.disk) (kept c.doom_there.new.self) c.free_number-aside.result
     (g.met.D.Disk.sound c.doom_there.new.disk tells) stands (kept c.add.new.self) c.in_ok-object.object (all_below 256 c.args.key.now (λ i. omega (arith, c.type_inv.key i))) (c.in_ok-object.ensures.state tells).made
-    c.in_ok-object.ensures.draft.1.0 c.in_ok-aside.ensures.least.free
+    c.in_ok-object.ensures.draft.1.0 c.free_number-aside.ensures.least.free
     (subst (λ n. IsHeldAs c.in_ok-object.object (fresh n c.args.key.now)) (sym moment) c.in_ok-object.ensures.draft.1.1) c.in_ok-add.ensures.adds.added (omega arith) (λ p lt. omega arith))
 
 pub returns-in_err-object-clause-index : goal.returns-in_err-object-clause-index
 returns-in_err-object-clause-index g c told =
     then_left (g.D.Disk.state c.args.disk.now) (g.D.Disk.state c.doom_there.new.disk) (g.D.Disk.state c.drafted.new.disk) (c.doom_there.ensures.index told)
-    (made_left c.drafted.result _ _ c.in_ok-aside.aside (g.met.D.Disk.sound c.doom_there.new.disk told) (c.drafted.ensures.state told))
+    (made_left c.drafted.result _ _ c.free_number-aside.result (g.met.D.Disk.sound c.doom_there.new.disk told) (c.drafted.ensures.state told))
 
 pub returns-in_err-add-clause-index : goal.returns-in_err-add-clause-index
 returns-in_err-add-clause-index g c told =
     then_left (g.D.Disk.state c.args.disk.now) (g.D.Disk.state c.doom_there.new.disk) (g.D.Disk.state c.drafted.new.disk) (c.doom_there.ensures.index told)
-    (made_left c.drafted.result _ _ c.in_ok-aside.aside (g.met.D.Disk.sound c.doom_there.new.disk told) (c.drafted.ensures.state told))
+    (made_left c.drafted.result _ _ c.free_number-aside.result (g.met.D.Disk.sound c.doom_there.new.disk told) (c.drafted.ensures.state told))
 
 pub returns-clause-index : goal.returns-clause-index
 returns-clause-index g c told =
     then_left (g.D.Disk.state c.args.disk.now) (g.D.Disk.state c.doom_there.new.disk) (g.D.Disk.state c.drafted.new.disk) (c.doom_there.ensures.index told)
-    (made_left c.drafted.result _ _ c.in_ok-aside.aside (g.met.D.Disk.sound c.doom_there.new.disk told) (c.drafted.ensures.state told))
+    (made_left c.drafted.result _ _ c.free_number-aside.result (g.met.D.Disk.sound c.doom_there.new.disk told) (c.drafted.ensures.state told))
 
 pub returns-in_err-object-clause-numbered : goal.returns-in_err-object-clause-numbered
 returns-in_err-object-clause-numbered g c = λ tells.
-    may_take (g.D.Disk.state c.args.disk.now) (g.D.Disk.state c.doom_there.new.disk) (g.D.Disk.state c.drafted.new.disk) (kept c.doom_there.new.self) c.in_ok-aside.aside (g.met.D.Disk.sound c.doom_there.new.disk tells)
+    may_take (g.D.Disk.state c.args.disk.now) (g.D.Disk.state c.doom_there.new.disk) (g.D.Disk.state c.drafted.new.disk) (kept c.doom_there.new.self) c.free_number-aside.result (g.met.D.Disk.sound c.doom_there.new.disk tells)
     (doom_numbered (g.D.Disk.state c.args.disk.now) (g.D.Disk.state c.doom_there.new.disk) (kept c.args.self.now) (kept c.doom_there.new.self) c.name_of-name.result (c.requires.told tells) (c.in_ok-doom_there.ensures.dooms tells))
-    c.in_ok-aside.ensures.least c.in_ok-aside.ensures.few (c.in_ok-doom_there.ensures.numbered tells) (c.in_err-object.ensures.state tells).either
+    c.free_number-aside.ensures.least c.free_number-aside.ensures.few (c.in_ok-doom_there.ensures.numbered tells) (c.in_err-object.ensures.state tells).either
 
 pub returns-in_err-add-clause-numbered : goal.returns-in_err-add-clause-numbered
 returns-in_err-add-clause-numbered g c = λ tells.
-    may_take (g.D.Disk.state c.args.disk.now) (g.D.Disk.state c.doom_there.new.disk) (g.D.Disk.state c.drafted.new.disk) (kept c.doom_there.new.self) c.in_ok-aside.aside (g.met.D.Disk.sound c.doom_there.new.disk tells)
+    may_take (g.D.Disk.state c.args.disk.now) (g.D.Disk.state c.doom_there.new.disk) (g.D.Disk.state c.drafted.new.disk) (kept c.doom_there.new.self) c.free_number-aside.result (g.met.D.Disk.sound c.doom_there.new.disk tells)
     (doom_numbered (g.D.Disk.state c.args.disk.now) (g.D.Disk.state c.doom_there.new.disk) (kept c.args.self.now) (kept c.doom_there.new.self) c.name_of-name.result (c.requires.told tells) (c.in_ok-doom_there.ensures.dooms tells))
-    c.in_ok-aside.ensures.least c.in_ok-aside.ensures.few (c.in_ok-doom_there.ensures.numbered tells) (inl (c.in_ok-object.ensures.state tells).made)
+    c.free_number-aside.ensures.least c.free_number-aside.ensures.few (c.in_ok-doom_there.ensures.numbered tells) (inl (c.in_ok-object.ensures.state tells).made)
 
 pub returns-clause-numbered : goal.returns-clause-numbered
 returns-clause-numbered g c = λ tells.
-    may_take (g.D.Disk.state c.args.disk.now) (g.D.Disk.state c.doom_there.new.disk) (g.D.Disk.state c.drafted.new.disk) (kept c.doom_there.new.self) c.in_ok-aside.aside (g.met.D.Disk.sound c.doom_there.new.disk tells)
+    may_take (g.D.Disk.state c.args.disk.now) (g.D.Disk.state c.doom_there.new.disk) (g.D.Disk.state c.drafted.new.disk) (kept c.doom_there.new.self) c.free_number-aside.result (g.met.D.Disk.sound c.doom_there.new.disk tells)
     (doom_numbered (g.D.Disk.state c.args.disk.now) (g.D.Disk.state c.doom_there.new.disk) (kept c.args.self.now) (kept c.doom_there.new.self) c.name_of-name.result (c.requires.told tells) (c.in_ok-doom_there.ensures.dooms tells))
-    c.in_ok-aside.ensures.least c.in_ok-aside.ensures.few (c.in_ok-doom_there.ensures.numbered tells) (inl (c.in_ok-object.ensures.state tells).made)
+    c.free_number-aside.ensures.least c.free_number-aside.ensures.few (c.in_ok-doom_there.ensures.numbered tells) (inl (c.in_ok-object.ensures.state tells).made)
 
 pub returns-clause-effect : goal.returns-clause-effect
 returns-clause-effect g c = λ m number proper stand. ap (λ n. Gone (record { 0 = n })) c.name_of-name.ensures
@@ -144,14 +131,24 @@ returns-clause-effect g c = λ m number proper stand. ap (λ n. Gone (record { 0
 pub returns-in_err-object-clause-unsynced : goal.returns-in_err-object-clause-unsynced
 returns-in_err-object-clause-unsynced g c told =
     then_unsynced (g.D.Disk.state c.args.disk.now) (g.D.Disk.state c.doom_there.new.disk) (g.D.Disk.state c.drafted.new.disk) (c.doom_there.ensures.unsynced told)
-    (made_unsynced c.drafted.result _ _ c.in_ok-aside.aside (c.drafted.ensures.state told))
+    (made_unsynced c.drafted.result _ _ c.free_number-aside.result (c.drafted.ensures.state told))
 
 pub returns-in_err-add-clause-unsynced : goal.returns-in_err-add-clause-unsynced
 returns-in_err-add-clause-unsynced g c told =
     then_unsynced (g.D.Disk.state c.args.disk.now) (g.D.Disk.state c.doom_there.new.disk) (g.D.Disk.state c.drafted.new.disk) (c.doom_there.ensures.unsynced told)
-    (made_unsynced c.drafted.result _ _ c.in_ok-aside.aside (c.drafted.ensures.state told))
+    (made_unsynced c.drafted.result _ _ c.free_number-aside.result (c.drafted.ensures.state told))
 
 pub returns-clause-unsynced : goal.returns-clause-unsynced
 returns-clause-unsynced g c told =
     then_unsynced (g.D.Disk.state c.args.disk.now) (g.D.Disk.state c.doom_there.new.disk) (g.D.Disk.state c.drafted.new.disk) (c.doom_there.ensures.unsynced told)
-    (made_unsynced c.drafted.result _ _ c.in_ok-aside.aside (c.drafted.ensures.state told))
+    (made_unsynced c.drafted.result _ _ c.free_number-aside.result (c.drafted.ensures.state told))
+
+pub free_number-aside-requires-clause-free : goal.free_number-aside-requires-clause-free
+free_number-aside-requires-clause-free g c =
+    ap (λ slots. unwrap_or (slice_get slots c.args.slot) None) c.doom_there.ensures.slots
+    ∙ used_none (use_at (kept c.args.self.now) c.args.slot) c.use_of.result c.use_of.ensures (sym c.is_ok.ensures.value ∙ c.if-is_ok.false)
+
+pub add-requires-clause-free : goal.add-requires-clause-free
+add-requires-clause-free g c =
+    ap (λ slots. unwrap_or (slice_get slots c.args.slot) None) c.doom_there.ensures.slots
+    ∙ used_none (use_at (kept c.args.self.now) c.args.slot) c.use_of.result c.use_of.ensures (sym c.is_ok.ensures.value ∙ c.if-is_ok.false)

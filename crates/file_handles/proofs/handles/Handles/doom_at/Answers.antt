@@ -1,6 +1,4 @@
-use Rattle.std.proofs.Common.{sym}
 use Rattle.std.proofs.lemmas.Result.{IfOk-from_err}
-use Rattle.cache_base.specs.declared.limits.TheConstants.{SLOTS}
 use Rattle.cache_theory.specs.Step.{doomed_under}
 use Rattle.file_handles.specs.Cache.{cache_at}
 use Rattle.file_handles.specs.Kept.{kept}

@@ -1,4 +1,3 @@
-use Rattle.std.proofs.Common.{sym}
 use Rattle.std.proofs.lemmas.Result.{IfOk-from_err}
 use Rattle.file_handles.specs.Kept.{kept}
 use Rattle.file_handles.proofs.DoomedCommand.{none_if, some_if}

@@ -13,6 +13,7 @@ use Rattle.file_handles.proofs.Places.{filed_somehow}
 use Rattle.file_handles.proofs.WriterCommands.{finish_makes}
 use Rattle.file_handles.proofs.Refused.{refused_answer}
 use Rattle.file_handles.proofs.IndexLeft.{completed_left}
+use Rattle.file_handles.proofs.NoSlots.{call_handed_on, call_passed}
 use Rattle.file_handles.proofs.handles.Handles.finish.Goals as goal
 
 pub finish_at-requires-clause-told : goal.finish_at-requires-clause-told
@@ -49,3 +50,11 @@ returns-clause-index g c told =
     let there = the_object _ _ c.in_ok-place.ensures.object in
     completed_left (g.D.Disk.state c.args.disk.now) (g.D.Disk.state c.finish_at.new.disk) (kept c.args.self.now) (kept c.finish_at.new.self) c.in_ok-place.place there.0 c.finish_at.result
     (g.met.D.Disk.sound c.args.disk.now told) there.1.0 (filed_somehow _ _ _ (c.requires.told told)) (c.finish_at.ensures.changes told)
+
+pub returns-in_err-place-clause-no_slot : goal.returns-in_err-place-clause-no_slot
+returns-in_err-place-clause-no_slot g c =
+    call_handed_on (kept c.args.self.now) c.args.slot c.in_err-place.field-0.0 c.may_finish.result c.from_residual.result c.in_err-place.was c.from_residual.ensures.1 c.may_finish.ensures.no_slot
+
+pub returns-clause-no_slot : goal.returns-clause-no_slot
+returns-clause-no_slot g c =
+    call_passed (kept c.args.self.now) c.args.slot c.in_ok-place.place c.may_finish.result c.finish_at.result c.in_ok-place.was c.may_finish.ensures.no_slot c.finish_at.ensures.refused

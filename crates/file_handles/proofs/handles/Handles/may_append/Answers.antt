@@ -1,29 +1,38 @@
-use Rattle.std.proofs.Common.{Some, sym, ap, ◌∙◌}
+use Rattle.std.proofs.Common.{sym, ap, ◌∙◌}
 use Rattle.cache_theory.specs.Command.Command.{Append}
-use Rattle.file_handles.specs.Kept.{kept, use_at}
-use Rattle.file_handles.proofs.ElementChecks.{handed_on, has_some}
-use Rattle.file_handles.proofs.Writers.{append_ends, append_no_writer, ending, writer_found}
+use Rattle.file_handles.specs.Kept.{kept, writing}
+use Rattle.file_handles.proofs.ElementChecks.{handed_on}
+use Rattle.file_handles.proofs.LiveUses.{live_refuses, writes_at}
+use Rattle.file_handles.proofs.Writers.{append_ends, append_no_writer, ending}
+use Rattle.file_handles.proofs.NoSlots.{check_handed_on, check_passed, grows_otherwise, writer_checks}
 use Rattle.file_handles.proofs.handles.Handles.may_append.Goals as goal
 
 pub returns-in_err-used-clause-refused : goal.returns-in_err-used-clause-refused
 returns-in_err-used-clause-refused c =
     handed_on c.from_residual.result c.in_err-used.field-0.0 _ c.from_residual.ensures.1
-    (λ bytes long. append_no_writer (kept c.args.self.now) c.args.slot c.requires c.in_err-used.field-0.0 (sym c.writing.ensures ∙ c.in_err-used.was) bytes)
-
-pub returns-in_err-object-clause-refused : goal.returns-in_err-object-clause-refused
-returns-in_err-object-clause-refused c =
-    let k = kept c.args.self.now in
-    let at = writer_found (use_at k c.args.slot) c.in_ok-used.used (sym c.writing.ensures ∙ c.in_ok-used.was) in
-    handed_on c.from_residual-in_err-object.result c.in_err-object.field-0.0 _ c.from_residual-in_err-object.ensures.1
-    (λ bytes long. has_some k c.args.slot c.requires (Append c.args.slot bytes) (Some c.in_err-object.field-0.0) c.in_ok-used.used at.0 c.in_err-object.ensures.none)
+    (λ bytes long. live_refuses (kept c.args.self.now) c.args.slot (Append c.args.slot bytes) c.in_err-used.field-0.0 writing (sym c.writing.ensures.used ∙ c.in_err-used.was)
+    (λ is. append_no_writer (kept c.args.self.now) c.args.slot c.requires c.in_err-used.field-0.0 is bytes))
 
 pub returns-in_err-may_grow-clause-refused : goal.returns-in_err-may_grow-clause-refused
 returns-in_err-may_grow-clause-refused c =
     let k = kept c.args.self.now in
     handed_on c.from_residual-in_err-may_grow.result c.in_err-may_grow.field-0.0 _ c.from_residual-in_err-may_grow.ensures.1
-    (λ bytes long m number proper stand. append_ends k c.args.slot c.requires c.in_ok-used.used c.in_ok-object.object.now (sym c.writing.ensures ∙ c.in_ok-used.was) c.in_ok-object.ensures.found bytes c.args.more long m number proper stand ∙ ap ending (sym c.in_err-may_grow.ensures))
+    (λ bytes long m number proper stand. append_ends k c.args.slot c.requires c.in_ok-used.used c.object_at-object.result.now (writes_at k c.args.slot c.in_ok-used.used (sym c.writing.ensures.used ∙ c.in_ok-used.was)) c.object_at-object.ensures bytes c.args.more long m number proper stand ∙ ap ending (sym c.in_err-may_grow.ensures))
 
 pub returns-clause-passes : goal.returns-clause-passes
 returns-clause-passes c bytes long m number proper stand =
     let k = kept c.args.self.now in
-    append_ends k c.args.slot c.requires c.in_ok-used.used c.in_ok-object.object.now (sym c.writing.ensures ∙ c.in_ok-used.was) c.in_ok-object.ensures.found bytes c.args.more long m number proper stand ∙ ap ending (sym c.in_ok-may_grow.ensures)
+    append_ends k c.args.slot c.requires c.in_ok-used.used c.object_at-object.result.now (writes_at k c.args.slot c.in_ok-used.used (sym c.writing.ensures.used ∙ c.in_ok-used.was)) c.object_at-object.ensures bytes c.args.more long m number proper stand ∙ ap ending (sym c.in_ok-may_grow.ensures)
+
+pub returns-in_err-used-clause-no_slot : goal.returns-in_err-used-clause-no_slot
+returns-in_err-used-clause-no_slot c =
+    check_handed_on (kept c.args.self.now) c.args.slot c.in_err-used.field-0.0 c.writing.result c.from_residual.result c.in_err-used.was c.from_residual.ensures.1 (writer_checks (kept c.args.self.now) c.args.slot c.writing.result c.writing.ensures.used)
+
+pub returns-in_err-may_grow-clause-no_slot : goal.returns-in_err-may_grow-clause-no_slot
+returns-in_err-may_grow-clause-no_slot c =
+    check_passed (kept c.args.self.now) c.args.slot c.in_ok-used.used c.writing.result c.from_residual-in_err-may_grow.result c.in_ok-used.was (writer_checks (kept c.args.self.now) c.args.slot c.writing.result c.writing.ensures.used)
+    (grows_otherwise c.object_at-object.result.now.entry c.args.more c.in_err-may_grow.field-0.0 c.from_residual-in_err-may_grow.result c.in_err-may_grow.ensures c.from_residual-in_err-may_grow.ensures.1)
+
+pub returns-clause-no_slot : goal.returns-clause-no_slot
+returns-clause-no_slot c =
+    check_passed (kept c.args.self.now) c.args.slot c.in_ok-used.used c.writing.result _ c.in_ok-used.was (writer_checks (kept c.args.self.now) c.args.slot c.writing.result c.writing.ensures.used) (λ same. cc)

@@ -15,13 +15,13 @@ returns-then-not-may_write-clause-refuses g c = λ refusal same tells m stand.
 pub returns-then-is_some-clause-passes : goal.returns-then-is_some-clause-passes
 returns-then-is_some-clause-passes g c = λ tells.
     let good : may_write c.args.key.now ≡ true = sym c.may_write.ensures ∙ c.if-not-may_write.false in
-    let used : is_some (used_place (kept c.args.self.now) c.name_of-name.result c.args.key.now) ≡ true = ap is_some (sym c.used_by.ensures) ∙ sym c.is_some.ensures ∙ c.if-is_some.true in
+    let used : is_some (used_place (kept c.args.self.now) c.name_of-name.result c.args.key.now) ≡ true = ap is_some (sym c.used_by.ensures.found) ∙ sym c.is_some.ensures ∙ c.if-is_some.true in
     doom_used (g.D.Disk.state c.args.disk.now) (kept c.args.self.now) c.args.key.now c.name_of-name.result c.name_of-name.ensures good used
 
 pub returns-in_err-look-clause-refuses : goal.returns-in_err-look-clause-refuses
 returns-in_err-look-clause-refuses g c =
     let good : may_write c.args.key.now ≡ true = sym c.may_write.ensures ∙ c.if-not-may_write.false in
-    let unused : is_some (used_place (kept c.args.self.now) c.name_of-name.result c.args.key.now) ≡ false = ap is_some (sym c.used_by.ensures) ∙ sym c.is_some.ensures ∙ c.if-is_some.false in
+    let unused : is_some (used_place (kept c.args.self.now) c.name_of-name.result c.args.key.now) ≡ false = ap is_some (sym c.used_by.ensures.found) ∙ sym c.is_some.ensures ∙ c.if-is_some.false in
     refused_on c.from_residual.result c.in_err-look.field-0.0 _ c.from_residual.ensures.1
     (λ refusal same tells m stand.
     let absent = c.in_err-look.ensures.refused refusal same in

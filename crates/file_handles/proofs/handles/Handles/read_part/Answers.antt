@@ -9,15 +9,16 @@ use Rattle.disk_model.specs.Account.{Ending, Looks}
 use Rattle.file_handles.specs.Answers.{ending}
 use Rattle.file_handles.specs.Cache.{cache_at}
 use Rattle.file_handles.specs.HeldChunks.{MayLoseLast, PutsFirst}
-use Rattle.file_handles.specs.Kept.{Kept, kept, object_at, use_at}
+use Rattle.file_handles.specs.Kept.{Kept, kept, object_at, use_at, used}
 use Rattle.file_handles.specs.Reading.{ForBody, HasChunkOf, part_of_body, rest_part}
-use Rattle.file_handles.specs.Refuses.{Refuses}
+use Rattle.file_handles.specs.Refuses.{HasNoObject, Refuses}
 use Rattle.file_handles.specs.declared.fault.HandleFault.{HandleFault}
 use Rattle.file_handles.specs.declared.fault.HandleFault.TheVariants as fault
 use Rattle.file_handles.specs.declared.read.StoredChunk.{StoredChunk}
 use Rattle.file_handles.proofs.Accounting.{looks_nowhere}
 use Rattle.file_handles.proofs.ChunkLists.{put_again}
 use Rattle.file_handles.proofs.ElementSlots.{use_found}
+use Rattle.file_handles.proofs.LiveUses.{live_refuses, none_live, some_live, used_at}
 use Rattle.file_handles.proofs.PartsSlots.{err_is, error_changes, error_reads, error_says, error_unread, never_both, on_err, on_error, part_no_slot, part_passes}
 use Rattle.file_handles.proofs.ReadChunks.{chunk_held, chunk_lent, for_chunk, for_none, in_slot, looked_loses_none, looked_stands, one_there, rest_lent, same_looked}
 use Rattle.file_handles.proofs.handles.Handles.read_part.Goals as goal
@@ -33,7 +34,8 @@ returns-in_err-used g c =
     (λ (r : Refusal). Refuses k (ReadPart c.args.slot c.args.from c.args.len) r) is
     (λ r same.
     let one : f ≡ r = cc in
-    subst (λ (q : Refusal). Refuses k (ReadPart c.args.slot c.args.from c.args.len) q) one (part_no_slot k c.args.slot c.requires.slot f (sym c.use_of.ensures ∙ c.in_err-used.was) c.args.from c.args.len)) in (
+    subst (λ (q : Refusal). Refuses k (ReadPart c.args.slot c.args.from c.args.len) q) one (live_refuses k c.args.slot (ReadPart c.args.slot c.args.from c.args.len) f used (sym c.live_use.ensures.used ∙ c.in_err-used.was)
+    (λ at. part_no_slot k c.args.slot c.requires.slot f at c.args.from c.args.len))) in (
       (
         refl,
         λ _. tt,
@@ -54,6 +56,11 @@ returns-in_err-used g c =
       record {
         part = says.0;
         refused = says.1;
+        no_object = (error_says c.from_residual.result (fault.Refused f) (λ (part : Bor (List ℕ)). Unit {0}) (HasNoObject k c.args.slot) is
+            (λ r same.
+            let one : f ≡ r = cc in
+            subst (HasNoObject k c.args.slot) one (none_live k c.args.slot f (sym c.live_use.ensures.used ∙ c.in_err-used.was)))).1;
+        object = on_err _ c.from_residual.result (fault.Refused f) is;
         passes = on_err _ c.from_residual.result (fault.Refused f) is;
         read = tt;
         held = λ _. (refl, error_unread c.from_residual.result (fault.Refused f) is (λ never. cc));
@@ -67,10 +74,10 @@ returns-in_err-hold-in-Some g c =
     let s = g.D.Disk.state c.args.disk.now in
     let k = kept c.args.self.now in
     let u = c.in_ok-used.used in
-    let found : use_at k c.args.slot ≡ Some u = use_found (use_at k c.args.slot) u (sym c.use_of.ensures ∙ c.in_ok-used.was) in
+    let found : use_at k c.args.slot ≡ Some u = use_found (use_at k c.args.slot) u (used_at k c.args.slot u (sym c.live_use.ensures.used ∙ c.in_ok-used.was)) in
     let chunk : StoredChunk = c.in-Some.chunk in
-    let there = one_there (object_at k u.place) (λ x. HasChunkOf x c.args.from c.args.len (Some chunk)) c.in_ok-chunk.ensures.there
-    (subst (λ (o : Option StoredChunk). IfSome (object_at k u.place) (λ x. HasChunkOf x c.args.from c.args.len o)) c.in-Some.is c.in_ok-chunk.ensures.chunk) in
+    let there = one_there (object_at k u.place) (λ x. HasChunkOf x c.args.from c.args.len (Some chunk)) c.in_ok-used.ensures.there
+    (subst (λ (o : Option StoredChunk). IfSome (object_at k u.place) (λ x. HasChunkOf x c.args.from c.args.len o)) c.in-Some.is c.chunk_of_part.ensures.chunk) in
     let e = c.in_err-hold-in-Some.field-0.0 in
     let is = err_is c.from_residual-in_err-hold-in-Some.result e c.from_residual-in_err-hold-in-Some.ensures.1 in
     let says = error_says c.from_residual-in_err-hold-in-Some.result e
@@ -97,6 +104,8 @@ returns-in_err-hold-in-Some g c =
       record {
         part = says.0;
         refused = says.1;
+        no_object = (error_says c.from_residual-in_err-hold-in-Some.result e (λ (part : Bor (List ℕ)). Unit {0}) (HasNoObject k c.args.slot) is (λ r same. absurd (c.in_err-hold-in-Some.ensures.refused r same))).1;
+        object = on_err _ c.from_residual-in_err-hold-in-Some.result e is;
         passes = on_err _ c.from_residual-in_err-hold-in-Some.result e is;
         read = tt;
         held = λ held.
@@ -111,10 +120,10 @@ pub returns-in_ok-hold-in-Some : goal.returns-in_ok-hold-in-Some
 returns-in_ok-hold-in-Some g c =
     let k = kept c.args.self.now in
     let u = c.in_ok-used.used in
-    let found : use_at k c.args.slot ≡ Some u = use_found (use_at k c.args.slot) u (sym c.use_of.ensures ∙ c.in_ok-used.was) in
+    let found : use_at k c.args.slot ≡ Some u = use_found (use_at k c.args.slot) u (used_at k c.args.slot u (sym c.live_use.ensures.used ∙ c.in_ok-used.was)) in
     let chunk : StoredChunk = c.in-Some.chunk in
-    let there = one_there (object_at k u.place) (λ x. HasChunkOf x c.args.from c.args.len (Some chunk)) c.in_ok-chunk.ensures.there
-    (subst (λ (o : Option StoredChunk). IfSome (object_at k u.place) (λ x. HasChunkOf x c.args.from c.args.len o)) c.in-Some.is c.in_ok-chunk.ensures.chunk) in
+    let there = one_there (object_at k u.place) (λ x. HasChunkOf x c.args.from c.args.len (Some chunk)) c.in_ok-used.ensures.there
+    (subst (λ (o : Option StoredChunk). IfSome (object_at k u.place) (λ x. HasChunkOf x c.args.from c.args.len o)) c.in-Some.is c.chunk_of_part.ensures.chunk) in
     let mid = kept c.hold.new.self in
     let after = kept c.lend_chunk.follows.lender-at-none in
     let looked = c.lend_chunk.follows.holds-at-none in
@@ -146,6 +155,8 @@ returns-in_ok-hold-in-Some g c =
             chunk_lent k c.args.slot u found there.0 there.1.0 c.args.from c.args.len m stand.0 stand.1.handles c.requires.slot chunk there.1.1 mid
             (c.hold.ensures.holds u.place there.0 c.args.from c.args.len told there.1.0 there.1.1 m stand.0 stand.1) c.in_ok-hold-in-Some.ensures.found c.lend_chunk.result.now c.lend_chunk.ensures.part;
         refused = tt;
+        no_object = tt;
+        object = some_live k c.args.slot u (sym c.live_use.ensures.used ∙ c.in_ok-used.was);
         passes = part_passes k c.args.slot c.requires.slot u found c.args.from c.args.len;
         read = tt;
         held = λ held. ((c.hold.ensures.held (chunk_held k c.args.slot u found there.0 there.1.0 c.args.from c.args.len chunk there.1.1 held)).1.0, λ e. cc);
@@ -158,9 +169,9 @@ pub returns-in-None : goal.returns-in-None
 returns-in-None g c =
     let k = kept c.args.self.now in
     let u = c.in_ok-used.used in
-    let found : use_at k c.args.slot ≡ Some u = use_found (use_at k c.args.slot) u (sym c.use_of.ensures ∙ c.in_ok-used.was) in
-    let there = one_there (object_at k u.place) (λ x. HasChunkOf x c.args.from c.args.len None) c.in_ok-chunk.ensures.there
-    (subst (λ (o : Option StoredChunk). IfSome (object_at k u.place) (λ x. HasChunkOf x c.args.from c.args.len o)) c.in-None.is c.in_ok-chunk.ensures.chunk) in
+    let found : use_at k c.args.slot ≡ Some u = use_found (use_at k c.args.slot) u (used_at k c.args.slot u (sym c.live_use.ensures.used ∙ c.in_ok-used.was)) in
+    let there = one_there (object_at k u.place) (λ x. HasChunkOf x c.args.from c.args.len None) c.in_ok-used.ensures.there
+    (subst (λ (o : Option StoredChunk). IfSome (object_at k u.place) (λ x. HasChunkOf x c.args.from c.args.len o)) c.in-None.is c.chunk_of_part.ensures.chunk) in
     let lent = subst (λ o. IfSome o (λ x. c.lend_rest.result.now ≡ rest_part x.entry c.args.from c.args.len)) there.1.0 c.lend_rest.ensures in (
       (
         refl,
@@ -182,6 +193,8 @@ returns-in-None g c =
       record {
         part = λ told m stand. rest_lent k c.args.slot u found there.0 there.1.0 c.args.from c.args.len m stand.0 stand.1.handles c.requires.slot there.1.1 c.lend_rest.result.now lent;
         refused = tt;
+        no_object = tt;
+        object = some_live k c.args.slot u (sym c.live_use.ensures.used ∙ c.in_ok-used.was);
         passes = part_passes k c.args.slot c.requires.slot u found c.args.from c.args.len;
         read = tt;
         held = λ _. (refl, λ e. cc);

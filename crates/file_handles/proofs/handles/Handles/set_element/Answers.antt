@@ -18,6 +18,7 @@ use Rattle.file_handles.proofs.Places.{filed_somehow}
 use Rattle.file_handles.proofs.Refused.{refused_answer}
 use Rattle.file_handles.proofs.IndexLeft.{change_left}
 use Rattle.file_handles.proofs.UnsyncedLaws.{change_unsynced}
+use Rattle.file_handles.proofs.NoSlots.{call_handed_on, call_passed}
 use Rattle.file_handles.proofs.handles.Handles.set_element.Goals as goal
 
 pub change_at-requires-clause-told : goal.change_at-requires-clause-told
@@ -68,3 +69,11 @@ returns-clause-unsynced g c told =
     let there = the_object _ _ c.in_ok-place.ensures.object in
     change_unsynced (g.D.Disk.state c.args.disk.now) (g.D.Disk.state c.change_at.new.disk) (kept c.args.self.now) (kept c.change_at.new.self) c.in_ok-place.place there.0 (_) c.change_at.result
     there.1.0 (filed_somehow _ _ _ (c.requires.told told)) (c.change_at.ensures.changes told)
+
+pub returns-in_err-place-clause-no_slot : goal.returns-in_err-place-clause-no_slot
+returns-in_err-place-clause-no_slot g c =
+    call_handed_on (kept c.args.self.now) c.args.slot c.in_err-place.field-0.0 c.may_set.result c.from_residual.result c.in_err-place.was c.from_residual.ensures.1 c.may_set.ensures.no_slot
+
+pub returns-clause-no_slot : goal.returns-clause-no_slot
+returns-clause-no_slot g c =
+    call_passed (kept c.args.self.now) c.args.slot c.in_ok-place.place c.may_set.result c.change_at.result c.in_ok-place.was c.may_set.ensures.no_slot c.change_at.ensures.refused

@@ -17,6 +17,7 @@ use Rattle.file_handles.proofs.Refused.{refused_answer}
 use Rattle.file_handles.proofs.UseCommand.{use_makes}
 use Rattle.file_handles.proofs.Where.{at_moment}
 use Rattle.file_handles.proofs.UnsyncedLaws.{change_unsynced}
+use Rattle.file_handles.proofs.NoSlots.{call_handed_on, call_passed}
 use Rattle.file_handles.proofs.handles.Handles.use_entry.Goals as goal
 
 pub returns-in_err-place-clause-carried : goal.returns-in_err-place-clause-carried
@@ -65,3 +66,11 @@ returns-clause-unsynced g c told =
 
 pub change_at-requires-clause-settable : goal.change_at-requires-clause-settable
 change_at-requires-clause-settable g c = of_any _
+
+pub returns-in_err-place-clause-no_slot : goal.returns-in_err-place-clause-no_slot
+returns-in_err-place-clause-no_slot g c =
+    call_handed_on (kept c.args.self.now) c.args.slot c.in_err-place.field-0.0 c.place_of.result c.from_residual.result c.in_err-place.was c.from_residual.ensures.1 c.place_of.ensures.no_slot
+
+pub returns-clause-no_slot : goal.returns-clause-no_slot
+returns-clause-no_slot g c =
+    call_passed (kept c.args.self.now) c.args.slot c.in_ok-place.place c.place_of.result c.change_at.result c.in_ok-place.was c.place_of.ensures.no_slot c.change_at.ensures.refused

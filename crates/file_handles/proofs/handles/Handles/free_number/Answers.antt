@@ -1,0 +1,13 @@
+use Rattle.std.proofs.Common.{sym, subst, length, ◌<◌}
+use Rattle.cache_base.specs.declared.limits.TheConstants.{SLOTS}
+use Rattle.file_handles.specs.Kept.{kept}
+use Rattle.file_handles.proofs.SeatLaws.{few_aside}
+use Rattle.file_handles.proofs.handles.Handles.free_number.Goals as goal
+
+pub least-requires : goal.least-requires
+least-requires c =
+    subst (λ numbers. length numbers < SLOTS) (sym c.doomed_numbers-aside.ensures.numbers)
+    (few_aside (kept c.args.self.now) c.args.slot c.requires.slot c.requires.free c.has_rows.ensures.objects c.has_rows.ensures.slots c.args.self.now.table.are_used)
+
+pub returns-clause-few : goal.returns-clause-few
+returns-clause-few c = few_aside (kept c.args.self.now) c.args.slot c.requires.slot c.requires.free c.has_rows.ensures.objects c.has_rows.ensures.slots c.args.self.now.table.are_used
