@@ -38,15 +38,12 @@ static void write_chunk(void)
     filled = 0;
 }
 
-/* Gives the record of the entry. */
-static struct record write_rest(uint32_t now, const char *key)
+/* Puts the block of a body with so many chunks there, and the offset. Gives its end. */
+static uint8_t *put_block(uint8_t *block, uint32_t body, uint32_t chunks, uint32_t now, const char *key, const void *elements, size_t len)
 {
-    uint32_t size = (uint32_t)strlen(key), body = full * CHUNK + filled, chunks = full, h[5];
-    struct record r = {.frecency = now, .on_start = 65535, .on_stop = 65535};
-    uint8_t *block = chunk + filled, *end = block + 4;
+    uint32_t size = (uint32_t)strlen(key);
+    uint8_t *end = block + 4;
 
-    if (filled > 0)
-        hashes[chunks++] = hash(chunk, filled) & 0xffff;
     for (uint32_t i = 0; i < chunks; i++, end += 2)
         put_big(end, hashes[i], 2);
     const uint32_t header[8] = {3, 1, now, now, now, 0xffffffff, size, 0};
@@ -54,9 +51,22 @@ static struct record write_rest(uint32_t now, const char *key)
         put_big(end, header[i], 4);
     memcpy(end, key, size + 1);
     end += size + 1;
+    memcpy(end, elements, len);
+    end += len;
     put_big(block, hash(block + 4, (uint32_t)(end - block) - 4), 4);
     put_big(end, body, 4);
-    end += 4;
+    return end + 4;
+}
+
+/* Gives the record of the entry. */
+static struct record write_rest(uint32_t now, const char *key)
+{
+    uint32_t size = (uint32_t)strlen(key), chunks = full, h[5];
+    struct record r = {.frecency = now, .on_start = 65535, .on_stop = 65535};
+
+    if (filled > 0)
+        hashes[chunks++] = hash(chunk, filled) & 0xffff;
+    const uint8_t *end = put_block(chunk + filled, full * CHUNK + filled, chunks, now, key, "", 0);
     write_at(new_file, chunk, (size_t)(end - chunk), (off_t)full * CHUNK);
     sha1((const uint8_t *)key, size, h);
     for (int i = 0; i < 5; i++)

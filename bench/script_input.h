@@ -7,7 +7,7 @@
 #include <string.h>
 #include <unistd.h>
 
-static uint8_t input[2 * 1048576 + 65536];
+static uint8_t input[5 * 1048576 + 65536];
 static size_t from, to;
 
 static int more(void)

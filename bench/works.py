@@ -36,7 +36,7 @@ class Bench:
     def __init__(self, here, room, program):
         self.room = room
         self.cache2 = program
-        for name in ("session", "script", "open_index", "peak"):
+        for name in ("session", "script", "putalt", "open_index", "peak"):
             words = ["gcc", "-O2", "-Wall", "-Wno-unused-function", "-o", self.at(name), os.path.join(here, name + ".c")]
             subprocess.run(words, check=True)
 
@@ -71,6 +71,13 @@ class Bench:
             lines += [b"create 0 " + KEY % number, b"append 0 %d" % size, random.randbytes(size), b"close 0"]
         name = "-".join(["script", str(count), str(size), *(line.decode() for line in last)])
         return self.write(name, b"\n".join([*lines, *last, b""]))
+
+    def putalt(self):
+        """A script that makes an entry of 1 MiB and puts 4 MiB of data after its body."""
+        random.seed(1)
+        lines = [b"create 0 " + KEY % 0, b"append 0 1048576", random.randbytes(1 << 20), b"finish 0"]
+        lines += [b"putalt 0 4194304 wasm", random.randbytes(1 << 22), b"close 0", b""]
+        return self.write("script-putalt", b"\n".join(lines))
 
     def entries(self, count):
         """A closed cache with so many entries, each with its file."""
@@ -114,6 +121,7 @@ def of_goals(bench):
         Work("evict half, no files", records, sorted_records, evict_records, "session", 1.3, changes=True),
         Work("script of new entries, flush", files, bench.records(0, "sorted"), ("1000", "run"), "script", 1.15, script, True),
         Work("rebuild", files, entries, ("1001", "rebuild"), "session", 1.2),
+        Work("putalt of 4 MiB", "after 1 MiB", bench.records(0, "sorted"), ("1000", "run"), "putalt", 1.3, bench.putalt(), True),
     ]
 
 

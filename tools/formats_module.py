@@ -5,6 +5,7 @@ each version, the records, the index and the journal.
 """
 import functools
 import hashlib
+import re
 import struct
 
 CHUNK = 262144
@@ -77,6 +78,14 @@ def file_with(body, block):
 def file_of(body, header, key, elements=b""):
     """The file of a finished entry, from the bytes of its parts."""
     return file_with(body, chunk_hashes(body) + header + key + b"\0" + elements)
+
+
+def alternative(value, body):
+    """The main body, the kind and the alternative data, by the value of the element `alt-data`; or None where it tells of none."""
+    told = re.fullmatch(rb"1;(0|[1-9][0-9]*),([^\0]+)", value, re.DOTALL)
+    if not told or int(told[1]) > min(len(body), WORD):
+        return None
+    return body[:int(told[1])], told[2], body[int(told[1]):]
 
 
 # ---- the index and its journal
