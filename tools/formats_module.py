@@ -28,6 +28,14 @@ def name_of(key):
     return digest_of(key).hex().upper()
 
 
+def shown(key):
+    """The bytes of a key as text on one line: a backslash is doubled, and a byte that is not printable is `\\xHH`."""
+    text = key.decode(errors="surrogateescape").replace("\\", "\\\\")
+    escaped = (c if c.isprintable() else "".join(f"\\x{byte:02X}" for byte in c.encode(errors="surrogateescape"))
+               for c in text)
+    return "".join(escaped)
+
+
 def mix(a, b, c):
     for i, j, k in ((13, 8, 13), (12, 16, 5), (3, 10, 15)):
         a = (a - b - c & WORD) ^ c >> i

@@ -1,0 +1,11 @@
+pub mod ChunkLaws
+pub mod DumpedLaws
+pub mod FieldLaws
+pub mod FrontLaws
+pub mod JoinedLaws
+pub mod NextLaws
+pub mod PartLaws
+pub mod ReadingLaws
+pub mod WholeLaws
+pub mod WindowLaws
+pub mod WritingLaws

@@ -1,0 +1,12 @@
+pub mod Dump
+pub mod Dumped
+pub mod Front
+pub mod Joined
+pub mod PartRead
+pub mod Parts
+pub mod Progress
+pub mod Reader
+pub mod Reading
+pub mod Stages
+pub mod Window
+pub mod Writing
