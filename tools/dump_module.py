@@ -1,16 +1,14 @@
 """The items of a dump, for the tools beside this module. It is no tool.
 
-It follows "The dump" in docs/FORMATS.md, and nothing of the program. Of a key only its length and its bytes are checked, and
-not the grammar of keys; nor is the form of the elements.
+It follows "The dump" in docs/FORMATS.md, and nothing of the program.
 """
 import dataclasses
 import hashlib
 import struct
 
-from formats_module import CHUNK, MAX_BLOCK, hash_of
+from formats_module import CHUNK, MAX_BLOCK, MAX_KEY, are_elements, low_hash, lookup2, may_write
 
 HEAD = b"C2DUMP01"
-MAX_KEY = 16384
 MAX_BODY = 52428800
 MAX_DUMP = 1 << 40
 
@@ -30,6 +28,8 @@ class Item:
     modified: int
     frecency: int
     expires: int
+    flags: int
+    elements: bytes
 
 
 class Dump:
@@ -62,7 +62,7 @@ class Dump:
     def key(self, before):
         """The key of an item, whose name comes after the one before."""
         key = self.take(self.length(1, MAX_KEY, "a key"))
-        if b"\0" in key or b"\n" in key:
+        if not may_write(key):
             raise self.bad("its key may not be written")
         if hashlib.sha1(key).digest() <= before:
             raise self.bad("its name is out of order")
@@ -75,27 +75,30 @@ class Dump:
         while left:
             piece = self.take(min(CHUNK, left))
             left -= len(piece)
-            hashes.append(hash_of(piece)[2:])
+            hashes.append(low_hash(piece))
             keep(piece)
         return length, b"".join(hashes)
 
-    def numbers(self, key, hashes):
-        """The numbers of a header but the version, the key's length and the flags, in the block of this key and these hashes."""
+    def meta(self, key, hashes):
+        """What the block of this key and these hashes says: the header's numbers but the version and the key's length, and the elements."""
         block = self.take(self.length(0, MAX_BLOCK, "a block"))
         header = 4 + len(hashes)
         key_at = header + 32
         if len(block) <= key_at + len(key):
             raise self.bad("its block is short")
-        if block[:4] != hash_of(block[4:]):
+        if block[:4] != struct.pack(">I", lookup2(block[4:])):
             raise self.bad("its block is damaged")
         if block[4:header] != hashes:
             raise self.bad("its body is damaged")
-        version, *numbers, key_len, _ = struct.unpack_from(">8I", block, header)
+        version, *numbers, key_len, flags = struct.unpack_from(">8I", block, header)
         if version != 3:
             raise self.bad(f"its block has version {version}")
         if key_len != len(key) or block[key_at:key_at + key_len + 1] != key + b"\0":
             raise self.bad("its block has another key")
-        return numbers
+        elements = block[key_at + key_len + 1:]
+        if not are_elements(elements):
+            raise self.bad("its elements are malformed")
+        return *numbers, flags, elements
 
     def items(self, begin=lambda name: lambda piece: None):
         """Each item, once it is read whole. `begin` is called with its name, and what it gives with each piece of its body."""
@@ -106,9 +109,33 @@ class Dump:
             key = self.key(before)
             name = before = hashlib.sha1(key).digest()
             body_len, hashes = self.body(begin(name))
-            yield Item(name, key, body_len, *self.numbers(key, hashes))
+            yield Item(name, key, body_len, *self.meta(key, hashes))
             self.number += 1
         if tag != b"\0":
             raise self.bad("it begins with another byte")
         if self.file.read(1):
             raise self.bad("a byte comes after the end")
+
+
+class Writer:
+    """Writes a dump to an open file: items in the order of their names, and then the end. It has at most so many bytes."""
+
+    def __init__(self, file, most=MAX_DUMP):
+        self.file = file
+        self.left = most - len(HEAD)
+        file.write(HEAD)
+
+    def add(self, key, body, block):
+        """Whether there was room for an item; nothing of it is written otherwise. A byte is kept for the end."""
+        front = b"\1" + struct.pack(">I", len(key)) + key + struct.pack(">I", len(body))
+        size = len(front) + len(body) + 4 + len(block)
+        if size + 1 > self.left:
+            return False
+        self.left -= size
+        for part in (front, body, struct.pack(">I", len(block)), block):
+            self.file.write(part)
+        return True
+
+    def end(self):
+        self.file.write(b"\0")
+        self.file.flush()

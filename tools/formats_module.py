@@ -7,6 +7,7 @@ import functools
 import hashlib
 import re
 import struct
+import sys
 
 CHUNK = 262144
 MAX_BLOCK = 262144
@@ -34,6 +35,15 @@ def shown(key):
     escaped = (c if c.isprintable() else "".join(f"\\x{byte:02X}" for byte in c.encode(errors="surrogateescape"))
                for c in text)
     return "".join(escaped)
+
+
+def say(line):
+    """A line on standard error, and never on standard output. Where standard error is closed or full, a tool goes on."""
+    try:
+        if sys.stderr:
+            print(line, file=sys.stderr)
+    except OSError:
+        pass
 
 
 def mix(a, b, c):
@@ -64,9 +74,51 @@ def hash_of(data):
     return struct.pack(">I", lookup2(data))
 
 
+def low_hash(data):
+    """The 16-bit hash of a chunk, which is not remembered."""
+    return struct.pack(">H", lookup2(data) & 0xFFFF)
+
+
 def chunk_hashes(body):
     """The 16-bit hashes of a body's chunks, one after the other."""
     return b"".join(hash_of(body[at:at + CHUNK])[2:] for at in range(0, len(body), CHUNK))
+
+
+# ---- keys
+
+MAX_KEY = 16384
+# A value up to its comma: commas are read in pairs.
+VALUE = re.compile(rb"((?:[^,]|,,)*),(?!,)", re.DOTALL)
+BARE = b"abp"
+
+
+def key_parts(key):
+    """The tags of a key, each a letter and a value as it is spelled, and its address; or None where the key is malformed."""
+    tags, last, at = [], ord(","), 0
+    while key[at:at + 1] != b":":
+        value = VALUE.match(key, at + 1)
+        if at >= len(key) or key[at] <= last or not value or (key[at] in BARE and value[1]):
+            return None
+        last = key[at]
+        tags.append((key[at:at + 1], value[1]))
+        at = value.end()
+    return tags, key[at + 1:]
+
+
+def may_write(key):
+    """Whether an entry may be written under the key."""
+    return 1 <= len(key) <= MAX_KEY and b"\0" not in key and b"\n" not in key and key_parts(key) is not None
+
+
+def are_elements(data):
+    """Whether these bytes are well formed as elements."""
+    return not data or (data[-1] == 0 and data.count(0) % 2 == 0)
+
+
+def elements_in(data):
+    """The elements by their names. Where a name stands twice the first one counts."""
+    pieces = data.split(b"\0")[:-1]
+    return dict(reversed(list(zip(pieces[::2], pieces[1::2]))))
 
 
 # ---- entry files
