@@ -6,10 +6,10 @@ use Rattle.std.proofs.lemmas.Bool.Decides.{nat_tests}
 use Rattle.std.proofs.lemmas.Slice.Eq.{bytes_eq-Decides}
 use Rattle.cache_base.specs.Bytes.{AreBytes}
 use Rattle.cache_base.specs.declared.limits.TheConstants.{ALT_MAX, ELEMENTS_MAX, PIECE_MAX, SLOTS}
-use Rattle.cache_theory.specs.Command.Command.{At, Finish, UseEntry, ReadPart, Close, Evict, StepUpdate}
+use Rattle.cache_theory.specs.Command.Command.{At, Finish, UseEntry, Pin, Unpin, ReadPart, Close, Evict, StepUpdate}
 use Rattle.cache_theory.specs.Command.{Command}
 use Rattle.cache_theory.specs.Text.{FieldsFit, IsOneLine, command_words, spaced}
-use Rattle.cache_script.specs.Lines.{Form, Tells, cut, number_below, slot_in, len_in, read_in, slot_form, number_form, verb_form, form_in}
+use Rattle.cache_script.specs.Lines.{Form, Tells, cut, number_below, slot_in, len_in, read_in, slot_form, first_slot_form, number_form, verb_form, form_in}
 use Rattle.cache_base.specs.Numbers.{number_in}
 use Rattle.cache_script.proofs.CutLaws.{Lacks, IsCut, cut_is}
 use Rattle.cache_script.proofs.LineLaws.{all_behind, line_read}
@@ -119,6 +119,24 @@ more_spelled verb rest line =
     (slot_spelled verb s parts.1 k.1 (line_behind 32 parts.0 parts.1 (subst IsLine h.0 line))))
     (below_spelled SLOTS parts.0)) (cut_is 32 rest)
 
+-- a verb with a slot and no more
+lone_slot_spelled : (word verb rest : List ℕ) (command : ℕ → Command) → ((s : ℕ) → s < SLOTS → Tells (verb_text word (decimal s)) (Form.WholeLine (command s))) → verb ≡ word
+    → IfSome (option_map (λ s. Form.WholeLine (command s)) (slot_in rest)) (Tells (verb_text verb rest))
+lone_slot_spelled word verb rest command tells is =
+    mapped (λ s. Form.WholeLine (command s)) (slot_in rest) (IsBelow SLOTS rest) (Tells (verb_text verb rest))
+    (λ s h. (ap (λ v. verb_text v rest) is ∙ ap (λ r. verb_text word r) h.0 ∙ (tells s h.1).0, (tells s h.1).1)) (below_spelled SLOTS rest)
+
+first_slot_spelled : (verb rest : List ℕ) → IsLine rest → IfSome (first_slot_form verb rest) (Tells (verb_text verb rest))
+unfolding first_slot_form
+first_slot_spelled verb rest line =
+    let P : Form → Type 0 = Tells (verb_text verb rest) in
+    verb_case verb (codes "finish") _ _ P (lone_slot_spelled (codes "finish") verb rest (λ s. Finish s) (λ s small. (refl, (small, refl))))
+    (verb_case verb (codes "close") _ _ P (lone_slot_spelled (codes "close") verb rest (λ s. Close s) (λ s small. (refl, (small, refl))))
+    (verb_case verb (codes "use") _ _ P (lone_slot_spelled (codes "use") verb rest (λ s. UseEntry s) (λ s small. (refl, (small, refl))))
+    (verb_case verb (codes "pin") _ _ P (lone_slot_spelled (codes "pin") verb rest (λ s. Pin s) (λ s small. (refl, (small, refl))))
+    (verb_case verb (codes "unpin") _ _ P (lone_slot_spelled (codes "unpin") verb rest (λ s. Unpin s) (λ s small. (refl, (small, refl))))
+    (more_spelled verb rest line)))))
+
 number_form_spelled : (verb rest : List ℕ) → IsLine rest → IfSome (number_form verb rest) (Tells (verb_text verb rest))
 unfolding number_form
 number_form_spelled verb rest line =
@@ -137,17 +155,7 @@ number_form_spelled verb rest line =
     (λ n. (rest ≡ decimal n) × (n < 2 ^ 32)) P
     (λ n h. (same (codes "step") is ∙ ap (λ r. verb_text (codes "step") r) h.0, (h.1, refl)))
     (number_spelled rest))
-    (verb_case verb (codes "finish") _ _ P
-    (λ is. mapped (λ s. Form.WholeLine (Finish s)) (slot_in rest) (IsBelow SLOTS rest) P
-    (λ s h. (same (codes "finish") is ∙ ap (λ r. verb_text (codes "finish") r) h.0, (h.1, refl))) (below_spelled SLOTS rest))
-    (verb_case verb (codes "close") _ _ P
-    (λ is. mapped (λ s. Form.WholeLine (Close s)) (slot_in rest) (IsBelow SLOTS rest) P
-    (λ s h. (same (codes "close") is ∙ ap (λ r. verb_text (codes "close") r) h.0, (h.1, refl))) (below_spelled SLOTS rest))
-    (verb_case verb (codes "use") _ _ P
-    (λ is. mapped (λ s. Form.WholeLine (UseEntry s)) (slot_in rest) (IsBelow SLOTS rest) P
-    (λ s h. (same (codes "use") is ∙ ap (λ r. verb_text (codes "use") r) h.0, (h.1, refl)))
-    (below_spelled SLOTS rest))
-    (more_spelled verb rest line))))))
+    (first_slot_spelled verb rest line)))
 
 verb_spelled : (verb rest : List ℕ) → IsLine rest → IfSome (verb_form verb rest) (Tells (verb_text verb rest))
 unfolding verb_form
@@ -159,7 +167,8 @@ verb_spelled verb rest line =
     (verb_case verb (codes "getalt") _ _ P (λ is. (same (codes "getalt") is, (line, refl)))
     (verb_case verb (codes "main") _ _ P (λ is. (same (codes "main") is, (line, refl)))
     (verb_case verb (codes "has") _ _ P (λ is. (same (codes "has") is, (line, refl)))
-    (number_form_spelled verb rest line)))))
+    (verb_case verb (codes "clear") _ _ P (λ is. (same (codes "clear") is, (line, refl)))
+    (number_form_spelled verb rest line))))))
 
 pub form_spelled : (text : List ℕ) → IsLine text → IfSome (form_in text) (Tells text)
 unfolding form_in

@@ -5,7 +5,7 @@ use Rattle.std.proofs.lemmas.Bool.Decides.{Decides-eqb}
 use Rattle.std.proofs.lemmas.List.{append_assoc, take_at}
 use Rattle.cache_base.specs.declared.limits.TheConstants.{SLOTS}
 use Rattle.cache_theory.specs.Command.{Command}
-use Rattle.cache_theory.specs.Command.Command.{At, Create, OpenKey, Append, Finish, SetElement, UnsetElement, ElementOf, PutAlt, UseEntry, ReadPart, Close, Doom, Get, GetAlt, MainBody, HasEntry, HasGiven, ListRecords, ListGiven, Evict, EvictNames, Flush, StepUpdate, UpdateState, Verify, VerifyRecords, Rebuild}
+use Rattle.cache_theory.specs.Command.Command.{At, Create, OpenKey, Append, Finish, SetElement, UnsetElement, ElementOf, PutAlt, UseEntry, Pin, Unpin, ReadPart, Close, Doom, Get, GetAlt, MainBody, HasEntry, HasGiven, ListRecords, ListGiven, Evict, EvictNames, ClearOrigin, ClearNames, Flush, StepUpdate, UpdateState, Verify, VerifyRecords, Rebuild}
 use Rattle.cache_theory.specs.Text.{FieldsFit, IsOneLine, command_words, command_data, command_bytes, spaced, NoneBeginsAnother}
 use Rattle.cache_script.specs.Lines.{Form, form_of, cut, form_in}
 use Rattle.cache_script.proofs.CutLaws.{Lacks, cut_at}
@@ -55,6 +55,8 @@ one_line (PutAlt s kind bytes) fits =
 one_line (UseEntry s) fits =
     one_line_pair (codes "use") (decimal s) (lacks_by 10 (codes "use") refl)
     (one_line_number s (omega arith))
+one_line (Pin s) fits = one_line_pair (codes "pin") (decimal s) (lacks_by 10 (codes "pin") refl) (one_line_number s (omega arith))
+one_line (Unpin s) fits = one_line_pair (codes "unpin") (decimal s) (lacks_by 10 (codes "unpin") refl) (one_line_number s (omega arith))
 one_line (ReadPart s from len) fits =
     one_line_slot (codes "read") s (decimal from ++ 32 ∷ decimal len) fits.0 (lacks_by 10 (codes "read") refl)
     (one_line_pair (decimal from) (decimal len) (one_line_number from fits.1.0) (one_line_number len fits.1.1))
@@ -72,6 +74,8 @@ one_line (Evict kb) fits =
     one_line_pair (codes "evict") (decimal kb) (lacks_by 10 (codes "evict") refl)
     (one_line_number kb fits)
 one_line (EvictNames names) fits = absurd fits
+one_line (ClearOrigin origin) fits = one_line_pair (codes "clear") origin (lacks_by 10 (codes "clear") refl) fits.1
+one_line (ClearNames names) fits = absurd fits
 one_line Flush fits = lacks_by 10 (codes "flush") refl
 one_line (StepUpdate n) fits =
     one_line_pair (codes "step") (decimal n) (lacks_by 10 (codes "step") refl)

@@ -8,9 +8,9 @@ use Rattle.std.proofs.lemmas.Str.Parse.{digit_from_value}
 use Rattle.std.proofs.lemmas.Fmt.{digits_decimal}
 use Rattle.cache_base.specs.declared.limits.TheConstants.{ALT_MAX, ELEMENTS_MAX, PIECE_MAX, SLOTS}
 use Rattle.cache_theory.specs.Command.{Command}
-use Rattle.cache_theory.specs.Command.Command.{At, Create, OpenKey, Append, Finish, SetElement, UnsetElement, ElementOf, PutAlt, UseEntry, ReadPart, Close, Doom, Get, GetAlt, MainBody, HasEntry, HasGiven, ListRecords, ListGiven, Evict, EvictNames, Flush, StepUpdate, UpdateState, Verify, VerifyRecords, Rebuild}
+use Rattle.cache_theory.specs.Command.Command.{At, Create, OpenKey, Append, Finish, SetElement, UnsetElement, ElementOf, PutAlt, UseEntry, Pin, Unpin, ReadPart, Close, Doom, Get, GetAlt, MainBody, HasEntry, HasGiven, ListRecords, ListGiven, Evict, EvictNames, ClearOrigin, ClearNames, Flush, StepUpdate, UpdateState, Verify, VerifyRecords, Rebuild}
 use Rattle.cache_theory.specs.Text.{FieldsFit, command_words, spaced}
-use Rattle.cache_script.specs.Lines.{Form, form_of, cut, number_below, slot_in, len_in, read_in, slot_form, number_form, verb_form, form_in}
+use Rattle.cache_script.specs.Lines.{Form, form_of, cut, number_below, slot_in, len_in, read_in, slot_form, first_slot_form, number_form, verb_form, form_in}
 use Rattle.cache_base.specs.Numbers.{number_in}
 use Rattle.cache_script.proofs.CutLaws.{Lacks, cut_at}
 use Rattle.cache_base.proofs.NumberLaws.{own, number_read}
@@ -72,7 +72,7 @@ unfolding slot_form
 append_read s len small = ap (λ o. option_map (λ n. Form.AppendLine s n) o) (below_read (PIECE_MAX + 1) len (omega arith) (omega arith))
 
 pub line_read : (c : Command) → FieldsFit c → form_in (spaced (command_words c)) ≡ Some (form_of c)
-unfolding form_in verb_form number_form slot_form
+unfolding form_in verb_form number_form first_slot_form slot_form
 line_read (At now) fits = ap (λ o. option_map (λ n. Form.WholeLine (At n)) o) (number_read now fits)
 line_read (Create s key) fits = with_slot (codes "create") s key _ fits.0 refl
 line_read (OpenKey s key) fits = with_slot (codes "open") s key _ fits.0 refl
@@ -84,6 +84,8 @@ line_read (ElementOf s name) fits = with_slot (codes "element") s name _ fits.0 
 line_read (PutAlt s kind bytes) fits = with_slot (codes "putalt") s (decimal (length bytes) ++ 32 ∷ kind) _ fits.0 (alt_read s (length bytes) kind fits.1.1.1)
 line_read (UseEntry s) fits =
     ap (λ o. option_map (λ n. Form.WholeLine (UseEntry n)) o) (below_read SLOTS s fits (omega arith))
+line_read (Pin s) fits = ap (λ o. option_map (λ n. Form.WholeLine (Pin n)) o) (below_read SLOTS s fits (omega arith))
+line_read (Unpin s) fits = ap (λ o. option_map (λ n. Form.WholeLine (Unpin n)) o) (below_read SLOTS s fits (omega arith))
 line_read (ReadPart s from len) fits = with_slot (codes "read") s (decimal from ++ 32 ∷ decimal len) _ fits.0 (part_read s from len fits.1.0 fits.1.1)
 line_read (Close s) fits = ap (λ o. option_map (λ n. Form.WholeLine (Close n)) o) (below_read SLOTS s fits (omega arith))
 line_read (Doom key) fits = refl
@@ -97,6 +99,8 @@ line_read (ListGiven records) fits = absurd fits
 line_read (Evict kb) fits =
     ap (λ o. option_map (λ n. Form.WholeLine (Evict n)) o) (number_read kb fits)
 line_read (EvictNames names) fits = absurd fits
+line_read (ClearOrigin origin) fits = refl
+line_read (ClearNames names) fits = absurd fits
 line_read Flush fits = refl
 line_read (StepUpdate n) fits =
     ap (λ o. option_map (λ k. Form.WholeLine (StepUpdate k)) o) (number_read n fits)

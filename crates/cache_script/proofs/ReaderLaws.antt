@@ -4,7 +4,7 @@ use Rattle.std.proofs.lemmas.List.{append_assoc, length-append}
 use Rattle.std.specs.Io.KnownBytes.{Consumes, IsAtEnd, prepend_known}
 use Rattle.cache_base.specs.declared.limits.TheConstants.{SCRIPT_MAX}
 use Rattle.cache_theory.specs.Command.{Command}
-use Rattle.cache_theory.specs.Command.Command.{At, Create, OpenKey, Append, Finish, SetElement, UnsetElement, ElementOf, PutAlt, UseEntry, ReadPart, Close, Doom, Get, GetAlt, MainBody, HasEntry, Evict, EvictNames, StepUpdate}
+use Rattle.cache_theory.specs.Command.Command.{At, Create, OpenKey, Append, Finish, SetElement, UnsetElement, ElementOf, PutAlt, UseEntry, Pin, Unpin, ReadPart, Close, Doom, Get, GetAlt, MainBody, HasEntry, Evict, EvictNames, ClearOrigin, ClearNames, StepUpdate}
 use Rattle.cache_theory.specs.Given.{IsGiven}
 use Rattle.cache_theory.specs.Text.{FieldsFit, command_bytes}
 use Rattle.cache_script.specs.Front.{Begins, HasNoCommand, IsBadFront, IsPart}
@@ -43,6 +43,8 @@ is_given (UnsetElement s name) fits = (fits.0, fits.1.0)
 is_given (ElementOf s name) fits = (fits.0, fits.1.0)
 is_given (PutAlt s kind bytes) fits = (fits.0, (fits.1.0.0, fits.1.1.0))
 is_given (UseEntry s) fits = fits
+is_given (Pin s) fits = fits
+is_given (Unpin s) fits = fits
 is_given (ReadPart s from len) fits = fits.0
 is_given (Close s) fits = fits
 is_given (Doom key) fits = fits.0
@@ -52,6 +54,8 @@ is_given (MainBody key) fits = fits.0
 is_given (HasEntry key) fits = fits.0
 is_given (Evict kb) fits = fits
 is_given (EvictNames names) fits = absurd fits
+is_given (ClearOrigin origin) fits = fits.0
+is_given (ClearNames names) fits = absurd fits
 is_given (StepUpdate n) fits = fits
 is_given c fits = tt
 

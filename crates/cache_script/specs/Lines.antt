@@ -5,7 +5,7 @@ use Rattle.std.specs.Option.{option_map, option_and_then}
 use Rattle.cache_base.specs.Bytes.{AreBytes}
 use Rattle.cache_base.specs.declared.limits.TheConstants.{ALT_MAX, ELEMENTS_MAX, PIECE_MAX, SLOTS}
 use Rattle.cache_theory.specs.Command.{Command}
-use Rattle.cache_theory.specs.Command.Command.{At, Create, OpenKey, Append, Finish, SetElement, UnsetElement, ElementOf, PutAlt, UseEntry, ReadPart, Close, Doom, Get, GetAlt, MainBody, HasEntry, ListRecords, Evict, Flush, StepUpdate, UpdateState, Verify, Rebuild}
+use Rattle.cache_theory.specs.Command.Command.{At, Create, OpenKey, Append, Finish, SetElement, UnsetElement, ElementOf, PutAlt, UseEntry, Pin, Unpin, ReadPart, Close, Doom, Get, GetAlt, MainBody, HasEntry, ListRecords, Evict, ClearOrigin, Flush, StepUpdate, UpdateState, Verify, Rebuild}
 use Rattle.cache_theory.specs.Text.{FieldsFit, IsOneLine, command_data, command_words, spaced}
 use Rattle.cache_script.specs.Command.{command_of}
 use Rattle.cache_base.specs.Numbers.{number_in}
@@ -66,17 +66,24 @@ slot_form verb s rest =
     else if pointwise nat_eq verb (codes "read") then option_and_then (λ parts. read_in s parts.0 parts.1) (cut 32 rest)
     else None
 
--- a verb, a number, and where that is a slot maybe more
+-- a verb and a slot, and maybe more
+unfoldable pub first_slot_form : List ℕ → List ℕ → Option Form
+first_slot_form verb rest =
+    if pointwise nat_eq verb (codes "finish") then option_map (λ s. Form.WholeLine (Finish s)) (slot_in rest)
+    else if pointwise nat_eq verb (codes "close") then option_map (λ s. Form.WholeLine (Close s)) (slot_in rest)
+    else if pointwise nat_eq verb (codes "use") then option_map (λ s. Form.WholeLine (UseEntry s)) (slot_in rest)
+    else if pointwise nat_eq verb (codes "pin") then option_map (λ s. Form.WholeLine (Pin s)) (slot_in rest)
+    else if pointwise nat_eq verb (codes "unpin") then option_map (λ s. Form.WholeLine (Unpin s)) (slot_in rest)
+    else option_and_then (λ parts. option_and_then (λ s. slot_form verb s parts.1) (slot_in parts.0)) (cut 32 rest)
+
+-- a verb and a number, or a slot and maybe more
 unfoldable pub number_form : List ℕ → List ℕ → Option Form
 number_form verb rest =
     if pointwise nat_eq verb (codes "at") then option_map (λ n. Form.WholeLine (At n)) (number_in rest)
     else if pointwise nat_eq verb (codes "evict") then option_map (λ n. Form.WholeLine (Evict n)) (number_in rest)
     else if pointwise nat_eq verb (codes "step")
     then option_map (λ n. Form.WholeLine (StepUpdate n)) (number_in rest)
-    else if pointwise nat_eq verb (codes "finish") then option_map (λ s. Form.WholeLine (Finish s)) (slot_in rest)
-    else if pointwise nat_eq verb (codes "close") then option_map (λ s. Form.WholeLine (Close s)) (slot_in rest)
-    else if pointwise nat_eq verb (codes "use") then option_map (λ s. Form.WholeLine (UseEntry s)) (slot_in rest)
-    else option_and_then (λ parts. option_and_then (λ s. slot_form verb s parts.1) (slot_in parts.0)) (cut 32 rest)
+    else first_slot_form verb rest
 
 -- a verb, and what follows it
 unfoldable pub verb_form : List ℕ → List ℕ → Option Form
@@ -86,6 +93,7 @@ verb_form verb rest =
     else if pointwise nat_eq verb (codes "getalt") then Some (Form.WholeLine (GetAlt rest))
     else if pointwise nat_eq verb (codes "main") then Some (Form.WholeLine (MainBody rest))
     else if pointwise nat_eq verb (codes "has") then Some (Form.WholeLine (HasEntry rest))
+    else if pointwise nat_eq verb (codes "clear") then Some (Form.WholeLine (ClearOrigin rest))
     else number_form verb rest
 
 -- what a line tells, if it is the line of a command

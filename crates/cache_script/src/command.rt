@@ -54,6 +54,14 @@ pub enum Command<'a> {
     UseEntry {
         slot: u8,
     },
+    /// The entry is pinned, so that neither `evict` nor `clear` removes it.
+    Pin {
+        slot: u8,
+    },
+    /// The entry is no longer pinned.
+    Unpin {
+        slot: u8,
+    },
     /// The bytes of the body from a place on, at most `len`.
     ReadPart {
         slot: u8,
@@ -90,6 +98,10 @@ pub enum Command<'a> {
     /// so many KB.
     Evict {
         kb: u32,
+    },
+    /// The entries of the origin that are not pinned are removed, those in use too.
+    Clear {
+        origin: &'a [u8],
     },
     /// All that was done is brought to the disk.
     Flush,

@@ -4,7 +4,7 @@ ghost use Rattle.std.specs.Prelude.{◌≡◌, ◌≢◌, IfNone, IfSome};
 ghost use Rattle.std.specs.Option.{option_map};
 ghost use Rattle.cache_theory.specs.Command.{Command as MachineCommand};
 ghost use Rattle.cache_theory.specs.Text.{FieldsFit, IsOneLine, command_words, spaced};
-ghost use Rattle.cache_script.specs.Lines.{Tells, cut as cut_of, number_below as number_below_of, slot_in, len_in, read_in, slot_form, number_form, verb_form, form_in, line_form};
+ghost use Rattle.cache_script.specs.Lines.{Tells, cut as cut_of, number_below as number_below_of, slot_in, len_in, read_in, slot_form, first_slot_form, number_form, verb_form, form_in, line_form};
 
 use crate::Command;
 use cache_base::{ALT_MAX, ELEMENTS_MAX, PIECE_MAX, SLOTS, number};
@@ -98,7 +98,36 @@ fn slot_line<'a>(verb: &[u8], slot: u8, rest: &'a [u8]) -> Option<Line<'a>>
     None
 }
 
-// What a verb tells that has a number behind it.
+// What a verb tells that has a slot first, and maybe more.
+#[tactic(auto, unfolding(crate::specs::Lines::first_slot_form))]
+fn first_slot_line<'a>(verb: &[u8], rest: &'a [u8]) -> Option<Line<'a>>
+    ensures { option_map line_form result ≡ first_slot_form verb.now rest.now }
+{
+    if verb == b"finish".as_slice() {
+        let slot = slot(rest)?;
+        return Some(Line::Whole(Command::Finish { slot }));
+    }
+    if verb == b"close".as_slice() {
+        let slot = slot(rest)?;
+        return Some(Line::Whole(Command::Close { slot }));
+    }
+    if verb == b"use".as_slice() {
+        let slot = slot(rest)?;
+        return Some(Line::Whole(Command::UseEntry { slot }));
+    }
+    if verb == b"pin".as_slice() {
+        let slot = slot(rest)?;
+        return Some(Line::Whole(Command::Pin { slot }));
+    }
+    if verb == b"unpin".as_slice() {
+        let slot = slot(rest)?;
+        return Some(Line::Whole(Command::Unpin { slot }));
+    }
+    let (first, rest) = cut(rest, b' ')?;
+    slot_line(verb, slot(first)?, rest)
+}
+
+// What a verb tells that has a number after it, or a slot first.
 #[tactic(auto, unfolding(crate::specs::Lines::number_form))]
 fn number_line<'a>(verb: &[u8], rest: &'a [u8]) -> Option<Line<'a>>
     ensures { option_map line_form result ≡ number_form verb.now rest.now }
@@ -115,20 +144,7 @@ fn number_line<'a>(verb: &[u8], rest: &'a [u8]) -> Option<Line<'a>>
         let n = number(rest)?;
         return Some(Line::Whole(Command::Step { n }));
     }
-    if verb == b"finish".as_slice() {
-        let slot = slot(rest)?;
-        return Some(Line::Whole(Command::Finish { slot }));
-    }
-    if verb == b"close".as_slice() {
-        let slot = slot(rest)?;
-        return Some(Line::Whole(Command::Close { slot }));
-    }
-    if verb == b"use".as_slice() {
-        let slot = slot(rest)?;
-        return Some(Line::Whole(Command::UseEntry { slot }));
-    }
-    let (first, rest) = cut(rest, b' ')?;
-    slot_line(verb, slot(first)?, rest)
+    first_slot_line(verb, rest)
 }
 
 // What a verb tells that has more behind it.
@@ -150,6 +166,9 @@ fn verb_line<'a>(verb: &[u8], rest: &'a [u8]) -> Option<Line<'a>>
     }
     if verb == b"has".as_slice() {
         return Some(Line::Whole(Command::Has { key: rest }));
+    }
+    if verb == b"clear".as_slice() {
+        return Some(Line::Whole(Command::Clear { origin: rest }));
     }
     number_line(verb, rest)
 }

@@ -1,7 +1,7 @@
 -- How entries are evicted.
 use Rattle.std.proofs.Common.{◌≡◌, ◌≢◌, ◌∙◌, inl, inr, Bool, true, cond, ◌++◌, ◌∷◌, ℕ, List, [], Result, Ok, Err, IsErrAnd, filter, is_some, map, refl, sym, ap, subst}
 use Rattle.std.specs.List.{AllByRecursion, list_any}
-use Rattle.std.specs.Prelude.{IfOk, None, OnOk}
+use Rattle.std.specs.Prelude.{None, OnOk}
 use Rattle.std.specs.Str.{bytes_eq}
 use Rattle.std.proofs.lemmas.Bool.{or_cases, or_left, or_right}
 use Rattle.cache_base.specs.declared.name.Name.{Name}
@@ -74,7 +74,7 @@ unfolding reply_text
 evict_text_is m names = ap reply_text (sym (evict_reply_is m names))
 
 -- it touches each of them
-touched_first : (names : List Name) (more : List (List ℕ)) → AllByRecursion (λ n. list_any (bytes_eq n.0) (map (λ k. k.0) names ++ more) ≡ true) names
+pub touched_first : (names : List Name) (more : List (List ℕ)) → AllByRecursion (λ n. list_any (bytes_eq n.0) (map (λ k. k.0) names ++ more) ≡ true) names
 touched_first [] more = tt
 touched_first (n ∷ names) more =
     let later : List (List ℕ) = map (λ k. k.0) names ++ more in (
@@ -183,8 +183,8 @@ module _ (kb : ℕ) (k l : Kept) (now : ℕ) (s t u : State) (old mid : MemoryIn
     bare : AllByRecursion (IsBare (has_file s) (update_ended h.machine)) names
     bare =
         all_weaker (λ n. users_of k n ≡ 0) (IsBare (has_file s) (update_ended h.machine)) names
-        (λ n none. (
-          λ gone. no_one (get h.machine.shelf n.0) (ap is_some (sym (shelf_there (cache_at k s) h.machine stand n none)) ∙ gone),
+        (λ n none gone. (
+          no_one (get h.machine.shelf n.0) (ap is_some (sym (shelf_there (cache_at k s) h.machine stand n none)) ∙ gone),
           not_in_use (cache_at k s) h.machine stand n none,
         ))
         (victims_unused mid.map k kb names are)
@@ -203,13 +203,13 @@ module _ (kb : ℕ) (k l : Kept) (now : ℕ) (s t u : State) (old mid : MemoryIn
           (subst (λ (q : Result (Unit {0}) DiskFault). OnOk q (CacheKeepsWhere crash (cache_at l u) reached)) ok reaches.next)
 
       rest_is : (step h.machine (EvictNames names)).next.rest ≡ name_bytes new.update
-      rest_is = off.rest ∙ ap name_bytes (sym (rest ∙ finishes.ended))
+      rest_is = off.lost.rest ∙ ap name_bytes (sym (rest ∙ finishes.ended))
 
       next : KeepsWhere crash (session_at l now new u) (acked (EvictNames names) h)
       next = record {
         stands = stands_then;
         matches = record {
-          moment = off.moment ∙ is.matches.moment;
+          moment = off.lost.moment ∙ is.matches.moment;
           rest = rest_is;
           holds = holds_on s u old.map new.map removed.index (base_then old.map mid.map new.map finishes.base forgets.base) is.matches.holds;
         };
@@ -218,7 +218,7 @@ module _ (kb : ℕ) (k l : Kept) (now : ℕ) (s t u : State) (old mid : MemoryIn
       tells_next : Tells (session_at k now old s) h.machine → Tells (session_at l now new u) (step h.machine (EvictNames names)).next
       tells_next told = record {
         rest = rest_is;
-        tells = forgotten_tells h.machine (step h.machine (EvictNames names)).next names off mid new forgets finishes.ended rest
+        tells = forgotten_tells h.machine (step h.machine (EvictNames names)).next names off.lost mid new forgets finishes.ended rest
             (goes_on_telling k s h.machine old mid stand finishes.tells told.tells);
       }
 

@@ -3,13 +3,16 @@ use Rattle.std.proofs.Common.{◌≡◌, ℕ, ◌+◌, Bool, true, false, List, 
 use Rattle.std.specs.List.{list_any}
 use Rattle.std.specs.List.Sorted.{IsBinarySearchResult, IsSearchInRange, IsSorted}
 use Rattle.std.specs.Ordering.{is_lt, ordering_reverse}
-use Rattle.std.specs.Prelude.{IsSome, is_ok}
+use Rattle.std.specs.Prelude.{IsSome, is_ok, not, ◌==◌, ◌||◌}
 use Rattle.std.proofs.lemmas.List.Elements.{filter_agree}
 use Rattle.std.proofs.lemmas.List.Folds.{Any-from_list_any, list_any_at}
 use Rattle.std.proofs.lemmas.Map.Keys.{Less-from_sorted}
 use Rattle.cache_base.specs.Names.{AreRising, name_cmp}
 use Rattle.cache_base.specs.declared.name.Name.{Name}
+use Rattle.cache_store.specs.Clearing.{is_used_or_stands, is_user_or_among}
 use Rattle.cache_store.specs.Evicting.{has_file}
+use Rattle.file_handles.specs.Kept.{Kept}
+use Rattle.file_handles.specs.Users.{users_of}
 use Rattle.disk_model.specs.Listing.{AreEntries}
 use Rattle.disk_model.specs.State.{State, standing}
 use Rattle.disk_model.specs.declared.place.Place.TheVariants.{Entry}
@@ -50,3 +53,7 @@ module _ (s : State) (entries : List Name) (are : AreEntries s entries) where
 
   pub those_with_files : (names : List Name) → filter (λ name. list_any (same_name name) entries) names ≡ filter (has_file s) names
   those_with_files names = filter_agree (λ name. list_any (same_name name) entries) (has_file s) is_listed names
+
+  -- and those that an entry in use has
+  pub those_held : (k : Kept) (names : List Name) → filter (is_user_or_among k entries) names ≡ filter (is_used_or_stands k s) names
+  those_held k names = filter_agree (is_user_or_among k entries) (is_used_or_stands k s) (λ name. ap (λ b. not (users_of k name == 0) || b) (is_listed name)) names

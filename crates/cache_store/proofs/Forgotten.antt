@@ -5,7 +5,7 @@ use Rattle.cache_base.specs.declared.name.Name.{Name}
 use Rattle.cache_store.specs.Evicting.{Forgets}
 use Rattle.cache_store.specs.Records.{TellsOf}
 use Rattle.cache_store.specs.declared.memory_index.MemoryIndex.{MemoryIndex}
-use Rattle.cache_theory.specs.Laws.{AreTakenOff, is_among}
+use Rattle.cache_theory.specs.Laws.{AreLost, is_among}
 use Rattle.cache_theory.specs.Machine.{Machine}
 use Rattle.cache_theory.specs.Table.{get}
 use Rattle.cache_theory.proofs.Evicting.{off_either}
@@ -55,7 +55,7 @@ scanned_off : (q : Name) (b : Bool) (o : Option (List ℕ)) → cond b None (opt
 scanned_off q true o = refl
 scanned_off q false o = refl
 
-module _ (m next : Machine) (names : List Name) (off : AreTakenOff m next names) where
+module _ (m next : Machine) (names : List Name) (off : AreLost m next names) where
   off_scan : (q : Name) → cond (is_among q.0 names) None (scanned (get m.shelf) q) ≡ scanned (get next.shelf) q
   off_scan q = scanned_off q (is_among q.0 names) (get m.shelf q.0) ∙ sym (ap (option_and_then (record_of q)) (off.shelf q.0))
 

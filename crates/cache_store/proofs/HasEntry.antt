@@ -1,5 +1,5 @@
 -- Whether there is an entry, by the records.
-use Rattle.std.proofs.Common.{◌≡◌, ◌∙◌, Bool, true, false, cond, Contains, List, ℕ, Option, None, Some, length, refl, sym, ap}
+use Rattle.std.proofs.Common.{◌≡◌, ◌∙◌, Bool, true, false, cond, List, ℕ, Option, None, Some, length, refl, sym, ap}
 use Rattle.std.specs.List.{list_any}
 use Rattle.std.specs.Prelude.{bytes_eq, is_some, option_and_then}
 use Rattle.std.proofs.lemmas.Map.Views.{list_any-from_Contains}

@@ -6,7 +6,7 @@ use Rattle.std.proofs.lemmas.Result.{IfOk-weaker}
 use Rattle.cache_base.specs.Checks.{first_failing}
 use Rattle.cache_theory.specs.Checks.{checks}
 use Rattle.cache_theory.specs.Command.{Command, Reply}
-use Rattle.cache_theory.specs.Command.Command.{Create, OpenKey, Append, Finish, SetElement, UnsetElement, UseEntry, PutAlt, Close, Doom}
+use Rattle.cache_theory.specs.Command.Command.{Create, OpenKey, Append, Finish, SetElement, UnsetElement, UseEntry, Pin, Unpin, PutAlt, Close, Doom}
 use Rattle.cache_theory.specs.Command.Reply.{Done, Refused, NoneThere}
 use Rattle.cache_theory.specs.History.{History}
 use Rattle.cache_theory.specs.Machine.{Machine, object_of}
@@ -149,6 +149,7 @@ unsaid_reply answered.Unknown unsaid = (_, refl)
 unsaid_reply answered.Ready unsaid = (_, refl)
 unsaid_reply (answered.Updating n) unsaid = (_, refl)
 unsaid_reply (answered.Rebuilt n) unsaid = (_, refl)
+unsaid_reply (answered.Cleared n) unsaid = (_, refl)
 unsaid_reply (answered.Checked found) unsaid = (_, refl)
 unsaid_reply (answered.Refused r) unsaid = (_, refl)
 
@@ -224,6 +225,14 @@ set_done : (s : ℕ) (name value : List ℕ) → StaysUnlessDone (SetElement s n
 unfolding effect StaysUnlessDone
 set_done s name value m other = absurd (other refl)
 
+pin_done : (s : ℕ) → StaysUnlessDone (Pin s)
+unfolding effect StaysUnlessDone
+pin_done s m other = absurd (other refl)
+
+unpin_done : (s : ℕ) → StaysUnlessDone (Unpin s)
+unfolding effect StaysUnlessDone
+unpin_done s m other = absurd (other refl)
+
 put_done : (s : ℕ) (kind bytes : List ℕ) → StaysUnlessDone (PutAlt s kind bytes)
 unfolding effect StaysUnlessDone
 put_done s kind bytes m other = absurd (other refl)
@@ -268,6 +277,14 @@ module _ (r : Result Effect HandleFault) (answer : Result Answered StoreFault) (
   pub set_achieves : (s : ℕ) (name value : List ℕ) → CarriesOut (SetElement s name value) (done_or r) (cache_of before) (cache_of after)
       → IfOk r (HasEffect before.open_store.handles (SetElement s name value)) → AchievesFor (SetElement s name value) answer before after
   set_achieves s name value = handled_achieves (SetElement s name value) tt tt (set_done s name value)
+
+  pub pin_achieves : (s : ℕ) → CarriesOut (Pin s) (done_or r) (cache_of before) (cache_of after)
+      → IfOk r (HasEffect before.open_store.handles (Pin s)) → AchievesFor (Pin s) answer before after
+  pin_achieves s = handled_achieves (Pin s) tt tt (pin_done s)
+
+  pub unpin_achieves : (s : ℕ) → CarriesOut (Unpin s) (done_or r) (cache_of before) (cache_of after)
+      → IfOk r (HasEffect before.open_store.handles (Unpin s)) → AchievesFor (Unpin s) answer before after
+  unpin_achieves s = handled_achieves (Unpin s) tt tt (unpin_done s)
 
   pub put_achieves : (s : ℕ) (kind bytes : List ℕ) → CarriesOut (PutAlt s kind bytes) (done_or r) (cache_of before) (cache_of after)
       → IfOk r (HasEffect before.open_store.handles (PutAlt s kind bytes)) → AchievesFor (PutAlt s kind bytes) answer before after

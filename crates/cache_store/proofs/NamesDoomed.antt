@@ -71,20 +71,20 @@ module _ (now : Cache) (m : Machine) (is : Represents now m) (name : Name) (unus
   pub shelf_there : standing now.disk (Entry name) ≡ get m.shelf name.0
   shelf_there = is.1.entries name.0
 
-apart : (name q : Name) → same_name name q ≡ false → name.0 ≢ q.0
+pub apart : (name q : Name) → same_name name q ≡ false → name.0 ≢ q.0
 apart name q differs same = let eq : same_name name q ≡ true = (bytes_eq-Decides name.0 q.0).1 same in absurd (cc)
 
+-- a history in whose marks the name is touched
+abbrev pub alone : Name → Machine → History
+alone name m = record { machine = m; marks = record { marked = m; touched = name.0 ∷ []; since = []; in_place = [] } }
+
+pub own : (name : Name) (m : Machine) → is_touched (alone name m).marks name.0 ≡ true
+own name m = or_left (bytes_eq name.0 name.0) false (same_itself name)
+
 module _ (name : Name) (now next : Cache) (x : Unit {0}) (same : next.handles ≡ now.handles) (dooms : DoomsUnder {E = DiskFault} name.0 (Ok x) now next) where
-  -- a history in whose marks the name is touched
-  abbrev alone : Machine → History
-  alone m = record { machine = m; marks = record { marked = m; touched = name.0 ∷ []; since = []; in_place = [] } }
-
-  own : (m : Machine) → is_touched (alone m).marks name.0 ≡ true
-  own m = or_left (bytes_eq name.0 name.0) false (same_itself name)
-
   reached : (m : Machine) → Represents now m → Represents next (doomed_under m name.0)
   reached m is =
-      stand_for {h = record (alone m) { machine = doomed_under m name.0 }} (dooms.leaves false (alone m) (own m) (bare_in {h = alone m} is)).next
+      stand_for {h = record (alone name m) { machine = doomed_under m name.0 }} (dooms.leaves false (alone name m) (own name m) (bare_in {h = alone name m} is)).next
 
   still : (m : Machine) → Represents now m → (q : Name) → same_name name q ≡ false → users_of now.handles q ≡ 0 → IsSome (standing now.disk (Entry q)) → IsSome (standing next.disk (Entry q))
   still m is q differs unused stands =

@@ -22,21 +22,21 @@ nothing_doomed m name proper ended none unused =
     λ i. record m { shelf = shelf i; in_use = users i; objects = objects i; rest = rest i }
 
 module _ (stands : Name → Bool) where
-  -- no object of the name is in use, and the shelf has nothing under it where nothing stands
+  -- where nothing stands, the shelf has nothing under the name, and no object of it is in use
   abbrev pub IsBare : Machine → Name → Type 0
-  IsBare m name = (stands name ≡ false → get m.shelf name.0 ≡ None) × (get m.in_use name.0 ≡ None)
+  IsBare m name = stands name ≡ false → (get m.shelf name.0 ≡ None) × (get m.in_use name.0 ≡ None)
 
   bare_on : (m : Machine) (gone : List ℕ) (names : List Name) → AllByRecursion (IsBare m) names → AllByRecursion (IsBare (doomed_under m gone)) names
   bare_on m gone names bare =
       all_weaker (IsBare m) (IsBare (doomed_under m gone)) names
-      (λ n is. (λ none. none_after m.shelf gone n.0 (is.0 none), none_after m.in_use gone n.0 is.1)) bare
+      (λ n is none. (none_after m.shelf gone n.0 (is none).0, none_after m.in_use gone n.0 (is none).1)) bare
 
   first_doomed : (m : Machine) (n : Name) (names kept : List Name) → IsProper m → m.rest ≡ [] → IsBare m n
       → all_doomed (doomed_under m n.0) kept ≡ all_doomed (doomed_under m n.0) names → all_doomed m kept ≡ all_doomed m names
       → (b : Bool) → stands n ≡ b → all_doomed m (cond b (n ∷ kept) kept) ≡ all_doomed m (n ∷ names)
   first_doomed m n names kept proper ended bare gone left true e = gone
   first_doomed m n names kept proper ended bare gone left false e =
-      left ∙ ap (λ k. all_doomed k names) (sym (nothing_doomed m n.0 proper ended (bare.0 e) bare.1))
+      left ∙ ap (λ k. all_doomed k names) (sym (nothing_doomed m n.0 proper ended (bare e).0 (bare e).1))
 
   -- so only those that stand are doomed
   pub those_standing : (m : Machine) (names : List Name) → IsProper m → m.rest ≡ [] → AllByRecursion (IsBare m) names

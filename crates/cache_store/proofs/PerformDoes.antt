@@ -21,7 +21,7 @@ use Rattle.cache_store.specs.DoneFor.{IsDoneBy}
 use Rattle.cache_store.specs.Open.{KeepsWhere, Tells}
 use Rattle.cache_store.specs.Performing.{GoesBy, SaysThere, Achieves, AchievesFor, AchievesWhatIsDone, ComesToTell, Does, DoesFor, DoesWhatIsDone}
 use Rattle.cache_store.specs.Records.{AnswersHas, has_record}
-use Rattle.cache_store.specs.Replied.{replied, reply_of}
+use Rattle.cache_store.specs.Replied.{reply_of}
 use Rattle.cache_store.specs.Said.{Saying}
 use Rattle.cache_store.specs.Session.{Open, Session, cache_of}
 use Rattle.cache_store.specs.declared.answered.Answered.{Answered}

@@ -6,8 +6,9 @@ use Rattle.cache_base.specs.Checks.{first_failing}
 use Rattle.cache_base.specs.declared.name.Name.{Name}
 use Rattle.cache_theory.specs.Checks.{checks}
 use Rattle.cache_theory.specs.Command.{Command}
-use Rattle.cache_theory.specs.Command.Command.{At, OpenKey, Finish, UnsetElement, ElementOf, ReadPart, Close, Get, GetAlt, MainBody, HasGiven, Evict, EvictNames, Flush, UpdateState}
+use Rattle.cache_theory.specs.Command.Command.{At, OpenKey, Finish, UnsetElement, ElementOf, ReadPart, Close, Get, GetAlt, MainBody, HasGiven, Evict, EvictNames, ClearOrigin, ClearNames, Flush, UpdateState}
 use Rattle.cache_theory.specs.Command.Reply.{Done, NoneThere}
+use Rattle.cache_theory.specs.Covers.{cleared}
 use Rattle.cache_theory.specs.Machine.{Machine, has_slots, is_writer, number_of, object_of, on_shelf, used_by}
 use Rattle.cache_theory.specs.Marks.{Marks, acked, begun}
 use Rattle.cache_theory.specs.Step.{Answer, all_doomed, answer, changed, doomed_under, effect, evicted, finished_by, joined, released, step, stepped, stored, update_ended, with_slot}
@@ -43,6 +44,8 @@ reading_effect m c is = absurd is
 
 pub reading_acked : (m : Machine) (c : Command) (w : Marks) → IsReading c → acked m c w ≡ begun m c w
 reading_acked m Flush w is = absurd is
+reading_acked m (ClearOrigin origin) w is = absurd is
+reading_acked m (ClearNames names) w is = absurd is
 reading_acked m c w is = refl
 
 -- what holds of the machine after the effect, and before, holds after the step
@@ -94,6 +97,8 @@ effect_moment m (UnsetElement s name) keeps =
 effect_moment m (Close s) keeps = released_moment (finished_by m s) s ∙ finished_moment m s
 effect_moment m (Evict kb) keeps = all_doomed_moment (update_ended m) (evicted m kb)
 effect_moment m (EvictNames names) keeps = all_doomed_moment (update_ended m) names
+effect_moment m (ClearOrigin origin) keeps = all_doomed_moment (update_ended m) (cleared m origin)
+effect_moment m (ClearNames names) keeps = all_doomed_moment (update_ended m) names
 effect_moment m c keeps = refl
 
 pub step_moment : (m : Machine) (c : Command) → KeepsMoment c → (step m c).next.moment ≡ m.moment

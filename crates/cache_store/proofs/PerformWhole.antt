@@ -1,12 +1,16 @@
 -- A command and the end of its reply.
-use Rattle.std.proofs.Common.{Bool, true, false, ◌≡◌, ◌∙◌, ℕ, List, Option, Result, Ok, Err, IsErrAnd, refl, sym, subst}
-use Rattle.std.specs.Prelude.{IfOk, OnErr, OnOk}
+use Rattle.std.proofs.Common.{Bool, true, false, ◌≡◌, ◌∙◌, ℕ, List, length, ap, arith, Option, Result, Ok, Err, IsErrAnd, refl, sym, subst}
+use Rattle.std.specs.Prelude.{IfOk, OnErr, OnOk, slice_get}
+use Rattle.cache_base.specs.declared.name.Name.{Name}
 use Rattle.cache_theory.specs.Checks.{checks}
 use Rattle.cache_theory.specs.Command.{Command}
-use Rattle.cache_theory.specs.Command.Command.{Flush}
+use Rattle.cache_theory.specs.Command.Command.{ClearNames, ClearOrigin, Flush}
+use Rattle.cache_theory.specs.Covers.{cleared}
 use Rattle.cache_theory.specs.Crash.{IsSafe}
 use Rattle.cache_theory.specs.History.{History, acked, begun, settled_at, unanswered}
-use Rattle.cache_theory.specs.Step.{effect, step}
+use Rattle.cache_theory.specs.Machine.{Machine}
+use Rattle.cache_theory.specs.Marks.{Marks, acked as acked_marks, marks_of}
+use Rattle.cache_theory.specs.Step.{all_doomed, effect, step, update_ended}
 use Rattle.cache_theory.specs.Text.{reply_text}
 use Rattle.cache_theory.proofs.Crashes.{safe_is_crash_safe}
 use Rattle.file_handles.proofs.Begun.{begun_in}
@@ -20,7 +24,34 @@ use Rattle.cache_store.specs.declared.answered.Answered.{Answered}
 use Rattle.cache_store.specs.declared.fault.Verdict.{Verdict}
 use Rattle.cache_store.specs.declared.fault.StoreFault.{StoreFault}
 use Rattle.cache_store.specs.declared.fault.StoreFault.TheVariants as fault
+use Rattle.cache_store.proofs.ObjectsDoomed.{as_many, undoomed_before}
 use Rattle.cache_store.proofs.Represented.{keeps_bare, keeps_marked, keeps_to, represented}
+
+-- a command that settles, and dooms these names, had its effect, and is not acknowledged
+settled_stands : (c : Command) (names : List Name) (h : History) (before after : Session) → (step h.machine c).next ≡ all_doomed (update_ended h.machine) names
+    → acked_marks h.machine c h.marks ≡ marks_of (step h.machine c).next
+    → KeepsTo before h → IsSafe after.disk (begun c h).marks → KeepsTo after (acked c h) → KeepsTo after (unanswered c h)
+settled_stands c names h before after dooms marks is safe stands =
+    let was = (begun_in before.disk before.open_store.handles h.machine c h.marks (marked_in is.stands)).crash_kept refl in
+    let next : Machine = (step h.machine c).next in
+    let settled : KeepsTo after (settled_at next) = subst (λ (w : Marks). KeepsTo after (record { machine = next; marks = w })) marks stands in
+    let kept = settled.stands.crash_kept in
+    let many : length next.objects ≡ length h.machine.objects = ap (λ (m : Machine). length m.objects) dooms ∙ as_many (update_ended h.machine) names in
+    let young = was.young in
+    record {
+      stands = record {
+        number = settled.stands.number;
+        stands = settled.stands.stands;
+        crash_kept = record {
+          safe = safe;
+          once = kept.once;
+          aside = λ k i file name at held names ever. let touched = (kept.aside k i file name at held names ever).touched in absurd (cc);
+          unburied = λ i o at un. was.unburied i o (undoomed_before (update_ended h.machine) names i o (ap (λ (m : Machine). slice_get m.objects i) (sym dooms) ∙ at) un) un;
+          young = omega (arith, many, young);
+        };
+      };
+      matches = settled.matches;
+    }
 
 -- a command that had its effect, and is not acknowledged
 pub begun_stands : (c : Command) (h : History) (before after : Session) → KeepsTo before h → IsSafe after.disk (begun c h).marks → KeepsTo after (acked c h) → KeepsTo after (unanswered c h)
@@ -42,6 +73,8 @@ begun_stands Flush h before after is safe stands =
       };
       matches = stands.matches;
     }
+begun_stands (ClearOrigin origin) h before after is safe stands = settled_stands (ClearOrigin origin) (cleared h.machine origin) h before after refl refl is safe stands
+begun_stands (ClearNames names) h before after is safe stands = settled_stands (ClearNames names) names h before after refl refl is safe stands
 begun_stands c h before after is safe stands = stands
 
 -- what is done with and without a crash makes up what is promised

@@ -3,12 +3,11 @@ use Rattle.std.proofs.Common.{◌≡◌, ◌≢◌, ◌∙◌, inl, inr, ℕ, Li
 use Rattle.std.specs.Prelude.{OnErr, OnOk, codes}
 use Rattle.std.proofs.KnownBytes.{Appends-nil}
 use Rattle.cache_theory.specs.Checks.{checks}
-use Rattle.cache_theory.specs.Command.{Command, Reply}
+use Rattle.cache_theory.specs.Command.{Command}
 use Rattle.cache_theory.specs.Command.Command.{At, ElementOf, HasEntry, HasGiven, UpdateState}
 use Rattle.cache_theory.specs.Command.Reply.{Done}
 use Rattle.cache_theory.specs.Step.{effect, state_reply, step}
-use Rattle.cache_theory.specs.Text.{line, reply_text}
-use Rattle.file_handles.specs.Kept.{Kept}
+use Rattle.cache_theory.specs.Text.{line}
 use Rattle.index_update.specs.Rest.{name_bytes}
 use Rattle.cache_store.specs.Answering.{AnswersOver, CutsRest, SendsRest, rest_of}
 use Rattle.cache_store.specs.Faulting.{LooksAtNothing}

@@ -28,7 +28,7 @@ pub all_filtered : {X : Type 0} (P : X → Type 0) (p : X → Bool) (xs : List X
 all_filtered P p xs h = recursion_from_All P (filter p xs) (All-filter p P xs (All-from_recursion P xs h))
 
 -- some of distinct names are distinct
-filtered_distinct : (test : Name → Bool) (names : List Name) → IsDistinct same_name names → IsDistinct same_name (filter test names)
+pub filtered_distinct : (test : Name → Bool) (names : List Name) → IsDistinct same_name names → IsDistinct same_name (filter test names)
 unfolding IsDistinct
 filtered_distinct test [] h = tt
 filtered_distinct test (n ∷ names) h = elim (test n) as (λ b. IsDistinct same_name (cond b (n ∷ filter test names) (filter test names))) [

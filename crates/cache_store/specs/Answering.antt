@@ -28,6 +28,7 @@ rest_of answered.Unknown = line (codes "unknown" ∷ [])
 rest_of answered.Ready = line (codes "ready" ∷ [])
 rest_of (answered.Updating names) = with_number (codes "updating") names
 rest_of (answered.Rebuilt records) = with_number (codes "rebuilt") records
+rest_of (answered.Cleared names) = with_number (codes "cleared") names
 rest_of (answered.Checked findings) = findings_text findings
 rest_of (answered.Refused r) = line (refusal_words r)
 

@@ -1,19 +1,23 @@
--- What is done for a command: itself; but an eviction, a check, a list, and whether there is an entry, go by records, which
--- may not be right.
+-- What is done for a command: itself; but an eviction, a clearing, a check, a list, and whether there is an entry, go by
+-- records, which may not be right.
 use Rattle.std.specs.Prelude.{Bool, List, ℕ, ◌≡◌}
 use Rattle.cache_theory.specs.Command.{Command}
-use Rattle.cache_theory.specs.Command.Command.{Evict, EvictNames, HasEntry, HasGiven, ListGiven, ListRecords, Verify, VerifyRecords}
+use Rattle.cache_theory.specs.Command.Command.{ClearNames, ClearOrigin, Evict, EvictNames, HasEntry, HasGiven, ListGiven, ListRecords, Verify, VerifyRecords}
+use Rattle.cache_theory.specs.Covers.{cleared_by}
 use Rattle.cache_theory.specs.Machine.{Machine, open_names}
 use Rattle.cache_theory.specs.Step.{step}
 use Rattle.evictor.specs.Evict.{victims}
 use Rattle.index_record.specs.declared.record.IndexRecord.{IndexRecord}
 use Rattle.index_theory.specs.Scan.{scan}
 
--- an eviction is that of the victims among some records, a check is one against some records, and a list is one of some
--- records, of which the first holds; there is an entry or not, of which the second holds
+-- an eviction is that of the victims among some records, a clearing is that of the names that some records tell, a check is
+-- one against some records, and a list is one of some records, of which the first holds; there is an entry or not, of
+-- which the second holds
 abbrev pub IsDoneBy : (List IndexRecord → Type 0) → (List ℕ → Bool → Type 0) → Command → Machine → Command → Type 0
 IsDoneBy Holds Says (Evict kb) m done =
     (records : List IndexRecord) × ((done ≡ EvictNames (victims records (open_names m) kb)) × Holds records)
+IsDoneBy Holds Says (ClearOrigin origin) m done =
+    (records : List IndexRecord) × ((done ≡ ClearNames (cleared_by records m origin)) × Holds records)
 IsDoneBy Holds Says Verify m done = (records : List IndexRecord) × ((done ≡ VerifyRecords records) × Holds records)
 IsDoneBy Holds Says ListRecords m done = (records : List IndexRecord) × ((done ≡ ListGiven records) × Holds records)
 IsDoneBy Holds Says (HasEntry key) m done = (there : Bool) × ((done ≡ HasGiven key there) × Says key there)

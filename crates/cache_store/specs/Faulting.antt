@@ -9,7 +9,7 @@ use Rattle.cache_store.specs.Session.{Session}
 use Rattle.cache_store.specs.declared.fault.StoreFault.{StoreFault}
 use Rattle.cache_store.specs.declared.fault.StoreFault.TheVariants as fault
 use Rattle.cache_theory.specs.Command.{Command, Reply}
-use Rattle.cache_theory.specs.Command.Command.{Append, At, Close, ElementOf, Finish, Flush, Get, GetAlt, HasEntry, MainBody, ReadPart, SetElement, UnsetElement, UpdateState, UseEntry}
+use Rattle.cache_theory.specs.Command.Command.{Append, At, Close, ElementOf, Finish, Flush, Get, GetAlt, HasEntry, MainBody, Pin, ReadPart, SetElement, Unpin, UnsetElement, UpdateState, UseEntry}
 use Rattle.cache_theory.specs.Command.Reply.{AltData, Found, Main, Part}
 use Rattle.cache_theory.specs.History.{History}
 use Rattle.cache_theory.specs.Machine.{Machine}
@@ -71,6 +71,8 @@ LooksAtNothing (SetElement s name value) = ⊤
 LooksAtNothing (UnsetElement s name) = ⊤
 LooksAtNothing (ElementOf s name) = ⊤
 LooksAtNothing (UseEntry s) = ⊤
+LooksAtNothing (Pin s) = ⊤
+LooksAtNothing (Unpin s) = ⊤
 LooksAtNothing (Close s) = ⊤
 LooksAtNothing (HasEntry key) = ⊤
 LooksAtNothing Flush = ⊤

@@ -4,7 +4,7 @@ use Rattle.cache_base.specs.declared.limits.TheConstants.{CHANGED_MAX}
 use Rattle.cache_base.specs.declared.name.Name.{Name}
 use Rattle.cache_store.specs.declared.memory_index.MemoryIndex.{MemoryIndex}
 use Rattle.cache_theory.specs.Command.{Command}
-use Rattle.cache_theory.specs.Command.Command.{At, Close, ElementOf, Evict, EvictNames, Finish, Flush, Get, GetAlt, HasEntry, ListRecords, MainBody, OpenKey, ReadPart, Rebuild, StepUpdate, UpdateState, Verify}
+use Rattle.cache_theory.specs.Command.Command.{At, ClearNames, ClearOrigin, Close, ElementOf, Evict, EvictNames, Finish, Flush, Get, GetAlt, HasEntry, ListRecords, MainBody, OpenKey, ReadPart, Rebuild, StepUpdate, UpdateState, Verify}
 use Rattle.disk_model.specs.State.{State, settled}
 use Rattle.disk_model.specs.declared.disk.Disk.{Ghosts}
 use Rattle.file_handles.specs.Closing.{writes_draft}
@@ -20,6 +20,8 @@ names_read (HasEntry key) rest = Some 0
 names_read ListRecords rest = Some (length rest)
 names_read (Evict kb) rest = Some (length rest)
 names_read (EvictNames names) rest = Some (length rest)
+names_read (ClearOrigin origin) rest = Some (length rest)
+names_read (ClearNames names) rest = Some (length rest)
 names_read Flush rest = Some 0
 names_read (StepUpdate n) rest = Some (length (take n rest))
 names_read UpdateState rest = Some 0
@@ -51,10 +53,11 @@ OnlyLooks Verify = ⊤
 OnlyLooks _ = ⊥
 
 -- one that syncs nothing, by what the handles keep: each but a `finish`, the closing of a slot whose entry is not finished,
--- a `flush` and a `rebuild`
+-- a `clear`, a `flush` and a `rebuild`
 abbrev pub NeverSyncs : Kept → Command → Type 0
 NeverSyncs k (Finish s) = ⊥
 NeverSyncs k (Close s) = writes_draft k s ≡ false
+NeverSyncs k (ClearOrigin origin) = ⊥
 NeverSyncs k Flush = ⊥
 NeverSyncs k Rebuild = ⊥
 NeverSyncs k c = ⊤
@@ -64,6 +67,11 @@ abbrev pub WritesIndex : Command → Type 0
 WritesIndex Flush = ⊤
 WritesIndex Rebuild = ⊤
 WritesIndex _ = ⊥
+
+-- a command after which nothing is pending
+abbrev pub SyncsAll : Command → Type 0
+SyncsAll (ClearOrigin origin) = ⊤
+SyncsAll c = WritesIndex c
 
 -- the file `index` has all records but for few
 pub record IsFresh (map : Known) : Type 0 where

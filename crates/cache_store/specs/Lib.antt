@@ -1,4 +1,5 @@
 pub mod Answering
+pub mod Clearing
 pub mod DoneFor
 pub mod EndsUpdate
 pub mod EntryText

@@ -13,7 +13,7 @@ use Rattle.cache_store.specs.declared.fault.Verdict.{Verdict}
 use Rattle.cache_store.specs.declared.fault.StoreFault.{StoreFault}
 use Rattle.cache_store.specs.declared.fault.StoreFault.TheVariants as fault
 use Rattle.cache_theory.specs.Command.{Command}
-use Rattle.cache_theory.specs.Command.Command.{HasEntry, ListRecords, Evict, Verify, Rebuild}
+use Rattle.cache_theory.specs.Command.Command.{ClearOrigin, HasEntry, ListRecords, Evict, Verify, Rebuild}
 use Rattle.cache_theory.specs.Crash.{IsCrashSafe, IsSafe}
 use Rattle.cache_theory.specs.History.{History, acked, begun, unanswered as left_unanswered}
 use Rattle.cache_theory.specs.Machine.{Machine}
@@ -27,6 +27,7 @@ abbrev pub goes_by_records : Command → Bool
 goes_by_records (HasEntry key) = true
 goes_by_records ListRecords = true
 goes_by_records (Evict kb) = true
+goes_by_records (ClearOrigin origin) = true
 goes_by_records Verify = true
 goes_by_records _ = false
 
@@ -34,7 +35,7 @@ goes_by_records _ = false
 abbrev pub ComesToTell : Command → Session → Machine → Type 0
 ComesToTell c now m = Tells now m ⊎ (c ≡ Rebuild)
 
--- an eviction, a check or a list goes by these records: those in memory once the update has ended, which are those of all
+-- an eviction, a clearing, a check or a list goes by these records: those in memory once the update has ended, which are those of all
 -- entries where they were right
 pub record GoesBy (before : Session) (m : Machine) (records : List IndexRecord) : Type 0 where
   pub in_memory : AreAtEnd (entries_on before.disk) before.open_store.index records

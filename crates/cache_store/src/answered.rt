@@ -31,6 +31,8 @@ pub(crate) enum Answered {
     Updating(u64),
     /// The index was written anew with so many records, and it says `rebuilt` and their number.
     Rebuilt(u64),
+    /// So many names were cleared, and it says `cleared` and their number.
+    Cleared(u64),
     /// The entries were checked, and it says what is wrong.
     Checked(FindingList),
     /// It is refused, and says why.

@@ -1,21 +1,22 @@
 //! Performs one command, and writes its reply.
 
-ghost use Rattle.std.specs.Prelude.{ℕ, ◌≡◌, ◌≢◌, ◌<◌, [], Err, Ok, true, false, IfOk, IfSome, IsErrOf, IsTrue, OnErr, OnOk, codes};
+ghost use Rattle.std.specs.Prelude.{List, ℕ, ◌≡◌, ◌≢◌, ◌<◌, [], Err, Ok, true, false, IfOk, IfSome, IsErrOf, IsTrue, OnErr, OnOk, codes};
 ghost use Rattle.std.specs.Io.KnownBytes.{Appends};
 ghost use Rattle.cache_base.specs.Causes.{HasCause};
 ghost use Rattle.cache_base.specs.declared.limits.TheConstants.{SLOTS};
 ghost use Rattle.cache_script.specs.Command.{command_of};
 ghost use Rattle.cache_store.specs.Answering.{outcome_in, rest_of};
+ghost use Rattle.cache_store.specs.Clearing.{HasNoMark, IsClearing, LeavesUncleared};
 ghost use Rattle.cache_store.specs.Evicting.{IsEviction, LeavesOthers, LooksBeforeChanges};
 ghost use Rattle.cache_store.specs.Faulting.{FailsForGood, LooksAtNothing, StaysAs};
 ghost use Rattle.cache_store.specs.Faults.{ending};
-ghost use Rattle.cache_store.specs.IndexCalls.{Flushes, IsFresh, IsWritten, LooksAtNames, MakesNoCall, NeverSyncs, OnlyLooks, Rebuilds, WritesIndex, names_read};
+ghost use Rattle.cache_store.specs.IndexCalls.{Flushes, IsFresh, IsWritten, LooksAtNames, MakesNoCall, NeverSyncs, OnlyLooks, Rebuilds, SyncsAll, names_read};
 ghost use Rattle.cache_store.specs.InUse.{SparesIndex};
 ghost use Rattle.cache_store.specs.Printed.{HasBadKey, IsPlain, Prints, is_check, is_plain, lists_findings};
 ghost use Rattle.cache_store.specs.Reads.{AreHeld, LastIsFirst, LeavesChunks};
 ghost use Rattle.cache_store.specs.Said.{IsCut, saying};
 ghost use Rattle.cache_store.specs.Saying.{CutsIn, SaysMore, TakesMore};
-ghost use Rattle.cache_theory.specs.Command.Command.{ElementOf, Evict, Flush, ReadPart, Rebuild, Verify};
+ghost use Rattle.cache_theory.specs.Command.Command.{ClearOrigin, ElementOf, Evict, Flush, ReadPart, Rebuild, Verify};
 ghost use Rattle.cache_theory.specs.Faulted.{fault_line};
 ghost use Rattle.cache_theory.specs.Given.{IsGiven};
 ghost use Rattle.cache_theory.specs.Text.{with_bytes};
@@ -110,6 +111,10 @@ fn say_rest<K: Sink>(
             let line = counted(alloc, b"rebuilt", records)?;
             say_ok(reply, sink, line.as_slice())
         }
+        Answered::Cleared(names) => {
+            let line = counted(alloc, b"cleared", names)?;
+            say_ok(reply, sink, line.as_slice())
+        }
         Answered::Checked(found) => say_found(alloc, found.as_slice(), reply, sink),
         Answered::Refused(refusal) => {
             let text = refusal_text(alloc, &refusal)?;
@@ -193,7 +198,7 @@ impl Store {
         ensures index { SparesIndex (command_of c.now) self.old.index → Told D.Disk LeavesIndex disk.old disk.new }
         ensures base { SparesIndex (command_of c.now) self.old.index → HadEffect result →
             SameBase self.old.index.map self.new.index.map }
-        ensures quiet { WritesIndex (command_of c.now) → HadEffect result →
+        ensures quiet { SyncsAll (command_of c.now) → HadEffect result →
             IsTrue D.tells → IsQuiet (D.state disk.new) }
         ensures unclean { IsTrue D.tells → IsUnclean (D.state disk.new) }
         ensures looks { IfSome (names_read (command_of c.now) self.old.index.update)
@@ -210,6 +215,10 @@ impl Store {
             Told D.Disk SyncsNothing disk.old disk.new }
         ensures evicts { (kb : ℕ) → command_of c.now ≡ Evict kb → HadEffect result → IsTrue D.tells →
             LeavesOthers (session D.Disk self.old disk.old) kb self.new.index.map }
+        ensures clears { (origin : List ℕ) → command_of c.now ≡ ClearOrigin origin → HadEffect result →
+            IsTrue D.tells → LeavesUncleared (session D.Disk self.old disk.old) origin self.new.index.map }
+        ensures unmarked { IsClearing (command_of c.now) → HadEffect result →
+            IsTrue D.tells → HasNoMark (D.state disk.new) }
         ensures flushes { command_of c.now ≡ Flush → HadEffect result →
             Told D.Disk (Flushes self.old.index self.old.moment) disk.old disk.new }
         ensures rebuilds { command_of c.now ≡ Rebuild → HadEffect result →
@@ -279,6 +288,14 @@ impl Store {
                 let answer = self.handles.use_entry(alloc, disk, slot, now);
                 self.index.learn_of(answer)
             }
+            Command::Pin { slot } => {
+                let answer = self.handles.pin(alloc, disk, slot);
+                self.index.learn_of(answer)
+            }
+            Command::Unpin { slot } => {
+                let answer = self.handles.unpin(alloc, disk, slot);
+                self.index.learn_of(answer)
+            }
             Command::ReadPart { slot, from, len } => {
                 self.say_read(alloc, disk, slot, from, len, sink)
             }
@@ -297,6 +314,7 @@ impl Store {
             Command::Has { key } => Ok(self.index.has(key)),
             Command::List => self.say_list(alloc, disk, sink),
             Command::Evict { kb } => self.evict(alloc, disk, kb, sink),
+            Command::Clear { origin } => self.clear(alloc, disk, origin),
             Command::Flush => self.flush(alloc, disk),
             Command::Step { n } => self.step(disk, n),
             Command::State => Ok(self.index.state()),
@@ -334,9 +352,9 @@ impl Store {
     ///
     /// The reply to `verify` is what is wrong with the files that stand and the records in memory, and the verdict is
     /// `Refused` where that is anything. The replies to `has` and `list` are the machine's where the records are right:
-    /// where the directory was honest at the opening, or a `rebuild` has answered. There an `evict` takes off what the
-    /// machine's does; elsewhere it takes off what has to go by the records that there are, and the reply names it all
-    /// the same.
+    /// where the directory was honest at the opening, or a `rebuild` has answered. There an `evict` and a `clear` take
+    /// off what the machine's do; elsewhere they take off what has to go by the records that there are, and the reply
+    /// names it all the same.
     pub fn attempt<D: Disk, K: Sink>(
         &mut self,
         alloc: Global,
@@ -370,13 +388,17 @@ impl Store {
         ensures index { SparesIndex (command_of c.now) self.old.index → Told D.Disk LeavesIndex disk.old disk.new }
         ensures base { SparesIndex (command_of c.now) self.old.index → HadEffect result →
             SameBase self.old.index.map self.new.index.map }
-        ensures quiet { WritesIndex (command_of c.now) → HadEffect result →
+        ensures quiet { SyncsAll (command_of c.now) → HadEffect result →
             IsTrue D.tells → IsQuiet (D.state disk.new) }
         ensures flushed { command_of c.now ≡ Flush → OnOk result
             (self.new.index.update ≡ [] → IsFresh self.new.index.map) }
         ensures rebuilt { command_of c.now ≡ Rebuild → OnOk result (IsWritten self.new.index.map) }
         ensures evicts { (kb : ℕ) → command_of c.now ≡ Evict kb → HadEffect result → IsTrue D.tells →
             LeavesOthers (session D.Disk self.old disk.old) kb self.new.index.map }
+        ensures clears { (origin : List ℕ) → command_of c.now ≡ ClearOrigin origin → HadEffect result →
+            IsTrue D.tells → LeavesUncleared (session D.Disk self.old disk.old) origin self.new.index.map }
+        ensures unmarked { IsClearing (command_of c.now) → HadEffect result →
+            IsTrue D.tells → HasNoMark (D.state disk.new) }
         ensures flushes { command_of c.now ≡ Flush → HadEffect result →
             Told D.Disk (Flushes self.old.index self.old.moment) disk.old disk.new }
         ensures rebuilds { command_of c.now ≡ Rebuild → HadEffect result →

@@ -34,8 +34,8 @@ use evictor::victims;
 use file_handles::Handles;
 use std::alloc::Global;
 
-// Whether the name is among rising ones.
-fn is_among(rising: &[Name], name: &Name) -> bool
+/// Whether the name is among rising ones.
+pub(crate) fn is_among(rising: &[Name], name: &Name) -> bool
     requires { AreRising rising.now }
     ensures { result ≡ list_any (same_name name.now) rising.now }
 {

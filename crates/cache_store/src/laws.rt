@@ -1,5 +1,6 @@
-//! When an index is written, and by which records an eviction and a check go.
+//! When an index is written, by which records an eviction and a check go, and what a clearing leaves.
 
+ghost use Rattle.cache_store.specs.Clearing.{ClearingLeavesNone};
 ghost use Rattle.cache_store.specs.InUse.{FewAreSpared, FewStayInUse};
 ghost use Rattle.cache_store.specs.Records.{AtEndIsOne};
 
@@ -13,4 +14,11 @@ pub fn few_leave_index()
 /// What is in memory and what stands decide by which records an eviction and a check go.
 pub fn records_at_end_are_one()
     ensures { AtEndIsOne }
+{}
+
+/// Once a clearing of an origin is answered, no crash leaves a version of it that is not pinned, where the records in
+/// memory were right: where the directory was honest at the opening, or a `rebuild` has answered. What later commands may
+/// bring there is said by `cache_theory::cleared_stay_gone`.
+pub fn clearing_leaves_none()
+    ensures { ClearingLeavesNone }
 {}

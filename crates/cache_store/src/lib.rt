@@ -3,6 +3,7 @@
 #![tactic(auto)]
 
 mod answered;
+mod clear;
 mod command;
 mod evict;
 mod fault;
@@ -24,5 +25,5 @@ mod store;
 mod verify;
 
 pub use fault::{Outcome, StoreFault, Verdict};
-pub use laws::{few_leave_index, records_at_end_are_one};
+pub use laws::{clearing_leaves_none, few_leave_index, records_at_end_are_one};
 pub use store::Store;

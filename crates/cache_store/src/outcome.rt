@@ -1,18 +1,19 @@
 //! Answers a command: by its reply, or by the line that tells of a failed look at the disk.
 
-ghost use Rattle.std.specs.Prelude.{ℕ, ◌≡◌, ◌≢◌, [], Err, Ok, true, false, IfOk, IfSome, IsErrOf, IsTrue, OnErr, OnOk};
+ghost use Rattle.std.specs.Prelude.{List, ℕ, ◌≡◌, ◌≢◌, [], Err, Ok, true, false, IfOk, IfSome, IsErrOf, IsTrue, OnErr, OnOk};
 ghost use Rattle.cache_base.specs.Causes.{HasCause};
 ghost use Rattle.cache_script.specs.Command.{command_of};
+ghost use Rattle.cache_store.specs.Clearing.{HasNoMark, IsClearing, LeavesUncleared};
 ghost use Rattle.cache_store.specs.Evicting.{IsEviction, LeavesOthers, LooksBeforeChanges};
 ghost use Rattle.cache_store.specs.Faulting.{FailsForGood, LooksAtNothing};
 ghost use Rattle.cache_store.specs.Faults.{ending};
 ghost use Rattle.cache_store.specs.InUse.{SparesIndex};
-ghost use Rattle.cache_store.specs.IndexCalls.{Flushes, IsFresh, IsWritten, LooksAtNames, MakesNoCall, NeverSyncs, OnlyLooks, Rebuilds, WritesIndex, names_read};
+ghost use Rattle.cache_store.specs.IndexCalls.{Flushes, IsFresh, IsWritten, LooksAtNames, MakesNoCall, NeverSyncs, OnlyLooks, Rebuilds, SyncsAll, names_read};
 ghost use Rattle.cache_store.specs.Outcomes.{Faults, verdict_in, verdict_of};
 ghost use Rattle.cache_store.specs.Printed.{HasBadKey, Prints, is_plain};
 ghost use Rattle.cache_store.specs.Reads.{AreHeld, LastIsFirst, LeavesChunks};
 ghost use Rattle.cache_store.specs.Saying.{TakesMore};
-ghost use Rattle.cache_theory.specs.Command.Command.{Evict, Flush, ReadPart, Rebuild, Verify};
+ghost use Rattle.cache_theory.specs.Command.Command.{ClearOrigin, Evict, Flush, ReadPart, Rebuild, Verify};
 ghost use Rattle.cache_theory.specs.Given.{IsGiven};
 ghost use Rattle.disk_model.specs.Account.{Accounts, Looks};
 ghost use Rattle.disk_model.specs.Sound.{IsQuiet};
@@ -57,9 +58,9 @@ impl Store {
     ///
     /// The reply to `verify` is what is wrong with the files that stand and the records in memory, and the outcome is
     /// `Refused` where that is anything. The replies to `has` and `list` are the machine's where the records are right:
-    /// where the directory was honest at the opening, or a `rebuild` has answered. There an `evict` takes off what the
-    /// machine's does; elsewhere it takes off what has to go by the records that there are, and the reply names it all
-    /// the same.
+    /// where the directory was honest at the opening, or a `rebuild` has answered. There an `evict` and a `clear` take
+    /// off what the machine's do; elsewhere they take off what has to go by the records that there are, and the reply
+    /// names it all the same.
     pub fn command<D: Disk, K: Sink>(
         &mut self,
         alloc: Global,
@@ -100,16 +101,22 @@ impl Store {
             Told D.Disk LeavesIndex disk.old disk.new }
         ensures base { SparesIndex (command_of c.now) self.old.index → HadEffect result →
             SameBase self.old.index.map self.new.index.map }
-        ensures quiet { self.new.faulting ≡ false → WritesIndex (command_of c.now) → HadEffect result →
+        ensures quiet { self.new.faulting ≡ false → SyncsAll (command_of c.now) → HadEffect result →
             IsTrue D.tells → IsQuiet (D.state disk.new) }
         ensures flushed { command_of c.now ≡ Flush → OnOk result
             (self.new.index.update ≡ [] → IsFresh self.new.index.map) }
         ensures rebuilt { self.new.faulting ≡ false → command_of c.now ≡ Rebuild →
             OnOk result (IsWritten self.new.index.map) }
 
-        // An eviction leaves the records of all others. An index that is written has the moment of this store.
+        // An eviction leaves the records of all others, and so does a clearing, which leaves no mark. An index that is written
+        // has the moment of this store.
         ensures evicts { (kb : ℕ) → self.new.faulting ≡ false → command_of c.now ≡ Evict kb → HadEffect result →
             IsTrue D.tells → LeavesOthers (session D.Disk self.old disk.old) kb self.new.index.map }
+        ensures clears { (origin : List ℕ) → self.new.faulting ≡ false → command_of c.now ≡ ClearOrigin origin →
+            HadEffect result → IsTrue D.tells →
+            LeavesUncleared (session D.Disk self.old disk.old) origin self.new.index.map }
+        ensures unmarked { self.new.faulting ≡ false → IsClearing (command_of c.now) → HadEffect result →
+            IsTrue D.tells → HasNoMark (D.state disk.new) }
         ensures flushes { command_of c.now ≡ Flush → HadEffect result →
             Told D.Disk (Flushes self.old.index self.old.moment) disk.old disk.new }
         ensures rebuilds { self.new.faulting ≡ false → command_of c.now ≡ Rebuild → HadEffect result →

@@ -9,7 +9,7 @@ use Rattle.std.proofs.lemmas.Map.Text.{is_eq-slice_cmp}
 use Rattle.std.proofs.lemmas.Slice.Eq.{bytes_eq-Decides}
 use Rattle.cache_base.specs.declared.name.Name.{Name}
 use Rattle.cache_theory.specs.Checks.{checks}
-use Rattle.cache_theory.specs.Laws.{EvictTakesOff, EvictedMayGo, MayGo, UnusedAreTakenOff, is_among}
+use Rattle.cache_theory.specs.Laws.{DoomedAreLost, EvictTakesOff, EvictedMayGo, MayGo, UnusedAreTakenOff, is_among}
 use Rattle.cache_theory.specs.Machine.{Machine, open_names}
 use Rattle.cache_theory.specs.Step.{all_doomed, doomed_at, doomed_under, effect, evicted, update_ended, without}
 use Rattle.cache_theory.specs.Table.{Table, bytes_cmp, get, name_of, remove}
@@ -68,7 +68,7 @@ all_weaker P Q (x ∷ xs) weaker h = (weaker x h.0, all_weaker P Q xs weaker h.1
 own_name : (n : List ℕ) → eq_by_cmp bytes_cmp n n ≡ true
 own_name n = is_eq-slice_cmp n n ∙ (bytes_eq-Decides n n).1 refl
 
-later_some : {X : Type 0} (b : Bool) (x : X) (o : Option X) → is_some o ≡ true
+pub later_some : {X : Type 0} (b : Bool) (x : X) (o : Option X) → is_some o ≡ true
     → is_some (cond b (Some x) o) ≡ true
 later_some true x o h = refl
 later_some false x o h = h
@@ -209,7 +209,7 @@ off_either true false o = refl
 off_either false true o = refl
 off_either false false o = refl
 
-get_removed_or : {X : Type 0} (t : Table X) (gone q : List ℕ)
+pub get_removed_or : {X : Type 0} (t : Table X) (gone q : List ℕ)
     → get (remove t gone) q ≡ cond (bytes_eq q gone) None (get t q)
 get_removed_or t gone q = elim (one_name gone q) [
   | inl same ↦ get-remove_same t gone q same
@@ -235,16 +235,21 @@ unused_each m (n ∷ names) each = (
   unused_each m names (λ q among. each q (or_right (bytes_eq q n.0) (is_among q names) among)),
 )
 
+pub doomed_are_lost : DoomedAreLost
+doomed_are_lost m names = record {
+  shelf = shelf_without (update_ended m) names;
+  rest = rest_stays (update_ended m) names refl;
+  slots = slots_stay (update_ended m) names;
+  moment = moment_stays (update_ended m) names;
+}
+
 pub unused_are_taken_off : UnusedAreTakenOff
 unused_are_taken_off m names each =
     let unused : AreUnused m names = unused_each m names each in
     record {
-      shelf = shelf_without (update_ended m) names;
-      rest = rest_stays (update_ended m) names refl;
+      lost = doomed_are_lost m names;
       objects = objects_stay (update_ended m) names unused;
       users = λ q. users_stay (update_ended m) names q unused;
-      slots = slots_stay (update_ended m) names;
-      moment = moment_stays (update_ended m) names;
     }
 
 pub evict_takes_off : EvictTakesOff

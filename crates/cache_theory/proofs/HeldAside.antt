@@ -76,7 +76,7 @@ held_new m name i proper at = record {
   aside = ap is_aside (doomed_here m name i proper at);
 }
 
-used_or_not : (o : Option ℕ) (j : ℕ) → (o ≡ Some j) ⊎ (o ≢ Some j)
+pub used_or_not : (o : Option ℕ) (j : ℕ) → (o ≡ Some j) ⊎ (o ≢ Some j)
 used_or_not None j = inr (λ e. cc)
 used_or_not (Some i) j = elim (cases_eq i j) [
   | inl e ↦ inl (ap (λ k. Some k) e)

@@ -5,10 +5,11 @@ use Rattle.cache_base.specs.Checks.{first_failing}
 use Rattle.cache_base.specs.declared.name.Name.{Name}
 use Rattle.cache_theory.specs.Checks.{checks, with_alt_data, with_value}
 use Rattle.cache_theory.specs.Command.{Command}
-use Rattle.cache_theory.specs.Command.Command.{Create, OpenKey, Append, Finish, SetElement, UnsetElement, UseEntry, PutAlt, Close, Doom, Evict, EvictNames}
+use Rattle.cache_theory.specs.Command.Command.{Create, OpenKey, Append, Finish, SetElement, UnsetElement, UseEntry, Pin, Unpin, PutAlt, Close, Doom, Evict, EvictNames, ClearOrigin, ClearNames}
 use Rattle.cache_theory.specs.Command.Reply.{Done, NoneThere}
+use Rattle.cache_theory.specs.Covers.{cleared}
 use Rattle.cache_theory.specs.Machine.{Machine, Object, has_slots, is_writer, number_of, object_of, on_shelf, used_by}
-use Rattle.cache_theory.specs.Step.{Answer, after, all_doomed, answer, changed, doomed_under, effect, evicted, finished_by, joined, released, step, stepped, stored, update_ended, used, with_slot}
+use Rattle.cache_theory.specs.Step.{Answer, after, all_doomed, answer, changed, doomed_under, effect, evicted, finished_by, joined, released, step, stepped, stored, update_ended, used, with_pin, with_slot}
 use Rattle.cache_theory.specs.Table.{Table, IsTable, remove}
 use Rattle.cache_theory.specs.declared.refusal.Refusal.{Refusal}
 use Rattle.cache_theory.proofs.TableLaws.{insert_is_table, remove_is_table}
@@ -74,11 +75,15 @@ effect_table m (UnsetElement s name) h =
     let unset : Version → Version = λ v. record v { elements = without_element name v.elements } in
     unset_table m (is_none (element name (object_of m s).version.elements)) (answer (changed m s unset) Done) h (changed_table m s unset h)
 effect_table m (UseEntry s) h = changed_table m s (used m.moment) h
+effect_table m (Pin s) h = changed_table m s (with_pin true) h
+effect_table m (Unpin s) h = changed_table m s (with_pin false) h
 effect_table m (PutAlt s kind bytes) h = changed_table m s (with_alt_data kind bytes) h
 effect_table m (Close s) h = released_table (finished_by m s) s (finished_table m s h)
 effect_table m (Doom key) h = remove_is_table m.shelf (file_name key) h
 effect_table m (Evict kb) h = all_doomed_table (update_ended m) (evicted m kb) h
 effect_table m (EvictNames names) h = all_doomed_table (update_ended m) names h
+effect_table m (ClearOrigin origin) h = all_doomed_table (update_ended m) (cleared m origin) h
+effect_table m (ClearNames names) h = all_doomed_table (update_ended m) names h
 effect_table m c h = h
 
 stepped_table : (m : Machine) (c : Command) (r : Option Refusal) → IsTable m.shelf → IsTable (stepped m c r).next.shelf

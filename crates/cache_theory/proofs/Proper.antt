@@ -1,24 +1,25 @@
 -- Every command leaves a proper machine proper.
-use Rattle.std.proofs.Common.{◌≡◌, [], ◌++◌, drop, true, Option, Some, None, refl}
+use Rattle.std.proofs.Common.{◌≡◌, [], ◌++◌, drop, false, true, Option, Some, None, refl}
 use Rattle.std.specs.Prelude.{is_none}
 use Rattle.std.proofs.lemmas.Bool.{cond_both, not-true}
 use Rattle.cache_base.specs.Checks.{first_failing}
 use Rattle.cache_base.proofs.CheckLaws.{AllHold, all_hold}
 use Rattle.cache_theory.specs.Checks.{checks, with_alt_data, with_value}
 use Rattle.cache_theory.specs.Command.{Command}
-use Rattle.cache_theory.specs.Command.Command.{At, Create, OpenKey, Append, Finish, SetElement, UnsetElement, UseEntry, PutAlt, Close, Doom, ListRecords, ListGiven, Evict, EvictNames, StepUpdate, Verify, VerifyRecords, Rebuild}
+use Rattle.cache_theory.specs.Command.Command.{At, Create, OpenKey, Append, Finish, SetElement, UnsetElement, UseEntry, Pin, Unpin, PutAlt, Close, Doom, ListRecords, ListGiven, Evict, EvictNames, ClearOrigin, ClearNames, StepUpdate, Verify, VerifyRecords, Rebuild}
 use Rattle.cache_theory.specs.Command.Reply.{Done, NoneThere}
+use Rattle.cache_theory.specs.Covers.{cleared}
 use Rattle.cache_theory.specs.Given.{IsGiven}
 use Rattle.cache_theory.specs.Machine.{Machine, is_slot, object_of}
 use Rattle.cache_theory.specs.Proper.{IsProper, StaysProper}
-use Rattle.cache_theory.specs.Step.{answer, changed, effect, evicted, stepped, update_ended, used}
+use Rattle.cache_theory.specs.Step.{answer, changed, effect, evicted, stepped, update_ended, used, with_pin}
 use Rattle.cache_theory.specs.declared.refusal.Refusal.{Refusal}
 use Rattle.cache_theory.proofs.AltData.{object_with_alt}
 use Rattle.cache_theory.proofs.Changes.{object_is, proper_changed, proper_closed, proper_created, proper_finished, proper_joined}
 use Rattle.cache_theory.proofs.Dooming.{proper_doomed_under}
 use Rattle.cache_theory.proofs.Rested.{proper_all_doomed, proper_rested}
 use Rattle.cache_theory.proofs.Slotted.{proper_slotted, same_slots}
-use Rattle.cache_theory.proofs.Versions.{object_appended, object_used, object_with, object_without}
+use Rattle.cache_theory.proofs.Versions.{object_appended, object_pinned, object_used, object_with, object_without}
 use Rattle.entry_name.specs.EntryName.{file_name}
 use Rattle.entry_parts.specs.Elements.{element}
 use Rattle.entry_parts.specs.Setting.{without_element}
@@ -46,6 +47,14 @@ effect_proper m (UseEntry s) given proper hold =
     let is : is_slot m s ≡ true = hold.0 in
     proper_changed m s (used m.moment) proper is refl
     (object_used m.moment (object_of m s) proper.moment (object_is m s proper is))
+effect_proper m (Pin s) given proper hold =
+    let is : is_slot m s ≡ true = hold.0 in
+    proper_changed m s (with_pin true) proper is refl
+    (object_pinned true (object_of m s) (object_is m s proper is))
+effect_proper m (Unpin s) given proper hold =
+    let is : is_slot m s ≡ true = hold.0 in
+    proper_changed m s (with_pin false) proper is refl
+    (object_pinned false (object_of m s) (object_is m s proper is))
 effect_proper m (PutAlt s kind bytes) given proper hold =
     let is : is_slot m s ≡ true = hold.0 in
     proper_changed m s (with_alt_data kind bytes) proper is refl
@@ -57,6 +66,10 @@ effect_proper m (ListGiven records) given proper hold = proper_rested m [] prope
 effect_proper m (Evict kb) given proper hold =
     proper_all_doomed (update_ended m) (evicted m kb) (proper_rested m [] proper)
 effect_proper m (EvictNames names) given proper hold =
+    proper_all_doomed (update_ended m) names (proper_rested m [] proper)
+effect_proper m (ClearOrigin origin) given proper hold =
+    proper_all_doomed (update_ended m) (cleared m origin) (proper_rested m [] proper)
+effect_proper m (ClearNames names) given proper hold =
     proper_all_doomed (update_ended m) names (proper_rested m [] proper)
 effect_proper m (StepUpdate n) given proper hold = proper_rested m (drop n m.rest) proper
 effect_proper m Verify given proper hold = proper_rested m [] proper

@@ -8,13 +8,13 @@ use Rattle.std.proofs.lemmas.Map.Text.{is_eq-slice_cmp}
 use Rattle.cache_base.proofs.CheckLaws.{AllHold, all_hold}
 use Rattle.cache_theory.specs.Checks.{checks, with_alt_data, with_value}
 use Rattle.cache_theory.specs.Command.{Command}
-use Rattle.cache_theory.specs.Command.Command.{Create, OpenKey, Append, Finish, SetElement, UnsetElement, UseEntry, PutAlt, Close, Doom, ListRecords, ListGiven, Evict, EvictNames, StepUpdate, Verify, VerifyRecords, Rebuild}
+use Rattle.cache_theory.specs.Command.Command.{Create, OpenKey, Append, Finish, SetElement, UnsetElement, UseEntry, Pin, Unpin, PutAlt, Close, Doom, ListRecords, ListGiven, Evict, EvictNames, ClearOrigin, ClearNames, StepUpdate, Verify, VerifyRecords, Rebuild}
 use Rattle.cache_theory.specs.Command.Reply.{Done, NoneThere}
 use Rattle.cache_theory.specs.Laws.{EntriesHaveRecords}
 use Rattle.cache_theory.specs.Machine.{Machine, Object, has_slots, is_writer, number_of, object, object_of, on_shelf, used_by}
 use Rattle.cache_theory.specs.Proper.{IsProper}
 use Rattle.cache_theory.specs.Refiled.{EntriesAreRefiled, IsOfEntries, IsRefiled, Refiled, refiled, refiled_by}
-use Rattle.cache_theory.specs.Step.{answer, changed, effect, finished_by, fits_there, joined, released, stepped, stored, used, with_slot, without}
+use Rattle.cache_theory.specs.Step.{answer, changed, effect, finished_by, fits_there, joined, released, stepped, stored, used, with_pin, with_slot, without}
 use Rattle.cache_theory.specs.Table.{Table, get, insert, remove}
 use Rattle.cache_theory.proofs.Names.{get-remove_other, get-remove_same, same_bytes}
 use Rattle.cache_theory.proofs.Objects.{nth, nth-set_same}
@@ -114,12 +114,12 @@ refiled_along m t next (Some r) shelf rest is =
     (λ q. ap (λ x. get x q) shelf ∙ is.0 q, rest ∙ is.1)
 
 -- giving up a slot changes neither, nor an object
-record IsReleased (m next : Machine) : Type 0 where
-  shelf : next.shelf ≡ m.shelf
-  rest : next.rest ≡ m.rest
-  objects : next.objects ≡ m.objects
+pub record IsReleased (m next : Machine) : Type 0 where
+  pub shelf : next.shelf ≡ m.shelf
+  pub rest : next.rest ≡ m.rest
+  pub objects : next.objects ≡ m.objects
 
-is_released : (m : Machine) (s : ℕ) → IsReleased m (released m s)
+pub is_released : (m : Machine) (s : ℕ) → IsReleased m (released m s)
 is_released m s =
     let o : Object = object_of m s in
     let after : Machine = record m { slots = with_slot s None m.slots } in
@@ -198,6 +198,10 @@ effect_refiled m (UnsetElement s key) of proper hold =
     (element key (object_of m s).version.elements) (slot_in_use m proper s hold.0).number
 effect_refiled m (UseEntry s) of proper hold =
     refiled_changed m s (used m.moment) (slot_in_use m proper s hold.0).number
+effect_refiled m (Pin s) of proper hold =
+    refiled_changed m s (with_pin true) (slot_in_use m proper s hold.0).number
+effect_refiled m (Unpin s) of proper hold =
+    refiled_changed m s (with_pin false) (slot_in_use m proper s hold.0).number
 effect_refiled m (PutAlt s kind bytes) of proper hold =
     refiled_changed m s (with_alt_data kind bytes) (slot_in_use m proper s hold.0).number
 effect_refiled m (Close s) of proper hold =
@@ -207,6 +211,8 @@ effect_refiled m ListRecords of proper hold = absurd of
 effect_refiled m (ListGiven records) of proper hold = absurd of
 effect_refiled m (Evict kb) of proper hold = absurd of
 effect_refiled m (EvictNames names) of proper hold = absurd of
+effect_refiled m (ClearOrigin origin) of proper hold = absurd of
+effect_refiled m (ClearNames names) of proper hold = absurd of
 effect_refiled m (StepUpdate n) of proper hold = absurd of
 effect_refiled m Verify of proper hold = absurd of
 effect_refiled m (VerifyRecords records) of proper hold = absurd of

@@ -4,7 +4,7 @@ use Rattle.std.proofs.Math.Seq.{take-append-le}
 use Rattle.cache_theory.specs.Command.{Reply}
 use Rattle.cache_theory.specs.declared.refusal.Refusal.{Refusal}
 use Rattle.cache_theory.specs.declared.refusal.Refusal.TheVariants as refused
-use Rattle.cache_theory.specs.Command.Reply.{Done, Refused, NoneThere, Value, Part, Found, AltData, Main, Yes, No, Unknown, Records, Evicted, Ready, Updating, Findings, Rebuilt}
+use Rattle.cache_theory.specs.Command.Reply.{Done, Refused, NoneThere, Value, Part, Found, AltData, Main, Yes, No, Unknown, Records, Evicted, Cleared, Ready, Updating, Findings, Rebuilt}
 use Rattle.cache_theory.specs.Faulted.{NoReplyIsFault, fault_line}
 use Rattle.cache_theory.specs.Text.{found_line, line, reply_text, refusal_words}
 use Rattle.cache_theory.proofs.TextsApart.{Differ}
@@ -46,6 +46,7 @@ reply_differs No = first_differs 110 102 _ _ (λ e. omega (arith, e))
 reply_differs Unknown = first_differs 117 102 _ _ (λ e. omega (arith, e))
 reply_differs (Records records) = first_differs 114 102 _ _ (λ e. omega (arith, e))
 reply_differs (Evicted names) = first_differs 101 102 _ _ (λ e. omega (arith, e))
+reply_differs (Cleared names) = first_differs 99 102 _ _ (λ e. omega (arith, e))
 reply_differs Ready = first_differs 114 102 _ _ (λ e. omega (arith, e))
 reply_differs (Updating names) = first_differs 117 102 _ _ (λ e. omega (arith, e))
 reply_differs (Findings findings) = second_differs 102 105 97 _ _ (λ e. omega (arith, e))

@@ -2,7 +2,7 @@
 use Rattle.std.proofs.Common.{ℕ, ◌<◌, List, [], ◌∷◌, ◌++◌, codes, decimal, flat_map, length, arith, length-append}
 use Rattle.cache_base.specs.declared.name.Name.{Name}
 use Rattle.cache_check.specs.declared.finding.Finding.{Finding}
-use Rattle.cache_theory.specs.Command.Reply.{Done, Refused, NoneThere, Value, Part, Found, AltData, Main, Yes, No, Unknown, Records, Evicted, Ready, Updating, Findings, Rebuilt}
+use Rattle.cache_theory.specs.Command.Reply.{Done, Refused, NoneThere, Value, Part, Found, AltData, Main, Yes, No, Unknown, Records, Evicted, Cleared, Ready, Updating, Findings, Rebuilt}
 use Rattle.cache_theory.specs.Text.{ReplyIsNotEmpty, finding_words, found_line, line, record_words, refusal_words, reply_text, version_text, with_bytes, with_number}
 use Rattle.entry_file.specs.Version.{Version, version_meta}
 use Rattle.entry_metadata.specs.Metadata.{Meta}
@@ -63,6 +63,7 @@ replies_are_not_empty (Evicted names) =
     longer (with_number (codes "evicted") (length names))
     (flat_map (λ (name : Name). line (encode_upper name.0 ∷ [])) names)
     (number_long (codes "evicted") (length names))
+replies_are_not_empty (Cleared names) = number_long (codes "cleared") names
 replies_are_not_empty Ready = line_long (codes "ready" ∷ [])
 replies_are_not_empty (Updating names) = number_long (codes "updating") names
 replies_are_not_empty (Findings findings) =

@@ -10,12 +10,13 @@ use Rattle.cache_base.specs.declared.name.Name.{Name}
 use Rattle.cache_base.proofs.CheckLaws.{AllHold, all_hold}
 use Rattle.cache_theory.specs.Checks.{checks, with_alt_data, with_value}
 use Rattle.cache_theory.specs.Command.{Command}
-use Rattle.cache_theory.specs.Command.Command.{Create, OpenKey, Append, Finish, SetElement, UnsetElement, UseEntry, PutAlt, Close, Doom, Evict, EvictNames}
+use Rattle.cache_theory.specs.Command.Command.{Create, OpenKey, Append, Finish, SetElement, UnsetElement, UseEntry, Pin, Unpin, PutAlt, Close, Doom, Evict, EvictNames, ClearOrigin, ClearNames}
 use Rattle.cache_theory.specs.Command.Reply.{Done, NoneThere}
+use Rattle.cache_theory.specs.Covers.{cleared}
 use Rattle.cache_theory.specs.Laws.{ChangesAreTouched}
 use Rattle.cache_theory.specs.Machine.{Machine, Object, has_slots, is_writer, number_of, object, object_of, on_shelf, used_by}
 use Rattle.cache_theory.specs.Marks.{name_of_some, touches}
-use Rattle.cache_theory.specs.Step.{all_doomed, answer, changed, doomed_under, effect, evicted, finished_by, joined, released, stepped, stored, update_ended, used, with_slot}
+use Rattle.cache_theory.specs.Step.{all_doomed, answer, changed, doomed_under, effect, evicted, finished_by, joined, released, stepped, stored, update_ended, used, with_pin, with_slot}
 use Rattle.cache_theory.specs.Table.{get, insert, remove}
 use Rattle.cache_theory.specs.declared.refusal.Refusal.{Refusal}
 use Rattle.cache_theory.proofs.Names.{get-insert_other, get-remove_other}
@@ -167,6 +168,8 @@ effect_stays m (UnsetElement s key) name hold none =
     (λ there. stays_changed m s (λ v. record v { elements = without_element key v.elements }) name
     refl (unset_none m s key name there none))
 effect_stays m (UseEntry s) name hold none = stays_changed m s (used m.moment) name refl none
+effect_stays m (Pin s) name hold none = stays_changed m s (with_pin true) name refl none
+effect_stays m (Unpin s) name hold none = stays_changed m s (with_pin false) name refl none
 effect_stays m (PutAlt s kind bytes) name hold none =
     stays_changed m s (with_alt_data kind bytes) name refl none
 effect_stays m (Close s) name hold none =
@@ -176,6 +179,10 @@ effect_stays m (Doom key) name hold none =
 effect_stays m (Evict kb) name hold none =
     stays_all_doomed (update_ended m) (evicted m kb) name none
 effect_stays m (EvictNames names) name hold none =
+    stays_all_doomed (update_ended m) names name none
+effect_stays m (ClearOrigin origin) name hold none =
+    stays_all_doomed (update_ended m) (cleared m origin) name none
+effect_stays m (ClearNames names) name hold none =
     stays_all_doomed (update_ended m) names name none
 effect_stays m c name hold none = refl
 

@@ -1,5 +1,5 @@
 -- Entries that are written are drafts up to their end, and then versions.
-use Rattle.std.proofs.Common.{◌≡◌, ℕ, zero, suc, ◌+◌, ◌^◌, ◌<◌, ◌≤◌, List, ◌++◌, length, map, true, false, ◌&&◌, refl, arith, length-append, leb-true}
+use Rattle.std.proofs.Common.{◌≡◌, ℕ, zero, suc, ◌*◌, ◌+◌, ◌/◌, ◌^◌, ◌<◌, ◌≤◌, List, ◌++◌, length, map, Bool, true, false, ◌&&◌, refl, arith, length-append, leb-true}
 use Rattle.std.specs.List.{AllByRecursion, list_all, range_with_len}
 use Rattle.std.specs.Prelude.{nat_le, nat_lt}
 use Rattle.std.proofs.lemmas.Bool.{and_parts}
@@ -10,7 +10,7 @@ use Rattle.cache_base.specs.declared.limits.TheConstants.{BLOCK_MAX, BODY_MAX, E
 use Rattle.cache_theory.specs.Checks.{good_element, small_parts, with_value}
 use Rattle.cache_theory.specs.Machine.{Object}
 use Rattle.cache_theory.specs.Proper.{IsDraft, IsObject}
-use Rattle.cache_theory.specs.Step.{fresh, used}
+use Rattle.cache_theory.specs.Step.{fresh, used, with_pin}
 use Rattle.cache_theory.proofs.Elements.{bytes_with, bytes_without, elements_with, elements_without, without_no_longer}
 use Rattle.cache_theory.proofs.FileBytes.{bytes-append}
 use Rattle.chunk_store.specs.Chunks.{chunk, chunk_hashes}
@@ -24,6 +24,7 @@ use Rattle.entry_parts.specs.Header.{IsHeader, used_header}
 use Rattle.entry_parts.specs.Setting.{with_element, without_element}
 use Rattle.entry_parts.specs.declared.header.Header.{Header}
 use Rattle.frecency.specs.Frecency.{next}
+use Rattle.index_record.specs.Filling.{bit_if}
 use Rattle.jenkins_hash.specs.Hash.{hash16_of}
 
 -- A key that may be written.
@@ -214,6 +215,59 @@ version_used now v moment h =
       body = h.body;
     }
 
+-- the flags of a header with the pinned bit set or not
+pinned_small : (flags : ℕ) (pinned : Bool) → flags < 2 ^ 32 → flags / 2 * 2 + bit_if pinned 0 < 2 ^ 32
+pinned_small flags true small = omega (arith, small)
+pinned_small flags false small = omega (arith, small)
+
+pinned_is_header : (pinned : Bool) (v : Version) → IsHeader v.header → IsHeader (with_pin pinned v).header
+pinned_is_header pinned v h = record {
+  version = h.version;
+  fetch_count = h.fetch_count;
+  last_fetched = h.last_fetched;
+  last_modified = h.last_modified;
+  frecency = h.frecency;
+  expiration = h.expiration;
+  key_size = h.key_size;
+  flags = pinned_small v.header.flags pinned h.flags;
+}
+
+draft_pinned : (pinned : Bool) (v : Version) → IsDraft v → IsDraft (with_pin pinned v)
+draft_pinned pinned v d = record {
+  header = pinned_is_header pinned v d.header;
+  version = d.version;
+  key_size = d.key_size;
+  key = d.key;
+  key_bytes = d.key_bytes;
+  elements = d.elements;
+  element_bytes = d.element_bytes;
+  small = d.small;
+  body = d.body;
+  short = d.short;
+}
+
+version_pinned : (pinned : Bool) (v : Version) → IsVersion v → IsVersion (with_pin pinned v)
+version_pinned pinned v h =
+    let long = length-block (version_meta (with_pin pinned v)) in
+    let was = length-block (version_meta v) in
+    let small = h.meta.small in
+    record {
+      meta = record {
+        header = pinned_is_header pinned v h.meta.header;
+        version = h.meta.version;
+        key_size = h.meta.key_size;
+        key = h.meta.key;
+        key_bytes = h.meta.key_bytes;
+        elements = h.meta.elements;
+        element_bytes = h.meta.element_bytes;
+        hashes = h.meta.hashes;
+        hash_words = h.meta.hash_words;
+        offset = h.meta.offset;
+        small = omega (arith, long, was, small);
+      };
+      body = h.body;
+    }
+
 -- Objects.
 
 pub object_finished : (o : Object) → o.finished ≡ false → IsObject o → IsObject (record o { finished = true })
@@ -245,4 +299,10 @@ pub object_used : (now : ℕ) (o : Object) → now < 2 ^ 32 → IsObject o
 object_used now o moment h = record {
   draft = λ f. draft_used now o.version moment (h.draft f);
   version = λ f. version_used now o.version moment (h.version f);
+}
+
+pub object_pinned : (pinned : Bool) (o : Object) → IsObject o → IsObject (record o { version = with_pin pinned o.version })
+object_pinned pinned o h = record {
+  draft = λ f. draft_pinned pinned o.version (h.draft f);
+  version = λ f. version_pinned pinned o.version (h.version f);
 }

@@ -9,11 +9,12 @@ use Rattle.cache_base.specs.Checks.{first_failing}
 use Rattle.cache_base.specs.declared.name.Name.{Name}
 use Rattle.cache_theory.specs.Checks.{checks, with_alt_data, with_value}
 use Rattle.cache_theory.specs.Command.{Command}
-use Rattle.cache_theory.specs.Command.Command.{Create, OpenKey, Append, Finish, SetElement, UnsetElement, UseEntry, PutAlt, Close, Doom, ListRecords, ListGiven, Evict, EvictNames, StepUpdate, Verify, VerifyRecords, Rebuild}
+use Rattle.cache_theory.specs.Command.Command.{Create, OpenKey, Append, Finish, SetElement, UnsetElement, UseEntry, Pin, Unpin, PutAlt, Close, Doom, ListRecords, ListGiven, Evict, EvictNames, ClearOrigin, ClearNames, StepUpdate, Verify, VerifyRecords, Rebuild}
 use Rattle.cache_theory.specs.Command.Reply.{Done, NoneThere}
+use Rattle.cache_theory.specs.Covers.{cleared}
 use Rattle.cache_theory.specs.Laws.{ChangesLeaveRest, IsUnread}
 use Rattle.cache_theory.specs.Machine.{Machine, Object, has_slots, is_writer, number_of, object_of, on_shelf, used_by, waits_for}
-use Rattle.cache_theory.specs.Step.{all_doomed, answer, changed, doomed_under, effect, evicted, finished_by, joined, released, stepped, stored, update_ended, used, with_slot, without}
+use Rattle.cache_theory.specs.Step.{all_doomed, answer, changed, doomed_under, effect, evicted, finished_by, joined, released, stepped, stored, update_ended, used, with_pin, with_slot, without}
 use Rattle.cache_theory.specs.Table.{get, insert, remove}
 use Rattle.cache_theory.specs.declared.refusal.Refusal.{Refusal}
 use Rattle.cache_theory.proofs.Names.{get-insert_other, get-remove_other, same_bytes}
@@ -167,6 +168,8 @@ effect_keeps m (SetElement s key value) name = keeps_changed m s (with_value key
 effect_keeps m (UnsetElement s key) name =
     keeps_unset m s key name (is_none (element key (object_of m s).version.elements))
 effect_keeps m (UseEntry s) name = keeps_changed m s (used m.moment) name
+effect_keeps m (Pin s) name = keeps_changed m s (with_pin true) name
+effect_keeps m (Unpin s) name = keeps_changed m s (with_pin false) name
 effect_keeps m (PutAlt s kind bytes) name = keeps_changed m s (with_alt_data kind bytes) name
 effect_keeps m (Close s) name =
     let done : Machine = finished_by m s in
@@ -176,6 +179,8 @@ effect_keeps m ListRecords name = λ waits. absurd (cc)
 effect_keeps m (ListGiven records) name = λ waits. absurd (cc)
 effect_keeps m (Evict kb) name = keeps_evicted m (evicted m kb) name
 effect_keeps m (EvictNames names) name = keeps_evicted m names name
+effect_keeps m (ClearOrigin origin) name = keeps_evicted m (cleared m origin) name
+effect_keeps m (ClearNames names) name = keeps_evicted m names name
 effect_keeps m (StepUpdate n) name = λ waits. record {
   waited = waits_drop name n m.rest waits;
   shelved = refl;

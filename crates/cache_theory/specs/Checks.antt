@@ -4,7 +4,7 @@ use Rattle.alt_data.specs.AltData.{Alt, alt_of, is_kind, with_alt}
 use Rattle.cache_base.specs.Limits.{chunks}
 use Rattle.cache_base.specs.declared.limits.TheConstants.{BLOCK_MAX, BODY_MAX, ELEMENTS_MAX}
 use Rattle.cache_theory.specs.Command.{Command}
-use Rattle.cache_theory.specs.Command.Command.{Create, OpenKey, Append, Finish, SetElement, UnsetElement, ElementOf, UseEntry, PutAlt, ReadPart, Close, Doom, Get, GetAlt, MainBody, HasEntry, HasGiven}
+use Rattle.cache_theory.specs.Command.Command.{Create, OpenKey, Append, Finish, SetElement, UnsetElement, ElementOf, UseEntry, Pin, Unpin, PutAlt, ReadPart, Close, Doom, Get, GetAlt, MainBody, HasEntry, HasGiven}
 use Rattle.cache_theory.specs.Machine.{Machine, is_entry, is_slot, is_writer, object, object_of, on_shelf, used_by}
 use Rattle.cache_theory.specs.declared.refusal.Refusal.{Refusal}
 use Rattle.cache_theory.specs.declared.refusal.Refusal.TheVariants as refused
@@ -112,6 +112,8 @@ checks m (SetElement s name value) = slot_used m s ∷ may_set m s ∷ good_elem
 checks m (UnsetElement s name) = slot_used m s ∷ may_set m s ∷ []
 checks m (ElementOf s name) = slot_used m s ∷ []
 checks m (UseEntry s) = slot_used m s ∷ []
+checks m (Pin s) = slot_used m s ∷ writer m s ∷ []
+checks m (Unpin s) = slot_used m s ∷ writer m s ∷ []
 checks m (PutAlt s kind bytes) =
     slot_used m s ∷ writer m s ∷ finished m s ∷ no_alt m s ∷ good_kind kind ∷ room_for m s (length bytes)
     ∷ small_parts (with_alt_data kind bytes (object_of m s).version) ∷ []

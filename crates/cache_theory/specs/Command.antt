@@ -17,6 +17,9 @@ pub data Command : Type 0 where
   UnsetElement : (slot : ℕ) (name : List ℕ) → Command
   ElementOf : (slot : ℕ) (name : List ℕ) → Command
   UseEntry : (slot : ℕ) → Command
+  -- the entry is pinned, so that neither an eviction nor a clearing takes it; or it is so no longer
+  Pin : (slot : ℕ) → Command
+  Unpin : (slot : ℕ) → Command
   -- these bytes are kept behind the body as alternative data of this kind
   PutAlt : (slot : ℕ) (kind bytes : List ℕ) → Command
   ReadPart : (slot from len : ℕ) → Command
@@ -34,6 +37,10 @@ pub data Command : Type 0 where
   Evict : (kb : ℕ) → Command
   -- an eviction of these names, whatever the records say; no script spells it
   EvictNames : (names : List Name) → Command
+  -- the entries of this origin that are not pinned are doomed
+  ClearOrigin : (origin : List ℕ) → Command
+  -- a clearing of these names, whatever the files say; no script spells it
+  ClearNames : (names : List Name) → Command
   Flush : Command
   StepUpdate : (n : ℕ) → Command
   UpdateState : Command
@@ -65,6 +72,8 @@ pub data Reply : Type 0 where
   Records : (records : List IndexRecord) → Reply
   -- the names of the entries that were evicted
   Evicted : (names : List Name) → Reply
+  -- so many names were cleared
+  Cleared : (names : ℕ) → Reply
   -- the update of the index has ended, or it has still to read so many names
   Ready : Reply
   Updating : (names : ℕ) → Reply

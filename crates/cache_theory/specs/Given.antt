@@ -3,7 +3,7 @@ use Rattle.std.specs.Prelude.{⊤, ◌<◌, ◌^◌}
 use Rattle.cache_base.specs.Bytes.{AreBytes}
 use Rattle.cache_base.specs.declared.limits.TheConstants.{SLOTS}
 use Rattle.cache_theory.specs.Command.{Command}
-use Rattle.cache_theory.specs.Command.Command.{At, Create, OpenKey, Append, Finish, SetElement, UnsetElement, ElementOf, UseEntry, PutAlt, ReadPart, Close, Doom, Get, GetAlt, MainBody, HasEntry, Evict, StepUpdate}
+use Rattle.cache_theory.specs.Command.Command.{At, Create, OpenKey, Append, Finish, SetElement, UnsetElement, ElementOf, UseEntry, Pin, Unpin, PutAlt, ReadPart, Close, Doom, Get, GetAlt, MainBody, HasEntry, Evict, ClearOrigin, StepUpdate}
 
 -- numbers fit their types, slots are those that there are, and texts are bytes
 abbrev pub IsGiven : Command → Type 0
@@ -16,6 +16,8 @@ IsGiven (SetElement s name value) = (s < SLOTS) × (AreBytes name × AreBytes va
 IsGiven (UnsetElement s name) = (s < SLOTS) × AreBytes name
 IsGiven (ElementOf s name) = (s < SLOTS) × AreBytes name
 IsGiven (UseEntry s) = s < SLOTS
+IsGiven (Pin s) = s < SLOTS
+IsGiven (Unpin s) = s < SLOTS
 IsGiven (PutAlt s kind bytes) = (s < SLOTS) × (AreBytes kind × AreBytes bytes)
 IsGiven (ReadPart s from len) = s < SLOTS
 IsGiven (Close s) = s < SLOTS
@@ -25,6 +27,7 @@ IsGiven (GetAlt key) = AreBytes key
 IsGiven (MainBody key) = AreBytes key
 IsGiven (HasEntry key) = AreBytes key
 IsGiven (Evict kb) = kb < 2 ^ 32
+IsGiven (ClearOrigin origin) = AreBytes origin
 IsGiven (StepUpdate n) = n < 2 ^ 32
 -- the others have no numbers and no texts
 IsGiven _ = ⊤

@@ -1,20 +1,24 @@
 -- What follows from the definitions of the machine.
 use Rattle.std.specs.List.{AllByRecursion, list_any}
-use Rattle.std.specs.Prelude.{Bool, List, None, [], false, if◌then◌else◌, is_some, map, true, ℕ, ◌≡◌, ◌≤◌, ◌⊎◌}
+use Rattle.std.specs.Prelude.{Bool, List, None, [], false, if◌then◌else◌, is_some, length, map, true, ℕ, ◌≡◌, ◌≤◌, ◌⊎◌}
 use Rattle.std.specs.Str.{bytes_eq}
 use Rattle.cache_base.specs.declared.name.Name.{Name}
 use Rattle.cache_theory.specs.Checks.{alt_in_version}
 use Rattle.cache_theory.specs.Command.{Command, Reply}
-use Rattle.cache_theory.specs.Command.Command.{Evict, EvictNames, Get, GetAlt, HasEntry, HasGiven, ListGiven, ListRecords, MainBody, Verify, VerifyRecords}
+use Rattle.cache_theory.specs.Command.Command.{ClearNames, ClearOrigin, Evict, EvictNames, Get, GetAlt, HasEntry, HasGiven, ListGiven, ListRecords, MainBody, Verify, VerifyRecords}
 use Rattle.cache_theory.specs.Command.Reply.{Found}
+use Rattle.cache_theory.specs.Covers.{cleared, cleared_by, covers_content}
 use Rattle.cache_theory.specs.Crash.{IsSafe}
 use Rattle.cache_theory.specs.Machine.{Machine, open_names, waits_for}
 use Rattle.cache_theory.specs.Marks.{Marks, begun, touches}
 use Rattle.cache_theory.specs.Step.{after, all_doomed, alt_reply_of, evicted, fits_there, main_reply_of, step, update_ended}
 use Rattle.cache_theory.specs.Table.{IsTable, get}
 use Rattle.disk_model.specs.State.{State}
+use Rattle.context_clear.specs.Covered.{covers_record}
+use Rattle.entry_file.specs.EntryFile.{file_meta, fits}
 use Rattle.entry_name.specs.EntryName.{file_name}
 use Rattle.evictor.specs.Evict.{may_evict, total_kb}
+use Rattle.index_record.specs.Filling.{record_of_meta}
 use Rattle.index_theory.specs.Scan.{scan, scanned}
 
 -- the shelf stays a table, whatever commands come
@@ -45,14 +49,22 @@ EntriesHaveRecords = (m : Machine) (name : Name)
 abbrev pub is_among : List ℕ → List Name → Bool
 is_among name names = list_any (bytes_eq name) (map (λ n. n.0) names)
 
--- what stands under these names is off the shelf, and the update has ended; the rest of the machine is unchanged
-pub record AreTakenOff (m next : Machine) (names : List Name) : Type 0 where
+-- what stands under these names is off the shelf, and the update has ended
+pub record AreLost (m next : Machine) (names : List Name) : Type 0 where
   pub shelf : (name : List ℕ) → get next.shelf name ≡ (if is_among name names then None else get m.shelf name)
   pub rest : next.rest ≡ []
-  pub objects : next.objects ≡ m.objects
-  pub users : (name : List ℕ) → get next.in_use name ≡ get m.in_use name
   pub slots : next.slots ≡ m.slots
   pub moment : next.moment ≡ m.moment
+
+-- so it is where the update ends, and what stands under these names is doomed
+abbrev pub DoomedAreLost : Type 0
+DoomedAreLost = (m : Machine) (names : List Name) → AreLost m (all_doomed (update_ended m) names) names
+
+-- and where none of them is in use, the rest of the machine is unchanged
+pub record AreTakenOff (m next : Machine) (names : List Name) : Type 0 where
+  pub lost : AreLost m next names
+  pub objects : next.objects ≡ m.objects
+  pub users : (name : List ℕ) → get next.in_use name ≡ get m.in_use name
 
 -- the update ends, and what stands under names that are not in use is doomed: so they are taken off
 abbrev pub UnusedAreTakenOff : Type 0
@@ -112,6 +124,19 @@ AltIsOfGet = (m : Machine) (key : List ℕ)
 abbrev pub AltStays : Type 0
 AltStays = (m : Machine) (key : List ℕ)
     → ((step m (GetAlt key)).next ≡ m) × ((step m (MainBody key)).next ≡ m)
+
+-- the machine's own clearing is that of its names, and these are those that the records of a scan tell
+abbrev pub ClearIsOfNames : Type 0
+ClearIsOfNames = (m : Machine) (origin : List ℕ) → (step m (ClearOrigin origin) ≡ step m (ClearNames (cleared m origin)))
+    × (touches m (ClearOrigin origin) ≡ touches m (ClearNames (cleared m origin)))
+
+abbrev pub ClearGoesByScan : Type 0
+ClearGoesByScan = (m : Machine) (origin : List ℕ) → cleared m origin ≡ cleared_by (scan m.shelf) m origin
+
+-- the record of an entry tells whether it is covered
+abbrev pub RecordTellsCovered : Type 0
+RecordTellsCovered = (origin : ℕ) (name : Name) (content : List ℕ) → fits name.0 content ≡ true
+    → covers_record origin (record_of_meta name (file_meta content) (length content)) ≡ covers_content origin name.0 content
 
 -- a disk that is safe by the marks of a begun eviction of no names is so by those of the machine's own, which are more
 abbrev pub BegunTouchesMore : Type 0

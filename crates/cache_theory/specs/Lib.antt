@@ -15,5 +15,7 @@ pub mod Ever
 pub mod Session
 pub mod Stands
 pub mod Crash
+pub mod Covers
 pub mod Keeps
 pub mod Wording
+pub mod Cleared

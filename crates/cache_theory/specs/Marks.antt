@@ -1,4 +1,4 @@
--- What a stop may lose: the state of the last acknowledged flush, the names that were touched since, what was written
+-- What a stop may lose: the state of the last acknowledged flush or clearing, the names that were touched since, what was written
 -- since, and where metadata were rewritten in place since.
 use Rattle.std.specs.List.{list_any}
 use Rattle.std.specs.Prelude.{Any, Bool, List, None, Option, Some, [], false, if◌then◌else◌, is_some, map, not, option_map, slice_get, unwrap_or, ℕ, ◌&&◌, ◌++◌, ◌∷◌, ◌≡◌, ◌⊎◌}
@@ -6,7 +6,8 @@ use Rattle.std.specs.Str.{bytes_eq}
 use Rattle.cache_base.specs.Checks.{first_failing}
 use Rattle.cache_theory.specs.Checks.{checks}
 use Rattle.cache_theory.specs.Command.{Command}
-use Rattle.cache_theory.specs.Command.Command.{Create, Append, Finish, SetElement, UnsetElement, UseEntry, PutAlt, Close, Doom, Evict, EvictNames, Flush}
+use Rattle.cache_theory.specs.Command.Command.{Create, Append, Finish, SetElement, UnsetElement, UseEntry, Pin, Unpin, PutAlt, Close, Doom, Evict, EvictNames, ClearOrigin, ClearNames, Flush}
+use Rattle.cache_theory.specs.Covers.{cleared}
 use Rattle.cache_theory.specs.Machine.{Machine, Object, is_writer, number_of, object, object_of}
 use Rattle.cache_theory.specs.Step.{effect, evicted, step}
 use Rattle.cache_theory.specs.Table.{get}
@@ -22,7 +23,7 @@ pub record Written : Type 0 where
   pub version : Version
 
 pub record Marks : Type 0 where
-  -- the machine at the last acknowledged flush, or at the opening
+  -- the machine at the last acknowledged flush or clearing, or at the opening
   pub marked : Machine
   -- the names that commands touched since
   pub touched : List (List ℕ)
@@ -31,7 +32,7 @@ pub record Marks : Type 0 where
   -- the names of such objects whose metadata were rewritten since, after they were finished
   pub in_place : List (List ℕ)
 
--- at a flush, and at the opening
+-- at a flush, at a clearing, and at the opening
 abbrev pub marks_of : Machine → Marks
 marks_of m = record { marked = m; touched = []; since = []; in_place = [] }
 
@@ -45,6 +46,8 @@ rewritten m (Finish s) = Some (number_of m s)
 rewritten m (SetElement s name value) = if (object_of m s).finished then Some (number_of m s) else None
 rewritten m (UnsetElement s name) = if (object_of m s).finished && is_some (element name (object_of m s).version.elements) then Some (number_of m s) else None
 rewritten m (UseEntry s) = if (object_of m s).finished then Some (number_of m s) else None
+rewritten m (Pin s) = if (object_of m s).finished then Some (number_of m s) else None
+rewritten m (Unpin s) = if (object_of m s).finished then Some (number_of m s) else None
 rewritten m (PutAlt s kind bytes) = if (object_of m s).finished then Some (number_of m s) else None
 rewritten m (Close s) = if is_writer m s && not (object_of m s).finished then Some (number_of m s) else None
 rewritten m _ = None
@@ -54,6 +57,8 @@ abbrev pub rewritten_in_place : Machine → Command → Option ℕ
 rewritten_in_place m (SetElement s name value) = rewritten m (SetElement s name value)
 rewritten_in_place m (UnsetElement s name) = rewritten m (UnsetElement s name)
 rewritten_in_place m (UseEntry s) = rewritten m (UseEntry s)
+rewritten_in_place m (Pin s) = rewritten m (Pin s)
+rewritten_in_place m (Unpin s) = rewritten m (Unpin s)
 rewritten_in_place m (PutAlt s kind bytes) = rewritten m (PutAlt s kind bytes)
 rewritten_in_place m _ = None
 
@@ -71,11 +76,15 @@ touches m (Create s key) = file_name key ∷ []
 touches m (Doom key) = file_name key ∷ []
 touches m (Evict kb) = map (λ name. name.0) (evicted m kb)
 touches m (EvictNames names) = map (λ name. name.0) names
+touches m (ClearOrigin origin) = map (λ name. name.0) (cleared m origin)
+touches m (ClearNames names) = map (λ name. name.0) names
 touches m (Append s bytes) = undoomed_name (object_of m s)
 touches m (Finish s) = name_of_some m (rewritten m (Finish s))
 touches m (SetElement s name value) = name_of_some m (rewritten m (SetElement s name value))
 touches m (UnsetElement s name) = name_of_some m (rewritten m (UnsetElement s name))
 touches m (UseEntry s) = name_of_some m (rewritten m (UseEntry s))
+touches m (Pin s) = name_of_some m (rewritten m (Pin s))
+touches m (Unpin s) = name_of_some m (rewritten m (Unpin s))
 touches m (PutAlt s kind bytes) = name_of_some m (rewritten m (PutAlt s kind bytes))
 touches m (Close s) = name_of_some m (rewritten m (Close s))
 touches m _ = []
@@ -108,9 +117,11 @@ begun_by (Some r) m c w = w
 abbrev pub begun : Machine → Command → Marks → Marks
 begun m c w = begun_by (first_failing (checks m c)) m c w
 
--- and when it is acknowledged
+-- and when it is acknowledged: all is on the disk then after a flush, and after a clearing
 abbrev pub acked : Machine → Command → Marks → Marks
 acked m Flush w = marks_of m
+acked m (ClearOrigin origin) w = marks_of (effect m (ClearOrigin origin)).next
+acked m (ClearNames names) w = marks_of (effect m (ClearNames names)).next
 acked m c w = begun m c w
 
 -- the marks where these commands are acknowledged, and where they have begun

@@ -1,5 +1,5 @@
 -- One step of the machine for each command.
-use Rattle.std.specs.Prelude.{Bool, List, None, Option, Some, [], drop, false, filter, if◌then◌else◌, is_none, length, not, slice_get, slice_set, take, true, unwrap_or, ℕ, ◌&&◌, ◌==◌, ◌++◌, ◌||◌, ◌∷◌}
+use Rattle.std.specs.Prelude.{Bool, List, None, Option, Some, [], drop, false, filter, if◌then◌else◌, is_none, length, not, slice_get, slice_set, take, true, unwrap_or, ℕ, ◌&&◌, ◌==◌, ◌*◌, ◌++◌, ◌+◌, ◌/◌, ◌||◌, ◌∷◌}
 use Rattle.std.specs.Str.{bytes_eq}
 use Rattle.alt_data.specs.AltData.{Alt, main_body}
 use Rattle.cache_base.specs.Checks.{first_failing}
@@ -7,8 +7,9 @@ use Rattle.cache_base.specs.declared.name.Name.{Name}
 use Rattle.cache_check.specs.Findings.{findings}
 use Rattle.cache_theory.specs.Checks.{alt_in_version, checks, with_alt_data, with_value}
 use Rattle.cache_theory.specs.Command.{Command, Reply}
-use Rattle.cache_theory.specs.Command.Command.{At, Create, OpenKey, Append, Finish, SetElement, UnsetElement, ElementOf, UseEntry, PutAlt, ReadPart, Close, Doom, Get, GetAlt, MainBody, HasEntry, HasGiven, ListRecords, ListGiven, Evict, EvictNames, Flush, StepUpdate, UpdateState, Verify, VerifyRecords, Rebuild}
-use Rattle.cache_theory.specs.Command.Reply.{Done, Refused, NoneThere, Value, Part, Found, AltData, Main, Yes, No, Unknown, Records, Evicted, Ready, Updating, Findings, Rebuilt}
+use Rattle.cache_theory.specs.Command.Command.{At, Create, OpenKey, Append, Finish, SetElement, UnsetElement, ElementOf, UseEntry, Pin, Unpin, PutAlt, ReadPart, Close, Doom, Get, GetAlt, MainBody, HasEntry, HasGiven, ListRecords, ListGiven, Evict, EvictNames, ClearOrigin, ClearNames, Flush, StepUpdate, UpdateState, Verify, VerifyRecords, Rebuild}
+use Rattle.cache_theory.specs.Command.Reply.{Done, Refused, NoneThere, Value, Part, Found, AltData, Main, Yes, No, Unknown, Records, Evicted, Cleared, Ready, Updating, Findings, Rebuilt}
+use Rattle.cache_theory.specs.Covers.{cleared}
 use Rattle.cache_theory.specs.Machine.{Machine, Object, Slot, has_slots, is_writer, nobody, number_of, object_of, on_shelf, open_names, used_by, waits_for, writing_names}
 use Rattle.cache_theory.specs.Table.{get, insert, remove}
 use Rattle.cache_theory.specs.declared.refusal.Refusal.{Refusal}
@@ -22,6 +23,7 @@ use Rattle.entry_parts.specs.Setting.{without_element}
 use Rattle.entry_parts.specs.Header.{fresh_header, used_header}
 use Rattle.evictor.specs.Evict.{victims}
 use Rattle.frecency.specs.Frecency.{next as next_frecency}
+use Rattle.index_record.specs.Filling.{bit_if}
 use Rattle.index_theory.specs.Scan.{scan}
 
 -- the names without one
@@ -95,6 +97,10 @@ changed m s f = let o = object_of m s in stored m (number_of m s) (record o { ve
 -- the version after one more use at a moment
 abbrev pub used : ℕ → Version → Version
 used now v = record v { header = used_header v.header now (next_frecency v.header.frecency now) }
+
+-- the version with its pinned bit set or not; the other flags stay
+abbrev pub with_pin : Bool → Version → Version
+with_pin pinned v = record v { header = record v.header { flags = v.header.flags / 2 * 2 + bit_if pinned 0 } }
 
 -- a writer's unfinished object is finished
 abbrev pub finished_by : Machine → ℕ → Machine
@@ -179,6 +185,8 @@ effect m (UnsetElement s name) =
     else answer (changed m s (λ v. record v { elements = without_element name v.elements })) Done
 effect m (ElementOf s name) = answer m (element_reply (element name (object_of m s).version.elements))
 effect m (UseEntry s) = answer (changed m s (used m.moment)) Done
+effect m (Pin s) = answer (changed m s (with_pin true)) Done
+effect m (Unpin s) = answer (changed m s (with_pin false)) Done
 effect m (PutAlt s kind bytes) = answer (changed m s (with_alt_data kind bytes)) Done
 effect m (ReadPart s from len) = answer m (Part (take len (drop from (object_of m s).version.body)))
 effect m (Close s) = answer (released (finished_by m s) s) Done
@@ -192,6 +200,8 @@ effect m ListRecords = answer (update_ended m) (Records (scan m.shelf))
 effect m (ListGiven records) = answer (update_ended m) (Records records)
 effect m (Evict kb) = answer (all_doomed (update_ended m) (evicted m kb)) (Evicted (evicted m kb))
 effect m (EvictNames names) = answer (all_doomed (update_ended m) names) (Evicted names)
+effect m (ClearOrigin origin) = answer (all_doomed (update_ended m) (cleared m origin)) (Cleared (length (cleared m origin)))
+effect m (ClearNames names) = answer (all_doomed (update_ended m) names) (Cleared (length names))
 effect m Flush = answer m Done
 effect m (StepUpdate n) = answer (update_stepped m n) (state_reply (drop n m.rest))
 effect m UpdateState = answer m (state_reply m.rest)

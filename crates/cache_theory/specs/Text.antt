@@ -9,8 +9,8 @@ use Rattle.cache_check.specs.declared.finding.Finding.{Finding}
 use Rattle.cache_check.specs.declared.finding.What.{What}
 use Rattle.cache_check.specs.declared.finding.What.TheVariants as what
 use Rattle.cache_theory.specs.Command.{Command, Reply}
-use Rattle.cache_theory.specs.Command.Command.{At, Create, OpenKey, Append, Finish, SetElement, UnsetElement, ElementOf, UseEntry, PutAlt, ReadPart, Close, Doom, Get, GetAlt, MainBody, HasEntry, HasGiven, ListRecords, ListGiven, Evict, EvictNames, Flush, StepUpdate, UpdateState, Verify, VerifyRecords, Rebuild}
-use Rattle.cache_theory.specs.Command.Reply.{Done, Refused, NoneThere, Value, Part, Found, AltData, Main, Yes, No, Unknown, Records, Evicted, Ready, Updating, Findings, Rebuilt}
+use Rattle.cache_theory.specs.Command.Command.{At, Create, OpenKey, Append, Finish, SetElement, UnsetElement, ElementOf, UseEntry, Pin, Unpin, PutAlt, ReadPart, Close, Doom, Get, GetAlt, MainBody, HasEntry, HasGiven, ListRecords, ListGiven, Evict, EvictNames, ClearOrigin, ClearNames, Flush, StepUpdate, UpdateState, Verify, VerifyRecords, Rebuild}
+use Rattle.cache_theory.specs.Command.Reply.{Done, Refused, NoneThere, Value, Part, Found, AltData, Main, Yes, No, Unknown, Records, Evicted, Cleared, Ready, Updating, Findings, Rebuilt}
 use Rattle.cache_theory.specs.Machine.{Machine}
 use Rattle.cache_theory.specs.Step.{replies}
 use Rattle.cache_theory.specs.declared.refusal.Refusal.{Refusal}
@@ -137,6 +137,7 @@ reply_text No = line (codes "no" ∷ [])
 reply_text Unknown = line (codes "unknown" ∷ [])
 reply_text (Records records) = records_text records
 reply_text (Evicted names) = names_text names
+reply_text (Cleared names) = with_number (codes "cleared") names
 reply_text Ready = line (codes "ready" ∷ [])
 reply_text (Updating names) = with_number (codes "updating") names
 reply_text (Findings findings) = findings_text findings
@@ -150,7 +151,7 @@ ReplyIsNotEmpty = (r : Reply) → 0 < length (reply_text r)
 abbrev pub replies_text : Machine → List Command → List ℕ
 replies_text m cs = flat_map reply_text (replies m cs)
 
--- the words of a command's line; an eviction of given names has none, nor has a check against given records
+-- the words of a command's line; an eviction or a clearing of given names has none, nor has a check against given records
 abbrev pub command_words : Command → List (List ℕ)
 command_words (At now) = codes "at" ∷ decimal now ∷ []
 command_words (Create s key) = codes "create" ∷ decimal s ∷ key ∷ []
@@ -161,6 +162,8 @@ command_words (SetElement s name value) = codes "set" ∷ decimal s ∷ decimal 
 command_words (UnsetElement s name) = codes "unset" ∷ decimal s ∷ name ∷ []
 command_words (ElementOf s name) = codes "element" ∷ decimal s ∷ name ∷ []
 command_words (UseEntry s) = codes "use" ∷ decimal s ∷ []
+command_words (Pin s) = codes "pin" ∷ decimal s ∷ []
+command_words (Unpin s) = codes "unpin" ∷ decimal s ∷ []
 command_words (PutAlt s kind bytes) = codes "putalt" ∷ decimal s ∷ decimal (length bytes) ∷ kind ∷ []
 command_words (ReadPart s from len) = codes "read" ∷ decimal s ∷ decimal from ∷ decimal len ∷ []
 command_words (Close s) = codes "close" ∷ decimal s ∷ []
@@ -174,6 +177,8 @@ command_words (Evict kb) = codes "evict" ∷ decimal kb ∷ []
 command_words (HasGiven key there) = []
 command_words (ListGiven records) = []
 command_words (EvictNames names) = []
+command_words (ClearOrigin origin) = codes "clear" ∷ origin ∷ []
+command_words (ClearNames names) = []
 command_words Flush = codes "flush" ∷ []
 command_words (StepUpdate n) = codes "step" ∷ decimal n ∷ []
 command_words UpdateState = codes "state" ∷ []
@@ -211,6 +216,8 @@ FieldsFit (SetElement s name value) = (s < SLOTS) × ((AreBytes name × IsOneLin
 FieldsFit (UnsetElement s name) = (s < SLOTS) × (AreBytes name × IsOneLine name)
 FieldsFit (ElementOf s name) = (s < SLOTS) × (AreBytes name × IsOneLine name)
 FieldsFit (UseEntry s) = s < SLOTS
+FieldsFit (Pin s) = s < SLOTS
+FieldsFit (Unpin s) = s < SLOTS
 FieldsFit (PutAlt s kind bytes) = (s < SLOTS) × ((AreBytes kind × IsOneLine kind) × (AreBytes bytes × (length bytes ≤ ALT_MAX)))
 FieldsFit (ReadPart s from len) = (s < SLOTS) × (IsNumber from × IsNumber len)
 FieldsFit (Close s) = s < SLOTS
@@ -223,6 +230,8 @@ FieldsFit (Evict kb) = IsNumber kb
 FieldsFit (HasGiven key there) = ⊥
 FieldsFit (ListGiven records) = ⊥
 FieldsFit (EvictNames names) = ⊥
+FieldsFit (ClearOrigin origin) = AreBytes origin × IsOneLine origin
+FieldsFit (ClearNames names) = ⊥
 FieldsFit (VerifyRecords records) = ⊥
 FieldsFit (StepUpdate n) = IsNumber n
 -- the others have no fields

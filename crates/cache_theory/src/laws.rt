@@ -1,8 +1,9 @@
 //! What commands keep: the shelf, the records, and what a crash may leave of the entries.
 
+ghost use Rattle.cache_theory.specs.Cleared.{ClearedStayGone, WrittenAreSpared};
 ghost use Rattle.cache_theory.specs.Faulted.{CutIsTold, FaultCutIsTold, FaultedIsRead, FaultedIsTold, FaultsAreInFront, FaultsAreWithin, FrontIsTold, KeptAreCounted, NextIsNumbered, NextMayFault, NoReplyIsFault, WholeIsTold};
-ghost use Rattle.cache_theory.specs.Keeps.{BeginKeeps, CreateFilesOnce, CreateKeeps, CreateLeavesUnpublished, CreateUnpublished, PublishFilesOnce, PublishKeeps, PublishLeavesUnpublished, QuietFilesOnce, QuietIsSafe, QuietUnpublished, RemoveFilesOnce, RemoveKeeps, RemoveLeavesUnpublished, RenameFilesOnce, RenameKeeps, RenameLeavesUnpublished, SafeIsCrashSafe, SyncFilesOnce, SyncKeeps, SyncLeavesUnpublished, WholeIsFine, WriteAsideKeeps, WriteFilesOnce, WriteKeeps, WriteLeavesUnpublished};
-ghost use Rattle.cache_theory.specs.Laws.{AltIsOfGet, AltStays, BegunTouchesMore, ChangesAreTouched, ChangesLeaveRest, EntriesHaveRecords, EvictIsOfNames, EvictMeetsLimit, EvictTakesOff, HasIsOfShelf, ListIsOfRecords, EvictedMayGo, ShelfStaysTable, UnusedAreTakenOff, VerifyIsOfRecords};
+ghost use Rattle.cache_theory.specs.Keeps.{BeginKeeps, CreateFilesOnce, CreateKeeps, CreateLeavesUnpublished, CreateUnpublished, MoveAsideFilesOnce, MoveAsideKeeps, PublishFilesOnce, PublishKeeps, PublishLeavesUnpublished, QuietFilesOnce, QuietIsSafe, QuietUnpublished, RemoveFilesOnce, RemoveKeeps, RemoveLeavesUnpublished, RenameFilesOnce, RenameKeeps, RenameLeavesUnpublished, SafeIsCrashSafe, SyncFilesOnce, SyncKeeps, SyncLeavesUnpublished, WholeIsFine, WriteAsideKeeps, WriteFilesOnce, WriteKeeps, WriteLeavesUnpublished};
+ghost use Rattle.cache_theory.specs.Laws.{AltIsOfGet, AltStays, BegunTouchesMore, ChangesAreTouched, ChangesLeaveRest, ClearGoesByScan, ClearIsOfNames, DoomedAreLost, EntriesHaveRecords, EvictIsOfNames, EvictMeetsLimit, EvictTakesOff, HasIsOfShelf, ListIsOfRecords, EvictedMayGo, RecordTellsCovered, ShelfStaysTable, UnusedAreTakenOff, VerifyIsOfRecords};
 ghost use Rattle.cache_theory.specs.Proper.{OpensProper, StaysProper};
 ghost use Rattle.cache_theory.specs.Refiled.{EntriesAreRefiled};
 ghost use Rattle.cache_theory.specs.Session.{MarksAreOfKept};
@@ -39,6 +40,16 @@ pub fn evict_takes_off()
 pub fn evict_is_of_names()
     ensures same { EvictIsOfNames }
     ensures more { BegunTouchesMore }
+{}
+
+/// The machine's own clearing of an origin is that of its names, and the records of a scan tell which these are: the record
+/// of an entry says whether it is of the origin and not pinned. What stands under them is off the shelf then, and the
+/// update has ended.
+pub fn clear_goes_by_scan()
+    ensures same { ClearIsOfNames }
+    ensures scan { ClearGoesByScan }
+    ensures records { RecordTellsCovered }
+    ensures lost { DoomedAreLost }
 {}
 
 /// The machine's own check is that against the records of a scan, its list is that of these records, and an entry is
@@ -91,6 +102,7 @@ pub fn changes_keep_safe()
     ensures create { CreateKeeps }
     ensures rename { RenameKeeps }
     ensures publish { PublishKeeps }
+    ensures move_aside { MoveAsideKeeps }
     ensures remove { RemoveKeeps }
     ensures sync { SyncKeeps }
 {}
@@ -102,6 +114,7 @@ pub fn changes_file_once()
     ensures create { CreateFilesOnce }
     ensures rename { RenameFilesOnce }
     ensures publish { PublishFilesOnce }
+    ensures move_aside { MoveAsideFilesOnce }
     ensures remove { RemoveFilesOnce }
     ensures sync { SyncFilesOnce }
 {}
@@ -150,4 +163,11 @@ pub fn faults_are_left_out()
 /// is acknowledged.
 pub fn marks_are_worded()
     ensures { MarksAreWorded }
+{}
+
+/// Once a clearing of an origin is acknowledged, no crash brings back a version that it took: what is found of the origin
+/// and is not pinned was written after the clearing, through an object that came after it or that it did not cover.
+pub fn cleared_stay_gone()
+    ensures gone { ClearedStayGone }
+    ensures spared { WrittenAreSpared }
 {}

@@ -8,8 +8,9 @@ use Rattle.cache_store.specs.Performing.{GoesBy, SaysThere, goes_by_records}
 use Rattle.cache_store.specs.Records.{AreAtEnd}
 use Rattle.cache_store.specs.Session.{Session}
 use Rattle.cache_theory.specs.Command.{Command}
-use Rattle.cache_theory.specs.Command.Command.{Evict, EvictNames, HasEntry, HasGiven, ListGiven, ListRecords, Verify, VerifyRecords}
+use Rattle.cache_theory.specs.Command.Command.{ClearNames, ClearOrigin, Evict, EvictNames, HasEntry, HasGiven, ListGiven, ListRecords, Verify, VerifyRecords}
 use Rattle.cache_theory.specs.Checks.{checks}
+use Rattle.cache_theory.specs.Covers.{cleared_by}
 use Rattle.cache_theory.specs.Laws.{HasIsOfShelf}
 use Rattle.cache_theory.specs.Machine.{Machine, open_names}
 use Rattle.cache_theory.specs.Step.{after, effect, fits_there, step}
@@ -34,6 +35,7 @@ use Rattle.record_list.specs.Change.{IsApplied}
 -- what a store does goes by records that are right where those in memory were
 pub done_right : (before : Session) (c : Command) (m : Machine) (d : Command) → IsDoneBy (GoesBy before m) (SaysThere before m) c m d → IsDoneFor (Tells before m) c m d
 done_right before (Evict kb) m d is = (is.0, (is.1.0, is.1.1.right))
+done_right before (ClearOrigin origin) m d is = (is.0, (is.1.0, is.1.1.right))
 done_right before Verify m d is = (is.0, (is.1.0, is.1.1.right))
 done_right before ListRecords m d is = (is.0, (is.1.0, is.1.1.right))
 done_right before (HasEntry key) m d is = (is.0, (is.1.0, is.1.1.right))
@@ -42,6 +44,7 @@ done_right before c m d is = is
 -- the records need not be right where another thing has to be
 pub done_where : {right other : Type 0} → (other → right) → (c : Command) (m : Machine) (d : Command) → IsDoneFor right c m d → IsDoneFor other c m d
 done_where so (Evict kb) m d is = (is.0, (is.1.0, λ here. is.1.1 (so here)))
+done_where so (ClearOrigin origin) m d is = (is.0, (is.1.0, λ here. is.1.1 (so here)))
 done_where so Verify m d is = (is.0, (is.1.0, λ here. is.1.1 (so here)))
 done_where so ListRecords m d is = (is.0, (is.1.0, λ here. is.1.1 (so here)))
 done_where so (HasEntry key) m d is = (is.0, (is.1.0, λ here. is.1.1 (so here)))
@@ -50,6 +53,7 @@ done_where so c m d is = is
 -- a command whose reply does not go by the records is done itself
 pub done_itself : (right : Type 0) (c : Command) (m : Machine) (d : Command) → goes_by_records c ≡ false → IsDoneFor right c m d → d ≡ c
 done_itself right (Evict kb) m d bare is = absurd (true≢false bare)
+done_itself right (ClearOrigin origin) m d bare is = absurd (true≢false bare)
 done_itself right Verify m d bare is = absurd (true≢false bare)
 done_itself right ListRecords m d bare is = absurd (true≢false bare)
 done_itself right (HasEntry key) m d bare is = absurd (true≢false bare)
@@ -58,6 +62,7 @@ done_itself right c m d bare is = is
 -- what is done reads all entries anew where the command does
 done_rebuilds : (right : Type 0) (c : Command) (m : Machine) (d : Command) → IsDoneFor right c m d → is_rebuild c ≡ is_rebuild d
 done_rebuilds right (Evict kb) m d is = ap is_rebuild (sym is.1.0)
+done_rebuilds right (ClearOrigin origin) m d is = ap is_rebuild (sym is.1.0)
 done_rebuilds right Verify m d is = ap is_rebuild (sym is.1.0)
 done_rebuilds right ListRecords m d is = ap is_rebuild (sym is.1.0)
 done_rebuilds right (HasEntry key) m d is = ap is_rebuild (sym is.1.0)
@@ -71,6 +76,7 @@ has_is_of_shelf m key = refl
 -- something can be done, whatever is right
 pub some_done : (right : Type 0) (c : Command) (m : Machine) → (d : Command) × IsDoneFor right c m d
 some_done right (Evict kb) m = (EvictNames (victims (scan m.shelf) (open_names m) kb), (scan m.shelf, (refl, λ here. refl)))
+some_done right (ClearOrigin origin) m = (ClearNames (cleared_by (scan m.shelf) m origin), (scan m.shelf, (refl, λ here. refl)))
 some_done right Verify m = (VerifyRecords (scan m.shelf), (scan m.shelf, (refl, λ here. refl)))
 some_done right ListRecords m = (ListGiven (scan m.shelf), (scan m.shelf, (refl, λ here. refl)))
 some_done right (HasEntry key) m =
@@ -95,6 +101,7 @@ module _ (s : State) (first : Session) (m : Machine) (tells : Honest (standing s
 
   pub done_at_opening : (c d : Command) → IsDoneBy (GoesBy first m) (SaysThere first m) c m d → IsDoneBy (AreAtOpening s m) (IsOfShelf (Honest (standing s)) m) c m d
   done_at_opening (Evict kb) d is = (is.0, (is.1.0, at_opening is.0 is.1.1))
+  done_at_opening (ClearOrigin origin) d is = (is.0, (is.1.0, at_opening is.0 is.1.1))
   done_at_opening Verify d is = (is.0, (is.1.0, at_opening is.0 is.1.1))
   done_at_opening ListRecords d is = (is.0, (is.1.0, at_opening is.0 is.1.1))
   done_at_opening (HasEntry key) d is = (is.0, (is.1.0, λ honest. is.1.1.right (tells honest)))

@@ -8,7 +8,7 @@ use Rattle.cache_store.specs.IndexCalls.{names_read}
 use Rattle.cache_store.specs.Open.{HasShelf, Opens, StartsOn}
 use Rattle.cache_store.specs.Session.{Session}
 use Rattle.cache_theory.specs.Command.{Command}
-use Rattle.cache_theory.specs.Command.Command.{Evict, Flush, ListRecords}
+use Rattle.cache_theory.specs.Command.Command.{ClearOrigin, Evict, Flush, ListRecords}
 use Rattle.cache_theory.specs.Machine.{Machine, opened}
 use Rattle.cache_tool.specs.Verbs.{LooksAtNone}
 use Rattle.disk_model.specs.State.{State, standing}
@@ -22,6 +22,7 @@ pub reads_none : (P : ℕ → Type 0) (c : Command) (start : Start) (rest : List
 reads_none P Flush start rest none ready reads = reads
 reads_none P ListRecords start rest none ready reads = subst P (ap length (ready none)) reads
 reads_none P (Evict kb) start rest none ready reads = subst P (ap length (ready none)) reads
+reads_none P (ClearOrigin origin) start rest none ready reads = subst P (ap length (ready none)) reads
 reads_none P c start rest none ready reads = absurd none
 
 -- no names rise

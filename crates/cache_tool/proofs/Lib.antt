@@ -30,6 +30,7 @@ pub mod ScriptMarks
 pub mod ScriptReplies
 pub mod ScriptTurns
 pub mod ScriptWhole
+pub mod SettledBegun
 pub mod StatusLaws
 pub mod StayingLaws
 pub mod WordsTable

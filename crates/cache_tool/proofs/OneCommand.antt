@@ -21,16 +21,20 @@ use Rattle.cache_store.specs.declared.fault.Verdict.TheVariants as outcome
 use Rattle.cache_store.specs.declared.fault.StoreFault.{StoreFault}
 use Rattle.cache_store.specs.declared.fault.StoreFault.TheVariants as fault
 use Rattle.cache_theory.specs.Command.{Command}
-use Rattle.cache_theory.specs.Command.Command.{Flush}
+use Rattle.cache_theory.specs.Command.Command.{ClearNames, ClearOrigin, Flush}
+use Rattle.cache_theory.specs.Checks.{checks}
+use Rattle.cache_theory.specs.Covers.{cleared}
 use Rattle.cache_theory.specs.Crash.{IsSafe}
 use Rattle.cache_theory.specs.Faulted.{fault_line}
 use Rattle.cache_theory.specs.History.{History, acked, begun, settled_at, unanswered}
 use Rattle.cache_theory.specs.Machine.{Machine}
 use Rattle.cache_theory.specs.Marks.{marks_of}
-use Rattle.cache_theory.specs.Step.{step}
+use Rattle.cache_theory.specs.Step.{all_doomed, effect, step, update_ended}
 use Rattle.cache_theory.specs.Text.{reply_text}
 use Rattle.cache_theory.proofs.Begins.{begin_keeps}
 use Rattle.cache_theory.proofs.Crashes.{safe_is_crash_safe}
+use Rattle.cache_theory.proofs.Evicting.{doomed_are_lost}
+use Rattle.cache_tool.proofs.SettledBegun.{settled_begun}
 use Rattle.cache_tool.specs.Ending.{EndsSession, IsEnded}
 use Rattle.cache_tool.specs.Right.{ComesRight, LeadTo}
 use Rattle.cache_tool.specs.Statuses.{IsAnswer, IsClosing, status_in, status_of}
@@ -105,7 +109,11 @@ said_part (Err f) before now text all cut = cut_part before now text cut
 
 -- a command that is acknowledged at a mark has begun there
 begun_at_mark : (t : State) (m : Machine) (c : Command) → IsSafe t (acked c (settled_at m)).marks → IsSafe t (begun c (settled_at m)).marks
+unfolding checks effect
 begun_at_mark t m Flush safe = begin_keeps t m Flush (marks_of m) safe
+begun_at_mark t m (ClearOrigin origin) safe =
+    settled_begun t m (all_doomed (update_ended m) (cleared m origin)) (cleared m origin) (doomed_are_lost m (cleared m origin)) safe
+begun_at_mark t m (ClearNames names) safe = settled_begun t m (all_doomed (update_ended m) names) names (doomed_are_lost m names) safe
 begun_at_mark t m c safe = safe
 
 module _ (m : Machine) (c : Command) (before now : Output) (safe : IsQuiet before.disk → IsSafe now.disk (begun c (settled_at m)).marks) (images : IsQuiet before.disk → Honest (standing before.disk) → LeavesHonest now.disk) where

@@ -15,7 +15,7 @@ use Rattle.cache_store.specs.declared.fault.StoreFault.{StoreFault}
 use Rattle.cache_store.proofs.InUseLaws.{few_are_spared, few_stay_in_use}
 use Rattle.cache_store.proofs.Represented.{represents}
 use Rattle.cache_theory.specs.Command.{Command}
-use Rattle.cache_theory.specs.Command.Command.{Evict, Flush, HasEntry, ListRecords, Rebuild, Verify}
+use Rattle.cache_theory.specs.Command.Command.{ClearOrigin, Evict, Flush, HasEntry, ListRecords, Rebuild, Verify}
 use Rattle.cache_theory.specs.History.{History}
 use Rattle.cache_theory.specs.Machine.{Machine}
 use Rattle.cache_theory.specs.Checks.{checks}
@@ -115,6 +115,7 @@ same_in_use records before now base same holds = record {
 -- and so it is of what is done for it
 stays_over : (right : Type 0) (records : List IndexRecord) (c : Command) (m : Machine) (d : Command) → IsDoneFor right c m d → StaysOver records m d → StaysOver records m c
 stays_over right records (Evict kb) m d is over = tt
+stays_over right records (ClearOrigin origin) m d is over = tt
 stays_over right records Verify m d is over = tt
 stays_over right records ListRecords m d is over = tt
 stays_over right records (HasEntry key) m d is over = tt
@@ -122,6 +123,7 @@ stays_over right records c m d is over = subst (StaysOver records m) is over
 
 spared_over : (right : Type 0) (c : Command) (m : Machine) (d : Command) → IsDoneFor right c m d → IsSpared m d → IsSpared m c
 spared_over right (Evict kb) m d is spared = tt
+spared_over right (ClearOrigin origin) m d is spared = tt
 spared_over right Verify m d is spared = tt
 spared_over right ListRecords m d is spared = tt
 spared_over right (HasEntry key) m d is spared = tt

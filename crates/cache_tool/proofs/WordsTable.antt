@@ -7,7 +7,7 @@ use Rattle.std.proofs.lemmas.Bool.{and_parts}
 use Rattle.std.proofs.lemmas.Slice.Eq.{bytes_eq-Decides}
 use Rattle.cache_base.specs.Numbers.{number_in}
 use Rattle.cache_base.proofs.NumberLaws.{number_read, number_spelled}
-use Rattle.cache_theory.specs.Command.Command.{Doom, Evict, Flush, Get, GetAlt, ListRecords, MainBody, Rebuild, Verify}
+use Rattle.cache_theory.specs.Command.Command.{ClearOrigin, Doom, Evict, Flush, Get, GetAlt, ListRecords, MainBody, Rebuild, Verify}
 use Rattle.cache_tool.specs.Words.{AreOfOne, AreWords, Asked, IsCount, WordsAreOfTable, alone, asked_by, fill_limit, fill_of, verbs, with_word, with_words}
 
 -- one test of a chain
@@ -31,13 +31,13 @@ alone_is : (now : ℕ) (verb : List ℕ) (asked : Asked) → alone now verb ≡ 
 alone_is now verb asked e = elim (tested verb (codes "run") (Asked.Run now) asked _ e) [
   | inl run ↦ inl (ap (λ w. w ∷ []) run.0, run.1)
   | inr more ↦ elim (tested verb (codes "flush") (Asked.One now Flush) asked _ more) [
-    | inl flush ↦ inr (inr (inr (inr (inr (inr (inr (inl (ap (λ w. w ∷ []) flush.0, flush.1))))))))
+    | inl flush ↦ inr (inr (inr (inr (inr (inr (inr (inr (inl (ap (λ w. w ∷ []) flush.0, flush.1)))))))))
     | inr others ↦ elim (tested verb (codes "list") (Asked.One now ListRecords) asked _ others) [
-      | inl list ↦ inr (inr (inr (inr (inr (inr (inr (inr (inl (ap (λ w. w ∷ []) list.0, list.1)))))))))
+      | inl list ↦ inr (inr (inr (inr (inr (inr (inr (inr (inr (inl (ap (λ w. w ∷ []) list.0, list.1))))))))))
       | inr further ↦ elim (tested verb (codes "verify") (Asked.One now Verify) asked _ further) [
-        | inl verify ↦ inr (inr (inr (inr (inr (inr (inr (inr (inr (inl (ap (λ w. w ∷ []) verify.0, verify.1))))))))))
+        | inl verify ↦ inr (inr (inr (inr (inr (inr (inr (inr (inr (inr (inl (ap (λ w. w ∷ []) verify.0, verify.1)))))))))))
         | inr last ↦ elim (tested verb (codes "rebuild") (Asked.One now Rebuild) asked None last) [
-          | inl rebuild ↦ inr (inr (inr (inr (inr (inr (inr (inr (inr (inr (inl (ap (λ w. w ∷ []) rebuild.0, rebuild.1)))))))))))
+          | inl rebuild ↦ inr (inr (inr (inr (inr (inr (inr (inr (inr (inr (inr (inl (ap (λ w. w ∷ []) rebuild.0, rebuild.1))))))))))))
           | inr none ↦ absurd (cc)
         ]
       ]
@@ -66,11 +66,14 @@ with_word_is now verb word asked e = elim (tested verb (codes "put") (Asked.Put 
         | inl main ↦ inr (inr (inr (inr (inl (word, (ap (λ w. w ∷ (word ∷ [])) main.0, main.1))))))
         | inr left ↦ elim (tested verb (codes "doom") (Asked.One now (Doom word)) asked _ left) [
           | inl doom ↦ inr (inr (inr (inr (inr (inl (word, (ap (λ w. w ∷ (word ∷ [])) doom.0, doom.1)))))))
-          | inr last ↦ elim (tested_some verb (codes "evict") (option_map (λ kb. Asked.One now (Evict kb)) (number_in word)) asked None last) [
-            | inl evict ↦
-                let of = number_is now word asked evict.1 in
-                inr (inr (inr (inr (inr (inr (inl (of.0, (of.1.0, (ap (λ w. w ∷ (word ∷ [])) evict.0 ∙ ap (λ w. codes "evict" ∷ (w ∷ [])) of.1.1.0, of.1.1.1)))))))))
-            | inr none ↦ absurd (cc)
+          | inr next ↦ elim (tested verb (codes "clear") (Asked.One now (ClearOrigin word)) asked _ next) [
+            | inl clear ↦ inr (inr (inr (inr (inr (inr (inl (word, (ap (λ w. w ∷ (word ∷ [])) clear.0, clear.1))))))))
+            | inr last ↦ elim (tested_some verb (codes "evict") (option_map (λ kb. Asked.One now (Evict kb)) (number_in word)) asked None last) [
+              | inl evict ↦
+                  let of = number_is now word asked evict.1 in
+                  inr (inr (inr (inr (inr (inr (inr (inl (of.0, (of.1.0, (ap (λ w. w ∷ (word ∷ [])) evict.0 ∙ ap (λ w. codes "evict" ∷ (w ∷ [])) of.1.1.0, of.1.1.1))))))))))
+              | inr none ↦ absurd (cc)
+            ]
           ]
         ]
       ]
@@ -106,7 +109,7 @@ with_words_is now verb count first asked e =
       | inl fill ↦
           let of = numbers_are now count first asked fill.1 in
           let is = of.1.1.1.1 in
-          inr (inr (inr (inr (inr (inr (inr (inr (inr (inr (inr (inl (
+          inr (inr (inr (inr (inr (inr (inr (inr (inr (inr (inr (inr (inl (
             of.0,
             (
               of.1.0,
@@ -118,7 +121,7 @@ with_words_is now verb count first asked e =
                 ),
               ),
             ),
-          ))))))))))))
+          )))))))))))))
       | inr none ↦ absurd (cc)
     ]
 
@@ -162,22 +165,24 @@ table_read now small rest asked (inr (inr (inr (inr (inl main))))) =
     ap (λ r. asked_by (decimal now ∷ r)) main.1.0 ∙ ap (option_and_then (λ n. with_word n (codes "main") main.0)) (number_read now small) ∙ ap Some (sym main.1.1)
 table_read now small rest asked (inr (inr (inr (inr (inr (inl doom)))))) =
     ap (λ r. asked_by (decimal now ∷ r)) doom.1.0 ∙ ap (option_and_then (λ n. with_word n (codes "doom") doom.0)) (number_read now small) ∙ ap Some (sym doom.1.1)
-table_read now small rest asked (inr (inr (inr (inr (inr (inr (inl evict))))))) =
+table_read now small rest asked (inr (inr (inr (inr (inr (inr (inl clear))))))) =
+    ap (λ r. asked_by (decimal now ∷ r)) clear.1.0 ∙ ap (option_and_then (λ n. with_word n (codes "clear") clear.0)) (number_read now small) ∙ ap Some (sym clear.1.1)
+table_read now small rest asked (inr (inr (inr (inr (inr (inr (inr (inl evict)))))))) =
     ap (λ r. asked_by (decimal now ∷ r)) evict.1.1.0 ∙ ap (option_and_then (λ n. with_word n (codes "evict") (decimal evict.0))) (number_read now small)
     ∙ ap (option_map (λ kb. Asked.One now (Evict kb))) (number_read evict.0 evict.1.0) ∙ ap Some (sym evict.1.1.1)
-table_read now small rest asked (inr (inr (inr (inr (inr (inr (inr (inl flush)))))))) =
+table_read now small rest asked (inr (inr (inr (inr (inr (inr (inr (inr (inl flush))))))))) =
     ap (λ r. asked_by (decimal now ∷ r)) flush.0 ∙ ap (option_and_then (λ n. alone n (codes "flush"))) (number_read now small) ∙ ap Some (sym flush.1)
-table_read now small rest asked (inr (inr (inr (inr (inr (inr (inr (inr (inl list))))))))) =
+table_read now small rest asked (inr (inr (inr (inr (inr (inr (inr (inr (inr (inl list)))))))))) =
     ap (λ r. asked_by (decimal now ∷ r)) list.0 ∙ ap (option_and_then (λ n. alone n (codes "list"))) (number_read now small) ∙ ap Some (sym list.1)
-table_read now small rest asked (inr (inr (inr (inr (inr (inr (inr (inr (inr (inl verify)))))))))) =
+table_read now small rest asked (inr (inr (inr (inr (inr (inr (inr (inr (inr (inr (inl verify))))))))))) =
     ap (λ r. asked_by (decimal now ∷ r)) verify.0 ∙ ap (option_and_then (λ n. alone n (codes "verify"))) (number_read now small) ∙ ap Some (sym verify.1)
-table_read now small rest asked (inr (inr (inr (inr (inr (inr (inr (inr (inr (inr (inl rebuild))))))))))) =
+table_read now small rest asked (inr (inr (inr (inr (inr (inr (inr (inr (inr (inr (inr (inl rebuild)))))))))))) =
     ap (λ r. asked_by (decimal now ∷ r)) rebuild.0 ∙ ap (option_and_then (λ n. alone n (codes "rebuild"))) (number_read now small) ∙ ap Some (sym rebuild.1)
-table_read now small rest asked (inr (inr (inr (inr (inr (inr (inr (inr (inr (inr (inr (inl (n, (x, (count, (bound, (words, is))))))))))))))))) =
+table_read now small rest asked (inr (inr (inr (inr (inr (inr (inr (inr (inr (inr (inr (inr (inl (n, (x, (count, (bound, (words, is)))))))))))))))))) =
     ap (λ r. asked_by (decimal now ∷ r)) words ∙ ap (option_and_then (λ k. with_words k (codes "fill") (decimal n) (decimal x))) (number_read now small)
     ∙ ap (option_and_then (λ k. option_and_then (λ y. fill_of now k y) (number_in (decimal x)))) (number_read n (below_limit n count.1))
     ∙ ap (option_and_then (λ y. fill_of now n y)) (number_read x bound) ∙ counted now n x count ∙ ap Some (sym is)
-table_read now small rest asked (inr (inr (inr (inr (inr (inr (inr (inr (inr (inr (inr (inr none)))))))))))) = absurd none
+table_read now small rest asked (inr (inr (inr (inr (inr (inr (inr (inr (inr (inr (inr (inr (inr none))))))))))))) = absurd none
 
 pub words_are_of_table : WordsAreOfTable
 words_are_of_table = λ words asked. (

@@ -11,7 +11,7 @@ use Rattle.cache_store.specs.Open.{IsHonest, IsShut, StartsOn}
 use Rattle.cache_store.specs.Said.{IsCut}
 use Rattle.cache_store.specs.Saying.{IsPart}
 use Rattle.cache_theory.specs.Command.{Command}
-use Rattle.cache_theory.specs.Command.Command.{Evict, Flush, ListRecords}
+use Rattle.cache_theory.specs.Command.Command.{ClearOrigin, Evict, Flush, ListRecords}
 use Rattle.cache_theory.specs.Crash.{IsCrashSafe}
 use Rattle.cache_theory.specs.Machine.{Machine}
 use Rattle.cache_theory.specs.Faulted.{AreFaults, fault_line, faulted, replies_but, unfaulted, with_next}
@@ -139,11 +139,12 @@ AnswersCommand moment c ended before now = (m : Machine) → StartsOn moment bef
     → DoneAtOpening before.disk c m (λ d. PrintsLast m (d ∷ []) ended before now)
     ⊎ (PrintsFault m ended before now ⊎ IsUnopened m ended before now)
 
--- the words look at no entry: `flush` never does, and `list` and `evict` do not where the index is trusted
+-- the words look at no entry: `flush` never does, and `list`, `evict` and `clear` do not where the index is trusted
 abbrev pub LooksAtNone : Command → Start → Type 0
 LooksAtNone Flush start = ⊤
 LooksAtNone ListRecords start = start ≡ Ready
 LooksAtNone (Evict kb) start = start ≡ Ready
+LooksAtNone (ClearOrigin origin) start = start ≡ Ready
 LooksAtNone _ start = ⊥
 
 -- `put`, of a source that tells its bytes: the entry gets them as its body; or the line `fault` is printed, and nothing

@@ -7,7 +7,7 @@ use Rattle.std.specs.declared.option.Option.{Option}
 use Rattle.std.specs.declared.string.String.{String}
 use Rattle.cache_base.specs.Numbers.{number_in}
 use Rattle.cache_theory.specs.Command.{Command}
-use Rattle.cache_theory.specs.Command.Command.{Doom, Evict, Flush, Get, GetAlt, ListRecords, MainBody, Rebuild, Verify}
+use Rattle.cache_theory.specs.Command.Command.{ClearOrigin, Doom, Evict, Flush, Get, GetAlt, ListRecords, MainBody, Rebuild, Verify}
 
 -- what the words ask for, at a moment
 pub data Asked : Type 0 where
@@ -22,7 +22,7 @@ pub data Asked : Type 0 where
 
 -- The table of the verbs, and which words are those of the table.
 
--- a verb that stands alone, one with a key or a number after it, or one with two numbers, of which the first is from 1 up
+-- a verb that stands alone, one with a key, an origin or a number after it, or one with two numbers, of which the first is from 1 up
 -- to a limit; and what it asks for at a moment
 pub data Verb : Type 0 where
   Alone : (name : List ℕ) (asks : ℕ → Asked) → Verb
@@ -42,13 +42,14 @@ verbs =
     ∷ (Verb.WithKey (codes "getalt") (λ now key. Asked.One now (GetAlt key))
     ∷ (Verb.WithKey (codes "main") (λ now key. Asked.One now (MainBody key))
     ∷ (Verb.WithKey (codes "doom") (λ now key. Asked.One now (Doom key))
+    ∷ (Verb.WithKey (codes "clear") (λ now origin. Asked.One now (ClearOrigin origin))
     ∷ (Verb.WithNumber (codes "evict") (λ now kb. Asked.One now (Evict kb))
     ∷ (Verb.Alone (codes "flush") (λ now. Asked.One now Flush)
     ∷ (Verb.Alone (codes "list") (λ now. Asked.One now ListRecords)
     ∷ (Verb.Alone (codes "verify") (λ now. Asked.One now Verify)
     ∷ (Verb.Alone (codes "rebuild") (λ now. Asked.One now Rebuild)
     ∷ (Verb.WithNumbers (codes "fill") fill_limit (λ now count first. Asked.Fill now count first)
-    ∷ [])))))))))))
+    ∷ []))))))))))))
 
 -- a number from 1 up to the limit
 abbrev pub IsCount : ℕ → ℕ → Type 0
@@ -91,7 +92,7 @@ alone now verb =
     else if pointwise nat_eq verb (codes "rebuild") then Some (Asked.One now Rebuild)
     else None
 
--- a verb with a key or a number
+-- a verb with a key, an origin or a number
 abbrev pub with_word : ℕ → List ℕ → List ℕ → Option Asked
 with_word now verb word =
     if pointwise nat_eq verb (codes "put") then Some (Asked.Put now word)
@@ -99,6 +100,7 @@ with_word now verb word =
     else if pointwise nat_eq verb (codes "getalt") then Some (Asked.One now (GetAlt word))
     else if pointwise nat_eq verb (codes "main") then Some (Asked.One now (MainBody word))
     else if pointwise nat_eq verb (codes "doom") then Some (Asked.One now (Doom word))
+    else if pointwise nat_eq verb (codes "clear") then Some (Asked.One now (ClearOrigin word))
     else if pointwise nat_eq verb (codes "evict") then option_map (λ kb. Asked.One now (Evict kb)) (number_in word)
     else None
 

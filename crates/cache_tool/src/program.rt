@@ -45,7 +45,7 @@ use std::alloc::Global;
 /// The clauses on contents hold where the disk and the source tell theirs. Those on a crash hold where nothing was
 /// pending at the call, and speak of every exit, whatever the status.
 ///
-/// `list`, `has`, `evict` and `verify` go by the records in memory. Where the directory was honest these are right, and the
+/// `list`, `has`, `evict`, `clear` and `verify` go by the records in memory. Where the directory was honest these are right, and the
 /// commands come to what the machine's do. Elsewhere they print, remove and find what the records that there are tell: right
 /// after an opening with a trusted index these are its records with the journal applied.
 pub fn run<D: Disk, S: Source, K: Sink>(
@@ -103,7 +103,8 @@ pub fn run<D: Disk, S: Source, K: Sink>(
     ensures one_no { result ≡ Status.No → WhenOne (asked_in words.now) (λ now c.
         PrintsNo c (K.taken sink.old) (K.taken sink.new)) }
 
-    // What is printed only grows. A `flush` looks at no entry, nor do a `list` and an `evict` where the index is trusted.
+    // What is printed only grows. A `flush` looks at no entry, nor do a `list`, an `evict` and a `clear` where the index is
+    // trusted.
     ensures grows { IsTrue D.tells → TakesMore (K.taken sink.old) (K.taken sink.new) }
     ensures no_entry { WhenOne (asked_in words.now) (λ now c.
         LooksAtNone c (start_of (standing (D.state disk.old))) → LooksAtNames D.Disk 0 disk.old disk.new) }

@@ -15,8 +15,8 @@ pub(crate) enum Asked<'a> {
     Run { now: Moment },
     /// `NOW put KEY`
     Put { now: Moment, key: &'a [u8] },
-    /// `NOW get KEY`, `NOW getalt KEY`, `NOW main KEY`, `NOW doom KEY`, `NOW evict KB`,
-    /// `NOW flush`, `NOW list`, `NOW verify`, `NOW rebuild`
+    /// `NOW get KEY`, `NOW getalt KEY`, `NOW main KEY`, `NOW doom KEY`, `NOW clear ORIGIN`,
+    /// `NOW evict KB`, `NOW flush`, `NOW list`, `NOW verify`, `NOW rebuild`
     One { now: Moment, command: Command<'a> },
     /// `NOW fill N FIRST`
     Fill { now: Moment, count: u32, first: u32 },
@@ -52,7 +52,7 @@ fn alone(now: Moment, verb: &str) -> Option<Asked<'_>>
     }
 }
 
-// A verb with a key or a number.
+// A verb with a key, an origin or a number.
 fn with_word<'a>(now: Moment, verb: &str, word: &'a [u8]) -> Option<Asked<'a>>
     ensures asked { option_map asked result ≡ with_word_of now verb.now word.now }
     ensures given { IfSome result (λ a. AskedIsGiven (asked a)) }
@@ -74,6 +74,10 @@ fn with_word<'a>(now: Moment, verb: &str, word: &'a [u8]) -> Option<Asked<'a>>
         "doom" => Some(Asked::One {
             now,
             command: Command::Doom { key: word },
+        }),
+        "clear" => Some(Asked::One {
+            now,
+            command: Command::Clear { origin: word },
         }),
         "evict" => Some(Asked::One {
             now,

@@ -1,7 +1,7 @@
 -- The account of calls in sequence, and of one whose answer is handed on.
 use Rattle.std.proofs.Common.{◌≡◌, ◌⊎◌, ◌∙◌, inl, Result, Ok, Err, IsErrAnd, ap, refl, sym, subst, arith}
 use Rattle.cache_base.specs.Causes.{HasCause}
-use Rattle.disk_model.specs.Account.{Accounts, Ending, IsCalm, Looks, ending as disk_ending, fault_ending as disk_fault_ending}
+use Rattle.disk_model.specs.Account.{Accounts, Ending, FailsInChange, IsCalm, Looks, ending as disk_ending, fault_ending as disk_fault_ending}
 use Rattle.disk_model.specs.Calls.{FailsLast}
 use Rattle.disk_model.specs.declared.disk.Disk.{Ghosts}
 use Rattle.disk_model.specs.declared.disk.DiskFault.{DiskFault}
@@ -37,6 +37,11 @@ account_handed_on D r f (Err e) before now at is account = subst (λ e. Accounts
     go : (f : DiskFault) → Accounts D (disk_fault_ending f) before now → Accounts D (fault_ending (fault_of f)) before now
     go disk.Failed account = account
     go disk.Memory account = account
+
+-- and where the last call was the change that failed
+pub change_handed_on : {T : Type 0} {Self : _} (D : Ghosts Self) (f : HandleFault) (out : Result T HandleFault) (now : Self) → IsErrAnd out (λ e. e ≡ f) → FailsInChange D (fault_ending f) now → FailsInChange D (ending out) now
+change_handed_on D f (Ok value) now is fails = absurd is
+change_handed_on D f (Err e) now is fails = subst (λ e. FailsInChange D (fault_ending e) now) (sym is) fails
 
 -- the same after calls none of which failed
 pub account_then_handed_on : {T X : Type 0} {Self : _} (D : Ghosts Self) (r : Result X DiskFault) (f : DiskFault) (out : Result T HandleFault) (a b c : Self) → r ≡ Err f → IsErrAnd out (λ e. e ≡ fault_of f)

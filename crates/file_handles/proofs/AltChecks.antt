@@ -1,16 +1,12 @@
 -- The checks of the command that puts alternative data, by what the handles have.
-use Rattle.std.proofs.Common.{◌≡◌, ◌≢◌, ◌<◌, ◌≤◌, ◌^◌, ℕ, ◌+◌, List, [], ◌∷◌, ◌++◌, codes, decimal, length, Bool, true, false, cond, not, ◌||◌, Option, Some, None, Ok, Err, refl, sym, ap, ◌∙◌, arith, length-append, leb-true}
-use Rattle.std.specs.Prelude.{◌==◌, is_none, nat_le}
-use Rattle.std.specs.Str.Parse.{AllDigits}
-use Rattle.std.proofs.lemmas.Bool.{and_left, and_parts, cond-false, cond-true, eqb-true, le-leb, lt-leb}
-use Rattle.std.proofs.lemmas.Fmt.{digits_decimal}
-use Rattle.std.proofs.lemmas.Str.Parse.{digit_from_value}
+use Rattle.std.proofs.Common.{◌≡◌, ◌<◌, ◌≤◌, ℕ, ◌+◌, List, [], ◌∷◌, ◌++◌, codes, decimal, length, true, false, cond, not, Option, Some, None, Ok, Err, sym, ap, ◌∙◌, arith, length-append, leb-true}
+use Rattle.std.specs.Prelude.{is_none, nat_le}
+use Rattle.std.proofs.lemmas.Bool.{and_left, and_parts, cond-false, cond-true, le-leb, lt-leb}
 use Rattle.alt_data.specs.AltData.{alt_value, is_kind}
 use Rattle.cache_base.specs.Checks.{first_failing}
 use Rattle.cache_base.specs.Limits.{chunks}
 use Rattle.cache_base.specs.declared.limits.TheConstants.{BLOCK_MAX, BODY_MAX, ELEMENTS_MAX, SLOTS}
 use Rattle.cache_base.proofs.CheckLaws.{all_hold}
-use Rattle.cache_base.proofs.NumberLaws.{own}
 use Rattle.cache_theory.proofs.AltData.{value_fine}
 use Rattle.cache_theory.specs.Checks.{checks, finished, good_kind, no_alt, room_for, small_parts, with_alt_data}
 use Rattle.cache_theory.specs.Command.Command.{PutAlt}

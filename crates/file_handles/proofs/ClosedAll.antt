@@ -1,49 +1,37 @@
 -- All slots are given up: the files that do not outlast the handles are removed.
-use Rattle.std.proofs.Common.{◌≡◌, ◌≢◌, inl, inr, ◌⊎◌, ℕ, ◌+◌, ◌<◌, ◌≤◌, List, length, Bool, true, false, not, ◌&&◌, get_or, Option, Some, None, IsSome, is_some, Result, Ok, Err, refl, sym, ap, subst, ◌∙◌, arith}
-use Rattle.std.specs.Prelude.{IsErrOf, if◌then◌else◌, is_none, option_map, unwrap_or}
-use Rattle.std.specs.Str.{bytes_eq}
-use Rattle.std.proofs.lemmas.Bool.{cases_Bool, cases_eq, cond_both}
+use Rattle.std.proofs.Common.{◌≡◌, ◌≢◌, inl, inr, ◌⊎◌, ℕ, ◌+◌, ◌<◌, ◌≤◌, List, length, Bool, true, false, get_or, Option, Some, None, IsSome, Result, Ok, Err, refl, sym, ap, subst, ◌∙◌, arith}
+use Rattle.std.specs.Prelude.{IsErrOf, is_none, unwrap_or}
+use Rattle.std.proofs.lemmas.Bool.{cases_Bool, cases_eq}
 use Rattle.std.proofs.lemmas.Option.{slice_get-get_or}
-use Rattle.cache_theory.specs.Crash.{IsAsMarked, IsSafe}
-use Rattle.cache_theory.specs.Ever.{IsKept, entries, entry_place}
-use Rattle.cache_theory.specs.Machine.{Machine, Object as MachineObject, object}
-use Rattle.cache_theory.specs.Marks.{Marks, is_touched}
-use Rattle.cache_theory.specs.Proper.{IsInUse}
+use Rattle.cache_theory.specs.Crash.{IsSafe}
+use Rattle.cache_theory.specs.Ever.{entries, entry_place}
+use Rattle.cache_theory.specs.Machine.{Machine, object}
+use Rattle.cache_theory.specs.Marks.{Marks}
 use Rattle.cache_theory.specs.Table.{get}
-use Rattle.cache_theory.proofs.DiskChanges.{moment_synced, remove_keeps}
+use Rattle.cache_theory.proofs.DiskChanges.{remove_keeps}
 use Rattle.cache_theory.proofs.EntryFiles.{file_there, no_file_there}
 use Rattle.cache_theory.proofs.FiledOnce.{one_name as one_place_name}
-use Rattle.cache_theory.proofs.Readings.{unfit_reads}
-use Rattle.cache_theory.proofs.Slots.{HasSlot, same_use, slot_of as slot_with, use_of}
 use Rattle.cache_theory.proofs.Users.{same_number, undoomed_user}
-use Rattle.chunk_store.specs.Stored.{unfinished_file}
 use Rattle.disk_model.specs.Calls.{if_done}
 use Rattle.disk_model.specs.Place.{is_same}
 use Rattle.disk_model.specs.Standing.{Puts}
-use Rattle.disk_model.specs.State.{State, content, content_of, names_now, removed, standing}
+use Rattle.disk_model.specs.State.{State, removed, standing}
 use Rattle.disk_model.specs.declared.disk.DiskFault.{DiskFault}
 use Rattle.disk_model.specs.declared.disk.DiskFault.TheVariants.{Failed, Memory}
 use Rattle.disk_model.specs.declared.place.Place.{Place}
 use Rattle.disk_model.specs.declared.place.Place.TheVariants.{Doomed}
 use Rattle.disk_model.proofs.Places.{never, one_same}
 use Rattle.disk_model.proofs.Standing.{removed_puts}
-use Rattle.entry_file.specs.EntryFile.{file_meta, found, read, read_for, whole_in}
-use Rattle.entry_file.specs.EntryFile.Reading.{Nothing}
-use Rattle.entry_file.proofs.StopLaws.{unfinished_is_short}
 use Rattle.entry_name.specs.EntryName.{file_name}
 use Rattle.file_handles.specs.Cache.{cache_at}
 use Rattle.file_handles.specs.Closing.{ClosesAll, IsClosed, let_go_by, without_doomed}
-use Rattle.file_handles.specs.Held.{IsEntryOf, is_draft, object_place, place_of}
-use Rattle.file_handles.specs.Kept.{Kept, object_at, use_at}
-use Rattle.file_handles.specs.Stands.{KeepsTo, RepresentsSome, Stands, slot_of}
-use Rattle.file_handles.specs.declared.object.Entry.{Entry}
-use Rattle.file_handles.specs.declared.object.Entry.TheVariants as entry
+use Rattle.file_handles.specs.Held.{object_place, place_of}
+use Rattle.file_handles.specs.Kept.{Kept, object_at}
+use Rattle.file_handles.specs.Stands.{KeepsTo, RepresentsSome, Stands}
 use Rattle.file_handles.specs.declared.object.Object.{Object}
-use Rattle.file_handles.specs.declared.object.Use.{Use}
 use Rattle.file_handles.proofs.Histories.{history_of}
 use Rattle.file_handles.proofs.KeptLaws.{place_within}
 use Rattle.file_handles.proofs.Places.{aside_at, file_stands, published_place, published_there}
-use Rattle.file_handles.proofs.Released.{some_object}
 
 -- the file of an object outlasts the handles: it does not stand aside
 abbrev pub stays : Object → Bool

@@ -1,5 +1,5 @@
 -- A new entry: all stands once its file is made among the doomed and its object is added.
-use Rattle.std.proofs.Common.{◌≡◌, ◌⊎◌, inl, inr, ℕ, List, [], Some, true, false, refl, sym, ap, subst, ◌∙◌, Bool}
+use Rattle.std.proofs.Common.{◌≡◌, ◌⊎◌, inl, inr, ℕ, List, [], Some, true, refl, sym, ap, subst, ◌∙◌, Bool}
 use Rattle.std.specs.List.{Contains}
 use Rattle.cache_theory.specs.Crash.{IsSafe}
 use Rattle.cache_theory.specs.Ever.{entry_place}

@@ -7,7 +7,6 @@ use Rattle.std.specs.Cmp.Lexicographic.{bytes_decides}
 use Rattle.cache_base.specs.Checks.{first_failing}
 use Rattle.cache_theory.specs.Checks.{checks}
 use Rattle.cache_theory.specs.Command.{Command}
-use Rattle.cache_theory.specs.Command.Command.{Flush}
 use Rattle.cache_theory.specs.Command.Reply.{Done, Refused}
 use Rattle.cache_theory.specs.Crash.{IsSafe}
 use Rattle.cache_theory.specs.Machine.{Machine}
@@ -20,12 +19,8 @@ use Rattle.file_handles.specs.Kept.{Kept}
 use Rattle.file_handles.specs.Stands.{KeepsWhere}
 use Rattle.file_handles.proofs.Begun.{begun_in}
 use Rattle.file_handles.proofs.Histories.{history_of}
+use Rattle.file_handles.proofs.Refused.{acked_refused}
 use Rattle.file_handles.proofs.Where.{LeavesWhere}
-
-acked_refused : (m : Machine) (c : Command) (w : Marks) (r : Refusal) → first_failing (checks m c) ≡ Some r → acked m c w ≡ w
-unfolding checks
-acked_refused m Flush w r e = absurd (cc)
-acked_refused m c w r e = ap (λ o. begun_by o m c w) e
 
 -- a refusal in this state of the machine
 pub refused_in : {b : Bool} (s : State) (k : Kept) (c : Command) (r : Refusal) (m : Machine) (w : Marks) → KeepsWhere b (cache_at k s) (history_of m w) → first_failing (checks m c) ≡ Some r → LeavesWhere b c (history_of m w) (Some (Refused r)) (cache_at k s)

@@ -16,7 +16,6 @@ use Rattle.cache_theory.specs.Marks.{Marks, begun, is_touched}
 use Rattle.cache_theory.specs.Step.{doomed_under, effect}
 use Rattle.cache_theory.specs.Table.{get}
 use Rattle.cache_theory.proofs.DiskChanges.{remove_keeps}
-use Rattle.cache_theory.proofs.Dooming.{unshelved_under}
 use Rattle.cache_theory.proofs.FiledOnce.{one_name as one_place}
 use Rattle.cache_theory.specs.declared.refusal.Refusal.{Refusal}
 use Rattle.disk_model.specs.Calls.{if_done}
@@ -27,20 +26,21 @@ use Rattle.disk_model.specs.State.{State, removed, standing}
 use Rattle.entry_file.specs.EntryFile.{read_for}
 use Rattle.entry_key.specs.Writing.{may_write}
 use Rattle.entry_name.specs.EntryName.{file_name}
-use Rattle.file_handles.specs.Answers.{done_or, fault_of}
+use Rattle.file_handles.specs.Answers.{OnRefused, done_or, fault_of}
 use Rattle.file_handles.specs.Cache.{cache_at}
-use Rattle.file_handles.specs.Dooming.{EndsOn}
+use Rattle.file_handles.specs.Dooming.{DoomsUnder, EndsOn}
 use Rattle.file_handles.specs.Finding.{is_user}
 use Rattle.file_handles.specs.Kept.{Kept}
-use Rattle.file_handles.specs.Stands.{KeepsWhere, RepresentsSome}
+use Rattle.file_handles.specs.Stands.{KeepsWhere, ReachesHistory, RepresentsSome}
+use Rattle.file_handles.specs.Users.{users_of}
 use Rattle.file_handles.specs.declared.fault.HandleFault.{HandleFault}
 use Rattle.file_handles.specs.declared.fault.HandleFault.TheVariants as fault
 use Rattle.file_handles.proofs.Begun.{begun_in}
-use Rattle.file_handles.proofs.DoomedBut.{removed_in, undoomed_but}
 use Rattle.file_handles.proofs.DoomedCarried.{done_in, failed_in, refused_in, touches_name}
 use Rattle.file_handles.proofs.DoomedChecks.{doom_checks, ended}
 use Rattle.file_handles.proofs.FoundShelf.{shelf_read}
 use Rattle.file_handles.proofs.Histories.{history_of}
+use Rattle.file_handles.proofs.SlotUsers.{unused_none}
 use Rattle.file_handles.proofs.User.{no_one, no_user_there}
 use Rattle.file_handles.proofs.Where.{LeavesWhere}
 
@@ -116,22 +116,26 @@ none_if o b is none = no_one o (sym is ∙ none)
 pub some_if : {X : Type 0} (o : Option X) (b : Bool) → b ≡ is_some o → b ≡ true → o ≢ None
 some_if o b is one none = let never : true ≡ false = sym one ∙ is ∙ ap is_some none in cc
 
-module _ (s u : State) (k : Kept) (key : List ℕ) (name : Name) (named : name.0 ≡ file_name key) (bare : position (is_user name) k.objects ≡ None) (passes : EndsOn (cache_at k s) (Doom key) None) (same : u ≡ s) where
-  pub remove_fails : (t : State) (f : DiskFault) → t ≡ if_done {T = Unit {0}} (Err f) (removed (Entry name) u) u → {b : Bool} (m : Machine) (w : Marks) → KeepsWhere b (cache_at k s) (history_of m w) → IsTrue b → IsSafe t (begun m (Doom key) w)
-  remove_fails t f is m w stand on =
-      removed_or_not s t (begun m (Doom key) w) name f (subst (λ v. t ≡ if_done {T = Unit {0}} (Err f) (removed (Entry name) v) v) same is)
-      (doom_touches key name.0 m w named (passes m (stand.number, stand.stands))) ((begun_in s k m (Doom key) w stand).crash_kept on).safe
+-- What stands under the name of the key is doomed, after looks at the disk.
+module _ (s u : State) (k : Kept) (key : List ℕ) (name : Name) (named : name.0 ≡ file_name key) (passes : EndsOn (cache_at k s) (Doom key) None) (same : u ≡ s) where
+  -- where no slot uses the entry its file is there
+  pub unused_stands : RepresentsSome (cache_at k s) → users_of k name ≡ 0 → IsSome (standing u (Entry name))
+  unused_stands (m, (number, stands)) unused =
+      let bare = unused_none k m number stands.proper stands.handles name unused in
+      subst (λ v. IsSome (standing v (Entry name))) (sym same) (bare_stands s k key name named bare passes (m, (number, stands)))
 
-  removed_leaves_here : {b : Bool} (m : Machine) (w : Marks) → KeepsWhere b (cache_at k s) (history_of m w) → LeavesWhere b (Doom key) (history_of m w) (Some Done) (cache_at k (removed (Entry name) s))
-  removed_leaves_here m w stand =
-      let fine = passes m (stand.number, stand.stands) in
-      let v : Marks = begun m (Doom key) w in
-      let unused = no_user_there k m stand.number stand.stands.proper stand.stands.handles name bare in
-      let but = undoomed_but name.0 s k m v unused (begun_in s k m (Doom key) w stand) in
-      doomed_leaves (removed (Entry name) s) k key name.0 m w named fine
-      (removed_in name s k (doomed_under m name.0) v (unshelved_under m name.0) (doom_touches key name.0 m w named fine) but)
+  pub still_represents : RepresentsSome (cache_at k s) → RepresentsSome (cache_at k u)
+  still_represents somehow = subst (λ v. RepresentsSome (cache_at k v)) (sym same) somehow
 
-  pub removed_leaves : (t : State) (after : Kept) → t ≡ removed (Entry name) u → after ≡ k → {b : Bool} (m : Machine) (w : Marks) → KeepsWhere b (cache_at k s) (history_of m w) → LeavesWhere b (Doom key) (history_of m w) (Some Done) (cache_at after t)
-  removed_leaves t after is still {b} m w stand =
-      subst (λ v. LeavesWhere b (Doom key) (history_of m w) (Some Done) (cache_at after v)) (sym (is ∙ ap (removed (Entry name)) same))
-      (subst (λ a. LeavesWhere b (Doom key) (history_of m w) (Some Done) (cache_at a (removed (Entry name) s))) (sym still) (removed_leaves_here m w stand))
+  module _ (t : State) (after : Kept) {b : Bool} (m : Machine) (w : Marks) (stand : KeepsWhere b (cache_at k s) (history_of m w)) where
+    doomed : {T : Type 0} (r : Result T HandleFault) → DoomsUnder name.0 r (cache_at k u) (cache_at after t) → ReachesHistory b (history_of (doomed_under m name.0) (begun m (Doom key) w)) r (cache_at after t)
+    doomed r dooms =
+        let fine = passes m (stand.number, stand.stands) in
+        dooms.leaves b (history_of m (begun m (Doom key) w)) (doom_touches key name.0 m w named fine)
+        (subst (λ v. KeepsWhere b (cache_at k v) (history_of m (begun m (Doom key) w))) (sym same) (begun_in s k m (Doom key) w stand))
+
+    pub dooming_leaves : {T : Type 0} (r : Result T HandleFault) → OnRefused r (λ _. ⊥) → DoomsUnder name.0 r (cache_at k u) (cache_at after t) → LeavesWhere b (Doom key) (history_of m w) (done_or r) (cache_at after t)
+    dooming_leaves (Ok value) never dooms =
+        doomed_leaves t after key name.0 m w named (passes m (stand.number, stand.stands)) (doomed (Ok value) dooms).next
+    dooming_leaves {T} (Err f) never dooms =
+        failed_on_leaves {T = T} (Err f) f t after (Doom key) refl never m w (doomed (Err f) dooms).safe

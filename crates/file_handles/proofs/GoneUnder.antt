@@ -1,16 +1,19 @@
 -- Where no object is in use under a name its file is removed, if there is one, or the disk failed on the way.
-use Rattle.std.proofs.Common.{◌≡◌, ◌⊎◌, inl, inr, Bool, Option, None, Result, Ok, Err, true, ℕ, IsTrue, sym, ap, subst, ◌∙◌}
+use Rattle.std.proofs.Common.{◌≡◌, ◌⊎◌, inl, inr, Bool, None, Result, Ok, Err, true, IsTrue, sym, ap, subst, ◌∙◌}
 use Rattle.std.specs.List.{position}
 use Rattle.std.specs.Result.{IsErr}
 use Rattle.std.proofs.lemmas.Result.{IfOk-from_err}
 use Rattle.cache_base.specs.declared.name.Name.{Name}
 use Rattle.cache_theory.specs.Crash.{IsSafe}
 use Rattle.cache_theory.specs.History.{History}
-use Rattle.cache_theory.specs.Marks.{Marks, is_touched}
+use Rattle.cache_theory.specs.Marks.{is_touched}
 use Rattle.cache_theory.specs.Step.{doomed_under}
 use Rattle.cache_theory.proofs.DiskChanges.{remove_keeps}
 use Rattle.cache_theory.proofs.Dooming.{unshelved_under}
 use Rattle.cache_theory.proofs.FiledOnce.{one_name as one_place}
+use Rattle.disk_model.specs.Calls.{if_done}
+use Rattle.disk_model.specs.declared.disk.DiskFault.{DiskFault}
+use Rattle.disk_model.specs.declared.disk.DiskFault.TheVariants.{Failed, Memory}
 use Rattle.disk_model.specs.declared.place.Place.TheVariants.{Entry}
 use Rattle.disk_model.specs.State.{State, removed, standing}
 use Rattle.file_handles.specs.Cache.{cache_at}
@@ -43,7 +46,7 @@ module _ (s t : State) (k : Kept) (name : Name) (bare : position (is_user name) 
           (none_in name s k (doomed_under h.machine name.0) h.marks (unshelved_under h.machine name.0) touched none.1 but)
     ]
 
-  pub gone_fails : (answer : Result (Unit {0}) HandleFault) → IsErr answer → (t ≡ removed (Entry name) s) ⊎ (t ≡ s) → DoomsUnder name.0 answer (cache_at k s) (cache_at k t)
+  pub gone_fails : {T : Type 0} (answer : Result T HandleFault) → IsErr answer → (t ≡ removed (Entry name) s) ⊎ (t ≡ s) → DoomsUnder name.0 answer (cache_at k s) (cache_at k t)
   gone_fails answer failed either = record {
     leaves = λ crash h touched stand. record {
       safe = safe_or_not h touched stand either;
@@ -51,21 +54,26 @@ module _ (s t : State) (k : Kept) (name : Name) (bare : position (is_user name) 
     };
   }
 
-  pub gone_done : (t ≡ removed (Entry name) s) ⊎ ((t ≡ s) × (standing s (Entry name) ≡ None)) → DoomsUnder {T = Unit {0}} {E = HandleFault} name.0 (Ok tt) (cache_at k s) (cache_at k t)
-  gone_done done = record {
+  pub gone_done : {T : Type 0} (value : T) → (t ≡ removed (Entry name) s) ⊎ ((t ≡ s) × (standing s (Entry name) ≡ None)) → DoomsUnder {T = T} {E = HandleFault} name.0 (Ok value) (cache_at k s) (cache_at k t)
+  gone_done value done = record {
     leaves = λ crash h touched stand.
         let keeps = gone_in h touched stand done in
         record { safe = λ on. (keeps.crash_kept on).safe; next = keeps };
   }
 
+-- where its removal failed it may be gone
+pub gone_or_not : (s t : State) (name : Name) (f : DiskFault) → t ≡ if_done {T = Unit {0}} (Err f) (removed (Entry name) s) s → (t ≡ removed (Entry name) s) ⊎ (t ≡ s)
+gone_or_not s t name Failed is = inl is
+gone_or_not s t name Memory is = inr is
+
 -- The same behind a call that left all as it was.
 module _ {D : Type 0} (state : D → State) (d e : D) (t : State) (k after : Kept) (name : Name) (bare : position (is_user name) k.objects ≡ None) (same : e ≡ d) (still : after ≡ k) where
-  pub gone_fails_by : (answer : Result (Unit {0}) HandleFault) → IsErr answer → (t ≡ removed (Entry name) (state e)) ⊎ (t ≡ state e) → DoomsUnder name.0 answer (cache_at k (state d)) (cache_at after t)
+  pub gone_fails_by : {T : Type 0} (answer : Result T HandleFault) → IsErr answer → (t ≡ removed (Entry name) (state e)) ⊎ (t ≡ state e) → DoomsUnder name.0 answer (cache_at k (state d)) (cache_at after t)
   gone_fails_by answer failed either =
       subst (λ a. DoomsUnder name.0 answer (cache_at k (state d)) (cache_at a t)) (sym still)
       (gone_fails (state d) t k name bare answer failed (subst (λ x. (t ≡ removed (Entry name) (state x)) ⊎ (t ≡ state x)) same either))
 
-  pub gone_done_by : (t ≡ removed (Entry name) (state e)) ⊎ ((t ≡ state e) × (standing (state e) (Entry name) ≡ None)) → DoomsUnder {T = Unit {0}} {E = HandleFault} name.0 (Ok tt) (cache_at k (state d)) (cache_at after t)
-  gone_done_by done =
-      subst (λ a. DoomsUnder {T = Unit {0}} {E = HandleFault} name.0 (Ok tt) (cache_at k (state d)) (cache_at a t)) (sym still)
-      (gone_done (state d) t k name bare (subst (λ x. (t ≡ removed (Entry name) (state x)) ⊎ ((t ≡ state x) × (standing (state x) (Entry name) ≡ None))) same done))
+  pub gone_done_by : {T : Type 0} (value : T) → (t ≡ removed (Entry name) (state e)) ⊎ ((t ≡ state e) × (standing (state e) (Entry name) ≡ None)) → DoomsUnder {T = T} {E = HandleFault} name.0 (Ok value) (cache_at k (state d)) (cache_at after t)
+  gone_done_by {T} value done =
+      subst (λ a. DoomsUnder {T = T} {E = HandleFault} name.0 (Ok value) (cache_at k (state d)) (cache_at a t)) (sym still)
+      (gone_done (state d) t k name bare value (subst (λ x. (t ≡ removed (Entry name) (state x)) ⊎ ((t ≡ state x) × (standing (state x) (Entry name) ≡ None))) same done))

@@ -31,7 +31,7 @@ use Rattle.disk_model.specs.declared.place.Place.TheVariants.{Doomed}
 use Rattle.disk_model.proofs.Places.{is_same-apart, is_same-refl}
 use Rattle.file_handles.specs.Held.{IsHeldAs}
 use Rattle.file_handles.specs.HeldChunks.{ChunksStand, IsChunkInUse}
-use Rattle.file_handles.specs.Kept.{Kept, object_at, use_at, with_new, with_object, with_use}
+use Rattle.file_handles.specs.Kept.{Kept, object_at, use_at, with_new, with_use}
 use Rattle.file_handles.specs.Stands.{HandlesStand, IsAt, IsObjectOf, slot_of}
 use Rattle.file_handles.specs.declared.object.Object.{Object}
 use Rattle.file_handles.specs.declared.object.Use.{Use}

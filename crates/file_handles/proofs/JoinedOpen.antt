@@ -16,7 +16,7 @@ use Rattle.cache_theory.specs.declared.refusal.Refusal.{Refusal}
 use Rattle.cache_theory.specs.declared.refusal.Refusal.TheVariants as refused
 use Rattle.cache_theory.proofs.Changes.{may_join, read_object}
 use Rattle.cache_theory.proofs.Entering.{proper_entered}
-use Rattle.cache_theory.proofs.Reading.{used_by_is, whole_is_shelved}
+use Rattle.cache_theory.proofs.Reading.{whole_is_shelved}
 use Rattle.cache_theory.proofs.Slots.{slot_free}
 use Rattle.disk_model.specs.State.{State, standing}
 use Rattle.disk_model.specs.declared.place.Place.TheVariants.{Entry}

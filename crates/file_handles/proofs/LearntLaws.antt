@@ -9,12 +9,12 @@ use Rattle.cache_base.specs.declared.name.Name.{Name}
 use Rattle.cache_base.proofs.CheckLaws.{all_hold}
 use Rattle.cache_theory.specs.Checks.{checks, with_alt_data, with_value}
 use Rattle.cache_theory.specs.Command.{Command}
-use Rattle.cache_theory.specs.Command.Command.{At, Create, OpenKey, Append, Finish, SetElement, UnsetElement, ElementOf, UseEntry, PutAlt, ReadPart, Close, Doom, Get, GetAlt, MainBody, Flush, HasEntry, HasGiven, ListRecords, ListGiven, Evict, EvictNames, StepUpdate, UpdateState, Verify, VerifyRecords, Rebuild}
+use Rattle.cache_theory.specs.Command.Command.{At, Create, OpenKey, Append, Finish, SetElement, UnsetElement, ElementOf, UseEntry, Pin, Unpin, PutAlt, ReadPart, Close, Doom, Get, GetAlt, MainBody, Flush, HasEntry, HasGiven, ListRecords, ListGiven, Evict, EvictNames, ClearOrigin, ClearNames, StepUpdate, UpdateState, Verify, VerifyRecords, Rebuild}
 use Rattle.cache_theory.specs.Command.Reply.{Done, NoneThere}
 use Rattle.cache_theory.specs.Machine.{Machine, Object as MachineObject, is_slot, is_writer, number_of, object_of, on_shelf, used_by}
 use Rattle.cache_theory.specs.Marks.{rewritten}
 use Rattle.cache_theory.specs.Proper.{IsProper}
-use Rattle.cache_theory.specs.Step.{Answer, answer, changed, effect, finished_by, joined, released, step, stepped, stored, used}
+use Rattle.cache_theory.specs.Step.{Answer, answer, changed, effect, finished_by, joined, released, step, stepped, stored, used, with_pin}
 use Rattle.cache_theory.specs.Table.{Table, get, insert, remove}
 use Rattle.cache_theory.proofs.Names.{get-insert_other, get-insert_same, get-remove_other, get-remove_same, same_bytes}
 use Rattle.cache_theory.proofs.Objects.{nth, nth-set_same}
@@ -160,6 +160,18 @@ module _ (m : Machine) (proper : IsProper m) (q : Name) where
         let all = all_hold (checks m (UseEntry s)) fine in
         stored_learnt m (number_of m s) (with_version (used m.moment) (object_of m s)) q (within all.0) (changed m s (used m.moment)) refl refl
 
+    pins : first_failing (checks m (Pin s)) ≡ None → Scans m (Pin s) q (effect m (Pin s)).next
+    unfolding checks effect
+    pins fine =
+        let all = all_hold (checks m (Pin s)) fine in
+        stored_learnt m (number_of m s) (with_version (with_pin true) (object_of m s)) q (within all.0) (changed m s (with_pin true)) refl refl
+
+    unpins : first_failing (checks m (Unpin s)) ≡ None → Scans m (Unpin s) q (effect m (Unpin s)).next
+    unfolding checks effect
+    unpins fine =
+        let all = all_hold (checks m (Unpin s)) fine in
+        stored_learnt m (number_of m s) (with_version (with_pin false) (object_of m s)) q (within all.0) (changed m s (with_pin false)) refl refl
+
     puts : (kind bytes : List ℕ) → first_failing (checks m (PutAlt s kind bytes)) ≡ None → Scans m (PutAlt s kind bytes) q (effect m (PutAlt s kind bytes)).next
     unfolding checks effect
     puts kind bytes fine =
@@ -198,6 +210,8 @@ learnt_scanned m (SetElement s name value) of proper fine q = by_effect m proper
 learnt_scanned m (UnsetElement s name) of proper fine q = by_effect m proper q (UnsetElement s name) fine (unsets m proper q s name fine)
 learnt_scanned m (ElementOf s name) of proper fine q = by_effect m proper q (ElementOf s name) fine refl
 learnt_scanned m (UseEntry s) of proper fine q = by_effect m proper q (UseEntry s) fine (uses m proper q s fine)
+learnt_scanned m (Pin s) of proper fine q = by_effect m proper q (Pin s) fine (pins m proper q s fine)
+learnt_scanned m (Unpin s) of proper fine q = by_effect m proper q (Unpin s) fine (unpins m proper q s fine)
 learnt_scanned m (PutAlt s kind bytes) of proper fine q = by_effect m proper q (PutAlt s kind bytes) fine (puts m proper q s kind bytes fine)
 learnt_scanned m (ReadPart s from len) of proper fine q = by_effect m proper q (ReadPart s from len) fine refl
 learnt_scanned m (Close s) of proper fine q = by_effect m proper q (Close s) fine (closes m proper q s fine)
@@ -212,6 +226,8 @@ learnt_scanned m ListRecords of proper fine q = absurd of
 learnt_scanned m (ListGiven records) of proper fine q = absurd of
 learnt_scanned m (Evict kb) of proper fine q = absurd of
 learnt_scanned m (EvictNames names) of proper fine q = absurd of
+learnt_scanned m (ClearOrigin origin) of proper fine q = absurd of
+learnt_scanned m (ClearNames names) of proper fine q = absurd of
 learnt_scanned m (StepUpdate n) of proper fine q = absurd of
 learnt_scanned m UpdateState of proper fine q = by_effect m proper q UpdateState fine refl
 learnt_scanned m Verify of proper fine q = absurd of

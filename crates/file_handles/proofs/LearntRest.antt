@@ -7,13 +7,13 @@ use Rattle.cache_base.specs.declared.name.Name.{Name}
 use Rattle.cache_base.proofs.CheckLaws.{AllHold, all_hold}
 use Rattle.cache_theory.specs.Checks.{checks, with_alt_data, with_value}
 use Rattle.cache_theory.specs.Command.{Command}
-use Rattle.cache_theory.specs.Command.Command.{Create, Doom, Finish, SetElement, UnsetElement, UseEntry, PutAlt, Close}
+use Rattle.cache_theory.specs.Command.Command.{Create, Doom, Finish, SetElement, UnsetElement, UseEntry, Pin, Unpin, PutAlt, Close}
 use Rattle.cache_theory.specs.Command.Reply.{Done, NoneThere}
 use Rattle.cache_theory.specs.Machine.{Machine, Object as MachineObject, is_writer, number_of, object, object_of}
 use Rattle.cache_theory.specs.Marks.{rewritten}
 use Rattle.cache_theory.specs.Proper.{IsProper}
 use Rattle.cache_theory.specs.Refiled.{IsRefiled, Refiled, refiled, refiled_by}
-use Rattle.cache_theory.specs.Step.{Answer, answer, changed, effect, finished_by, released, step, stepped, stored, used, without}
+use Rattle.cache_theory.specs.Step.{Answer, answer, changed, effect, finished_by, released, step, stepped, stored, used, with_pin, without}
 use Rattle.cache_theory.proofs.Objects.{nth, nth-set_same}
 use Rattle.cache_theory.proofs.Refiling.{entries_are_refiled}
 use Rattle.cache_theory.proofs.Users.{slot_in_use}
@@ -67,6 +67,10 @@ written_done m (UnsetElement s name) proper hold =
     (unset_done m s (slot_in_use m proper s hold.0).number (λ v. record v { elements = without_element name v.elements }) (element name (object_of m s).version.elements))
 written_done m (UseEntry s) proper hold =
     where_done (changed m s (used m.moment)) (number_of m s) (object_of m s).finished (changed_done m s (slot_in_use m proper s hold.0).number (used m.moment))
+written_done m (Pin s) proper hold =
+    where_done (changed m s (with_pin true)) (number_of m s) (object_of m s).finished (changed_done m s (slot_in_use m proper s hold.0).number (with_pin true))
+written_done m (Unpin s) proper hold =
+    where_done (changed m s (with_pin false)) (number_of m s) (object_of m s).finished (changed_done m s (slot_in_use m proper s hold.0).number (with_pin false))
 written_done m (PutAlt s kind bytes) proper hold =
     where_done (changed m s (with_alt_data kind bytes)) (number_of m s) (object_of m s).finished (changed_done m s (slot_in_use m proper s hold.0).number (with_alt_data kind bytes))
 written_done m (Close s) proper hold =

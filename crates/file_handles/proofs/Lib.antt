@@ -2,11 +2,14 @@ pub mod Histories
 pub mod Accounting
 pub mod KeptLaws
 pub mod HeldChunkLaws
+pub mod PassingNames
+pub mod PinCommand
 pub mod Places
 pub mod Where
 pub mod Begun
 pub mod Refused
 pub mod AsidePlaces
+pub mod AskedNames
 pub mod ChangedHandles
 pub mod Changed
 pub mod Published
@@ -18,6 +21,7 @@ pub mod ElementChecks
 pub mod ElementMarks
 pub mod Writers
 pub mod LiveUses
+pub mod MarkLeft
 pub mod NoSlots
 pub mod PutBack
 pub mod Grown
@@ -76,4 +80,5 @@ pub mod ReadChunks
 pub mod ReadKept
 pub mod AltChecks
 pub mod LongerEntry
+pub mod LowNumbers
 pub mod AltCommand

@@ -1,5 +1,5 @@
 -- The names of the undoomed objects in use, and of those that are being written, and the machine's.
-use Rattle.std.proofs.Common.{◌≡◌, ℕ, ◌+◌, ◌<◌, List, [], ◌∷◌, length, map, get_or, take, Bool, true, false, cond, not, ◌&&◌, Option, Some, None, Result, Ok, Err, IfOk, is_some, T, refl, sym, ap, subst, ◌∙◌}
+use Rattle.std.proofs.Common.{◌≡◌, ℕ, ◌+◌, ◌<◌, List, [], ◌∷◌, length, map, get_or, take, Bool, true, false, cond, ◌&&◌, Option, Some, None, Result, Ok, Err, IfOk, is_some, T, refl, sym, ap, subst, ◌∙◌}
 use Rattle.std.specs.Prelude.{unwrap_or, ◌||◌}
 use Rattle.std.specs.FinMap.{is_sorted}
 use Rattle.std.specs.FinMap.Entries.{below_all}
@@ -8,33 +8,27 @@ use Rattle.std.specs.List.Sorted.{IsStrictlySortedBy}
 use Rattle.std.specs.Ordering.{eq_by_cmp, is_eq, is_lt}
 use Rattle.std.specs.Str.{bytes_eq}
 use Rattle.std.specs.declared.cmp.Ordering.TheVariants.{Less}
-use Rattle.std.proofs.lemmas.Bool.{and_from, and_parts}
+use Rattle.std.proofs.lemmas.Bool.{and_from}
 use Rattle.std.proofs.lemmas.List.Folds.{Any-from_list_any, list_any_at, list_any_more}
 use Rattle.std.proofs.lemmas.List.Quantifiers.{position-Some}
 use Rattle.std.proofs.lemmas.Map.Text.{is_eq-slice_cmp}
 use Rattle.std.proofs.lemmas.Option.{slice_get-get_or, unwrap_or-slice_get}
-use Rattle.std.proofs.lemmas.Slice.Eq.{bytes_eq-Decides}
 use Rattle.cache_base.specs.Names.{AreRising, name_cmp}
 use Rattle.cache_base.specs.declared.name.Name.{Name}
-use Rattle.cache_theory.specs.Machine.{Machine, object, open_names, writing_names}
-use Rattle.cache_theory.specs.Machine.{Object as MachineObject}
+use Rattle.cache_theory.specs.Machine.{Machine, open_names}
 use Rattle.cache_theory.specs.Proper.{IsProper}
 use Rattle.cache_theory.specs.Table.{IsTable, Table, bytes_cmp, get, keys, name_of}
 use Rattle.cache_check.proofs.FoundExactly.{has_key}
 use Rattle.cache_theory.proofs.TableLaws.{same_table}
-use Rattle.cache_theory.proofs.WritingNames.{has_writing, is_unfinished, passes_there, passing, passing_is_table}
 use Rattle.evictor.specs.Evict.{has_name}
 use Rattle.file_handles.specs.Finding.{is_user}
-use Rattle.file_handles.specs.Held.{IsEntryOf, is_draft}
-use Rattle.file_handles.specs.Kept.{Kept, object_at}
+use Rattle.file_handles.specs.Kept.{Kept}
 use Rattle.file_handles.specs.Stands.{HandlesStand}
-use Rattle.file_handles.specs.Users.{AreOpenNames, AreWritingNames, counts, is_counted, users_at, users_of}
-use Rattle.file_handles.specs.declared.object.Entry.{Entry}
-use Rattle.file_handles.specs.declared.object.Entry.TheVariants as entry
+use Rattle.file_handles.specs.Users.{AreOpenNames, counts, is_counted, users_at, users_of}
 use Rattle.file_handles.specs.declared.object.Object.{Object}
 use Rattle.file_handles.specs.declared.users.Asked.{Asked}
 use Rattle.file_handles.specs.declared.users.Asked.TheVariants as asked
-use Rattle.file_handles.proofs.User.{no_one, no_user_there, user_at, user_is_used, user_of, user_somewhere, user_there}
+use Rattle.file_handles.proofs.User.{no_one, no_user_there, user_at, user_is_used, user_somewhere}
 
 -- One object more in a set of names.
 
@@ -138,6 +132,12 @@ sorted_keys (e ∷ es) = λ i. below_keys e.0 es i && sorted_keys es i
 keys_table : {X : Type 0} (t : Table X) → IsTable t → IsTable (nothings (map name_of (keys t)))
 keys_table t is = record { rising = subst T (sym (sorted_keys t)) is.rising }
 
+-- so names that rise and are those of a table are its names in their order
+pub names_of_table : {X : Type 0} (t : Table X) → IsTable t → (names : List Name) → AreRising names
+    → ((q : Name) → has_name names q ≡ has_name (map name_of (keys t)) q) → names ≡ map name_of (keys t)
+names_of_table t table names rising has =
+    same_names names (map name_of (keys t)) (rising_table names rising) (keys_table t table) (λ q. has (name_of q))
+
 -- Where all are asked for, users count.
 user_counts : (q : Name) (o : Option Object) → is_counted asked.All q o ≡ is_user q o
 user_counts q None = refl
@@ -170,16 +170,6 @@ not_among : (k : Kept) (names : List Name) → ((q : Name) → has_name names q 
 not_among k names has q lacks =
     ap (users_at k) (no_one (position (is_user q) k.objects) (sym (user_or_none k q) ∙ sym (has q) ∙ lacks))
 
--- An entry is a draft where the machine's object is not finished.
-draft_is : (e : Entry) (o : MachineObject) → IsEntryOf e o → not o.finished ≡ is_draft e
-draft_is (entry.Draft d) o is = ap not is.0
-draft_is (entry.Finished meta) o is = ap not is.0
-
-same_test : (a b : Bool) → (a ≡ true → b ≡ true) → (b ≡ true → a ≡ true) → a ≡ b
-same_test true b to from = sym (to refl)
-same_test false true to from = from refl
-same_test false false to from = refl
-
 module _ (k : Kept) (m : Machine) (number : ℕ → ℕ) (proper : IsProper m) (stand : HandlesStand k m number) where
   open_same : (q : Name) → list_any (is_user q) k.objects ≡ is_some (get m.in_use q.0)
   open_same q = user_or_none k q ∙ go (position (is_user q) k.objects) refl
@@ -192,60 +182,7 @@ module _ (k : Kept) (m : Machine) (number : ℕ → ℕ) (proper : IsProper m) (
   open_is : (names : List Name) → AreRising names → ((q : Name) → has_name names q ≡ list_any (is_user q) k.objects)
       → names ≡ open_names m
   open_is names rising has =
-      same_names names (open_names m) (rising_table names rising) (keys_table m.in_use proper.users) (λ q.
-      has (name_of q) ∙ open_same (name_of q) ∙ sym (has_key m.in_use (name_of q)))
-
-  -- a draft that counts is the machine's unfinished object under the name
-  draft_there : (q : Name) (p : ℕ) (o : Option Object) → p < length k.objects → object_at k p ≡ o
-      → is_counted asked.Drafts q o ≡ true → passes_there (is_unfinished m) (get m.in_use q.0) ≡ true
-  draft_there q p None lt at is = absurd (cc)
-  draft_there q p (Some x) lt at is =
-      let parts = and_parts (is_draft x.entry && not x.doomed) (bytes_eq x.name.0 q.0) is in
-      let kinds = and_parts (is_draft x.entry) (not x.doomed) parts.0 in
-      let user = and_from (not x.doomed) (bytes_eq x.name.0 q.0) kinds.1 parts.1 in
-      ap (passes_there (is_unfinished m)) (user_there k m number proper stand q p (user_at k q p (Some x) lt at user))
-      ∙ draft_is x.entry (object m (number p)) (stand.objects p x at).as_held.held_entry
-      ∙ kinds.0
-
-  counted_there : (q : Name) → list_any (is_counted asked.Drafts q) k.objects ≡ true
-      → passes_there (is_unfinished m) (get m.in_use q.0) ≡ true
-  counted_there q any =
-      let found = Any-from_list_any (is_counted asked.Drafts q) k.objects any in
-      let at = unwrap_or-slice_get k.objects found.0 None in
-      let there = ap (λ o. unwrap_or o None) (slice_get-get_or k.objects found.0 found.1 found.2) ∙ found.3 in
-      draft_there q found.0 found.1 found.2 there found.4
-
-  -- and the machine's is a draft that counts
-  there_counted : (q : Name) (o : Option ℕ) → get m.in_use q.0 ≡ o → passes_there (is_unfinished m) o ≡ true
-      → list_any (is_counted asked.Drafts q) k.objects ≡ true
-  there_counted q None at writing = absurd (cc)
-  there_counted q (Some i) at writing =
-      let found = user_of k m number proper stand q i at in
-      let p = found.0 in
-      let there = found.1.0 in
-      let x = there.object in
-      let held = (stand.objects p x there.at_place).as_held.held_entry in
-      let draft : is_draft x.entry ≡ true =
-      sym (draft_is x.entry (object m (number p)) held) ∙ ap (is_unfinished m) found.1.1 ∙ writing in
-      let undoomed : not x.doomed ≡ true = ap not there.undoomed in
-      let counted : is_counted asked.Drafts q (Some x) ≡ true =
-      and_from (is_draft x.entry && not x.doomed) (bytes_eq x.name.0 q.0)
-      (and_from (is_draft x.entry) (not x.doomed) draft undoomed)
-      ((bytes_eq-Decides x.name.0 q.0).1 there.named) in
-      list_any_at (is_counted asked.Drafts q) k.objects p None there.ranged
-      (ap (is_counted asked.Drafts q) (sym (unwrap_or-slice_get k.objects p None) ∙ there.at_place) ∙ counted)
-
-  writing_same : (q : Name)
-      → list_any (is_counted asked.Drafts q) k.objects ≡ passes_there (is_unfinished m) (get m.in_use q.0)
-  writing_same q = same_test _ _ (counted_there q) (there_counted q (get m.in_use q.0) refl)
-
-  -- rising names of those that are being written are the machine's
-  writing_is : (names : List Name) → AreRising names
-      → ((q : Name) → has_name names q ≡ list_any (is_counted asked.Drafts q) k.objects) → names ≡ writing_names m
-  writing_is names rising has =
-      same_names names (writing_names m) (rising_table names rising)
-      (keys_table (passing (is_unfinished m) m.in_use) (passing_is_table (is_unfinished m) m.in_use proper.users))
-      (λ q. has (name_of q) ∙ writing_same (name_of q) ∙ sym (has_writing m proper.users (name_of q)))
+      names_of_table m.in_use proper.users names rising (λ q. has q ∙ open_same q ∙ sym (has_key m.in_use q))
 
 -- The names of a set of users, listed in their order.
 
@@ -264,12 +201,3 @@ module _ {E : Type 0} (k : Kept) (users : List Name) (has : (q : Name) → has_n
       → IfOk r (λ names. (q : Name) → has_name names q ≡ false → users_of k q ≡ 0)
   listed_unused (Err e) is = tt
   listed_unused (Ok names) is = not_among k names (has_listed k users names has is)
-
--- And those of a set of drafts.
-
-pub listed_writing : {E : Type 0} (k : Kept) (drafts : List Name)
-    → ((q : Name) → has_name drafts q ≡ list_any (is_counted asked.Drafts q) k.objects)
-    → (r : Result (List Name) E) → IfOk r (λ names. names ≡ drafts) → IfOk r AreRising → IfOk r (AreWritingNames k)
-listed_writing k drafts has (Err e) is rising = tt
-listed_writing k drafts has (Ok names) is rising = λ m number proper stand.
-    writing_is k m number proper stand names rising (λ q. ap (λ ns. has_name ns q) is ∙ has q)

@@ -3,7 +3,7 @@ use Rattle.std.proofs.Common.{◌≡◌, inl, inr, [], Option, Some, None, Resul
 use Rattle.cache_base.specs.Checks.{first_failing}
 use Rattle.cache_theory.specs.Checks.{checks}
 use Rattle.cache_theory.specs.Command.{Command}
-use Rattle.cache_theory.specs.Command.Command.{Flush}
+use Rattle.cache_theory.specs.Command.Command.{ClearNames, ClearOrigin, Flush}
 use Rattle.cache_theory.specs.Command.Reply.{Refused}
 use Rattle.cache_theory.specs.Crash.{IsAsMarked, IsSafe, MayBeFiled}
 use Rattle.cache_theory.specs.Ever.{entry_place}
@@ -32,10 +32,12 @@ use Rattle.file_handles.proofs.Where.{CarriesOutWhere, carries_out}
 begun_refused : (m : Machine) (c : Command) (w : Marks) (r : Refusal) → first_failing (checks m c) ≡ Some r → begun m c w ≡ w
 begun_refused m c w r e = ap (λ o. begun_by o m c w) e
 
--- and no mark: a flush is not refused
-acked_refused : (m : Machine) (c : Command) (w : Marks) (r : Refusal) → first_failing (checks m c) ≡ Some r → acked m c w ≡ w
+-- and no mark: neither a flush nor a clearing is refused
+pub acked_refused : (m : Machine) (c : Command) (w : Marks) (r : Refusal) → first_failing (checks m c) ≡ Some r → acked m c w ≡ w
 unfolding checks
 acked_refused m Flush w r e = absurd (cc)
+acked_refused m (ClearOrigin origin) w r e = absurd (cc)
+acked_refused m (ClearNames names) w r e = absurd (cc)
 acked_refused m c w r e = begun_refused m c w r e
 
 -- so it is carried out, whatever the state of the machine and the marks

@@ -13,7 +13,7 @@ use Rattle.cache_base.specs.declared.name.Name.{Name}
 use Rattle.disk_model.specs.Calls.{if_done}
 use Rattle.disk_model.specs.State.{State, renamed, standing}
 use Rattle.disk_model.specs.declared.disk.DiskFault.{DiskFault}
-use Rattle.disk_model.specs.declared.place.Place.TheVariants.{Doomed, Entry}
+use Rattle.disk_model.specs.declared.place.Place.TheVariants.{Clear, Doomed, Entry}
 use Rattle.doom_area.specs.DoomArea.{IsLeastFree}
 use Rattle.file_handles.specs.Cache.{Cache}
 use Rattle.file_handles.specs.Stands.{KeepsWhere, ReachesHistory, Represents}
@@ -54,3 +54,7 @@ pub record SetsAside (name : Name) (aside : Option ℕ) (in_use : List ℕ) (ans
   pub number : aside ≡ None → IfOk answer (IsLeastFree in_use)
   pub moves : aside ≡ None → (number : ℕ) → IsLeastFree in_use number
       → t ≡ if_done answer (renamed (Entry name) (Doomed number) s) s
+
+-- what stands at `clear` is unchanged
+abbrev pub LeavesMark : State → State → Type 0
+LeavesMark s t = standing t Clear ≡ standing s Clear

@@ -1,5 +1,5 @@
 -- What a `get` finds.
-use Rattle.std.specs.Prelude.{IfOk, IsSomeAnd, List, Result, Some, ℕ, ◌≡◌}
+use Rattle.std.specs.Prelude.{IfOk, IsSomeAnd, List, Result, ℕ, ◌≡◌}
 use Rattle.cache_base.specs.Limits.{chunks}
 use Rattle.cache_base.specs.declared.name.Name.{Name}
 use Rattle.cache_theory.specs.Command.Command.{Get}

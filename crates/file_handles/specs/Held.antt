@@ -10,6 +10,7 @@ use Rattle.entry_file.specs.Version.{Version, version_meta}
 use Rattle.entry_metadata.specs.Meta.{meta_of}
 use Rattle.entry_name.specs.EntryName.{file_name}
 use Rattle.entry_parts.specs.Elements.{Element}
+use Rattle.entry_parts.specs.declared.header.Header.{Header}
 use Rattle.cache_base.specs.declared.name.Name.{Name}
 use Rattle.file_handles.specs.declared.object.Draft.{Draft}
 use Rattle.file_handles.specs.declared.object.Entry.{Entry}
@@ -33,7 +34,7 @@ abbrev pub is_draft : Entry → Bool
 is_draft (entry.Draft d) = true
 is_draft (entry.Finished meta) = false
 
--- the key, the elements and the body's length of an entry
+-- the key, the elements, the header and the body's length of an entry
 abbrev pub key_in : Entry → List ℕ
 key_in (entry.Draft d) = d.key
 key_in (entry.Finished meta) = meta.key
@@ -41,6 +42,10 @@ key_in (entry.Finished meta) = meta.key
 abbrev pub elements_in : Entry → List Element
 elements_in (entry.Draft d) = d.elements
 elements_in (entry.Finished meta) = meta.elements
+
+abbrev pub header_in : Entry → Header
+header_in (entry.Draft d) = d.header
+header_in (entry.Finished meta) = meta.header
 
 -- what of the body is not on the disk yet
 abbrev pub rest_in : Entry → List ℕ

@@ -1,7 +1,9 @@
--- A change of an entry: of its elements, or one more use.
-use Rattle.std.specs.Prelude.{Bool, List, None, Option, Some, if◌then◌else◌, length, nat_le, ℕ, ⊤, ◌&&◌, ◌≡◌, ◌≤◌}
+-- A change of an entry: of its elements, one more use, or of its pin.
+use Rattle.std.specs.Prelude.{Bool, List, None, Option, Some, if◌then◌else◌, length, nat_le, true, false, ℕ, ⊤, ◌&&◌, ◌*◌, ◌+◌, ◌/◌, ◌≡◌, ◌≤◌}
 use Rattle.cache_base.specs.Limits.{chunks}
 use Rattle.cache_base.specs.declared.limits.TheConstants.{BLOCK_MAX, ELEMENTS_MAX}
+use Rattle.cache_theory.specs.Command.{Command}
+use Rattle.cache_theory.specs.Command.Command.{Pin, Unpin}
 use Rattle.entry_file.specs.Version.{Version}
 use Rattle.entry_metadata.specs.Metadata.{block_length}
 use Rattle.entry_parts.specs.Elements.{Element, elements_bytes}
@@ -9,6 +11,7 @@ use Rattle.entry_parts.specs.Header.{used_header}
 use Rattle.entry_parts.specs.Setting.{set_fault, with_element, without_element}
 use Rattle.entry_parts.specs.declared.header.Header.{Header}
 use Rattle.frecency.specs.Frecency.{next as next_frecency}
+use Rattle.index_record.specs.Filling.{bit_if}
 use Rattle.file_handles.specs.Held.{body_len_in, key_in}
 use Rattle.file_handles.specs.declared.change.Change.{Change}
 use Rattle.file_handles.specs.declared.change.Change.TheVariants as change
@@ -20,12 +23,14 @@ abbrev pub changed_by : Change → List Element → List Element
 changed_by (change.Set name value) es = with_element name.now value.now es
 changed_by (change.Remove name) es = without_element name.now es
 changed_by (change.Use now) es = es
+changed_by (change.Pin pinned) es = es
 
--- the header after it: a use counts, and gives the frecency that follows
+-- the header after it: a use counts, and gives the frecency that follows; the pin is bit 0 of the flags
 abbrev pub header_by : Change → Header → Header
 header_by (change.Set name value) h = h
 header_by (change.Remove name) h = h
 header_by (change.Use now) h = used_header h now (next_frecency h.frecency now)
+header_by (change.Pin pinned) h = record h { flags = h.flags / 2 * 2 + bit_if pinned 0 }
 
 -- and the version
 abbrev pub with_change : Change → Version → Version
@@ -37,6 +42,7 @@ abbrev pub MaySet : Change → List Element → Type 0
 MaySet (change.Set name value) es = set_fault name.now value.now es ≡ None
 MaySet (change.Remove name) es = ⊤
 MaySet (change.Use now) es = ⊤
+MaySet (change.Pin pinned) es = ⊤
 
 -- the entry has room for these elements
 abbrev pub HasRoom : Entry → List Element → Type 0
@@ -55,3 +61,8 @@ are_small x es =
 -- a length that is small
 abbrev pub small_len : ℕ → Option ℕ
 small_len n = if nat_le n ELEMENTS_MAX then Some n else None
+
+-- the command that pins the entry of a slot, or that unpins it
+abbrev pub pin_command : Bool → ℕ → Command
+pin_command true slot = Pin slot
+pin_command false slot = Unpin slot

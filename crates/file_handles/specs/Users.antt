@@ -1,11 +1,13 @@
 -- The entries in use, by their names.
-use Rattle.std.specs.Prelude.{Bool, List, None, Option, Some, false, filter, length, not, true, ℕ, ◌&&◌, ◌≡◌}
+use Rattle.std.specs.Prelude.{Bool, List, None, Option, Some, false, filter, length, map, not, true, ℕ, ◌&&◌, ◌≡◌}
 use Rattle.std.specs.Str.{bytes_eq}
 use Rattle.cache_base.specs.declared.name.Name.{Name}
+use Rattle.cache_theory.specs.Covers.{covered_open, covers}
 use Rattle.cache_theory.specs.Machine.{Machine, open_names, writing_names}
 use Rattle.cache_theory.specs.Proper.{IsProper}
+use Rattle.cache_theory.specs.Table.{name_of}
 use Rattle.file_handles.specs.Seats.{is_use_of}
-use Rattle.file_handles.specs.Held.{is_draft}
+use Rattle.file_handles.specs.Held.{header_in, is_draft, key_in}
 use Rattle.file_handles.specs.Kept.{Kept}
 use Rattle.file_handles.specs.Loading.{user_place}
 use Rattle.file_handles.specs.Stands.{HandlesStand}
@@ -33,10 +35,17 @@ abbrev pub AreWritingNames : Kept → List Name → Type 0
 AreWritingNames k names =
     (m : Machine) (number : ℕ → ℕ) → IsProper m → HandlesStand k m number → names ≡ writing_names m
 
+-- and those of the origin with this hash that are not pinned there
+abbrev pub AreCoveredNames : Kept → ℕ → List Name → Type 0
+AreCoveredNames k origin names =
+    (m : Machine) (number : ℕ → ℕ) → IsProper m → HandlesStand k m number
+    → names ≡ map name_of (covered_open m origin)
+
 -- whether such entries are asked for
 abbrev pub asks : Asked → Entry → Bool
 asks asked.All e = true
 asks asked.Drafts e = is_draft e
+asks (asked.Of origin) e = covers origin (key_in e) (header_in e)
 
 -- an undoomed object that is asked for
 abbrev pub counts : Asked → Object → Bool

@@ -1,10 +1,11 @@
-//! Changes what is held of an entry: its elements, or its counts by one more use.
+//! Changes what is held of an entry: its elements, its counts by one more use, or whether it is pinned.
 
-ghost use Rattle.std.specs.Prelude.{◌≡◌, ◌<◌, ◌≤◌, IfOk, IfSome, IsSomeAnd, IsTrue, length, true, ◌≢◌, Err};
+ghost use Rattle.std.specs.Prelude.{◌*◌, ◌+◌, ◌/◌, ◌≡◌, ◌<◌, ◌≤◌, IfOk, IfSome, IsSomeAnd, IsTrue, length, true, ◌≢◌, Err};
 ghost use Rattle.cache_base.specs.declared.limits.TheConstants.{ELEMENTS_MAX, SLOTS};
 ghost use Rattle.disk_model.specs.Account.{Accounts, FailsInChange};
 ghost use Rattle.entry_parts.specs.Elements.{elements_bytes};
 ghost use Rattle.entry_parts.specs.declared.fault.PartsFault;
+ghost use Rattle.index_record.specs.Filling.{bit_if};
 ghost use Rattle.file_handles.specs.Answers.{OnRefused, ending};
 ghost use Rattle.file_handles.specs.Effects.{IsLearntOf, IsPlainEffect};
 ghost use Rattle.file_handles.specs.Held.{elements_in, is_draft};
@@ -21,12 +22,21 @@ use entry_parts::{Elements, Header, PartsFault};
 use frecency::next as next_frecency;
 use std::alloc::Global;
 
-/// A change of an entry: of its elements, or one more use at a moment.
+/// A change of an entry: of its elements, one more use at a moment, or that it is pinned from now on or no longer.
 #[derive(Clone, Copy)]
 pub(crate) enum Change<'a> {
     Set { name: &'a [u8], value: &'a [u8] },
     Remove { name: &'a [u8] },
     Use { now: Moment },
+    Pin { pinned: bool },
+}
+
+// The flags with the pinned bit, which is bit 0, set or not.
+fn pinned_flags(flags: u32, pinned: bool) -> u32
+    ensures { result ≡ flags / 2 * 2 + bit_if pinned 0 }
+{
+    let others = flags / 2 * 2;
+    if pinned { others + 1 } else { others }
 }
 
 // The header after the change.
@@ -37,6 +47,10 @@ fn changed_header(header: Header, change: Change<'_>) -> Header
 {
     match change {
         Change::Use { now } => header.used(now, next_frecency(header.frecency, now)),
+        Change::Pin { pinned } => Header {
+            flags: pinned_flags(header.flags, pinned),
+            ..header
+        },
         Change::Set { .. } => header,
         Change::Remove { .. } => header,
     }
@@ -65,6 +79,7 @@ pub(crate) fn changed_elements(elements: Elements, change: Change<'_>) -> Result
             elements.remove(name);
         }
         Change::Use { .. } => {}
+        Change::Pin { .. } => {}
     }
     Ok(elements)
 }

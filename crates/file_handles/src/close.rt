@@ -16,6 +16,7 @@ ghost use Rattle.file_handles.specs.Seats.{is_use_of};
 ghost use Rattle.file_handles.specs.Unsynced.{SyncsNothing};
 ghost use Rattle.index_theory.specs.Leaves.{LeavesIndex};
 
+use crate::handles::take_at;
 use crate::object::{Entry, Object, Use};
 use crate::{Effect, HandleFault, Handles};
 use cache_base::SLOTS;
@@ -39,15 +40,6 @@ fn is_used(slots: &[Option<Use>; SLOTS], place: usize) -> bool
     ensures length { length slots.now ≡ SLOTS }
 {
     slots.iter().any(|used| uses(used, place))
-}
-
-// Takes what is at a place out of the table.
-fn take_at(objects: &mut [Option<Object>; SLOTS], place: usize) -> Option<Object>
-    requires { place < SLOTS }
-    ensures found { result ≡ unwrap_or (slice_get objects.old place) None }
-    ensures taken { objects.new ≡ slice_set objects.old place None }
-{
-    objects[place].take()
 }
 
 // Removes the file of an object that no slot uses any more, if it stands aside.

@@ -145,6 +145,7 @@ impl Handles {
         requires free { use_at (kept self.now) slot ≡ None }
         ensures least { IsLeastFree (numbers_in (kept self.now).objects) result }
         ensures few { length (numbers_in (kept self.now).objects) < SLOTS }
+        ensures low { result < SLOTS }
     {
         self.has_rows();
         let aside = doomed_numbers(&self.table.objects);

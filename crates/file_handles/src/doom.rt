@@ -3,14 +3,16 @@
 ghost use Rattle.std.specs.Prelude.{◌≡◌, ◌≢◌, ◌<◌, ◌≤◌, Err, false, IfOk, IsSome, IsTrue, None, Ok, OnOk, Some, is_some, length, take};
 ghost use Rattle.cache_base.specs.declared.limits.TheConstants.{SLOTS};
 ghost use Rattle.cache_theory.specs.Command.Command.{Doom};
-ghost use Rattle.disk_model.specs.Account.{Accounts, FailsInChange, Looks, ending as disk_ending};
+ghost use Rattle.cache_theory.specs.Machine.{Machine};
+ghost use Rattle.disk_model.specs.Account.{Accounts, FailsInChange, Looks, LooksAtNoEntry, ending as disk_ending};
 ghost use Rattle.disk_model.specs.Told.{Told};
 ghost use Rattle.entry_name.specs.EntryName.{file_name};
 ghost use Rattle.file_handles.specs.Answers.{OnRead, OnRefused, done_or, ending};
-ghost use Rattle.disk_model.specs.State.{standing};
-ghost use Rattle.disk_model.specs.declared.place.Place.TheVariants.{Entry as EntryAt};
-ghost use Rattle.file_handles.specs.Dooming.{SetsAside, TakesFirstFree, numbers_in};
+ghost use Rattle.disk_model.specs.State.{State, standing};
+ghost use Rattle.disk_model.specs.declared.place.Place.TheVariants.{Doomed as DoomedAt, Entry as EntryAt};
+ghost use Rattle.file_handles.specs.Dooming.{LeavesMark, SetsAside, TakesFirstFree, numbers_in};
 ghost use Rattle.file_handles.specs.Effects.{HasEffect, IsPlainEffect};
+ghost use Rattle.file_handles.specs.Seats.{IsLow};
 ghost use Rattle.file_handles.specs.Unsynced.{SyncsNothing};
 ghost use Rattle.index_theory.specs.Leaves.{LeavesIndex};
 
@@ -61,6 +63,8 @@ fn set_aside<D: Disk>(
     requires told { IsTrue D.tells → aside ≡ None →
         IsSome (standing (D.state disk.old) (EntryAt name.now)) }
     ensures moves { Told D.Disk (SetsAside name.now aside in_use.now result) disk.old disk.new }
+    ensures low { IsLow aside → IfOk result (λ number. number < SLOTS) }
+    ensures no_entry { LooksAtNoEntry D.Disk disk.old disk.new }
     ensures account { Accounts D.Disk (disk_ending result) disk.old disk.new }
     ensures change { FailsInChange D.Disk (disk_ending result) disk.new }
 {
@@ -71,14 +75,15 @@ fn set_aside<D: Disk>(
 }
 
 impl Handles {
-    ghost use Rattle.file_handles.specs.Cache.{cache};
+    ghost use Rattle.file_handles.specs.Cache.{cache, cache_at};
     ghost use Rattle.file_handles.specs.Carries.{CarriesOut};
     ghost use Rattle.file_handles.specs.Dooming.{DoomsUnder, EndsOn};
     ghost use Rattle.file_handles.specs.HeldChunks.{SameChunks};
     ghost use Rattle.file_handles.specs.Kept.{kept};
     ghost use Rattle.file_handles.specs.Failing.{LeavesAll};
     ghost use Rattle.file_handles.specs.Loading.{user_place};
-    ghost use Rattle.file_handles.specs.Stands.{RepresentsSome};
+    ghost use Rattle.file_handles.specs.Stands.{Represents, RepresentsSome};
+    ghost use Rattle.file_handles.specs.Users.{users_of};
 
     // Dooms the undoomed object in use of a name, which is at this place. Its file moves among the doomed, where it does
     // not stand there.
@@ -94,12 +99,14 @@ impl Handles {
         ensures dooms { let at = cache D.Disk in IsTrue D.tells →
             DoomsUnder name.now.0 result (at self.old disk.old) (at self.new disk.new) }
         ensures numbered { Told D.Disk TakesFirstFree disk.old disk.new }
+        ensures mark { Told D.Disk LeavesMark disk.old disk.new }
         ensures slots { (kept self.new).slots ≡ (kept self.old).slots }
         ensures chunks { SameChunks (kept self.old) (kept self.new) }
         ensures refused { OnRefused result (λ _. ⊥) }
         ensures no_read { result ≢ Err HandleFault.Read }
         ensures unsynced { Told D.Disk SyncsNothing disk.old disk.new }
         ensures index { Told D.Disk LeavesIndex disk.old disk.new }
+        ensures no_entry { LooksAtNoEntry D.Disk disk.old disk.new }
         ensures account { Accounts D.Disk (ending result) disk.old disk.new }
         ensures change { FailsInChange D.Disk (ending result) disk.new }
     {
@@ -129,6 +136,7 @@ impl Handles {
             IsTrue D.tells → user_place (kept self.old) name.now ≢ None →
             DoomsUnder name.now.0 result (at self.old disk.old) (at self.new disk.new) }
         ensures numbered { Told D.Disk TakesFirstFree disk.old disk.new }
+        ensures mark { Told D.Disk LeavesMark disk.old disk.new }
         ensures none { user_place (kept self.old) name.now ≡ None → (result ≡ Ok false)
             × ((disk.new ≡ disk.old) × (kept self.new ≡ kept self.old)) }
         ensures some { IfOk result (λ doomed.
@@ -139,6 +147,7 @@ impl Handles {
         ensures no_read { result ≢ Err HandleFault.Read }
         ensures unsynced { Told D.Disk SyncsNothing disk.old disk.new }
         ensures index { Told D.Disk LeavesIndex disk.old disk.new }
+        ensures no_entry { LooksAtNoEntry D.Disk disk.old disk.new }
         ensures account { Accounts D.Disk (ending result) disk.old disk.new }
         ensures change { FailsInChange D.Disk (ending result) disk.new }
     {
@@ -149,6 +158,39 @@ impl Handles {
             }
             None => Ok(false),
         }
+    }
+
+    /// No file of an entry in use stands aside under the number 64.
+    pub fn leaves_number_free(&self)
+        ensures { (s : State) (m : Machine) → Represents (cache_at (kept self.now) s) m →
+            standing s (DoomedAt 64) ≡ None }
+    {}
+
+    /// Dooms what stands under a name. Its file moves among the doomed where a slot has it, and otherwise is removed.
+    pub fn doom_name<D: Disk>(&mut self, disk: &mut D, name: &Name) -> Result<Effect, HandleFault>
+        requires told { IsTrue D.tells → RepresentsSome (cache D.Disk self.old disk.old)
+            × (users_of (kept self.old) name.now ≡ 0 →
+            IsSome (standing (D.state disk.old) (EntryAt name.now))) }
+        ensures dooms { let at = cache D.Disk in IsTrue D.tells →
+            DoomsUnder name.now.0 result (at self.old disk.old) (at self.new disk.new) }
+        ensures effect { IfOk result (λ e. e ≡ Effect.Gone name.now) }
+        ensures numbered { Told D.Disk TakesFirstFree disk.old disk.new }
+        ensures mark { Told D.Disk LeavesMark disk.old disk.new }
+        ensures slots { (kept self.new).slots ≡ (kept self.old).slots }
+        ensures chunks { SameChunks (kept self.old) (kept self.new) }
+        ensures refused { OnRefused result (λ _. ⊥) }
+        ensures no_read { result ≢ Err HandleFault.Read }
+        ensures unsynced { Told D.Disk SyncsNothing disk.old disk.new }
+        ensures index { Told D.Disk LeavesIndex disk.old disk.new }
+        ensures no_entry { LooksAtNoEntry D.Disk disk.old disk.new }
+        ensures account { Accounts D.Disk (ending result) disk.old disk.new }
+        ensures change { FailsInChange D.Disk (ending result) disk.new }
+    {
+        if self.doom_user(disk, name)? {
+            return Ok(Effect::Gone(*name));
+        }
+        disk.remove(&Place::Entry(*name))?;
+        Ok(Effect::Gone(*name))
     }
 
     // The name of a key, if an entry of it is in use or its file stands.
@@ -200,9 +242,6 @@ impl Handles {
         ensures account { Accounts D.Disk (ending result) disk.old disk.new }
     {
         let name = self.may_doom(alloc, disk, key)?;
-        if !self.doom_user(disk, &name)? {
-            disk.remove(&Place::Entry(name))?;
-        }
-        Ok(Effect::Gone(name))
+        self.doom_name(disk, &name)
     }
 }

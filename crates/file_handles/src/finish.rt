@@ -11,6 +11,7 @@ ghost use Rattle.file_handles.specs.Answers.{OnRefused, done_or, ending};
 ghost use Rattle.file_handles.specs.Effects.{HasEffect, IsLearntOf, IsPlainEffect, file_len as file_len_of, learnt_of_held};
 ghost use Rattle.file_handles.specs.Held.{is_draft, place_of};
 ghost use Rattle.file_handles.specs.Publishing.{MayPublish};
+ghost use Rattle.file_handles.specs.Seats.{IsLow};
 ghost use Rattle.index_theory.specs.Leaves.{LeavesIndex};
 
 use crate::object::{Draft, Entry, Object};
@@ -53,6 +54,7 @@ fn publish<D: Disk>(
 ) -> Result<Option<u32>, DiskFault>
     requires { IsTrue D.tells → IsSome (standing (D.state disk.old) (place_of name.now aside)) }
     ensures state { Told D.Disk (MayPublish name.now doomed aside result) disk.old disk.new }
+    ensures low { IsLow aside → IfOk result IsLow }
     ensures account { Accounts D.Disk (disk_ending result) disk.old disk.new }
     ensures change { FailsInChange D.Disk (disk_ending result) disk.new }
 {

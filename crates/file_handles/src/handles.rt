@@ -1,10 +1,10 @@
 //! The table of entries in use, and of the slots that use them.
 
-ghost use Rattle.std.specs.Prelude.{◌≡◌, ◌<◌, EachIndex, IfOk, IfSome, IsSome, None, Some, slice_index_or, true, length};
+ghost use Rattle.std.specs.Prelude.{◌≡◌, ◌<◌, EachIndex, IfOk, IfSome, IsSome, None, Some, slice_get, slice_index_or, slice_set, true, length, unwrap_or};
 ghost use Rattle.std.specs.List.{list_any, position};
 ghost use Rattle.cache_base.specs.declared.limits.TheConstants.{SLOTS};
 ghost use Rattle.file_handles.specs.Finding.{is_free, is_user};
-ghost use Rattle.file_handles.specs.Seats.{AreUsed, is_use_of};
+ghost use Rattle.file_handles.specs.Seats.{AreLow, AreUsed, IsLow, is_use_of};
 
 use crate::object::{Entry, Object, Use};
 use cache_base::{Buffer, Bytes, Name, NoMemory, SLOTS};
@@ -18,6 +18,7 @@ pub(crate) struct Table {
     pub(crate) objects: [Option<Object>; SLOTS],
     pub(crate) slots: [Option<Use>; SLOTS],
     pub(crate) ghost are_used: { AreUsed objects slots },
+    pub(crate) ghost are_low: { AreLow objects },
 }
 
 /// The entries in use. After a call that changes them has answered `Disk` or `Memory` they may only be dropped.
@@ -118,9 +119,10 @@ impl Handles {
         ensures found { object_kept_at (kept self.old) place ≡ Some result }
         ensures kept { kept self.new ≡ with_object (kept self.old) place None }
         ensures used { list_any (is_use_of place) (kept self.new).slots ≡ true }
+        ensures low { IsLow result.aside }
     {
         let table = &mut self.table;
-        match table.objects[place].take() {
+        match take_at(&mut table.objects, place) {
             Some(object) => object,
             None => unreachable!(),
         }
@@ -130,6 +132,7 @@ impl Handles {
     pub(crate) fn put(&mut self, place: usize, object: Object)
         requires place { place < SLOTS }
         requires used { list_any (is_use_of place) (kept self.old).slots ≡ true }
+        requires low { IsLow object.aside }
         ensures { kept self.new ≡ with_object (kept self.old) place (Some object) }
     {
         self.table.objects[place] = Some(object);
@@ -147,6 +150,7 @@ impl Handles {
     )
         requires place { place < SLOTS }
         requires used { list_any (is_use_of place) (kept self.old).slots ≡ true }
+        requires low { IsLow aside }
         ensures { kept self.new
             ≡ with_object (kept self.old) place (Some (object_with number name doomed aside entry)) }
     {
@@ -212,6 +216,15 @@ fn have_rows(objects: &[Option<Object>; SLOTS], slots: &[Option<Use>; SLOTS])
     ensures objects { length objects.now ≡ SLOTS }
     ensures slots { length slots.now ≡ SLOTS }
 {}
+
+/// Takes what is at a place out of the table.
+pub(crate) fn take_at(objects: &mut [Option<Object>; SLOTS], place: usize) -> Option<Object>
+    requires { place < SLOTS }
+    ensures found { result ≡ unwrap_or (slice_get objects.old place) None }
+    ensures taken { objects.new ≡ slice_set objects.old place None }
+{
+    objects[place].take()
+}
 
 // A table with no object.
 fn no_objects() -> [Option<Object>; SLOTS]

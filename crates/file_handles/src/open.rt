@@ -8,7 +8,7 @@ ghost use Rattle.cache_theory.specs.Machine.{Machine, used_by};
 ghost use Rattle.cache_theory.specs.Proper.{IsProper};
 ghost use Rattle.disk_model.specs.Account.{Looks};
 ghost use Rattle.file_handles.specs.Answers.{OnRead, done_or, ending};
-ghost use Rattle.file_handles.specs.Seats.{is_use_of};
+ghost use Rattle.file_handles.specs.Seats.{IsLow, is_use_of};
 
 use crate::find::load;
 use crate::object::{Entry, Object, Use};
@@ -45,6 +45,7 @@ impl Handles {
         requires slot { slot < SLOTS }
         requires free { use_at (kept self.old) slot ≡ None }
         requires numbered { object.number ≡ (kept self.old).made }
+        requires low { IsLow object.aside }
         ensures adds { AddsTo slot object writes result (kept self.old) (kept self.new) }
         ensures chunks { SameChunks (kept self.old) (kept self.new) }
     {

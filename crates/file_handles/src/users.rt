@@ -1,18 +1,25 @@
 //! How many slots use the entry of a name, and the names of the entries in use.
 
-ghost use Rattle.std.specs.Prelude.{◌≡◌, IfOk, false, filter, length};
+ghost use Rattle.std.specs.Prelude.{◌≡◌, IfOk, false, filter, length, true};
 ghost use Rattle.std.specs.BTreeSet.{contains};
 ghost use Rattle.std.specs.List.{list_any};
 ghost use Rattle.cache_base.specs.Names.{AreRising, name_cmp};
 ghost use Rattle.cache_base.specs.declared.name.Name.{Name as AName};
+ghost use Rattle.cache_theory.specs.Covers.{covers};
+ghost use Rattle.entry_key.specs.Tags.{origin_hash as origin_hash_of, tags_of};
+ghost use Rattle.entry_key.specs.Walk.{read_key, reads};
 ghost use Rattle.evictor.specs.Evict.{has_name};
+ghost use Rattle.file_handles.specs.Held.{header_in, key_in};
 ghost use Rattle.file_handles.specs.Seats.{is_use_of};
 ghost use Rattle.file_handles.specs.Users.{counts, is_counted};
+ghost use Rattle.index_record.specs.Record.{has_bit};
 
 use crate::Handles;
 use crate::close::uses;
 use crate::object::{Entry, Object, Use};
 use cache_base::{Name, Names, NoMemory};
+use entry_key::{origin_hash, parse};
+use entry_parts::Header;
 use std::alloc::Global;
 use std::collections::BTreeSet;
 
@@ -22,6 +29,8 @@ enum Asked {
     All,
     /// Those that are still being written.
     Drafts,
+    /// Those of the origin with this hash that are not pinned.
+    Of { origin: u64 },
 }
 
 // The number of slots that use a place.
@@ -31,6 +40,42 @@ fn count_uses(slots: &[Option<Use>], place: usize) -> usize
     slots.iter().filter(|used| uses(used, place)).count()
 }
 
+// The hash of a key's origin.
+fn origin_of(key: &[u8]) -> u64
+    requires { reads (read_key key.now) ≡ true }
+    ensures { result ≡ origin_hash_of (tags_of key.now) }
+{
+    match parse(key) {
+        Ok(tags) => origin_hash(&tags),
+        Err(_) => unreachable!(),
+    }
+}
+
+// Whether the header of an entry says that it is pinned.
+fn is_pinned(header: Header) -> bool
+    ensures { result ≡ has_bit 0 header.flags }
+{
+    header.flags % 2 == 1
+}
+
+// Whether an entry with this key and header is of the origin with this hash, and not pinned.
+fn is_covered(key: &[u8], header: Header, origin: u64) -> bool
+    requires { reads (read_key key.now) ≡ true }
+    ensures { result ≡ covers origin key.now header }
+{
+    origin_of(key) == origin && !is_pinned(header)
+}
+
+// The same of an entry in use.
+fn is_covered_entry(entry: &Entry, origin: u64) -> bool
+    ensures { result ≡ covers origin (key_in entry.now) (header_in entry.now) }
+{
+    match entry {
+        Entry::Draft(draft) => is_covered(draft.key.as_slice(), draft.header, origin),
+        Entry::Finished(meta) => is_covered(meta.key.as_slice(), meta.header, origin),
+    }
+}
+
 // Whether an object is undoomed and asked for.
 fn is_asked(asked: Asked, object: &Object) -> bool
     ensures { result ≡ counts asked object.now }
@@ -38,6 +83,7 @@ fn is_asked(asked: Asked, object: &Object) -> bool
     match asked {
         Asked::All => !object.doomed,
         Asked::Drafts => matches!(object.entry, Entry::Draft(_)) && !object.doomed,
+        Asked::Of { origin } => is_covered_entry(&object.entry, origin) && !object.doomed,
     }
 }
 
@@ -64,8 +110,8 @@ fn name_set(
     Ok(names)
 }
 
-// The names of a set, in their order.
-fn listed(alloc: Global, mut set: BTreeSet<Name>) -> Result<Names, NoMemory>
+/// The names of a set, in their order.
+pub fn listed(alloc: Global, mut set: BTreeSet<Name>) -> Result<Names, NoMemory>
     ensures names { IfOk result (λ names. names ≡ set.keys) }
     ensures rising { IfOk result AreRising }
 {
@@ -78,7 +124,7 @@ fn listed(alloc: Global, mut set: BTreeSet<Name>) -> Result<Names, NoMemory>
 
 impl Handles {
     ghost use Rattle.file_handles.specs.Kept.{kept};
-    ghost use Rattle.file_handles.specs.Users.{AreOpenNames, AreWritingNames, users_of};
+    ghost use Rattle.file_handles.specs.Users.{AreCoveredNames, AreOpenNames, AreWritingNames, users_of};
 
     /// The number of slots that use the undoomed entry of a name. It takes no memory.
     pub fn users(&self, name: &Name) -> usize
@@ -105,6 +151,15 @@ impl Handles {
         ensures { IfOk result (AreWritingNames (kept self.now)) }
     {
         let set = name_set(alloc, &self.table.objects, Asked::Drafts)?;
+        listed(alloc, set)
+    }
+
+    /// The names of undoomed entries in use that are of the origin with this hash and not pinned, in name order.
+    pub fn open_of(&self, alloc: Global, origin: u64) -> Result<Names, NoMemory>
+        ensures names { IfOk result (AreCoveredNames (kept self.now) origin) }
+        ensures rising { IfOk result AreRising }
+    {
+        let set = name_set(alloc, &self.table.objects, Asked::Of { origin })?;
         listed(alloc, set)
     }
 }

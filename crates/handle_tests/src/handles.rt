@@ -5,6 +5,7 @@ ghost use Rattle.std.specs.Prelude.{◌<◌};
 mod chunks;
 mod doomed;
 mod elements;
+mod pins;
 mod refusals;
 mod sessions;
 mod slots;
@@ -15,7 +16,7 @@ use disk_model::DiskFault;
 use entry_metadata::Meta;
 use entry_name::name_of;
 use file_handles::{Effect, HandleFault, Handles, Refusal};
-use index_record::{INITIALIZED, IndexRecord, NO_TIME};
+use index_record::{INITIALIZED, IndexRecord, NO_TIME, PINNED};
 use real_disk::RealDisk;
 use std::test::Fail;
 use std::{fs, mem};
@@ -47,15 +48,21 @@ enum Call<'a> {
     // So many bytes from this place on.
     Read(u8, u64, u64),
     Use(u8, Moment),
+    Pin(u8),
+    Unpin(u8),
     Close(u8),
     // All handles are closed, and others go on over the same folder.
     CloseAll,
     Doom(&'a [u8]),
+    // What stands under the name of the key.
+    DoomName(&'a [u8]),
     Find(&'a [u8]),
     // Where no slot uses the entry.
     Evict(&'a [u8]),
     Users(&'a [u8]),
     OpenNames,
+    // Those that a clearing of the origin with this hash takes.
+    OpenOf(u64),
     WritingNames,
     FileLen(&'a str),
     ChangeFirstByte(&'a str),
@@ -71,6 +78,8 @@ enum Answer<'a> {
     Gone(&'a [u8]),
     // The record of the key X: its moment, content type and size.
     Wrote(Moment, u8, u32),
+    // The same of an entry that is pinned.
+    WrotePinned(Moment, u8, u32),
     // The same of this key.
     WroteUnder(&'a [u8], Moment, u8, u32),
     // Fetch count, last modified, frecency, and the length of the body.
@@ -84,7 +93,7 @@ enum Answer<'a> {
 
 type Row<'a> = (Call<'a>, Answer<'a>);
 
-// The record of an entry whose key has no origin, and so the hash of none.
+// The record of an entry whose key has no origin, and so the hash of none. The size has the flags beside it.
 fn wrote(key: &[u8], frecency: Moment, content: u8, size_kb: u32) -> Option<Effect> {
     Some(Effect::Wrote(IndexRecord {
         name: name_of(key),
@@ -103,6 +112,9 @@ fn effect_of(answer: &Answer<'_>) -> Option<Effect> {
         Answer::Same => Some(Effect::Same),
         Answer::Gone(key) => Some(Effect::Gone(name_of(key))),
         Answer::Wrote(frecency, content, size_kb) => wrote(X, frecency, content, size_kb),
+        Answer::WrotePinned(frecency, content, size_kb) => {
+            wrote(X, frecency, content, PINNED | size_kb)
+        }
         Answer::WroteUnder(key, frecency, content, size_kb) => {
             wrote(key, frecency, content, size_kb)
         }
@@ -276,6 +288,8 @@ fn slot_answers(
         }
         Call::Unset(_, name) => unsets(handles.unset_element(alloc, disk, slot, name), wanted),
         Call::Use(_, now) => learns(handles.use_entry(alloc, disk, slot, now), wanted),
+        Call::Pin(_) => learns(handles.pin(alloc, disk, slot), wanted),
+        Call::Unpin(_) => learns(handles.unpin(alloc, disk, slot), wanted),
         Call::Close(_) => learns(handles.close(alloc, disk, slot), wanted),
         Call::Read(_, from, len) => is_read(rt, handles, disk, slot, from, len, wanted),
         _ => false,
@@ -312,6 +326,8 @@ fn slot_of(call: &Call<'_>) -> Option<u8> {
         | Call::BodyLen(slot)
         | Call::Read(slot, _, _)
         | Call::Use(slot, _)
+        | Call::Pin(slot)
+        | Call::Unpin(slot)
         | Call::Close(slot) => Some(slot),
         _ => None,
     }
@@ -360,12 +376,14 @@ fn answers(
         Call::CreateAll => is_done(create_all(rt, handles, disk), wanted),
         Call::CloseAll => are_closed(rt, handles, disk),
         Call::Doom(key) => learns(handles.doom(alloc, disk, key), wanted),
+        Call::DoomName(key) => learns(handles.doom_name(disk, &name_of(key)), wanted),
         Call::Find(key) => is_found(rt, handles, disk, key, wanted),
         Call::Evict(key) => {
             evict_unused(handles, disk, &name_of(key)).is_ok() == matches!(*wanted, Answer::Done)
         }
         Call::Users(key) => is_number(handles.users(&name_of(key)) as u64, wanted),
         Call::OpenNames => are_names(handles.open_names(alloc), wanted),
+        Call::OpenOf(origin) => are_names(handles.open_of(alloc, origin), wanted),
         Call::WritingNames => are_names(handles.writing_names(alloc), wanted),
         _ => folder_answers(rt, call, wanted),
     }

@@ -129,6 +129,24 @@ fn lines_of_alternative_data_are_commands(rt: HostRuntime) -> Result<(), Fail> {
 }
 
 #[test]
+fn lines_of_pins_and_clearings_are_commands(rt: HostRuntime) -> Result<(), Fail> {
+    let scripts: [&[u8]; 10] = [
+        b"pin 0\n",
+        b"pin 63\n",
+        b"unpin 0\n",
+        b"unpin 63\n",
+        b"clear https://a.example\n",
+        b"clear \n",
+        b"clear  \n",
+        b"clear a,,b ,\n",
+        b"clear \x80\xFF\n",
+        b"clear clear\n",
+    ];
+    all_count(&rt, rt.alloc(), &scripts, Ok(1))?;
+    Ok(())
+}
+
+#[test]
 fn other_lines_are_bad(rt: HostRuntime) -> Result<(), Fail> {
     let scripts: [&[u8]; 27] = [
         b"\n",
@@ -203,6 +221,30 @@ fn other_lines_of_alternative_data_are_bad(rt: HostRuntime) -> Result<(), Fail> 
         b"Getalt :x\n",
         b"main\n",
         b"maine :x\n",
+    ];
+    all_count(&rt, rt.alloc(), &scripts, Err(ScriptFault::Script(1)))?;
+    Ok(())
+}
+
+#[test]
+fn other_lines_of_pins_and_clearings_are_bad(rt: HostRuntime) -> Result<(), Fail> {
+    let scripts: [&[u8]; 16] = [
+        b"pin\n",
+        b"pin \n",
+        b"pin 64\n",
+        b"pin 00\n",
+        b"pin x\n",
+        b"pin 0 0\n",
+        b"pin  0\n",
+        b"unpin\n",
+        b"unpin \n",
+        b"unpin 3 \n",
+        b"unpin 64\n",
+        b"un pin 0\n",
+        b"clear\n",
+        b"clear",
+        b"Clear x\n",
+        b"cleared x\n",
     ];
     all_count(&rt, rt.alloc(), &scripts, Err(ScriptFault::Script(1)))?;
     Ok(())
@@ -368,9 +410,11 @@ fn all_end(
 
 #[test]
 fn no_more_is_read_at_a_bad_command(rt: HostRuntime) -> Result<(), Fail> {
-    let scripts: [&[u8]; 8] = [
+    let scripts: [&[u8]; 10] = [
         b"\n",
         b"fly\n",
+        b"pin 64\n",
+        b"clear\n",
         b"append 0 1048577\n",
         b"append 0 0\nx",
         b"append 0 1\nab",
@@ -388,12 +432,13 @@ fn no_more_is_read_at_a_bad_command(rt: HostRuntime) -> Result<(), Fail> {
 
 #[test]
 fn more_is_read_at_a_command_that_is_begun(rt: HostRuntime) -> Result<(), Fail> {
-    let scripts: [&[u8]; 6] = [
+    let scripts: [&[u8]; 7] = [
         b"fly",
         b"append 0 1\n",
         b"append 0 1\na",
         b"putalt 0 4194304 n\n",
         b"getalt a key",
+        b"clear an origin",
         b"at 5\n",
     ];
     all_end(&rt, rt.alloc(), &scripts, ScriptFault::Source)?;
@@ -577,6 +622,33 @@ fn commands_of_alternative_data_have_their_fields(rt: HostRuntime) -> Result<(),
     let script = b"putalt 63 2 js byte code \na\n\nputalt 0 0 \n\ngetalt a key\nmain :x \n";
     let given = commands_of(rt.alloc(), script, FIELDS_OF_ALTERNATIVE_DATA)?;
     assert!(rt; given == FIELDS_OF_ALTERNATIVE_DATA.len());
+    Ok(())
+}
+
+const FIELDS_OF_PINS_AND_CLEARINGS: &[Option<Command<'static>>] = &[
+    Some(Command::Pin { slot: 0 }),
+    Some(Command::Pin { slot: 63 }),
+    Some(Command::Unpin { slot: 7 }),
+    Some(Command::Clear {
+        origin: b"https://a.example",
+    }),
+    Some(Command::Clear { origin: b"" }),
+    Some(Command::Clear {
+        origin: b" a,,b , ",
+    }),
+    Some(Command::Clear {
+        origin: b"\x80\xC3\xBC\xFF",
+    }),
+    Some(Command::Flush),
+    None,
+];
+
+#[test]
+fn commands_of_pins_and_clearings_have_their_fields(rt: HostRuntime) -> Result<(), Fail> {
+    let script = b"pin 0\npin 63\nunpin 7\nclear https://a.example\nclear \nclear  a,,b , \n\
+        clear \x80\xC3\xBC\xFF\nflush\n";
+    let given = commands_of(rt.alloc(), script, FIELDS_OF_PINS_AND_CLEARINGS)?;
+    assert!(rt; given == FIELDS_OF_PINS_AND_CLEARINGS.len());
     Ok(())
 }
 

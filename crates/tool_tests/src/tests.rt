@@ -6,6 +6,7 @@ ghost use Rattle.disk_model.specs.Sound.{IsQuiet};
 
 mod alt;
 mod chunks;
+mod clear;
 mod crash;
 mod evict;
 mod fault;

@@ -2,7 +2,12 @@ use super::*;
 use std::test::Fail;
 
 // Whether a `get` or a `list` prints this.
-fn prints(alloc: Global, disk: &mut MemDisk, line: &str, text: &[u8]) -> Result<bool, Fail> {
+pub(super) fn prints(
+    alloc: Global,
+    disk: &mut MemDisk,
+    line: &str,
+    text: &[u8],
+) -> Result<bool, Fail> {
     let (_, printed) = ends(alloc, disk, line, b"")?;
     Ok(printed.as_slice() == text)
 }
@@ -80,7 +85,7 @@ fn disk_of(alloc: Global, file: Option<&[u8]>) -> Result<MemDisk, Fail> {
 }
 
 // What was printed before the lines that tell of failed looks at a disk that has stopped.
-fn before_faults(text: &[u8]) -> &[u8] {
+pub(super) fn before_faults(text: &[u8]) -> &[u8] {
     let mut front = text;
     for _ in 0..10 {
         match front.strip_suffix(b"fault\n") {
@@ -429,7 +434,7 @@ fn lists_anew(alloc: Global, disk: &mut MemDisk, text: &[u8]) -> Result<bool, Fa
 }
 
 // Whether it prints the same before and after that.
-fn lists_what_stands(alloc: Global, disk: &mut MemDisk) -> Result<bool, Fail> {
+pub(super) fn lists_what_stands(alloc: Global, disk: &mut MemDisk) -> Result<bool, Fail> {
     let (_, before) = ends(alloc, disk, "1002 list", b"")?;
     lists_anew(alloc, disk, before.as_slice())
 }

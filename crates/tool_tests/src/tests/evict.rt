@@ -19,7 +19,7 @@ const B: &[u8] = b"evicted 1\nB93CCEFA28585E0321E57BD439D521347671FFF9\n";
 const NONE: &[u8] = b"evicted 0\n";
 
 // The entry of the key `:x`, pinned.
-const PINNED: &[u8] =
+pub(super) const PINNED: &[u8] =
     b"\xe4\xa04|\0\0\0\x03\0\0\0\x01\0\0\x03\xe8\0\0\x03\xe8\0\0\x03\xe8\xff\xff\xff\xff\
     \0\0\0\x02\0\0\0\x01:x\0\0\0\0\0";
 

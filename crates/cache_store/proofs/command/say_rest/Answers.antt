@@ -58,6 +58,18 @@ returns-in_ok-line-in-Rebuilt-clause-cut g c =
     answer_cut c.say_ok-in-Rebuilt.result s0 out c.in-Rebuilt.is
     (subst (λ (t : List ℕ). OnErr c.say_ok-in-Rebuilt.result (CutsIn s0 out t)) (c.as_slice-in-Rebuilt.ensures ∙ c.in_ok-line-in-Rebuilt.ensures) c.say_ok-in-Rebuilt.ensures.cut)
 
+pub returns-in_err-line-in-Cleared-clause-cut : goal.returns-in_err-line-in-Cleared-clause-cut
+returns-in_err-line-in-Cleared-clause-cut g c =
+    let s0 = saying g.K.Sink c.args.reply.now c.args.sink.now in
+    answer_cut c.from_residual-in_err-line-in-Cleared.result s0 s0.taken c.in-Cleared.is (when_err c.from_residual-in_err-line-in-Cleared.result _ (cuts_line s0 (spaced (codes "cleared" ∷ decimal c.in-Cleared.names ∷ []))))
+
+pub returns-in_ok-line-in-Cleared-clause-cut : goal.returns-in_ok-line-in-Cleared-clause-cut
+returns-in_ok-line-in-Cleared-clause-cut g c =
+    let s0 = saying g.K.Sink c.args.reply.now c.args.sink.now in
+    let out = g.K.Sink.taken c.say_ok-in-Cleared.new.sink in
+    answer_cut c.say_ok-in-Cleared.result s0 out c.in-Cleared.is
+    (subst (λ (t : List ℕ). OnErr c.say_ok-in-Cleared.result (CutsIn s0 out t)) (c.as_slice-in-Cleared.ensures ∙ c.in_ok-line-in-Cleared.ensures) c.say_ok-in-Cleared.ensures.cut)
+
 pub returns-in-Checked-clause-cut : goal.returns-in-Checked-clause-cut
 returns-in-Checked-clause-cut g c =
     let s0 = saying g.K.Sink c.args.reply.now c.args.sink.now in

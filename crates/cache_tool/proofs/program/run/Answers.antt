@@ -1,11 +1,14 @@
--- Where nothing fails, a script that the source spells is performed.
-use Rattle.std.proofs.Common.{◌≡◌, ◌∙◌, Some, ap, subst, sym}
+-- The words tell which part of the program answers them; and where nothing fails, a script that the source spells is performed.
+use Rattle.std.proofs.Common.{◌≡◌, ◌∙◌, IsTrue, Some, ap, subst, sym}
 use Rattle.std.specs.Option.{option_map}
 use Rattle.cache_tool.proofs.RunComplete.{nothing_failed, script_is_not_bad}
 use Rattle.cache_tool.proofs.program.run.Goals as goal
 use Rattle.cache_tool.specs.Asked.{asked}
 use Rattle.cache_tool.specs.Script.{IsScript}
-use Rattle.cache_tool.specs.Words.{Asked, WhenRun, asked_in}
+use Rattle.cache_tool.specs.Verbs.{AnswersCommand}
+use Rattle.cache_tool.specs.World.{output}
+use Rattle.cache_tool.specs.Words.{Asked, WhenOne, WhenRun, asked_in}
+use Rattle.cache_script.specs.Command.{command_of}
 
 pub returns-in-Some-Run-clause-complete : goal.returns-in-Some-Run-clause-complete
 returns-in-Some-Run-clause-complete g c = λ some script source sink disk.
@@ -14,3 +17,11 @@ returns-in-Some-Run-clause-complete g c = λ some script source sink disk.
     nothing_failed c.run_script.result c.run_script.ensures.others.0
     (λ is. script_is_not_bad (g.S.Source.left c.args.source.now) spelled (c.run_script.ensures.bad is))
     (λ is. source (c.run_script.ensures.source is)) (λ is. sink (c.run_script.ensures.sink is)) (λ is. disk (c.run_script.ensures.disk is))
+
+pub returns-in-Some-One-clause-answers : goal.returns-in-Some-One-clause-answers
+returns-in-Some-One-clause-answers g c =
+    let words : asked_in c.args.words.now ≡ Some (Asked.One c.in-Some-One.now (command_of c.in-Some-One.command)) =
+    sym c.read_words.ensures.asked ∙ ap (λ r. option_map asked r) (c.in-Some-One.is ∙ ap (λ a. Some a) c.in-Some-One.field-0-is) in
+    let before = output g.K.Sink g.D.Disk c.args.sink.now c.args.disk.now in
+    let after = output g.K.Sink g.D.Disk c.perform_one.new.sink c.perform_one.new.disk in
+    subst (λ asks. WhenOne asks (λ now d. IsTrue g.D.Disk.tells → AnswersCommand now d c.perform_one.result before after)) (sym words) c.perform_one.ensures.answers

@@ -1,4 +1,4 @@
-use Rattle.std.proofs.Common.{◌∙◌, refl, sym, ap}
+use Rattle.std.proofs.Common.{◌∙◌, sym, ap}
 use Rattle.std.specs.Prelude.{is_some}
 use Rattle.cache_store.proofs.HasEntry.{has_bad, has_no, has_unknown, has_yes}
 use Rattle.cache_store.proofs.memory_index.MemoryIndex.has.Goals as goal

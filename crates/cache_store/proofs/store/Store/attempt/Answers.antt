@@ -2,6 +2,7 @@ use Rattle.std.proofs.Common.{◌≡◌, [], ap, subst, sym}
 use Rattle.cache_script.specs.Command.{command_of}
 use Rattle.index_theory.proofs.UncleanLaws.{unclean_leaves_honest}
 use Rattle.cache_store.specs.Answering.{rest_of}
+use Rattle.cache_store.specs.Clearing.{LeavesUncleared}
 use Rattle.cache_store.specs.Evicting.{LeavesOthers}
 use Rattle.cache_store.specs.InMemory.{CutsPlainLine}
 use Rattle.cache_store.specs.IndexCalls.{IsFresh}
@@ -109,3 +110,11 @@ returns-in_err-answered-clause-evicts g c kb is had told =
 pub returns-clause-evicts : goal.returns-clause-evicts
 returns-clause-evicts g c kb is had told =
     subst (λ (o : Open). LeavesOthers (session g.D.Disk c.args.self.now c.args.disk.now) kb o.index.map) (sym c.finish_reply.ensures.open) (c.in_ok-answered.ensures.evicts kb is tt told)
+
+pub returns-in_err-answered-clause-clears : goal.returns-in_err-answered-clause-clears
+returns-in_err-answered-clause-clears g c origin is had told =
+    c.in_err-answered.ensures.clears origin is (had_handed c.from_residual.result c.in_err-answered.field-0.0 c.from_residual.ensures.1 had) told
+
+pub returns-clause-clears : goal.returns-clause-clears
+returns-clause-clears g c origin is had told =
+    subst (λ (o : Open). LeavesUncleared (session g.D.Disk c.args.self.now c.args.disk.now) origin o.index.map) (sym c.finish_reply.ensures.open) (c.in_ok-answered.ensures.clears origin is tt told)

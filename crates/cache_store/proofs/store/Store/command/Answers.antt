@@ -29,3 +29,9 @@ returns-in-Ok-clause-evicts g c kb calm is had told = c.in-Ok.ensures.evicts kb 
 
 pub returns-in-Err-clause-evicts : goal.returns-in-Err-clause-evicts
 returns-in-Err-clause-evicts g c kb calm is had told = c.in-Err.ensures.evicts kb is had told
+
+pub returns-in-Ok-clause-clears : goal.returns-in-Ok-clause-clears
+returns-in-Ok-clause-clears g c origin calm is had told = c.in-Ok.ensures.clears origin is tt told
+
+pub returns-in-Err-clause-clears : goal.returns-in-Err-clause-clears
+returns-in-Err-clause-clears g c origin calm is had told = c.in-Err.ensures.clears origin is had told

@@ -1,10 +1,11 @@
-use Rattle.std.proofs.Common.{◌≡◌, ℕ, IfOk, IsTrue, true, refl, sym, ap, subst, ◌∙◌}
+use Rattle.std.proofs.Common.{◌≡◌, ℕ, List, IfOk, IsTrue, true, refl, sym, ap, subst, ◌∙◌}
 use Rattle.cache_store.specs.Faulting.{has_failed_look}
 use Rattle.cache_store.proofs.Stays.{err_failed_look, on_failed_look, parts_stay}
 use Rattle.cache_script.specs.Command.{command_of}
-use Rattle.cache_theory.specs.Command.Command.{At, Append, Close, Create, Doom, ElementOf, Evict, Finish, Flush, Get, GetAlt, HasEntry, ListRecords, MainBody, OpenKey, PutAlt, ReadPart, Rebuild, SetElement, StepUpdate, UnsetElement, UpdateState, UseEntry, Verify}
+use Rattle.cache_theory.specs.Command.Command.{At, Append, ClearOrigin, Close, Create, Doom, ElementOf, Evict, Finish, Flush, Get, GetAlt, HasEntry, ListRecords, MainBody, OpenKey, Pin, PutAlt, ReadPart, Rebuild, SetElement, StepUpdate, Unpin, UnsetElement, UpdateState, UseEntry, Verify}
 use Rattle.cache_theory.specs.Given.{IsGiven}
 use Rattle.cache_store.specs.Answering.{outcome_in}
+use Rattle.cache_store.specs.Clearing.{LeavesUncleared}
 use Rattle.cache_store.specs.Evicting.{LeavesOthers}
 use Rattle.cache_store.specs.Reads.{AreHeld, LastIsFirst}
 use Rattle.cache_store.specs.Said.{saying}
@@ -12,8 +13,9 @@ use Rattle.cache_store.specs.Session.{open_of, session}
 use Rattle.cache_store.specs.declared.fault.Verdict.TheVariants as outcome
 use Rattle.file_handles.proofs.ReadKept.{read_keeps}
 use Rattle.file_handles.specs.Kept.{kept}
+use Rattle.cache_store.proofs.ClearDoes.{origin_of}
 use Rattle.cache_store.proofs.EvictDoes.{kb_of}
-use Rattle.cache_store.proofs.LearntAchieves.{append_achieves, close_achieves, create_achieves, doom_achieves, finish_achieves, open_achieves, put_achieves, set_achieves, unset_achieves, use_achieves}
+use Rattle.cache_store.proofs.LearntAchieves.{append_achieves, close_achieves, create_achieves, doom_achieves, finish_achieves, open_achieves, pin_achieves, put_achieves, set_achieves, unpin_achieves, unset_achieves, use_achieves}
 use Rattle.cache_store.proofs.PerformDoes.{as_command, at_does, by_name, done_unsaid, has_does, reading_does, reading_does_with, state_does, unsaid_does, unsaid_done}
 use Rattle.cache_store.proofs.TakenMore.{open_takes}
 use Rattle.file_handles.proofs.IndexLeft.{same_left}
@@ -95,6 +97,20 @@ returns-in-UseEntry-clause-does g c = λ told.
     (unsaid_does (UseEntry c.in-UseEntry.slot) c.learn_of-in-UseEntry.result _ _ was c.learn_of-in-UseEntry.ensures.learnt.not_said c.learn_of-in-UseEntry.ensures.learnt.no_sink c.requires.empty
     (use_achieves c.use_entry-answer.result c.learn_of-in-UseEntry.result (session g.D.Disk c.args.self.now c.args.disk.now) _ refl c.learn_of-in-UseEntry.ensures.learnt (c.use_entry-answer.ensures.index told) c.in-UseEntry.slot (c.use_entry-answer.ensures.carried told) c.use_entry-answer.ensures.effect))
 
+pub returns-in-Pin-clause-does : goal.returns-in-Pin-clause-does
+returns-in-Pin-clause-does g c = λ told.
+    let was = saying g.K.Sink c.args.self.now.reply c.args.sink.now in
+    as_command _ (Pin c.in-Pin.slot) _ _ _ _ _ (ap command_of c.in-Pin.is) (λ m. refl)
+    (unsaid_does (Pin c.in-Pin.slot) c.learn_of-in-Pin.result _ _ was c.learn_of-in-Pin.ensures.learnt.not_said c.learn_of-in-Pin.ensures.learnt.no_sink c.requires.empty
+    (pin_achieves c.pin-answer.result c.learn_of-in-Pin.result (session g.D.Disk c.args.self.now c.args.disk.now) _ refl c.learn_of-in-Pin.ensures.learnt (c.pin-answer.ensures.index told) c.in-Pin.slot (c.pin-answer.ensures.carried told) c.pin-answer.ensures.effect))
+
+pub returns-in-Unpin-clause-does : goal.returns-in-Unpin-clause-does
+returns-in-Unpin-clause-does g c = λ told.
+    let was = saying g.K.Sink c.args.self.now.reply c.args.sink.now in
+    as_command _ (Unpin c.in-Unpin.slot) _ _ _ _ _ (ap command_of c.in-Unpin.is) (λ m. refl)
+    (unsaid_does (Unpin c.in-Unpin.slot) c.learn_of-in-Unpin.result _ _ was c.learn_of-in-Unpin.ensures.learnt.not_said c.learn_of-in-Unpin.ensures.learnt.no_sink c.requires.empty
+    (unpin_achieves c.unpin-answer.result c.learn_of-in-Unpin.result (session g.D.Disk c.args.self.now c.args.disk.now) _ refl c.learn_of-in-Unpin.ensures.learnt (c.unpin-answer.ensures.index told) c.in-Unpin.slot (c.unpin-answer.ensures.carried told) c.unpin-answer.ensures.effect))
+
 pub returns-in-ReadPart-clause-does : goal.returns-in-ReadPart-clause-does
 returns-in-ReadPart-clause-does g c = λ told.
     as_command _ (ReadPart c.in-ReadPart.slot c.in-ReadPart.from c.in-ReadPart.len) _ _ _ _ _ (ap command_of c.in-ReadPart.is) (λ m. refl)
@@ -129,6 +145,11 @@ pub returns-in-Evict-clause-does : goal.returns-in-Evict-clause-does
 returns-in-Evict-clause-does g c = λ told.
     by_name _ (Evict c.in-Evict.kb) _ _ _ _ _ (ap command_of c.in-Evict.is)
     (c.evict.ensures.does told)
+
+pub returns-in-Clear-clause-does : goal.returns-in-Clear-clause-does
+returns-in-Clear-clause-does g c = λ told.
+    by_name _ (ClearOrigin c.in-Clear.origin.now) _ _ _ _ _ (ap command_of c.in-Clear.is)
+    (unsaid_done (ClearOrigin c.in-Clear.origin.now) c.clear.result _ _ (saying g.K.Sink c.clear.new.self.reply c.args.sink.now) c.clear.ensures.not_said c.clear.ensures.no_sink (c.clear.ensures.held ∙ c.requires.empty) (c.clear.ensures.does told))
 
 pub returns-in-Flush-clause-does : goal.returns-in-Flush-clause-does
 returns-in-Flush-clause-does g c = λ told.
@@ -216,6 +237,10 @@ returns-in-Element-clause-in_memory g c idle =
 pub returns-in-Evict-clause-evicts : goal.returns-in-Evict-clause-evicts
 returns-in-Evict-clause-evicts g c kb is had told =
     subst (λ (n : ℕ). LeavesOthers (session g.D.Disk c.args.self.now c.args.disk.now) n c.evict.new.self.index.map) (ap kb_of (sym (ap command_of c.in-Evict.is) ∙ is)) (c.evict.ensures.evicts had told)
+
+pub returns-in-Clear-clause-clears : goal.returns-in-Clear-clause-clears
+returns-in-Clear-clause-clears g c origin is had told =
+    subst (λ (xs : List ℕ). LeavesUncleared (session g.D.Disk c.args.self.now c.args.disk.now) xs c.clear.new.self.index.map) (ap origin_of (sym (ap command_of c.in-Clear.is) ∙ is)) (c.clear.ensures.clears had told)
 
 pub returns-in-GetAlt-clause-does : goal.returns-in-GetAlt-clause-does
 returns-in-GetAlt-clause-does g c = λ told.

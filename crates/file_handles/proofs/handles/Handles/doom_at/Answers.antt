@@ -9,6 +9,7 @@ use Rattle.file_handles.proofs.FirstFree.{takes_aside}
 use Rattle.file_handles.proofs.Histories.{history_of}
 use Rattle.file_handles.proofs.User.{user_is_there}
 use Rattle.file_handles.proofs.IndexLeft.{doomed_left}
+use Rattle.file_handles.proofs.MarkLeft.{doomed_marked}
 use Rattle.file_handles.proofs.UnsyncedLaws.{doomed_unsynced}
 use Rattle.file_handles.proofs.handles.Handles.doom_at.Goals as goal
 
@@ -79,3 +80,11 @@ returns-clause-unsynced g c told =
 pub set_aside-requires-clause-few : goal.set_aside-requires-clause-few
 set_aside-requires-clause-few g c =
     few_left (kept c.args.self.now) (kept c.take-object.new.self) c.args.place c.take-object.result c.take-object.ensures.found c.take-object.ensures.kept _ c.doomed_numbers-doomed.ensures.numbers c.doomed_numbers-doomed.ensures.rows
+
+pub returns-in_err-moved_to-clause-mark : goal.returns-in_err-moved_to-clause-mark
+returns-in_err-moved_to-clause-mark g c told =
+    doomed_marked c.set_aside.result (g.D.Disk.state c.args.disk.now) (g.D.Disk.state c.set_aside.new.disk) c.args.name.now c.take-object.result.aside _ (g.met.D.Disk.sound c.args.disk.now told) (c.set_aside.ensures.moves told)
+
+pub returns-clause-mark : goal.returns-clause-mark
+returns-clause-mark g c told =
+    doomed_marked c.set_aside.result (g.D.Disk.state c.args.disk.now) (g.D.Disk.state c.set_aside.new.disk) c.args.name.now c.take-object.result.aside _ (g.met.D.Disk.sound c.args.disk.now told) (c.set_aside.ensures.moves told)

@@ -32,7 +32,7 @@ returns-clause-dooms g c = λ tells.
     let bare = none_if _ c.in_ok-doom_user.field-0 c.in_ok-doom_user.ensures.some c.if-branch.false in
     let same = (c.in_ok-doom_user.ensures.none bare).1 in
     gone_done_by g.D.Disk.state c.args.disk.now c.doom_user.new.disk (g.D.Disk.state c.remove_file.new.disk) (kept c.args.self.now) (kept c.doom_user.new.self) c.args.name.now bare same.0 same.1
-    (c.in_ok-remove_file.ensures.state tells).done
+    tt (c.in_ok-remove_file.ensures.state tells).done
 
 pub returns-in_err-remove_file-clause-index : goal.returns-in_err-remove_file-clause-index
 returns-in_err-remove_file-clause-index g c told =

@@ -1,6 +1,7 @@
 use Rattle.std.proofs.Common.{sym, subst, length, ◌<◌}
 use Rattle.cache_base.specs.declared.limits.TheConstants.{SLOTS}
 use Rattle.file_handles.specs.Kept.{kept}
+use Rattle.file_handles.proofs.LowNumbers.{least_low}
 use Rattle.file_handles.proofs.SeatLaws.{few_aside}
 use Rattle.file_handles.proofs.handles.Handles.free_number.Goals as goal
 
@@ -11,3 +12,9 @@ least-requires c =
 
 pub returns-clause-few : goal.returns-clause-few
 returns-clause-few c = few_aside (kept c.args.self.now) c.args.slot c.requires.slot c.requires.free c.has_rows.ensures.objects c.has_rows.ensures.slots c.args.self.now.table.are_used
+
+pub returns-clause-low : goal.returns-clause-low
+returns-clause-low c =
+    least_low _ c.least.result c.least.ensures
+    (subst (λ numbers. length numbers < SLOTS) (sym c.doomed_numbers-aside.ensures.numbers)
+    (few_aside (kept c.args.self.now) c.args.slot c.requires.slot c.requires.free c.has_rows.ensures.objects c.has_rows.ensures.slots c.args.self.now.table.are_used))

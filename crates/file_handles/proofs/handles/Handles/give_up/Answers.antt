@@ -1,11 +1,12 @@
 use Rattle.std.proofs.Common.{None, ap, subst, sym, ◌∙◌, length-set}
 use Rattle.std.specs.Prelude.{option_map, slice_set}
 use Rattle.file_handles.specs.Kept.{Kept, kept, use_at}
-use Rattle.file_handles.specs.Seats.{AreUsed}
+use Rattle.file_handles.specs.Seats.{AreLow, AreUsed}
 use Rattle.file_handles.specs.declared.object.Use.{Use}
 use Rattle.file_handles.proofs.ClosedChunks.{given_up, left_last, left_shared, slot_there}
 use Rattle.file_handles.proofs.ReleasedSlot.{last_given_or, safe_may_go, shared_given}
 use Rattle.file_handles.proofs.IndexLeft.{let_go_left}
+use Rattle.file_handles.proofs.LowNumbers.{low_without}
 use Rattle.file_handles.proofs.SeatLaws.{used_last, used_shared}
 use Rattle.file_handles.proofs.UnsyncedLaws.{let_go_unsynced}
 use Rattle.file_handles.proofs.handles.Handles.give_up.Goals as goal
@@ -56,6 +57,7 @@ pub invariant_of-table : goal.invariant_of-table
 invariant_of-table g c = record {
   are_used = used_shared c.args.self.now.table.objects c.args.self.now.table.slots c.from.result c.args.place (ap (λ s. option_map (λ (u : Use). u.place) (use_at (kept c.args.self.now) s)) c.from.ensures ∙ c.requires.used)
       c.args.self.now.table.are_used (sym c.is_used.ensures.used ∙ c.if-is_used.true);
+  are_low = c.args.self.now.table.are_low;
 }
 
 pub invariant_of-table-2 : goal.invariant_of-table-2
@@ -63,4 +65,5 @@ invariant_of-table-2 g c = record {
   are_used = subst (λ objects. AreUsed objects (slice_set c.args.self.now.table.slots c.from.result None)) (sym c.take_at.ensures.taken)
       (used_last c.args.self.now.table.objects c.args.self.now.table.slots c.from.result c.args.place (ap (λ s. option_map (λ (u : Use). u.place) (use_at (kept c.args.self.now) s)) c.from.ensures ∙ c.requires.used)
       c.args.self.now.table.are_used);
+  are_low = subst AreLow (sym c.take_at.ensures.taken) (low_without c.args.self.now.table.objects c.args.place c.args.self.now.table.are_low);
 }

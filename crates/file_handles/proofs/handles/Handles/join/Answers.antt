@@ -10,7 +10,7 @@ returns-clause-joins c = joins_at c.args.slot c.from.result (kept c.args.self.no
 pub invariant_of-table-2 : goal.invariant_of-table-2
 invariant_of-table-2 c =
     let now = c.args.self.now in
-    (used_joined now.table.objects now.table.slots c.from.result _ (ap (use_at (kept now)) c.from.ensures ∙ c.requires.free) now.table.are_used, tt)
+    (used_joined now.table.objects now.table.slots c.from.result _ (ap (use_at (kept now)) c.from.ensures ∙ c.requires.free) now.table.are_used, (now.table.are_low, tt))
 
 pub returns-clause-used : goal.returns-clause-used
 returns-clause-used c =

@@ -1,5 +1,5 @@
 use Rattle.file_handles.specs.Kept.{kept}
-use Rattle.file_handles.proofs.OpenNames.{listed_writing}
+use Rattle.file_handles.proofs.AskedNames.{listed_writing}
 use Rattle.file_handles.proofs.handles.Handles.writing_names.Goals as goal
 
 pub returns : goal.returns

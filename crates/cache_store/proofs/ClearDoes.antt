@@ -1,0 +1,300 @@
+-- How the entries of an origin are cleared.
+use Rattle.std.proofs.Common.{◌≡◌, ◌∙◌, inl, inr, Bool, false, true, ◌==◌, cond, ℕ, List, [], ◌∷◌, length, Result, Ok, Err, IsErrAnd, IsTrue, OnOk, None, Some, filter, is_some, not, refl, sym, ap, subst}
+use Rattle.std.specs.List.{AllByRecursion}
+use Rattle.std.proofs.lemmas.Bool.{eq-eqb, eqb-true, not-false, or_cases, or_parts}
+use Rattle.std.proofs.lemmas.List.Elements.{filter_passes, recursion_from_All}
+use Rattle.cache_base.specs.declared.name.Name.{Name}
+use Rattle.cache_store.specs.Clearing.{AreCleared, HoldsNames, IsHeld, LeavesUncleared, is_used_or_stands}
+use Rattle.cache_store.specs.DoneFor.{IsDoneBy}
+use Rattle.cache_store.specs.Evicting.{DoomsAll, Forgets, has_file}
+use Rattle.cache_store.specs.Open.{KeepsWhere}
+use Rattle.cache_store.specs.Performing.{Achieves, AchievesWhatIsDone, GoesBy, SaysThere}
+use Rattle.cache_store.specs.declared.answered.Answered.{Answered}
+use Rattle.cache_store.specs.declared.answered.Answered.TheVariants as answered
+use Rattle.cache_store.specs.declared.fault.StoreFault.{StoreFault}
+use Rattle.cache_store.specs.declared.memory_index.MemoryIndex.{MemoryIndex}
+use Rattle.cache_store.proofs.EvictDoes.{touched_first}
+use Rattle.cache_store.proofs.Forgotten.{forgotten_tells}
+use Rattle.cache_store.proofs.IndexAchieves.{comes_from, fails_sparing, goes_on_telling, session_at, spares_same}
+use Rattle.cache_store.proofs.LearntAchieves.{holds_on}
+use Rattle.cache_store.proofs.ListDoes.{Finishes}
+use Rattle.cache_store.proofs.MarkKept.{amid_ending_safe, amid_storing_safe, ended_keeps, ending_index, mark_index, mark_kept}
+use Rattle.cache_store.proofs.NamesDoomed.{not_in_use}
+use Rattle.cache_store.proofs.NothingDoomed.{IsBare, those_standing}
+use Rattle.cache_store.proofs.RecordsAtEnd.{goes_by, some_at_end, sorted_at_end}
+use Rattle.cache_store.proofs.Spared.{rested_in}
+use Rattle.cache_store.proofs.VictimsApart.{all_filtered, filtered_distinct}
+use Rattle.cache_theory.specs.Checks.{checks}
+use Rattle.cache_theory.specs.Command.{Command}
+use Rattle.cache_theory.specs.Command.Command.{ClearNames, ClearOrigin}
+use Rattle.cache_theory.specs.Command.Reply.{Cleared}
+use Rattle.cache_theory.specs.Covers.{cleared_by}
+use Rattle.cache_theory.specs.Crash.{IsSafe}
+use Rattle.cache_theory.specs.History.{History, acked, begun, settled_at}
+use Rattle.cache_theory.specs.Laws.{AreLost, is_among}
+use Rattle.cache_theory.specs.Machine.{Machine}
+use Rattle.cache_theory.specs.Marks.{Marks, acked as acked_marks, begun as begun_marks, is_touched, marks_of}
+use Rattle.cache_theory.specs.Step.{all_doomed, effect, step, update_ended}
+use Rattle.cache_theory.specs.Table.{get}
+use Rattle.cache_theory.proofs.Evicting.{all_weaker, doomed_are_lost}
+use Rattle.cache_theory.proofs.Rested.{proper_rested}
+use Rattle.context_clear.specs.MarkFile.{IsAmidEnding, IsAmidStoring, RemovesFile, StoresMark}
+use Rattle.context_clear.proofs.MarkStored.{mark_puts}
+use Rattle.disk_model.specs.Sound.{IsSound}
+use Rattle.disk_model.specs.Standing.{Puts}
+use Rattle.disk_model.specs.State.{State, standing}
+use Rattle.disk_model.specs.declared.place.Place.TheVariants.{Clear, Doomed, Entry}
+use Rattle.disk_model.specs.declared.disk.DiskFault.{DiskFault}
+use Rattle.file_handles.specs.Cache.{cache_at}
+use Rattle.file_handles.specs.Kept.{Kept}
+use Rattle.file_handles.specs.Stands.{KeepsWhere as CacheKeepsWhere, ReachesHistory, Represents as CacheRepresents, RepresentsSome}
+use Rattle.file_handles.specs.Users.{users_of}
+use Rattle.file_handles.proofs.Begun.{begun_in}
+use Rattle.file_handles.proofs.User.{no_one}
+use Rattle.file_handles.proofs.Where.{bare_in, stand_for}
+use Rattle.index_theory.specs.Ever.{entries_on}
+use Rattle.index_theory.specs.Leaves.{LeavesIndex}
+use Rattle.index_theory.proofs.LeavesLaws.{both_leave_index}
+use Rattle.index_update.specs.Rest.{name_bytes}
+use Rattle.index_update.proofs.ReadMore.{base_then}
+use Rattle.record_list.specs.Lists.{record_at}
+use Rattle.record_list.proofs.NameLaws.{rising_distinct}
+use Rattle.record_list.proofs.SortedLaws.{by_name_keeps}
+
+-- ---- a clearing of given names
+
+clear_reply_is : (m : Machine) (names : List Name) → (step m (ClearNames names)).reply ≡ Cleared (length names)
+unfolding checks effect
+clear_reply_is m names = refl
+
+clear_next_is : (m : Machine) (names : List Name) → (step m (ClearNames names)).next ≡ all_doomed (update_ended m) names
+unfolding checks effect
+clear_next_is m names = refl
+
+clear_marks_are : (m : Machine) (names : List Name) (w : Marks) → acked_marks m (ClearNames names) w ≡ marks_of (step m (ClearNames names)).next
+unfolding checks effect
+clear_marks_are m names w = refl
+
+all_touched : (m : Machine) (names : List Name) (w : Marks) → AllByRecursion (λ n. is_touched (begun_marks m (ClearNames names) w) n.0 ≡ true) names
+unfolding checks effect
+all_touched m names w = touched_first names w.touched
+
+-- ---- nothing is changed yet
+
+-- the disk was looked at
+pub clear_looks : (origin : List ℕ) (answer : Result Answered StoreFault) (P : StoreFault → Type 0) → IsErrAnd answer P
+    → (k : Kept) (now : ℕ) (s t : State) (old new : MemoryIndex) → t ≡ s
+    → AchievesWhatIsDone (ClearOrigin origin) answer (session_at k now old s) (session_at k now new t)
+clear_looks origin answer P failed k now s t old new same crash h is =
+    let records = some_at_end (entries_on s) old in
+    let done : Command = ClearNames (cleared_by records.0 h.machine origin) in (
+      done,
+      (
+        (records.0, (refl, goes_by k now s old h.machine (stand_for is.stands) records.0 records.1)),
+        fails_sparing done answer P (session_at k now old s) (session_at k now new t) failed (λ apart. spares_same s t same) crash h is,
+      ),
+    )
+
+-- ---- the mark is stored, entries are doomed, and the mark is removed
+
+-- a command that failed, after which a crash may lose no more than its marks allow
+fails_safe : (crash : Bool) (c : Command) (h : History) (answer : Result Answered StoreFault) (P : StoreFault → Type 0) → IsErrAnd answer P
+    → (k l : Kept) (now : ℕ) (s u : State) (old new : MemoryIndex) → (IsTrue crash → IsSafe u (begun c h).marks)
+    → Achieves crash c h answer (session_at k now old s) (session_at l now new u)
+fails_safe crash c h (Ok a) P failed k l now s u old new safe = absurd failed
+fails_safe crash c h (Err f) P failed k l now s u old new safe = record { safe = safe; replies = tt; next = tt; tells = tt }
+
+module _ (origin : List ℕ) (k l : Kept) (now : ℕ) (s t : State) (old mid : MemoryIndex) (names : List Name) (finishes : Finishes s t old mid)
+    (are : AreCleared mid.map k origin names) where
+  -- the records of the names are out afterwards, and the others are as they were
+  pub clear_leaves : (new : MemoryIndex) → Forgets names mid.map new.map → LeavesUncleared (session_at k now old s) origin new.map
+  clear_leaves new forgets m is =
+      let stand = is.stands in
+      let chosen : names ≡ cleared_by are.records m origin = are.chosen m stand.0 stand.1.proper stand.1.handles in (
+        are.records,
+        (
+          sorted_at_end (entries_on s) old mid.map are.records are.known are.by_name finishes.records,
+          λ q. forgets.records q ∙ ap (λ ns. cond (is_among q.0 ns) None (record_at mid.map.records q)) chosen
+              ∙ ap (λ o. cond (is_among q.0 (cleared_by are.records m origin)) None o) (sym (by_name_keeps mid.map.records are.records are.known.names are.by_name q)),
+        ),
+      )
+
+  module _ (crash : Bool) (h : History) (is : KeepsWhere crash (session_at k now old s) h) where
+    stand : CacheRepresents (cache_at k s) h.machine
+    stand = stand_for is.stands
+
+    -- the names are those that the records in memory tell
+    pub done_is : IsDoneBy (GoesBy (session_at k now old s) h.machine) (SaysThere (session_at k now old s) h.machine) (ClearOrigin origin) h.machine (ClearNames names)
+    done_is = (
+      are.records,
+      (
+        ap ClearNames (are.chosen h.machine stand.0 stand.1.proper stand.1.handles),
+        goes_by k now s old h.machine stand are.records (sorted_at_end (entries_on s) old mid.map are.records are.known are.by_name finishes.records),
+      ),
+    )
+
+    -- the update has ended, and the clearing has begun
+    abbrev pub ended : History
+    ended = record { machine = update_ended h.machine; marks = (begun (ClearNames names) h).marks }
+
+    pub started : CacheKeepsWhere crash (cache_at k s) ended
+    started = rested_in [] (cache_at k s) (begun (ClearNames names) h) (begun_in s k h.machine (ClearNames names) h.marks is.stands)
+
+    -- those that are in use or stand are doomed
+    abbrev pub reached : History
+    reached = record { machine = all_doomed (update_ended h.machine) (filter (is_used_or_stands k s) names); marks = (begun (ClearNames names) h).marks }
+
+    pub held_touched : AllByRecursion (λ n. is_touched ended.marks n.0 ≡ true) (filter (is_used_or_stands k s) names)
+    held_touched = all_filtered (λ n. is_touched (begun (ClearNames names) h).marks n.0 ≡ true) (is_used_or_stands k s) names (all_touched h.machine names h.marks)
+
+    -- the others are neither
+    bare_name : (n : Name) → IsBare (is_used_or_stands k s) (update_ended h.machine) n
+    bare_name n none =
+        let parts = or_parts (not (users_of k n == 0)) (has_file s n) none in (
+          no_one (get h.machine.shelf n.0) (ap is_some (sym (stand.1.entries n.0)) ∙ parts.1),
+          not_in_use (cache_at k s) h.machine stand n (eqb-true (users_of k n) 0 (not-false (users_of k n == 0) parts.0)),
+        )
+
+    bare_all : (ns : List Name) → AllByRecursion (IsBare (is_used_or_stands k s) (update_ended h.machine)) ns
+    bare_all [] = tt
+    bare_all (n ∷ ns) = (bare_name n, bare_all ns)
+
+    all_gone : reached.machine ≡ (step h.machine (ClearNames names)).next
+    all_gone = those_standing (is_used_or_stands k s) (update_ended h.machine) names (proper_rested h.machine [] stand.1.proper) refl (bare_all names) ∙ sym (clear_next_is h.machine names)
+
+    lost : AreLost h.machine (step h.machine (ClearNames names)).next names
+    lost = subst (λ (n : Machine). AreLost h.machine n names) (sym (clear_next_is h.machine names)) (doomed_are_lost h.machine names)
+
+    -- so this is the history of the acknowledged command
+    settled_is : settled_at reached.machine ≡ acked (ClearNames names) h
+    settled_is =
+        ap settled_at all_gone
+        ∙ ap (λ (w : Marks). record { machine = (step h.machine (ClearNames names)).next; marks = w }) (sym (clear_marks_are h.machine names h.marks))
+
+    pub clear_achieves : (u : State) (new : MemoryIndex) (count : ℕ) → count ≡ length names → LeavesIndex s u → Forgets names mid.map new.map → new.update ≡ mid.update
+        → (IsTrue crash → IsSafe u (begun (ClearNames names) h).marks) → CacheKeepsWhere crash (cache_at l u) (settled_at reached.machine)
+        → Achieves crash (ClearNames names) h (Ok (answered.Cleared count)) (session_at k now old s) (session_at l now new u)
+    clear_achieves u new count counted index forgets rest safe stands =
+        let rest_is : (step h.machine (ClearNames names)).next.rest ≡ name_bytes new.update = lost.rest ∙ ap name_bytes (sym (rest ∙ finishes.ended)) in
+        record {
+          safe = safe;
+          replies = ap Cleared counted ∙ sym (clear_reply_is h.machine names);
+          next = record {
+            stands = subst (CacheKeepsWhere crash (cache_at l u)) settled_is stands;
+            matches = record {
+              moment = lost.moment ∙ is.matches.moment;
+              rest = rest_is;
+              holds = holds_on s u old.map new.map index (base_then old.map mid.map new.map finishes.base forgets.base) is.matches.holds;
+            };
+          };
+          tells = comes_from (ClearNames names) (session_at k now old s) h.machine _ (λ e. cc) (λ told. record {
+            rest = rest_is;
+            tells = forgotten_tells h.machine (step h.machine (ClearNames names)).next names lost mid new forgets finishes.ended rest
+                (goes_on_telling k s h.machine old mid stand finishes.tells told.tells);
+          });
+        }
+
+    pub clear_stops : (answer : Result Answered StoreFault) (P : StoreFault → Type 0) → IsErrAnd answer P → (u : State) (new : MemoryIndex)
+        → (IsTrue crash → IsSafe u (begun (ClearNames names) h).marks)
+        → Achieves crash (ClearNames names) h answer (session_at k now old s) (session_at l now new u)
+    clear_stops answer P failed u new safe = fails_safe crash (ClearNames names) h answer P failed k l now s u old new safe
+
+  module _ (number : ℕ) (bytes : List ℕ) (v : State) (same : v ≡ s) (sound : IsSound v) where
+    begun_there : (crash : Bool) (h : History) (is : KeepsWhere crash (session_at k now old s) h) → CacheKeepsWhere crash (cache_at k v) (ended crash h is)
+    begun_there crash h is = subst (λ (x : State). CacheKeepsWhere crash (cache_at k x) (ended crash h is)) (sym same) (started crash h is)
+
+    -- the mark could not be stored
+    pub store_fails : (answer : Result Answered StoreFault) (P : StoreFault → Type 0) → IsErrAnd answer P → (u : State) (new : MemoryIndex) → IsAmidStoring number bytes v u
+        → AchievesWhatIsDone (ClearOrigin origin) answer (session_at k now old s) (session_at l now new u)
+    store_fails answer P failed u new amid crash h is = (
+      ClearNames names,
+      (done_is crash h is, clear_stops crash h is answer P failed u new (λ on. amid_storing_safe v u _ number bytes sound ((begun_there crash h is).crash_kept on).safe amid)),
+    )
+
+    module _ (u1 : State) (free : standing v (Doomed number) ≡ None) (stored : StoresMark number bytes v u1) where
+      marked : (crash : Bool) (h : History) (is : KeepsWhere crash (session_at k now old s) h) → CacheKeepsWhere crash (cache_at k u1) (ended crash h is)
+      marked crash h is = mark_kept crash k v u1 (ended crash h is) number bytes sound free (begun_there crash h is) stored
+
+      -- the names that are in use or stand may be doomed then
+      pub names_held : (files : List Name) → files ≡ filter (is_used_or_stands k s) names → RepresentsSome (cache_at k s) → HoldsNames (cache_at k u1) files
+      names_held files files_are (m, represents) = subst (HoldsNames (cache_at k u1)) (sym files_are) (record {
+        stands = (m, stand_for (mark_kept false k v u1 (settled_at m) number bytes sound free (subst (λ (x : State). CacheKeepsWhere false (cache_at k x) (settled_at m)) (sym same) (bare_in {h = settled_at m} represents)) stored));
+        distinct = filtered_distinct (is_used_or_stands k s) names (rising_distinct names are.rising);
+        held = all_weaker (λ n. is_used_or_stands k s n ≡ true) (IsHeld (cache_at k u1)) (filter (is_used_or_stands k s) names) still_held
+            (recursion_from_All (λ n. is_used_or_stands k s n ≡ true) (filter (is_used_or_stands k s) names) (filter_passes (is_used_or_stands k s) names));
+      })
+        where
+          puts : Puts Clear (Some bytes) v u1
+          puts = subst (Puts Clear (Some bytes) v) (sym stored) (mark_puts v number bytes sound free)
+
+          still_held : (n : Name) → is_used_or_stands k s n ≡ true → IsHeld (cache_at k u1) n
+          still_held n held unused = elim (or_cases (not (users_of k n == 0)) (has_file s n) held) [
+            | inl used ↦ absurd (let none : (users_of k n == 0) ≡ true = eq-eqb (users_of k n) 0 unused in cc)
+            | inr stands ↦ ap is_some (puts.others (Entry n) (λ e. cc) ∙ ap (λ (x : State). standing x (Entry n)) same) ∙ stands
+          ]
+
+      module _ (files : List Name) (files_are : files ≡ filter (is_used_or_stands k s) names) (r : Result (Unit {0}) DiskFault) (u2 : State)
+          (dooms : DoomsAll files r (cache_at k u1) (cache_at l u2)) where
+        reaches : (crash : Bool) (h : History) (is : KeepsWhere crash (session_at k now old s) h) → ReachesHistory crash (reached crash h is) r (cache_at l u2)
+        reaches crash h is =
+            (subst (λ (ns : List Name). DoomsAll ns r (cache_at k u1) (cache_at l u2)) files_are dooms).leaves crash (ended crash h is) (held_touched crash h is) (marked crash h is)
+
+        -- an entry could not be doomed
+        pub doom_fails : (answer : Result Answered StoreFault) (P : StoreFault → Type 0) → IsErrAnd answer P → (new : MemoryIndex)
+            → AchievesWhatIsDone (ClearOrigin origin) answer (session_at k now old s) (session_at l now new u2)
+        doom_fails answer P failed new crash h is =
+            (ClearNames names, (done_is crash h is, clear_stops crash h is answer P failed u2 new (reaches crash h is).safe))
+
+        module _ (x : Unit {0}) (ok : r ≡ Ok x) where
+          doomed : (crash : Bool) (h : History) (is : KeepsWhere crash (session_at k now old s) h) → CacheKeepsWhere crash (cache_at l u2) (reached crash h is)
+          doomed crash h is = subst (λ (q : Result (Unit {0}) DiskFault). OnOk q (CacheKeepsWhere crash (cache_at l u2) (reached crash h is))) ok (reaches crash h is).next
+
+          ending_safe : (crash : Bool) (h : History) (is : KeepsWhere crash (session_at k now old s) h) (u3 : State) → IsAmidEnding u2 u3 → IsTrue crash → IsSafe u3 (begun (ClearNames names) h).marks
+          ending_safe crash h is u3 amid on = amid_ending_safe u2 u3 _ ((doomed crash h is).crash_kept on).safe amid
+
+          -- the mark could not be removed
+          pub end_fails : (answer : Result Answered StoreFault) (P : StoreFault → Type 0) → IsErrAnd answer P → (u3 : State) (new : MemoryIndex) → IsAmidEnding u2 u3
+              → AchievesWhatIsDone (ClearOrigin origin) answer (session_at k now old s) (session_at l now new u3)
+          end_fails answer P failed u3 new amid crash h is =
+              (ClearNames names, (done_is crash h is, clear_stops crash h is answer P failed u3 new (ending_safe crash h is u3 amid)))
+
+          -- all is done
+          pub clear_does : (u3 : State) (new : MemoryIndex) (count : ℕ) → count ≡ length names → IsSound u2 → RemovesFile u2 u3 → LeavesIndex s u3 → Forgets names mid.map new.map → new.update ≡ mid.update
+              → AchievesWhatIsDone (ClearOrigin origin) (Ok (answered.Cleared count)) (session_at k now old s) (session_at l now new u3)
+          clear_does u3 new count counted sound2 removes index forgets rest crash h is = (
+            ClearNames names,
+            (
+              done_is crash h is,
+              clear_achieves crash h is u3 new count counted index forgets rest (ending_safe crash h is u3 (inr (inr removes)))
+                  (ended_keeps crash l u2 u3 (reached crash h is) sound2 (doomed crash h is) removes),
+            ),
+          )
+
+-- ---- the index
+
+-- the mark's storing, the dooming and the mark's removal leave it alone
+pub index_stored : (s v u : State) (number : ℕ) (bytes : List ℕ) → v ≡ s → IsSound v → IsAmidStoring number bytes v u → LeavesIndex s u
+index_stored s v u number bytes same sound amid = subst (λ (x : State). LeavesIndex x u) same (mark_index v u number bytes sound amid)
+
+pub index_ended : (s u2 u3 : State) → LeavesIndex s u2 → IsSound u2 → IsAmidEnding u2 u3 → LeavesIndex s u3
+index_ended s u2 u3 before sound amid = both_leave_index s u2 u3 before (ending_index u2 u3 sound amid)
+
+-- ---- the names that are in use or stand, by slices
+
+pub files_from : (k : Kept) (s t : State) (names given there files : List Name) → given ≡ names → files ≡ there → t ≡ s → there ≡ filter (is_used_or_stands k t) given
+    → files ≡ filter (is_used_or_stands k s) names
+files_from k s t names given there files same_names same_files same are =
+    same_files ∙ are ∙ (λ i. filter (is_used_or_stands k (same i)) (same_names i))
+
+-- ---- the number of the mark is free
+
+pub number_free : (k : Kept) (s v : State) (number : ℕ) → v ≡ s → ((t : State) (m : Machine) → CacheRepresents (cache_at k t) m → standing t (Doomed number) ≡ None)
+    → RepresentsSome (cache_at k s) → standing v (Doomed number) ≡ None
+number_free k s v number same free (m, represents) = free v m (subst (λ (x : State). CacheRepresents (cache_at k x) m) (sym same) represents)
+
+-- ---- the command
+
+-- the origin that a clearing takes
+abbrev pub origin_of : Command → List ℕ
+origin_of (ClearOrigin origin) = origin
+origin_of c = []

@@ -1,0 +1,24 @@
+use Rattle.std.proofs.Common.{IsTrue, drop}
+use Rattle.cache_store.specs.Clearing.{HoldsNames}
+use Rattle.cache_store.proofs.NamesDoomed.{Completes}
+use Rattle.disk_model.specs.Account.{IsCalm, LooksAtNoEntry}
+use Rattle.disk_model.specs.Told.{Told}
+use Rattle.file_handles.specs.Cache.{cache}
+use Rattle.file_handles.specs.Dooming.{LeavesMark}
+use Rattle.file_handles.specs.HeldChunks.{SameChunks}
+use Rattle.file_handles.specs.Kept.{kept}
+use Rattle.index_theory.specs.Leaves.{LeavesIndex}
+use Rattle.cache_store.proofs.clear.doom_names.Given as goal
+
+-- the names that are left may be doomed, and complete the whole
+abbrev pub invariant-loop-name : goal.invariant-loop-name
+invariant-loop-name g l = record {
+  told : IsTrue g.D.Disk.tells → HoldsNames (cache g.D.Disk l.handles l.disk) (drop l.name-index l.names);
+  completes : IsTrue g.D.Disk.tells
+      → Completes (drop l.name-index l.names) l.fn.names (cache g.D.Disk l.fn.handles l.fn.disk) (cache g.D.Disk l.handles l.disk);
+  chunks : SameChunks (kept l.fn.handles) (kept l.handles);
+  mark : Told g.D.Disk LeavesMark l.fn.disk l.disk;
+  index : Told g.D.Disk LeavesIndex l.fn.disk l.disk;
+  calm : IsCalm g.D.Disk l.fn.disk l.disk;
+  looks : LooksAtNoEntry g.D.Disk l.fn.disk l.disk;
+}

@@ -1,0 +1,5 @@
+use Rattle.cache_store.proofs.ClearedLaws as laws
+use Rattle.cache_store.proofs.laws.clearing_leaves_none.Goals as goal
+
+pub returns : goal.returns
+returns c = laws.clearing_leaves_none

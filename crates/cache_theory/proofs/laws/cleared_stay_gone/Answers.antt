@@ -1,0 +1,6 @@
+use Rattle.cache_theory.proofs.ClearedGone as gone
+use Rattle.cache_theory.proofs.SparedObjects as spared
+use Rattle.cache_theory.proofs.laws.cleared_stay_gone.Goals as goal
+
+pub returns : goal.returns
+returns c = record { gone = gone.cleared_stay_gone; spared = spared.written_are_spared }

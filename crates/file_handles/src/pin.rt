@@ -1,0 +1,123 @@
+//! Pins the entry of a slot, so that neither an eviction nor a clearing takes it, and unpins it.
+
+ghost use Rattle.std.specs.Prelude.{◌≡◌, ◌≢◌, ◌<◌, Bool, Err, IfErr, IfOk, IsSomeAnd, IsTrue, OnOk};
+ghost use Rattle.cache_base.specs.declared.limits.TheConstants.{SLOTS};
+ghost use Rattle.cache_theory.specs.Command.Command.{Pin, Unpin};
+ghost use Rattle.disk_model.specs.Account.{Accounts, FailsInChange};
+ghost use Rattle.disk_model.specs.Told.{Told};
+ghost use Rattle.file_handles.specs.Answers.{OnRefused, done_or, ending};
+ghost use Rattle.file_handles.specs.Effects.{HasEffect, IsPlainEffect};
+ghost use Rattle.file_handles.specs.Setting.{pin_command};
+ghost use Rattle.file_handles.specs.Unsynced.{SyncsNothing};
+ghost use Rattle.index_theory.specs.Leaves.{LeavesIndex};
+
+use crate::change::Change;
+use crate::{Effect, HandleFault, Handles};
+use cache_theory::Refusal;
+use disk_model::Disk;
+use std::alloc::Global;
+
+impl Handles {
+    ghost use Rattle.file_handles.specs.Cache.{cache};
+    ghost use Rattle.file_handles.specs.Carries.{CarriesOut};
+    ghost use Rattle.file_handles.specs.HeldChunks.{SameChunks};
+    ghost use Rattle.file_handles.specs.Kept.{kept, object_at as object_kept_at};
+    ghost use Rattle.file_handles.specs.Refuses.{ChecksNoSlot, HasAt, Passes, Refuses, TellsNoSlot};
+    ghost use Rattle.file_handles.specs.Stands.{RepresentsSome};
+
+    // The place of the object that a slot writes.
+    fn written_place(&self, slot: u8) -> Result<usize, Refusal>
+        requires { slot < SLOTS }
+        ensures refused { IfErr result (λ r. (pinned : Bool) →
+            Refuses (kept self.now) (pin_command pinned slot) r) }
+        ensures no_slot { ChecksNoSlot (kept self.now) slot result }
+        ensures passes { OnOk result ((pinned : Bool) →
+            Passes (kept self.now) (pin_command pinned slot)) }
+        ensures object { IfOk result (λ place.
+            IsSomeAnd (object_kept_at (kept self.now) place) (HasAt (kept self.now) slot place)) }
+    {
+        let used = self.writing(slot)?;
+        Ok(used.place)
+    }
+
+    // Pins the entry of a slot that writes it, or unpins it.
+    fn set_pin<D: Disk>(
+        &mut self,
+        alloc: Global,
+        disk: &mut D,
+        slot: u8,
+        pinned: bool,
+    ) -> Result<Effect, HandleFault>
+        requires slot { slot < SLOTS }
+        requires told { IsTrue D.tells → RepresentsSome (cache D.Disk self.old disk.old) }
+        ensures carried { let at = cache D.Disk in IsTrue D.tells →
+            CarriesOut (pin_command pinned slot) (done_or result)
+            (at self.old disk.old) (at self.new disk.new) }
+        ensures effect { IfOk result (HasEffect (kept self.old) (pin_command pinned slot)) }
+        ensures plain { IfOk result IsPlainEffect }
+        ensures chunks { SameChunks (kept self.old) (kept self.new) }
+        ensures no_slot { TellsNoSlot (kept self.old) slot result }
+        ensures unchanged { OnRefused result (λ _. disk.new ≡ disk.old) }
+        ensures no_read { result ≢ Err HandleFault.Read }
+        ensures unsynced { Told D.Disk SyncsNothing disk.old disk.new }
+        ensures index { Told D.Disk LeavesIndex disk.old disk.new }
+        ensures account { Accounts D.Disk (ending result) disk.old disk.new }
+        ensures change { FailsInChange D.Disk (ending result) disk.new }
+    {
+        let place = self.written_place(slot)?;
+        self.change_at(alloc, disk, place, Change::Pin { pinned })
+    }
+
+    /// Pins the entry of a slot that writes it: neither an eviction nor a clearing takes it. The metadata of a finished
+    /// entry are rewritten.
+    pub fn pin<D: Disk>(
+        &mut self,
+        alloc: Global,
+        disk: &mut D,
+        slot: u8,
+    ) -> Result<Effect, HandleFault>
+        requires slot { slot < SLOTS }
+        requires told { IsTrue D.tells → RepresentsSome (cache D.Disk self.old disk.old) }
+        ensures carried { let at = cache D.Disk in IsTrue D.tells →
+            CarriesOut (Pin slot) (done_or result)
+            (at self.old disk.old) (at self.new disk.new) }
+        ensures effect { IfOk result (HasEffect (kept self.old) (Pin slot)) }
+        ensures plain { IfOk result IsPlainEffect }
+        ensures chunks { SameChunks (kept self.old) (kept self.new) }
+        ensures no_slot { TellsNoSlot (kept self.old) slot result }
+        ensures unchanged { OnRefused result (λ _. disk.new ≡ disk.old) }
+        ensures no_read { result ≢ Err HandleFault.Read }
+        ensures unsynced { Told D.Disk SyncsNothing disk.old disk.new }
+        ensures index { Told D.Disk LeavesIndex disk.old disk.new }
+        ensures account { Accounts D.Disk (ending result) disk.old disk.new }
+        ensures change { FailsInChange D.Disk (ending result) disk.new }
+    {
+        self.set_pin(alloc, disk, slot, true)
+    }
+
+    /// Unpins the entry of a slot that writes it. The metadata of a finished entry are rewritten.
+    pub fn unpin<D: Disk>(
+        &mut self,
+        alloc: Global,
+        disk: &mut D,
+        slot: u8,
+    ) -> Result<Effect, HandleFault>
+        requires slot { slot < SLOTS }
+        requires told { IsTrue D.tells → RepresentsSome (cache D.Disk self.old disk.old) }
+        ensures carried { let at = cache D.Disk in IsTrue D.tells →
+            CarriesOut (Unpin slot) (done_or result)
+            (at self.old disk.old) (at self.new disk.new) }
+        ensures effect { IfOk result (HasEffect (kept self.old) (Unpin slot)) }
+        ensures plain { IfOk result IsPlainEffect }
+        ensures chunks { SameChunks (kept self.old) (kept self.new) }
+        ensures no_slot { TellsNoSlot (kept self.old) slot result }
+        ensures unchanged { OnRefused result (λ _. disk.new ≡ disk.old) }
+        ensures no_read { result ≢ Err HandleFault.Read }
+        ensures unsynced { Told D.Disk SyncsNothing disk.old disk.new }
+        ensures index { Told D.Disk LeavesIndex disk.old disk.new }
+        ensures account { Accounts D.Disk (ending result) disk.old disk.new }
+        ensures change { FailsInChange D.Disk (ending result) disk.new }
+    {
+        self.set_pin(alloc, disk, slot, false)
+    }
+}
