@@ -12,6 +12,7 @@ RECORDS = 100_000
 # So many entries of the folder with all the records have a file. Where 300 are new, the index is written whole.
 WITH_FILES = 400
 KEY = b":https://example.com/%d"
+KEY_OF_ORIGIN = b"O^a,:https://example.com/%d"
 BODY = 16384
 KB_MASK = 0xFFFFFF
 NO_FRECENCY = 1 << 32
@@ -36,7 +37,7 @@ class Bench:
     def __init__(self, here, room, program):
         self.room = room
         self.cache2 = program
-        for name in ("session", "script", "putalt", "open_index", "peak"):
+        for name in ("session", "script", "putalt", "clear", "open_index", "peak"):
             words = ["gcc", "-O2", "-Wall", "-Wno-unused-function", "-o", self.at(name), os.path.join(here, name + ".c")]
             subprocess.run(words, check=True)
 
@@ -63,13 +64,13 @@ class Bench:
             subprocess.run([self.cache2, folder, "1000", "run"], stdin=source, stdout=subprocess.DEVNULL, check=True)
         return folder
 
-    def script(self, count, size, *last):
-        """A script that makes so many entries of so many bytes, and then has these lines."""
+    def script(self, count, size, *last, keys=(KEY,)):
+        """A script that makes so many entries of so many bytes, with these keys in turn, and then has these lines."""
         random.seed(1)
         lines = []
         for number in range(count):
-            lines += [b"create 0 " + KEY % number, b"append 0 %d" % size, random.randbytes(size), b"close 0"]
-        name = "-".join(["script", str(count), str(size), *(line.decode() for line in last)])
+            lines += [b"create 0 " + keys[number % len(keys)] % number, b"append 0 %d" % size, random.randbytes(size), b"close 0"]
+        name = "-".join(["script", str(count), str(size), str(len(keys)), *(line.decode() for line in last)])
         return self.write(name, b"\n".join([*lines, *last, b""]))
 
     def putalt(self):
@@ -84,6 +85,13 @@ class Bench:
         folder = self.at(f"entries-{count}")
         if not os.path.exists(folder):
             self.perform(folder, self.script(count, BODY))
+        return folder
+
+    def origins(self, count):
+        """The same, where every other entry is of the origin `^a`."""
+        folder = self.at(f"origins-{count}")
+        if not os.path.exists(folder):
+            self.perform(folder, self.script(count, BODY, keys=(KEY, KEY_OF_ORIGIN)))
         return folder
 
     def trusted(self, count):
@@ -121,6 +129,7 @@ def of_goals(bench):
         Work("evict half, no files", records, sorted_records, evict_records, "session", 1.3, changes=True),
         Work("script of new entries, flush", files, bench.records(0, "sorted"), ("1000", "run"), "script", 1.15, script, True),
         Work("rebuild", files, entries, ("1001", "rebuild"), "session", 1.2),
+        Work("clear half", files, bench.origins(ENTRIES), ("1001", "clear", "^a"), "clear", 1.5, changes=True),
         Work("putalt of 4 MiB", "after 1 MiB", bench.records(0, "sorted"), ("1000", "run"), "putalt", 1.3, bench.putalt(), True),
     ]
 

@@ -162,6 +162,12 @@ def journal_bytes(records):
     return joined + hash_of(joined)
 
 
+def mark_bytes(origin):
+    """The mark of a clearing of this origin."""
+    origin_hash = hashlib.sha1(origin).digest()[:8]
+    return origin_hash + hash_of(origin_hash)
+
+
 def index_bytes(records, moment, flag):
     """A file `index` with these records, in the order in which they come."""
     return struct.pack(">IIII", 10, moment, flag, 0) + journal_bytes(records)
