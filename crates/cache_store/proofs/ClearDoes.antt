@@ -1,14 +1,17 @@
 -- How the entries of an origin are cleared.
 use Rattle.std.proofs.Common.{◌≡◌, ◌∙◌, inl, inr, Bool, false, true, ◌==◌, cond, ℕ, List, [], ◌∷◌, length, Result, Ok, Err, IsErrAnd, IsTrue, OnOk, None, Some, filter, is_some, not, refl, sym, ap, subst}
 use Rattle.std.specs.List.{AllByRecursion}
-use Rattle.std.proofs.lemmas.Bool.{eq-eqb, eqb-true, not-false, or_cases, or_parts}
+use Rattle.std.specs.Str.{bytes_eq}
+use Rattle.std.proofs.lemmas.Bool.{eq-eqb, eqb-true, not-false, or_cases, or_left, or_parts, or_right}
 use Rattle.std.proofs.lemmas.List.Elements.{filter_passes, recursion_from_All}
 use Rattle.cache_base.specs.declared.name.Name.{Name}
 use Rattle.cache_store.specs.Clearing.{AreCleared, HoldsNames, IsHeld, LeavesUncleared, is_used_or_stands}
 use Rattle.cache_store.specs.DoneFor.{IsDoneBy}
 use Rattle.cache_store.specs.Evicting.{DoomsAll, Forgets, has_file}
-use Rattle.cache_store.specs.Open.{KeepsWhere}
+use Rattle.cache_store.specs.Open.{KeepsWhere, Represents}
 use Rattle.cache_store.specs.Performing.{Achieves, AchievesWhatIsDone, GoesBy, SaysThere}
+use Rattle.cache_store.specs.StoppedClearing.{ClearsUnderMark, IsLeftByClearing}
+use Rattle.cache_store.specs.StoppedClearing.IsLeftByClearing.{Unbegun}
 use Rattle.cache_store.specs.declared.answered.Answered.{Answered}
 use Rattle.cache_store.specs.declared.answered.Answered.TheVariants as answered
 use Rattle.cache_store.specs.declared.fault.StoreFault.{StoreFault}
@@ -18,6 +21,7 @@ use Rattle.cache_store.proofs.Forgotten.{forgotten_tells}
 use Rattle.cache_store.proofs.IndexAchieves.{comes_from, fails_sparing, goes_on_telling, session_at, spares_same}
 use Rattle.cache_store.proofs.LearntAchieves.{holds_on}
 use Rattle.cache_store.proofs.ListDoes.{Finishes}
+use Rattle.cache_store.proofs.StoppedImages.{stopped_dooming, stopped_ending, stopped_storing}
 use Rattle.cache_store.proofs.MarkKept.{amid_ending_safe, amid_storing_safe, ended_keeps, ending_index, mark_index, mark_kept}
 use Rattle.cache_store.proofs.NamesDoomed.{not_in_use}
 use Rattle.cache_store.proofs.NothingDoomed.{IsBare, those_standing}
@@ -38,14 +42,18 @@ use Rattle.cache_theory.specs.Step.{all_doomed, effect, step, update_ended}
 use Rattle.cache_theory.specs.Table.{get}
 use Rattle.cache_theory.proofs.Evicting.{all_weaker, doomed_are_lost}
 use Rattle.cache_theory.proofs.Rested.{proper_rested}
+use Rattle.context_clear.specs.Mark.{mark_bytes}
 use Rattle.context_clear.specs.MarkFile.{IsAmidEnding, IsAmidStoring, RemovesFile, StoresMark}
 use Rattle.context_clear.proofs.MarkStored.{mark_puts}
+use Rattle.disk_model.specs.Image.{Files, IsImage}
 use Rattle.disk_model.specs.Sound.{IsSound}
 use Rattle.disk_model.specs.Standing.{Puts}
 use Rattle.disk_model.specs.State.{State, standing}
 use Rattle.disk_model.specs.declared.place.Place.TheVariants.{Clear, Doomed, Entry}
 use Rattle.disk_model.specs.declared.disk.DiskFault.{DiskFault}
+use Rattle.entry_key.specs.Tags.{value_hash}
 use Rattle.file_handles.specs.Cache.{cache_at}
+use Rattle.file_handles.specs.Dooming.{TakesEntries}
 use Rattle.file_handles.specs.Kept.{Kept}
 use Rattle.file_handles.specs.Stands.{KeepsWhere as CacheKeepsWhere, ReachesHistory, Represents as CacheRepresents, RepresentsSome}
 use Rattle.file_handles.specs.Users.{users_of}
@@ -58,7 +66,7 @@ use Rattle.index_theory.proofs.LeavesLaws.{both_leave_index}
 use Rattle.index_update.specs.Rest.{name_bytes}
 use Rattle.index_update.proofs.ReadMore.{base_then}
 use Rattle.record_list.specs.Lists.{record_at}
-use Rattle.record_list.proofs.NameLaws.{rising_distinct}
+use Rattle.record_list.proofs.NameLaws.{rising_distinct, same_itself}
 use Rattle.record_list.proofs.SortedLaws.{by_name_keeps}
 
 -- ---- a clearing of given names
@@ -67,7 +75,7 @@ clear_reply_is : (m : Machine) (names : List Name) → (step m (ClearNames names
 unfolding checks effect
 clear_reply_is m names = refl
 
-clear_next_is : (m : Machine) (names : List Name) → (step m (ClearNames names)).next ≡ all_doomed (update_ended m) names
+pub clear_next_is : (m : Machine) (names : List Name) → (step m (ClearNames names)).next ≡ all_doomed (update_ended m) names
 unfolding checks effect
 clear_next_is m names = refl
 
@@ -78,6 +86,14 @@ clear_marks_are m names w = refl
 all_touched : (m : Machine) (names : List Name) (w : Marks) → AllByRecursion (λ n. is_touched (begun_marks m (ClearNames names) w) n.0 ≡ true) names
 unfolding checks effect
 all_touched m names w = touched_first names w.touched
+
+-- each name is among them
+own_among : (names : List Name) → AllByRecursion (λ n. is_among n.0 names ≡ true) names
+own_among [] = tt
+own_among (n ∷ names) = (
+  or_left (bytes_eq n.0 n.0) (is_among n.0 names) (same_itself n),
+  all_weaker (λ k. is_among k.0 names ≡ true) (λ k. is_among k.0 (n ∷ names) ≡ true) names (λ k among. or_right (bytes_eq k.0 n.0) (is_among k.0 names) among) (own_among names),
+)
 
 -- ---- nothing is changed yet
 
@@ -94,6 +110,12 @@ clear_looks origin answer P failed k now s t old new same crash h is =
         fails_sparing done answer P (session_at k now old s) (session_at k now new t) failed (λ apart. spares_same s t same) crash h is,
       ),
     )
+
+-- then a crash leaves what it could leave before
+pub looks_stopped : (origin : List ℕ) (k : Kept) (now : ℕ) (s t : State) (old : MemoryIndex) → t ≡ s → ClearsUnderMark origin (session_at k now old s) t
+looks_stopped origin k now s t old same m is =
+    let records = some_at_end (entries_on s) old in
+    (records.0, (records.1, λ image of. Unbegun (image, (subst (λ (u : State). IsImage u image) same of, λ p lasting. refl))))
 
 -- ---- the mark is stored, entries are doomed, and the mark is removed
 
@@ -116,6 +138,19 @@ module _ (origin : List ℕ) (k l : Kept) (now : ℕ) (s t : State) (old mid : M
           sorted_at_end (entries_on s) old mid.map are.records are.known are.by_name finishes.records,
           λ q. forgets.records q ∙ ap (λ ns. cond (is_among q.0 ns) None (record_at mid.map.records q)) chosen
               ∙ ap (λ o. cond (is_among q.0 (cleared_by are.records m origin)) None o) (sym (by_name_keeps mid.map.records are.records are.known.names are.by_name q)),
+        ),
+      )
+
+  -- what a crash leaves of the names it leaves of those that the records tell
+  stopped_for : (u : State)
+      → ((m : Machine) → Represents (session_at k now old s) m → (image : Files) → IsImage u image → IsLeftByClearing s (value_hash origin) names image)
+      → ClearsUnderMark origin (session_at k now old s) u
+  stopped_for u each m is =
+      let stand = is.stands in (
+        are.records,
+        (
+          sorted_at_end (entries_on s) old mid.map are.records are.known are.by_name finishes.records,
+          λ image of. subst (λ (ns : List Name). IsLeftByClearing s (value_hash origin) ns image) (are.chosen m stand.0 stand.1.proper stand.1.handles) (each m is image of),
         ),
       )
 
@@ -211,7 +246,20 @@ module _ (origin : List ℕ) (k l : Kept) (now : ℕ) (s t : State) (old mid : M
       (done_is crash h is, clear_stops crash h is answer P failed u new (λ on. amid_storing_safe v u _ number bytes sound ((begun_there crash h is).crash_kept on).safe amid)),
     )
 
+    -- a crash leaves what it could leave before, or the whole mark
+    pub store_stopped : bytes ≡ mark_bytes (value_hash origin) → standing v (Doomed number) ≡ None → (u : State) → IsAmidStoring number bytes v u
+        → ClearsUnderMark origin (session_at k now old s) u
+    store_stopped mark free u amid = stopped_for u (λ m is image of.
+        subst (λ (x : State). IsLeftByClearing x (value_hash origin) names image) same
+        (stopped_storing v u number (value_hash origin) names sound free (subst (λ (bs : List ℕ). IsAmidStoring number bs v u) mark amid) image of))
+
     module _ (u1 : State) (free : standing v (Doomed number) ≡ None) (stored : StoresMark number bytes v u1) where
+      -- and so it does while entries are doomed
+      pub doom_stopped : bytes ≡ mark_bytes (value_hash origin) → (u : State) → TakesEntries u1 u → ClearsUnderMark origin (session_at k now old s) u
+      doom_stopped mark u takes = stopped_for u (λ m is image of.
+          subst (λ (x : State). IsLeftByClearing x (value_hash origin) names image) same
+          (stopped_dooming v u1 u number (value_hash origin) names sound free (subst (λ (bs : List ℕ). StoresMark number bs v u1) mark stored) takes image of))
+
       marked : (crash : Bool) (h : History) (is : KeepsWhere crash (session_at k now old s) h) → CacheKeepsWhere crash (cache_at k u1) (ended crash h is)
       marked crash h is = mark_kept crash k v u1 (ended crash h is) number bytes sound free (begun_there crash h is) stored
 
@@ -251,6 +299,24 @@ module _ (origin : List ℕ) (k l : Kept) (now : ℕ) (s t : State) (old mid : M
 
           ending_safe : (crash : Bool) (h : History) (is : KeepsWhere crash (session_at k now old s) h) (u3 : State) → IsAmidEnding u2 u3 → IsTrue crash → IsSafe u3 (begun (ClearNames names) h).marks
           ending_safe crash h is u3 amid on = amid_ending_safe u2 u3 _ ((doomed crash h is).crash_kept on).safe amid
+
+          -- under none of the names a file stands then
+          none_stands : (m : Machine) → Represents (session_at k now old s) m → AllByRecursion (λ n. standing u2 (Entry n) ≡ None) names
+          none_stands m is =
+              let keeps : KeepsWhere false (session_at k now old s) (settled_at m) = record { stands = bare_in {h = settled_at m} is.stands; matches = is.matches } in
+              let there = stand_for (doomed false (settled_at m) keeps) in
+              all_weaker (λ n. is_among n.0 names ≡ true) (λ n. standing u2 (Entry n) ≡ None) names
+              (λ n among. there.1.entries n.0
+              ∙ ap (λ (y : Machine). get y.shelf n.0) (all_gone false (settled_at m) keeps)
+              ∙ (lost false (settled_at m) keeps).shelf n.0
+              ∙ ap (λ b. cond b None (get m.shelf n.0)) among)
+              (own_among names)
+
+          -- so while the mark is removed a crash may also leave all of the clearing
+          pub end_stopped : bytes ≡ mark_bytes (value_hash origin) → TakesEntries u1 u2 → (u3 : State) → IsAmidEnding u2 u3 → ClearsUnderMark origin (session_at k now old s) u3
+          end_stopped mark takes u3 amid = stopped_for u3 (λ m is image of.
+              subst (λ (y : State). IsLeftByClearing y (value_hash origin) names image) same
+              (stopped_ending v u1 u2 u3 number (value_hash origin) names sound free (subst (λ (bs : List ℕ). StoresMark number bs v u1) mark stored) takes (none_stands m is) amid image of))
 
           -- the mark could not be removed
           pub end_fails : (answer : Result Answered StoreFault) (P : StoreFault → Type 0) → IsErrAnd answer P → (u3 : State) (new : MemoryIndex) → IsAmidEnding u2 u3

@@ -88,7 +88,7 @@ unfolding checks effect
 all_touched m names w = touched_first names w.touched
 
 -- what holds of each name holds of one among them
-among_all : (P : List ℕ → Type 0) (names : List Name) (name : List ℕ) → AllByRecursion (λ n. P n.0) names → is_among name names ≡ true → P name
+pub among_all : (P : List ℕ → Type 0) (names : List Name) (name : List ℕ) → AllByRecursion (λ n. P n.0) names → is_among name names ≡ true → P name
 among_all P [] name h among = absurd (cc)
 among_all P (n ∷ names) name h among =
     elim (or_cases (bytes_eq name n.0) (is_among name names) among) [

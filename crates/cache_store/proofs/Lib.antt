@@ -59,6 +59,7 @@ pub mod Spared
 pub mod SparedIndex
 pub mod StartAlong
 pub mod Stays
+pub mod StoppedImages
 pub mod TakenMore
 pub mod TellsAlike
 pub mod Unsaid

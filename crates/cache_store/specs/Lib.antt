@@ -23,5 +23,6 @@ pub mod Replied
 pub mod Said
 pub mod Saying
 pub mod Session
+pub mod StoppedClearing
 pub mod Texts
 pub mod Verifying

@@ -10,6 +10,7 @@ ghost use Rattle.cache_store.specs.Faulting.{is_refusal, of_handles};
 ghost use Rattle.cache_store.specs.Faults.{ending, of_disk};
 ghost use Rattle.cache_store.specs.IndexCalls.{LooksAtNames};
 ghost use Rattle.cache_store.specs.Printed.{lists_findings};
+ghost use Rattle.cache_store.specs.StoppedClearing.{ClearsUnderMark};
 ghost use Rattle.cache_theory.specs.Command.Command.{ClearOrigin};
 ghost use Rattle.cache_theory.specs.Covers.{joined_names};
 ghost use Rattle.context_clear.specs.Covered.{covers_record};
@@ -18,7 +19,7 @@ ghost use Rattle.disk_model.specs.Sound.{IsQuiet};
 ghost use Rattle.disk_model.specs.Told.{Told};
 ghost use Rattle.evictor.specs.Evict.{has_name};
 ghost use Rattle.file_handles.specs.Cache.{cache};
-ghost use Rattle.file_handles.specs.Dooming.{LeavesMark};
+ghost use Rattle.file_handles.specs.Dooming.{LeavesMark, TakesEntries};
 ghost use Rattle.file_handles.specs.HeldChunks.{SameChunks};
 ghost use Rattle.file_handles.specs.Kept.{kept};
 ghost use Rattle.index_map.specs.Known.{SameBase};
@@ -150,6 +151,7 @@ fn doom_names<D: Disk>(handles: &mut Handles, disk: &mut D, names: &[Name]) -> R
         DoomsAll names.now result (at handles.old disk.old) (at handles.new disk.new) }
     ensures chunks { SameChunks (kept handles.old) (kept handles.new) }
     ensures mark { OnOk result (Told D.Disk LeavesMark disk.old disk.new) }
+    ensures takes { Told D.Disk TakesEntries disk.old disk.new }
     ensures index { Told D.Disk LeavesIndex disk.old disk.new }
     ensures account { Accounts D.Disk (disk_ending result) disk.old disk.new }
     ensures change { FailsInChange D.Disk (disk_ending result) disk.new }
@@ -196,6 +198,8 @@ impl Store {
             AchievesWhatIsDone (ClearOrigin origin.now) result (at self.old disk.old) (at self.new disk.new) }
         ensures clears { HadEffect result → IsTrue D.tells →
             LeavesUncleared (session D.Disk self.old disk.old) origin.now self.new.index.map }
+        ensures stopped { IsTrue D.tells →
+            ClearsUnderMark origin.now (session D.Disk self.old disk.old) (D.state disk.new) }
         ensures base { HadEffect result → SameBase self.old.index.map self.new.index.map }
         ensures index { Told D.Disk LeavesIndex disk.old disk.new }
         ensures quiet { OnOk result (IsTrue D.tells → IsQuiet (D.state disk.new)) }

@@ -131,6 +131,7 @@ impl Store {
     ghost use Rattle.cache_store.specs.Open.{IsOpen, LeavesOpen};
     ghost use Rattle.cache_store.specs.Performing.{DoesWhatIsDone, HadEffect, PerformsFor};
     ghost use Rattle.cache_store.specs.Session.{open_of, session};
+    ghost use Rattle.cache_store.specs.StoppedClearing.{ClearsUnderMark};
     ghost use Rattle.cache_store.specs.Verifying.{IsFoundIn, PrintsFound};
     ghost use Rattle.file_handles.specs.Cache.{cache};
     ghost use Rattle.file_handles.specs.Kept.{kept};
@@ -219,6 +220,9 @@ impl Store {
             IsTrue D.tells → LeavesUncleared (session D.Disk self.old disk.old) origin self.new.index.map }
         ensures unmarked { IsClearing (command_of c.now) → HadEffect result →
             IsTrue D.tells → HasNoMark (D.state disk.new) }
+        ensures stopped { (origin : List ℕ) → command_of c.now ≡ ClearOrigin origin →
+            IsTrue D.tells →
+            ClearsUnderMark origin (session D.Disk self.old disk.old) (D.state disk.new) }
         ensures flushes { command_of c.now ≡ Flush → HadEffect result →
             Told D.Disk (Flushes self.old.index self.old.moment) disk.old disk.new }
         ensures rebuilds { command_of c.now ≡ Rebuild → HadEffect result →
@@ -399,6 +403,9 @@ impl Store {
             IsTrue D.tells → LeavesUncleared (session D.Disk self.old disk.old) origin self.new.index.map }
         ensures unmarked { IsClearing (command_of c.now) → HadEffect result →
             IsTrue D.tells → HasNoMark (D.state disk.new) }
+        ensures stopped { (origin : List ℕ) → command_of c.now ≡ ClearOrigin origin →
+            IsTrue D.tells →
+            ClearsUnderMark origin (session D.Disk self.old disk.old) (D.state disk.new) }
         ensures flushes { command_of c.now ≡ Flush → HadEffect result →
             Told D.Disk (Flushes self.old.index self.old.moment) disk.old disk.new }
         ensures rebuilds { command_of c.now ≡ Rebuild → HadEffect result →

@@ -3,6 +3,7 @@
 ghost use Rattle.cache_store.specs.Clearing.{ClearingLeavesNone};
 ghost use Rattle.cache_store.specs.InUse.{FewAreSpared, FewStayInUse};
 ghost use Rattle.cache_store.specs.Records.{AtEndIsOne};
+ghost use Rattle.cache_store.specs.StoppedClearing.{StoppedClearingIsNoneOrAll};
 
 /// Where few records differ from those of the index that stands, a `flush` does not write it, and a closing leaves it as it
 /// is with a journal of what differs.
@@ -21,4 +22,11 @@ pub fn records_at_end_are_one()
 /// bring there is said by `cache_theory::cleared_stay_gone`.
 pub fn clearing_leaves_none()
     ensures { ClearingLeavesNone }
+{}
+
+/// Wherever a clearing of an origin stops, a crash leaves the mark of the origin, or all entries as before, or none of the
+/// origin that is not pinned, where the records in memory were right. What is meant by as before is what the marks of the
+/// commands before the clearing allow.
+pub fn stopped_clearing_is_none_or_all()
+    ensures { StoppedClearingIsNoneOrAll }
 {}

@@ -46,6 +46,7 @@ impl Store {
     ghost use Rattle.cache_store.specs.Open.{IsOpen, LeavesOpen};
     ghost use Rattle.cache_store.specs.Performing.{HadEffect, PerformsFor};
     ghost use Rattle.cache_store.specs.Session.{open_of, session};
+    ghost use Rattle.cache_store.specs.StoppedClearing.{ClearsUnderMark};
     ghost use Rattle.cache_store.specs.Verifying.{PrintsFound};
     ghost use Rattle.file_handles.specs.Cache.{cache};
     ghost use Rattle.file_handles.specs.Kept.{kept};
@@ -108,8 +109,8 @@ impl Store {
         ensures rebuilt { self.new.faulting ≡ false → command_of c.now ≡ Rebuild →
             OnOk result (IsWritten self.new.index.map) }
 
-        // An eviction leaves the records of all others, and so does a clearing, which leaves no mark. An index that is written
-        // has the moment of this store.
+        // An eviction leaves the records of all others, and so does a clearing, which leaves no mark. Wherever a clearing stops,
+        // a crash leaves nothing of it, or its mark, or all of it. An index that is written has the moment of this store.
         ensures evicts { (kb : ℕ) → self.new.faulting ≡ false → command_of c.now ≡ Evict kb → HadEffect result →
             IsTrue D.tells → LeavesOthers (session D.Disk self.old disk.old) kb self.new.index.map }
         ensures clears { (origin : List ℕ) → self.new.faulting ≡ false → command_of c.now ≡ ClearOrigin origin →
@@ -117,6 +118,9 @@ impl Store {
             LeavesUncleared (session D.Disk self.old disk.old) origin self.new.index.map }
         ensures unmarked { self.new.faulting ≡ false → IsClearing (command_of c.now) → HadEffect result →
             IsTrue D.tells → HasNoMark (D.state disk.new) }
+        ensures stopped { (origin : List ℕ) → command_of c.now ≡ ClearOrigin origin →
+            IsTrue D.tells →
+            ClearsUnderMark origin (session D.Disk self.old disk.old) (D.state disk.new) }
         ensures flushes { command_of c.now ≡ Flush → HadEffect result →
             Told D.Disk (Flushes self.old.index self.old.moment) disk.old disk.new }
         ensures rebuilds { self.new.faulting ≡ false → command_of c.now ≡ Rebuild → HadEffect result →

@@ -81,4 +81,5 @@ pub mod ReadKept
 pub mod AltChecks
 pub mod LongerEntry
 pub mod LowNumbers
+pub mod TakingSteps
 pub mod AltCommand

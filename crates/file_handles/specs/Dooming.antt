@@ -1,5 +1,6 @@
 -- How an object loses its name.
-use Rattle.std.specs.Prelude.{Bool, IfOk, IsSome, List, None, Ok, Option, Result, Some, filter_map, option_and_then, true, ℕ, ◌<◌, ◌≡◌}
+use Rattle.std.specs.List.{AllByRecursion}
+use Rattle.std.specs.Prelude.{Bool, IfOk, IsSome, List, None, Ok, Option, Result, Some, filter_map, option_and_then, true, ℕ, ⊤, ◌++◌, ◌<◌, ◌≡◌}
 use Rattle.cache_base.specs.Checks.{first_failing}
 use Rattle.cache_base.specs.declared.limits.TheConstants.{SLOTS}
 use Rattle.cache_theory.specs.Checks.{checks}
@@ -13,6 +14,8 @@ use Rattle.cache_base.specs.declared.name.Name.{Name}
 use Rattle.disk_model.specs.Calls.{if_done}
 use Rattle.disk_model.specs.State.{State, renamed, standing}
 use Rattle.disk_model.specs.declared.disk.DiskFault.{DiskFault}
+use Rattle.disk_model.specs.declared.place.NameStep.{NameStep}
+use Rattle.disk_model.specs.declared.place.NameStep.TheVariants.{Remove, Rename}
 use Rattle.disk_model.specs.declared.place.Place.TheVariants.{Clear, Doomed, Entry}
 use Rattle.doom_area.specs.DoomArea.{IsLeastFree}
 use Rattle.file_handles.specs.Cache.{Cache}
@@ -58,3 +61,15 @@ pub record SetsAside (name : Name) (aside : Option ℕ) (in_use : List ℕ) (ans
 -- what stands at `clear` is unchanged
 abbrev pub LeavesMark : State → State → Type 0
 LeavesMark s t = standing t Clear ≡ standing s Clear
+
+-- the step takes the file of an entry away: it is removed, or it moves among the doomed
+abbrev pub IsTaking : NameStep → Type 0
+IsTaking (Remove (Entry name)) = ⊤
+IsTaking (Rename (Entry name) (Doomed number)) = ⊤
+IsTaking _ = ⊥
+
+-- such steps were made, and nothing else was done: no file was written, and nothing synced
+pub record TakesEntries (s t : State) : Type 0 where
+  pub taken : List NameStep
+  pub taking : AllByRecursion IsTaking taken
+  pub state : t ≡ record s { steps = taken ++ s.steps }

@@ -10,7 +10,7 @@ ghost use Rattle.entry_name.specs.EntryName.{file_name};
 ghost use Rattle.file_handles.specs.Answers.{OnRead, OnRefused, done_or, ending};
 ghost use Rattle.disk_model.specs.State.{State, standing};
 ghost use Rattle.disk_model.specs.declared.place.Place.TheVariants.{Doomed as DoomedAt, Entry as EntryAt};
-ghost use Rattle.file_handles.specs.Dooming.{LeavesMark, SetsAside, TakesFirstFree, numbers_in};
+ghost use Rattle.file_handles.specs.Dooming.{LeavesMark, SetsAside, TakesEntries, TakesFirstFree, numbers_in};
 ghost use Rattle.file_handles.specs.Effects.{HasEffect, IsPlainEffect};
 ghost use Rattle.file_handles.specs.Seats.{IsLow};
 ghost use Rattle.file_handles.specs.Unsynced.{SyncsNothing};
@@ -63,6 +63,7 @@ fn set_aside<D: Disk>(
     requires told { IsTrue D.tells → aside ≡ None →
         IsSome (standing (D.state disk.old) (EntryAt name.now)) }
     ensures moves { Told D.Disk (SetsAside name.now aside in_use.now result) disk.old disk.new }
+    ensures takes { Told D.Disk TakesEntries disk.old disk.new }
     ensures low { IsLow aside → IfOk result (λ number. number < SLOTS) }
     ensures no_entry { LooksAtNoEntry D.Disk disk.old disk.new }
     ensures account { Accounts D.Disk (disk_ending result) disk.old disk.new }
@@ -100,6 +101,7 @@ impl Handles {
             DoomsUnder name.now.0 result (at self.old disk.old) (at self.new disk.new) }
         ensures numbered { Told D.Disk TakesFirstFree disk.old disk.new }
         ensures mark { Told D.Disk LeavesMark disk.old disk.new }
+        ensures takes { Told D.Disk TakesEntries disk.old disk.new }
         ensures slots { (kept self.new).slots ≡ (kept self.old).slots }
         ensures chunks { SameChunks (kept self.old) (kept self.new) }
         ensures refused { OnRefused result (λ _. ⊥) }
@@ -137,6 +139,7 @@ impl Handles {
             DoomsUnder name.now.0 result (at self.old disk.old) (at self.new disk.new) }
         ensures numbered { Told D.Disk TakesFirstFree disk.old disk.new }
         ensures mark { Told D.Disk LeavesMark disk.old disk.new }
+        ensures takes { Told D.Disk TakesEntries disk.old disk.new }
         ensures none { user_place (kept self.old) name.now ≡ None → (result ≡ Ok false)
             × ((disk.new ≡ disk.old) × (kept self.new ≡ kept self.old)) }
         ensures some { IfOk result (λ doomed.
@@ -176,6 +179,7 @@ impl Handles {
         ensures effect { IfOk result (λ e. e ≡ Effect.Gone name.now) }
         ensures numbered { Told D.Disk TakesFirstFree disk.old disk.new }
         ensures mark { Told D.Disk LeavesMark disk.old disk.new }
+        ensures takes { Told D.Disk TakesEntries disk.old disk.new }
         ensures slots { (kept self.new).slots ≡ (kept self.old).slots }
         ensures chunks { SameChunks (kept self.old) (kept self.new) }
         ensures refused { OnRefused result (λ _. ⊥) }

@@ -6,6 +6,7 @@ use Rattle.cache_store.proofs.HeldDoomed.{dooms_done, dooms_failed, handed_accou
 use Rattle.cache_store.proofs.NamesDoomed.{Completes, next_done, next_fails, none_left}
 use Rattle.file_handles.specs.Cache.{cache}
 use Rattle.file_handles.proofs.MarkLeft.{then_marked}
+use Rattle.file_handles.proofs.TakingSteps.{takes_then}
 use Rattle.cache_store.proofs.clear.doom_names.Goals as goal
 
 pub doom_name-requires : goal.doom_name-requires
@@ -31,6 +32,7 @@ loop-name-preserved g c =
           tt (dooms_done _ (c.in-Ok.ensures.dooms told));
       chunks = c.doom_name.ensures.chunks ∙ c.loop-name.invariant.chunks;
       mark = λ told. then_marked (g.D.Disk.state c.args.disk.now) (g.D.Disk.state c.loop-name.disk) (g.D.Disk.state c.doom_name.new.disk) (c.loop-name.invariant.mark told) (c.doom_name.ensures.mark told);
+      takes = λ told. takes_then (g.D.Disk.state c.args.disk.now) (g.D.Disk.state c.loop-name.disk) (g.D.Disk.state c.doom_name.new.disk) (c.loop-name.invariant.takes told) (c.doom_name.ensures.takes told);
       index = search rules;
       calm = search rules;
       looks = search rules;
@@ -60,3 +62,7 @@ returns-clause-dooms g c = λ told.
     let i = c.loop-name.name-index in
     none_left names (drop i names) (cache g.D.Disk c.args.handles.now c.args.disk.now) (cache g.D.Disk c.loop-name.handles c.loop-name.disk)
     (drop_of_length-le names (let past = c.loop-name-test.false in omega (arith, past))) (c.loop-name.invariant.completes told)
+
+pub returns-in-Err-clause-takes : goal.returns-in-Err-clause-takes
+returns-in-Err-clause-takes g c = λ told.
+    takes_then (g.D.Disk.state c.args.disk.now) (g.D.Disk.state c.loop-name.disk) (g.D.Disk.state c.doom_name.new.disk) (c.loop-name.invariant.takes told) (c.doom_name.ensures.takes told)

@@ -4,7 +4,7 @@ use Rattle.cache_store.specs.Evicting.{Forgets}
 use Rattle.cache_store.specs.Faults.{of_disk}
 use Rattle.context_clear.specs.Mark.{mark_bytes}
 use Rattle.file_handles.specs.Kept.{kept}
-use Rattle.cache_store.proofs.ClearDoes.{clear_does, clear_leaves, clear_looks, doom_fails, end_fails, files_from, index_ended, index_stored, names_held, number_free, store_fails}
+use Rattle.cache_store.proofs.ClearDoes.{clear_does, clear_leaves, clear_looks, doom_fails, end_fails, files_from, index_ended, index_stored, names_held, number_free, store_fails, doom_stopped, end_stopped, looks_stopped, store_stopped}
 use Rattle.cache_store.proofs.Stays.{ended_apart, look_stays, noted_disk}
 use Rattle.index_theory.proofs.LeavesLaws.{both_leave_index}
 use Rattle.cache_store.proofs.store.Store.clear.Goals as goal
@@ -168,3 +168,79 @@ returns-clause-clears g c = λ had told.
 
 pub returns-clause-unmarked : goal.returns-clause-unmarked
 returns-clause-unmarked g c = λ told. (c.in_ok-end.ensures.stands told).here
+
+pub returns-in-Err-clause-stopped : goal.returns-in-Err-clause-stopped
+returns-in-Err-clause-stopped g c = λ told.
+    looks_stopped c.args.origin.now (kept c.args.self.now.handles) c.args.self.now.moment (g.D.Disk.state c.args.disk.now) (g.D.Disk.state c.finish_apart.new.disk) c.args.self.now.index (c.in-Err.ensures.looks.state told)
+
+pub returns-in_err-names-clause-stopped : goal.returns-in_err-names-clause-stopped
+returns-in_err-names-clause-stopped g c = λ told.
+    looks_stopped c.args.origin.now (kept c.args.self.now.handles) c.args.self.now.moment (g.D.Disk.state c.args.disk.now) (g.D.Disk.state c.finish_apart.new.disk) c.args.self.now.index (c.in-Ok.ensures.looks.state told)
+
+pub returns-in-Err-held-clause-stopped : goal.returns-in-Err-held-clause-stopped
+returns-in-Err-held-clause-stopped g c = λ told.
+    looks_stopped c.args.origin.now (kept c.args.self.now.handles) c.args.self.now.moment (g.D.Disk.state c.args.disk.now) (g.D.Disk.state c.held.new.disk) c.args.self.now.index
+    (c.in-Err-held.ensures.looks.state told ∙ c.in-Ok.ensures.looks.state told)
+
+pub returns-in_err-store-clause-stopped : goal.returns-in_err-store-clause-stopped
+returns-in_err-store-clause-stopped g c = λ told.
+    let s = g.D.Disk.state c.args.disk.now in
+    let v = g.D.Disk.state c.held.new.disk in
+    let k = kept c.args.self.now.handles in
+    let same = c.in-Ok-held.ensures.looks.state told ∙ c.in-Ok.ensures.looks.state told in
+    let free = number_free k s v 64 same c.leaves_number_free.ensures ((c.requires.told told).0, (c.requires.told told).1.stands) in
+    store_stopped c.args.origin.now k k c.args.self.now.moment s (g.D.Disk.state c.finish_apart.new.disk)
+    c.args.self.now.index (record { map = c.finish_apart.new.self.map; update = c.in-Ok.ended }) c.in_ok-names.names
+    (ended_apart s (g.D.Disk.state c.finish_apart.new.disk) c.args.self.now.index c.finish_apart.new.self.map c.in-Ok.ended (c.in-Ok.ensures.looks.state told)
+    c.in-Ok.ensures.ended c.in-Ok.ensures.base (c.in-Ok.ensures.records told) (c.in-Ok.ensures.tells told))
+    c.in_ok-names.ensures 64 (mark_bytes c.hash_of_origin.result) v same (g.met.D.Disk.sound c.held.new.disk told)
+    (ap mark_bytes c.hash_of_origin.ensures) free (g.D.Disk.state c.store.new.disk) (c.store.ensures.amid told)
+
+pub returns-in_err-doom_names-clause-stopped : goal.returns-in_err-doom_names-clause-stopped
+returns-in_err-doom_names-clause-stopped g c = λ told.
+    let s = g.D.Disk.state c.args.disk.now in
+    let v = g.D.Disk.state c.held.new.disk in
+    let k = kept c.args.self.now.handles in
+    let same = c.in-Ok-held.ensures.looks.state told ∙ c.in-Ok.ensures.looks.state told in
+    let free = number_free k s v 64 same c.leaves_number_free.ensures ((c.requires.told told).0, (c.requires.told told).1.stands) in
+    doom_stopped c.args.origin.now k k c.args.self.now.moment s (g.D.Disk.state c.finish_apart.new.disk)
+    c.args.self.now.index (record { map = c.finish_apart.new.self.map; update = c.in-Ok.ended }) c.in_ok-names.names
+    (ended_apart s (g.D.Disk.state c.finish_apart.new.disk) c.args.self.now.index c.finish_apart.new.self.map c.in-Ok.ended (c.in-Ok.ensures.looks.state told)
+    c.in-Ok.ensures.ended c.in-Ok.ensures.base (c.in-Ok.ensures.records told) (c.in-Ok.ensures.tells told))
+    c.in_ok-names.ensures 64 (mark_bytes c.hash_of_origin.result) v same (g.met.D.Disk.sound c.held.new.disk told)
+    (g.D.Disk.state c.store.new.disk) free (c.in_ok-store.ensures.placed told) (ap mark_bytes c.hash_of_origin.ensures)
+    (g.D.Disk.state c.doom_names.new.disk) (c.doom_names.ensures.takes told)
+
+pub returns-in_err-end-clause-stopped : goal.returns-in_err-end-clause-stopped
+returns-in_err-end-clause-stopped g c = λ told.
+    let s = g.D.Disk.state c.args.disk.now in
+    let v = g.D.Disk.state c.held.new.disk in
+    let k = kept c.args.self.now.handles in
+    let same = c.in-Ok-held.ensures.looks.state told ∙ c.in-Ok.ensures.looks.state told in
+    let free = number_free k s v 64 same c.leaves_number_free.ensures ((c.requires.told told).0, (c.requires.told told).1.stands) in
+    end_stopped c.args.origin.now k (kept c.doom_names.new.handles) c.args.self.now.moment s (g.D.Disk.state c.finish_apart.new.disk)
+    c.args.self.now.index (record { map = c.finish_apart.new.self.map; update = c.in-Ok.ended }) c.in_ok-names.names
+    (ended_apart s (g.D.Disk.state c.finish_apart.new.disk) c.args.self.now.index c.finish_apart.new.self.map c.in-Ok.ended (c.in-Ok.ensures.looks.state told)
+    c.in-Ok.ensures.ended c.in-Ok.ensures.base (c.in-Ok.ensures.records told) (c.in-Ok.ensures.tells told))
+    c.in_ok-names.ensures 64 (mark_bytes c.hash_of_origin.result) v same (g.met.D.Disk.sound c.held.new.disk told)
+    (g.D.Disk.state c.store.new.disk) free (c.in_ok-store.ensures.placed told) c.as_slice-2.result.now
+    (files_from k s (g.D.Disk.state c.finish_apart.new.disk) c.in_ok-names.names c.as_slice.result.now c.in-Ok-held.there c.as_slice-2.result.now c.as_slice.ensures c.as_slice-2.ensures (c.in-Ok.ensures.looks.state told) (c.in-Ok-held.ensures.held told))
+    (Ok tt) (g.D.Disk.state c.doom_names.new.disk) (c.in_ok-doom_names.ensures.dooms told) tt refl
+    (ap mark_bytes c.hash_of_origin.ensures) (c.doom_names.ensures.takes told) (g.D.Disk.state c.end.new.disk) (c.end.ensures.amid told)
+
+pub returns-clause-stopped : goal.returns-clause-stopped
+returns-clause-stopped g c = λ told.
+    let s = g.D.Disk.state c.args.disk.now in
+    let v = g.D.Disk.state c.held.new.disk in
+    let k = kept c.args.self.now.handles in
+    let same = c.in-Ok-held.ensures.looks.state told ∙ c.in-Ok.ensures.looks.state told in
+    let free = number_free k s v 64 same c.leaves_number_free.ensures ((c.requires.told told).0, (c.requires.told told).1.stands) in
+    end_stopped c.args.origin.now k (kept c.doom_names.new.handles) c.args.self.now.moment s (g.D.Disk.state c.finish_apart.new.disk)
+    c.args.self.now.index (record { map = c.finish_apart.new.self.map; update = c.in-Ok.ended }) c.in_ok-names.names
+    (ended_apart s (g.D.Disk.state c.finish_apart.new.disk) c.args.self.now.index c.finish_apart.new.self.map c.in-Ok.ended (c.in-Ok.ensures.looks.state told)
+    c.in-Ok.ensures.ended c.in-Ok.ensures.base (c.in-Ok.ensures.records told) (c.in-Ok.ensures.tells told))
+    c.in_ok-names.ensures 64 (mark_bytes c.hash_of_origin.result) v same (g.met.D.Disk.sound c.held.new.disk told)
+    (g.D.Disk.state c.store.new.disk) free (c.in_ok-store.ensures.placed told) c.as_slice-2.result.now
+    (files_from k s (g.D.Disk.state c.finish_apart.new.disk) c.in_ok-names.names c.as_slice.result.now c.in-Ok-held.there c.as_slice-2.result.now c.as_slice.ensures c.as_slice-2.ensures (c.in-Ok.ensures.looks.state told) (c.in-Ok-held.ensures.held told))
+    (Ok tt) (g.D.Disk.state c.doom_names.new.disk) (c.in_ok-doom_names.ensures.dooms told) tt refl
+    (ap mark_bytes c.hash_of_origin.ensures) (c.doom_names.ensures.takes told) (g.D.Disk.state c.end.new.disk) (c.end.ensures.amid told)

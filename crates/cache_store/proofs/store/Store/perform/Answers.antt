@@ -9,6 +9,7 @@ use Rattle.cache_store.specs.Clearing.{LeavesUncleared}
 use Rattle.cache_store.specs.Evicting.{LeavesOthers}
 use Rattle.cache_store.specs.Reads.{AreHeld, LastIsFirst}
 use Rattle.cache_store.specs.Said.{saying}
+use Rattle.cache_store.specs.StoppedClearing.{ClearsUnderMark}
 use Rattle.cache_store.specs.Session.{open_of, session}
 use Rattle.cache_store.specs.declared.fault.Verdict.TheVariants as outcome
 use Rattle.file_handles.proofs.ReadKept.{read_keeps}
@@ -241,6 +242,10 @@ returns-in-Evict-clause-evicts g c kb is had told =
 pub returns-in-Clear-clause-clears : goal.returns-in-Clear-clause-clears
 returns-in-Clear-clause-clears g c origin is had told =
     subst (λ (xs : List ℕ). LeavesUncleared (session g.D.Disk c.args.self.now c.args.disk.now) xs c.clear.new.self.index.map) (ap origin_of (sym (ap command_of c.in-Clear.is) ∙ is)) (c.clear.ensures.clears had told)
+
+pub returns-in-Clear-clause-stopped : goal.returns-in-Clear-clause-stopped
+returns-in-Clear-clause-stopped g c origin is told =
+    subst (λ (xs : List ℕ). ClearsUnderMark xs (session g.D.Disk c.args.self.now c.args.disk.now) (g.D.Disk.state c.clear.new.disk)) (ap origin_of (sym (ap command_of c.in-Clear.is) ∙ is)) (c.clear.ensures.stopped told)
 
 pub returns-in-GetAlt-clause-does : goal.returns-in-GetAlt-clause-does
 returns-in-GetAlt-clause-does g c = λ told.

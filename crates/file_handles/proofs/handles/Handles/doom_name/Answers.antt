@@ -1,9 +1,12 @@
-use Rattle.std.proofs.Common.{inl}
+use Rattle.std.proofs.Common.{IsSome, ap, inl, subst, sym}
 use Rattle.std.proofs.lemmas.Result.{IfOk-from_err}
 use Rattle.cache_theory.specs.Step.{doomed_under}
+use Rattle.disk_model.specs.State.{State, standing}
+use Rattle.disk_model.specs.declared.place.Place.TheVariants.{Entry}
 use Rattle.file_handles.specs.Cache.{cache_at}
 use Rattle.file_handles.specs.Kept.{kept}
 use Rattle.file_handles.specs.Stands.{KeepsWhere}
+use Rattle.file_handles.specs.Users.{users_at}
 use Rattle.file_handles.specs.declared.fault.Effect.TheVariants.{Gone}
 use Rattle.file_handles.proofs.Accounting.{change_handed_on}
 use Rattle.file_handles.proofs.DoomedCommand.{none_if, some_if}
@@ -11,6 +14,7 @@ use Rattle.file_handles.proofs.GoneUnder.{gone_done_by, gone_fails_by, gone_or_n
 use Rattle.file_handles.proofs.Histories.{history_of}
 use Rattle.file_handles.proofs.IndexLeft.{removed_left, then_left}
 use Rattle.file_handles.proofs.MarkLeft.{removed_marked, then_marked}
+use Rattle.file_handles.proofs.TakingSteps.{removed_takes, takes_then}
 use Rattle.file_handles.proofs.handles.Handles.doom_name.Goals as goal
 
 pub returns-in_err-doom_user-clause-dooms : goal.returns-in_err-doom_user-clause-dooms
@@ -34,6 +38,13 @@ returns-then-branch-clause-dooms g c = λ tells. record {
       let left = (c.in_ok-doom_user.ensures.dooms tells (some_if _ c.in_ok-doom_user.field-0 c.in_ok-doom_user.ensures.some c.if-branch.true)).leaves b h touched stand in
       record { safe = left.safe; next = left.next };
 }
+
+pub remove-requires : goal.remove-requires
+remove-requires g c = λ tells.
+    let bare = none_if _ c.in_ok-doom_user.field-0 c.in_ok-doom_user.ensures.some c.if-branch.false in
+    let same = (c.in_ok-doom_user.ensures.none bare).1 in
+    subst (λ (s : State). IsSome (standing s (Entry c.args.name.now))) (sym (ap g.D.Disk.state same.0))
+    ((c.requires.told tells).1 (ap (users_at (kept c.args.self.now)) bare))
 
 pub returns-in_err-remove-clause-dooms : goal.returns-in_err-remove-clause-dooms
 returns-in_err-remove-clause-dooms g c = λ tells.
@@ -72,3 +83,15 @@ returns-clause-mark g c told =
     let s = g.D.Disk.state c.doom_user.new.disk in
     let t = g.D.Disk.state c.remove.new.self in
     then_marked (g.D.Disk.state c.args.disk.now) s t (c.doom_user.ensures.mark told) (removed_marked c.remove.result s t c.args.name.now (c.remove.ensures.state told))
+
+pub returns-in_err-remove-clause-takes : goal.returns-in_err-remove-clause-takes
+returns-in_err-remove-clause-takes g c told =
+    let s = g.D.Disk.state c.doom_user.new.disk in
+    let t = g.D.Disk.state c.remove.new.self in
+    takes_then (g.D.Disk.state c.args.disk.now) s t (c.doom_user.ensures.takes told) (removed_takes c.remove.result s t c.args.name.now (c.remove.ensures.state told))
+
+pub returns-clause-takes : goal.returns-clause-takes
+returns-clause-takes g c told =
+    let s = g.D.Disk.state c.doom_user.new.disk in
+    let t = g.D.Disk.state c.remove.new.self in
+    takes_then (g.D.Disk.state c.args.disk.now) s t (c.doom_user.ensures.takes told) (removed_takes c.remove.result s t c.args.name.now (c.remove.ensures.state told))

@@ -1,0 +1,69 @@
+-- What a stop amid a clearing leaves: nothing of it, its mark, or all of it.
+use Rattle.std.specs.List.{AllByRecursion}
+use Rattle.std.specs.Prelude.{false, List, None, Some, ℕ, ⊤, ◌≡◌, ◌⊎◌}
+use Rattle.cache_base.specs.declared.name.Name.{Name}
+use Rattle.cache_store.specs.Open.{KeepsTo, Represents, Tells}
+use Rattle.cache_store.specs.Records.{AreAtEnd}
+use Rattle.cache_store.specs.Session.{Session}
+use Rattle.cache_theory.specs.Covers.{cleared_by, covers}
+use Rattle.cache_theory.specs.Crash.{IsLeft}
+use Rattle.cache_theory.specs.Ever.{entries}
+use Rattle.cache_theory.specs.History.{History}
+use Rattle.cache_theory.specs.Machine.{Machine}
+use Rattle.cache_theory.specs.Marks.{Marks}
+use Rattle.context_clear.specs.Mark.{mark_bytes}
+use Rattle.disk_model.specs.Image.{Files, IsImage}
+use Rattle.disk_model.specs.State.{State, standing}
+use Rattle.disk_model.specs.declared.place.Place.{Place}
+use Rattle.disk_model.specs.declared.place.Place.TheVariants.{Clear, Doomed, Entry}
+use Rattle.entry_file.specs.EntryFile.{found}
+use Rattle.entry_file.specs.Version.{Version}
+use Rattle.entry_key.specs.Tags.{value_hash}
+use Rattle.index_record.specs.declared.record.IndexRecord.{IndexRecord}
+use Rattle.index_theory.specs.Ever.{entries_on}
+
+-- the place is none of the doomed, which the next opening removes
+abbrev pub IsLasting : Place → Type 0
+IsLasting (Doomed number) = ⊥
+IsLasting _ = ⊤
+
+-- but for the doomed, a crash could leave these files before
+abbrev pub CouldBeBefore : State → Files → Type 0
+CouldBeBefore s image =
+    (before : Files) × (IsImage s before × ((p : Place) → IsLasting p → image p ≡ before p))
+
+-- no file stands under these names, and under each other one what stood there, or none
+pub record HasNoneOf (s : State) (names : List Name) (image : Files) : Type 0 where
+  pub gone : AllByRecursion (λ name. image (Entry name) ≡ None) names
+  pub others : (name : Name)
+      → (image (Entry name) ≡ None) ⊎ (image (Entry name) ≡ standing s (Entry name))
+
+-- nothing of a clearing of these names is left, or the mark of its origin, or all of it
+pub data IsLeftByClearing (s : State) (origin : ℕ) (names : List Name) (image : Files) : Type 0 where
+  Unbegun : CouldBeBefore s image → IsLeftByClearing s origin names image
+  Marked : image Clear ≡ Some (mark_bytes origin) → IsLeftByClearing s origin names image
+  Whole : HasNoneOf s names image → IsLeftByClearing s origin names image
+
+-- so it is in each image, for the names that are cleared by the records once the update has ended
+abbrev pub ClearsUnderMark : List ℕ → Session → State → Type 0
+ClearsUnderMark origin before t = (m : Machine) → Represents before m
+    → (records : List IndexRecord)
+    × (AreAtEnd (entries_on before.disk) before.open_store.index records
+    × ((image : Files) → IsImage t image
+    → IsLeftByClearing before.disk (value_hash origin) (cleared_by records m origin) image))
+
+-- a crash leaves the mark of the origin; or under each key what it could leave before; or no version of
+-- the origin that is not pinned
+pub data IsNoneOrAll (origin : List ℕ) (s : State) (w : Marks) (image : Files) : Type 0 where
+  MarkStands : image Clear ≡ Some (mark_bytes (value_hash origin)) → IsNoneOrAll origin s w image
+  AsBefore : (before : Files) → IsLeft s w before
+      → ((key : List ℕ) → found (entries image) key ≡ found (entries before) key)
+      → IsNoneOrAll origin s w image
+  NoneIsLeft : ((key : List ℕ) (v : Version) → found (entries image) key ≡ Some v
+      → covers (value_hash origin) v.key v.header ≡ false) → IsNoneOrAll origin s w image
+
+-- so it is wherever a clearing stops, where the records in memory were right
+abbrev pub StoppedClearingIsNoneOrAll : Type 0
+StoppedClearingIsNoneOrAll = (origin : List ℕ) (before : Session) (t : State) (h : History)
+    → KeepsTo before h → Tells before h.machine → ClearsUnderMark origin before t
+    → (image : Files) → IsImage t image → IsNoneOrAll origin before.disk h.marks image
