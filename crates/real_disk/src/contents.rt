@@ -1,8 +1,10 @@
 //! What is read from an open file and written to it.
 
-ghost use Rattle.std.specs.Prelude.{◌≡◌, IfOk, Ok, OnOk};
+ghost use Rattle.std.specs.Prelude.{◌≡◌, ◌≢◌, ◌≤◌, IfOk, Ok, OnOk, length};
+ghost use Rattle.disk_model.specs.declared.place.Place.TheVariants.{Clear};
 ghost use Rattle.std.specs.Io.KnownBytes.{Appends, Consumes};
 
+use disk_model::Place;
 use std::fs::OpenFile;
 use std::io::{self, ErrorKind, Read, Seek, SeekFrom, Write};
 
@@ -12,6 +14,38 @@ pub(crate) fn read_whole<F: Read + Seek>(file: &mut F, from: u64, buf: &mut [u8]
 {
     file.seek(SeekFrom::Start(from))?;
     file.read_exact(buf)
+}
+
+// Fills the buffer's front from the offset on, as far as the file goes, and tells how many bytes that are.
+fn read_front<F: Read + Seek>(file: &mut F, from: u64, buf: &mut [u8]) -> io::Result<usize>
+    ensures len { IfOk result (λ n. n ≤ length buf.old) }
+{
+    let left = file.seek(SeekFrom::End(0))?.saturating_sub(from);
+    let len = if left < buf.len() as u64 {
+        left as usize
+    } else {
+        buf.len()
+    };
+    read_whole(file, from, &mut buf[..len])?;
+    Ok(len)
+}
+
+/// Reads what stands at a place, and tells how many bytes that is. What stands at `clear` is read as far as it goes, since a
+/// mark may be shorter than the buffer; another file has all these bytes.
+pub(crate) fn read_at<F: Read + Seek>(
+    place: &Place,
+    file: &mut F,
+    from: u64,
+    buf: &mut [u8],
+) -> io::Result<usize>
+    ensures len { IfOk result (λ n. n ≤ length buf.old) }
+    ensures whole { place.now ≢ Clear → IfOk result (λ n. n ≡ length buf.old) }
+{
+    if *place == Place::Clear {
+        return read_front(file, from, buf);
+    }
+    read_whole(file, from, buf)?;
+    Ok(buf.len())
 }
 
 /// Writes all the bytes over what stands from the offset on.

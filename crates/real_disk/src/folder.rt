@@ -1,6 +1,7 @@
 //! The folder by its places, and the files in it that have changed since the last sync.
 
-ghost use Rattle.std.specs.Prelude.{◌≡◌, ◌⊎◌, IfOk, OnOk, OnErr, IsTrue, false, length};
+ghost use Rattle.std.specs.Prelude.{◌≡◌, ◌⊎◌, IfOk, OnOk, OnErr, IsTrue, false, length, ◌≢◌, ◌≤◌};
+ghost use Rattle.disk_model.specs.declared.place.Place.TheVariants.{Clear};
 ghost use Rattle.std.specs.BTreeSet.{btree_set_len, IsUnchanged};
 ghost use Rattle.real_disk.specs.Areas.{area_in};
 ghost use Rattle.real_disk.specs.Files.{IsNoted, NotesNew, PutsBack, KeepsNote, KeepsOthers, KeepsAllBut, KeepsAll, MovesNote, Owes};
@@ -9,7 +10,7 @@ ghost use Rattle.real_disk.specs.Settled.{IsAllSynced};
 ghost use Rattle.real_disk.specs.Earlier.{HasLooked, IsSynced};
 ghost use Rattle.real_disk.specs.declared.earlier.Earlier.TheVariants.{Unsynced};
 
-use crate::contents::{after_change, read_whole, write_end, write_over};
+use crate::contents::{after_change, read_at, write_end, write_over};
 use crate::earlier::{Covered, Earlier, was_closed};
 use crate::kept::{Kept, Opened};
 use crate::listed::Listed;
@@ -110,9 +111,11 @@ impl<R: Files + AllocGlobal> Folder<'_, R> {
         }
     }
 
-    /// Fills the buffer from the offset on. It fails where the file does not have all these bytes.
+    /// Fills the buffer from the offset on, and tells how many bytes that are. It fails where the file does not have them all;
+    /// but what stands at `clear` is read as far as it goes.
     pub(crate) fn read(&mut self, place: &Place, from: u64, buf: &mut [u8]) -> io::Result<usize>
-        ensures len { IfOk result (λ n. n ≡ length buf.old) }
+        ensures len { IfOk result (λ n. n ≤ length buf.old) }
+        ensures whole { place.now ≢ Clear → IfOk result (λ n. n ≡ length buf.old) }
         ensures files { self.new.files ≡ self.old.files }
         ensures folders { self.new.tree ≡ self.old.tree }
         ensures earlier { self.new.earlier ≡ self.old.earlier }
@@ -125,10 +128,9 @@ impl<R: Files + AllocGlobal> Folder<'_, R> {
             }
         };
         opened.is_new = false;
-        let outcome = read_whole(&mut opened.file, from, buf);
+        let outcome = read_at(place, &mut opened.file, from, buf);
         self.kept.keep(opened);
-        outcome?;
-        Ok(buf.len())
+        outcome
     }
 
     /// A file that stood there loses its name and is not cut, so that a crash may still show all of it.

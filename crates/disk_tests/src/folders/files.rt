@@ -180,12 +180,14 @@ const MARKED: &[Row<'static>] = &[
     (Call::Mode("marked/clear", 0o600), Answer::Done),
     (Call::Size(Place::Clear), Answer::Number(4)),
     (Call::Read(Place::Clear, 0), Answer::Bytes(b"mark")),
+    (Call::Read(Place::Clear, 1), Answer::Bytes(b"ark")),
+    (Call::Read(Place::Clear, 9), Answer::Bytes(b"")),
     (Call::Remove(Place::Clear), Answer::Done),
     (Call::Sync, Answer::Done),
     (Call::File("marked/clear"), Answer::Nothing),
 ];
 
-// As a mark is stored over an older one, and removed.
+// As a mark is stored over an older one, read as far as it goes, and removed.
 #[test]
 fn a_file_of_the_doomed_moves_to_the_top_folder(rt: HostRuntime) -> Result<(), Fail> {
     assert!(rt; rows_answered(&rt, "marked", MARKED)? == MARKED.len());
