@@ -5,7 +5,7 @@ use Rattle.std.proofs.lemmas.Bool.Decides.{Decides-eqb}
 use Rattle.std.proofs.lemmas.List.{append_assoc, take_at}
 use Rattle.cache_base.specs.declared.limits.TheConstants.{SLOTS}
 use Rattle.cache_theory.specs.Command.{Command}
-use Rattle.cache_theory.specs.Command.Command.{At, Create, OpenKey, Append, Finish, SetElement, UnsetElement, ElementOf, PutAlt, UseEntry, Pin, Unpin, ReadPart, Close, Doom, Get, GetAlt, MainBody, HasEntry, HasGiven, ListRecords, ListGiven, Evict, EvictNames, ClearOrigin, ClearNames, Flush, StepUpdate, UpdateState, Verify, VerifyRecords, Rebuild}
+use Rattle.cache_theory.specs.Command.Command.{At, Create, OpenKey, Append, Finish, SetElement, UnsetElement, ElementOf, PutAlt, UseEntry, Pin, Unpin, ReadPart, Close, Doom, Get, GetAlt, MainBody, HasEntry, HasGiven, ListRecords, ListGiven, Evict, EvictNames, ClearOrigin, ClearNames, Resume, ResumeNames, Flush, StepUpdate, UpdateState, Verify, VerifyRecords, Rebuild}
 use Rattle.cache_theory.specs.Text.{FieldsFit, IsOneLine, command_words, command_data, command_bytes, spaced, NoneBeginsAnother}
 use Rattle.cache_script.specs.Lines.{Form, form_of, cut, form_in}
 use Rattle.cache_script.proofs.CutLaws.{Lacks, cut_at}
@@ -76,6 +76,8 @@ one_line (Evict kb) fits =
 one_line (EvictNames names) fits = absurd fits
 one_line (ClearOrigin origin) fits = one_line_pair (codes "clear") origin (lacks_by 10 (codes "clear") refl) fits.1
 one_line (ClearNames names) fits = absurd fits
+one_line Resume fits = absurd fits
+one_line (ResumeNames names) fits = absurd fits
 one_line Flush fits = lacks_by 10 (codes "flush") refl
 one_line (StepUpdate n) fits =
     one_line_pair (codes "step") (decimal n) (lacks_by 10 (codes "step") refl)

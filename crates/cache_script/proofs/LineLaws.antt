@@ -8,7 +8,7 @@ use Rattle.std.proofs.lemmas.Str.Parse.{digit_from_value}
 use Rattle.std.proofs.lemmas.Fmt.{digits_decimal}
 use Rattle.cache_base.specs.declared.limits.TheConstants.{ALT_MAX, ELEMENTS_MAX, PIECE_MAX, SLOTS}
 use Rattle.cache_theory.specs.Command.{Command}
-use Rattle.cache_theory.specs.Command.Command.{At, Create, OpenKey, Append, Finish, SetElement, UnsetElement, ElementOf, PutAlt, UseEntry, Pin, Unpin, ReadPart, Close, Doom, Get, GetAlt, MainBody, HasEntry, HasGiven, ListRecords, ListGiven, Evict, EvictNames, ClearOrigin, ClearNames, Flush, StepUpdate, UpdateState, Verify, VerifyRecords, Rebuild}
+use Rattle.cache_theory.specs.Command.Command.{At, Create, OpenKey, Append, Finish, SetElement, UnsetElement, ElementOf, PutAlt, UseEntry, Pin, Unpin, ReadPart, Close, Doom, Get, GetAlt, MainBody, HasEntry, HasGiven, ListRecords, ListGiven, Evict, EvictNames, ClearOrigin, ClearNames, Resume, ResumeNames, Flush, StepUpdate, UpdateState, Verify, VerifyRecords, Rebuild}
 use Rattle.cache_theory.specs.Text.{FieldsFit, command_words, spaced}
 use Rattle.cache_script.specs.Lines.{Form, form_of, cut, number_below, slot_in, len_in, read_in, slot_form, first_slot_form, number_form, verb_form, form_in}
 use Rattle.cache_base.specs.Numbers.{number_in}
@@ -101,6 +101,8 @@ line_read (Evict kb) fits =
 line_read (EvictNames names) fits = absurd fits
 line_read (ClearOrigin origin) fits = refl
 line_read (ClearNames names) fits = absurd fits
+line_read Resume fits = absurd fits
+line_read (ResumeNames names) fits = absurd fits
 line_read Flush fits = refl
 line_read (StepUpdate n) fits =
     ap (λ o. option_map (λ k. Form.WholeLine (StepUpdate k)) o) (number_read n fits)

@@ -3,12 +3,11 @@ use Rattle.std.proofs.Common.{◌≡◌, ◌∙◌, ℕ, List, [], ◌∷◌, Re
 use Rattle.cache_base.specs.Names.{AreRising}
 use Rattle.cache_base.specs.declared.name.Name.{Name}
 use Rattle.cache_store.specs.Clearing.{AreCleared}
-use Rattle.cache_theory.specs.Covers.{cleared_by, covered_open, covered_records, joined_names}
+use Rattle.cache_theory.specs.Covers.{covered_by, covered_open, covered_records, joined_names}
 use Rattle.cache_theory.specs.Machine.{Machine}
 use Rattle.cache_theory.specs.Proper.{IsProper}
 use Rattle.cache_theory.specs.Table.{name_of}
 use Rattle.context_clear.specs.Covered.{covers_record}
-use Rattle.entry_key.specs.Tags.{value_hash}
 use Rattle.file_handles.specs.Kept.{Kept}
 use Rattle.file_handles.specs.Stands.{HandlesStand}
 use Rattle.file_handles.specs.Users.{AreCoveredNames}
@@ -25,14 +24,13 @@ names_of_records : (rs : List IndexRecord) → map (λ (n : Name). n.0) (map (λ
 names_of_records [] = refl
 names_of_records (r ∷ rs) = ap (λ ns. r.name.0 ∷ ns) (names_of_records rs)
 
-pub clears_those : {E : Type 0} (map_now : Known) (k : Kept) (origin : List ℕ) (records : List IndexRecord) (in_use there : List Name) (hash : ℕ) → hash ≡ value_hash origin
+pub clears_those : {E : Type 0} (map_now : Known) (k : Kept) (hash : ℕ) (records : List IndexRecord) (in_use there : List Name)
     → IsKnown map_now → IsByName map_now.records records → AreCoveredNames k hash in_use
     → (slice : List IndexRecord) → slice ≡ records → there ≡ map (λ (r : IndexRecord). r.name) (filter (covers_record hash) slice)
     → (first : List Name) → first ≡ in_use → (second : List Name) → second ≡ there
-    → (r : Result (List Name) E) → IfOk r (λ names. names ≡ joined_names (map (λ n. n.0) first) (map (λ n. n.0) second)) → IfOk r AreRising → IfOk r (AreCleared map_now k origin)
-unfolding cleared_by
-clears_those map_now k origin records in_use there hash is known by covered slice same_slice taken first same_first second same_second (Err e) names rising = tt
-clears_those map_now k origin records in_use there hash is known by covered slice same_slice taken first same_first second same_second (Ok names) are rising = record {
+    → (r : Result (List Name) E) → IfOk r (λ names. names ≡ joined_names (map (λ n. n.0) first) (map (λ n. n.0) second)) → IfOk r AreRising → IfOk r (AreCleared map_now k hash)
+clears_those map_now k hash records in_use there known by covered slice same_slice taken first same_first second same_second (Err e) names rising = tt
+clears_those map_now k hash records in_use there known by covered slice same_slice taken first same_first second same_second (Ok names) are rising = record {
   records = records;
   known = known;
   by_name = by;
@@ -40,11 +38,10 @@ clears_those map_now k origin records in_use there hash is known by covered slic
   chosen = chosen;
 }
   where
-    chosen : (m : Machine) (number : ℕ → ℕ) → IsProper m → HandlesStand k m number → names ≡ cleared_by records m origin
+    chosen : (m : Machine) (number : ℕ → ℕ) → IsProper m → HandlesStand k m number → names ≡ covered_by records m hash
     chosen m number proper stand =
         let open_is : map (λ (n : Name). n.0) first ≡ covered_open m hash =
         ap (map (λ (n : Name). n.0)) (same_first ∙ covered m number proper stand) ∙ back_again (covered_open m hash) in
         let there_is : map (λ (n : Name). n.0) second ≡ covered_records hash records =
         ap (map (λ (n : Name). n.0)) (same_second ∙ taken) ∙ names_of_records (filter (covers_record hash) slice) ∙ ap (covered_records hash) same_slice in
         are ∙ ap (λ ns. joined_names ns (map (λ (n : Name). n.0) second)) open_is ∙ ap (joined_names (covered_open m hash)) there_is
-        ∙ ap (λ h. joined_names (covered_open m h) (covered_records h records)) is

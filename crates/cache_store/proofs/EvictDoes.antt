@@ -40,6 +40,7 @@ use Rattle.cache_theory.specs.Table.{get}
 use Rattle.cache_theory.specs.Text.{names_text, reply_text}
 use Rattle.cache_theory.proofs.Evicting.{all_weaker, unused_are_taken_off}
 use Rattle.cache_theory.proofs.Names.{same_bytes}
+use Rattle.cache_theory.proofs.MarkStays.{mark_stays}
 use Rattle.cache_theory.proofs.Rested.{proper_rested}
 use Rattle.disk_model.specs.State.{State}
 use Rattle.disk_model.specs.declared.disk.DiskFault.{DiskFault}
@@ -52,7 +53,7 @@ use Rattle.file_handles.proofs.Begun.{begun_in}
 use Rattle.file_handles.proofs.User.{no_one}
 use Rattle.file_handles.proofs.Where.{stand_for}
 use Rattle.index_theory.specs.Ever.{entries_on}
-use Rattle.index_theory.specs.Leaves.{LeavesIndex}
+use Rattle.index_theory.specs.Leaves.{LeavesBeside}
 use Rattle.index_update.specs.Rest.{name_bytes}
 use Rattle.index_update.proofs.ReadMore.{base_then}
 use Rattle.record_list.specs.Lists.{record_at}
@@ -118,17 +119,17 @@ evict_looks kb answer P failed other k now s t old new was same crash h is =
 -- the files of those of the names that stand are removed, or some first of them
 pub record Removes (names : List Name) (r : Result (Unit {0}) DiskFault) (k l : Kept) (s u : State) : Type 0 where
   pub dooms : DoomsAll (filter (has_file s) names) r (cache_at k s) (cache_at l u)
-  pub index : LeavesIndex s u
+  pub index : LeavesBeside s u
 
 -- the same where the disk was looked at before, and the names and the files are slices
 pub removes : (names given list files : List Name) (r : Result (Unit {0}) DiskFault) (k l : Kept) (s t v u : State) → given ≡ names → files ≡ list → list ≡ filter (has_file t) given
-    → t ≡ s → v ≡ t → DoomsAll files r (cache_at k v) (cache_at l u) → LeavesIndex v u → Removes names r k l s u
+    → t ≡ s → v ≡ t → DoomsAll files r (cache_at k v) (cache_at l u) → LeavesBeside v u → Removes names r k l s u
 removes names given list files r k l s t v u same_names same_files are first second dooms index =
     let stand : files ≡ filter (has_file s) names = same_files ∙ are ∙ (λ i. filter (has_file (first i)) (same_names i)) in
     let same : v ≡ s = second ∙ first in
     record {
       dooms = subst (λ (ns : List Name). DoomsAll ns r (cache_at k s) (cache_at l u)) stand (subst (λ (x : State). DoomsAll files r (cache_at k x) (cache_at l u)) same dooms);
-      index = subst (λ (x : State). LeavesIndex x u) same index;
+      index = subst (λ (x : State). LeavesBeside x u) same index;
     }
 
 module _ (kb : ℕ) (k l : Kept) (now : ℕ) (s t u : State) (old mid : MemoryIndex) (names : List Name) (r : Result (Unit {0}) DiskFault) (finishes : Finishes s t old mid)
@@ -211,7 +212,8 @@ module _ (kb : ℕ) (k l : Kept) (now : ℕ) (s t u : State) (old mid : MemoryIn
         matches = record {
           moment = off.lost.moment ∙ is.matches.moment;
           rest = rest_is;
-          holds = holds_on s u old.map new.map removed.index (base_then old.map mid.map new.map finishes.base forgets.base) is.matches.holds;
+          mark = mark_stays h.machine (EvictNames names) tt ∙ is.matches.mark ∙ sym removed.index.mark;
+          holds = holds_on s u old.map new.map removed.index.index (base_then old.map mid.map new.map finishes.base forgets.base) is.matches.holds;
         };
       }
 

@@ -77,7 +77,7 @@ module _ (c : Command) (m : Machine) (body : List ℕ) (p : ShownPart) (shows : 
   answers_cut e now cuts = record {
     says = tt;
     outcome = tt;
-    cut = subst (λ (text : List ℕ). IsCut was.taken now.taken text) (shows.text ∙ ap reply_text (sym shows.is)) (cuts was.taken [] (said_nothing was empty));
+    cut = λ some. subst (λ (text : List ℕ). IsCut was.taken now.taken text) (shows.text ∙ ap reply_text (sym shows.is)) (cuts was.taken [] (said_nothing was empty));
   }
 
   pub front_shown : (now : Option (List ℕ)) → SendsFront was now (p.head ++ part_of_body body p.from (p.to - p.from)) → SendsReplyFront c m was.taken now

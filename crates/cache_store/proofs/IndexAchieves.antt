@@ -22,6 +22,7 @@ use Rattle.cache_theory.specs.Step.{effect, state_reply, step}
 use Rattle.cache_theory.specs.Table.{get}
 use Rattle.cache_theory.proofs.Rested.{with_rest}
 use Rattle.disk_model.specs.State.{State}
+use Rattle.disk_model.specs.declared.place.Place.TheVariants.{Clear}
 use Rattle.file_handles.specs.Cache.{cache_at}
 use Rattle.file_handles.specs.Kept.{Kept}
 use Rattle.file_handles.specs.Stands.{KeepsWhere as CacheKeepsWhere, Represents as CacheRepresents}
@@ -35,7 +36,7 @@ use Rattle.index_update.specs.Rest.{name_bytes}
 use Rattle.index_update.proofs.TellLaws.{bytes_drop}
 use Rattle.startup_read.specs.Spares.{SparesEntries}
 use Rattle.startup_read.proofs.KeptLaws.{same_base_keeps_index}
-use Rattle.startup_read.proofs.SparesLaws.{spares_nothing}
+use Rattle.startup_read.proofs.SparesLaws.{spared_stands, spares_nothing}
 
 -- the store and its disk, by their parts
 abbrev pub session_at : Kept → ℕ → MemoryIndex → State → Session
@@ -103,7 +104,12 @@ module _ (c : Command) (rest : Machine → List (List ℕ)) (rests : RestsWith c
       subst (λ (v : Marks). KeepsWhere b (session_at k now new t) (record { machine = (step h.machine c).next; marks = v })) (sym (rests.marks h.machine h.marks))
       (next_is (λ n. KeepsWhere b (session_at k now new t) (record { machine = n; marks = begun_marks h.machine c h.marks })) h.machine (record {
         stands = rested_in (rest h.machine) (cache_at k t) (begun c h) (begun_spared c (session_at k now old s) t h is spares);
-        matches = record { moment = is.matches.moment; rest = rest_is; holds = holds is.matches.holds };
+        matches = record {
+          moment = is.matches.moment;
+          rest = rest_is;
+          mark = is.matches.mark ∙ sym (spared_stands s t (spares is.matches.holds.apart) Clear (λ of. of));
+          holds = holds is.matches.holds;
+        };
       }))
 
   pub rests_tells : (h : Machine) → rest h ≡ name_bytes new.update → TellsOf (get h.shelf) new → Tells (session_at k now new t) (step h c).next

@@ -22,7 +22,8 @@ use Rattle.cache_theory.specs.Table.{get}
 use Rattle.cache_theory.proofs.DiskChanges.{sync_keeps}
 use Rattle.disk_model.specs.Sound.{IsSound}
 use Rattle.disk_model.specs.State.{State, settled, standing}
-use Rattle.disk_model.specs.declared.place.Place.TheVariants.{Log}
+use Rattle.disk_model.specs.declared.place.Place.TheVariants.{Clear, Log}
+use Rattle.disk_model.proofs.Standing.{settled_same}
 use Rattle.file_handles.specs.Cache.{cache_at}
 use Rattle.file_handles.specs.Kept.{Kept}
 use Rattle.file_handles.specs.Stands.{Represents as CacheRepresents}
@@ -48,7 +49,7 @@ use Rattle.startup_read.specs.Refreshing.{after_refresh, is_due}
 use Rattle.startup_read.specs.Spares.{SparesEntries}
 use Rattle.startup_read.specs.Writing.{WritesIndex}
 use Rattle.startup_read.proofs.KeptLaws.{left_keeps_index}
-use Rattle.startup_read.proofs.SparesLaws.{spares_sync}
+use Rattle.startup_read.proofs.SparesLaws.{spared_stands, spares_sync}
 
 -- ---- the records as they were
 
@@ -106,6 +107,7 @@ module _ (k : Kept) (now : ℕ) (s u : State) (old new : MemoryIndex) (spares : 
       matches = record {
         moment = is.matches.moment;
         rest = is.matches.rest ∙ ap name_bytes (sym rest);
+        mark = is.matches.mark ∙ sym (spared_stands s u (spares is.matches.holds.apart) Clear (λ of. of)) ∙ sym (settled_same u Clear);
         holds = holds_synced u new.map sound (holds is.matches.holds);
       };
     };

@@ -6,15 +6,17 @@ use Rattle.std.proofs.lemmas.Result.{IfOk-weaker}
 use Rattle.cache_base.specs.Checks.{first_failing}
 use Rattle.cache_theory.specs.Checks.{checks}
 use Rattle.cache_theory.specs.Command.{Command, Reply}
-use Rattle.cache_theory.specs.Command.Command.{Create, OpenKey, Append, Finish, SetElement, UnsetElement, UseEntry, Pin, Unpin, PutAlt, Close, Doom}
+use Rattle.cache_theory.specs.Command.Command.{Create, OpenKey, Append, ClearNames, ClearOrigin, Finish, Resume, ResumeNames, SetElement, UnsetElement, UseEntry, Pin, Unpin, PutAlt, Close, Doom}
 use Rattle.cache_theory.specs.Command.Reply.{Done, Refused, NoneThere}
 use Rattle.cache_theory.specs.History.{History}
+use Rattle.cache_theory.specs.Laws.{KeepsMark}
 use Rattle.cache_theory.specs.Machine.{Machine, object_of}
 use Rattle.cache_theory.specs.Proper.{IsProper}
 use Rattle.cache_theory.specs.Refiled.{IsOfEntries}
 use Rattle.cache_theory.specs.Step.{Answer, answer, changed, effect, step, stepped}
 use Rattle.cache_theory.specs.Table.{get}
 use Rattle.cache_theory.specs.declared.refusal.Refusal.{Refusal}
+use Rattle.cache_theory.proofs.MarkStays.{mark_stays}
 use Rattle.entry_parts.specs.Elements.{element}
 use Rattle.entry_parts.specs.Setting.{without_element}
 use Rattle.file_handles.specs.Answers.{done_or, done_or_none}
@@ -30,7 +32,7 @@ use Rattle.file_handles.proofs.LearntLaws.{learnt_scanned}
 use Rattle.file_handles.proofs.LearntRest.{learnt_rest}
 use Rattle.file_handles.proofs.Where.{LeavesWhere, at_moment, carried_out_at}
 use Rattle.index_map.specs.Known.{Known, SameBase}
-use Rattle.index_theory.specs.Leaves.{LeavesIndex}
+use Rattle.index_theory.specs.Leaves.{LeavesBeside, LeavesIndex}
 use Rattle.index_theory.specs.Scan.{scanned}
 use Rattle.index_update.specs.Rest.{name_bytes}
 use Rattle.startup_read.proofs.KeptLaws.{left_keeps_index, same_base_keeps_index}
@@ -138,6 +140,14 @@ holds_on s t old new leaves same holds = record {
   unclean = leaves.unclean holds.apart holds.unclean;
 }
 
+-- a command on entries leaves the mark alone
+entries_keep_mark : (c : Command) → IsOfEntries c → KeepsMark c
+entries_keep_mark (ClearOrigin origin) of = absurd of
+entries_keep_mark (ClearNames names) of = absurd of
+entries_keep_mark Resume of = absurd of
+entries_keep_mark (ResumeNames names) of = absurd of
+entries_keep_mark c of = tt
+
 -- an answer that is still to be said has a reply
 unsaid_reply : (a : Answered) → a ≢ answered.All → (r : Reply) × (reply_of a ≡ Some r)
 unsaid_reply answered.Done unsaid = (_, refl)
@@ -150,13 +160,14 @@ unsaid_reply answered.Ready unsaid = (_, refl)
 unsaid_reply (answered.Updating n) unsaid = (_, refl)
 unsaid_reply (answered.Rebuilt n) unsaid = (_, refl)
 unsaid_reply (answered.Cleared n) unsaid = (_, refl)
+unsaid_reply answered.Resumed unsaid = (_, refl)
 unsaid_reply (answered.Checked found) unsaid = (_, refl)
 unsaid_reply (answered.Refused r) unsaid = (_, refl)
 
 -- The command is achieved.
 
 module _ {b : Bool} {c : Command} {h : History} {before after : Session} {e : Effect} (keeps : KeepsMoment c) (of : IsOfEntries c) (same : after.open_store.moment ≡ before.open_store.moment)
-    (is : KeepsWhere b before h) (leaves : LeavesIndex before.disk after.disk) (learns : Learns e before.open_store.index after.open_store.index) where
+    (is : KeepsWhere b before h) (leaves : LeavesBeside before.disk after.disk) (learns : Learns e before.open_store.index after.open_store.index) where
   achieved : (answer : Result Answered StoreFault) (r : Reply) → replied answer ≡ Some r → LeavesWhere b c h (Some r) (cache_of after) → Teaches h.machine c e → Achieves b c h answer before after
   achieved answer r said left taught = record {
     safe = left.safe;
@@ -166,7 +177,8 @@ module _ {b : Bool} {c : Command} {h : History} {before after : Session} {e : Ef
       matches = record {
         moment = step_moment h.machine c keeps ∙ is.matches.moment ∙ sym same;
         rest = rest is.matches.rest;
-        holds = holds_on before.disk after.disk before.open_store.index.map after.open_store.index.map leaves learns.base is.matches.holds;
+        mark = mark_stays h.machine c (entries_keep_mark c of) ∙ is.matches.mark ∙ sym leaves.mark;
+        holds = holds_on before.disk after.disk before.open_store.index.map after.open_store.index.map leaves.index learns.base is.matches.holds;
       };
     });
     tells = on_ok answer (λ comes. elim comes [
@@ -184,7 +196,7 @@ module _ {b : Bool} {c : Command} {h : History} {before after : Session} {e : Ef
 
 -- so it is where the call has left the history
 module _ {b : Bool} {c : Command} {h : History} {before after : Session} {e : Effect} (keeps : KeepsMoment c) (of : IsOfEntries c) (same : after.open_store.moment ≡ before.open_store.moment)
-    (is : KeepsWhere b before h) (leaves : LeavesIndex before.disk after.disk) where
+    (is : KeepsWhere b before h) (leaves : LeavesBeside before.disk after.disk) where
   left_achieves : (answer : Result Answered StoreFault) (reply : Option Reply) → LeavesWhere b c h reply (cache_of after) → IfSome reply (λ r. Teaches h.machine c e)
       → IsLearnt reply e answer before.open_store.index after.open_store.index → Achieves b c h answer before after
   left_achieves (Ok a) reply left taught learnt =
@@ -198,7 +210,7 @@ module _ {b : Bool} {c : Command} {h : History} {before after : Session} {e : Ef
 pub learnt_achieves : (c : Command) (reply : Option Reply) (e : Effect) (answer : Result Answered StoreFault) (before after : Session) → KeepsMoment c → IsOfEntries c
     → after.open_store.moment ≡ before.open_store.moment → CarriesOutAt before.open_store.moment c reply (cache_of before) (cache_of after)
     → TeachesAt before.open_store.moment before.open_store.handles c reply e
-    → IsLearnt reply e answer before.open_store.index after.open_store.index → LeavesIndex before.disk after.disk → AchievesFor c answer before after
+    → IsLearnt reply e answer before.open_store.index after.open_store.index → LeavesBeside before.disk after.disk → AchievesFor c answer before after
 learnt_achieves c reply e answer before after keeps of same carried teaches learnt leaves b h is =
     let left = carried_out_at carried b h.machine h.marks is.matches.moment is.stands in
     left_achieves keeps of same is leaves answer reply left (teaches h.machine is.stands.number is.matches.moment is.stands.stands.proper is.stands.stands.handles left.replies) learnt
@@ -246,7 +258,7 @@ unfolding effect StaysUnlessDone
 doom_done key m other = absurd (other refl)
 
 module _ (r : Result Effect HandleFault) (answer : Result Answered StoreFault) (before after : Session) (same : after.open_store.moment ≡ before.open_store.moment)
-    (learns : IsLearnt (done_or r) (effect_of r) answer before.open_store.index after.open_store.index) (leaves : LeavesIndex before.disk after.disk) where
+    (learns : IsLearnt (done_or r) (effect_of r) answer before.open_store.index after.open_store.index) (leaves : LeavesBeside before.disk after.disk) where
   at_now : (c : Command) → IfOk r (HasEffect before.open_store.handles c) → IfOk r (HasEffectAt before.open_store.moment before.open_store.handles c)
   at_now c =
       let now = before.open_store.moment in
@@ -299,7 +311,7 @@ module _ (r : Result Effect HandleFault) (answer : Result Answered StoreFault) (
   doom_achieves key = handled_achieves (Doom key) tt tt (doom_done key)
 
 pub unset_achieves : (r : Result (Option Effect) HandleFault) (answer : Result Answered StoreFault) (before after : Session) → after.open_store.moment ≡ before.open_store.moment
-    → IsLearnt (done_or_none r) (effect_of_some r) answer before.open_store.index after.open_store.index → LeavesIndex before.disk after.disk → (s : ℕ) (name : List ℕ)
+    → IsLearnt (done_or_none r) (effect_of_some r) answer before.open_store.index after.open_store.index → LeavesBeside before.disk after.disk → (s : ℕ) (name : List ℕ)
     → CarriesOut (UnsetElement s name) (done_or_none r) (cache_of before) (cache_of after)
     → IfOk r (λ some. IfSome some (HasEffect before.open_store.handles (UnsetElement s name))) → AchievesFor (UnsetElement s name) answer before after
 unset_achieves r answer before after same learns leaves s name carried has =
@@ -313,7 +325,7 @@ unset_achieves r answer before after same learns leaves s name carried has =
 -- nothing is learnt of the command
 module _ {T : Type 0} (r : Result T HandleFault) (answer : Result Answered StoreFault) (before after : Session) (same : after.open_store.moment ≡ before.open_store.moment)
     (index : after.open_store.index ≡ before.open_store.index) (replies : replied answer ≡ done_or r) (not_said : answer ≢ Ok answered.All) (no_sink : answer ≢ Err fault.Sink)
-    (leaves : LeavesIndex before.disk after.disk) where
+    (leaves : LeavesBeside before.disk after.disk) where
   unlearnt : IsLearnt (done_or r) effects.Same answer before.open_store.index after.open_store.index
   unlearnt = record {
     is_reply = go answer replies;

@@ -1,6 +1,7 @@
 pub mod BasedIndex
 pub mod BegunIndex
 pub mod CalmAccounts
+pub mod ClearCommands
 pub mod ClearDoes
 pub mod ClearedLaws
 pub mod ClearNames
@@ -25,12 +26,13 @@ pub mod JoinedNames
 pub mod LearntAchieves
 pub mod ListDoes
 pub mod MarkKept
-pub mod MomentAndRest
+pub mod Beside
 pub mod NamesDoomed
 pub mod NothingDoomed
 pub mod ObjectsDoomed
 pub mod OneLearnt
 pub mod Opened
+pub mod OriginHash
 pub mod OpenedIndex
 pub mod PartRead
 pub mod PartWhole

@@ -23,12 +23,12 @@ use Rattle.disk_model.specs.declared.place.Place.TheVariants.{Clear, Doomed}
 use Rattle.disk_model.proofs.Files.{with_file-apart, with_file-same}
 use Rattle.disk_model.proofs.Places.{is_same-refl}
 use Rattle.disk_model.proofs.Sound.{found, no_writes, sound_added, sound_removed, sound_settled}
-use Rattle.disk_model.proofs.Standing.{added_puts, removed_puts}
+use Rattle.disk_model.proofs.Standing.{added_puts, removed_puts, settled_same}
 use Rattle.file_handles.specs.Cache.{cache_at}
 use Rattle.file_handles.specs.Kept.{Kept}
 use Rattle.file_handles.specs.Stands.{KeepsWhere, Stands}
 use Rattle.cache_store.proofs.Closed.{settled_quiet}
-use Rattle.cache_store.proofs.PerformStands.{settled_in}
+use Rattle.cache_store.proofs.PerformStands.{settled_in, synced_in}
 use Rattle.index_theory.specs.Leaves.{LeavesIndex}
 use Rattle.index_theory.proofs.LeavesLaws.{both_leave_index, create_leaves_index, nothing_leaves_index, remove_leaves_index, rename_leaves_index, sync_leaves_index, write_leaves_index}
 use Rattle.startup_read.proofs.OpeningLaws.{sound_wrote}
@@ -225,6 +225,16 @@ pub ended_keeps : (crash : Bool) (k : Kept) (s t : State) (h : History) → IsSo
 ended_keeps crash k s t h sound keeps is =
     subst (λ u. KeepsWhere crash (cache_at k u) (settled_at h.machine)) (sym is)
     (settled_in {b = crash} (cache_at k (removed Clear s)) (sound_removed Clear s sound) h (removed_kept crash k s h keeps))
+
+-- and so it is with the marks of before
+pub ended_goes_on : (crash : Bool) (k : Kept) (s t : State) (h : History) → IsSound s → KeepsWhere crash (cache_at k s) h → RemovesFile s t → KeepsWhere crash (cache_at k t) h
+ended_goes_on crash k s t h sound keeps is =
+    subst (λ u. KeepsWhere crash (cache_at k u) h) (sym is)
+    (synced_in {b = crash} (cache_at k (removed Clear s)) (sound_removed Clear s sound) h (removed_kept crash k s h keeps))
+
+-- no file stands at `clear` then
+pub ended_stands : (s t : State) → RemovesFile s t → standing t Clear ≡ None
+ended_stands s t is = ap (λ (u : State). standing u Clear) is ∙ settled_same (removed Clear s) Clear ∙ (removed_puts Clear s).here
 
 -- nothing is pending then
 pub ended_quiet : (s t : State) → RemovesFile s t → IsQuiet t

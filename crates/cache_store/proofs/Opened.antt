@@ -1,5 +1,5 @@
 -- What the disk keeps as the cache is opened.
-use Rattle.std.proofs.Common.{◌≡◌, ◌∙◌, ℕ, ◌<◌, ◌^◌, List, [], ◌∷◌, refl, sym, ap, subst}
+use Rattle.std.proofs.Common.{◌≡◌, ◌∙◌, ℕ, ◌<◌, ◌^◌, List, [], ◌∷◌, Option, refl, sym, ap, subst}
 use Rattle.std.specs.Prelude.{None, option_and_then}
 use Rattle.cache_theory.specs.Crash.{IsSafe}
 use Rattle.cache_theory.specs.Ever.{entry_place}
@@ -14,7 +14,7 @@ use Rattle.disk_model.specs.Listing.{IsFinite}
 use Rattle.disk_model.specs.Sound.{IsQuiet, IsSound}
 use Rattle.disk_model.specs.State.{State, removed, standing}
 use Rattle.disk_model.specs.declared.place.Place.{Place}
-use Rattle.disk_model.specs.declared.place.Place.TheVariants.{Doomed}
+use Rattle.disk_model.specs.declared.place.Place.TheVariants.{Clear, Doomed}
 use Rattle.disk_model.proofs.Sound.{sound_settled}
 use Rattle.doom_area.specs.DoomArea.{IsCleared, RemovesDoomed, removed_each}
 use Rattle.entry_file.specs.EntryFile.{found, read_for, whole_in}
@@ -57,11 +57,11 @@ each_safe [] s w safe = safe
 each_safe (n ∷ ns) s w safe = each_safe ns (removed (Doomed n) s) w (remove_keeps s w (Doomed n) (λ name same. absurd (cc)) safe)
 
 -- a disk at rest is safe at the opening
-shelf_safe : (s : State) (now : ℕ) (shelf : Table (List ℕ)) (rest : List (List ℕ)) → IsQuiet s → IsShelf s shelf → IsSafe s (marks_of (opened now shelf rest))
-shelf_safe s now shelf rest quiet is = quiet_is_safe s (opened now shelf rest) quiet (λ key. ap (λ c. whole_in (read_for key c)) (is.entries_are (file_name key)))
+shelf_safe : (s : State) (now : ℕ) (shelf : Table (List ℕ)) (mark : Option (List ℕ)) (rest : List (List ℕ)) → IsQuiet s → IsShelf s shelf → IsSafe s (marks_of (opened now shelf mark rest))
+shelf_safe s now shelf mark rest quiet is = quiet_is_safe s (opened now shelf mark rest) quiet (λ key. ap (λ c. whole_in (read_for key c)) (is.entries_are (file_name key)))
 
 pub opened_safe : (s : State) (now : ℕ) → OpensSafely now s s
-opened_safe s now m starts quiet = subst (λ n. IsSafe s (marks_of n)) (sym starts.is_opened) (shelf_safe s now starts.shelf (name_bytes starts.rest) quiet starts.is_shelf)
+opened_safe s now m starts quiet = subst (λ n. IsSafe s (marks_of n)) (sym starts.is_opened) (shelf_safe s now starts.shelf (standing s Clear) (name_bytes starts.rest) quiet starts.is_shelf)
 
 -- so it is while it is cleared
 pub cleared_safe : (s d : State) (now : ℕ) → RemovesDoomed s d → OpensSafely now s d
@@ -70,14 +70,14 @@ cleared_safe s d now (numbers, is) m starts quiet = subst (λ u. IsSafe u (marks
 -- and while the index is opened
 pub begun_safe : (s d t : State) (now : ℕ) → IsSound s → RemovesDoomed s d → (IsApart d → SparesEntries d t) → OpensSafely now s t
 begun_safe s d t now sound removes spares m starts quiet =
-    spared_is_safe d t (marks_of m) (spares ((cleared_left s d removes).apart (quiet_is_apart s quiet sound))) (cleared_safe s d now removes m starts quiet)
+    spared_is_safe d t (marks_of m) (spares ((cleared_left s d removes).index.apart (quiet_is_apart s quiet sound))) (cleared_safe s d now removes m starts quiet)
 
 -- a machine at an opening
 pub starts_on : (now : ℕ) (s : State) → IsFinite s → (m : Machine) × StartsOn now s m
 starts_on now s finite =
     let shelf = shelf_exists s finite in
     let rest = rest_exists s finite in
-    (opened now shelf.0 (name_bytes rest.0), record { shelf = shelf.0; rest = rest.0; is_shelf = shelf.1; is_rest = rest.1; is_opened = refl })
+    (opened now shelf.0 (standing s Clear) (name_bytes rest.0), record { shelf = shelf.0; rest = rest.0; is_shelf = shelf.1; is_rest = rest.1; is_opened = refl })
 
 -- after a crash at any exit each key is found as it was
 pub keeps_found : (s t : State) (now : ℕ) → IsFinite s → OpensSafely now s t → KeepsFound s t
@@ -111,22 +111,22 @@ shelf_along : (s t : State) (shelf : Table (List ℕ)) → ((name : List ℕ) �
 shelf_along s t shelf same is = record { table = is.table; bytes = is.bytes; entries_are = λ name. same name ∙ is.entries_are name }
 
 -- the handles and the disk then keep to the machine at the opening
-opened_keeps : (d : State) (now : ℕ) (k : Kept) (shelf : Table (List ℕ)) (rest : List (List ℕ)) → IsSound d → now < 2 ^ 32 → Begins k → IsShelf d shelf → ((n : ℕ) → standing d (Doomed n) ≡ None)
-    → CacheKeepsTo (cache_at k (opened_index d)) (settled_at (opened now shelf rest))
-opened_keeps d now k shelf rest sound small begins is none =
+opened_keeps : (d : State) (now : ℕ) (k : Kept) (shelf : Table (List ℕ)) (mark : Option (List ℕ)) (rest : List (List ℕ)) → IsSound d → now < 2 ^ 32 → Begins k → IsShelf d shelf → ((n : ℕ) → standing d (Doomed n) ≡ None)
+    → CacheKeepsTo (cache_at k (opened_index d)) (settled_at (opened now shelf mark rest))
+opened_keeps d now k shelf mark rest sound small begins is none =
     let u : State = opening_at Synced d in
     let quiet : IsQuiet u = settled_quiet (marked (set_aside d)) in
     let sound_u : IsSound u = sound_settled (marked (set_aside d)) (sound_marked (set_aside d) (sound_aside d sound)) in
     let is_u : IsShelf u shelf = shelf_along d u shelf (λ name. synced_stands d (entry_place name) sound (λ of. of)) is in
     let is_t : IsShelf (opened_index d) shelf = shelf_along d (opened_index d) shelf (λ name. opened_stands d (entry_place name) sound (λ of. of)) is in
-    (begins (opened_index d) now shelf rest small is_t (λ n. opened_stands d (Doomed n) sound (λ of. of) ∙ none n)).crash
+    (begins (opened_index d) now shelf mark rest small is_t (λ n. opened_stands d (Doomed n) sound (λ of. of) ∙ none n)).crash
     (spared_is_filed_once u (opened_index d) (opened_spares d) (quiet_files_once u quiet sound_u))
-    (spared_is_safe u (opened_index d) (marks_of (opened now shelf rest)) (opened_spares d) (shelf_safe u now shelf rest quiet is_u))
+    (spared_is_safe u (opened_index d) (marks_of (opened now shelf mark rest)) (opened_spares d) (shelf_safe u now shelf mark rest quiet is_u))
 
 -- the store stands for the machine at the opening, and its records are right
 module _ (s d t : State) (now : ℕ) (o : Open) (removes : RemovesDoomed s d) (cleared : IsCleared s d) where
   same_index : (p : Place) → IsOfIndex p → standing d p ≡ standing s p
-  same_index = (cleared_left s d removes).stands
+  same_index = (cleared_left s d removes).index.stands
 
   same_entries : (name : List ℕ) → entries_on d name ≡ entries_on s name
   same_entries name = cleared.others (entry_place name) (λ n same. cc)
@@ -136,9 +136,15 @@ module _ (s d t : State) (now : ℕ) (o : Open) (removes : RemovesDoomed s d) (c
   opens sound is moment small begins rest tells holds = record {
     keeps = λ m starts. record {
       stands = subst (λ n. CacheKeepsTo (cache_at o.handles t) (settled_at n)) (sym starts.is_opened)
-          (subst (λ u. CacheKeepsTo (cache_at o.handles u) (settled_at (opened now starts.shelf (name_bytes starts.rest)))) (sym is)
-          (opened_keeps d now o.handles starts.shelf (name_bytes starts.rest) sound small begins (shelf_along s d starts.shelf same_entries starts.is_shelf) cleared.none));
-      matches = record { moment = ap (λ n. n.moment) starts.is_opened ∙ sym moment; rest = same_rest m starts; holds = holds };
+          (subst (λ u. CacheKeepsTo (cache_at o.handles u) (settled_at (opened now starts.shelf (standing s Clear) (name_bytes starts.rest)))) (sym is)
+          (opened_keeps d now o.handles starts.shelf (standing s Clear) (name_bytes starts.rest) sound small begins (shelf_along s d starts.shelf same_entries starts.is_shelf) cleared.none));
+      matches = record {
+        moment = ap (λ n. n.moment) starts.is_opened ∙ sym moment;
+        rest = same_rest m starts;
+        mark = ap (λ n. n.mark) starts.is_opened ∙ sym (cleared.others Clear (λ n same. cc)) ∙ sym (opened_stands d Clear sound (λ of. of))
+            ∙ sym (ap (λ (u : State). standing u Clear) is);
+        holds = holds;
+      };
     };
     tells = λ m starts honest. record {
       rest = same_rest m starts;

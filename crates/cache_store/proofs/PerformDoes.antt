@@ -101,7 +101,7 @@ module _ (c : Command) (reads : IsReading c) where
       then_is : KeepsWhere b then h
       then_is = record {
         stands = goes_on b h is.stands;
-        matches = record { moment = is.matches.moment; rest = is.matches.rest; holds = is.matches.holds };
+        matches = record { moment = is.matches.moment; rest = is.matches.rest; mark = is.matches.mark; holds = is.matches.holds };
       }
 
       begun_is : CacheKeepsWhere b (cache_of before) (begun c h)
@@ -166,7 +166,7 @@ at_achieves now before small b h is =
       replies = refl;
       next = record {
         stands = moment_in now (cache_of before) (begun (At now) h) proper begun_is;
-        matches = record { moment = refl; rest = is.matches.rest; holds = is.matches.holds };
+        matches = record { moment = refl; rest = is.matches.rest; mark = is.matches.mark; holds = is.matches.holds };
       };
       tells = ⊎_elim (λ tells. record { rest = tells.rest; tells = tells.tells }) (λ same. absurd (cc));
     }

@@ -9,6 +9,7 @@ use Rattle.cache_theory.specs.Marks.{is_buried, marks_of}
 use Rattle.cache_theory.specs.Proper.{IsProper}
 use Rattle.cache_theory.specs.Table.{get}
 use Rattle.cache_theory.proofs.Crashes.{quiet_is_safe}
+use Rattle.cache_theory.proofs.DiskChanges.{sync_keeps}
 use Rattle.cache_theory.proofs.EverSteps.{ever_settled}
 use Rattle.cache_theory.proofs.FiledOnce.{sync_files_once}
 use Rattle.disk_model.specs.Sound.{IsSound}
@@ -21,7 +22,7 @@ use Rattle.file_handles.specs.Cache.{Cache, cache_at}
 use Rattle.file_handles.specs.Kept.{Kept}
 use Rattle.file_handles.specs.Stands.{KeepsWhere, Stands}
 use Rattle.cache_store.proofs.Closed.{settled_quiet}
-use Rattle.cache_store.proofs.MomentAndRest.{both_in}
+use Rattle.cache_store.proofs.Beside.{beside_in}
 
 -- ---- another moment
 
@@ -29,7 +30,7 @@ abbrev pub at_moment : ℕ → Machine → Machine
 at_moment now m = record m { moment = now }
 
 pub moment_in : (now : ℕ) {b : Bool} (at : Cache) (h : History) → IsProper (at_moment now h.machine) → KeepsWhere b at h → KeepsWhere b at (record { machine = at_moment now h.machine; marks = h.marks })
-moment_in now at h proper is = both_in now h.machine.rest at h proper is
+moment_in now at h proper is = beside_in now h.machine.rest h.machine.mark at h proper is
 
 -- ---- a sync
 
@@ -60,6 +61,23 @@ module _ (s : State) (sound : IsSound s) (k : Kept) (m : Machine) where
       let same = sound.one_place 0 (Doomed d) (entry_place name) file at (ever_settled s (entry_place name) file ever) in
       absurd (cc)
 
+-- with the marks of before
+pub synced_in : {b : Bool} (at : Cache) (sound : IsSound at.disk) (h : History) → KeepsWhere b at h → KeepsWhere b (cache_at at.handles (settled at.disk)) h
+synced_in at sound h is =
+    let s = at.disk in
+    record {
+      number = is.number;
+      stands = settled_stands s sound at.handles h.machine is.number is.stands;
+      crash_kept = λ on. let kept = is.crash_kept on in record {
+        safe = sync_keeps s h.marks kept.safe;
+        once = sync_files_once s kept.once;
+        aside = λ d i file name placed held names ever. apart_aside s sound at.handles h.machine d file name _ names ever;
+        unburied = kept.unburied;
+        young = kept.young;
+      };
+    }
+
+-- and with those of a mark
 pub settled_in : {b : Bool} (at : Cache) (sound : IsSound at.disk) (h : History) → KeepsWhere b at h → KeepsWhere b (cache_at at.handles (settled at.disk)) (settled_at h.machine)
 settled_in at sound h is =
     let s = at.disk in

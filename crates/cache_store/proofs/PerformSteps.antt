@@ -1,17 +1,18 @@
 -- What a step leaves of the machine.
 use Rattle.std.proofs.Common.{◌≡◌, ℕ, true, List, [], ◌∷◌, Option, Some, None, refl, ◌∙◌}
-use Rattle.std.specs.Prelude.{◌&&◌, ◌||◌, ⊤, is_none, not}
+use Rattle.std.specs.Prelude.{◌&&◌, ◌||◌, ⊤, is_none, is_some, not}
 use Rattle.std.proofs.lemmas.Bool.{cond_both}
 use Rattle.cache_base.specs.Checks.{first_failing}
 use Rattle.cache_base.specs.declared.name.Name.{Name}
 use Rattle.cache_theory.specs.Checks.{checks}
 use Rattle.cache_theory.specs.Command.{Command}
-use Rattle.cache_theory.specs.Command.Command.{At, OpenKey, Finish, UnsetElement, ElementOf, ReadPart, Close, Get, GetAlt, MainBody, HasGiven, Evict, EvictNames, ClearOrigin, ClearNames, Flush, UpdateState}
+use Rattle.cache_theory.specs.Command.Command.{At, OpenKey, Finish, UnsetElement, ElementOf, ReadPart, Close, Get, GetAlt, MainBody, HasGiven, Evict, EvictNames, ClearOrigin, ClearNames, Resume, ResumeNames, Flush, UpdateState}
 use Rattle.cache_theory.specs.Command.Reply.{Done, NoneThere}
-use Rattle.cache_theory.specs.Covers.{cleared}
+use Rattle.cache_theory.specs.Covers.{cleared, resumed}
 use Rattle.cache_theory.specs.Machine.{Machine, has_slots, is_writer, number_of, object_of, on_shelf, used_by}
 use Rattle.cache_theory.specs.Marks.{Marks, acked, begun}
-use Rattle.cache_theory.specs.Step.{Answer, all_doomed, answer, changed, doomed_under, effect, evicted, finished_by, joined, released, step, stepped, stored, update_ended, with_slot}
+use Rattle.cache_theory.specs.Step.{Answer, all_doomed, answer, changed, cleared_of, doomed_under, effect, evicted, finished_by, joined, released, step, stepped, stored, unmarked, update_ended, with_slot}
+use Rattle.context_clear.specs.Mark.{mark_of}
 use Rattle.cache_theory.specs.Table.{remove}
 use Rattle.cache_theory.specs.declared.refusal.Refusal.{Refusal}
 use Rattle.entry_file.specs.EntryFile.{Reading}
@@ -85,6 +86,9 @@ all_doomed_moment : (m : Machine) (names : List Name) → (all_doomed m names).m
 all_doomed_moment m [] = refl
 all_doomed_moment m (name ∷ names) = all_doomed_moment (doomed_under m name.0) names
 
+cleared_moment : (m : Machine) (names : List Name) → (cleared_of m names).moment ≡ m.moment
+cleared_moment m names = all_doomed_moment (update_ended (unmarked m)) names
+
 effect_moment : (m : Machine) (c : Command) → KeepsMoment c → (effect m c).next.moment ≡ m.moment
 unfolding effect
 effect_moment m (At now) keeps = absurd keeps
@@ -97,8 +101,12 @@ effect_moment m (UnsetElement s name) keeps =
 effect_moment m (Close s) keeps = released_moment (finished_by m s) s ∙ finished_moment m s
 effect_moment m (Evict kb) keeps = all_doomed_moment (update_ended m) (evicted m kb)
 effect_moment m (EvictNames names) keeps = all_doomed_moment (update_ended m) names
-effect_moment m (ClearOrigin origin) keeps = all_doomed_moment (update_ended m) (cleared m origin)
-effect_moment m (ClearNames names) keeps = all_doomed_moment (update_ended m) names
+effect_moment m (ClearOrigin origin) keeps = cleared_moment m (cleared m origin)
+effect_moment m (ClearNames names) keeps = cleared_moment m names
+effect_moment m Resume keeps =
+    cond_both (is_some (mark_of m.mark)) (cleared_of m (resumed m)) (unmarked m) (λ (next : Machine). next.moment ≡ m.moment)
+    (λ is. cleared_moment m (resumed m)) (λ not_so. refl)
+effect_moment m (ResumeNames names) keeps = cleared_moment m names
 effect_moment m c keeps = refl
 
 pub step_moment : (m : Machine) (c : Command) → KeepsMoment c → (step m c).next.moment ≡ m.moment

@@ -10,7 +10,7 @@ use Rattle.cache_theory.specs.Crash.{IsSafe}
 use Rattle.cache_theory.specs.History.{History, acked, begun, settled_at, unanswered}
 use Rattle.cache_theory.specs.Machine.{Machine}
 use Rattle.cache_theory.specs.Marks.{Marks, acked as acked_marks, marks_of}
-use Rattle.cache_theory.specs.Step.{all_doomed, effect, step, update_ended}
+use Rattle.cache_theory.specs.Step.{cleared_of, effect, step, unmarked, update_ended}
 use Rattle.cache_theory.specs.Text.{reply_text}
 use Rattle.cache_theory.proofs.Crashes.{safe_is_crash_safe}
 use Rattle.file_handles.proofs.Begun.{begun_in}
@@ -28,7 +28,7 @@ use Rattle.cache_store.proofs.ObjectsDoomed.{as_many, undoomed_before}
 use Rattle.cache_store.proofs.Represented.{keeps_bare, keeps_marked, keeps_to, represented}
 
 -- a command that settles, and dooms these names, had its effect, and is not acknowledged
-settled_stands : (c : Command) (names : List Name) (h : History) (before after : Session) → (step h.machine c).next ≡ all_doomed (update_ended h.machine) names
+settled_stands : (c : Command) (names : List Name) (h : History) (before after : Session) → (step h.machine c).next ≡ cleared_of h.machine names
     → acked_marks h.machine c h.marks ≡ marks_of (step h.machine c).next
     → KeepsTo before h → IsSafe after.disk (begun c h).marks → KeepsTo after (acked c h) → KeepsTo after (unanswered c h)
 settled_stands c names h before after dooms marks is safe stands =
@@ -36,7 +36,7 @@ settled_stands c names h before after dooms marks is safe stands =
     let next : Machine = (step h.machine c).next in
     let settled : KeepsTo after (settled_at next) = subst (λ (w : Marks). KeepsTo after (record { machine = next; marks = w })) marks stands in
     let kept = settled.stands.crash_kept in
-    let many : length next.objects ≡ length h.machine.objects = ap (λ (m : Machine). length m.objects) dooms ∙ as_many (update_ended h.machine) names in
+    let many : length next.objects ≡ length h.machine.objects = ap (λ (m : Machine). length m.objects) dooms ∙ as_many (update_ended (unmarked h.machine)) names in
     let young = was.young in
     record {
       stands = record {
@@ -46,7 +46,7 @@ settled_stands c names h before after dooms marks is safe stands =
           safe = safe;
           once = kept.once;
           aside = λ k i file name at held names ever. let touched = (kept.aside k i file name at held names ever).touched in absurd (cc);
-          unburied = λ i o at un. was.unburied i o (undoomed_before (update_ended h.machine) names i o (ap (λ (m : Machine). slice_get m.objects i) (sym dooms) ∙ at) un) un;
+          unburied = λ i o at un. was.unburied i o (undoomed_before (update_ended (unmarked h.machine)) names i o (ap (λ (m : Machine). slice_get m.objects i) (sym dooms) ∙ at) un) un;
           young = omega (arith, many, young);
         };
       };
@@ -156,7 +156,7 @@ does_performs c a (Err f) before mid last taken between now printed cut outcome 
       printed = tt;
       outcome = tt;
       next = tt;
-      cut = cut (reply_text (step h.machine d).reply) taken done.answers.says;
+      cut = λ some. cut (reply_text (step h.machine d).reply) taken done.answers.says;
       effect = λ sink. as_open (λ now. Represents now next) mid last same (represented done.next);
       tells = λ had comes. as_open (λ now. Tells now next) mid last same (done.tells tt comes);
     })

@@ -69,7 +69,7 @@ makes_no_look c none = absurd none
 pub out_in_memory : (o : Open) (c : Command) (a : Answered) (final : Result Verdict StoreFault) (before : Option (List ℕ)) (mid : Saying) (now : Option (List ℕ))
     → OnOk final (SendsRest (rest_of a) mid now) → OnErr final (CutsRest (rest_of a) mid now) → AnswersInMemory o c (Ok a) before mid → RepliesInMemory o c final before now
 out_in_memory o c a (Ok v) before mid now sends cuts answers = λ s m stands. record { out = sends _ before (answers s m stands).says; cut = tt }
-out_in_memory o c a (Err f) before mid now sends cuts answers = λ s m stands. record { out = tt; cut = cuts _ before (answers s m stands).says }
+out_in_memory o c a (Err f) before mid now sends cuts answers = λ s m stands. record { out = tt; cut = λ some. cuts _ before (answers s m stands).says }
 
 pub cut_in_memory : (o : Open) (c : Command) (f : StoreFault) (final : Result Verdict StoreFault) (P : StoreFault → Type 0) (before : Option (List ℕ)) (now : Saying) → IsErrAnd final P
     → AnswersInMemory o c (Err f) before now → RepliesInMemory o c final before now.taken

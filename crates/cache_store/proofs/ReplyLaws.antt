@@ -38,7 +38,7 @@ module _ (was : Saying) (none : was.held ≡ []) (now : Saying) where
   -- one that is cut
   pub cut_answer : (r : Reply) (answer : Result Answered StoreFault) (f : StoreFault) → IsErrAnd answer (λ e. e ≡ f) → CutsIn was now.taken (reply_text r) → AnswersTo r answer was.taken now
   cut_answer r (Ok x) f is cuts = absurd is
-  cut_answer r (Err e) f is cuts = record { says = tt; outcome = tt; cut = cuts was.taken [] (said_nothing was none) }
+  cut_answer r (Err e) f is cuts = record { says = tt; outcome = tt; cut = λ some. cuts was.taken [] (said_nothing was none) }
 
   -- bytes after their line
   pub value_said : (v : List ℕ) → SaysMore was now (with_bytes (codes "value") v) → AnswersTo (Value v) (Ok answered.All) was.taken now

@@ -32,7 +32,7 @@ module _ (r : Reply) (text : List ℕ) (is : text ≡ reply_text r) (fine : outc
   whole_cut f cuts = record {
     says = tt;
     outcome = tt;
-    cut = subst (λ (t : List ℕ). IsCut was.taken now.taken t) is (cuts was.taken [] (said_nothing was empty));
+    cut = λ some. subst (λ (t : List ℕ). IsCut was.taken now.taken t) is (cuts was.taken [] (said_nothing was empty));
   }
 
 -- nothing of the reply went out

@@ -1,10 +1,11 @@
 -- What the handles and the disk represent, where the entries are spared, and where the update has read other names.
-use Rattle.std.proofs.Common.{Bool, ◌∙◌, ℕ, List, sym, subst}
+use Rattle.std.proofs.Common.{Bool, ◌∙◌, ℕ, List, [], None, sym, subst}
 use Rattle.cache_theory.specs.Ever.{entry_place}
 use Rattle.cache_theory.specs.History.{History}
 use Rattle.cache_theory.specs.Machine.{object}
 use Rattle.cache_theory.specs.Stands.{HasObjectFile}
-use Rattle.cache_theory.proofs.Rested.{proper_rested, with_rest}
+use Rattle.cache_theory.specs.Step.{unmarked, update_ended}
+use Rattle.cache_theory.proofs.Rested.{proper_rested, proper_unmarked, with_rest}
 use Rattle.disk_model.specs.State.{State}
 use Rattle.disk_model.specs.declared.place.Place.TheVariants.{Doomed}
 use Rattle.file_handles.specs.Cache.{Cache, cache_at}
@@ -13,7 +14,7 @@ use Rattle.file_handles.specs.Stands.{IsAt, KeepsWhere}
 use Rattle.index_keeps.proofs.KeepsLaws.{spared_is_crash_kept}
 use Rattle.startup_read.specs.Spares.{SparesEntries}
 use Rattle.startup_read.proofs.SparesLaws.{spared_stands}
-use Rattle.cache_store.proofs.MomentAndRest.{both_in}
+use Rattle.cache_store.proofs.Beside.{beside_in}
 
 -- ---- the entries are spared
 
@@ -34,7 +35,15 @@ spared_in k s t h spares is = record {
   crash_kept = λ on. spared_is_crash_kept s t h.machine h.marks (IsAt k is.number) spares (is.crash_kept on);
 }
 
--- ---- another rest
+-- ---- another rest, and no mark
 
 pub rested_in : {b : Bool} (rest : List (List ℕ)) (at : Cache) (h : History) → KeepsWhere b at h → KeepsWhere b at (record { machine = with_rest h.machine rest; marks = h.marks })
-rested_in rest at h is = both_in h.machine.moment rest at h (proper_rested h.machine rest is.stands.proper) is
+rested_in rest at h is = beside_in h.machine.moment rest h.machine.mark at h (proper_rested h.machine rest is.stands.proper) is
+
+-- without a mark
+pub unmarked_in : {b : Bool} (at : Cache) (h : History) → KeepsWhere b at h → KeepsWhere b at (record { machine = unmarked h.machine; marks = h.marks })
+unmarked_in at h is = beside_in h.machine.moment h.machine.rest None at h (proper_unmarked h.machine is.stands.proper) is
+
+-- and with the update ended
+pub ended_in : {b : Bool} (at : Cache) (h : History) → KeepsWhere b at h → KeepsWhere b at (record { machine = update_ended (unmarked h.machine); marks = h.marks })
+ended_in at h is = rested_in [] at (record { machine = unmarked h.machine; marks = h.marks }) (unmarked_in at h is)

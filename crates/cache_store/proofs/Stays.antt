@@ -18,10 +18,11 @@ use Rattle.cache_store.proofs.Represented.{keeps_bare, represented}
 use Rattle.cache_store.proofs.Spared.{spared_in}
 use Rattle.cache_theory.specs.History.{History, settled_at}
 use Rattle.disk_model.specs.Account.{FailsInChange, fault_ending as disk_fault_ending}
-use Rattle.disk_model.specs.State.{State}
+use Rattle.disk_model.specs.State.{State, standing}
 use Rattle.disk_model.specs.declared.disk.Disk.{Ghosts}
 use Rattle.disk_model.specs.declared.disk.DiskFault.{DiskFault}
 use Rattle.disk_model.specs.declared.disk.DiskFault.TheVariants as disk
+use Rattle.disk_model.specs.declared.place.Place.TheVariants.{Clear}
 use Rattle.file_handles.specs.Answers.{OnRead}
 use Rattle.file_handles.specs.Kept.{Kept}
 use Rattle.file_handles.specs.declared.fault.HandleFault.{HandleFault}
@@ -38,6 +39,7 @@ module _ (k : Kept) (now : ℕ) (s t : State) (old new : MemoryIndex) (same : t 
     matches = record {
       moment = is.matches.moment;
       rest = is.matches.rest ∙ ap name_bytes (sym left);
+      mark = is.matches.mark ∙ ap (λ (u : State). standing u Clear) (sym same);
       holds = subst (λ (u : State). HoldsIndex u new.map) (sym same) (holds_same_base s old.map new.map base is.matches.holds);
     };
   }

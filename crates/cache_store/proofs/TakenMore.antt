@@ -1,8 +1,11 @@
 -- What was said of a reply is bytes more that the sink took.
-use Rattle.std.proofs.Common.{◌≡◌, ◌++◌, List, ℕ, [], take, Option, Result, Ok, Err, refl}
+use Rattle.std.proofs.Common.{◌≡◌, ◌≢◌, ◌++◌, List, ℕ, [], take, Option, Result, Ok, Err, refl}
 use Rattle.std.specs.Prelude.{OnErr, OnOk}
 use Rattle.std.proofs.KnownBytes.{Appends-nil}
 use Rattle.cache_theory.specs.Command.{Command, Reply}
+use Rattle.cache_theory.specs.Command.Reply.{Resumed}
+use Rattle.cache_theory.specs.Text.{IsSpoken}
+use Rattle.cache_theory.proofs.RepliesApart.{step_spoken}
 use Rattle.cache_store.specs.Answering.{AnswersFor, AnswersTo, CutsRest, SaysOf, SendsRest}
 use Rattle.cache_store.specs.Open.{IsOpen}
 use Rattle.cache_store.specs.Said.{IsCut, Said, Saying}
@@ -30,12 +33,12 @@ pub cuts_takes : (was : Saying) (now : Option (List ℕ)) (more : List ℕ) → 
 cuts_takes was now more none cuts = cut_takes was.taken now _ (cuts was.taken [] (said_nothing was none))
 
 -- an answer, as far as it was said
-pub answer_takes : (r : Reply) (answer : Result Answered StoreFault) (before : Option (List ℕ)) (now : Saying) → AnswersTo r answer before now → TakesMore before now.taken
-answer_takes r (Ok a) before now answers = said_takes before now _ answers.says.said
-answer_takes r (Err f) before now answers = cut_takes before now.taken _ answers.cut
+pub answer_takes : (r : Reply) → r ≢ Resumed → (answer : Result Answered StoreFault) (before : Option (List ℕ)) (now : Saying) → AnswersTo r answer before now → TakesMore before now.taken
+answer_takes r some (Ok a) before now answers = said_takes before now _ answers.says.said
+answer_takes r some (Err f) before now answers = cut_takes before now.taken _ (answers.cut some)
 
-pub open_takes : (c : Command) (answer : Result Answered StoreFault) (before : Session) (taken : Option (List ℕ)) (now : Saying) → IsOpen before → AnswersFor (cache_of before) c answer taken now → TakesMore taken now.taken
-open_takes c answer before taken now (m, is) answers = answer_takes _ answer taken now (answers m is.stands)
+pub open_takes : (c : Command) → IsSpoken c → (answer : Result Answered StoreFault) (before : Session) (taken : Option (List ℕ)) (now : Saying) → IsOpen before → AnswersFor (cache_of before) c answer taken now → TakesMore taken now.taken
+open_takes c spoken answer before taken now (m, is) answers = answer_takes _ (step_spoken m c spoken) answer taken now (answers m is.stands)
 
 -- and what is left to say goes out after it, or is cut
 pub rest_takes : (rest : List ℕ) (before : Option (List ℕ)) (was : Saying) (now : Option (List ℕ)) (answer : Result Verdict StoreFault) → TakesMore before was.taken

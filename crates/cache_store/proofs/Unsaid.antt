@@ -6,10 +6,10 @@ use Rattle.std.proofs.lemmas.Option.{IfSome_then}
 use Rattle.cache_theory.specs.Command.{Reply}
 use Rattle.cache_theory.specs.Text.{reply_text}
 use Rattle.cache_theory.proofs.RepliesLong.{replies_are_not_empty}
-use Rattle.cache_store.specs.Answering.{AnswersTo, SaysOf, outcome_in, outcome_of, rest_of}
+use Rattle.cache_store.specs.Answering.{AnswersTo, IsReplyCut, SaysOf, outcome_in, outcome_of, rest_of}
 use Rattle.cache_store.specs.Performing.{HadEffect}
 use Rattle.cache_store.specs.Replied.{replied, reply_of}
-use Rattle.cache_store.specs.Said.{IsCut, Saying}
+use Rattle.cache_store.specs.Said.{Saying}
 use Rattle.cache_store.specs.declared.answered.Answered.{Answered}
 use Rattle.cache_store.specs.declared.answered.Answered.TheVariants as answered
 use Rattle.cache_store.specs.declared.fault.Verdict.{Verdict}
@@ -31,8 +31,8 @@ unsaid_by (Ok a) not_said no_sink = tt
 unsaid_by (Err f) not_said no_sink = tt
 
 -- a reply of which nothing went out is cut
-pub none_cut : (r : Reply) (o : Option (List ℕ)) → IsCut o o (reply_text r)
-none_cut r o = (0, (replies_are_not_empty r, Appends-nil o))
+pub none_cut : (r : Reply) (o : Option (List ℕ)) → IsReplyCut r o o
+none_cut r o = λ some. (0, (replies_are_not_empty r some, Appends-nil o))
 
 said_none : (now : Saying) → now.held ≡ [] → (text rest : List ℕ) → rest ≡ text → SaysOf text rest now.taken now
 said_none now none text rest is = record { front = []; said = said_nothing now none; whole = is }

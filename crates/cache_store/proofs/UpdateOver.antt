@@ -12,7 +12,8 @@ use Rattle.cache_store.proofs.SameTotals.{sums_scan}
 use Rattle.cache_store.proofs.Spared.{rested_in, spared_in}
 use Rattle.cache_theory.specs.Crash.{IsSafe}
 use Rattle.cache_theory.specs.History.{History, settled_at}
-use Rattle.disk_model.specs.State.{State}
+use Rattle.disk_model.specs.State.{State, standing}
+use Rattle.disk_model.specs.declared.place.Place.TheVariants.{Clear}
 use Rattle.evictor.specs.Evict.{total_kb}
 use Rattle.file_handles.specs.Kept.{Kept}
 use Rattle.index_map.specs.Known.{IsKnown}
@@ -31,6 +32,7 @@ module _ (k : Kept) (now : ℕ) (s t : State) (old new : MemoryIndex) (finishes 
     matches = record {
       moment = is.matches.moment;
       rest = ap name_bytes (sym finishes.ended);
+      mark = is.matches.mark ∙ ap (λ (u : State). standing u Clear) (sym finishes.same);
       holds = subst (λ (u : State). HoldsIndex u new.map) (sym finishes.same) (holds_same_base s old.map new.map finishes.base is.matches.holds);
     };
   }

@@ -1,5 +1,5 @@
 -- How a reply is said.
-use Rattle.std.specs.Prelude.{IfOk, List, OnErr, Option, Result, [], codes, ℕ, ◌++◌, ◌∷◌, ◌≡◌}
+use Rattle.std.specs.Prelude.{IfOk, List, OnErr, Option, Result, [], codes, ℕ, ◌++◌, ◌∷◌, ◌≡◌, ◌≢◌}
 use Rattle.std.specs.Io.KnownBytes.{Appends}
 use Rattle.cache_store.specs.Said.{IsCut, Said, Saying}
 use Rattle.cache_store.specs.declared.answered.Answered.{Answered}
@@ -8,7 +8,7 @@ use Rattle.cache_store.specs.declared.fault.Verdict.{Verdict}
 use Rattle.cache_store.specs.declared.fault.Verdict.TheVariants as outcome
 use Rattle.cache_store.specs.declared.fault.StoreFault.{StoreFault}
 use Rattle.cache_theory.specs.Command.{Command, Reply}
-use Rattle.cache_theory.specs.Command.Reply.{Findings, Refused}
+use Rattle.cache_theory.specs.Command.Reply.{Findings, Refused, Resumed}
 use Rattle.cache_theory.specs.Machine.{Machine}
 use Rattle.cache_theory.specs.Step.{step}
 use Rattle.cache_theory.specs.Text.{findings_text, refusal_words, reply_text, line, with_number}
@@ -29,6 +29,7 @@ rest_of answered.Ready = line (codes "ready" ∷ [])
 rest_of (answered.Updating names) = with_number (codes "updating") names
 rest_of (answered.Rebuilt records) = with_number (codes "rebuilt") records
 rest_of (answered.Cleared names) = with_number (codes "cleared") names
+rest_of answered.Resumed = []
 rest_of (answered.Checked findings) = findings_text findings
 rest_of (answered.Refused r) = line (refusal_words r)
 
@@ -53,12 +54,16 @@ pub record SaysOf (text rest : List ℕ) (before : Option (List ℕ)) (now : Say
   pub said : Said before now front
   pub whole : front ++ rest ≡ text
 
+-- of the reply's text a part went out, and not all; an empty one cannot be cut
+abbrev pub IsReplyCut : Reply → Option (List ℕ) → Option (List ℕ) → Type 0
+IsReplyCut r before now = r ≢ Resumed → IsCut before now (reply_text r)
+
 -- this is the reply, as far as it was said, or it was cut
 pub record AnswersTo (r : Reply) (answer : Result Answered StoreFault)
     (before : Option (List ℕ)) (now : Saying) : Type 0 where
   pub says : IfOk answer (λ a. SaysOf (reply_text r) (rest_of a) before now)
   pub outcome : IfOk answer (λ a. outcome_in a ≡ outcome_of r)
-  pub cut : OnErr answer (IsCut before now.taken (reply_text r))
+  pub cut : OnErr answer (IsReplyCut r before now.taken)
 
 -- it is the machine's reply to the command, whatever machine the cache stands for
 abbrev pub AnswersFor : Cache → Command → Result Answered StoreFault

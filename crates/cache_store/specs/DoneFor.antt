@@ -1,14 +1,21 @@
--- What is done for a command: itself; but an eviction, a clearing, a check, a list, and whether there is an entry, go by
--- records, which may not be right.
-use Rattle.std.specs.Prelude.{Bool, List, ℕ, ◌≡◌}
+-- What is done for a command: itself; but an eviction, a clearing, also one that is resumed, a check, a list, and whether
+-- there is an entry, go by records, which may not be right.
+use Rattle.std.specs.Prelude.{Bool, List, None, Option, Some, ℕ, ◌≡◌}
 use Rattle.cache_theory.specs.Command.{Command}
-use Rattle.cache_theory.specs.Command.Command.{ClearNames, ClearOrigin, Evict, EvictNames, HasEntry, HasGiven, ListGiven, ListRecords, Verify, VerifyRecords}
-use Rattle.cache_theory.specs.Covers.{cleared_by}
+use Rattle.cache_theory.specs.Command.Command.{ClearNames, ClearOrigin, Evict, EvictNames, HasEntry, HasGiven, ListGiven, ListRecords, Resume, ResumeNames, Verify, VerifyRecords}
+use Rattle.cache_theory.specs.Covers.{cleared_by, covered_by}
 use Rattle.cache_theory.specs.Machine.{Machine, open_names}
 use Rattle.cache_theory.specs.Step.{step}
+use Rattle.context_clear.specs.Mark.{mark_of}
 use Rattle.evictor.specs.Evict.{victims}
 use Rattle.index_record.specs.declared.record.IndexRecord.{IndexRecord}
 use Rattle.index_theory.specs.Scan.{scan}
+
+-- a clearing whose mark stands is resumed for the names that some records tell; where none stands, it is the command itself
+abbrev pub IsResumedBy : (List IndexRecord → Type 0) → Option ℕ → Machine → Command → Type 0
+IsResumedBy Holds None m done = done ≡ Resume
+IsResumedBy Holds (Some origin) m done =
+    (records : List IndexRecord) × ((done ≡ ResumeNames (covered_by records m origin)) × Holds records)
 
 -- an eviction is that of the victims among some records, a clearing is that of the names that some records tell, a check is
 -- one against some records, and a list is one of some records, of which the first holds; there is an entry or not, of
@@ -18,6 +25,7 @@ IsDoneBy Holds Says (Evict kb) m done =
     (records : List IndexRecord) × ((done ≡ EvictNames (victims records (open_names m) kb)) × Holds records)
 IsDoneBy Holds Says (ClearOrigin origin) m done =
     (records : List IndexRecord) × ((done ≡ ClearNames (cleared_by records m origin)) × Holds records)
+IsDoneBy Holds Says Resume m done = IsResumedBy Holds (mark_of m.mark) m done
 IsDoneBy Holds Says Verify m done = (records : List IndexRecord) × ((done ≡ VerifyRecords records) × Holds records)
 IsDoneBy Holds Says ListRecords m done = (records : List IndexRecord) × ((done ≡ ListGiven records) × Holds records)
 IsDoneBy Holds Says (HasEntry key) m done = (there : Bool) × ((done ≡ HasGiven key there) × Says key there)

@@ -1,7 +1,7 @@
 -- Replies that only what is in memory tells, on any disk, also on one that tells nothing.
 use Rattle.std.specs.Io.KnownBytes.{Appends}
 use Rattle.std.specs.Prelude.{List, OnErr, OnOk, Option, Result, codes, [], ℕ, ◌∷◌, ◌≡◌, ◌⊎◌}
-use Rattle.cache_store.specs.Answering.{AnswersTo}
+use Rattle.cache_store.specs.Answering.{AnswersTo, IsReplyCut}
 use Rattle.cache_store.specs.Open.{Represents}
 use Rattle.cache_store.specs.Records.{has_record}
 use Rattle.cache_store.specs.Said.{IsCut, Saying}
@@ -36,7 +36,7 @@ AnswersInMemory o c answer before now = ForReply o c (λ r. AnswersTo r answer b
 -- the reply is out, or it was cut
 pub record IsOutOrCut (answer : Result Verdict StoreFault) (before now : Option (List ℕ)) (r : Reply) : Type 0 where
   pub out : OnOk answer (Appends before now (reply_text r))
-  pub cut : OnErr answer (IsCut before now (reply_text r))
+  pub cut : OnErr answer (IsReplyCut r before now)
 
 abbrev pub RepliesInMemory : Open → Command → Result Verdict StoreFault → Option (List ℕ) → Option (List ℕ) → Type 0
 RepliesInMemory o c answer before now = ForReply o c (IsOutOrCut answer before now)

@@ -4,7 +4,7 @@ use Rattle.cache_base.specs.declared.limits.TheConstants.{CHANGED_MAX}
 use Rattle.cache_base.specs.declared.name.Name.{Name}
 use Rattle.cache_store.specs.declared.memory_index.MemoryIndex.{MemoryIndex}
 use Rattle.cache_theory.specs.Command.{Command}
-use Rattle.cache_theory.specs.Command.Command.{At, ClearNames, ClearOrigin, Close, ElementOf, Evict, EvictNames, Finish, Flush, Get, GetAlt, HasEntry, ListRecords, MainBody, OpenKey, ReadPart, Rebuild, StepUpdate, UpdateState, Verify}
+use Rattle.cache_theory.specs.Command.Command.{At, ClearNames, ClearOrigin, Close, ElementOf, Evict, EvictNames, Finish, Flush, Get, GetAlt, HasEntry, ListRecords, MainBody, OpenKey, ReadPart, Rebuild, Resume, ResumeNames, StepUpdate, UpdateState, Verify}
 use Rattle.disk_model.specs.State.{State, settled}
 use Rattle.disk_model.specs.declared.disk.Disk.{Ghosts}
 use Rattle.file_handles.specs.Closing.{writes_draft}
@@ -13,19 +13,27 @@ use Rattle.index_map.specs.Known.{Known, changed}
 use Rattle.startup_read.specs.Refreshing.{Refreshes}
 use Rattle.startup_read.specs.Writing.{WritesIndex as WritesWhole}
 
--- the names whose files the command reads, where it goes by the index, by the names that the update has still to read
-abbrev pub names_read : Command → List Name → Option ℕ
-names_read (At now) rest = Some 0
-names_read (HasEntry key) rest = Some 0
-names_read ListRecords rest = Some (length rest)
-names_read (Evict kb) rest = Some (length rest)
-names_read (EvictNames names) rest = Some (length rest)
-names_read (ClearOrigin origin) rest = Some (length rest)
-names_read (ClearNames names) rest = Some (length rest)
-names_read Flush rest = Some 0
-names_read (StepUpdate n) rest = Some (length (take n rest))
-names_read UpdateState rest = Some 0
-names_read _ rest = None
+-- the names whose files a clearing reads that is resumed, where the mark of an origin stands
+abbrev pub names_resumed : Option ℕ → List Name → ℕ
+names_resumed None rest = 0
+names_resumed (Some origin) rest = length rest
+
+-- the names whose files the command reads, where it goes by the index, by the mark that stands and the names that the
+-- update has still to read
+abbrev pub names_read : Command → Option ℕ → List Name → Option ℕ
+names_read (At now) mark rest = Some 0
+names_read (HasEntry key) mark rest = Some 0
+names_read ListRecords mark rest = Some (length rest)
+names_read (Evict kb) mark rest = Some (length rest)
+names_read (EvictNames names) mark rest = Some (length rest)
+names_read (ClearOrigin origin) mark rest = Some (length rest)
+names_read (ClearNames names) mark rest = Some (length rest)
+names_read Resume mark rest = Some (names_resumed mark rest)
+names_read (ResumeNames names) mark rest = Some (length rest)
+names_read Flush mark rest = Some 0
+names_read (StepUpdate n) mark rest = Some (length (take n rest))
+names_read UpdateState mark rest = Some 0
+names_read _ mark rest = None
 
 -- at most four looks at entries are made for each name
 abbrev pub LooksAtNames : {Self : _} → Ghosts Self → ℕ → Self → Self → Type 0
@@ -53,11 +61,12 @@ OnlyLooks Verify = ⊤
 OnlyLooks _ = ⊥
 
 -- one that syncs nothing, by what the handles keep: each but a `finish`, the closing of a slot whose entry is not finished,
--- a `clear`, a `flush` and a `rebuild`
+-- a `clear`, also one that is resumed, a `flush` and a `rebuild`
 abbrev pub NeverSyncs : Kept → Command → Type 0
 NeverSyncs k (Finish s) = ⊥
 NeverSyncs k (Close s) = writes_draft k s ≡ false
 NeverSyncs k (ClearOrigin origin) = ⊥
+NeverSyncs k Resume = ⊥
 NeverSyncs k Flush = ⊥
 NeverSyncs k Rebuild = ⊥
 NeverSyncs k c = ⊤

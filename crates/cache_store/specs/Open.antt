@@ -18,7 +18,7 @@ use Rattle.disk_model.specs.Image.{Files, IsImage}
 use Rattle.disk_model.specs.Listing.{AreEntries}
 use Rattle.disk_model.specs.Sound.{IsQuiet}
 use Rattle.disk_model.specs.State.{State, standing}
-use Rattle.disk_model.specs.declared.place.Place.TheVariants.{Index, Log}
+use Rattle.disk_model.specs.declared.place.Place.TheVariants.{Clear, Index, Log}
 use Rattle.entry_file.specs.EntryFile.{found}
 use Rattle.file_handles.specs.Carries.{IsShelf}
 use Rattle.file_handles.specs.Closing.{IsClosed}
@@ -74,7 +74,7 @@ pub record StartsOn (now : ℕ) (s : State) (m : Machine) : Type 0 where
   pub rest : List Name
   pub is_shelf : IsShelf s shelf
   pub is_rest : IsRest s rest
-  pub is_opened : m ≡ opened now shelf (name_bytes rest)
+  pub is_opened : m ≡ opened now shelf (standing s Clear) (name_bytes rest)
 
 -- with nothing pending at the call, at every exit a crash loses nothing of what stood
 abbrev pub OpensSafely : ℕ → State → State → Type 0

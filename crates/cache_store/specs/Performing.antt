@@ -1,19 +1,19 @@
 -- What one command does.
 use Rattle.std.specs.Prelude.{Bool, Err, IfErr, IfOk, IfSome, IsTrue, List, Ok, OnErr, OnOk, Option, Result, false, true, ℕ, ⊤, ◌≡◌, ◌⊎◌}
 use Rattle.std.specs.Io.KnownBytes.{Appends}
-use Rattle.cache_store.specs.Answering.{AnswersTo, outcome_of}
+use Rattle.cache_store.specs.Answering.{AnswersTo, IsReplyCut, outcome_of}
 use Rattle.cache_store.specs.DoneFor.{AreOfShelf, DoneBy, IsOfShelf}
 use Rattle.cache_store.specs.Open.{KeepsTo, KeepsWhere, Represents, Tells}
 use Rattle.cache_store.specs.Records.{AreAtEnd, has_record}
 use Rattle.cache_store.specs.Replied.{replied}
-use Rattle.cache_store.specs.Said.{IsCut, Saying}
+use Rattle.cache_store.specs.Said.{Saying}
 use Rattle.cache_store.specs.Session.{Session}
 use Rattle.cache_store.specs.declared.answered.Answered.{Answered}
 use Rattle.cache_store.specs.declared.fault.Verdict.{Verdict}
 use Rattle.cache_store.specs.declared.fault.StoreFault.{StoreFault}
 use Rattle.cache_store.specs.declared.fault.StoreFault.TheVariants as fault
 use Rattle.cache_theory.specs.Command.{Command}
-use Rattle.cache_theory.specs.Command.Command.{ClearOrigin, HasEntry, ListRecords, Evict, Verify, Rebuild}
+use Rattle.cache_theory.specs.Command.Command.{ClearOrigin, HasEntry, ListRecords, Evict, Resume, Verify, Rebuild}
 use Rattle.cache_theory.specs.Crash.{IsCrashSafe, IsSafe}
 use Rattle.cache_theory.specs.History.{History, acked, begun, unanswered as left_unanswered}
 use Rattle.cache_theory.specs.Machine.{Machine}
@@ -28,6 +28,7 @@ goes_by_records (HasEntry key) = true
 goes_by_records ListRecords = true
 goes_by_records (Evict kb) = true
 goes_by_records (ClearOrigin origin) = true
+goes_by_records Resume = true
 goes_by_records Verify = true
 goes_by_records _ = false
 
@@ -63,7 +64,7 @@ pub record Performs (c : Command) (m : Machine) (answer : Result Verdict StoreFa
   pub outcome : IfOk answer (λ o. o ≡ outcome_of (step m c).reply)
   pub next : OnOk answer (Represents after (step m c).next)
   -- otherwise a part of it is, and where the sink failed the command has had its effect
-  pub cut : OnErr answer (IsCut taken now (reply_text (step m c).reply))
+  pub cut : OnErr answer (IsReplyCut (step m c).reply taken now)
   pub effect : IfErr answer (λ f. f ≡ fault.Sink → Represents after (step m c).next)
   -- the records go on to be right
   pub tells : HadEffect answer → ComesToTell c before m → Tells after (step m c).next

@@ -7,7 +7,7 @@ use Rattle.cache_store.specs.declared.answered.Answered.TheVariants as answered
 use Rattle.cache_store.specs.declared.fault.Verdict.{Verdict}
 use Rattle.cache_store.specs.declared.fault.Verdict.TheVariants as outcome
 use Rattle.cache_theory.specs.Command.{Command}
-use Rattle.cache_theory.specs.Command.Command.{Create, UnsetElement, ElementOf, ReadPart, Get, GetAlt, MainBody, HasEntry, ListRecords, Evict, EvictNames, ClearOrigin, ClearNames, StepUpdate, UpdateState, Verify, VerifyRecords, Rebuild}
+use Rattle.cache_theory.specs.Command.Command.{Create, UnsetElement, ElementOf, ReadPart, Get, GetAlt, MainBody, HasEntry, ListRecords, Evict, EvictNames, ClearOrigin, ClearNames, Resume, ResumeNames, StepUpdate, UpdateState, Verify, VerifyRecords, Rebuild}
 use Rattle.cache_theory.specs.Text.{findings_text, line, refusal_words}
 use Rattle.cache_theory.specs.declared.refusal.Refusal.{Refusal}
 use Rattle.entry_key.specs.Writing.{may_write}
@@ -26,6 +26,8 @@ is_plain (Evict kb) = false
 is_plain (EvictNames names) = false
 is_plain (ClearOrigin origin) = false
 is_plain (ClearNames names) = false
+is_plain Resume = false
+is_plain (ResumeNames names) = false
 is_plain (StepUpdate n) = false
 is_plain UpdateState = false
 is_plain Verify = false

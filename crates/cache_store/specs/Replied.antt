@@ -4,7 +4,7 @@ use Rattle.cache_store.specs.declared.answered.Answered.{Answered}
 use Rattle.cache_store.specs.declared.answered.Answered.TheVariants as answered
 use Rattle.cache_store.specs.declared.fault.StoreFault.{StoreFault}
 use Rattle.cache_theory.specs.Command.{Reply}
-use Rattle.cache_theory.specs.Command.Reply.{Done, Refused, NoneThere, Yes, No, Unknown, Ready, Updating, Findings, Rebuilt, Cleared}
+use Rattle.cache_theory.specs.Command.Reply.{Done, Refused, NoneThere, Yes, No, Unknown, Ready, Updating, Findings, Rebuilt, Cleared, Resumed}
 
 -- the reply that is still to be said whole, if there is one
 abbrev pub reply_of : Answered → Option Reply
@@ -18,6 +18,7 @@ reply_of answered.Ready = Some Ready
 reply_of (answered.Updating names) = Some (Updating names)
 reply_of (answered.Rebuilt records) = Some (Rebuilt records)
 reply_of (answered.Cleared names) = Some (Cleared names)
+reply_of answered.Resumed = Some Resumed
 reply_of (answered.Checked findings) = Some (Findings findings)
 reply_of (answered.Refused r) = Some (Refused r)
 

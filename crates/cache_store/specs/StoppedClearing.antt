@@ -2,16 +2,19 @@
 use Rattle.std.specs.List.{AllByRecursion}
 use Rattle.std.specs.Prelude.{false, List, None, Some, ℕ, ⊤, ◌≡◌, ◌⊎◌}
 use Rattle.cache_base.specs.declared.name.Name.{Name}
-use Rattle.cache_store.specs.Open.{KeepsTo, Represents, Tells}
+use Rattle.cache_store.specs.Open.{KeepsTo, Represents, StartsOn, Tells}
 use Rattle.cache_store.specs.Records.{AreAtEnd}
 use Rattle.cache_store.specs.Session.{Session}
-use Rattle.cache_theory.specs.Covers.{cleared_by, covers}
+use Rattle.cache_theory.specs.Command.Command.{Resume}
+use Rattle.cache_theory.specs.Covers.{covered_by, covers}
 use Rattle.cache_theory.specs.Crash.{IsLeft}
 use Rattle.cache_theory.specs.Ever.{entries}
 use Rattle.cache_theory.specs.History.{History}
 use Rattle.cache_theory.specs.Machine.{Machine}
 use Rattle.cache_theory.specs.Marks.{Marks}
-use Rattle.context_clear.specs.Mark.{mark_bytes}
+use Rattle.cache_theory.specs.Step.{step}
+use Rattle.cache_theory.specs.Table.{get}
+use Rattle.context_clear.specs.Mark.{mark_bytes, mark_of}
 use Rattle.disk_model.specs.Image.{Files, IsImage}
 use Rattle.disk_model.specs.State.{State, standing}
 use Rattle.disk_model.specs.declared.place.Place.{Place}
@@ -44,26 +47,48 @@ pub data IsLeftByClearing (s : State) (origin : ℕ) (names : List Name) (image 
   Marked : image Clear ≡ Some (mark_bytes origin) → IsLeftByClearing s origin names image
   Whole : HasNoneOf s names image → IsLeftByClearing s origin names image
 
--- so it is in each image, for the names that are cleared by the records once the update has ended
-abbrev pub ClearsUnderMark : List ℕ → Session → State → Type 0
+-- so it is in each image, for the names that are cleared by the records once the update has ended; the origin is given by
+-- its hash
+abbrev pub ClearsUnderMark : ℕ → Session → State → Type 0
 ClearsUnderMark origin before t = (m : Machine) → Represents before m
     → (records : List IndexRecord)
     × (AreAtEnd (entries_on before.disk) before.open_store.index records
     × ((image : Files) → IsImage t image
-    → IsLeftByClearing before.disk (value_hash origin) (cleared_by records m origin) image))
+    → IsLeftByClearing before.disk origin (covered_by records m origin) image))
 
--- a crash leaves the mark of the origin; or under each key what it could leave before; or no version of
+-- a crash leaves the mark of the origin with this hash; or under each key what it could leave before; or no version of
 -- the origin that is not pinned
-pub data IsNoneOrAll (origin : List ℕ) (s : State) (w : Marks) (image : Files) : Type 0 where
-  MarkStands : image Clear ≡ Some (mark_bytes (value_hash origin)) → IsNoneOrAll origin s w image
+pub data IsNoneOrAll (origin : ℕ) (s : State) (w : Marks) (image : Files) : Type 0 where
+  MarkStands : image Clear ≡ Some (mark_bytes origin) → IsNoneOrAll origin s w image
   AsBefore : (before : Files) → IsLeft s w before
       → ((key : List ℕ) → found (entries image) key ≡ found (entries before) key)
       → IsNoneOrAll origin s w image
   NoneIsLeft : ((key : List ℕ) (v : Version) → found (entries image) key ≡ Some v
-      → covers (value_hash origin) v.key v.header ≡ false) → IsNoneOrAll origin s w image
+      → covers origin v.key v.header ≡ false) → IsNoneOrAll origin s w image
 
 -- so it is wherever a clearing stops, where the records in memory were right
 abbrev pub StoppedClearingIsNoneOrAll : Type 0
 StoppedClearingIsNoneOrAll = (origin : List ℕ) (before : Session) (t : State) (h : History)
-    → KeepsTo before h → Tells before h.machine → ClearsUnderMark origin before t
-    → (image : Files) → IsImage t image → IsNoneOrAll origin before.disk h.marks image
+    → KeepsTo before h → Tells before h.machine → ClearsUnderMark (value_hash origin) before t
+    → (image : Files) → IsImage t image → IsNoneOrAll (value_hash origin) before.disk h.marks image
+
+-- the machine finds under each key what a crash could leave before; or no version of the origin with this hash that is not
+-- pinned
+pub data FindsNoneOrAll (origin : ℕ) (s : State) (w : Marks) (m : Machine) : Type 0 where
+  AllAsBefore : (before : Files) → IsLeft s w before
+      → ((key : List ℕ) → found (get m.shelf) key ≡ found (entries before) key)
+      → FindsNoneOrAll origin s w m
+  NoneFound : ((key : List ℕ) (v : Version) → found (get m.shelf) key ≡ Some v
+      → covers origin v.key v.header ≡ false) → FindsNoneOrAll origin s w m
+
+-- a crash leaves no mark of a clearing
+abbrev pub LeavesNoMark : State → Type 0
+LeavesNoMark s = (image : Files) → IsImage s image → mark_of (image Clear) ≡ None
+
+-- so it is after an opening of what a stop in a clearing leaves, once the clearing is resumed, where no mark could stand
+-- before
+abbrev pub ResumedClearingIsNoneOrAll : Type 0
+ResumedClearingIsNoneOrAll = (origin : List ℕ) (before : Session) (t : State) (h : History)
+    → KeepsTo before h → Tells before h.machine → ClearsUnderMark (value_hash origin) before t → LeavesNoMark before.disk
+    → (now : ℕ) (s : State) (m : Machine) → IsImage t (standing s) → StartsOn now s m
+    → FindsNoneOrAll (value_hash origin) before.disk h.marks (step m Resume).next

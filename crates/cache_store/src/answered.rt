@@ -33,6 +33,8 @@ pub(crate) enum Answered {
     Rebuilt(u64),
     /// So many names were cleared, and it says `cleared` and their number.
     Cleared(u64),
+    /// No clearing is left to be done, and it says nothing.
+    Resumed,
     /// The entries were checked, and it says what is wrong.
     Checked(FindingList),
     /// It is refused, and says why.

@@ -4,7 +4,7 @@ ghost use Rattle.std.specs.BTreeSet.{contains};
 ghost use Rattle.std.specs.Prelude.{◌≡◌, ◌≢◌, ◌||◌, Err, false, true, IfOk, IsTrue, Ok, OnErr, OnOk, filter, length, map};
 ghost use Rattle.cache_base.specs.Names.{AreRising, name_cmp};
 ghost use Rattle.cache_base.specs.declared.name.Name.{Name as AName};
-ghost use Rattle.cache_store.specs.Clearing.{AreCleared, HasNoMark, HoldsNames, LeavesUncleared, is_used_or_stands, is_user_or_among};
+ghost use Rattle.cache_store.specs.Clearing.{AreCleared, ClearsByRecords, HasNoMark, HoldsNames, LeavesUncleared, is_used_or_stands, is_user_or_among};
 ghost use Rattle.cache_store.specs.Evicting.{DoomsAll};
 ghost use Rattle.cache_store.specs.Faulting.{is_refusal, of_handles};
 ghost use Rattle.cache_store.specs.Faults.{ending, of_disk};
@@ -17,13 +17,14 @@ ghost use Rattle.context_clear.specs.Covered.{covers_record};
 ghost use Rattle.disk_model.specs.Account.{Accounts, Ending, FailsInChange, Looks, LooksAtNoEntry, ending as disk_ending};
 ghost use Rattle.disk_model.specs.Sound.{IsQuiet};
 ghost use Rattle.disk_model.specs.Told.{Told};
+ghost use Rattle.entry_key.specs.Tags.{value_hash};
 ghost use Rattle.evictor.specs.Evict.{has_name};
 ghost use Rattle.file_handles.specs.Cache.{cache};
 ghost use Rattle.file_handles.specs.Dooming.{LeavesMark, TakesEntries};
 ghost use Rattle.file_handles.specs.HeldChunks.{SameChunks};
 ghost use Rattle.file_handles.specs.Kept.{kept};
 ghost use Rattle.index_map.specs.Known.{SameBase};
-ghost use Rattle.index_theory.specs.Leaves.{LeavesIndex};
+ghost use Rattle.index_theory.specs.Leaves.{LeavesBeside, LeavesIndex};
 
 use crate::StoreFault;
 use crate::answered::Answered;
@@ -152,7 +153,7 @@ fn doom_names<D: Disk>(handles: &mut Handles, disk: &mut D, names: &[Name]) -> R
     ensures chunks { SameChunks (kept handles.old) (kept handles.new) }
     ensures mark { OnOk result (Told D.Disk LeavesMark disk.old disk.new) }
     ensures takes { Told D.Disk TakesEntries disk.old disk.new }
-    ensures index { Told D.Disk LeavesIndex disk.old disk.new }
+    ensures index { Told D.Disk LeavesBeside disk.old disk.new }
     ensures account { Accounts D.Disk (disk_ending result) disk.old disk.new }
     ensures change { FailsInChange D.Disk (disk_ending result) disk.new }
     ensures no_entry { LooksAtNoEntry D.Disk disk.old disk.new }
@@ -172,41 +173,38 @@ impl Store {
     ghost use Rattle.cache_store.specs.Performing.{AchievesWhatIsDone, HadEffect};
     ghost use Rattle.cache_store.specs.Session.{session};
 
-    // The names that a clearing of the origin takes, by the records and the entries in use.
-    fn names_to_clear(&self, alloc: Global, origin: &[u8]) -> Result<Names, NoMemory>
-        ensures { IfOk result (AreCleared self.now.index.map (kept self.now.handles) origin.now) }
+    // The names that a clearing of the origin with this hash takes, by the records and the entries in use.
+    fn names_to_clear(&self, alloc: Global, origin: u64) -> Result<Names, NoMemory>
+        ensures { IfOk result (AreCleared self.now.index.map (kept self.now.handles) origin) }
     {
-        let hash = hash_of_origin(origin);
-        let in_use = self.handles.open_of(alloc, hash)?;
+        let in_use = self.handles.open_of(alloc, origin)?;
         let records = self.index.map.records()?;
-        let there = covered_names(alloc, records.as_slice(), hash)?;
+        let there = covered_names(alloc, records.as_slice(), origin)?;
         joined(alloc, in_use.as_slice(), there.as_slice())
     }
 
-    /// Ends the update, and dooms the entries of an origin that are not pinned, those in use and those that have a record.
-    /// The names are gathered and the folder is listed before anything is changed. From before the first entry goes until
-    /// all are gone and synced the mark of the origin stands on the disk.
-    pub(crate) fn clear<D: Disk>(
+    /// Ends the update, and dooms the entries of the origin with this hash that are not pinned, those in use and those that
+    /// have a record; tells how many names they had. The names are gathered and the folder is listed before anything is
+    /// changed. From before the first entry goes until all are gone and synced the mark of the origin stands on the disk.
+    pub(crate) fn clear_origin<D: Disk>(
         &mut self,
         alloc: Global,
         disk: &mut D,
-        origin: &[u8],
-    ) -> Result<Answered, StoreFault>
+        origin: u64,
+    ) -> Result<u64, StoreFault>
         requires calm { self.old.faulting ≡ false }
         requires told { IsTrue D.tells → IsOpen (session D.Disk self.old disk.old) }
         ensures does { let at = session D.Disk in IsTrue D.tells →
-            AchievesWhatIsDone (ClearOrigin origin.now) result (at self.old disk.old) (at self.new disk.new) }
-        ensures clears { HadEffect result → IsTrue D.tells →
-            LeavesUncleared (session D.Disk self.old disk.old) origin.now self.new.index.map }
+            ClearsByRecords origin result (at self.old disk.old) (at self.new disk.new) }
+        ensures clears { OnOk result (IsTrue D.tells →
+            LeavesUncleared (session D.Disk self.old disk.old) origin self.new.index.map) }
         ensures stopped { IsTrue D.tells →
-            ClearsUnderMark origin.now (session D.Disk self.old disk.old) (D.state disk.new) }
-        ensures base { HadEffect result → SameBase self.old.index.map self.new.index.map }
+            ClearsUnderMark origin (session D.Disk self.old disk.old) (D.state disk.new) }
+        ensures base { OnOk result (SameBase self.old.index.map self.new.index.map) }
         ensures index { Told D.Disk LeavesIndex disk.old disk.new }
         ensures quiet { OnOk result (IsTrue D.tells → IsQuiet (D.state disk.new)) }
         ensures unmarked { OnOk result (IsTrue D.tells → HasNoMark (D.state disk.new)) }
         ensures chunks { SameChunks (kept self.old.handles) (kept self.new.handles) }
-        ensures unlisted { IfOk result (λ a. lists_findings a ≡ false) }
-        ensures not_said { result ≢ Ok Answered.All }
         ensures no_sink { result ≢ Err StoreFault.Sink }
         ensures held { self.new.reply.held ≡ self.old.reply.held }
         ensures names { LooksAtNames D.Disk (length self.old.index.update) disk.old disk.new }
@@ -231,10 +229,48 @@ impl Store {
         // No look follows that could fail.
         self.index.update = ended;
         self.handles.leaves_number_free();
-        store_mark(disk, hash_of_origin(origin), MARK_NUMBER)?;
+        store_mark(disk, origin, MARK_NUMBER)?;
         doom_names(&mut self.handles, disk, there.as_slice())?;
         end_clearing(disk)?;
         self.index.forget(names.as_slice());
-        Ok(Answered::Cleared(names.as_slice().len() as u64))
+        Ok(names.as_slice().len() as u64)
+    }
+
+    /// Clears the entries of an origin, as `clear_origin` does by its hash.
+    pub(crate) fn clear<D: Disk>(
+        &mut self,
+        alloc: Global,
+        disk: &mut D,
+        origin: &[u8],
+    ) -> Result<Answered, StoreFault>
+        requires calm { self.old.faulting ≡ false }
+        requires told { IsTrue D.tells → IsOpen (session D.Disk self.old disk.old) }
+        ensures does { let at = session D.Disk in IsTrue D.tells →
+            AchievesWhatIsDone (ClearOrigin origin.now) result (at self.old disk.old) (at self.new disk.new) }
+        ensures clears { HadEffect result → IsTrue D.tells →
+            LeavesUncleared (session D.Disk self.old disk.old) (value_hash origin.now) self.new.index.map }
+        ensures stopped { IsTrue D.tells →
+            ClearsUnderMark (value_hash origin.now) (session D.Disk self.old disk.old) (D.state disk.new) }
+        ensures base { HadEffect result → SameBase self.old.index.map self.new.index.map }
+        ensures index { Told D.Disk LeavesIndex disk.old disk.new }
+        ensures quiet { OnOk result (IsTrue D.tells → IsQuiet (D.state disk.new)) }
+        ensures unmarked { OnOk result (IsTrue D.tells → HasNoMark (D.state disk.new)) }
+        ensures chunks { SameChunks (kept self.old.handles) (kept self.new.handles) }
+        ensures unlisted { IfOk result (λ a. lists_findings a ≡ false) }
+        ensures not_said { result ≢ Ok Answered.All }
+        ensures no_sink { result ≢ Err StoreFault.Sink }
+        ensures held { self.new.reply.held ≡ self.old.reply.held }
+        ensures names { LooksAtNames D.Disk (length self.old.index.update) disk.old disk.new }
+        ensures faulted { self.new.faulting ≡ true → result ≡ Err StoreFault.Disk }
+        ensures looked { self.new.faulting ≡ true → Looks D.Disk Ending.OneFailed disk.old disk.new }
+        ensures stays { let at = session D.Disk in self.new.faulting ≡ true → IsTrue D.tells →
+            StaysAs (at self.old disk.old) (at self.new disk.new) }
+        ensures same_base { self.new.faulting ≡ true →
+            SameBase self.old.index.map self.new.index.map }
+        ensures change { self.new.faulting ≡ false → FailsInChange D.Disk (ending result) disk.new }
+        ensures account { Accounts D.Disk (ending result) disk.old disk.new }
+    {
+        let names = self.clear_origin(alloc, disk, hash_of_origin(origin))?;
+        Ok(Answered::Cleared(names))
     }
 }

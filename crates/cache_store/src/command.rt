@@ -1,12 +1,12 @@
 //! Performs one command, and writes its reply.
 
-ghost use Rattle.std.specs.Prelude.{List, ℕ, ◌≡◌, ◌≢◌, ◌<◌, [], Err, Ok, true, false, IfOk, IfSome, IsErrOf, IsTrue, OnErr, OnOk, codes};
+ghost use Rattle.std.specs.Prelude.{List, ℕ, ◌≡◌, ◌≢◌, ◌<◌, [], Err, Ok, true, false, IfOk, IfSome, IsErrOf, IsSome, IsTrue, OnErr, OnOk, codes};
 ghost use Rattle.std.specs.Io.KnownBytes.{Appends};
 ghost use Rattle.cache_base.specs.Causes.{HasCause};
 ghost use Rattle.cache_base.specs.declared.limits.TheConstants.{SLOTS};
 ghost use Rattle.cache_script.specs.Command.{command_of};
 ghost use Rattle.cache_store.specs.Answering.{outcome_in, rest_of};
-ghost use Rattle.cache_store.specs.Clearing.{HasNoMark, IsClearing, LeavesUncleared};
+ghost use Rattle.cache_store.specs.Clearing.{HasNoMark, IsClearing, LeavesResumed, LeavesUncleared, origin_cleared};
 ghost use Rattle.cache_store.specs.Evicting.{IsEviction, LeavesOthers, LooksBeforeChanges};
 ghost use Rattle.cache_store.specs.Faulting.{FailsForGood, LooksAtNothing, StaysAs};
 ghost use Rattle.cache_store.specs.Faults.{ending};
@@ -16,13 +16,16 @@ ghost use Rattle.cache_store.specs.Printed.{HasBadKey, IsPlain, Prints, is_check
 ghost use Rattle.cache_store.specs.Reads.{AreHeld, LastIsFirst, LeavesChunks};
 ghost use Rattle.cache_store.specs.Said.{IsCut, saying};
 ghost use Rattle.cache_store.specs.Saying.{CutsIn, SaysMore, TakesMore};
-ghost use Rattle.cache_theory.specs.Command.Command.{ClearOrigin, ElementOf, Evict, Flush, ReadPart, Rebuild, Verify};
+ghost use Rattle.cache_theory.specs.Command.Command.{ElementOf, Evict, Flush, ReadPart, Rebuild, Resume, Verify};
 ghost use Rattle.cache_theory.specs.Faulted.{fault_line};
 ghost use Rattle.cache_theory.specs.Given.{IsGiven};
 ghost use Rattle.cache_theory.specs.Text.{with_bytes};
+ghost use Rattle.context_clear.specs.Mark.{mark_of};
 ghost use Rattle.disk_model.specs.Account.{Accounts, Ending, Looks};
 ghost use Rattle.disk_model.specs.Sound.{IsQuiet};
+ghost use Rattle.disk_model.specs.State.{standing};
 ghost use Rattle.disk_model.specs.Told.{Told};
+ghost use Rattle.disk_model.specs.declared.place.Place.TheVariants.{Clear};
 ghost use Rattle.file_handles.specs.Unsynced.{SyncsNothing};
 ghost use Rattle.index_map.specs.Known.{SameBase};
 ghost use Rattle.index_theory.specs.Honest.{LeavesHonest};
@@ -91,12 +94,15 @@ fn say_rest<K: Sink>(
     ensures cut { let at = saying K.Sink in
         OnErr result (CutsIn (at reply.old sink.old) (K.taken sink.new) (rest_of answered)) }
     ensures outcome { IfOk result (λ o. o ≡ outcome_in answered) }
+    ensures resumed { answered ≡ Answered.Resumed →
+        (result ≡ Ok Verdict.Ok) × ((reply.new ≡ reply.old) × (sink.new ≡ sink.old)) }
     ensures no_disk { result ≢ Err StoreFault.Disk }
     ensures sink { let failed = IsErrOf result StoreFault.Sink in
         HasCause failed (K.faults sink.old) (K.faults sink.new) }
 {
     match answered {
         Answered::All => Ok(Verdict::Ok),
+        Answered::Resumed => Ok(Verdict::Ok),
         Answered::Done => say_ok(reply, sink, b"ok\n"),
         Answered::NoneThere => say_ok(reply, sink, b"none\n"),
         Answered::Yes => say_ok(reply, sink, b"yes\n"),
@@ -195,6 +201,8 @@ impl Store {
         ensures unsaid { IfOk result (λ a. a ≢ Answered.All → sink.new ≡ sink.old) }
         ensures still_empty { IfOk result (λ a.
             a ≢ Answered.All → self.new.reply.held ≡ []) }
+        ensures wordless { command_of c.now ≡ Resume → (sink.new ≡ sink.old)
+            × ((result ≢ Err StoreFault.Sink) × IfOk result (λ a. a ≡ Answered.Resumed)) }
         ensures grows { IsTrue D.tells → TakesMore (K.taken sink.old) (K.taken sink.new) }
         ensures index { SparesIndex (command_of c.now) self.old.index → Told D.Disk LeavesIndex disk.old disk.new }
         ensures base { SparesIndex (command_of c.now) self.old.index → HadEffect result →
@@ -202,7 +210,8 @@ impl Store {
         ensures quiet { SyncsAll (command_of c.now) → HadEffect result →
             IsTrue D.tells → IsQuiet (D.state disk.new) }
         ensures unclean { IsTrue D.tells → IsUnclean (D.state disk.new) }
-        ensures looks { IfSome (names_read (command_of c.now) self.old.index.update)
+        ensures looks { let mark = mark_of (standing (D.state disk.old) Clear) in
+            IfSome (names_read (command_of c.now) mark self.old.index.update)
             (λ names. LooksAtNames D.Disk names disk.old disk.new) }
         ensures looks_first { IsEviction (command_of c.now) →
             LooksBeforeChanges D.Disk (ending result) disk.old disk.new }
@@ -216,13 +225,19 @@ impl Store {
             Told D.Disk SyncsNothing disk.old disk.new }
         ensures evicts { (kb : ℕ) → command_of c.now ≡ Evict kb → HadEffect result → IsTrue D.tells →
             LeavesOthers (session D.Disk self.old disk.old) kb self.new.index.map }
-        ensures clears { (origin : List ℕ) → command_of c.now ≡ ClearOrigin origin → HadEffect result →
-            IsTrue D.tells → LeavesUncleared (session D.Disk self.old disk.old) origin self.new.index.map }
+        ensures clears { IfSome (origin_cleared (command_of c.now) (standing (D.state disk.old) Clear)) (λ origin.
+            HadEffect result → IsTrue D.tells →
+            LeavesUncleared (session D.Disk self.old disk.old) origin self.new.index.map) }
         ensures unmarked { IsClearing (command_of c.now) → HadEffect result →
             IsTrue D.tells → HasNoMark (D.state disk.new) }
-        ensures stopped { (origin : List ℕ) → command_of c.now ≡ ClearOrigin origin →
+        ensures stopped { IfSome (origin_cleared (command_of c.now) (standing (D.state disk.old) Clear)) (λ origin.
             IsTrue D.tells →
-            ClearsUnderMark origin (session D.Disk self.old disk.old) (D.state disk.new) }
+            ClearsUnderMark origin (session D.Disk self.old disk.old) (D.state disk.new)) }
+        ensures resumes { command_of c.now ≡ Resume → HadEffect result → IsTrue D.tells →
+            let mark = mark_of (standing (D.state disk.old) Clear) in
+            LeavesResumed mark (session D.Disk self.old disk.old) self.new.index }
+        ensures synced { command_of c.now ≡ Resume → HadEffect result → IsTrue D.tells →
+            IsSome (mark_of (standing (D.state disk.old) Clear)) → IsQuiet (D.state disk.new) }
         ensures flushes { command_of c.now ≡ Flush → HadEffect result →
             Told D.Disk (Flushes self.old.index self.old.moment) disk.old disk.new }
         ensures rebuilds { command_of c.now ≡ Rebuild → HadEffect result →
@@ -238,9 +253,10 @@ impl Store {
         ensures silent { self.new.faulting ≡ true →
             (sink.new ≡ sink.old) × (self.new.reply.held ≡ []) }
         ensures change { let at = cache D.Disk self.old.handles disk.old in
-            self.new.faulting ≡ false → result ≡ Err StoreFault.Disk → IsTrue D.tells →
+            self.new.faulting ≡ false → command_of c.now ≢ Resume → result ≡ Err StoreFault.Disk → IsTrue D.tells →
             FailsForGood (D.counts disk.new) (command_of c.now) at (K.taken sink.old) (K.taken sink.new) }
         ensures bare { LooksAtNothing (command_of c.now) → self.new.faulting ≡ false }
+        ensures ends { command_of c.now ≡ Resume → self.new.faulting ≡ false }
         ensures held { (slot from len : ℕ) → command_of c.now ≡ ReadPart slot from len →
             AreHeld (kept self.old.handles) slot from len → disk.new ≡ disk.old }
         ensures recent { (slot from len : ℕ) → command_of c.now ≡ ReadPart slot from len →
@@ -319,6 +335,7 @@ impl Store {
             Command::List => self.say_list(alloc, disk, sink),
             Command::Evict { kb } => self.evict(alloc, disk, kb, sink),
             Command::Clear { origin } => self.clear(alloc, disk, origin),
+            Command::Resume => self.resume(alloc, disk),
             Command::Flush => self.flush(alloc, disk),
             Command::Step { n } => self.step(disk, n),
             Command::State => Ok(self.index.state()),
@@ -339,6 +356,8 @@ impl Store {
         ensures cut { let was = saying K.Sink self.old.reply sink.old in
             OnErr result (CutsRest (rest_of answered) was (K.taken sink.new)) }
         ensures outcome { IfOk result (λ o. o ≡ outcome_in answered) }
+        ensures resumed { answered ≡ Answered.Resumed → self.old.reply.held ≡ [] →
+            (result ≡ Ok Verdict.Ok) × (sink.new ≡ sink.old) }
         ensures open { open_of self.new ≡ open_of self.old }
         ensures calm { self.new.faulting ≡ self.old.faulting }
         ensures no_disk { result ≢ Err StoreFault.Disk }
@@ -358,7 +377,8 @@ impl Store {
     /// `Refused` where that is anything. The replies to `has` and `list` are the machine's where the records are right:
     /// where the directory was honest at the opening, or a `rebuild` has answered. There an `evict` and a `clear` take
     /// off what the machine's do; elsewhere they take off what has to go by the records that there are, and the reply
-    /// names it all the same.
+    /// names it all the same. So it is with `Resume`, which prints nothing: it does what is left of a clearing that was
+    /// stopped, whose mark stands, and removes what else stands in its place.
     pub fn attempt<D: Disk, K: Sink>(
         &mut self,
         alloc: Global,
@@ -382,6 +402,8 @@ impl Store {
         ensures cut { is_plain (command_of c.now) ≡ true →
             OnErr result (CutsPlainLine (K.taken sink.old) (K.taken sink.new)) }
         ensures bad_key { HasBadKey (command_of c.now) → result ≢ Ok Verdict.Ok }
+        ensures wordless { command_of c.now ≡ Resume →
+            (sink.new ≡ sink.old) × (result ≢ Err StoreFault.Sink) }
         ensures grows { IsTrue D.tells → TakesMore (K.taken sink.old) (K.taken sink.new) }
         ensures open { IsTrue D.tells → LeavesOpen result (session D.Disk self.new disk.new) }
         ensures honest { IsTrue D.tells → LeavesHonest (D.state disk.new) }
@@ -399,13 +421,19 @@ impl Store {
         ensures rebuilt { command_of c.now ≡ Rebuild → OnOk result (IsWritten self.new.index.map) }
         ensures evicts { (kb : ℕ) → command_of c.now ≡ Evict kb → HadEffect result → IsTrue D.tells →
             LeavesOthers (session D.Disk self.old disk.old) kb self.new.index.map }
-        ensures clears { (origin : List ℕ) → command_of c.now ≡ ClearOrigin origin → HadEffect result →
-            IsTrue D.tells → LeavesUncleared (session D.Disk self.old disk.old) origin self.new.index.map }
+        ensures clears { IfSome (origin_cleared (command_of c.now) (standing (D.state disk.old) Clear)) (λ origin.
+            HadEffect result → IsTrue D.tells →
+            LeavesUncleared (session D.Disk self.old disk.old) origin self.new.index.map) }
         ensures unmarked { IsClearing (command_of c.now) → HadEffect result →
             IsTrue D.tells → HasNoMark (D.state disk.new) }
-        ensures stopped { (origin : List ℕ) → command_of c.now ≡ ClearOrigin origin →
+        ensures stopped { IfSome (origin_cleared (command_of c.now) (standing (D.state disk.old) Clear)) (λ origin.
             IsTrue D.tells →
-            ClearsUnderMark origin (session D.Disk self.old disk.old) (D.state disk.new) }
+            ClearsUnderMark origin (session D.Disk self.old disk.old) (D.state disk.new)) }
+        ensures resumes { command_of c.now ≡ Resume → HadEffect result → IsTrue D.tells →
+            let mark = mark_of (standing (D.state disk.old) Clear) in
+            LeavesResumed mark (session D.Disk self.old disk.old) self.new.index }
+        ensures synced { command_of c.now ≡ Resume → HadEffect result → IsTrue D.tells →
+            IsSome (mark_of (standing (D.state disk.old) Clear)) → IsQuiet (D.state disk.new) }
         ensures flushes { command_of c.now ≡ Flush → HadEffect result →
             Told D.Disk (Flushes self.old.index self.old.moment) disk.old disk.new }
         ensures rebuilds { command_of c.now ≡ Rebuild → HadEffect result →
@@ -429,7 +457,8 @@ impl Store {
             Looks D.Disk (ending result) disk.old disk.new }
         ensures unsynced { NeverSyncs (kept self.old.handles) (command_of c.now) →
             Told D.Disk SyncsNothing disk.old disk.new }
-        ensures looks { IfSome (names_read (command_of c.now) self.old.index.update)
+        ensures looks { let mark = mark_of (standing (D.state disk.old) Clear) in
+            IfSome (names_read (command_of c.now) mark self.old.index.update)
             (λ names. LooksAtNames D.Disk names disk.old disk.new) }
         ensures looks_first { IsEviction (command_of c.now) →
             LooksBeforeChanges D.Disk (ending result) disk.old disk.new }
@@ -439,7 +468,7 @@ impl Store {
 
         // Where a look failed before anything of the reply was out, `faulting` tells it, and all is as it was. Where the disk
         // failed in another way, it was in a change or a sync, as the last call, or the reply is out up to its first chunk.
-        // A command that makes no look never fails in one.
+        // A command that makes no look never fails in one; and a clearing that is resumed ends the run, as an opening does.
         ensures faulted { self.new.faulting ≡ true → result ≡ Err StoreFault.Disk }
         ensures looked { self.new.faulting ≡ true → Looks D.Disk Ending.OneFailed disk.old disk.new }
         ensures stays { let at = session D.Disk in self.new.faulting ≡ true → IsTrue D.tells →
@@ -448,9 +477,10 @@ impl Store {
             SameBase self.old.index.map self.new.index.map }
         ensures silent { self.new.faulting ≡ true → sink.new ≡ sink.old }
         ensures fails { let at = cache D.Disk self.old.handles disk.old in
-            self.new.faulting ≡ false → result ≡ Err StoreFault.Disk → IsTrue D.tells →
+            self.new.faulting ≡ false → command_of c.now ≢ Resume → result ≡ Err StoreFault.Disk → IsTrue D.tells →
             FailsForGood (D.counts disk.new) (command_of c.now) at (K.taken sink.old) (K.taken sink.new) }
         ensures bare { LooksAtNothing (command_of c.now) → self.new.faulting ≡ false }
+        ensures ends { command_of c.now ≡ Resume → self.new.faulting ≡ false }
     {
         self.reply.clear();
         self.faulting = false;

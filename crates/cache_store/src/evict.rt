@@ -19,7 +19,7 @@ ghost use Rattle.file_handles.specs.Removing.{FailsInChange};
 ghost use Rattle.index_map.specs.Known.{SameBase};
 ghost use Rattle.file_handles.specs.HeldChunks.{SameChunks};
 ghost use Rattle.file_handles.specs.Unsynced.{SyncsNothing};
-ghost use Rattle.index_theory.specs.Leaves.{LeavesIndex};
+ghost use Rattle.index_theory.specs.Leaves.{LeavesBeside, LeavesIndex};
 ghost use Rattle.record_list.specs.Lists.{same_name};
 
 use crate::StoreFault;
@@ -83,7 +83,7 @@ fn remove_files<D: Disk>(
     ensures dooms { let at = cache D.Disk in IsTrue D.tells →
         DoomsAll names.now result (at handles.old disk.old) (at handles.new disk.new) }
     ensures kept { kept handles.new ≡ kept handles.old }
-    ensures index { Told D.Disk LeavesIndex disk.old disk.new }
+    ensures index { Told D.Disk LeavesBeside disk.old disk.new }
     ensures account { Accounts D.Disk (disk_ending result) disk.old disk.new }
     ensures change { FailsInChange D.Disk (disk_ending result) disk.new }
     ensures unsynced { Told D.Disk SyncsNothing disk.old disk.new }

@@ -20,10 +20,13 @@ mod outcome;
 mod pending;
 mod read;
 mod replies;
+mod resume;
 mod showing;
 mod store;
 mod verify;
 
 pub use fault::{Outcome, StoreFault, Verdict};
-pub use laws::{clearing_leaves_none, few_leave_index, records_at_end_are_one};
+pub use laws::{
+    clearing_leaves_none, few_leave_index, records_at_end_are_one, stopped_clearing_is_none_or_all,
+};
 pub use store::Store;

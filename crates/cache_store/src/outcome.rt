@@ -1,9 +1,9 @@
 //! Answers a command: by its reply, or by the line that tells of a failed look at the disk.
 
-ghost use Rattle.std.specs.Prelude.{List, ℕ, ◌≡◌, ◌≢◌, [], Err, Ok, true, false, IfOk, IfSome, IsErrOf, IsTrue, OnErr, OnOk};
+ghost use Rattle.std.specs.Prelude.{List, ℕ, ◌≡◌, ◌≢◌, [], Err, Ok, true, false, IfOk, IfSome, IsErrOf, IsSome, IsTrue, OnErr, OnOk};
 ghost use Rattle.cache_base.specs.Causes.{HasCause};
 ghost use Rattle.cache_script.specs.Command.{command_of};
-ghost use Rattle.cache_store.specs.Clearing.{HasNoMark, IsClearing, LeavesUncleared};
+ghost use Rattle.cache_store.specs.Clearing.{HasNoMark, IsClearing, LeavesResumed, LeavesUncleared, origin_cleared};
 ghost use Rattle.cache_store.specs.Evicting.{IsEviction, LeavesOthers, LooksBeforeChanges};
 ghost use Rattle.cache_store.specs.Faulting.{FailsForGood, LooksAtNothing};
 ghost use Rattle.cache_store.specs.Faults.{ending};
@@ -13,11 +13,14 @@ ghost use Rattle.cache_store.specs.Outcomes.{Faults, verdict_in, verdict_of};
 ghost use Rattle.cache_store.specs.Printed.{HasBadKey, Prints, is_plain};
 ghost use Rattle.cache_store.specs.Reads.{AreHeld, LastIsFirst, LeavesChunks};
 ghost use Rattle.cache_store.specs.Saying.{TakesMore};
-ghost use Rattle.cache_theory.specs.Command.Command.{ClearOrigin, Evict, Flush, ReadPart, Rebuild, Verify};
+ghost use Rattle.cache_theory.specs.Command.Command.{Evict, Flush, ReadPart, Rebuild, Resume, Verify};
 ghost use Rattle.cache_theory.specs.Given.{IsGiven};
+ghost use Rattle.context_clear.specs.Mark.{mark_of};
 ghost use Rattle.disk_model.specs.Account.{Accounts, Looks};
 ghost use Rattle.disk_model.specs.Sound.{IsQuiet};
+ghost use Rattle.disk_model.specs.State.{standing};
 ghost use Rattle.disk_model.specs.Told.{Told};
+ghost use Rattle.disk_model.specs.declared.place.Place.TheVariants.{Clear};
 ghost use Rattle.file_handles.specs.Unsynced.{SyncsNothing};
 ghost use Rattle.index_map.specs.Known.{SameBase};
 ghost use Rattle.index_theory.specs.Honest.{LeavesHonest};
@@ -61,7 +64,9 @@ impl Store {
     /// `Refused` where that is anything. The replies to `has` and `list` are the machine's where the records are right:
     /// where the directory was honest at the opening, or a `rebuild` has answered. There an `evict` and a `clear` take
     /// off what the machine's do; elsewhere they take off what has to go by the records that there are, and the reply
-    /// names it all the same.
+    /// names it all the same. So it is with `Resume`, which prints nothing: it does what is left of a clearing that was
+    /// stopped, whose mark stands, and removes what else stands in its place. Each run begins with it, and a look of its
+    /// that fails ends the run.
     pub fn command<D: Disk, K: Sink>(
         &mut self,
         alloc: Global,
@@ -76,6 +81,7 @@ impl Store {
             Faults D.Disk result self.old self.new disk.old disk.new (K.taken sink.old) (K.taken sink.new) }
         ensures faulted { result ≡ Ok Outcome.Faulted → self.new.faulting ≡ true }
         ensures bare { LooksAtNothing (command_of c.now) → self.new.faulting ≡ false }
+        ensures ends { command_of c.now ≡ Resume → self.new.faulting ≡ false }
 
         // Elsewhere this is what it comes to, by the machine, and what a crash leaves at every exit.
         ensures performs { let at = session D.Disk in self.new.faulting ≡ false → IsTrue D.tells →
@@ -91,6 +97,8 @@ impl Store {
         ensures cut { self.new.faulting ≡ false → is_plain (command_of c.now) ≡ true →
             OnErr result (CutsPlainLine (K.taken sink.old) (K.taken sink.new)) }
         ensures bad_key { HasBadKey (command_of c.now) → result ≢ Ok Outcome.Ok }
+        ensures wordless { command_of c.now ≡ Resume →
+            (sink.new ≡ sink.old) × (result ≢ Err StoreFault.Sink) }
         ensures grows { IsTrue D.tells → TakesMore (K.taken sink.old) (K.taken sink.new) }
         ensures open { IsTrue D.tells → LeavesOpen result (session D.Disk self.new disk.new) }
         ensures honest { IsTrue D.tells → LeavesHonest (D.state disk.new) }
@@ -109,18 +117,25 @@ impl Store {
         ensures rebuilt { self.new.faulting ≡ false → command_of c.now ≡ Rebuild →
             OnOk result (IsWritten self.new.index.map) }
 
-        // An eviction leaves the records of all others, and so does a clearing, which leaves no mark. Wherever a clearing stops,
-        // a crash leaves nothing of it, or its mark, or all of it. An index that is written has the moment of this store.
+        // An eviction leaves the records of all others, and so does a clearing, also one that is resumed, which leaves no mark.
+        // Wherever it stops, a crash leaves nothing of it, or its mark, or all of it. An index that is written has the moment
+        // of this store.
         ensures evicts { (kb : ℕ) → self.new.faulting ≡ false → command_of c.now ≡ Evict kb → HadEffect result →
             IsTrue D.tells → LeavesOthers (session D.Disk self.old disk.old) kb self.new.index.map }
-        ensures clears { (origin : List ℕ) → self.new.faulting ≡ false → command_of c.now ≡ ClearOrigin origin →
+        ensures clears { self.new.faulting ≡ false →
+            IfSome (origin_cleared (command_of c.now) (standing (D.state disk.old) Clear)) (λ origin.
             HadEffect result → IsTrue D.tells →
-            LeavesUncleared (session D.Disk self.old disk.old) origin self.new.index.map }
+            LeavesUncleared (session D.Disk self.old disk.old) origin self.new.index.map) }
         ensures unmarked { self.new.faulting ≡ false → IsClearing (command_of c.now) → HadEffect result →
             IsTrue D.tells → HasNoMark (D.state disk.new) }
-        ensures stopped { (origin : List ℕ) → command_of c.now ≡ ClearOrigin origin →
+        ensures stopped { IfSome (origin_cleared (command_of c.now) (standing (D.state disk.old) Clear)) (λ origin.
             IsTrue D.tells →
-            ClearsUnderMark origin (session D.Disk self.old disk.old) (D.state disk.new) }
+            ClearsUnderMark origin (session D.Disk self.old disk.old) (D.state disk.new)) }
+        ensures resumes { command_of c.now ≡ Resume → HadEffect result → IsTrue D.tells →
+            let mark = mark_of (standing (D.state disk.old) Clear) in
+            LeavesResumed mark (session D.Disk self.old disk.old) self.new.index }
+        ensures synced { command_of c.now ≡ Resume → HadEffect result → IsTrue D.tells →
+            IsSome (mark_of (standing (D.state disk.old) Clear)) → IsQuiet (D.state disk.new) }
         ensures flushes { command_of c.now ≡ Flush → HadEffect result →
             Told D.Disk (Flushes self.old.index self.old.moment) disk.old disk.new }
         ensures rebuilds { self.new.faulting ≡ false → command_of c.now ≡ Rebuild → HadEffect result →
@@ -145,7 +160,8 @@ impl Store {
             Looks D.Disk (ending result) disk.old disk.new }
         ensures unsynced { NeverSyncs (kept self.old.handles) (command_of c.now) →
             Told D.Disk SyncsNothing disk.old disk.new }
-        ensures looks { IfSome (names_read (command_of c.now) self.old.index.update)
+        ensures looks { let mark = mark_of (standing (D.state disk.old) Clear) in
+            IfSome (names_read (command_of c.now) mark self.old.index.update)
             (λ names. LooksAtNames D.Disk names disk.old disk.new) }
         ensures looks_first { self.new.faulting ≡ false → IsEviction (command_of c.now) →
             LooksBeforeChanges D.Disk (ending result) disk.old disk.new }
@@ -153,7 +169,7 @@ impl Store {
         ensures sink { let failed = IsErrOf result StoreFault.Sink in
             HasCause failed (K.faults sink.old) (K.faults sink.new) }
         ensures fails { let at = cache D.Disk self.old.handles disk.old in
-            result ≡ Err StoreFault.Disk → IsTrue D.tells →
+            command_of c.now ≢ Resume → result ≡ Err StoreFault.Disk → IsTrue D.tells →
             FailsForGood (D.counts disk.new) (command_of c.now) at (K.taken sink.old) (K.taken sink.new) }
     {
         let answered = self.attempt(alloc, disk, c, sink);

@@ -1,6 +1,6 @@
 //! Holds back what of a reply is not out yet.
 
-ghost use Rattle.std.specs.Prelude.{◌≡◌, [], OnErr, OnOk, IfOk, IsErrOf, true};
+ghost use Rattle.std.specs.Prelude.{◌≡◌, [], OnErr, OnOk, IfOk, IsErrOf, Ok, true};
 ghost use Rattle.cache_base.specs.declared.limits.TheConstants.{BUFFER_MAX};
 ghost use Rattle.cache_base.specs.Causes.{HasCause};
 
@@ -50,16 +50,20 @@ impl Pending {
         Ok(())
     }
 
-    /// All that is held goes out.
+    /// All that is held goes out, and where nothing is, no call is made.
     pub(crate) fn send<K: Sink>(&mut self, sink: &mut K) -> Result<(), SinkFault>
         ensures held { OnOk result (self.new.held ≡ []) }
         ensures said { let at = saying K.Sink in
             OnOk result (SendsAll (at self.old sink.old) (K.taken sink.new)) }
         ensures cut { let at = saying K.Sink in
             OnErr result (CutsAll (at self.old sink.old) (K.taken sink.new)) }
+        ensures idle { self.old.held ≡ [] → (result ≡ Ok tt) × (sink.new ≡ sink.old) }
         ensures cause { let failed = IsErrOf result SinkFault.Failed in
             HasCause failed (K.faults sink.old) (K.faults sink.new) }
     {
+        if self.held.as_slice().is_empty() {
+            return Ok(());
+        }
         write_whole(sink, self.held.as_slice())?;
         self.held.set_len(0);
         Ok(())

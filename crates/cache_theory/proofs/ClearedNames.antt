@@ -2,22 +2,24 @@
 use Rattle.std.proofs.Common.{◌≡◌, inl, inr, filter, ℕ, List, [], ◌∷◌, ◌++◌, map, Bool, true, false, cond, ◌||◌, Option, Some, None, refl, sym, ap, subst, ◌∙◌}
 use Rattle.std.specs.List.{list_any}
 use Rattle.std.specs.Ordering.{eq_by_cmp}
-use Rattle.std.specs.Prelude.{is_none, is_some}
+use Rattle.std.specs.Prelude.{if◌then◌else◌, is_none, is_some}
 use Rattle.std.specs.Str.{bytes_eq}
 use Rattle.std.proofs.lemmas.Bool.{and_from, cases_Bool, or_cases, or_left, or_right}
 use Rattle.std.proofs.lemmas.List.Folds.{list_any-append}
 use Rattle.std.proofs.lemmas.Map.Text.{is_eq-slice_cmp}
 use Rattle.cache_theory.specs.Checks.{checks}
-use Rattle.cache_theory.specs.Command.Command.{ClearOrigin}
-use Rattle.cache_theory.specs.Covers.{as_table, cleared, covered_open, covered_there, covers, covers_content, covers_object, joined_names}
+use Rattle.cache_theory.specs.Cleared.{ResumedLeavesNone}
+use Rattle.cache_theory.specs.Command.Command.{ClearOrigin, Resume}
+use Rattle.cache_theory.specs.Covers.{as_table, cleared, covered, covered_open, covered_there, covers, covers_content, covers_object, joined_names, resumed, taken_for}
 use Rattle.cache_theory.specs.Laws.{is_among}
 use Rattle.cache_theory.specs.Machine.{Machine, object}
-use Rattle.cache_theory.specs.Step.{effect, step}
+use Rattle.cache_theory.specs.Step.{cleared_of, effect, step, unmarked}
 use Rattle.cache_theory.specs.Table.{Table, bytes_cmp, get, keys, name_of}
-use Rattle.cache_theory.proofs.Evicting.{doomed_are_lost, later_some}
+use Rattle.cache_theory.proofs.Evicting.{cleared_are_lost, later_some}
 use Rattle.cache_theory.proofs.Names.{same_bytes}
 use Rattle.cache_theory.proofs.Readings.{whole_made}
 use Rattle.cache_theory.proofs.TableLaws.{get-insert}
+use Rattle.context_clear.specs.Mark.{mark_of}
 use Rattle.entry_file.specs.EntryFile.{Reading, file_meta, fits, found, read, read_for, whole_in}
 use Rattle.entry_file.specs.EntryFile.Reading.{Whole, Damaged, Nothing}
 use Rattle.entry_file.specs.Version.{Version}
@@ -87,12 +89,10 @@ among_joined : (name : List ℕ) (first second : List (List ℕ)) → (list_any 
 among_joined name first second has =
     among_keys (as_table (first ++ second)) name (in_table name (first ++ second) (list_any-append (bytes_eq name) first second ∙ has))
 
-content_among : (m : Machine) (origin name c : List ℕ) → get m.shelf name ≡ Some c → covers_content (value_hash origin) name c ≡ true
-    → is_among name (cleared m origin) ≡ true
-unfolding cleared
-content_among m origin name c at covered =
-    let hash : ℕ = value_hash origin in
-    let has = named_passing (covers_content hash) m.shelf name c at covered in
+content_among : (m : Machine) (hash : ℕ) (name c : List ℕ) → get m.shelf name ≡ Some c → covers_content hash name c ≡ true
+    → is_among name (covered m hash) ≡ true
+content_among m hash name c at covers =
+    let has = named_passing (covers_content hash) m.shelf name c at covers in
     among_joined name (covered_open m hash) (covered_there m.shelf hash)
     (or_right (list_any (bytes_eq name) (covered_open m hash)) (list_any (bytes_eq name) (covered_there m.shelf hash)) has)
 
@@ -132,19 +132,36 @@ found_by (Some c) key v is = record { content = c; is = refl; whole = go (bytes_
     go true is = whole_of (read (file_name key) c) v is
     go false is = absurd (cc)
 
--- so nothing that is covered is found right after a clearing
-pub none_left : (m : Machine) (origin key : List ℕ) (v : Version) → found (get (step m (ClearOrigin origin)).next.shelf) key ≡ Some v
-    → covers (value_hash origin) v.key v.header ≡ true → ⊥
-unfolding checks effect
-none_left m origin key v is covered =
+-- so nothing that is covered is found once these names are cleared
+none_of_left : (m : Machine) (hash : ℕ) (key : List ℕ) (v : Version) → found (get (cleared_of m (covered m hash)).shelf) key ≡ Some v
+    → covers hash v.key v.header ≡ true → ⊥
+none_of_left m hash key v is covers =
     let name : List ℕ = file_name key in
-    let shelf = (doomed_are_lost m (cleared m origin)).shelf name in
-    let by = found_by (get (step m (ClearOrigin origin)).next.shelf name) key v is in
-    elim (cases_Bool (is_among name (cleared m origin))) [
+    let shelf = (cleared_are_lost m (covered m hash)).shelf name in
+    let by = found_by (get (cleared_of m (covered m hash)).shelf name) key v is in
+    elim (cases_Bool (is_among name (covered m hash))) [
       | inl among ↦
           let none : None ≡ Some by.content = sym (ap (λ b. cond b None (get m.shelf name)) among) ∙ sym shelf ∙ by.is in absurd (cc)
       | inr other ↦
           let there : get m.shelf name ≡ Some by.content = sym (ap (λ b. cond b None (get m.shelf name)) other) ∙ sym shelf ∙ by.is in
-          let among = content_among m origin name by.content there (covered_content (value_hash origin) name by.content v by.whole covered) in
+          let among = content_among m hash name by.content there (covered_content hash name by.content v by.whole covers) in
           absurd (cc)
     ]
+
+-- right after a clearing
+pub none_left : (m : Machine) (origin key : List ℕ) (v : Version) → found (get (step m (ClearOrigin origin)).next.shelf) key ≡ Some v
+    → covers (value_hash origin) v.key v.header ≡ true → ⊥
+unfolding checks effect cleared
+none_left m origin key v is covers = none_of_left m (value_hash origin) key v is covers
+
+not_covered : (b : Bool) → (b ≡ true → ⊥) → b ≡ false
+not_covered true never = absurd (never refl)
+not_covered false never = refl
+
+-- and right after one that was resumed
+pub resumed_leaves_none : ResumedLeavesNone
+unfolding checks effect resumed
+resumed_leaves_none m hash key v mark is =
+    not_covered (covers hash v.key v.header)
+    (none_of_left m hash key v
+    (subst (λ (o : Option ℕ). found (get (if is_some o then cleared_of m (taken_for m o) else unmarked m).shelf) key ≡ Some v) mark is))

@@ -1,16 +1,16 @@
 -- Objects are never taken away, and one that is doomed stays doomed.
 use Rattle.std.proofs.Common.{◌≡◌, inl, inr, ℕ, zero, suc, ◌≤◌, length, arith, length-set, List, [], ◌∷◌, ◌++◌, Bool, true, false, not, ◌&&◌, Option, Some, None, refl, sym, subst}
-use Rattle.std.specs.Prelude.{is_none, option_map, slice_get, slice_set, unwrap_or}
+use Rattle.std.specs.Prelude.{is_none, option_map, slice_get, slice_set, unwrap_or, is_some}
 use Rattle.std.proofs.lemmas.Bool.{cases_Bool, cond_both}
 use Rattle.cache_base.specs.Checks.{first_failing}
 use Rattle.cache_base.specs.declared.name.Name.{Name}
 use Rattle.cache_theory.specs.Checks.{checks, with_alt_data, with_value}
 use Rattle.cache_theory.specs.Command.{Command}
-use Rattle.cache_theory.specs.Command.Command.{Create, OpenKey, Append, Finish, SetElement, UnsetElement, UseEntry, Pin, Unpin, PutAlt, Close, Doom, Evict, EvictNames, ClearOrigin, ClearNames}
+use Rattle.cache_theory.specs.Command.Command.{Create, OpenKey, Append, Finish, SetElement, UnsetElement, UseEntry, Pin, Unpin, PutAlt, Close, Doom, Evict, EvictNames, ClearOrigin, ClearNames, Resume, ResumeNames}
 use Rattle.cache_theory.specs.Command.Reply.{Done, NoneThere}
-use Rattle.cache_theory.specs.Covers.{cleared}
+use Rattle.cache_theory.specs.Covers.{cleared, resumed}
 use Rattle.cache_theory.specs.Machine.{Machine, Object, is_writer, nobody, number_of, object_of, on_shelf, used_by}
-use Rattle.cache_theory.specs.Step.{after, all_doomed, answer, changed, doomed_at, doomed_under, effect, entered, evicted, finished_by, fresh, joined, step, stepped, stored, update_ended, used, with_pin}
+use Rattle.cache_theory.specs.Step.{after, all_doomed, answer, changed, doomed_at, doomed_under, effect, entered, evicted, finished_by, fresh, joined, step, stepped, stored, update_ended, used, with_pin, cleared_of, unmarked}
 use Rattle.cache_theory.specs.Table.{get}
 use Rattle.cache_theory.specs.declared.refusal.Refusal.{Refusal}
 use Rattle.cache_theory.proofs.Objects.{length_more}
@@ -21,6 +21,7 @@ use Rattle.entry_file.specs.Version.{Version}
 use Rattle.entry_name.specs.EntryName.{file_name}
 use Rattle.entry_parts.specs.Elements.{element}
 use Rattle.entry_parts.specs.Setting.{without_element}
+use Rattle.context_clear.specs.Mark.{mark_of}
 
 -- an object is there, and doomed
 abbrev pub is_doomed_in : List Object → ℕ → Bool
@@ -142,8 +143,12 @@ effect_grows m (Close s) =
 effect_grows m (Doom key) = doomed_under_grows m (file_name key)
 effect_grows m (Evict kb) = all_doomed_grow (update_ended m) (evicted m kb)
 effect_grows m (EvictNames names) = all_doomed_grow (update_ended m) names
-effect_grows m (ClearOrigin origin) = all_doomed_grow (update_ended m) (cleared m origin)
-effect_grows m (ClearNames names) = all_doomed_grow (update_ended m) names
+effect_grows m (ClearOrigin origin) = all_doomed_grow (update_ended (unmarked m)) (cleared m origin)
+effect_grows m (ClearNames names) = all_doomed_grow (update_ended (unmarked m)) names
+effect_grows m Resume =
+    cond_both (is_some (mark_of m.mark)) (cleared_of m (resumed m)) (unmarked m) (λ next. Grow m.objects next.objects)
+    (λ some. all_doomed_grow (update_ended (unmarked m)) (resumed m)) (λ none. grow_same m.objects)
+effect_grows m (ResumeNames names) = all_doomed_grow (update_ended (unmarked m)) names
 effect_grows m c = grow_same m.objects
 
 step_grows : (m : Machine) (c : Command) (r : Option Refusal) → Grow m.objects (stepped m c r).next.objects

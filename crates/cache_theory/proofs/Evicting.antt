@@ -9,9 +9,9 @@ use Rattle.std.proofs.lemmas.Map.Text.{is_eq-slice_cmp}
 use Rattle.std.proofs.lemmas.Slice.Eq.{bytes_eq-Decides}
 use Rattle.cache_base.specs.declared.name.Name.{Name}
 use Rattle.cache_theory.specs.Checks.{checks}
-use Rattle.cache_theory.specs.Laws.{DoomedAreLost, EvictTakesOff, EvictedMayGo, MayGo, UnusedAreTakenOff, is_among}
+use Rattle.cache_theory.specs.Laws.{DoomedAreLost, EvictTakesOff, EvictedMayGo, MayGo, UnusedAreTakenOff, is_among, AreLost}
 use Rattle.cache_theory.specs.Machine.{Machine, open_names}
-use Rattle.cache_theory.specs.Step.{all_doomed, doomed_at, doomed_under, effect, evicted, update_ended, without}
+use Rattle.cache_theory.specs.Step.{all_doomed, doomed_at, doomed_under, effect, evicted, update_ended, without, cleared_of, unmarked}
 use Rattle.cache_theory.specs.Table.{Table, bytes_cmp, get, name_of, remove}
 use Rattle.cache_check.proofs.FoundExactly.{has_key}
 use Rattle.cache_theory.proofs.Names.{get-remove_other, get-remove_same, one_name, same_bytes}
@@ -241,6 +241,15 @@ doomed_are_lost m names = record {
   rest = rest_stays (update_ended m) names refl;
   slots = slots_stay (update_ended m) names;
   moment = moment_stays (update_ended m) names;
+}
+
+-- so it is by a clearing
+pub cleared_are_lost : (m : Machine) (names : List Name) → AreLost m (cleared_of m names) names
+cleared_are_lost m names = let lost = doomed_are_lost (unmarked m) names in record {
+  shelf = lost.shelf;
+  rest = lost.rest;
+  slots = lost.slots;
+  moment = lost.moment;
 }
 
 pub unused_are_taken_off : UnusedAreTakenOff

@@ -7,7 +7,7 @@ use Rattle.cache_theory.specs.Command.{Command}
 use Rattle.cache_theory.specs.Faulted.{AreFaults, CutIsTold, FaultCutIsTold, FrontIsTold, MayFollow, WholeIsTold, fault_line, faulted, replies_but, reply_behind, unfaulted}
 use Rattle.cache_theory.specs.Machine.{Machine}
 use Rattle.cache_theory.specs.Step.{after, step}
-use Rattle.cache_theory.specs.Text.{reply_text}
+use Rattle.cache_theory.specs.Text.{AreSpoken, reply_text}
 use Rattle.cache_theory.proofs.FaultedTold.{faulted_is_told}
 
 -- no command stands behind the last
@@ -15,20 +15,20 @@ none_behind : (cs : List Command) (c : Command) → slice_get cs (length cs) ≡
 none_behind cs c at = let within = slice_get_within cs (length cs) c at in omega (arith, within)
 
 pub whole_is_told : WholeIsTold
-whole_is_told m cs faults x numbers =
+whole_is_told m cs faults x spoken numbers =
     ap (λ ds. faulted m cs (replies_but m ds faults ++ x)) (sym (take_all (length cs) cs (omega arith)))
-    ∙ faulted_is_told m cs (length cs) faults x (omega arith) numbers (λ c at. absurd (none_behind cs c at))
+    ∙ faulted_is_told m cs (length cs) faults x spoken (omega arith) numbers (λ c at. absurd (none_behind cs c at))
 
 -- the answers to the first, and what follows
-module _ (m : Machine) (cs more : List Command) (faults x : List ℕ) (numbers : AreFaults (length cs) faults) where
+module _ (m : Machine) (cs more : List Command) (faults x : List ℕ) (spoken : AreSpoken (cs ++ more)) (numbers : AreFaults (length cs) faults) where
   told_behind : MayFollow m (cs ++ more) (length cs) faults x → faulted m (cs ++ more) (replies_but m cs faults ++ x) ≡ record { answered = length cs; faults = faults }
   told_behind follows =
       ap (λ ds. faulted m (cs ++ more) (replies_but m ds faults ++ x)) (sym (take-append_seam cs more))
-      ∙ faulted_is_told m (cs ++ more) (length cs) faults x (let joined = length-append cs more in omega (arith, joined)) numbers follows
+      ∙ faulted_is_told m (cs ++ more) (length cs) faults x spoken (let joined = length-append cs more in omega (arith, joined)) numbers follows
 
 pub front_is_told : FrontIsTold
-front_is_told m cs more faults numbers =
-    ap (faulted m (cs ++ more)) (sym (append-nil (replies_but m cs faults))) ∙ told_behind m cs more faults [] numbers (λ c at. inl refl)
+front_is_told m cs more faults spoken numbers =
+    ap (faulted m (cs ++ more)) (sym (append-nil (replies_but m cs faults))) ∙ told_behind m cs more faults [] spoken numbers (λ c at. inl refl)
 
 -- the command behind the first
 behind_is : (cs more : List Command) (c d : Command) → slice_get (cs ++ c ∷ more) (length cs) ≡ Some d → c ≡ d
@@ -36,8 +36,8 @@ behind_is [] more c d at = let is : Some c ≡ Some d = at in cc
 behind_is (b ∷ cs) more c d at = behind_is cs more c d at
 
 pub cut_is_told : CutIsTold
-cut_is_told m cs more c faults n numbers short =
-    told_behind m cs (c ∷ more) faults _ numbers (λ d at. inr (inr (
+cut_is_told m cs more c faults n spoken numbers short =
+    told_behind m cs (c ∷ more) faults _ spoken numbers (λ d at. inr (inr (
       n,
       (
         subst (λ ds. n < length (reply_text (step (after m (unfaulted faults ds)) d).reply)) (sym (take-append_seam cs (c ∷ more))) (subst (λ e. n < length (reply_text (step (after m (unfaulted faults cs)) e).reply)) (behind_is cs more c d at) short),
@@ -46,5 +46,5 @@ cut_is_told m cs more c faults n numbers short =
     )))
 
 pub fault_cut_is_told : FaultCutIsTold
-fault_cut_is_told m cs more c faults n numbers short =
-    told_behind m cs (c ∷ more) faults (take n fault_line) numbers (λ d at. inr (inl (n, (short, refl))))
+fault_cut_is_told m cs more c faults n spoken numbers short =
+    told_behind m cs (c ∷ more) faults (take n fault_line) spoken numbers (λ d at. inr (inl (n, (short, refl))))

@@ -5,9 +5,9 @@ use Rattle.cache_theory.specs.Command.{Command}
 use Rattle.cache_theory.specs.Faulted.{AreRisingIn, begins_with, fault_before, fault_line, faulted_from, is_faulted, none_answered, replies_from, reply_before, unfaulted_from}
 use Rattle.cache_theory.specs.Machine.{Machine}
 use Rattle.cache_theory.specs.Step.{step}
-use Rattle.cache_theory.specs.Text.{reply_text}
+use Rattle.cache_theory.specs.Text.{reply_text, IsSpoken}
 use Rattle.cache_theory.proofs.TextsApart.{other_never_begins, text_begins}
-use Rattle.cache_theory.proofs.RepliesApart.{reply_differs}
+use Rattle.cache_theory.proofs.RepliesApart.{reply_differs, step_spoken}
 
 -- Numbers that rise.
 
@@ -78,11 +78,11 @@ pub read_fault : (n : ℕ) (m : Machine) (c : Command) (cs : List Command) (more
 read_fault n m c cs more =
     cond-true (begins_with fault_line (fault_line ++ more)) _ _ (text_begins fault_line more) ∙ ap (λ bytes. fault_before n (faulted_from (suc n) m cs bytes)) (drop_at fault_line more (length fault_line) refl)
 
-pub read_reply : (n : ℕ) (m : Machine) (c : Command) (cs : List Command) (more : List ℕ)
+pub read_reply : (n : ℕ) (m : Machine) (c : Command) (cs : List Command) (more : List ℕ) → IsSpoken c
     → faulted_from n m (c ∷ cs) (reply_text (step m c).reply ++ more) ≡ reply_before (faulted_from (suc n) (step m c).next cs more)
-read_reply n m c cs more =
+read_reply n m c cs more spoken =
     let text : List ℕ = reply_text (step m c).reply in
-    cond-false (begins_with fault_line (text ++ more)) _ _ (other_never_begins text fault_line more (reply_differs (step m c).reply))
+    cond-false (begins_with fault_line (text ++ more)) _ _ (other_never_begins text fault_line more (reply_differs (step m c).reply (step_spoken m c spoken)))
     ∙ cond-true (begins_with text (text ++ more)) _ _ (text_begins text more)
     ∙ ap (λ bytes. reply_before (faulted_from (suc n) (step m c).next cs bytes)) (drop_at text more (length text) refl)
 

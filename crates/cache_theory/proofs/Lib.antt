@@ -63,3 +63,4 @@ pub mod ClearedSessions
 pub mod ClearedGone
 pub mod SlotsBefore
 pub mod SparedObjects
+pub mod MarkStays

@@ -1,15 +1,15 @@
 -- The shelf stays a table, whatever commands come.
 use Rattle.std.proofs.Common.{ℕ, List, [], ◌∷◌, Bool, true, false, cond, not, ◌&&◌, ◌||◌, ◌++◌}
-use Rattle.std.specs.Prelude.{Option, None, Some, is_none}
+use Rattle.std.specs.Prelude.{Option, None, Some, is_none, is_some}
 use Rattle.cache_base.specs.Checks.{first_failing}
 use Rattle.cache_base.specs.declared.name.Name.{Name}
 use Rattle.cache_theory.specs.Checks.{checks, with_alt_data, with_value}
 use Rattle.cache_theory.specs.Command.{Command}
-use Rattle.cache_theory.specs.Command.Command.{Create, OpenKey, Append, Finish, SetElement, UnsetElement, UseEntry, Pin, Unpin, PutAlt, Close, Doom, Evict, EvictNames, ClearOrigin, ClearNames}
+use Rattle.cache_theory.specs.Command.Command.{Create, OpenKey, Append, Finish, SetElement, UnsetElement, UseEntry, Pin, Unpin, PutAlt, Close, Doom, Evict, EvictNames, ClearOrigin, ClearNames, Resume, ResumeNames}
 use Rattle.cache_theory.specs.Command.Reply.{Done, NoneThere}
-use Rattle.cache_theory.specs.Covers.{cleared}
+use Rattle.cache_theory.specs.Covers.{cleared, resumed}
 use Rattle.cache_theory.specs.Machine.{Machine, Object, has_slots, is_writer, number_of, object_of, on_shelf, used_by}
-use Rattle.cache_theory.specs.Step.{Answer, after, all_doomed, answer, changed, doomed_under, effect, evicted, finished_by, joined, released, step, stepped, stored, update_ended, used, with_pin, with_slot}
+use Rattle.cache_theory.specs.Step.{Answer, after, all_doomed, answer, changed, doomed_under, effect, evicted, finished_by, joined, released, step, stepped, stored, update_ended, used, with_pin, with_slot, cleared_of, unmarked}
 use Rattle.cache_theory.specs.Table.{Table, IsTable, remove}
 use Rattle.cache_theory.specs.declared.refusal.Refusal.{Refusal}
 use Rattle.cache_theory.proofs.TableLaws.{insert_is_table, remove_is_table}
@@ -19,6 +19,8 @@ use Rattle.entry_file.specs.Version.{Version, file_of}
 use Rattle.entry_name.specs.EntryName.{file_name}
 use Rattle.entry_parts.specs.Elements.{element}
 use Rattle.entry_parts.specs.Setting.{without_element}
+use Rattle.context_clear.specs.Mark.{mark_of}
+use Rattle.std.proofs.lemmas.Bool.{cond_both}
 
 -- a table after a choice of two
 chosen : {X : Type 0} (b : Bool) (s t : Table X) → IsTable s → IsTable t → IsTable (cond b s t)
@@ -82,8 +84,12 @@ effect_table m (Close s) h = released_table (finished_by m s) s (finished_table 
 effect_table m (Doom key) h = remove_is_table m.shelf (file_name key) h
 effect_table m (Evict kb) h = all_doomed_table (update_ended m) (evicted m kb) h
 effect_table m (EvictNames names) h = all_doomed_table (update_ended m) names h
-effect_table m (ClearOrigin origin) h = all_doomed_table (update_ended m) (cleared m origin) h
-effect_table m (ClearNames names) h = all_doomed_table (update_ended m) names h
+effect_table m (ClearOrigin origin) h = all_doomed_table (update_ended (unmarked m)) (cleared m origin) h
+effect_table m (ClearNames names) h = all_doomed_table (update_ended (unmarked m)) names h
+effect_table m Resume h =
+    cond_both (is_some (mark_of m.mark)) (cleared_of m (resumed m)) (unmarked m) (λ next. IsTable next.shelf)
+    (λ some. all_doomed_table (update_ended (unmarked m)) (resumed m) h) (λ none. h)
+effect_table m (ResumeNames names) h = all_doomed_table (update_ended (unmarked m)) names h
 effect_table m c h = h
 
 stepped_table : (m : Machine) (c : Command) (r : Option Refusal) → IsTable m.shelf → IsTable (stepped m c r).next.shelf

@@ -1,28 +1,29 @@
 -- Every command leaves a proper machine proper.
 use Rattle.std.proofs.Common.{◌≡◌, [], ◌++◌, drop, false, true, Option, Some, None, refl}
-use Rattle.std.specs.Prelude.{is_none}
+use Rattle.std.specs.Prelude.{is_none, is_some}
 use Rattle.std.proofs.lemmas.Bool.{cond_both, not-true}
 use Rattle.cache_base.specs.Checks.{first_failing}
 use Rattle.cache_base.proofs.CheckLaws.{AllHold, all_hold}
 use Rattle.cache_theory.specs.Checks.{checks, with_alt_data, with_value}
 use Rattle.cache_theory.specs.Command.{Command}
-use Rattle.cache_theory.specs.Command.Command.{At, Create, OpenKey, Append, Finish, SetElement, UnsetElement, UseEntry, Pin, Unpin, PutAlt, Close, Doom, ListRecords, ListGiven, Evict, EvictNames, ClearOrigin, ClearNames, StepUpdate, Verify, VerifyRecords, Rebuild}
+use Rattle.cache_theory.specs.Command.Command.{At, Create, OpenKey, Append, Finish, SetElement, UnsetElement, UseEntry, Pin, Unpin, PutAlt, Close, Doom, ListRecords, ListGiven, Evict, EvictNames, ClearOrigin, ClearNames, Resume, ResumeNames, StepUpdate, Verify, VerifyRecords, Rebuild}
 use Rattle.cache_theory.specs.Command.Reply.{Done, NoneThere}
-use Rattle.cache_theory.specs.Covers.{cleared}
+use Rattle.cache_theory.specs.Covers.{cleared, resumed}
 use Rattle.cache_theory.specs.Given.{IsGiven}
 use Rattle.cache_theory.specs.Machine.{Machine, is_slot, object_of}
 use Rattle.cache_theory.specs.Proper.{IsProper, StaysProper}
-use Rattle.cache_theory.specs.Step.{answer, changed, effect, evicted, stepped, update_ended, used, with_pin}
+use Rattle.cache_theory.specs.Step.{answer, changed, effect, evicted, stepped, update_ended, used, with_pin, cleared_of, unmarked}
 use Rattle.cache_theory.specs.declared.refusal.Refusal.{Refusal}
 use Rattle.cache_theory.proofs.AltData.{object_with_alt}
 use Rattle.cache_theory.proofs.Changes.{object_is, proper_changed, proper_closed, proper_created, proper_finished, proper_joined}
 use Rattle.cache_theory.proofs.Dooming.{proper_doomed_under}
-use Rattle.cache_theory.proofs.Rested.{proper_all_doomed, proper_rested}
+use Rattle.cache_theory.proofs.Rested.{proper_all_doomed, proper_rested, proper_cleared, proper_unmarked}
 use Rattle.cache_theory.proofs.Slotted.{proper_slotted, same_slots}
 use Rattle.cache_theory.proofs.Versions.{object_appended, object_pinned, object_used, object_with, object_without}
 use Rattle.entry_name.specs.EntryName.{file_name}
 use Rattle.entry_parts.specs.Elements.{element}
 use Rattle.entry_parts.specs.Setting.{without_element}
+use Rattle.context_clear.specs.Mark.{mark_of}
 
 effect_proper : (m : Machine) (c : Command) → IsGiven c → IsProper m → AllHold (checks m c) → IsProper (effect m c).next
 unfolding checks effect
@@ -67,10 +68,12 @@ effect_proper m (Evict kb) given proper hold =
     proper_all_doomed (update_ended m) (evicted m kb) (proper_rested m [] proper)
 effect_proper m (EvictNames names) given proper hold =
     proper_all_doomed (update_ended m) names (proper_rested m [] proper)
-effect_proper m (ClearOrigin origin) given proper hold =
-    proper_all_doomed (update_ended m) (cleared m origin) (proper_rested m [] proper)
-effect_proper m (ClearNames names) given proper hold =
-    proper_all_doomed (update_ended m) names (proper_rested m [] proper)
+effect_proper m (ClearOrigin origin) given proper hold = proper_cleared m (cleared m origin) proper
+effect_proper m (ClearNames names) given proper hold = proper_cleared m names proper
+effect_proper m Resume given proper hold =
+    cond_both (is_some (mark_of m.mark)) (cleared_of m (resumed m)) (unmarked m) IsProper
+    (λ some. proper_cleared m (resumed m) proper) (λ none. proper_unmarked m proper)
+effect_proper m (ResumeNames names) given proper hold = proper_cleared m names proper
 effect_proper m (StepUpdate n) given proper hold = proper_rested m (drop n m.rest) proper
 effect_proper m Verify given proper hold = proper_rested m [] proper
 effect_proper m (VerifyRecords records) given proper hold = proper_rested m [] proper

@@ -8,7 +8,7 @@ use Rattle.std.proofs.lemmas.Map.Text.{is_eq-slice_cmp}
 use Rattle.cache_base.proofs.CheckLaws.{AllHold, all_hold}
 use Rattle.cache_theory.specs.Checks.{checks, with_alt_data, with_value}
 use Rattle.cache_theory.specs.Command.{Command}
-use Rattle.cache_theory.specs.Command.Command.{Create, OpenKey, Append, Finish, SetElement, UnsetElement, UseEntry, Pin, Unpin, PutAlt, Close, Doom, ListRecords, ListGiven, Evict, EvictNames, ClearOrigin, ClearNames, StepUpdate, Verify, VerifyRecords, Rebuild}
+use Rattle.cache_theory.specs.Command.Command.{Create, OpenKey, Append, Finish, SetElement, UnsetElement, UseEntry, Pin, Unpin, PutAlt, Close, Doom, ListRecords, ListGiven, Evict, EvictNames, ClearOrigin, ClearNames, Resume, ResumeNames, StepUpdate, Verify, VerifyRecords, Rebuild}
 use Rattle.cache_theory.specs.Command.Reply.{Done, NoneThere}
 use Rattle.cache_theory.specs.Laws.{EntriesHaveRecords}
 use Rattle.cache_theory.specs.Machine.{Machine, Object, has_slots, is_writer, number_of, object, object_of, on_shelf, used_by}
@@ -213,6 +213,8 @@ effect_refiled m (Evict kb) of proper hold = absurd of
 effect_refiled m (EvictNames names) of proper hold = absurd of
 effect_refiled m (ClearOrigin origin) of proper hold = absurd of
 effect_refiled m (ClearNames names) of proper hold = absurd of
+effect_refiled m Resume of proper hold = absurd of
+effect_refiled m (ResumeNames names) of proper hold = absurd of
 effect_refiled m (StepUpdate n) of proper hold = absurd of
 effect_refiled m Verify of proper hold = absurd of
 effect_refiled m (VerifyRecords records) of proper hold = absurd of

@@ -1,8 +1,8 @@
 -- No reply is empty.
-use Rattle.std.proofs.Common.{ℕ, ◌<◌, List, [], ◌∷◌, ◌++◌, codes, decimal, flat_map, length, arith, length-append}
+use Rattle.std.proofs.Common.{ℕ, ◌<◌, List, [], ◌∷◌, ◌++◌, codes, decimal, flat_map, length, arith, length-append, refl}
 use Rattle.cache_base.specs.declared.name.Name.{Name}
 use Rattle.cache_check.specs.declared.finding.Finding.{Finding}
-use Rattle.cache_theory.specs.Command.Reply.{Done, Refused, NoneThere, Value, Part, Found, AltData, Main, Yes, No, Unknown, Records, Evicted, Cleared, Ready, Updating, Findings, Rebuilt}
+use Rattle.cache_theory.specs.Command.Reply.{Done, Refused, NoneThere, Value, Part, Found, AltData, Main, Yes, No, Unknown, Records, Evicted, Cleared, Resumed, Ready, Updating, Findings, Rebuilt}
 use Rattle.cache_theory.specs.Text.{ReplyIsNotEmpty, finding_words, found_line, line, record_words, refusal_words, reply_text, version_text, with_bytes, with_number}
 use Rattle.entry_file.specs.Version.{Version, version_meta}
 use Rattle.entry_metadata.specs.Metadata.{Meta}
@@ -42,32 +42,33 @@ found_long v =
 
 pub replies_are_not_empty : ReplyIsNotEmpty
 unfolding reply_text
-replies_are_not_empty Done = line_long (codes "ok" ∷ [])
-replies_are_not_empty (Refused r) = line_long (refusal_words r)
-replies_are_not_empty NoneThere = line_long (codes "none" ∷ [])
-replies_are_not_empty (Value value) = bytes_long (codes "value") value
-replies_are_not_empty (Part bytes) = bytes_long (codes "data") bytes
-replies_are_not_empty (Found v) = found_long v
-replies_are_not_empty (AltData alt bytes) =
+replies_are_not_empty Done some = line_long (codes "ok" ∷ [])
+replies_are_not_empty (Refused r) some = line_long (refusal_words r)
+replies_are_not_empty NoneThere some = line_long (codes "none" ∷ [])
+replies_are_not_empty (Value value) some = bytes_long (codes "value") value
+replies_are_not_empty (Part bytes) some = bytes_long (codes "data") bytes
+replies_are_not_empty (Found v) some = found_long v
+replies_are_not_empty (AltData alt bytes) some =
     longer (line (codes "alt" ∷ decimal (length bytes) ∷ alt.kind ∷ [])) (bytes ++ 10 ∷ [])
     (line_long (codes "alt" ∷ decimal (length bytes) ∷ alt.kind ∷ []))
-replies_are_not_empty (Main bytes) = bytes_long (codes "main") bytes
-replies_are_not_empty Yes = line_long (codes "yes" ∷ [])
-replies_are_not_empty No = line_long (codes "no" ∷ [])
-replies_are_not_empty Unknown = line_long (codes "unknown" ∷ [])
-replies_are_not_empty (Records records) =
+replies_are_not_empty (Main bytes) some = bytes_long (codes "main") bytes
+replies_are_not_empty Yes some = line_long (codes "yes" ∷ [])
+replies_are_not_empty No some = line_long (codes "no" ∷ [])
+replies_are_not_empty Unknown some = line_long (codes "unknown" ∷ [])
+replies_are_not_empty (Records records) some =
     longer (with_number (codes "records") (length records))
     (flat_map (λ (r : IndexRecord). line (record_words r)) records)
     (number_long (codes "records") (length records))
-replies_are_not_empty (Evicted names) =
+replies_are_not_empty (Evicted names) some =
     longer (with_number (codes "evicted") (length names))
     (flat_map (λ (name : Name). line (encode_upper name.0 ∷ [])) names)
     (number_long (codes "evicted") (length names))
-replies_are_not_empty (Cleared names) = number_long (codes "cleared") names
-replies_are_not_empty Ready = line_long (codes "ready" ∷ [])
-replies_are_not_empty (Updating names) = number_long (codes "updating") names
-replies_are_not_empty (Findings findings) =
+replies_are_not_empty (Cleared names) some = number_long (codes "cleared") names
+replies_are_not_empty Resumed some = absurd (some refl)
+replies_are_not_empty Ready some = line_long (codes "ready" ∷ [])
+replies_are_not_empty (Updating names) some = number_long (codes "updating") names
+replies_are_not_empty (Findings findings) some =
     longer (with_number (codes "findings") (length findings))
     (flat_map (λ (f : Finding). line (finding_words f)) findings)
     (number_long (codes "findings") (length findings))
-replies_are_not_empty (Rebuilt records) = number_long (codes "rebuilt") records
+replies_are_not_empty (Rebuilt records) some = number_long (codes "rebuilt") records

@@ -1,26 +1,27 @@
 -- What a command leaves under a name: what stood there, nothing, or the file of the object that it writes.
 use Rattle.std.proofs.Common.{◌≡◌, inl, inr, ℕ, List, Bool, true, false, cond, Option, Some, None, refl, sym, ap, subst, ◌∙◌}
-use Rattle.std.specs.Prelude.{if◌then◌else◌, option_and_then}
+use Rattle.std.specs.Prelude.{if◌then◌else◌, is_some, option_and_then}
 use Rattle.std.specs.Str.{bytes_eq}
-use Rattle.std.proofs.lemmas.Bool.{cases_Bool}
+use Rattle.std.proofs.lemmas.Bool.{cases_Bool, cond_both}
 use Rattle.cache_base.specs.Checks.{first_failing}
 use Rattle.cache_base.specs.declared.name.Name.{Name}
 use Rattle.cache_theory.specs.Checks.{checks}
 use Rattle.cache_theory.specs.Command.{Command}
-use Rattle.cache_theory.specs.Command.Command.{Create, Doom, ListRecords, ListGiven, Evict, EvictNames, ClearOrigin, ClearNames, StepUpdate, Verify, VerifyRecords, Rebuild}
-use Rattle.cache_theory.specs.Covers.{cleared}
+use Rattle.cache_theory.specs.Command.Command.{Create, Doom, ListRecords, ListGiven, Evict, EvictNames, ClearOrigin, ClearNames, Resume, ResumeNames, StepUpdate, Verify, VerifyRecords, Rebuild}
+use Rattle.cache_theory.specs.Covers.{cleared, resumed}
 use Rattle.cache_theory.specs.Laws.{AreLost, is_among}
 use Rattle.cache_theory.specs.Machine.{Machine, Object, object}
 use Rattle.cache_theory.specs.Marks.{rewritten}
 use Rattle.cache_theory.specs.Proper.{IsProper}
 use Rattle.cache_theory.specs.Refiled.{IsOfEntries, IsRefiled, refiled, refiled_by}
-use Rattle.cache_theory.specs.Step.{effect, evicted, step, stepped}
+use Rattle.cache_theory.specs.Step.{cleared_of, effect, evicted, step, stepped, unmarked}
 use Rattle.cache_theory.specs.Table.{get}
 use Rattle.cache_theory.specs.declared.refusal.Refusal.{Refusal}
-use Rattle.cache_theory.proofs.Evicting.{doomed_are_lost}
+use Rattle.cache_theory.proofs.Evicting.{cleared_are_lost, doomed_are_lost}
 use Rattle.cache_theory.proofs.Names.{same_bytes}
 use Rattle.cache_theory.proofs.Refiling.{entries_are_refiled}
 use Rattle.cache_theory.proofs.WrittenObjects.{rewritten_finished}
+use Rattle.context_clear.specs.Mark.{mark_of}
 use Rattle.entry_file.specs.Version.{file_of}
 use Rattle.entry_name.specs.EntryName.{file_name}
 
@@ -94,9 +95,15 @@ passed m (Evict kb) name proper passes =
 passed m (EvictNames names) name proper passes =
     lost m (EvictNames names) (effect m (EvictNames names)).next name names (doomed_are_lost m names)
 passed m (ClearOrigin origin) name proper passes =
-    lost m (ClearOrigin origin) (effect m (ClearOrigin origin)).next name (cleared m origin) (doomed_are_lost m (cleared m origin))
+    lost m (ClearOrigin origin) (effect m (ClearOrigin origin)).next name (cleared m origin) (cleared_are_lost m (cleared m origin))
 passed m (ClearNames names) name proper passes =
-    lost m (ClearNames names) (effect m (ClearNames names)).next name names (doomed_are_lost m names)
+    lost m (ClearNames names) (effect m (ClearNames names)).next name names (cleared_are_lost m names)
+passed m Resume name proper passes =
+    cond_both (is_some (mark_of m.mark)) (cleared_of m (resumed m)) (unmarked m) (λ next. IsShelvedBy m Resume next name)
+    (λ some. lost m Resume (cleared_of m (resumed m)) name (resumed m) (cleared_are_lost m (resumed m)))
+    (λ none. Stays refl)
+passed m (ResumeNames names) name proper passes =
+    lost m (ResumeNames names) (effect m (ResumeNames names)).next name names (cleared_are_lost m names)
 passed m (StepUpdate n) name proper passes = Stays refl
 passed m Verify name proper passes = Stays refl
 passed m (VerifyRecords records) name proper passes = Stays refl

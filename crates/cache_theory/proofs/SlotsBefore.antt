@@ -9,14 +9,14 @@ use Rattle.cache_base.specs.declared.name.Name.{Name}
 use Rattle.cache_base.proofs.CheckLaws.{AllHold, all_hold}
 use Rattle.cache_theory.specs.Checks.{checks}
 use Rattle.cache_theory.specs.Command.{Command}
-use Rattle.cache_theory.specs.Command.Command.{Create, OpenKey, Finish, SetElement, UnsetElement, UseEntry, Pin, Unpin, PutAlt, Close, Evict, EvictNames, ClearOrigin, ClearNames, Flush}
+use Rattle.cache_theory.specs.Command.Command.{Create, OpenKey, Finish, SetElement, UnsetElement, UseEntry, Pin, Unpin, PutAlt, Close, Evict, EvictNames, ClearOrigin, ClearNames, Resume, ResumeNames, Flush}
 use Rattle.cache_theory.specs.Command.Reply.{Done, NoneThere}
-use Rattle.cache_theory.specs.Covers.{cleared}
+use Rattle.cache_theory.specs.Covers.{cleared, resumed}
 use Rattle.cache_theory.specs.Given.{IsGiven}
 use Rattle.cache_theory.specs.Machine.{Machine, has_slots, is_slot, is_writer, number_of, object_of, on_shelf, used_by}
 use Rattle.cache_theory.specs.Marks.{rewritten}
 use Rattle.cache_theory.specs.Proper.{IsProper}
-use Rattle.cache_theory.specs.Step.{all_doomed, answer, changed, doomed_under, effect, evicted, finished_by, joined, released, stepped, stored, update_ended, with_slot}
+use Rattle.cache_theory.specs.Step.{all_doomed, answer, changed, doomed_under, effect, evicted, finished_by, joined, released, stepped, stored, update_ended, with_slot, cleared_of, unmarked}
 use Rattle.cache_theory.specs.Table.{remove}
 use Rattle.cache_theory.specs.Wording.{state_at}
 use Rattle.cache_theory.specs.declared.refusal.Refusal.{Refusal}
@@ -32,6 +32,7 @@ use Rattle.entry_file.specs.EntryFile.Reading.{Whole, Damaged, Nothing}
 use Rattle.entry_name.specs.EntryName.{file_name}
 use Rattle.entry_parts.specs.Elements.{element}
 use Rattle.entry_parts.specs.Setting.{without_element}
+use Rattle.context_clear.specs.Mark.{mark_of}
 
 -- it had a slot before, if it has one now
 abbrev HadSlot : Machine → Machine → ℕ → Type 0
@@ -84,8 +85,12 @@ had_before m (UnsetElement s key) i proper within h =
 had_before m (Close s) i proper within h = had_finished m s i (had_released (finished_by m s) s i h)
 had_before m (Evict kb) i proper within h = had_doomed m (evicted m kb) i h
 had_before m (EvictNames names) i proper within h = had_doomed m names i h
-had_before m (ClearOrigin origin) i proper within h = had_doomed m (cleared m origin) i h
-had_before m (ClearNames names) i proper within h = had_doomed m names i h
+had_before m (ClearOrigin origin) i proper within h = had_doomed (unmarked m) (cleared m origin) i h
+had_before m (ClearNames names) i proper within h = had_doomed (unmarked m) names i h
+had_before m Resume i proper within h =
+    cond_both (is_some (mark_of m.mark)) (cleared_of m (resumed m)) (unmarked m) (λ next. HadSlot m next i)
+    (λ some. had_doomed (unmarked m) (resumed m) i) (λ none. λ has. has) h
+had_before m (ResumeNames names) i proper within h = had_doomed (unmarked m) names i h
 had_before m c i proper within h = h
 
 had_stepped : (m : Machine) (c : Command) (r : Option Refusal) (i : ℕ) → IsProper m → i < length m.objects → HadSlot m (stepped m c r).next i

@@ -12,7 +12,7 @@ use Rattle.cache_theory.specs.Covers.{cleared, covers_object}
 use Rattle.cache_theory.specs.Laws.{is_among}
 use Rattle.cache_theory.specs.Machine.{Machine, Object, object}
 use Rattle.cache_theory.specs.Proper.{IsInUse, IsProper}
-use Rattle.cache_theory.specs.Step.{all_doomed, doomed_under, effect, step, update_ended}
+use Rattle.cache_theory.specs.Step.{all_doomed, doomed_under, effect, step, unmarked, update_ended}
 use Rattle.cache_theory.specs.Table.{get}
 use Rattle.cache_theory.specs.Wording.{state_at}
 use Rattle.cache_theory.proofs.ClearedNames.{object_among}
@@ -21,7 +21,7 @@ use Rattle.cache_theory.proofs.Dooming.{doomed_here, doomed_there, proper_doomed
 use Rattle.cache_theory.proofs.Evicting.{get_removed_or, off_either}
 use Rattle.cache_theory.proofs.HeldAside.{used_or_not}
 use Rattle.cache_theory.proofs.Objects.{nth_there}
-use Rattle.cache_theory.proofs.Rested.{proper_all_doomed, proper_rested}
+use Rattle.cache_theory.proofs.Rested.{proper_all_doomed, proper_rested, proper_unmarked}
 use Rattle.cache_theory.proofs.Slots.{has_slots_of}
 use Rattle.cache_theory.proofs.SlotsBefore.{had_slot, written_has_slot}
 use Rattle.cache_theory.proofs.Users.{undoomed_user}
@@ -57,10 +57,10 @@ spared_object : (m : Machine) (origin : List ℕ) (i : ℕ) → IsProper m → I
     → covers_object (value_hash origin) (object (step m (ClearOrigin origin)).next i) ≡ false
 unfolding checks effect
 spared_object m origin i proper used un =
-    let ended : Machine = update_ended m in
+    let ended : Machine = update_ended (unmarked m) in
     let names : List Name = cleared m origin in
     let next : Machine = all_doomed ended names in
-    let ended_proper : IsProper ended = proper_rested m [] proper in
+    let ended_proper : IsProper ended = proper_rested (unmarked m) [] (proper_unmarked m proper) in
     let name : List ℕ = file_name (object next i).version.key in
     let at : get next.in_use name ≡ Some i = undoomed_user next (proper_all_doomed ended names ended_proper) i used un in
     let same : object next i ≡ object m i = undoomed_same ended names i ended_proper un in

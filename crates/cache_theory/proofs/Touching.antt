@@ -10,13 +10,13 @@ use Rattle.cache_base.specs.declared.name.Name.{Name}
 use Rattle.cache_base.proofs.CheckLaws.{AllHold, all_hold}
 use Rattle.cache_theory.specs.Checks.{checks, with_alt_data, with_value}
 use Rattle.cache_theory.specs.Command.{Command}
-use Rattle.cache_theory.specs.Command.Command.{Create, OpenKey, Append, Finish, SetElement, UnsetElement, UseEntry, Pin, Unpin, PutAlt, Close, Doom, Evict, EvictNames, ClearOrigin, ClearNames}
+use Rattle.cache_theory.specs.Command.Command.{Create, OpenKey, Append, Finish, SetElement, UnsetElement, UseEntry, Pin, Unpin, PutAlt, Close, Doom, Evict, EvictNames, ClearOrigin, ClearNames, Resume, ResumeNames}
 use Rattle.cache_theory.specs.Command.Reply.{Done, NoneThere}
-use Rattle.cache_theory.specs.Covers.{cleared}
+use Rattle.cache_theory.specs.Covers.{cleared, resumed}
 use Rattle.cache_theory.specs.Laws.{ChangesAreTouched}
 use Rattle.cache_theory.specs.Machine.{Machine, Object, has_slots, is_writer, number_of, object, object_of, on_shelf, used_by}
 use Rattle.cache_theory.specs.Marks.{name_of_some, touches}
-use Rattle.cache_theory.specs.Step.{all_doomed, answer, changed, doomed_under, effect, evicted, finished_by, joined, released, stepped, stored, update_ended, used, with_pin, with_slot}
+use Rattle.cache_theory.specs.Step.{all_doomed, answer, changed, doomed_under, effect, evicted, finished_by, joined, released, stepped, stored, update_ended, used, with_pin, with_slot, cleared_of, unmarked}
 use Rattle.cache_theory.specs.Table.{get, insert, remove}
 use Rattle.cache_theory.specs.declared.refusal.Refusal.{Refusal}
 use Rattle.cache_theory.proofs.Names.{get-insert_other, get-remove_other}
@@ -26,6 +26,7 @@ use Rattle.entry_file.specs.Version.{Version, file_of}
 use Rattle.entry_name.specs.EntryName.{file_name}
 use Rattle.entry_parts.specs.Elements.{element}
 use Rattle.entry_parts.specs.Setting.{without_element}
+use Rattle.context_clear.specs.Mark.{mark_of}
 
 -- the name is none of these
 abbrev IsNone : List ℕ → List (List ℕ) → Type 0
@@ -181,9 +182,14 @@ effect_stays m (Evict kb) name hold none =
 effect_stays m (EvictNames names) name hold none =
     stays_all_doomed (update_ended m) names name none
 effect_stays m (ClearOrigin origin) name hold none =
-    stays_all_doomed (update_ended m) (cleared m origin) name none
+    stays_all_doomed (update_ended (unmarked m)) (cleared m origin) name none
 effect_stays m (ClearNames names) name hold none =
-    stays_all_doomed (update_ended m) names name none
+    stays_all_doomed (update_ended (unmarked m)) names name none
+effect_stays m Resume name hold none =
+    cond_both (is_some (mark_of m.mark)) (cleared_of m (resumed m)) (unmarked m) (λ next. Stays m next name)
+    (λ some. stays_all_doomed (update_ended (unmarked m)) (resumed m) name none) (λ gone. refl)
+effect_stays m (ResumeNames names) name hold none =
+    stays_all_doomed (update_ended (unmarked m)) names name none
 effect_stays m c name hold none = refl
 
 pub changes_are_touched : ChangesAreTouched

@@ -1,7 +1,7 @@
 -- What the update has still to read is as it was.
 use Rattle.std.proofs.Common.{◌≡◌, ◌≢◌, inl, inr, ℕ, zero, suc, List, [], ◌∷◌, ◌++◌, drop, Bool, true, false, cond, not, ◌&&◌, ◌||◌, Option, Some, None, refl, sym, ap, ◌∙◌}
 use Rattle.std.specs.List.{list_any}
-use Rattle.std.specs.Prelude.{is_none}
+use Rattle.std.specs.Prelude.{is_none, is_some}
 use Rattle.std.specs.Str.{bytes_eq}
 use Rattle.std.proofs.lemmas.Bool.{cond_both, or_cases, or_left, or_right}
 use Rattle.std.proofs.lemmas.Slice.Eq.{bytes_eq-Decides}
@@ -9,12 +9,12 @@ use Rattle.cache_base.specs.Checks.{first_failing}
 use Rattle.cache_base.specs.declared.name.Name.{Name}
 use Rattle.cache_theory.specs.Checks.{checks, with_alt_data, with_value}
 use Rattle.cache_theory.specs.Command.{Command}
-use Rattle.cache_theory.specs.Command.Command.{Create, OpenKey, Append, Finish, SetElement, UnsetElement, UseEntry, Pin, Unpin, PutAlt, Close, Doom, ListRecords, ListGiven, Evict, EvictNames, ClearOrigin, ClearNames, StepUpdate, Verify, VerifyRecords, Rebuild}
+use Rattle.cache_theory.specs.Command.Command.{Create, OpenKey, Append, Finish, SetElement, UnsetElement, UseEntry, Pin, Unpin, PutAlt, Close, Doom, ListRecords, ListGiven, Evict, EvictNames, ClearOrigin, ClearNames, Resume, ResumeNames, StepUpdate, Verify, VerifyRecords, Rebuild}
 use Rattle.cache_theory.specs.Command.Reply.{Done, NoneThere}
-use Rattle.cache_theory.specs.Covers.{cleared}
+use Rattle.cache_theory.specs.Covers.{cleared, resumed}
 use Rattle.cache_theory.specs.Laws.{ChangesLeaveRest, IsUnread}
 use Rattle.cache_theory.specs.Machine.{Machine, Object, has_slots, is_writer, number_of, object_of, on_shelf, used_by, waits_for}
-use Rattle.cache_theory.specs.Step.{all_doomed, answer, changed, doomed_under, effect, evicted, finished_by, joined, released, stepped, stored, update_ended, used, with_pin, with_slot, without}
+use Rattle.cache_theory.specs.Step.{all_doomed, answer, changed, doomed_under, effect, evicted, finished_by, joined, released, stepped, stored, update_ended, used, with_pin, with_slot, without, cleared_of, unmarked}
 use Rattle.cache_theory.specs.Table.{get, insert, remove}
 use Rattle.cache_theory.specs.declared.refusal.Refusal.{Refusal}
 use Rattle.cache_theory.proofs.Names.{get-insert_other, get-remove_other, same_bytes}
@@ -24,6 +24,7 @@ use Rattle.entry_file.specs.Version.{Version, file_of}
 use Rattle.entry_name.specs.EntryName.{file_name}
 use Rattle.entry_parts.specs.Elements.{element}
 use Rattle.entry_parts.specs.Setting.{without_element}
+use Rattle.context_clear.specs.Mark.{mark_of}
 
 -- from one machine to the next
 abbrev Keeps : Machine → Machine → List ℕ → Type 0
@@ -119,6 +120,10 @@ keeps_evicted m names name =
     keeps_then m ended (all_doomed ended names) name (λ waits. absurd (cc))
     (keeps_all_doomed ended names name)
 
+keeps_cleared : (m : Machine) (names : List Name) (name : List ℕ) → Keeps m (cleared_of m names) name
+keeps_cleared m names name =
+    keeps_then m (unmarked m) (cleared_of m names) name (keeps_same m (unmarked m) name refl refl) (keeps_evicted (unmarked m) names name)
+
 keeps_changed : (m : Machine) (s : ℕ) (f : Version → Version) (name : List ℕ)
     → Keeps m (changed m s f) name
 keeps_changed m s f name =
@@ -179,8 +184,12 @@ effect_keeps m ListRecords name = λ waits. absurd (cc)
 effect_keeps m (ListGiven records) name = λ waits. absurd (cc)
 effect_keeps m (Evict kb) name = keeps_evicted m (evicted m kb) name
 effect_keeps m (EvictNames names) name = keeps_evicted m names name
-effect_keeps m (ClearOrigin origin) name = keeps_evicted m (cleared m origin) name
-effect_keeps m (ClearNames names) name = keeps_evicted m names name
+effect_keeps m (ClearOrigin origin) name = keeps_cleared m (cleared m origin) name
+effect_keeps m (ClearNames names) name = keeps_cleared m names name
+effect_keeps m Resume name =
+    cond_both (is_some (mark_of m.mark)) (cleared_of m (resumed m)) (unmarked m) (λ next. Keeps m next name)
+    (λ some. keeps_cleared m (resumed m) name) (λ none. keeps_same m (unmarked m) name refl refl)
+effect_keeps m (ResumeNames names) name = keeps_cleared m names name
 effect_keeps m (StepUpdate n) name = λ waits. record {
   waited = waits_drop name n m.rest waits;
   shelved = refl;

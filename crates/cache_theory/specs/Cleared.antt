@@ -2,7 +2,7 @@
 use Rattle.std.specs.List.{AllByRecursion}
 use Rattle.std.specs.Prelude.{List, Some, false, length, slice_get, suc, true, ℕ, ◌<◌, ◌≡◌, ◌≤◌, ◌⊎◌}
 use Rattle.cache_theory.specs.Command.{Command}
-use Rattle.cache_theory.specs.Command.Command.{ClearOrigin}
+use Rattle.cache_theory.specs.Command.Command.{ClearOrigin, Resume}
 use Rattle.cache_theory.specs.Covers.{covers, covers_object}
 use Rattle.cache_theory.specs.Crash.{IsLeft, NoChance}
 use Rattle.cache_theory.specs.Ever.{entries}
@@ -11,7 +11,10 @@ use Rattle.cache_theory.specs.Machine.{Machine, object}
 use Rattle.cache_theory.specs.Marks.{Marks, is_in_place, is_touched}
 use Rattle.cache_theory.specs.Proper.{IsProper}
 use Rattle.cache_theory.specs.Session.{marks_between}
+use Rattle.cache_theory.specs.Step.{step}
+use Rattle.cache_theory.specs.Table.{get}
 use Rattle.cache_theory.specs.Wording.{IsWrittenIn, state_at}
+use Rattle.context_clear.specs.Mark.{mark_of}
 use Rattle.disk_model.specs.Image.{Files}
 use Rattle.disk_model.specs.State.{State}
 use Rattle.entry_file.specs.EntryFile.{found}
@@ -50,6 +53,11 @@ ClearedStayGone = (m : Machine) (cs : List Command) (a b at : ℕ) (origin : Lis
     → (s : State) (image : Files) (key : List ℕ) (v : Version)
     → IsBroughtBack s (marks_between m cs a b) image key v → IsCovered origin v
     → IsWrittenIn m cs (suc at) b (file_name key) v
+
+-- once the clearing was resumed whose mark stood, no version of that origin is found that is not pinned
+abbrev pub ResumedLeavesNone : Type 0
+ResumedLeavesNone = (m : Machine) (origin : ℕ) (key : List ℕ) (v : Version) → mark_of m.mark ≡ Some origin
+    → found (get (step m Resume).next.shelf) key ≡ Some v → covers origin v.key v.header ≡ false
 
 -- the object of this number came later, or is not covered
 abbrev pub IsSpared : Machine → List ℕ → ℕ → Type 0

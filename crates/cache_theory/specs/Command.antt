@@ -41,6 +41,10 @@ pub data Command : Type 0 where
   ClearOrigin : (origin : List ℕ) → Command
   -- a clearing of these names, whatever the files say; no script spells it
   ClearNames : (names : List Name) → Command
+  -- a clearing that was stopped is done, if the mark of one stands; the first command of every run, and no script spells it
+  Resume : Command
+  -- the same of these names, where a mark stands, whatever the files say
+  ResumeNames : (names : List Name) → Command
   Flush : Command
   StepUpdate : (n : ℕ) → Command
   UpdateState : Command
@@ -74,6 +78,8 @@ pub data Reply : Type 0 where
   Evicted : (names : List Name) → Reply
   -- so many names were cleared
   Cleared : (names : ℕ) → Reply
+  -- no clearing is left to be done
+  Resumed : Reply
   -- the update of the index has ended, or it has still to read so many names
   Ready : Reply
   Updating : (names : ℕ) → Reply

@@ -1,9 +1,10 @@
 -- Which entries a clearing of an origin takes: those whose key is of the origin and that are not pinned.
-use Rattle.std.specs.Prelude.{Bool, List, [], filter, map, not, ℕ, ◌&&◌, ◌++◌, ◌==◌, ◌∷◌}
+use Rattle.std.specs.Prelude.{Bool, List, None, Option, Some, [], filter, map, not, ℕ, ◌&&◌, ◌++◌, ◌==◌, ◌∷◌}
 use Rattle.cache_base.specs.declared.name.Name.{Name}
 use Rattle.cache_theory.specs.Machine.{Machine, Object, object}
 use Rattle.cache_theory.specs.Table.{Table, insert, keys, name_of}
 use Rattle.context_clear.specs.Covered.{covers_record}
+use Rattle.context_clear.specs.Mark.{mark_of}
 use Rattle.entry_file.specs.EntryFile.{file_meta, fits}
 use Rattle.entry_key.specs.Tags.{origin_hash, tags_of, value_hash}
 use Rattle.entry_parts.specs.declared.header.Header.{Header}
@@ -43,10 +44,33 @@ as_table (name ∷ names) = insert (as_table names) name tt
 abbrev pub joined_names : List (List ℕ) → List (List ℕ) → List Name
 joined_names first second = map name_of (keys (as_table (first ++ second)))
 
--- what a clearing of the origin with this value takes: the names in use and those on the shelf that are covered
-unfoldable pub cleared : Machine → List ℕ → List Name
-cleared m origin = let hash = value_hash origin in joined_names (covered_open m hash) (covered_there m.shelf hash)
+-- what a clearing of the origin with this hash takes: the names in use and those on the shelf that are covered
+abbrev pub covered : Machine → ℕ → List Name
+covered m origin = joined_names (covered_open m origin) (covered_there m.shelf origin)
 
 -- the same, where these records stand for the shelf
+abbrev pub covered_by : List IndexRecord → Machine → ℕ → List Name
+covered_by records m origin = joined_names (covered_open m origin) (covered_records origin records)
+
+-- what a clearing of the origin with this value takes
+unfoldable pub cleared : Machine → List ℕ → List Name
+cleared m origin = covered m (value_hash origin)
+
 unfoldable pub cleared_by : List IndexRecord → Machine → List ℕ → List Name
-cleared_by records m origin = let hash = value_hash origin in joined_names (covered_open m hash) (covered_records hash records)
+cleared_by records m origin = covered_by records m (value_hash origin)
+
+-- what the clearing takes that is resumed, where the mark of an origin stands
+abbrev pub taken_for : Machine → Option ℕ → List Name
+taken_for m None = []
+taken_for m (Some origin) = covered m origin
+
+unfoldable pub resumed : Machine → List Name
+resumed m = taken_for m (mark_of m.mark)
+
+-- the same, where these records stand for the shelf
+abbrev pub taken_for_by : List IndexRecord → Machine → Option ℕ → List Name
+taken_for_by records m None = []
+taken_for_by records m (Some origin) = covered_by records m origin
+
+unfoldable pub resumed_by : List IndexRecord → Machine → List Name
+resumed_by records m = taken_for_by records m (mark_of m.mark)

@@ -6,7 +6,7 @@ use Rattle.std.specs.Str.{bytes_eq}
 use Rattle.cache_theory.specs.Command.{Command, Reply}
 use Rattle.cache_theory.specs.Machine.{Machine}
 use Rattle.cache_theory.specs.Step.{after, step}
-use Rattle.cache_theory.specs.Text.{line, replies_text, reply_text}
+use Rattle.cache_theory.specs.Text.{AreSpoken, line, replies_text, reply_text}
 
 -- the line that answers such a command
 unfoldable pub fault_line : List ℕ
@@ -107,28 +107,28 @@ MayFollow m cs p faults x = (c : Command) → slice_get cs p ≡ Some c
 -- what went out tells how many are answered, and which by `fault`
 abbrev pub FaultedIsTold : Type 0
 FaultedIsTold = (m : Machine) (cs : List Command) (p : ℕ) (faults x : List ℕ)
-    → p ≤ length cs → AreFaults p faults → MayFollow m cs p faults x
+    → AreSpoken cs → p ≤ length cs → AreFaults p faults → MayFollow m cs p faults x
     → faulted m cs (replies_but m (take p cs) faults ++ x) ≡ record { answered = p; faults = faults }
 
 -- So it is of the answers to all commands, whatever follows them; of those to the first; and where the answer to the next
 -- one was cut, be it its reply or the line.
 
 abbrev pub WholeIsTold : Type 0
-WholeIsTold = (m : Machine) (cs : List Command) (faults x : List ℕ) → AreFaults (length cs) faults
+WholeIsTold = (m : Machine) (cs : List Command) (faults x : List ℕ) → AreSpoken cs → AreFaults (length cs) faults
     → faulted m cs (replies_but m cs faults ++ x) ≡ record { answered = length cs; faults = faults }
 
 abbrev pub FrontIsTold : Type 0
-FrontIsTold = (m : Machine) (cs more : List Command) (faults : List ℕ) → AreFaults (length cs) faults
+FrontIsTold = (m : Machine) (cs more : List Command) (faults : List ℕ) → AreSpoken (cs ++ more) → AreFaults (length cs) faults
     → faulted m (cs ++ more) (replies_but m cs faults) ≡ record { answered = length cs; faults = faults }
 
 abbrev pub CutIsTold : Type 0
-CutIsTold = (m : Machine) (cs more : List Command) (c : Command) (faults : List ℕ) (n : ℕ) → AreFaults (length cs) faults
+CutIsTold = (m : Machine) (cs more : List Command) (c : Command) (faults : List ℕ) (n : ℕ) → AreSpoken (cs ++ c ∷ more) → AreFaults (length cs) faults
     → let text = reply_text (step (after m (unfaulted faults cs)) c).reply in
     n < length text
     → faulted m (cs ++ c ∷ more) (replies_but m cs faults ++ take n text) ≡ record { answered = length cs; faults = faults }
 
 abbrev pub FaultCutIsTold : Type 0
-FaultCutIsTold = (m : Machine) (cs more : List Command) (c : Command) (faults : List ℕ) (n : ℕ) → AreFaults (length cs) faults
+FaultCutIsTold = (m : Machine) (cs more : List Command) (c : Command) (faults : List ℕ) (n : ℕ) → AreSpoken (cs ++ c ∷ more) → AreFaults (length cs) faults
     → n < length fault_line
     → faulted m (cs ++ c ∷ more) (replies_but m cs faults ++ take n fault_line) ≡ record { answered = length cs; faults = faults }
 

@@ -1,17 +1,17 @@
 -- What follows from the definitions of the machine.
 use Rattle.std.specs.List.{AllByRecursion, list_any}
-use Rattle.std.specs.Prelude.{Bool, List, None, [], false, if◌then◌else◌, is_some, length, map, true, ℕ, ◌≡◌, ◌≤◌, ◌⊎◌}
+use Rattle.std.specs.Prelude.{Bool, List, None, [], false, if◌then◌else◌, is_some, length, map, true, ℕ, ⊤, ◌≡◌, ◌≤◌, ◌⊎◌}
 use Rattle.std.specs.Str.{bytes_eq}
 use Rattle.cache_base.specs.declared.name.Name.{Name}
 use Rattle.cache_theory.specs.Checks.{alt_in_version}
 use Rattle.cache_theory.specs.Command.{Command, Reply}
-use Rattle.cache_theory.specs.Command.Command.{ClearNames, ClearOrigin, Evict, EvictNames, Get, GetAlt, HasEntry, HasGiven, ListGiven, ListRecords, MainBody, Verify, VerifyRecords}
+use Rattle.cache_theory.specs.Command.Command.{ClearNames, ClearOrigin, Resume, ResumeNames, Evict, EvictNames, Get, GetAlt, HasEntry, HasGiven, ListGiven, ListRecords, MainBody, Verify, VerifyRecords}
 use Rattle.cache_theory.specs.Command.Reply.{Found}
-use Rattle.cache_theory.specs.Covers.{cleared, cleared_by, covers_content}
+use Rattle.cache_theory.specs.Covers.{cleared, cleared_by, covers_content, resumed, resumed_by}
 use Rattle.cache_theory.specs.Crash.{IsSafe}
 use Rattle.cache_theory.specs.Machine.{Machine, open_names, waits_for}
 use Rattle.cache_theory.specs.Marks.{Marks, begun, touches}
-use Rattle.cache_theory.specs.Step.{after, all_doomed, alt_reply_of, evicted, fits_there, main_reply_of, step, update_ended}
+use Rattle.cache_theory.specs.Step.{after, all_doomed, alt_reply_of, evicted, fits_there, main_reply_of, step, unmarked, update_ended}
 use Rattle.cache_theory.specs.Table.{IsTable, get}
 use Rattle.disk_model.specs.State.{State}
 use Rattle.context_clear.specs.Covered.{covers_record}
@@ -20,6 +20,7 @@ use Rattle.entry_name.specs.EntryName.{file_name}
 use Rattle.evictor.specs.Evict.{may_evict, total_kb}
 use Rattle.index_record.specs.Filling.{record_of_meta}
 use Rattle.index_theory.specs.Scan.{scan, scanned}
+use Rattle.context_clear.specs.Mark.{mark_of}
 
 -- the shelf stays a table, whatever commands come
 abbrev pub ShelfStaysTable : Type 0
@@ -132,6 +133,33 @@ ClearIsOfNames = (m : Machine) (origin : List ℕ) → (step m (ClearOrigin orig
 
 abbrev pub ClearGoesByScan : Type 0
 ClearGoesByScan = (m : Machine) (origin : List ℕ) → cleared m origin ≡ cleared_by (scan m.shelf) m origin
+
+-- where a mark stands, the clearing that is resumed is that of its names
+abbrev pub ResumeIsOfNames : Type 0
+ResumeIsOfNames = (m : Machine) → is_some (mark_of m.mark) ≡ true
+    → (step m Resume ≡ step m (ResumeNames (resumed m))) × (touches m Resume ≡ touches m (ResumeNames (resumed m)))
+
+-- where none stands, nothing is cleared, and what else stands there goes
+abbrev pub ResumeWithoutMark : Type 0
+ResumeWithoutMark = (m : Machine) → mark_of m.mark ≡ None → ((step m Resume).next ≡ unmarked m) × (touches m Resume ≡ [])
+
+-- the command leaves what stands at `clear`
+abbrev pub KeepsMark : Command → Type 0
+KeepsMark (ClearOrigin origin) = ⊥
+KeepsMark (ClearNames names) = ⊥
+KeepsMark Resume = ⊥
+KeepsMark (ResumeNames names) = ⊥
+KeepsMark _ = ⊤
+
+abbrev pub MarkStays : Type 0
+MarkStays = (m : Machine) (c : Command) → KeepsMark c → (step m c).next.mark ≡ m.mark
+
+-- after a clearing, and after one that is resumed, nothing stands there
+abbrev pub NoMarkIsLeft : Type 0
+NoMarkIsLeft = (m : Machine) (c : Command) → (KeepsMark c → ⊥) → (step m c).next.mark ≡ None
+
+abbrev pub ResumeGoesByScan : Type 0
+ResumeGoesByScan = (m : Machine) → resumed m ≡ resumed_by (scan m.shelf) m
 
 -- the record of an entry tells whether it is covered
 abbrev pub RecordTellsCovered : Type 0

@@ -6,8 +6,8 @@ use Rattle.std.specs.Str.{bytes_eq}
 use Rattle.cache_base.specs.Checks.{first_failing}
 use Rattle.cache_theory.specs.Checks.{checks}
 use Rattle.cache_theory.specs.Command.{Command}
-use Rattle.cache_theory.specs.Command.Command.{Create, Append, Finish, SetElement, UnsetElement, UseEntry, Pin, Unpin, PutAlt, Close, Doom, Evict, EvictNames, ClearOrigin, ClearNames, Flush}
-use Rattle.cache_theory.specs.Covers.{cleared}
+use Rattle.cache_theory.specs.Command.Command.{Create, Append, Finish, SetElement, UnsetElement, UseEntry, Pin, Unpin, PutAlt, Close, Doom, Evict, EvictNames, ClearOrigin, ClearNames, Resume, ResumeNames, Flush}
+use Rattle.cache_theory.specs.Covers.{cleared, resumed}
 use Rattle.cache_theory.specs.Machine.{Machine, Object, is_writer, number_of, object, object_of}
 use Rattle.cache_theory.specs.Step.{effect, evicted, step}
 use Rattle.cache_theory.specs.Table.{get}
@@ -78,6 +78,8 @@ touches m (Evict kb) = map (λ name. name.0) (evicted m kb)
 touches m (EvictNames names) = map (λ name. name.0) names
 touches m (ClearOrigin origin) = map (λ name. name.0) (cleared m origin)
 touches m (ClearNames names) = map (λ name. name.0) names
+touches m Resume = map (λ name. name.0) (resumed m)
+touches m (ResumeNames names) = map (λ name. name.0) names
 touches m (Append s bytes) = undoomed_name (object_of m s)
 touches m (Finish s) = name_of_some m (rewritten m (Finish s))
 touches m (SetElement s name value) = name_of_some m (rewritten m (SetElement s name value))

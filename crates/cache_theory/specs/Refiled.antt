@@ -4,7 +4,7 @@ use Rattle.std.specs.Str.{bytes_eq}
 use Rattle.cache_base.specs.Checks.{first_failing}
 use Rattle.cache_theory.specs.Checks.{checks}
 use Rattle.cache_theory.specs.Command.{Command}
-use Rattle.cache_theory.specs.Command.Command.{Create, Doom, ListRecords, ListGiven, Evict, EvictNames, ClearOrigin, ClearNames, StepUpdate, Verify, VerifyRecords, Rebuild}
+use Rattle.cache_theory.specs.Command.Command.{Create, Doom, ListRecords, ListGiven, Evict, EvictNames, ClearOrigin, ClearNames, Resume, ResumeNames, StepUpdate, Verify, VerifyRecords, Rebuild}
 use Rattle.cache_theory.specs.Machine.{Machine, Object, object}
 use Rattle.cache_theory.specs.Marks.{rewritten}
 use Rattle.cache_theory.specs.Proper.{IsProper}
@@ -48,6 +48,8 @@ IsOfEntries (Evict kb) = ⊥
 IsOfEntries (EvictNames names) = ⊥
 IsOfEntries (ClearOrigin origin) = ⊥
 IsOfEntries (ClearNames names) = ⊥
+IsOfEntries Resume = ⊥
+IsOfEntries (ResumeNames names) = ⊥
 IsOfEntries (StepUpdate n) = ⊥
 IsOfEntries Verify = ⊥
 IsOfEntries (VerifyRecords records) = ⊥

@@ -1,5 +1,5 @@
 -- One step of the machine for each command.
-use Rattle.std.specs.Prelude.{Bool, List, None, Option, Some, [], drop, false, filter, if◌then◌else◌, is_none, length, not, slice_get, slice_set, take, true, unwrap_or, ℕ, ◌&&◌, ◌==◌, ◌*◌, ◌++◌, ◌+◌, ◌/◌, ◌||◌, ◌∷◌}
+use Rattle.std.specs.Prelude.{Bool, List, None, Option, Some, [], drop, false, filter, if◌then◌else◌, is_none, is_some, length, not, slice_get, slice_set, take, true, unwrap_or, ℕ, ◌&&◌, ◌==◌, ◌*◌, ◌++◌, ◌+◌, ◌/◌, ◌||◌, ◌∷◌}
 use Rattle.std.specs.Str.{bytes_eq}
 use Rattle.alt_data.specs.AltData.{Alt, main_body}
 use Rattle.cache_base.specs.Checks.{first_failing}
@@ -7,13 +7,14 @@ use Rattle.cache_base.specs.declared.name.Name.{Name}
 use Rattle.cache_check.specs.Findings.{findings}
 use Rattle.cache_theory.specs.Checks.{alt_in_version, checks, with_alt_data, with_value}
 use Rattle.cache_theory.specs.Command.{Command, Reply}
-use Rattle.cache_theory.specs.Command.Command.{At, Create, OpenKey, Append, Finish, SetElement, UnsetElement, ElementOf, UseEntry, Pin, Unpin, PutAlt, ReadPart, Close, Doom, Get, GetAlt, MainBody, HasEntry, HasGiven, ListRecords, ListGiven, Evict, EvictNames, ClearOrigin, ClearNames, Flush, StepUpdate, UpdateState, Verify, VerifyRecords, Rebuild}
-use Rattle.cache_theory.specs.Command.Reply.{Done, Refused, NoneThere, Value, Part, Found, AltData, Main, Yes, No, Unknown, Records, Evicted, Cleared, Ready, Updating, Findings, Rebuilt}
-use Rattle.cache_theory.specs.Covers.{cleared}
+use Rattle.cache_theory.specs.Command.Command.{At, Create, OpenKey, Append, Finish, SetElement, UnsetElement, ElementOf, UseEntry, Pin, Unpin, PutAlt, ReadPart, Close, Doom, Get, GetAlt, MainBody, HasEntry, HasGiven, ListRecords, ListGiven, Evict, EvictNames, ClearOrigin, ClearNames, Resume, ResumeNames, Flush, StepUpdate, UpdateState, Verify, VerifyRecords, Rebuild}
+use Rattle.cache_theory.specs.Command.Reply.{Done, Refused, NoneThere, Value, Part, Found, AltData, Main, Yes, No, Unknown, Records, Evicted, Cleared, Resumed, Ready, Updating, Findings, Rebuilt}
+use Rattle.cache_theory.specs.Covers.{cleared, resumed}
 use Rattle.cache_theory.specs.Machine.{Machine, Object, Slot, has_slots, is_writer, nobody, number_of, object_of, on_shelf, open_names, used_by, waits_for, writing_names}
 use Rattle.cache_theory.specs.Table.{get, insert, remove}
 use Rattle.cache_theory.specs.declared.refusal.Refusal.{Refusal}
 use Rattle.cache_theory.specs.declared.refusal.Refusal.TheVariants as refused
+use Rattle.context_clear.specs.Mark.{mark_of}
 use Rattle.entry_file.specs.EntryFile.{Reading, fits}
 use Rattle.entry_file.specs.EntryFile.Reading.{Whole, Damaged, Nothing}
 use Rattle.entry_file.specs.Version.{Version, file_of}
@@ -114,10 +115,22 @@ update_stepped m n = record m { rest = drop n m.rest }
 abbrev pub update_ended : Machine → Machine
 update_ended m = record m { rest = [] }
 
+-- no mark stands
+abbrev pub unmarked : Machine → Machine
+unmarked m = record m { mark = None }
+
 -- what stands under each of these names is doomed
 abbrev pub all_doomed : Machine → List Name → Machine
 all_doomed m [] = m
 all_doomed m (name ∷ names) = all_doomed (doomed_under m name.0) names
+
+-- a clearing of these names: the update ends, they are doomed, and no mark is left
+abbrev pub cleared_of : Machine → List Name → Machine
+cleared_of m names = all_doomed (update_ended (unmarked m)) names
+
+-- the clearing is done whose mark stands, if one does; what else stands there is removed
+abbrev pub resumed_by_mark : Machine → Machine
+resumed_by_mark m = if is_some (mark_of m.mark) then cleared_of m (resumed m) else unmarked m
 
 -- the names that have to go, so that the entries take at most so many KB
 unfoldable pub evicted : Machine → ℕ → List Name
@@ -200,8 +213,10 @@ effect m ListRecords = answer (update_ended m) (Records (scan m.shelf))
 effect m (ListGiven records) = answer (update_ended m) (Records records)
 effect m (Evict kb) = answer (all_doomed (update_ended m) (evicted m kb)) (Evicted (evicted m kb))
 effect m (EvictNames names) = answer (all_doomed (update_ended m) names) (Evicted names)
-effect m (ClearOrigin origin) = answer (all_doomed (update_ended m) (cleared m origin)) (Cleared (length (cleared m origin)))
-effect m (ClearNames names) = answer (all_doomed (update_ended m) names) (Cleared (length names))
+effect m (ClearOrigin origin) = answer (cleared_of m (cleared m origin)) (Cleared (length (cleared m origin)))
+effect m (ClearNames names) = answer (cleared_of m names) (Cleared (length names))
+effect m Resume = answer (resumed_by_mark m) Resumed
+effect m (ResumeNames names) = answer (cleared_of m names) Resumed
 effect m Flush = answer m Done
 effect m (StepUpdate n) = answer (update_stepped m n) (state_reply (drop n m.rest))
 effect m UpdateState = answer m (state_reply m.rest)

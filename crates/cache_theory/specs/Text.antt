@@ -9,8 +9,8 @@ use Rattle.cache_check.specs.declared.finding.Finding.{Finding}
 use Rattle.cache_check.specs.declared.finding.What.{What}
 use Rattle.cache_check.specs.declared.finding.What.TheVariants as what
 use Rattle.cache_theory.specs.Command.{Command, Reply}
-use Rattle.cache_theory.specs.Command.Command.{At, Create, OpenKey, Append, Finish, SetElement, UnsetElement, ElementOf, UseEntry, Pin, Unpin, PutAlt, ReadPart, Close, Doom, Get, GetAlt, MainBody, HasEntry, HasGiven, ListRecords, ListGiven, Evict, EvictNames, ClearOrigin, ClearNames, Flush, StepUpdate, UpdateState, Verify, VerifyRecords, Rebuild}
-use Rattle.cache_theory.specs.Command.Reply.{Done, Refused, NoneThere, Value, Part, Found, AltData, Main, Yes, No, Unknown, Records, Evicted, Cleared, Ready, Updating, Findings, Rebuilt}
+use Rattle.cache_theory.specs.Command.Command.{At, Create, OpenKey, Append, Finish, SetElement, UnsetElement, ElementOf, UseEntry, Pin, Unpin, PutAlt, ReadPart, Close, Doom, Get, GetAlt, MainBody, HasEntry, HasGiven, ListRecords, ListGiven, Evict, EvictNames, ClearOrigin, ClearNames, Resume, ResumeNames, Flush, StepUpdate, UpdateState, Verify, VerifyRecords, Rebuild}
+use Rattle.cache_theory.specs.Command.Reply.{Done, Refused, NoneThere, Value, Part, Found, AltData, Main, Yes, No, Unknown, Records, Evicted, Cleared, Resumed, Ready, Updating, Findings, Rebuilt}
 use Rattle.cache_theory.specs.Machine.{Machine}
 use Rattle.cache_theory.specs.Step.{replies}
 use Rattle.cache_theory.specs.declared.refusal.Refusal.{Refusal}
@@ -138,20 +138,30 @@ reply_text Unknown = line (codes "unknown" ∷ [])
 reply_text (Records records) = records_text records
 reply_text (Evicted names) = names_text names
 reply_text (Cleared names) = with_number (codes "cleared") names
+reply_text Resumed = []
 reply_text Ready = line (codes "ready" ∷ [])
 reply_text (Updating names) = with_number (codes "updating") names
 reply_text (Findings findings) = findings_text findings
 reply_text (Rebuilt records) = with_number (codes "rebuilt") records
 
--- each reply has some bytes
+-- the reply to the command is printed; that to a clearing that is resumed is empty
+abbrev pub IsSpoken : Command → Type 0
+IsSpoken Resume = ⊥
+IsSpoken (ResumeNames names) = ⊥
+IsSpoken _ = ⊤
+
+abbrev pub AreSpoken : List Command → Type 0
+AreSpoken cs = AllByRecursion IsSpoken cs
+
+-- each reply to such a command has some bytes
 abbrev pub ReplyIsNotEmpty : Type 0
-ReplyIsNotEmpty = (r : Reply) → 0 < length (reply_text r)
+ReplyIsNotEmpty = (r : Reply) → r ≢ Resumed → 0 < length (reply_text r)
 
 -- what the replies to some commands print
 abbrev pub replies_text : Machine → List Command → List ℕ
 replies_text m cs = flat_map reply_text (replies m cs)
 
--- the words of a command's line; an eviction or a clearing of given names has none, nor has a check against given records
+-- the words of a command's line; those that no script spells have none
 abbrev pub command_words : Command → List (List ℕ)
 command_words (At now) = codes "at" ∷ decimal now ∷ []
 command_words (Create s key) = codes "create" ∷ decimal s ∷ key ∷ []
@@ -179,6 +189,8 @@ command_words (ListGiven records) = []
 command_words (EvictNames names) = []
 command_words (ClearOrigin origin) = codes "clear" ∷ origin ∷ []
 command_words (ClearNames names) = []
+command_words Resume = []
+command_words (ResumeNames names) = []
 command_words Flush = codes "flush" ∷ []
 command_words (StepUpdate n) = codes "step" ∷ decimal n ∷ []
 command_words UpdateState = codes "state" ∷ []
@@ -232,6 +244,8 @@ FieldsFit (ListGiven records) = ⊥
 FieldsFit (EvictNames names) = ⊥
 FieldsFit (ClearOrigin origin) = AreBytes origin × IsOneLine origin
 FieldsFit (ClearNames names) = ⊥
+FieldsFit Resume = ⊥
+FieldsFit (ResumeNames names) = ⊥
 FieldsFit (VerifyRecords records) = ⊥
 FieldsFit (StepUpdate n) = IsNumber n
 -- the others have no fields

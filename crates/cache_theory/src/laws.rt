@@ -1,9 +1,9 @@
 //! What commands keep: the shelf, the records, and what a crash may leave of the entries.
 
-ghost use Rattle.cache_theory.specs.Cleared.{ClearedStayGone, WrittenAreSpared};
+ghost use Rattle.cache_theory.specs.Cleared.{ClearedStayGone, ResumedLeavesNone, WrittenAreSpared};
 ghost use Rattle.cache_theory.specs.Faulted.{CutIsTold, FaultCutIsTold, FaultedIsRead, FaultedIsTold, FaultsAreInFront, FaultsAreWithin, FrontIsTold, KeptAreCounted, NextIsNumbered, NextMayFault, NoReplyIsFault, WholeIsTold};
 ghost use Rattle.cache_theory.specs.Keeps.{BeginKeeps, CreateFilesOnce, CreateKeeps, CreateLeavesUnpublished, CreateUnpublished, MoveAsideFilesOnce, MoveAsideKeeps, PublishFilesOnce, PublishKeeps, PublishLeavesUnpublished, QuietFilesOnce, QuietIsSafe, QuietUnpublished, RemoveFilesOnce, RemoveKeeps, RemoveLeavesUnpublished, RenameFilesOnce, RenameKeeps, RenameLeavesUnpublished, SafeIsCrashSafe, SyncFilesOnce, SyncKeeps, SyncLeavesUnpublished, WholeIsFine, WriteAsideKeeps, WriteFilesOnce, WriteKeeps, WriteLeavesUnpublished};
-ghost use Rattle.cache_theory.specs.Laws.{AltIsOfGet, AltStays, BegunTouchesMore, ChangesAreTouched, ChangesLeaveRest, ClearGoesByScan, ClearIsOfNames, DoomedAreLost, EntriesHaveRecords, EvictIsOfNames, EvictMeetsLimit, EvictTakesOff, HasIsOfShelf, ListIsOfRecords, EvictedMayGo, RecordTellsCovered, ShelfStaysTable, UnusedAreTakenOff, VerifyIsOfRecords};
+ghost use Rattle.cache_theory.specs.Laws.{AltIsOfGet, AltStays, BegunTouchesMore, ChangesAreTouched, ChangesLeaveRest, ClearGoesByScan, ClearIsOfNames, MarkStays, NoMarkIsLeft, ResumeGoesByScan, ResumeIsOfNames, ResumeWithoutMark, DoomedAreLost, EntriesHaveRecords, EvictIsOfNames, EvictMeetsLimit, EvictTakesOff, HasIsOfShelf, ListIsOfRecords, EvictedMayGo, RecordTellsCovered, ShelfStaysTable, UnusedAreTakenOff, VerifyIsOfRecords};
 ghost use Rattle.cache_theory.specs.Proper.{OpensProper, StaysProper};
 ghost use Rattle.cache_theory.specs.Refiled.{EntriesAreRefiled};
 ghost use Rattle.cache_theory.specs.Session.{MarksAreOfKept};
@@ -48,6 +48,11 @@ pub fn evict_is_of_names()
 pub fn clear_goes_by_scan()
     ensures same { ClearIsOfNames }
     ensures scan { ClearGoesByScan }
+    ensures resumed { ResumeIsOfNames }
+    ensures unmarked { ResumeWithoutMark }
+    ensures resumed_scan { ResumeGoesByScan }
+    ensures stays { MarkStays }
+    ensures left { NoMarkIsLeft }
     ensures records { RecordTellsCovered }
     ensures lost { DoomedAreLost }
 {}
@@ -170,4 +175,5 @@ pub fn marks_are_worded()
 pub fn cleared_stay_gone()
     ensures gone { ClearedStayGone }
     ensures spared { WrittenAreSpared }
+    ensures resumed { ResumedLeavesNone }
 {}

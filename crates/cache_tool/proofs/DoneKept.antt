@@ -10,7 +10,7 @@ use Rattle.cache_theory.proofs.FaultedOn.{faults_are_in_front, next_may_fault}
 use Rattle.cache_tool.specs.DoneFor.{AreDoneFor}
 use Rattle.cache_tool.specs.Right.{has_rebuild}
 use Rattle.cache_tool.specs.ScriptProgress.{DoneForKept}
-use Rattle.cache_tool.proofs.DoneLaws.{all_done, done_as_long, done_joined}
+use Rattle.cache_tool.proofs.DoneLaws.{all_done, done_are_spoken, done_as_long, done_joined, spoken_joined, spoken_parts}
 
 module _ (before : Session) (m : Machine) (cs ds : List Command) (faults : List ℕ) (so : DoneForKept before m cs ds faults) (numbers : AreFaults (length ds) faults) where
   -- where the records are right after them
@@ -24,6 +24,7 @@ module _ (before : Session) (m : Machine) (cs ds : List Command) (faults : List 
   pub done_kept_on : (more others : List Command) → length others ≡ length more → AreDoneFor RightAfter (after m (unfaulted faults ds)) more others → DoneForKept before m (cs ++ more) (ds ++ others) faults
   done_kept_on more others same rest = record {
     as_many = omega (arith, so.as_many, same, length-append ds others, length-append cs more);
+    spoken = λ all. let parts = spoken_parts cs more all in spoken_joined ds others (so.spoken parts.0) (done_are_spoken RightAfter (after m (unfaulted faults ds)) more others rest parts.1);
     are_done = subst (λ l. AreDoneFor (Tells before m) m l (unfaulted faults (ds ++ others))) (sym (faults_are_in_front m cs more faults numbers_given).kept)
         (subst (λ l. AreDoneFor (Tells before m) m (unfaulted faults cs ++ more) l) (sym (faults_are_in_front m ds others faults numbers).kept)
         (done_joined (Tells before m) m (unfaulted faults cs) (unfaulted faults ds) more others so.are_done rest));
@@ -40,6 +41,7 @@ module _ (before : Session) (m : Machine) (cs ds : List Command) (faults : List 
   pub done_kept_but : (c : Command) → DoneForKept before m (cs ++ c ∷ []) (ds ++ c ∷ []) (with_next (length ds) faults)
   done_kept_but c = record {
     as_many = omega (arith, so.as_many, length-append ds (c ∷ []), length-append cs (c ∷ []));
+    spoken = λ all. let parts = spoken_parts cs (c ∷ []) all in spoken_joined ds (c ∷ []) (so.spoken parts.0) parts.1;
     are_done = subst (λ l. AreDoneFor (Tells before m) m l (unfaulted (with_next (length ds) faults) (ds ++ c ∷ [])))
         (sym (ap (λ n. unfaulted (with_next n faults) (cs ++ c ∷ [])) so.as_many ∙ (next_may_fault m cs c faults numbers_given).kept))
         (subst (λ l. AreDoneFor (Tells before m) m (unfaulted faults cs) l) (sym (next_may_fault m ds c faults numbers).kept) so.are_done);

@@ -1,36 +1,46 @@
 -- What is done for commands, one after the other.
-use Rattle.std.proofs.Common.{◌≡◌, ◌⊎◌, inl, inr, IsTrue, List, [], ◌∷◌, ◌++◌, length, suc, refl, sym, ap, ◌∙◌, false, true≢false}
+use Rattle.std.proofs.Common.{◌≡◌, ◌⊎◌, inl, inr, ℕ, IsTrue, List, [], ◌∷◌, ◌++◌, Option, None, Some, length, suc, refl, sym, ap, subst, ◌∙◌, false, true≢false}
+use Rattle.std.specs.List.{AllByRecursion}
 use Rattle.std.specs.Prelude.{◌||◌}
 use Rattle.std.proofs.lemmas.Bool.{or_left, or_right}
-use Rattle.cache_store.specs.DoneFor.{IsDoneBy, IsDoneFor, IsOfShelf}
-use Rattle.cache_store.specs.Open.{BeginsOn, Tells}
+use Rattle.cache_store.specs.Clearing.{LeavesResumed}
+use Rattle.cache_store.specs.DoneFor.{AreOfShelf, IsDoneBy, IsDoneFor, IsOfShelf, IsResumedBy}
+use Rattle.cache_store.specs.Evicting.{AreOthers}
+use Rattle.cache_store.specs.Open.{BeginsOn, Represents, Tells}
 use Rattle.cache_store.specs.Performing.{GoesBy, SaysThere, goes_by_records}
 use Rattle.cache_store.specs.Records.{AreAtEnd}
 use Rattle.cache_store.specs.Session.{Session}
+use Rattle.cache_store.specs.declared.memory_index.MemoryIndex.{MemoryIndex}
+use Rattle.cache_store.proofs.RecordsAtEnd.{at_end_is_one}
 use Rattle.cache_theory.specs.Command.{Command}
-use Rattle.cache_theory.specs.Command.Command.{ClearNames, ClearOrigin, Evict, EvictNames, HasEntry, HasGiven, ListGiven, ListRecords, Verify, VerifyRecords}
+use Rattle.cache_theory.specs.Command.Command.{ClearNames, ClearOrigin, Evict, EvictNames, HasEntry, HasGiven, ListGiven, ListRecords, Resume, ResumeNames, Verify, VerifyRecords}
 use Rattle.cache_theory.specs.Checks.{checks}
-use Rattle.cache_theory.specs.Covers.{cleared_by}
+use Rattle.cache_theory.specs.Covers.{cleared_by, covered_by}
 use Rattle.cache_theory.specs.Laws.{HasIsOfShelf}
 use Rattle.cache_theory.specs.Machine.{Machine, open_names}
 use Rattle.cache_theory.specs.Step.{after, effect, fits_there, step}
 use Rattle.cache_theory.specs.Table.{get}
+use Rattle.cache_theory.specs.Text.{AreSpoken, FieldsFit, IsCommand, IsSpoken}
+use Rattle.cache_tool.specs.Beginning.{AreAtOpening, AreIndexed, AreOnResumed, names_cleared}
 use Rattle.cache_tool.specs.DoneFor.{AreDoneFor}
 use Rattle.cache_tool.specs.Right.{has_rebuild, is_rebuild}
-use Rattle.cache_tool.specs.Verbs.{AreAtOpening}
+use Rattle.context_clear.specs.Mark.{mark_of}
 use Rattle.disk_model.specs.State.{State, standing}
-use Rattle.disk_model.specs.declared.place.Place.TheVariants.{Index, Log}
 use Rattle.entry_name.specs.EntryName.{file_name}
 use Rattle.evictor.specs.Evict.{victims}
 use Rattle.index_record.specs.declared.record.IndexRecord.{IndexRecord}
-use Rattle.index_theory.specs.Ever.{entries_on}
-use Rattle.index_theory.specs.Honest.{Honest, index_records, journal_records}
+use Rattle.index_theory.specs.Ever.{Entries, entries_on}
+use Rattle.index_theory.specs.Honest.{Honest}
 use Rattle.index_theory.specs.Scan.{scan}
 use Rattle.index_theory.specs.Start.{start_of}
 use Rattle.index_theory.specs.declared.kinds.Start.TheVariants.{Ready}
-use Rattle.record_list.specs.Change.{IsApplied}
 
 -- ---- for one command
+
+-- a clearing that is resumed may go by more records
+resumed_where : (Holds Others : List IndexRecord → Type 0) → ((records : List IndexRecord) → Holds records → Others records) → (mark : Option ℕ) (m : Machine) (d : Command) → IsResumedBy Holds mark m d → IsResumedBy Others mark m d
+resumed_where Holds Others so None m d is = is
+resumed_where Holds Others so (Some origin) m d is = (is.0, (is.1.0, so is.0 is.1.1))
 
 -- what a store does goes by records that are right where those in memory were
 pub done_right : (before : Session) (c : Command) (m : Machine) (d : Command) → IsDoneBy (GoesBy before m) (SaysThere before m) c m d → IsDoneFor (Tells before m) c m d
@@ -39,6 +49,7 @@ done_right before (ClearOrigin origin) m d is = (is.0, (is.1.0, is.1.1.right))
 done_right before Verify m d is = (is.0, (is.1.0, is.1.1.right))
 done_right before ListRecords m d is = (is.0, (is.1.0, is.1.1.right))
 done_right before (HasEntry key) m d is = (is.0, (is.1.0, is.1.1.right))
+done_right before Resume m d is = resumed_where (GoesBy before m) (AreOfShelf (Tells before m) m) (λ records goes. goes.right) (mark_of m.mark) m d is
 done_right before c m d is = is
 
 -- the records need not be right where another thing has to be
@@ -48,6 +59,7 @@ done_where so (ClearOrigin origin) m d is = (is.0, (is.1.0, λ here. is.1.1 (so 
 done_where so Verify m d is = (is.0, (is.1.0, λ here. is.1.1 (so here)))
 done_where so ListRecords m d is = (is.0, (is.1.0, λ here. is.1.1 (so here)))
 done_where so (HasEntry key) m d is = (is.0, (is.1.0, λ here. is.1.1 (so here)))
+done_where {right} {other} so Resume m d is = resumed_where (AreOfShelf right m) (AreOfShelf other m) (λ records has here. has (so here)) (mark_of m.mark) m d is
 done_where so c m d is = is
 
 -- a command whose reply does not go by the records is done itself
@@ -57,7 +69,12 @@ done_itself right (ClearOrigin origin) m d bare is = absurd (true≢false bare)
 done_itself right Verify m d bare is = absurd (true≢false bare)
 done_itself right ListRecords m d bare is = absurd (true≢false bare)
 done_itself right (HasEntry key) m d bare is = absurd (true≢false bare)
+done_itself right Resume m d bare is = absurd (true≢false bare)
 done_itself right c m d bare is = is
+
+resumed_rebuilds : (Holds : List IndexRecord → Type 0) (mark : Option ℕ) (m : Machine) (d : Command) → IsResumedBy Holds mark m d → is_rebuild d ≡ false
+resumed_rebuilds Holds None m d is = ap is_rebuild is
+resumed_rebuilds Holds (Some origin) m d is = ap is_rebuild is.1.0
 
 -- what is done reads all entries anew where the command does
 done_rebuilds : (right : Type 0) (c : Command) (m : Machine) (d : Command) → IsDoneFor right c m d → is_rebuild c ≡ is_rebuild d
@@ -66,6 +83,7 @@ done_rebuilds right (ClearOrigin origin) m d is = ap is_rebuild (sym is.1.0)
 done_rebuilds right Verify m d is = ap is_rebuild (sym is.1.0)
 done_rebuilds right ListRecords m d is = ap is_rebuild (sym is.1.0)
 done_rebuilds right (HasEntry key) m d is = ap is_rebuild (sym is.1.0)
+done_rebuilds right Resume m d is = sym (resumed_rebuilds (AreOfShelf right m) (mark_of m.mark) m d is)
 done_rebuilds right c m d is = ap is_rebuild (sym is)
 
 -- whether there is an entry is as one fits on the shelf
@@ -73,7 +91,21 @@ has_is_of_shelf : HasIsOfShelf
 unfolding checks effect
 has_is_of_shelf m key = refl
 
+-- where its reply is printed, so is the reply to what is done
+pub done_spoken : (right : Type 0) (c : Command) (m : Machine) (d : Command) → IsDoneFor right c m d → IsSpoken c → IsSpoken d
+done_spoken right (Evict kb) m d is spoken = subst IsSpoken (sym is.1.0) tt
+done_spoken right (ClearOrigin origin) m d is spoken = subst IsSpoken (sym is.1.0) tt
+done_spoken right Verify m d is spoken = subst IsSpoken (sym is.1.0) tt
+done_spoken right ListRecords m d is spoken = subst IsSpoken (sym is.1.0) tt
+done_spoken right (HasEntry key) m d is spoken = subst IsSpoken (sym is.1.0) tt
+done_spoken right Resume m d is spoken = absurd spoken
+done_spoken right c m d is spoken = subst IsSpoken (sym is) spoken
+
 -- something can be done, whatever is right
+some_resumed : (right : Type 0) (mark : Option ℕ) (m : Machine) → (d : Command) × IsResumedBy (AreOfShelf right m) mark m d
+some_resumed right None m = (Resume, refl)
+some_resumed right (Some origin) m = (ResumeNames (covered_by (scan m.shelf) m origin), (scan m.shelf, (refl, λ here. refl)))
+
 pub some_done : (right : Type 0) (c : Command) (m : Machine) → (d : Command) × IsDoneFor right c m d
 some_done right (Evict kb) m = (EvictNames (victims (scan m.shelf) (open_names m) kb), (scan m.shelf, (refl, λ here. refl)))
 some_done right (ClearOrigin origin) m = (ClearNames (cleared_by (scan m.shelf) m origin), (scan m.shelf, (refl, λ here. refl)))
@@ -82,30 +114,68 @@ some_done right ListRecords m = (ListGiven (scan m.shelf), (scan m.shelf, (refl,
 some_done right (HasEntry key) m =
     let there = fits_there (file_name key) (get m.shelf (file_name key)) in
     (HasGiven key there, (there, (refl, λ here. sym (has_is_of_shelf m key))))
+some_done right Resume m = some_resumed right (mark_of m.mark) m
 some_done right c m = (c, refl)
 
--- ---- for a command right after the opening
+-- ---- for the first command, and for the one behind it
 
--- what a store begins with where the index is trusted are the records of it with its journal applied
-pub begun_records : (s : State) (first : Session) → BeginsOn (standing s) first.open_store.index.map → (start_of (standing s) ≡ Ready → first.open_store.index.update ≡ []) → start_of (standing s) ≡ Ready
-    → (records : List IndexRecord) → AreAtEnd (entries_on first.disk) first.open_store.index records → IsApplied (index_records (standing s Index)) (journal_records (standing s Log)) records
-begun_records s first begins over ready records at_end =
+-- where the index is trusted a store begins with the records of it with its journal applied
+begun_records : (s : State) (first : Session) (es : Entries) → BeginsOn (standing s) first.open_store.index.map → first.open_store.index.update ≡ [] → start_of (standing s) ≡ Ready
+    → (records : List IndexRecord) → AreAtEnd es first.open_store.index records → AreIndexed s records
+begun_records s first es begins over ready records at_end =
     let (now, (applied, map)) = begins.ready ready in
-    record { rising = at_end.rising; same = λ name. at_end.same.ended (over ready) name ∙ map.records name ∙ applied.same name }
+    record { rising = at_end.rising; same = λ name. at_end.same.ended over name ∙ map.records name ∙ applied.same name }
 
-module _ (s : State) (first : Session) (m : Machine) (tells : Honest (standing s) → Tells first m)
-    (trusted : start_of (standing s) ≡ Ready → (records : List IndexRecord) → AreAtEnd (entries_on first.disk) first.open_store.index records
-    → IsApplied (index_records (standing s Index)) (journal_records (standing s Log)) records) where
+module _ (s : State) (first : Session) (m : Machine) (tells : Honest (standing s) → Tells first m) (begins : BeginsOn (standing s) first.open_store.index.map)
+    (over : start_of (standing s) ≡ Ready → first.open_store.index.update ≡ []) where
   at_opening : (records : List IndexRecord) → GoesBy first m records → AreAtOpening s m records
-  at_opening records goes = record { honest = λ honest. goes.right (tells honest); trusted = λ ready. trusted ready records goes.in_memory }
+  at_opening records goes = record {
+    honest = λ honest. goes.right (tells honest);
+    trusted = λ ready. begun_records s first (entries_on first.disk) begins (over ready) ready records goes.in_memory;
+  }
 
-  pub done_at_opening : (c d : Command) → IsDoneBy (GoesBy first m) (SaysThere first m) c m d → IsDoneBy (AreAtOpening s m) (IsOfShelf (Honest (standing s)) m) c m d
-  done_at_opening (Evict kb) d is = (is.0, (is.1.0, at_opening is.0 is.1.1))
-  done_at_opening (ClearOrigin origin) d is = (is.0, (is.1.0, at_opening is.0 is.1.1))
-  done_at_opening Verify d is = (is.0, (is.1.0, at_opening is.0 is.1.1))
-  done_at_opening ListRecords d is = (is.0, (is.1.0, at_opening is.0 is.1.1))
-  done_at_opening (HasEntry key) d is = (is.0, (is.1.0, λ honest. is.1.1.right (tells honest)))
-  done_at_opening c d is = is
+  pub resumed_at_opening : (d : Command) → IsResumedBy (GoesBy first m) (mark_of m.mark) m d → IsResumedBy (AreAtOpening s m) (mark_of m.mark) m d
+  resumed_at_opening d is = resumed_where (GoesBy first m) (AreAtOpening s m) at_opening (mark_of m.mark) m d is
+
+  -- behind it the records are those, but for the names that were cleared
+  module _ (mid : Session) (d : Command) (stands : Represents first m) (ended : start_of (standing s) ≡ Ready → mid.open_store.index.update ≡ []) where
+    left_by : (mark : Option ℕ) → IsResumedBy (GoesBy first m) mark m d → LeavesResumed mark first mid.open_store.index → start_of (standing s) ≡ Ready
+        → (records : List IndexRecord) → AreAtEnd (entries_on mid.disk) mid.open_store.index records
+        → (indexed : List IndexRecord) × (AreIndexed s indexed × AreOthers indexed (names_cleared d) records)
+    left_by None is same ready records at_end = (
+      records,
+      (
+        begun_records s first (entries_on mid.disk) begins (over ready) ready records (subst (λ (x : MemoryIndex). AreAtEnd (entries_on mid.disk) x records) same at_end),
+        subst (λ e. AreOthers records (names_cleared e) records) (sym is) (λ q. refl),
+      ),
+    )
+    left_by (Some origin) is left ready records at_end =
+        let by = left m stands in
+        let one : by.0 ≡ is.0 = at_end_is_one (entries_on first.disk) first.open_store.index by.0 is.0 by.1.0 is.1.1.in_memory in (
+          is.0,
+          (
+            begun_records s first (entries_on first.disk) begins (over ready) ready is.0 is.1.1.in_memory,
+            subst (λ e. AreOthers is.0 (names_cleared e) records) (sym is.1.0)
+                (λ q. at_end.same.ended (ended ready) q ∙ subst (λ rs. AreOthers rs (covered_by rs m origin) mid.open_store.index.map.records) one by.1.1 q),
+          ),
+        )
+
+    module _ (is : IsResumedBy (GoesBy first m) (mark_of m.mark) m d) (left : LeavesResumed (mark_of m.mark) first mid.open_store.index) (right : Honest (standing s) → Tells mid (step m d).next) where
+      on_resumed : (records : List IndexRecord) → GoesBy mid (step m d).next records → AreOnResumed s m d records
+      on_resumed records goes = record {
+        honest = λ honest. goes.right (right honest);
+        trusted = λ ready. left_by (mark_of m.mark) is left ready records goes.in_memory;
+      }
+
+      pub done_on_resumed : (c e : Command) → IsDoneBy (GoesBy mid (step m d).next) (SaysThere mid (step m d).next) c (step m d).next e
+          → IsDoneBy (AreOnResumed s m d) (IsOfShelf (Honest (standing s)) (step m d).next) c (step m d).next e
+      done_on_resumed (Evict kb) e is = (is.0, (is.1.0, on_resumed is.0 is.1.1))
+      done_on_resumed (ClearOrigin origin) e is = (is.0, (is.1.0, on_resumed is.0 is.1.1))
+      done_on_resumed Verify e is = (is.0, (is.1.0, on_resumed is.0 is.1.1))
+      done_on_resumed ListRecords e is = (is.0, (is.1.0, on_resumed is.0 is.1.1))
+      done_on_resumed (HasEntry key) e is = (is.0, (is.1.0, λ honest. is.1.1.right (right honest)))
+      done_on_resumed Resume e is = resumed_where (GoesBy mid (step m d).next) (AreOnResumed s m d) on_resumed (mark_of (step m d).next.mark) (step m d).next e is
+      done_on_resumed c e is = is
 
 -- ---- for commands
 
@@ -153,3 +223,31 @@ all_done right m (c ∷ cs) =
     let first = some_done right c m in
     let rest = all_done (right ⊎ IsTrue (is_rebuild c)) (step m first.0).next cs in
     (first.0 ∷ rest.0, (first.1, rest.1))
+
+-- ---- the replies to commands are printed
+
+pub spoken_joined : (cs ds : List Command) → AreSpoken cs → AreSpoken ds → AreSpoken (cs ++ ds)
+spoken_joined [] ds first rest = rest
+spoken_joined (c ∷ cs) ds first rest = (first.0, spoken_joined cs ds first.1 rest)
+
+pub spoken_parts : (cs ds : List Command) → AreSpoken (cs ++ ds) → AreSpoken cs × AreSpoken ds
+spoken_parts [] ds all = (tt, all)
+spoken_parts (c ∷ cs) ds all = let rest = spoken_parts cs ds all.1 in ((all.0, rest.0), rest.1)
+
+-- so are those to what is done for them
+pub done_are_spoken : (right : Type 0) (m : Machine) (cs ds : List Command) → AreDoneFor right m cs ds → AreSpoken cs → AreSpoken ds
+done_are_spoken right m [] [] are spoken = tt
+done_are_spoken right m [] (d ∷ ds) are spoken = absurd are
+done_are_spoken right m (c ∷ cs) [] are spoken = absurd are
+done_are_spoken right m (c ∷ cs) (d ∷ ds) are spoken =
+    (done_spoken right c m d are.0 spoken.0, done_are_spoken (right ⊎ IsTrue (is_rebuild c)) (step m d).next cs ds are.1 spoken.1)
+
+-- and so are those to the commands of a script
+script_speaks : (c : Command) → FieldsFit c → IsSpoken c
+script_speaks Resume fit = fit
+script_speaks (ResumeNames names) fit = fit
+script_speaks c fit = tt
+
+pub script_is_spoken : (cs : List Command) → AllByRecursion IsCommand cs → AreSpoken cs
+script_is_spoken [] are = tt
+script_is_spoken (c ∷ cs) are = (script_speaks c are.0.fields, script_is_spoken cs are.1)

@@ -1,16 +1,14 @@
 -- Commands of a `fill`, one after the other.
 use Rattle.std.proofs.Common.{◌≡◌, ◌∙◌, false, ℕ, zero, suc, ◌+◌, ◌-◌, ◌≤◌, List, [], ◌∷◌, ◌++◌, Result, Ok, Err, IsErrAnd, append-nil, append_assoc, arith, refl, sym, ap, subst}
 use Rattle.std.specs.Prelude.{OnOk}
-use Rattle.cache_store.specs.Open.{KeepsTo}
 use Rattle.cache_store.specs.Performing.{goes_by_records}
 use Rattle.cache_store.specs.Session.{Session}
 use Rattle.cache_store.specs.declared.fault.Verdict.{Verdict}
 use Rattle.cache_store.specs.declared.fault.StoreFault.{StoreFault}
-use Rattle.cache_store.proofs.PerformWhole.{begun_stands}
 use Rattle.cache_theory.specs.Command.{Command}
 use Rattle.cache_theory.specs.Command.Command.{Append, At, Close, Create}
 use Rattle.cache_theory.specs.Crash.{IsSafe}
-use Rattle.cache_theory.specs.History.{History, acked, begun, unanswered}
+use Rattle.cache_theory.specs.History.{History}
 use Rattle.cache_theory.specs.Marks.{all_begun}
 use Rattle.cache_theory.specs.Step.{after}
 use Rattle.cache_tool.specs.Fill.{body_of, entries_commands, entry_commands, key_of, moment_of, next_number, number_at}
@@ -20,22 +18,12 @@ use Rattle.cache_tool.specs.Right.{LeadTo}
 use Rattle.cache_tool.proofs.Begun.{all_begin_keep}
 use Rattle.cache_tool.proofs.PutCommands.{unanswered-append}
 use Rattle.cache_tool.proofs.PutReplies.{sent_itself}
-use Rattle.cache_tool.proofs.RightLaws.{leads_none, leads_on}
+use Rattle.cache_tool.proofs.RightLaws.{leads_begun, leads_none, leads_on}
 
 -- what holds with an answer, and what follows from it
 pub ok_then : {T : Type 0} (P Q : Type 0) (answer : Result T StoreFault) → (P → Q) → OnOk answer P → OnOk answer Q
 ok_then P Q (Ok x) so is = so is
 ok_then P Q (Err f) so is = tt
-
--- a command that is acknowledged has begun for whoever saw no reply
-pub leads_begun : (c : Command) (h : History) (before now : Session) → KeepsTo before h → IsSafe now.disk (begun c h).marks → LeadTo (c ∷ []) before h.machine now (acked c h)
-    → LeadTo (c ∷ []) before h.machine now (unanswered c h)
-leads_begun c h before now keeps safe leads = record {
-  keeps = begun_stands c h before now keeps safe leads.keeps;
-  tells = leads.tells;
-  in_use = leads.in_use;
-  unended = leads.unended;
-}
 
 -- no command
 pub run_none : (now : Session) → RunsAll {T = Unit {0}} [] (Ok tt) now now

@@ -22,9 +22,8 @@ use Rattle.cache_tool.specs.Right.{LeadTo}
 use Rattle.cache_tool.specs.Statuses.{status_of}
 use Rattle.cache_tool.proofs.Begun.{all_begin_keep}
 use Rattle.cache_tool.proofs.DoneLaws.{done_where, some_done}
-use Rattle.cache_tool.proofs.FillRuns.{leads_begun}
 use Rattle.cache_tool.proofs.PutCommands.{unanswered-append}
-use Rattle.cache_tool.proofs.RightLaws.{leads_on}
+use Rattle.cache_tool.proofs.RightLaws.{leads_begun, leads_on}
 use Rattle.evictor.specs.Evict.{total_kb}
 use Rattle.index_theory.specs.Scan.{scan}
 

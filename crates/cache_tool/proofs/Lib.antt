@@ -23,6 +23,7 @@ pub mod PutPieces
 pub mod PutReplies
 pub mod PutWhole
 pub mod RightLaws
+pub mod RunBegins
 pub mod RunComplete
 pub mod ScriptBytes
 pub mod ScriptEnds
@@ -30,7 +31,7 @@ pub mod ScriptMarks
 pub mod ScriptReplies
 pub mod ScriptTurns
 pub mod ScriptWhole
-pub mod SettledBegun
+pub mod SessionEnds
 pub mod StatusLaws
 pub mod StayingLaws
 pub mod WordsTable

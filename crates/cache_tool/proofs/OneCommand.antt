@@ -9,9 +9,8 @@ use Rattle.cache_base.specs.declared.status.Status.{Status}
 use Rattle.cache_base.specs.declared.status.Status.TheVariants as status
 use Rattle.cache_store.specs.Answering.{outcome_of}
 use Rattle.cache_store.specs.Faulting.{StaysAs}
-use Rattle.cache_store.specs.Faults.{ending}
-use Rattle.cache_store.specs.InUse.{HasShortJournal, OpensInUse}
-use Rattle.cache_store.specs.Open.{IsHonest, IsShut, LeavesOpen, Opens, OpensHonestly, StartsOn}
+use Rattle.cache_store.specs.Faults.{ending, fault_ending}
+use Rattle.cache_store.specs.Open.{LeavesOpen, StartsOn}
 use Rattle.cache_store.specs.Performing.{HadEffect, Keeps, Performs}
 use Rattle.cache_store.specs.Said.{IsCut}
 use Rattle.cache_store.specs.Saying.{IsPart}
@@ -21,34 +20,27 @@ use Rattle.cache_store.specs.declared.fault.Verdict.TheVariants as outcome
 use Rattle.cache_store.specs.declared.fault.StoreFault.{StoreFault}
 use Rattle.cache_store.specs.declared.fault.StoreFault.TheVariants as fault
 use Rattle.cache_theory.specs.Command.{Command}
-use Rattle.cache_theory.specs.Command.Command.{ClearNames, ClearOrigin, Flush}
-use Rattle.cache_theory.specs.Checks.{checks}
-use Rattle.cache_theory.specs.Covers.{cleared}
 use Rattle.cache_theory.specs.Crash.{IsSafe}
 use Rattle.cache_theory.specs.Faulted.{fault_line}
 use Rattle.cache_theory.specs.History.{History, acked, begun, settled_at, unanswered}
 use Rattle.cache_theory.specs.Machine.{Machine}
-use Rattle.cache_theory.specs.Marks.{marks_of}
-use Rattle.cache_theory.specs.Step.{all_doomed, effect, step, update_ended}
-use Rattle.cache_theory.specs.Text.{reply_text}
-use Rattle.cache_theory.proofs.Begins.{begin_keeps}
-use Rattle.cache_theory.proofs.Crashes.{safe_is_crash_safe}
-use Rattle.cache_theory.proofs.Evicting.{doomed_are_lost}
-use Rattle.cache_tool.proofs.SettledBegun.{settled_begun}
-use Rattle.cache_tool.specs.Ending.{EndsSession, IsEnded}
-use Rattle.cache_tool.specs.Right.{ComesRight, LeadTo}
+use Rattle.cache_theory.specs.Step.{step}
+use Rattle.cache_theory.specs.Text.{IsSpoken, reply_text}
+use Rattle.cache_theory.proofs.RepliesApart.{step_spoken}
+use Rattle.cache_tool.specs.Beginning.{Begins, FailsToBegin}
+use Rattle.cache_tool.specs.Ending.{EndsSession}
+use Rattle.cache_tool.specs.Right.{LeadTo}
 use Rattle.cache_tool.specs.Statuses.{IsAnswer, IsClosing, status_in, status_of}
 use Rattle.cache_tool.specs.Staying.{StaysOnce}
 use Rattle.cache_tool.specs.Tally.{RoseBy}
-use Rattle.cache_tool.specs.Verbs.{IsUnopened, LeavesDisk, PrintsFault, PrintsLast, none_performed}
+use Rattle.cache_tool.specs.Verbs.{HasNotBegun, LeavesDisk, PrintsFault, PrintsLast, all_begun_none_acked, none_begun, none_performed}
 use Rattle.cache_tool.specs.World.{Output}
-use Rattle.cache_tool.proofs.RightLaws.{leads_none, leads_one, leads_still, opened_right}
-use Rattle.cache_tool.proofs.StayingLaws.{StaysWhole, stays_whole}
+use Rattle.cache_tool.proofs.RightLaws.{leads_begun, leads_none, leads_one, leads_still}
+use Rattle.cache_tool.proofs.SessionEnds.{ends_leave, stops_leave}
 use Rattle.disk_model.specs.Account.{Ending}
-use Rattle.disk_model.specs.Sound.{IsQuiet}
-use Rattle.disk_model.specs.State.{State, standing}
+use Rattle.disk_model.specs.State.{State}
 use Rattle.index_map.specs.Known.{SameBase}
-use Rattle.index_theory.specs.Honest.{Honest, LeavesHonest}
+use Rattle.index_theory.specs.Honest.{LeavesHonest}
 
 -- ---- the statuses
 
@@ -105,102 +97,31 @@ pub said_part : {T : Type 0} (r : Result T StoreFault) (before now : Option (Lis
 said_part (Ok value) before now text all cut = all_part before now text all
 said_part (Err f) before now text all cut = cut_part before now text cut
 
--- ---- the ends of one command
-
--- a command that is acknowledged at a mark has begun there
-begun_at_mark : (t : State) (m : Machine) (c : Command) → IsSafe t (acked c (settled_at m)).marks → IsSafe t (begun c (settled_at m)).marks
-unfolding checks effect
-begun_at_mark t m Flush safe = begin_keeps t m Flush (marks_of m) safe
-begun_at_mark t m (ClearOrigin origin) safe =
-    settled_begun t m (all_doomed (update_ended m) (cleared m origin)) (cleared m origin) (doomed_are_lost m (cleared m origin)) safe
-begun_at_mark t m (ClearNames names) safe = settled_begun t m (all_doomed (update_ended m) names) names (doomed_are_lost m names) safe
-begun_at_mark t m c safe = safe
-
-module _ (m : Machine) (c : Command) (before now : Output) (safe : IsQuiet before.disk → IsSafe now.disk (begun c (settled_at m)).marks) (images : IsQuiet before.disk → Honest (standing before.disk) → LeavesHonest now.disk) where
-  stopped : (ended : Status) → IsStop ended → IsPart before.taken now.taken (reply_text (step m c).reply) → PrintsLast m (c ∷ []) ended before now
-  stopped ended stop part = record {
-    answer = λ is. absurd (stop_is_no_answer ended stop is);
-    text = record {
-      printed = λ is. absurd (stop_is_no_answer ended stop is);
-      part = part;
-      cut = λ is. absurd (stop_is_no_sink ended stop is);
-    };
-    silent = λ is. absurd (stop_is_no_source ended stop is);
-    leaves = record {
-      shut = λ closing. absurd (stop_closes_not ended stop closing);
-      honest = λ closing right. absurd (stop_closes_not ended stop closing);
-      crash = λ quiet. safe_is_crash_safe now.disk (begun c (settled_at m)).marks (safe quiet);
-      images = images;
-      journal = λ closing over. absurd (stop_closes_not ended stop closing);
-      index = λ closing. absurd (stop_closes_not ended stop closing);
-    };
-  }
-
-  -- what stands where the store was closed
-  module _ (ended : Status) (shut : IsShut now.disk (step m c).next) (honest : ComesRight before.disk (c ∷ []) → IsHonest now.disk (step m c).next)
-      (journal : (step m c).next.rest ≡ [] → HasShortJournal (standing now.disk)) (in_use : StaysWhole ended m (c ∷ []) before.disk now.disk) where
-    sunk : ended ≡ status.Sink → IsCut before.taken now.taken (reply_text (step m c).reply) → PrintsLast m (c ∷ []) ended before now
-    sunk sink cut = record {
-      answer = λ is. absurd (sink_is_no_answer ended sink is);
-      text = record {
-        printed = λ is. absurd (sink_is_no_answer ended sink is);
-        part = cut_part before.taken now.taken (reply_text (step m c).reply) cut;
-        cut = λ is. cut;
-      };
-      silent = λ is. absurd (cc);
-      leaves = record {
-        shut = λ closing. shut;
-        honest = λ closing right. honest right;
-        crash = λ quiet. safe_is_crash_safe now.disk (begun c (settled_at m)).marks (safe quiet);
-        images = images;
-        journal = λ closing over. journal over;
-        index = in_use;
-      };
-    }
-
-    answered : (o : Verdict) → ended ≡ status_of o → o ≡ outcome_of (step m c).reply → Appends before.taken now.taken (reply_text (step m c).reply)
-        → PrintsLast m (c ∷ []) ended before now
-    answered o is replied printed = record {
-      answer = λ answer. is ∙ ap status_of replied;
-      text = record {
-        printed = λ answer. printed;
-        part = all_part before.taken now.taken (reply_text (step m c).reply) printed;
-        cut = λ sink. absurd (sink_is_no_answer ended sink (outcome_is_answer o ended is));
-      };
-      silent = λ source. absurd (source_is_no_answer ended source (outcome_is_answer o ended is));
-      leaves = record {
-        shut = λ closing. shut;
-        honest = λ closing right. honest right;
-        crash = λ quiet. safe_is_crash_safe now.disk (begun c (settled_at m)).marks (safe quiet);
-        images = images;
-        journal = λ closing over. journal over;
-        index = in_use;
-      };
-    }
-
--- ---- the store did not open
+-- ---- the run did not begin
 
 no_sink_stops : {T : Type 0} (answer : Result T StoreFault) (f : StoreFault) (ended : Status) → answer ≡ Err f → answer ≢ Err fault.Sink → ended ≡ status_in (Err f) → IsStop ended
 no_sink_stops answer fault.Memory ended failed no_sink is = inr is
 no_sink_stops answer fault.Disk ended failed no_sink is = inl is
 no_sink_stops answer fault.Sink ended failed no_sink is = absurd (no_sink failed)
 
-pub unopened_prints : {T : Type 0} (m : Machine) (before : Output) (t : State) (faults : ℕ) (answer : Result T StoreFault) (f : StoreFault) (ended : Status)
-    → answer ≡ Err f → answer ≢ Err fault.Sink → ended ≡ status_in (Err f) → (IsQuiet before.disk → IsSafe t (marks_of m)) → OpensHonestly before.disk t
-    → IsUnopened m ended before (record before { disk = t; disk_faults = faults })
-unopened_prints m before t faults answer f ended failed no_sink is safe images =
-    let stop : IsStop ended = no_sink_stops answer f ended failed no_sink is in
+disk_failed : (f : StoreFault) (ended : Status) → ended ≡ status_in (Err f) → ended ≡ status.Disk → fault_ending f ≡ Ending.OneFailed
+disk_failed fault.Memory ended is disk = absurd (let e : status.Memory ≡ status.Disk = sym is ∙ disk in cc)
+disk_failed fault.Disk ended is disk = refl
+disk_failed fault.Sink ended is disk = absurd (let e : status.Sink ≡ status.Disk = sym is ∙ disk in cc)
+
+pub not_begun : {moment : ℕ} {T : Type 0} (before : Output) (t : State) (faults : ℕ) (answer : Result T StoreFault) (f : StoreFault) (ended : Status) → answer ≡ Err f → answer ≢ Err fault.Sink → ended ≡ status_in (Err f)
+    → (ending answer ≡ Ending.OneFailed → Rose before.disk_faults faults) → FailsToBegin moment before.disk t
+    → (m : Machine) → StartsOn moment before.disk m → HasNotBegun m ended before (record before { disk = t; disk_faults = faults })
+not_begun before t faults answer f ended failed no_sink same rose fails m is =
+    let stop : IsStop ended = no_sink_stops answer f ended failed no_sink same in
     record {
       failed = stop;
+      rose = λ disk. rose (ap ending failed ∙ disk_failed f ended same disk);
       silent = Keeps-refl before.taken;
-      leaves = record {
-        shut = λ closing. absurd (stop_closes_not ended stop closing);
-        honest = λ closing right. absurd (stop_closes_not ended stop closing);
-        crash = λ quiet. safe_is_crash_safe t (marks_of m) (safe quiet);
-        images = images;
-        journal = λ closing over. absurd (stop_closes_not ended stop closing);
-        index = λ closing. absurd (stop_closes_not ended stop closing);
-      };
+      leaves = elim (fails.crash m is) [
+        | inl safe ↦ inl (stops_leave m (none_begun m) ended before.disk t (stop_closes_not ended stop) safe fails.images)
+        | inr (d, (done, safe)) ↦ inr (d, (done, stops_leave m (none_performed m d) ended before.disk t (stop_closes_not ended stop) (λ quiet. safe) fails.images))
+      ];
     }
 
 -- ---- it opened
@@ -223,92 +144,113 @@ came_ok : (o : Verdict) (came : Result Status StoreFault) → IsOkAnd came (λ s
 came_ok o (Ok s) is = is
 came_ok o (Err f) is = absurd is
 
-module _ {moment : ℕ} (m : Machine) (c : Command) (before now : Output) (first last : Session) (ended : Status) (opens : Opens moment before.disk first) (is : StartsOn moment before.disk m)
-    (based : OpensInUse before.disk first.open_store.index.map first.disk) (ends : EndsSession ended last now.disk) where
-  -- the command's effect on the records, and on the disk where the store was closed after it
-  module _ (h : History) (leads : LeadTo (c ∷ []) first m last h) where
-    closed : IsEnded ended h last now.disk
-    closed = ends.each h leads.keeps
+module _ {moment : ℕ} (before now : Output) (mid last : Session) (begins : Begins moment before.disk mid) (m : Machine) (is : StartsOn moment before.disk m) (ended : Status) where
+  -- this was done for `Resume`
+  abbrev d : Command
+  d = (begins.resumed m is).done
 
-    images : IsQuiet before.disk → Honest (standing before.disk) → LeavesHonest now.disk
-    images quiet honest = closed.images (leads.tells (inl (opens.tells m is honest)))
+  abbrev at : History
+  at = acked (begins.resumed m is).done (settled_at m)
 
-    honest : IsClosing ended → ComesRight before.disk (c ∷ []) → IsHonest now.disk h.machine
-    honest closing right = closed.honest closing (leads.tells (opened_right opens is (c ∷ []) right))
+  module _ (c : Command) (ends : EndsSession ended last now.disk) where
+    -- what a session leaves whose command had its effect, and may have begun only for whoever looks at the disk
+    led_leaves : LeadTo (c ∷ []) mid at.machine last (unanswered c at) → LeavesDisk m (all_begun_none_acked m (begins.resumed m is).done (c ∷ [])) ended before.disk now.disk
+    led_leaves leads = ends_leave before.disk mid begins m is last now.disk ended ends (c ∷ []) (begun c at).marks (unanswered c at) leads refl (λ x safe. safe)
 
-    in_use : h.machine ≡ (step m c).next → StaysWhole ended m (c ∷ []) before.disk now.disk
-    in_use same = stays_whole before.disk now.disk m first last (c ∷ []) h ended opens is based leads closed same
+    -- and one whose command failed
+    stopped : IsStop ended → IsSafe now.disk (begun c at).marks → LeavesHonest now.disk → IsPart before.taken now.taken (reply_text (step at.machine c).reply) → PrintsLast m (begins.resumed m is).done (c ∷ []) ended before now
+    stopped stop safe kept part = record {
+      answer = λ is. absurd (stop_is_no_answer ended stop is);
+      text = record {
+        printed = λ is. absurd (stop_is_no_answer ended stop is);
+        part = part;
+        cut = λ is. absurd (stop_is_no_sink ended stop is);
+      };
+      silent = λ is. absurd (stop_is_no_source ended stop is);
+      leaves = stops_leave m (all_begun_none_acked m (begins.resumed m is).done (c ∷ [])) ended before.disk now.disk (stop_closes_not ended stop) (λ quiet. safe) (λ quiet honest. kept);
+    }
 
-  -- it was performed, and the session was ended by what it came to
-  pub performed_prints : (answer : Result Verdict StoreFault) (came : Result Status StoreFault) → Performs c m answer first last before.taken now.taken → Keeps c (settled_at m) answer last
-      → (HadEffect answer → StaysOnce c first m last) → LeavesHonest last.disk
-      → CameBy answer came → (ended ≡ status_in came) ⊎ IsStop ended → ((IsClosing (status_in came) → ⊥) → (ended ≡ status_in came) × (now.disk ≡ last.disk))
-      → PrintsLast m (c ∷ []) ended before now
-  performed_prints (Ok o) came performs keeps stays kept by (inl same) dropped =
-      let as_outcome = same ∙ came_ok o came by in
-      let h : History = acked c (settled_at m) in
-      let leads = leads_one c first m last h keeps.next (performs.tells tt) (stays tt) in
-      let end = closed h leads in
-      let closing = outcome_closes o ended as_outcome in
-      answered m c before now (λ quiet. begun_at_mark now.disk m c end.safe) (images h leads) ended (end.shut closing) (honest h leads closing) (end.journal closing) (in_use h leads refl)
-      o as_outcome performs.outcome performs.printed
-  performed_prints (Ok o) came performs keeps stays kept by (inr stop) dropped =
-      let h : History = acked c (settled_at m) in
-      let leads = leads_one c first m last h keeps.next (performs.tells tt) (stays tt) in
-      stopped m c before now (λ quiet. begun_at_mark now.disk m c (closed h leads).safe) (images h leads) ended stop
-      (all_part before.taken now.taken (reply_text (step m c).reply) performs.printed)
-  performed_prints (Err fault.Sink) came performs keeps stays kept by (inl same) dropped =
-      let sink = same ∙ ap status_in by in
-      let h : History = unanswered c (settled_at m) in
-      let leads = leads_one c first m last h (keeps.unanswered refl) (performs.tells refl) (stays refl) in
-      let end = closed h leads in
-      let closing : IsClosing ended = subst IsClosing (sym sink) tt in
-      sunk m c before now (λ quiet. end.safe) (images h leads) ended (end.shut closing) (honest h leads closing) (end.journal closing) (in_use h leads refl)
-      sink performs.cut
-  performed_prints (Err fault.Sink) came performs keeps stays kept by (inr stop) dropped =
-      let h : History = unanswered c (settled_at m) in
-      let leads = leads_one c first m last h (keeps.unanswered refl) (performs.tells refl) (stays refl) in
-      stopped m c before now (λ quiet. (closed h leads).safe) (images h leads) ended stop
-      (cut_part before.taken now.taken (reply_text (step m c).reply) performs.cut)
-  performed_prints (Err fault.Disk) came performs keeps stays kept by same dropped =
-      let left = dropped (λ closing. subst (λ x. IsClosing (status_in x)) by closing) in
-      stopped m c before now (λ quiet. subst (λ x. IsSafe x (begun c (settled_at m)).marks) (sym left.1) keeps.safe) (λ quiet honest. subst LeavesHonest (sym left.1) kept) ended
-      (inl (left.0 ∙ ap status_in by)) (cut_part before.taken now.taken (reply_text (step m c).reply) performs.cut)
-  performed_prints (Err fault.Memory) came performs keeps stays kept by same dropped =
-      let left = dropped (λ closing. subst (λ x. IsClosing (status_in x)) by closing) in
-      stopped m c before now (λ quiet. subst (λ x. IsSafe x (begun c (settled_at m)).marks) (sym left.1) keeps.safe) (λ quiet honest. subst LeavesHonest (sym left.1) kept) ended
-      (inr (left.0 ∙ ap status_in by)) (cut_part before.taken now.taken (reply_text (step m c).reply) performs.cut)
+    -- it had its effect, and the session was ended so, or failed in its closing
+    ended_so : (ended ≡ status_of (outcome_of (step at.machine c).reply)) ⊎ ((ended ≡ status.Sink) ⊎ IsStop ended) → LeadTo (c ∷ []) mid at.machine last (unanswered c at)
+        → IsPart before.taken now.taken (reply_text (step at.machine c).reply) → (IsAnswer ended → Appends before.taken now.taken (reply_text (step at.machine c).reply))
+        → (ended ≡ status.Sink → IsCut before.taken now.taken (reply_text (step at.machine c).reply)) → PrintsLast m (begins.resumed m is).done (c ∷ []) ended before now
+    ended_so so leads part printed cut = record {
+      answer = λ answer. answered_so so answer;
+      text = record { printed = printed; part = part; cut = cut };
+      silent = λ source. absurd (never_source so source);
+      leaves = led_leaves leads;
+    }
+      where
+        answered_so : (ended ≡ status_of (outcome_of (step at.machine c).reply)) ⊎ ((ended ≡ status.Sink) ⊎ IsStop ended) → IsAnswer ended → ended ≡ status_of (outcome_of (step at.machine c).reply)
+        answered_so (inl same) answer = same
+        answered_so (inr (inl sink)) answer = absurd (sink_is_no_answer ended sink answer)
+        answered_so (inr (inr stop)) answer = absurd (stop_is_no_answer ended stop answer)
 
--- ---- a look at the disk failed
+        never_source : (ended ≡ status_of (outcome_of (step at.machine c).reply)) ⊎ ((ended ≡ status.Sink) ⊎ IsStop ended) → ended ≡ status.Source → ⊥
+        never_source (inl same) source = source_is_no_answer ended source (outcome_is_answer (outcome_of (step at.machine c).reply) ended same)
+        never_source (inr (inl sink)) source = let e : status.Sink ≡ status.Source = sym sink ∙ source in cc
+        never_source (inr (inr stop)) source = stop_is_no_source ended stop source
 
-module _ {moment : ℕ} (m : Machine) (before now : Output) (first last : Session) (opens : Opens moment before.disk first) (is : StartsOn moment before.disk m)
-    (based : OpensInUse before.disk first.open_store.index.map first.disk) (stays : StaysAs first last) (base : SameBase first.open_store.index.map last.open_store.index.map) where
-  leads : LeadTo [] first m last (settled_at m)
-  leads = leads_still [] first m first last (settled_at m) (leads_none first (settled_at m) (opens.keeps m is)) stays base
+    -- it was performed, and the session was ended by what it came to
+    pub performed_prints : (answer : Result Verdict StoreFault) (came : Result Status StoreFault) → IsSpoken c
+        → Performs c (step m (begins.resumed m is).done).next answer mid last before.taken now.taken → Keeps c (acked (begins.resumed m is).done (settled_at m)) answer last
+        → (HadEffect answer → StaysOnce c mid (step m (begins.resumed m is).done).next last) → LeavesHonest last.disk
+        → CameBy answer came → (ended ≡ status_in came) ⊎ IsStop ended → ((IsClosing (status_in came) → ⊥) → (ended ≡ status_in came) × (now.disk ≡ last.disk))
+        → PrintsLast m (begins.resumed m is).done (c ∷ []) ended before now
+    performed_prints (Ok o) came spoken performs keeps stays kept by same dropped =
+        let acked_leads = leads_one c mid at.machine last (acked c at) keeps.next (performs.tells tt) (stays tt) in
+        ended_so (ok_ends same) (leads_begun c at mid last (begins.resumed m is).leads.keeps keeps.safe acked_leads)
+        (all_part before.taken now.taken (reply_text (step at.machine c).reply) performs.printed) (λ answer. performs.printed) (λ sink. absurd (no_sink same sink))
+      where
+        as_outcome : ended ≡ status_in came → ended ≡ status_of o
+        as_outcome same = same ∙ came_ok o came by
 
-  -- what the session left, in which no command was performed
-  fault_leaves : (ended : Status) → EndsSession ended last now.disk → LeavesDisk m (none_performed m) ended before.disk now.disk
-  fault_leaves ended ends =
-      let end = ends.each (settled_at m) leads.keeps in
-      record {
-        shut = end.shut;
-        honest = λ closing right. end.honest closing (leads.tells (opened_right opens is [] right));
-        crash = λ quiet. safe_is_crash_safe now.disk (marks_of m) end.safe;
-        images = λ quiet honest. end.images (leads.tells (inl (opens.tells m is honest)));
-        journal = end.journal;
-        index = stays_whole before.disk now.disk m first last [] (settled_at m) ended opens is based leads end refl;
-      }
+        ok_ends : (ended ≡ status_in came) ⊎ IsStop ended → (ended ≡ status_of (outcome_of (step at.machine c).reply)) ⊎ ((ended ≡ status.Sink) ⊎ IsStop ended)
+        ok_ends (inl same) = inl (as_outcome same ∙ ap status_of performs.outcome)
+        ok_ends (inr stop) = inr (inr stop)
 
-  -- the line was printed, or a part of it, and all stayed as it was
-  pub faulted_prints : (ended : Status) → EndsSession ended last now.disk → IsStop ended → Rose before.disk_faults now.disk_faults → IsPart before.taken now.taken fault_line
-      → (ended ≡ status.Disk → EndsSession status.No last now.disk ⊎ RoseBy 2 before.disk_faults now.disk_faults) → PrintsFault m ended before now
-  faulted_prints ended ends stop rose part closed = record {
-    failed = stop;
-    rose = rose;
-    part = part;
-    leaves = fault_leaves ended ends;
-    closed = λ disk. ⊎_elim (λ shut. inl (fault_leaves status.No shut)) (λ more. inr more) (closed disk);
-  }
+        no_sink : (ended ≡ status_in came) ⊎ IsStop ended → ended ≡ status.Sink → ⊥
+        no_sink (inl same) sink = sink_is_no_answer ended sink (outcome_is_answer o ended (as_outcome same))
+        no_sink (inr stop) sink = stop_is_no_sink ended stop sink
+    performed_prints (Err fault.Sink) came spoken performs keeps stays kept by same dropped =
+        ended_so (inr (sink_ends same)) (leads_one c mid at.machine last (unanswered c at) (keeps.unanswered refl) (performs.tells refl) (stays refl))
+        (cut_part before.taken now.taken (reply_text (step at.machine c).reply) (performs.cut (step_spoken at.machine c spoken))) (λ answer. absurd (no_answer_then (sink_ends same) answer)) (λ sink. performs.cut (step_spoken at.machine c spoken))
+      where
+        sink_ends : (ended ≡ status_in came) ⊎ IsStop ended → (ended ≡ status.Sink) ⊎ IsStop ended
+        sink_ends (inl same) = inl (same ∙ ap status_in by)
+        sink_ends (inr stop) = inr stop
+
+        no_answer_then : (ended ≡ status.Sink) ⊎ IsStop ended → IsAnswer ended → ⊥
+        no_answer_then (inl sink) answer = sink_is_no_answer ended sink answer
+        no_answer_then (inr stop) answer = stop_is_no_answer ended stop answer
+    performed_prints (Err fault.Disk) came spoken performs keeps stays kept by same dropped =
+        let left = dropped (λ closing. subst (λ x. IsClosing (status_in x)) by closing) in
+        stopped (inl (left.0 ∙ ap status_in by)) (subst (λ x. IsSafe x (begun c at).marks) (sym left.1) keeps.safe) (subst LeavesHonest (sym left.1) kept)
+        (cut_part before.taken now.taken (reply_text (step at.machine c).reply) (performs.cut (step_spoken at.machine c spoken)))
+    performed_prints (Err fault.Memory) came spoken performs keeps stays kept by same dropped =
+        let left = dropped (λ closing. subst (λ x. IsClosing (status_in x)) by closing) in
+        stopped (inr (left.0 ∙ ap status_in by)) (subst (λ x. IsSafe x (begun c at).marks) (sym left.1) keeps.safe) (subst LeavesHonest (sym left.1) kept)
+        (cut_part before.taken now.taken (reply_text (step at.machine c).reply) (performs.cut (step_spoken at.machine c spoken)))
+
+  -- ---- a look at the disk failed
+
+  module _ (stays : StaysAs mid last) (base : SameBase mid.open_store.index.map last.open_store.index.map) where
+    -- what the session left, in which no command was performed
+    fault_leaves : (final : Status) → EndsSession final last now.disk → LeavesDisk m (none_performed m (begins.resumed m is).done) final before.disk now.disk
+    fault_leaves final ends =
+        let keeps = (begins.resumed m is).leads.keeps in
+        ends_leave before.disk mid begins m is last now.disk final ends [] at.marks at (leads_still [] mid at.machine mid last at (leads_none mid at keeps) stays base) refl (λ x safe. safe)
+
+    -- the line was printed, or a part of it, and all stayed as it was
+    pub faulted_prints : EndsSession ended last now.disk → IsStop ended → Rose before.disk_faults now.disk_faults → IsPart before.taken now.taken fault_line
+        → (ended ≡ status.Disk → EndsSession status.No last now.disk ⊎ RoseBy 2 before.disk_faults now.disk_faults) → PrintsFault m (begins.resumed m is).done ended before now
+    faulted_prints ends stop rose part closed = record {
+      failed = stop;
+      rose = rose;
+      part = part;
+      leaves = fault_leaves ended ends;
+      closed = λ disk. ⊎_elim (λ shut. inl (fault_leaves status.No shut)) (λ more. inr more) (closed disk);
+    }
 
 -- one fault after the other
 pub rose_twice : {P Q : Type 0} (a b c d : ℕ) → b ≡ a → Rose b c → P → (P → Q) ⊎ Rose c d → Q ⊎ RoseBy 2 a d

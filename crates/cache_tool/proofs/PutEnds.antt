@@ -1,15 +1,13 @@
 -- How a put ends: the store is closed, and the last reply is printed.
-use Rattle.std.proofs.Common.{◌≡◌, ◌≢◌, ◌⊎◌, inl, inr, ℕ, ◌≤◌, List, [], length, refl, sym, ap, subst, ◌∙◌, arith}
-use Rattle.std.specs.Prelude.{Err, IfOk, IsSome, Ok, Option, Result}
+use Rattle.std.proofs.Common.{◌≡◌, ◌≢◌, ◌⊎◌, inl, inr, ℕ, ◌≤◌, List, refl, sym, ap, subst, ◌∙◌, arith}
+use Rattle.std.specs.Prelude.{Err, IfOk, Ok, Option, Result}
 use Rattle.std.specs.Io.KnownBytes.{Appends}
 use Rattle.std.proofs.KnownBytes.{Appends-nil, Keeps-refl}
-use Rattle.std.proofs.lemmas.List.{take_all}
 use Rattle.cache_base.specs.Causes.{HasCause, Rose}
 use Rattle.cache_base.specs.declared.status.Status.{Status}
 use Rattle.cache_base.specs.declared.status.Status.TheVariants as status
 use Rattle.cache_store.specs.Faults.{ending}
-use Rattle.cache_store.specs.InUse.{HasShortJournal, OpensInUse}
-use Rattle.cache_store.specs.Open.{IsHonest, IsShut, Opens, OpensHonestly, StartsOn}
+use Rattle.cache_store.specs.Open.{StartsOn}
 use Rattle.cache_store.specs.Said.{IsCut}
 use Rattle.cache_store.specs.Saying.{IsPart}
 use Rattle.cache_store.specs.Printed.{PrintsRefusal}
@@ -17,32 +15,24 @@ use Rattle.cache_store.specs.Session.{Session}
 use Rattle.cache_store.specs.declared.fault.StoreFault.{StoreFault}
 use Rattle.cache_store.specs.declared.fault.StoreFault.TheVariants as fault
 use Rattle.cache_theory.specs.Command.{Command}
-use Rattle.cache_theory.specs.Crash.{IsCrashSafe, IsSafe}
-use Rattle.cache_theory.specs.History.{settled_at}
+use Rattle.cache_theory.specs.History.{acked, settled_at}
 use Rattle.cache_theory.specs.Machine.{Machine}
-use Rattle.cache_theory.specs.Marks.{all_begun, marks_of}
-use Rattle.cache_theory.specs.Session.{marks_between}
-use Rattle.cache_theory.specs.Step.{after}
-use Rattle.cache_theory.proofs.Crashes.{safe_is_crash_safe}
+use Rattle.cache_theory.specs.Step.{step}
 use Rattle.disk_model.specs.Calls.{Counts, FailsLast, StopsAtFault}
 use Rattle.cache_tool.specs.AnyDisk.{IsRefusalLine}
-use Rattle.cache_tool.specs.Ending.{EndsSession, IsEnded}
-use Rattle.cache_tool.specs.Put.{ArePut, put_commands}
+use Rattle.cache_tool.specs.Beginning.{Begins}
+use Rattle.cache_tool.specs.Ending.{EndsSession}
+use Rattle.cache_tool.specs.Put.{ArePut}
 use Rattle.cache_tool.specs.Put.ArePut.{Broken, Whole}
-use Rattle.cache_tool.specs.PutProgress.{PutIsPerformed, all_unanswered}
-use Rattle.cache_tool.specs.Right.{ComesRight, LeadTo}
+use Rattle.cache_tool.specs.PutProgress.{PutIsPerformed}
 use Rattle.cache_tool.specs.Statuses.{IsAnswer, IsClosing, status_in}
-use Rattle.cache_tool.specs.Verbs.{PrintsLast}
+use Rattle.cache_tool.specs.Verbs.{LeavesDisk, PrintsLast, all_begun_none_acked}
 use Rattle.cache_tool.specs.World.{Output, Supply}
-use Rattle.cache_tool.proofs.Begun.{all_begin_keep}
-use Rattle.cache_tool.proofs.PutWhole.{fault_is_none, not_closing, some_body}
-use Rattle.cache_tool.proofs.RightLaws.{opened_right}
-use Rattle.cache_tool.proofs.StayingLaws.{StaysWhole, stays_whole}
-use Rattle.cache_tool.proofs.StatusLaws.{EndsAs, answer_closes, closes_or_not, closing_same}
+use Rattle.cache_tool.proofs.SessionEnds.{begun_leave, leaves_at}
+use Rattle.cache_tool.proofs.StatusLaws.{EndsAs, answer_closes, closing_same}
 use Rattle.disk_model.specs.Account.{Ending}
-use Rattle.disk_model.specs.Sound.{IsQuiet}
-use Rattle.disk_model.specs.State.{State, standing}
-use Rattle.index_theory.specs.Honest.{Honest, LeavesHonest}
+use Rattle.disk_model.specs.State.{State}
+use Rattle.index_theory.specs.Honest.{LeavesHonest}
 
 -- what was printed, where an answer was to be
 pub record Printed (ended final : Status) (before now : Option (List ℕ)) (said : List ℕ) : Type 0 where
@@ -74,85 +64,21 @@ are_put_at : (m : Machine) (key : List ℕ) (from to : Supply) (came final : Sta
 are_put_at m key from to came final cs answers (Whole body gives is) = Whole body gives is
 are_put_at m key from to came final cs answers (Broken body gives other is) = Broken body gives (λ answer. other (answers answer)) is
 
--- all commands may have begun, and none is acknowledged
-marks_begun : (m : Machine) (cs : List Command) → all_begun m cs (marks_of m) ≡ marks_between m cs 0 (length cs)
-marks_begun m cs = ap (λ l. all_begun m l (marks_of m)) (sym (take_all (length cs) cs (omega arith)))
-
-crash_safe : (t : State) (m : Machine) (cs : List Command) → IsSafe t (all_begun m cs (marks_of m)) → IsCrashSafe t (marks_between m cs 0 (length cs))
-crash_safe t m cs safe = subst (IsCrashSafe t) (marks_begun m cs) (safe_is_crash_safe t (all_begun m cs (marks_of m)) safe)
-
--- the store did not open
-pub not_opened : {faults : ℕ} (m : Machine) (key : List ℕ) (from to : Supply) (f : StoreFault) (before : Output) (t : State) → f ≢ fault.Sink → to.faults ≡ from.faults → IsSome from.left
-    → (IsQuiet before.disk → IsSafe t (marks_of m)) → OpensHonestly before.disk t
-    → (cs : List Command) × (ArePut m key from to (status_in (Err f)) cs × PrintsLast m cs (status_in (Err f)) before (record before { disk = t; disk_faults = faults }))
-not_opened m key from to f before t other calm some safe images =
-    let body = some_body from to calm some in (
-      put_commands m key body.0,
-      (
-        Whole body.0 body.1 refl,
-        record {
-          answer = λ answer. absurd (fault_is_none f answer);
-          text = record {
-            printed = λ answer. absurd (fault_is_none f answer);
-            part = none_printed before.taken _;
-            cut = λ sink. absurd (sink_is f other sink);
-          };
-          silent = λ source. Keeps-refl before.taken;
-          leaves = record {
-            shut = λ closing. absurd (not_closing f other closing);
-            honest = λ closing right. absurd (not_closing f other closing);
-            crash = λ quiet. crash_safe t m (put_commands m key body.0) (all_begin_keep t m (put_commands m key body.0) (marks_of m) (safe quiet));
-            images = images;
-            journal = λ closing over. absurd (not_closing f other closing);
-            index = λ closing. absurd (not_closing f other closing);
-          };
-        },
-      ),
-    )
-  where
-    sink_is : (g : StoreFault) → g ≢ fault.Sink → status_in (Err g) ≢ status.Sink
-    sink_is fault.Memory o e = absurd (cc)
-    sink_is fault.Disk o e = absurd (cc)
-    sink_is fault.Sink o e = o refl
-
-module _ {moment : ℕ} (m : Machine) (key : List ℕ) (from to : Supply) (came ended : Status) (before : Output) (first last : Session) (t : State) (said : List ℕ)
-    (opens : Opens moment before.disk first) (is_start : StartsOn moment before.disk m) (based : OpensInUse before.disk first.open_store.index.map first.disk) (put : PutIsPerformed key (settled_at m) from to came first last said) (ends : EndsSession ended last t) (same : EndsAs ended came) where
-  -- the commands that were performed, where the store was closed
-  led : IsClosing came → LeadTo put.commands first m last (all_unanswered put.commands (settled_at m))
-  led closing = put.stands closing
-
-  closed : IsClosing came → IsEnded ended (all_unanswered put.commands (settled_at m)) last t
-  closed closing = ends.each (all_unanswered put.commands (settled_at m)) (led closing).keeps
-
-  shut : IsClosing ended → IsShut t (after m put.commands)
-  shut closing = (closed (subst IsClosing (closing_same ended came same closing) closing)).shut closing
-
-  honest : IsClosing ended → ComesRight before.disk put.commands → IsHonest t (after m put.commands)
-  honest closing right =
-      let as_came : IsClosing came = subst IsClosing (closing_same ended came same closing) closing in
-      (closed as_came).honest closing ((led as_came).tells (opened_right opens is_start put.commands right))
-
-  images : IsClosing came → Honest (standing before.disk) → LeavesHonest t
-  images closing honest = (closed closing).images ((led closing).tells (inl (opens.tells m is_start honest)))
-
-  journal : IsClosing ended → (after m put.commands).rest ≡ [] → HasShortJournal (standing t)
-  journal closing = (closed (subst IsClosing (closing_same ended came same closing) closing)).journal closing
-
-  in_use : StaysWhole ended m put.commands before.disk t
-  in_use closing =
-      let as_came : IsClosing came = subst IsClosing (closing_same ended came same closing) closing in
-      stays_whole before.disk t m first last put.commands (all_unanswered put.commands (settled_at m)) ended opens is_start based (led as_came) (closed as_came) refl closing
+module _ {moment : ℕ} (key : List ℕ) (from to : Supply) (came ended : Status) (before : Output) (mid last : Session) (t : State) (said : List ℕ) (begins : Begins moment before.disk mid) (m : Machine) (is_start : StartsOn moment before.disk m)
+    (put : PutIsPerformed key (acked (begins.resumed m is_start).done (settled_at m)) from to came mid last said) (ends : EndsSession ended last t) (same : EndsAs ended came) (kept : LeavesHonest last.disk) (dropped : ¬ (IsClosing came) → t ≡ last.disk) where
+  -- what the session left
+  left : LeavesDisk m (all_begun_none_acked m (begins.resumed m is_start).done put.commands) ended before.disk t
+  left = begun_leave before.disk mid begins m is_start last t ended ends put.commands came same dropped kept put.safe put.stands
 
   -- an answer is printed
   pub answered : {faults : ℕ} (final : Status) (taken : Option (List ℕ)) → IsAnswer ended → Printed ended final before.taken taken said
-      → (cs : List Command) × (ArePut m key from to final cs × PrintsLast m cs final before (record { taken = taken; disk = t; disk_faults = faults }))
+      → (cs : List Command) × (ArePut (step m (begins.resumed m is_start).done).next key from to final cs × PrintsLast m (begins.resumed m is_start).done cs final before (record { taken = taken; disk = t; disk_faults = faults }))
   answered final taken answer printed =
       let is : ended ≡ came = closing_same ended came same (answer_closes ended answer) in
-      let closes : IsClosing came = subst IsClosing is (answer_closes ended answer) in
       let reply = put.last (subst IsAnswer is answer) in (
         put.commands,
         (
-          are_put_at m key from to came final put.commands (λ a. subst IsAnswer is answer) put.are_put,
+          are_put_at (step m (begins.resumed m is_start).done).next key from to came final put.commands (λ a. subst IsAnswer is answer) put.are_put,
           record {
             answer = λ a. printed_same ended final a printed.same ∙ is ∙ reply.status;
             text = record {
@@ -161,25 +87,18 @@ module _ {moment : ℕ} (m : Machine) (key : List ℕ) (from to : Supply) (came 
               cut = λ sink. subst (IsCut before.taken taken) reply.replied (printed.cut sink);
             };
             silent = λ source. absurd (never_source ended final answer printed.same source);
-            leaves = record {
-              shut = λ closing. shut (answer_closes ended answer);
-              honest = λ closing right. honest (answer_closes ended answer) right;
-              crash = λ quiet. crash_safe t m put.commands (closed closes).safe;
-              images = λ quiet honest. images closes honest;
-              journal = λ closing. journal (answer_closes ended answer);
-              index = λ closing. in_use (answer_closes ended answer);
-            };
+            leaves = leaves_at m (all_begun_none_acked m (begins.resumed m is_start).done put.commands) ended final before.disk t (λ closing. answer_closes ended answer) left;
           },
         ),
       )
 
   -- none is
-  pub not_answered : {faults : ℕ} → ¬ (IsAnswer ended) → ended ≢ status.Sink → LeavesHonest last.disk → (¬ (IsClosing came) → t ≡ last.disk)
-      → (cs : List Command) × (ArePut m key from to ended cs × PrintsLast m cs ended before (record before { disk = t; disk_faults = faults }))
-  not_answered other no_sink kept dropped = (
+  pub not_answered : {faults : ℕ} → ¬ (IsAnswer ended) → ended ≢ status.Sink
+      → (cs : List Command) × (ArePut (step m (begins.resumed m is_start).done).next key from to ended cs × PrintsLast m (begins.resumed m is_start).done cs ended before (record before { disk = t; disk_faults = faults }))
+  not_answered other no_sink = (
     put.commands,
     (
-      are_put_at m key from to came ended put.commands (λ a. absurd (other a)) put.are_put,
+      are_put_at (step m (begins.resumed m is_start).done).next key from to came ended put.commands (λ a. absurd (other a)) put.are_put,
       record {
         answer = λ a. absurd (other a);
         text = record {
@@ -188,29 +107,10 @@ module _ {moment : ℕ} (m : Machine) (key : List ℕ) (from to : Supply) (came 
           cut = λ sink. absurd (no_sink sink);
         };
         silent = λ source. Keeps-refl before.taken;
-        leaves = record {
-          shut = shut;
-          honest = honest;
-          crash = λ quiet. crash_safe t m put.commands safe;
-          images = λ quiet honest. left_honest honest;
-          journal = journal;
-          index = in_use;
-        };
+        leaves = left;
       },
     ),
   )
-    where
-      safe : IsSafe t (all_begun m put.commands (marks_of m))
-      safe = elim (closes_or_not came) [
-        | inl closing ↦ (closed closing).safe
-        | inr open_still ↦ subst (λ x. IsSafe x (all_begun m put.commands (marks_of m))) (sym (dropped open_still)) put.safe
-      ]
-
-      left_honest : Honest (standing before.disk) → LeavesHonest t
-      left_honest honest = elim (closes_or_not came) [
-        | inl closing ↦ images closing honest
-        | inr open_still ↦ subst LeavesHonest (sym (dropped open_still)) kept
-      ]
 
 -- what a put comes to is never a fault of the sink
 pub never_sink : (came : Result Status StoreFault) → IfOk came (λ s. IsAnswer s ⊎ (s ≡ status.Source)) → came ≢ Err fault.Sink → status_in came ≢ status.Sink

@@ -7,10 +7,12 @@ use Rattle.cache_store.specs.InUse.{HoldsBase, past_header}
 use Rattle.cache_store.specs.Open.{IsOpen, KeepsTo, Opens, StartsOn, Tells}
 use Rattle.cache_store.specs.Performing.{ComesToTell}
 use Rattle.cache_store.specs.Session.{Session}
+use Rattle.cache_store.proofs.PerformWhole.{begun_stands}
 use Rattle.cache_store.proofs.Represented.{keeps_marked, keeps_to, represents}
 use Rattle.cache_theory.specs.Command.{Command}
 use Rattle.cache_theory.specs.Command.Command.{Rebuild}
-use Rattle.cache_theory.specs.History.{History}
+use Rattle.cache_theory.specs.Crash.{IsSafe}
+use Rattle.cache_theory.specs.History.{History, acked, begun, unanswered}
 use Rattle.cache_theory.specs.Machine.{Machine}
 use Rattle.cache_theory.specs.Step.{after}
 use Rattle.cache_tool.specs.Right.{AreRight, ComesRight, LeadTo, has_rebuild, is_rebuild}
@@ -53,6 +55,16 @@ leads_one c before m now h keeps tells stays = record {
   tells = λ right. tells (one_is_right c before m right);
   in_use = λ records told holds over. stays.in_use records told holds over.0;
   unended = λ spared. stays.unended spared.0;
+}
+
+-- one that is acknowledged has begun for whoever saw no reply
+pub leads_begun : (c : Command) (h : History) (before now : Session) → KeepsTo before h → IsSafe now.disk (begun c h).marks → LeadTo (c ∷ []) before h.machine now (acked c h)
+    → LeadTo (c ∷ []) before h.machine now (unanswered c h)
+leads_begun c h before now keeps safe leads = record {
+  keeps = begun_stands c h before now keeps safe leads.keeps;
+  tells = leads.tells;
+  in_use = leads.in_use;
+  unended = leads.unended;
 }
 
 -- some, and then more

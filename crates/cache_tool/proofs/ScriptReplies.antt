@@ -10,7 +10,7 @@ use Rattle.cache_theory.specs.Faulted.{AreFaults, fault_line, replies_but, unfau
 use Rattle.cache_theory.specs.Machine.{Machine}
 use Rattle.cache_theory.specs.Session.{BeginsWith}
 use Rattle.cache_theory.specs.Step.{after, step}
-use Rattle.cache_theory.specs.Text.{ScriptSpells, replies_text, reply_text}
+use Rattle.cache_theory.specs.Text.{AreSpoken, ScriptSpells, replies_text, reply_text}
 use Rattle.cache_theory.proofs.FaultedCuts.{cut_is_told, fault_cut_is_told, front_is_told, whole_is_told}
 use Rattle.cache_theory.proofs.FaultedOn.{faults_are_in_front}
 use Rattle.cache_tool.specs.Script.{AreTaken, bad_line}
@@ -32,11 +32,11 @@ begins_cut text first part rest n is = (
 -- of the commands `cs ++ rest` what was done are `ds ++ more`, of which the first are answered
 module _ (m : Machine) (bytes : List ℕ) (before now : Progress) where
   -- the answers to the first commands
-  pub tells_front : (cs rest ds more : List Command) (faults : List ℕ) (ended : Status) → length ds ≡ length cs → length rest ≡ length more → AreFaults (length ds) faults
+  pub tells_front : (cs rest ds more : List Command) (faults : List ℕ) (ended : Status) → AreSpoken (ds ++ more) → length ds ≡ length cs → length rest ≡ length more → AreFaults (length ds) faults
       → Appends before.taken now.taken (replies_but m ds faults)
       → (ended ≡ status.Done → rest ≡ []) → ended ≢ status.Script → (ended ≡ status.Source → AreTaken before.source.left now.source.left cs)
       → TellsAcked m bytes (cs ++ rest) (ds ++ more) ended (length ds) faults faults before now
-  tells_front cs rest ds more faults ended same others numbers out all unnamed taken =
+  tells_front cs rest ds more faults ended spoken same others numbers out all unnamed taken =
       let goes = faults_are_in_front m ds more faults numbers in
       let begins : BeginsWith (replies_but m (ds ++ more) faults) (replies_but m ds faults) = (replies_text (after m (unfaulted faults ds)) more, goes.replies) in
       record {
@@ -44,7 +44,7 @@ module _ (m : Machine) (bytes : List ℕ) (before now : Progress) where
         replies = record {
           out = replies_but m ds faults;
           printed = out;
-          told = front_is_told m ds more faults numbers;
+          told = front_is_told m ds more faults spoken numbers;
           front = begins_more (replies_but m (ds ++ more) faults) (bad_line (length (cs ++ rest) + 1)) (replies_but m ds faults) begins;
           no_line = λ whole. begins;
           all = λ e. ap (λ l. replies_but m l faults) (sym (ap (λ l. ds ++ l) (none_done (all e)) ∙ append-nil ds));
@@ -65,18 +65,18 @@ module _ (m : Machine) (bytes : List ℕ) (before now : Progress) where
       all_acked (inr script) = absurd (unnamed script)
 
   -- the answers to all commands went out, and of the line that names a bad one so many bytes
-  pub tells_line : (cs ds : List Command) (faults : List ℕ) (n : ℕ) (ended : Status) → length ds ≡ length cs → AreFaults (length ds) faults
+  pub tells_line : (cs ds : List Command) (faults : List ℕ) (n : ℕ) (ended : Status) → AreSpoken ds → length ds ≡ length cs → AreFaults (length ds) faults
       → Appends before.taken now.taken (replies_but m ds faults ++ take n (bad_line (length cs + 1)))
       → (ended ≡ status.Script → take n (bad_line (length cs + 1)) ≡ bad_line (length cs + 1))
       → ended ≢ status.Done → ended ≢ status.Source → ¬ (ScriptSpells bytes cs) → TellsAcked m bytes cs ds ended (length ds) faults faults before now
-  tells_line cs ds faults n ended same numbers out all undone unfailed unspelled =
+  tells_line cs ds faults n ended spoken same numbers out all undone unfailed unspelled =
       let text : List ℕ = bad_line (length cs + 1) in
       record {
         all = λ e. same;
         replies = record {
           out = replies_but m ds faults ++ take n text;
           printed = out;
-          told = whole_is_told m ds faults (take n text) numbers;
+          told = whole_is_told m ds faults (take n text) spoken numbers;
           front = (drop n text, ap (λ l. replies_but m ds faults ++ l) (sym (take-append-drop n text)) ∙ sym (append_assoc (replies_but m ds faults) (take n text) (drop n text)));
           no_line = λ whole. absurd (unspelled whole);
           all = λ e. absurd (undone e);
@@ -87,10 +87,10 @@ module _ (m : Machine) (bytes : List ℕ) (before now : Progress) where
       }
 
   -- of the reply to the next command a part
-  pub tells_cut : (cs ds more : List Command) (d : Command) (faults : List ℕ) (ended : Status) → AreFaults (length ds) faults
+  pub tells_cut : (cs ds more : List Command) (d : Command) (faults : List ℕ) (ended : Status) → AreSpoken (ds ++ d ∷ more) → AreFaults (length ds) faults
       → IsCutIn ds faults d m before now
       → ended ≢ status.Done → ended ≢ status.Script → ended ≢ status.Source → TellsAcked m bytes cs (ds ++ d ∷ more) ended (length ds) faults faults before now
-  tells_cut cs ds more d faults ended numbers is undone unnamed unfailed =
+  tells_cut cs ds more d faults ended spoken numbers is undone unnamed unfailed =
       let mid : Machine = after m (unfaulted faults ds) in
       let text : List ℕ = reply_text (step mid d).reply in
       let goes = faults_are_in_front m ds (d ∷ more) faults numbers in
@@ -103,7 +103,7 @@ module _ (m : Machine) (bytes : List ℕ) (before now : Progress) where
             record {
               out = replies_but m ds faults ++ take n text;
               printed = is.out;
-              told = cut_is_told m ds more d faults n numbers is.short;
+              told = cut_is_told m ds more d faults n spoken numbers is.short;
               front = begins_more (replies_but m (ds ++ d ∷ more) faults) (bad_line (length cs + 1)) (replies_but m ds faults ++ take n text) begins;
               no_line = λ whole. begins;
               all = λ e. absurd (undone e);
@@ -114,11 +114,11 @@ module _ (m : Machine) (bytes : List ℕ) (before now : Progress) where
       }
 
   -- of the line with which the next command was to be answered a part
-  pub tells_fault_cut : (cs ds more : List Command) (d : Command) (faults : List ℕ) (ended : Status) → AreFaults (length ds) faults
+  pub tells_fault_cut : (cs ds more : List Command) (d : Command) (faults : List ℕ) (ended : Status) → AreSpoken (ds ++ d ∷ more) → AreFaults (length ds) faults
       → (n : ℕ) × ((n < length fault_line) × Appends before.taken now.taken (replies_but m ds faults ++ take n fault_line))
       → ended ≢ status.Done → ended ≢ status.Script → ended ≢ status.Source
       → TellsAcked m bytes cs (ds ++ d ∷ more) ended (length ds) faults (with_next (length ds) faults) before now
-  tells_fault_cut cs ds more d faults ended numbers is undone unnamed unfailed =
+  tells_fault_cut cs ds more d faults ended spoken numbers is undone unnamed unfailed =
       let last : List ℕ = with_next (length ds) faults in
       let text : List ℕ = replies_but m (ds ++ d ∷ more) last in
       record {
@@ -130,7 +130,7 @@ module _ (m : Machine) (bytes : List ℕ) (before now : Progress) where
             record {
               out = replies_but m ds faults ++ take n fault_line;
               printed = is.1.1;
-              told = fault_cut_is_told m ds more d faults n numbers is.1.0;
+              told = fault_cut_is_told m ds more d faults n spoken numbers is.1.0;
               front = begins_more text (bad_line (length cs + 1)) (replies_but m ds faults ++ take n fault_line) begins;
               no_line = λ whole. begins;
               all = λ e. absurd (undone e);

@@ -23,7 +23,8 @@ use Rattle.cache_theory.specs.Faulted.{AreFaults, fault_line, replies_but, unfau
 use Rattle.cache_theory.specs.History.{History, acked, unanswered}
 use Rattle.cache_theory.specs.Machine.{Machine}
 use Rattle.cache_theory.specs.Step.{after, step}
-use Rattle.cache_theory.specs.Text.{reply_text, script_bytes}
+use Rattle.cache_theory.specs.Text.{IsSpoken, reply_text, script_bytes}
+use Rattle.cache_theory.proofs.RepliesApart.{step_spoken}
 use Rattle.cache_theory.proofs.FaultedOn.{faults_are_in_front, faults_are_within, next_may_fault}
 use Rattle.cache_tool.specs.Right.{LeadTo, has_rebuild}
 use Rattle.cache_tool.specs.ScriptProgress.{AreRead, ArePerformed, DoneForKept, EndsScript, FailsAfter, FailsInLine, FaultsAfter, HasPerformed, IsCutOff, PerformsAll, PerformsNext, all_answered}
@@ -34,7 +35,7 @@ use Rattle.cache_tool.specs.declared.script.Ended.{Ended}
 use Rattle.cache_tool.specs.declared.script.Ended.TheVariants as ended
 use Rattle.cache_tool.proofs.Answering.{AnswersByFault, AnswersByReply, AnswersNext}
 use Rattle.cache_tool.proofs.DoneKept.{done_kept_but, done_kept_on}
-use Rattle.cache_tool.proofs.DoneLaws.{done_rebuild, done_right, done_where}
+use Rattle.cache_tool.proofs.DoneLaws.{done_rebuild, done_right, done_spoken, done_where, script_is_spoken, spoken_parts}
 use Rattle.cache_tool.proofs.FaultedParts.{next_numbers, one_longer}
 use Rattle.cache_tool.proofs.Moments.{with_source}
 use Rattle.cache_tool.proofs.RightLaws.{leads_none, leads_on, leads_one, leads_still}
@@ -58,7 +59,7 @@ module _ (before : Progress) where
   none_performed = record {
     each = λ h keeps. record {
       done = [];
-      is_done = record { as_many = refl; are_done = tt };
+      is_done = record { as_many = refl; spoken = λ spoken. spoken; are_done = tt };
       performed = record { stands = leads_none before.session h keeps; out = Appends-nil before.taken };
     };
   }
@@ -102,12 +103,12 @@ module _ (before : Progress) where
         }
 
     -- it failed
-    broke_off : (f : StoreFault) → PerformsAndKeeps d (all_answered kept h) (Err f) mid.session now.session mid.taken now.taken → (f ≡ fault.Sink → StaysOnce d mid.session (after h.machine kept) now.session)
+    broke_off : (f : StoreFault) → IsSpoken d → PerformsAndKeeps d (all_answered kept h) (Err f) mid.session now.session mid.taken now.taken → (f ≡ fault.Sink → StaysOnce d mid.session (after h.machine kept) now.session)
         → IsCutOff ds faults d f h before now
-    broke_off f next stays = record {
+    broke_off f spoken next stays = record {
       safe = next.keeps.safe;
       cut =
-          let tail = next.performs.cut in
+          let tail = next.performs.cut (step_spoken (after h.machine kept) d spoken) in
           record { cut = tail.0; short = tail.1.0; out = one_out (take tail.0 (reply_text (step (after h.machine kept) d).reply)) tail.1.1 };
       effect = λ sink. one_leads (unanswered d (all_answered kept h)) (next.keeps.unanswered sink) (next.performs.tells sink) (stays sink);
     }
@@ -152,8 +153,8 @@ module _ (before : Progress) where
     }
 
     -- it failed
-    one_failed : (f : StoreFault) → PerformsFor c (Err f) mid.session now.session mid.taken now.taken → StaysFor {T = Verdict} c (Err f) mid.session now.session → FailsAfter cs faults c f before now
-    one_failed f next stays = record {
+    one_failed : (f : StoreFault) → IsSpoken c → PerformsFor c (Err f) mid.session now.session mid.taken now.taken → StaysFor {T = Verdict} c (Err f) mid.session now.session → FailsAfter cs faults c f before now
+    one_failed f spoken next stays = record {
       each = λ h keeps.
           let some = performs.each h keeps in
           let stands = some.performed.stands.keeps in
@@ -167,7 +168,7 @@ module _ (before : Progress) where
             last = does.0;
             is_done = one_done mid now some.done does.0 faults numbers_done h some.performed cs c some.is_done did;
             as_long = some.is_done.as_many;
-            cut_off = broke_off mid now some.done does.0 faults numbers_done h some.performed f does.1.1 stays_once;
+            cut_off = broke_off mid now some.done does.0 faults numbers_done h some.performed f (done_spoken (Tells mid.session at) c at does.0 did spoken) does.1.1 stays_once;
           };
     }
 
@@ -308,7 +309,8 @@ module _ (tells : Bool) (r q : Reader) (mid now : Progress) (c : Command) (gives
       failed : (before : Progress) (goes : HasPerformed tells r before mid) → AnswersByReply tells c (Err f) (sitting_of mid) (sitting_of now) ⊎ AnswersByFault tells (Err f) (sitting_of mid) (sitting_of now)
           → (IsTrue tells → FailsAfter goes.commands goes.faults c f before now)
           ⊎ (FailsInLine f goes.faults before now × (IsTrue tells → FaultsAfter goes.commands goes.faults before now))
-      failed before goes (inl reply) = inl (λ told. one_failed before mid now goes.commands c goes.faults goes.counts.numbers (goes.performs told) f (reply.performs told) (reply.stays told))
+      failed before goes (inl reply) = inl (λ told. one_failed before mid now goes.commands c goes.faults goes.counts.numbers (goes.performs told) f
+          (spoken_parts goes.commands (c ∷ []) (script_is_spoken (goes.commands ++ c ∷ []) (so_read before goes).commands)).1.0 (reply.performs told) (reply.stays told))
       failed before goes (inr line) = inr (
         record { no_disk = λ e. line.no_disk (ap (λ x. Err x) e); rose = once_more before goes line.rose },
         λ told. one_faulted_cut before mid now goes.commands c goes.faults goes.counts.numbers (goes.performs told) (line.stays told) line.base line.cut,

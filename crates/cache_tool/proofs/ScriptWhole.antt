@@ -12,18 +12,17 @@ use Rattle.cache_store.specs.declared.fault.StoreFault.{StoreFault}
 use Rattle.cache_store.specs.declared.fault.StoreFault.TheVariants as fault
 use Rattle.cache_theory.specs.Command.{Command}
 use Rattle.cache_theory.specs.Faulted.{AreFaults, replies_but, with_next}
-use Rattle.cache_theory.specs.History.{settled_at}
-use Rattle.cache_theory.specs.Machine.{Machine}
-use Rattle.cache_theory.specs.Text.{CommandsIn, ScriptSpells, SpellsFront, command_bytes, command_data, command_words, script_bytes, spaced}
+use Rattle.cache_theory.specs.History.{History}
+use Rattle.cache_theory.specs.Text.{AreSpoken, CommandsIn, ScriptSpells, SpellsFront, command_bytes, command_data, command_words, script_bytes, spaced}
 use Rattle.cache_theory.proofs.FaultedOn.{faults_are_within}
 use Rattle.cache_tool.specs.Script.{AreTaken, bad_line, performed}
-use Rattle.cache_tool.specs.ScriptProgress.{AreCounted, DoneForKept, FailsInLine, FailsMidway, LeavesScript, PerformsScript, PerformsToEnd, ScriptIsRun, SomeCutOff, SomeFaultCut, SomePerformed}
+use Rattle.cache_tool.specs.ScriptProgress.{AreCounted, DoneForKept, FailsInLine, FailsMidway, LeavesScript, PerformsScript, PerformsToEnd, ScriptIsRun, SomeCutOff, SomeFaultCut, SomePerformed, one_begun_on}
 use Rattle.cache_tool.specs.Statuses.{status_in}
 use Rattle.cache_tool.specs.Tally.{RoseBy}
-use Rattle.cache_tool.specs.Verbs.{one_begun_after}
 use Rattle.cache_tool.specs.World.{Progress}
 use Rattle.cache_tool.specs.declared.script.Ended.TheVariants as ended
 use Rattle.cache_tool.proofs.DoneKept.{done_kept_but, done_kept_rest}
+use Rattle.cache_tool.proofs.DoneLaws.{script_is_spoken}
 use Rattle.cache_tool.proofs.FaultedParts.{next_numbers}
 use Rattle.cache_tool.proofs.Moments.{with_left, with_taken}
 use Rattle.cache_tool.proofs.RightLaws.{leads_none}
@@ -85,40 +84,40 @@ none_more fault.Memory n = refl
 none_more fault.Disk n = refl
 none_more fault.Sink n = omega arith
 
--- ---- for a machine
+-- ---- for a history
 
-module _ (bytes : List ℕ) (m : Machine) (start : Progress) where
+module _ (bytes : List ℕ) (h : History) (start : Progress) where
   -- the source had these bytes
   abbrev before : Progress
   before = with_left start (Some bytes)
 
   -- the first commands were performed, and no more
-  ran_front : (now : Progress) (cs read rest : List Command) (faults : List ℕ) (came : Status) → cs ≡ read ++ rest → AreCounted (length read) faults before now → SomePerformed read faults (settled_at m) before now
+  ran_front : (now : Progress) (cs read rest : List Command) (faults : List ℕ) (came : Status) → cs ≡ read ++ rest → AreSpoken cs → AreCounted (length read) faults before now → SomePerformed read faults h before now
       → (came ≡ status.Done → rest ≡ []) → came ≢ status.Script → came ≢ status.Disk
-      → (came ≡ status.Source → AreTaken (Some bytes) now.source.left read) → ((a n : ℕ) → performed came a n ≡ a) → ScriptIsRun m bytes cs came before now
-  ran_front now cs read rest faults came e counts some all unnamed sound taken same =
+      → (came ≡ status.Source → AreTaken (Some bytes) now.source.left read) → ((a n : ℕ) → performed came a n ≡ a) → ScriptIsRun h bytes cs came before now
+  ran_front now cs read rest faults came e spoken counts some all unnamed sound taken same =
       let numbers = subst (λ n. AreFaults n faults) (sym some.is_done.as_many) counts.numbers in
-      let others = done_kept_rest before.session m read some.done faults some.is_done numbers rest in
-      subst (λ l. ScriptIsRun m bytes l came before now) (sym e) (record {
+      let others = done_kept_rest before.session h.machine read some.done faults some.is_done numbers rest in
+      subst (λ l. ScriptIsRun h bytes l came before now) (sym e) (record {
         done = some.done ++ others.0;
         acked = length some.done;
         faults = faults;
         with_last = faults;
         counts = record { numbers = numbers; counted = counts.counted; last = inl refl; disk = λ is. absurd (sound is) };
         is_done = others.1.0;
-        tells = tells_front m bytes before now read rest some.done others.0 faults came some.is_done.as_many others.1.1 numbers some.performed.out all unnamed taken;
-        leaves = keeps_front m some.done others.0 faults came before.session now.session numbers some.performed.stands (same (length some.done) (length (some.done ++ others.0)));
+        tells = tells_front h.machine bytes before now read rest some.done others.0 faults came (others.1.0.spoken (subst AreSpoken e spoken)) some.is_done.as_many others.1.1 numbers some.performed.out all unnamed taken;
+        leaves = keeps_front h some.done others.0 faults came before.session now.session numbers some.performed.stands (same (length some.done) (length (some.done ++ others.0)));
       })
 
   -- all were performed, and a part of the line that names a bad one went out
-  ran_line : (mid : Progress) (taken : Option (List ℕ)) (cs read : List Command) (faults : List ℕ) (n : ℕ) (came : Status) → cs ≡ read → AreCounted (length read) faults before mid → SomePerformed read faults (settled_at m) before mid
+  ran_line : (mid : Progress) (taken : Option (List ℕ)) (cs read : List Command) (faults : List ℕ) (n : ℕ) (came : Status) → cs ≡ read → AreSpoken cs → AreCounted (length read) faults before mid → SomePerformed read faults h before mid
       → Appends mid.taken taken (take n (bad_line (length read + 1)))
       → (came ≡ status.Script → take n (bad_line (length read + 1)) ≡ bad_line (length read + 1)) → came ≢ status.Done → came ≢ status.Source → came ≢ status.Disk → ¬ (ScriptSpells bytes read)
-      → ((a : ℕ) → performed came a a ≡ a) → ScriptIsRun m bytes cs came before (with_taken mid taken)
-  ran_line mid taken cs read faults n came e counts some part all undone unfailed sound unspelled same =
+      → ((a : ℕ) → performed came a a ≡ a) → ScriptIsRun h bytes cs came before (with_taken mid taken)
+  ran_line mid taken cs read faults n came e spoken counts some part all undone unfailed sound unspelled same =
       let ds : List Command = some.done in
       let numbers = subst (λ n. AreFaults n faults) (sym some.is_done.as_many) counts.numbers in
-      subst (λ l. ScriptIsRun m bytes l came before (with_taken mid taken)) (sym e) (record {
+      subst (λ l. ScriptIsRun h bytes l came before (with_taken mid taken)) (sym e) (record {
         done = ds;
         acked = length ds;
         faults = faults;
@@ -126,51 +125,51 @@ module _ (bytes : List ℕ) (m : Machine) (start : Progress) where
         counts = record { numbers = numbers; counted = counts.counted; last = inl refl; disk = λ is. absurd (sound is) };
         is_done = some.is_done;
         tells =
-            tells_line m bytes before (with_taken mid taken) read ds faults n came some.is_done.as_many numbers
-            (Appends-trans before.taken mid.taken taken (replies_but m ds faults) (take n (bad_line (length read + 1))) some.performed.out part) all undone unfailed unspelled;
+            tells_line h.machine bytes before (with_taken mid taken) read ds faults n came (some.is_done.spoken (subst AreSpoken e spoken)) some.is_done.as_many numbers
+            (Appends-trans before.taken mid.taken taken (replies_but h.machine ds faults) (take n (bad_line (length read + 1))) some.performed.out part) all undone unfailed unspelled;
         leaves =
-            subst (λ l. LeavesScript m (one_begun_after m (length ds) faults faults came l) came before.session mid.session) (append-nil ds)
-            (keeps_front m ds [] faults came before.session mid.session numbers some.performed.stands (ap (λ l. performed came (length ds) (length l)) (append-nil ds) ∙ same (length ds)));
+            subst (λ l. LeavesScript h.machine (one_begun_on h (length ds) faults faults came l) came before.session mid.session) (append-nil ds)
+            (keeps_front h ds [] faults came before.session mid.session numbers some.performed.stands (ap (λ l. performed came (length ds) (length l)) (append-nil ds) ∙ same (length ds)));
       })
 
-  module _ (now : Progress) (cs read rest : List Command) (c : Command) (faults : List ℕ) (f : StoreFault) (e : cs ≡ (read ++ c ∷ []) ++ rest) (counts : AreCounted (length read) faults before now) where
+  module _ (now : Progress) (cs read rest : List Command) (c : Command) (faults : List ℕ) (f : StoreFault) (e : cs ≡ (read ++ c ∷ []) ++ rest) (spoken : AreSpoken cs) (counts : AreCounted (length read) faults before now) where
     -- one more was begun
-    ran_cut : (f ≡ fault.Disk → RoseBy (suc (length faults)) before.disk_faults now.disk_faults) → SomeCutOff read faults c f (settled_at m) before now → ScriptIsRun m bytes cs (status_in (Err f)) before now
+    ran_cut : (f ≡ fault.Disk → RoseBy (suc (length faults)) before.disk_faults now.disk_faults) → SomeCutOff read faults c f h before now → ScriptIsRun h bytes cs (status_in (Err f)) before now
     ran_cut disk some =
         let ds : List Command = some.done in
         let d : Command = some.last in
         let all : List Command = (read ++ c ∷ []) ++ rest in
         let numbers = subst (λ n. AreFaults n faults) (sym some.as_long) counts.numbers in
         let numbers_on = faults_are_within (length ds) (length (ds ++ d ∷ [])) faults (omega (arith, length-append ds (d ∷ []))) numbers in
-        let others = done_kept_rest before.session m (read ++ c ∷ []) (ds ++ d ∷ []) faults some.is_done numbers_on rest in
-        subst (λ l. ScriptIsRun m bytes l (status_in (Err f)) before now) (sym e) (record {
+        let others = done_kept_rest before.session h.machine (read ++ c ∷ []) (ds ++ d ∷ []) faults some.is_done numbers_on rest in
+        subst (λ l. ScriptIsRun h bytes l (status_in (Err f)) before now) (sym e) (record {
           done = ds ++ d ∷ others.0;
           acked = length ds;
           faults = faults;
           with_last = faults;
           counts = record { numbers = numbers; counted = counts.counted; last = inl refl; disk = λ is. disk (is_disk f is) };
-          is_done = subst (λ l. DoneForKept before.session m all l faults) (append_assoc ds (d ∷ []) others.0) others.1.0;
-          tells = tells_cut m bytes before now all ds others.0 d faults (status_in (Err f)) numbers some.cut_off.cut (not_done f) (not_script f) (not_source f);
-          leaves = keeps_cut m ds others.0 d faults numbers f before.session now.session some.cut_off.safe some.cut_off.effect;
+          is_done = subst (λ l. DoneForKept before.session h.machine all l faults) (append_assoc ds (d ∷ []) others.0) others.1.0;
+          tells = tells_cut h.machine bytes before now all ds others.0 d faults (status_in (Err f)) (subst AreSpoken (append_assoc ds (d ∷ []) others.0) (others.1.0.spoken (subst AreSpoken e spoken))) numbers some.cut_off.cut (not_done f) (not_script f) (not_source f);
+          leaves = keeps_cut h ds others.0 d faults numbers f before.session now.session some.cut_off.safe some.cut_off.effect;
         })
 
     -- one more was to be answered `fault`
-    ran_fault_cut : FailsInLine f faults before now → SomeFaultCut read faults (settled_at m) before now → ScriptIsRun m bytes cs (status_in (Err f)) before now
+    ran_fault_cut : FailsInLine f faults before now → SomeFaultCut read faults h before now → ScriptIsRun h bytes cs (status_in (Err f)) before now
     ran_fault_cut line some =
         let ds : List Command = some.done in
         let all : List Command = (read ++ c ∷ []) ++ rest in
         let numbers = subst (λ n. AreFaults n faults) (sym some.is_done.as_many) counts.numbers in
         let with_c : List ℕ = with_next (length ds) faults in
-        let others = done_kept_rest before.session m (read ++ c ∷ []) (ds ++ c ∷ []) with_c (done_kept_but before.session m read ds faults some.is_done numbers c) (next_numbers ds c faults numbers) rest in
-        subst (λ l. ScriptIsRun m bytes l (status_in (Err f)) before now) (sym e) (record {
+        let others = done_kept_rest before.session h.machine (read ++ c ∷ []) (ds ++ c ∷ []) with_c (done_kept_but before.session h.machine read ds faults some.is_done numbers c) (next_numbers ds c faults numbers) rest in
+        subst (λ l. ScriptIsRun h bytes l (status_in (Err f)) before now) (sym e) (record {
           done = ds ++ c ∷ others.0;
           acked = length ds;
           faults = faults;
           with_last = with_c;
           counts = record { numbers = numbers; counted = counts.counted; last = inr (refl, line.rose); disk = λ is. absurd (line.no_disk (is_disk f is)) };
-          is_done = subst (λ l. DoneForKept before.session m all l with_c) (append_assoc ds (c ∷ []) others.0) others.1.0;
-          tells = tells_fault_cut m bytes before now all ds others.0 c faults (status_in (Err f)) numbers some.cut (not_done f) (not_script f) (not_source f);
-          leaves = keeps_fault_cut m ds others.0 c faults numbers f before.session now.session some.stands;
+          is_done = subst (λ l. DoneForKept before.session h.machine all l with_c) (append_assoc ds (c ∷ []) others.0) others.1.0;
+          tells = tells_fault_cut h.machine bytes before now all ds others.0 c faults (status_in (Err f)) (subst AreSpoken (append_assoc ds (c ∷ []) others.0) (others.1.0.spoken (subst AreSpoken e spoken))) numbers some.cut (not_done f) (not_script f) (not_source f);
+          leaves = keeps_fault_cut h ds others.0 c faults numbers f before.session now.session some.stands;
         })
 
 -- ---- by how they ended
@@ -183,12 +182,12 @@ ran_nothing (Err f) before is = subst (λ x. PerformsScript (Err x) before befor
     go : (left : Option (List ℕ)) → PerformsScript (Err fault.Memory) (with_left before left) (with_left before left)
     go None = record { each = tt }
     go (Some bytes) = record {
-      each = λ m cs keeps found.
-          ran_front bytes m before (with_left before (Some bytes)) cs [] cs [] status.Memory refl (record { numbers = tt; counted = omega arith })
+      each = λ h cs keeps found.
+          ran_front bytes h before (with_left before (Some bytes)) cs [] cs [] status.Memory refl (script_is_spoken cs found.front.commands) (record { numbers = tt; counted = omega arith })
           (record {
             done = [];
-            is_done = record { as_many = refl; are_done = tt };
-            performed = record { stands = leads_none before.session (settled_at m) keeps; out = Appends-nil before.taken };
+            is_done = record { as_many = refl; spoken = λ spoken. spoken; are_done = tt };
+            performed = record { stands = leads_none before.session h keeps; out = Appends-nil before.taken };
           }) (λ e. absurd (cc e)) (λ e. absurd (cc e)) (λ e. absurd (cc e)) (λ e. absurd (cc e)) (λ a n. refl);
     }
 
@@ -199,10 +198,10 @@ module _ (before : Progress) where
       go : (left : Option (List ℕ)) → PerformsToEnd true ended.Whole (with_left before left) now → PerformsScript (Ok status.Done) (with_left before left) now
       go None p = record { each = tt }
       go (Some bytes) p = record {
-        each = λ m cs keeps found.
+        each = λ h cs keeps found.
             let ds : List Command = p.commands in
-            ran_front bytes m before now cs ds [] p.faults status.Done (commands_are_one bytes cs ds found (whole_is_longest bytes ds p.ends.1) ∙ sym (append-nil ds)) p.counts
-            ((p.performs refl).each (settled_at m) keeps) (λ e. refl) (λ e. absurd (cc e)) (λ e. absurd (cc e)) (λ e. absurd (cc e)) (λ a n. refl);
+            ran_front bytes h before now cs ds [] p.faults status.Done (commands_are_one bytes cs ds found (whole_is_longest bytes ds p.ends.1) ∙ sym (append-nil ds)) (script_is_spoken cs found.front.commands) p.counts
+            ((p.performs refl).each h keeps) (λ e. refl) (λ e. absurd (cc e)) (λ e. absurd (cc e)) (λ e. absurd (cc e)) (λ a n. refl);
       }
 
   pub ran_failed : (now : Progress) → PerformsToEnd true ended.Failed before now → PerformsScript (Ok status.Source) before now
@@ -211,9 +210,9 @@ module _ (before : Progress) where
       go : (left : Option (List ℕ)) → PerformsToEnd true ended.Failed (with_left before left) now → PerformsScript (Ok status.Source) (with_left before left) now
       go None p = record { each = tt }
       go (Some bytes) p = record {
-        each = λ m cs keeps found.
+        each = λ h cs keeps found.
             let first = taken_first bytes now.source.left cs p.commands found p.ends in
-            ran_front bytes m before now cs p.commands first.0 p.faults status.Source first.1 p.counts ((p.performs refl).each (settled_at m) keeps) (λ e. absurd (cc e)) (λ e. absurd (cc e))
+            ran_front bytes h before now cs p.commands first.0 p.faults status.Source first.1 (script_is_spoken cs found.front.commands) p.counts ((p.performs refl).each h keeps) (λ e. absurd (cc e)) (λ e. absurd (cc e))
             (λ e. absurd (cc e)) (λ e. p.ends) (λ a n. refl);
       }
 
@@ -223,11 +222,11 @@ module _ (before : Progress) where
       go : (left : Option (List ℕ)) → PerformsToEnd true (ended.Bad n) (with_left before left) mid → PerformsScript (Ok status.Script) (with_left before left) (with_taken mid taken)
       go None p = record { each = tt }
       go (Some bytes) p = record {
-        each = λ m cs keeps found.
+        each = λ h cs keeps found.
             let ds : List Command = p.commands in
             let text : List ℕ = bad_line (length ds + 1) in
             let whole : take (length text) text ≡ text = take_all (length text) text (omega arith) in
-            ran_line bytes m before mid taken cs ds p.faults (length text) status.Script (commands_are_one bytes cs ds found p.ends.1.0) p.counts ((p.performs refl).each (settled_at m) keeps)
+            ran_line bytes h before mid taken cs ds p.faults (length text) status.Script (commands_are_one bytes cs ds found p.ends.1.0) (script_is_spoken cs found.front.commands) p.counts ((p.performs refl).each h keeps)
             (subst (Appends mid.taken taken) (ap bad_line p.ends.0 ∙ sym whole) said) (λ e. whole) (λ e. absurd (cc e)) (λ e. absurd (cc e)) (λ e. absurd (cc e)) p.ends.1.1 (λ a. refl);
       }
 
@@ -240,9 +239,9 @@ module _ (before : Progress) where
       go : (left : Option (List ℕ)) → PerformsToEnd true (ended.Bad n) (with_left before left) mid → PerformsScript (Err x) (with_left before left) (with_taken mid taken)
       go None p = record { each = tt }
       go (Some bytes) p = record {
-        each = λ m cs keeps found.
+        each = λ h cs keeps found.
             let ds : List Command = p.commands in
-            ran_line bytes m before mid taken cs ds p.faults cut.0 (status_in (Err x)) (commands_are_one bytes cs ds found p.ends.1.0) p.counts ((p.performs refl).each (settled_at m) keeps)
+            ran_line bytes h before mid taken cs ds p.faults cut.0 (status_in (Err x)) (commands_are_one bytes cs ds found p.ends.1.0) (script_is_spoken cs found.front.commands) p.counts ((p.performs refl).each h keeps)
             (subst (λ k. Appends mid.taken taken (take cut.0 (bad_line k))) p.ends.0 cut.1.1) (λ e. absurd (not_script x e)) (not_done x) (not_source x) (λ e. sound (sym is ∙ is_disk x e)) p.ends.1.1 (none_more x);
       }
 
@@ -253,11 +252,11 @@ module _ (before : Progress) where
       go : (left : Option (List ℕ)) → FailsMidway true x (with_left before left) now → PerformsScript (Err x) (with_left before left) now
       go None b = record { each = tt }
       go (Some bytes) b = record {
-        each = λ m cs keeps found.
+        each = λ h cs keeps found.
             let first = front_is_first bytes b.front.0 cs (b.commands ++ b.last ∷ []) found b.front.1 in
             let counts = b.counts in
             elim b.fails [
-              | inl fails ↦ ran_cut bytes m before now cs b.commands first.0 b.last b.faults x first.1 counts b.disk ((fails refl).each (settled_at m) keeps)
-              | inr (line, faults) ↦ ran_fault_cut bytes m before now cs b.commands first.0 b.last b.faults x first.1 counts line ((faults refl).each (settled_at m) keeps)
+              | inl fails ↦ ran_cut bytes h before now cs b.commands first.0 b.last b.faults x first.1 (script_is_spoken cs found.front.commands) counts b.disk ((fails refl).each h keeps)
+              | inr (line, faults) ↦ ran_fault_cut bytes h before now cs b.commands first.0 b.last b.faults x first.1 (script_is_spoken cs found.front.commands) counts line ((faults refl).each h keeps)
             ];
       }

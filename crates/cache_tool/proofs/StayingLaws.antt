@@ -15,7 +15,7 @@ use Rattle.cache_store.specs.declared.fault.StoreFault.{StoreFault}
 use Rattle.cache_store.proofs.InUseLaws.{few_are_spared, few_stay_in_use}
 use Rattle.cache_store.proofs.Represented.{represents}
 use Rattle.cache_theory.specs.Command.{Command}
-use Rattle.cache_theory.specs.Command.Command.{ClearOrigin, Evict, Flush, HasEntry, ListRecords, Rebuild, Verify}
+use Rattle.cache_theory.specs.Command.Command.{ClearOrigin, Evict, Flush, HasEntry, ListRecords, Rebuild, Resume, Verify}
 use Rattle.cache_theory.specs.History.{History}
 use Rattle.cache_theory.specs.Machine.{Machine}
 use Rattle.cache_theory.specs.Checks.{checks}
@@ -61,7 +61,7 @@ none_waits old (x ∷ xs) less none =
     absurd (true≢false (sym (less x here) ∙ ap (list_any (bytes_eq x)) none))
 
 -- once it has ended it stays so
-step_ended : (m : Machine) (c : Command) → m.rest ≡ [] → (step m c).next.rest ≡ []
+pub step_ended : (m : Machine) (c : Command) → m.rest ≡ [] → (step m c).next.rest ≡ []
 step_ended m c = none_waits m.rest (step m c).next.rest (λ name waits. (changes_leave_rest m c name waits).waited)
 
 after_ended : (m : Machine) (cs : List Command) → m.rest ≡ [] → (after m cs).rest ≡ []
@@ -119,6 +119,7 @@ stays_over right records (ClearOrigin origin) m d is over = tt
 stays_over right records Verify m d is over = tt
 stays_over right records ListRecords m d is over = tt
 stays_over right records (HasEntry key) m d is over = tt
+stays_over right records Resume m d is over = tt
 stays_over right records c m d is over = subst (StaysOver records m) is over
 
 spared_over : (right : Type 0) (c : Command) (m : Machine) (d : Command) → IsDoneFor right c m d → IsSpared m d → IsSpared m c
@@ -127,6 +128,7 @@ spared_over right (ClearOrigin origin) m d is spared = tt
 spared_over right Verify m d is spared = tt
 spared_over right ListRecords m d is spared = tt
 spared_over right (HasEntry key) m d is spared = tt
+spared_over right Resume m d is spared = tt
 spared_over right c m d is spared = subst (IsSpared m) is spared
 
 pub stays_done : (right : Type 0) (c : Command) (before : Session) (m : Machine) (now : Session) (d : Command) → IsDoneFor right c m d → StaysOnce c before m now → StaysOnce d before m now

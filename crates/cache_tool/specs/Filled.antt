@@ -1,5 +1,5 @@
 -- What a `fill` comes to.
-use Rattle.std.specs.Prelude.{List, [], codes, ℕ, ◌++◌, ◌∷◌, ◌≡◌}
+use Rattle.std.specs.Prelude.{List, [], codes, ℕ, ◌++◌, ◌∷◌, ◌≡◌, ◌⊎◌}
 use Rattle.cache_base.specs.declared.status.Status.{Status}
 use Rattle.cache_store.specs.Answering.{outcome_of}
 use Rattle.cache_store.specs.Open.{StartsOn}
@@ -7,11 +7,12 @@ use Rattle.cache_theory.specs.Command.{Command, Reply}
 use Rattle.cache_theory.specs.Machine.{Machine}
 use Rattle.cache_theory.specs.Step.{after, step}
 use Rattle.cache_theory.specs.Text.{reply_text, with_number}
+use Rattle.cache_tool.specs.Beginning.{DoneAtOpening}
 use Rattle.cache_tool.specs.DoneFor.{AreDoneFor}
 use Rattle.cache_tool.specs.Fill.{halving_commands, making_commands}
 use Rattle.cache_tool.specs.FirstLine.{first_line}
 use Rattle.cache_tool.specs.Statuses.{IsAnswer, status_of}
-use Rattle.cache_tool.specs.Verbs.{LeavesDisk, PrintsText, all_begun_none_acked}
+use Rattle.cache_tool.specs.Verbs.{HasNotBegun, LeavesDisk, PrintsText, all_begun_none_acked}
 use Rattle.cache_tool.specs.World.{Output}
 use Rattle.disk_model.specs.State.{standing}
 use Rattle.evictor.specs.Evict.{total_kb}
@@ -50,15 +51,19 @@ module _ {right : Type 0} {now count first : ℕ} {m : Machine} (filled : AreFil
   status_in_check = let made = after m (making_commands now count first) in
       status_of (outcome_of (step (step made filled.evicts).next filled.checks).reply)
 
--- for a machine at an opening: none of the commands is acknowledged, and all may have begun
-pub record PrintsFill (now count first : ℕ) (m : Machine) (ended : Status) (before after : Output) : Type 0 where
-  pub filled : AreFilled (Honest (standing before.disk)) now count first m
+-- for a machine at an opening, and what was done for `Resume`: none of the commands behind it is acknowledged, and all may
+-- have begun
+pub record PrintsFill (now count first : ℕ) (m : Machine) (d : Command) (ended : Status) (before after : Output)
+    : Type 0 where
+  pub filled : AreFilled (Honest (standing before.disk)) now count first (step m d).next
   -- with an answer the status is that of the check
   pub answer : IsAnswer ended → ended ≡ status_in_check filled
   pub text : PrintsText (lines_in filled) ended before after
-  pub leaves : LeavesDisk m (all_begun_none_acked m (done_in filled)) ended before.disk after.disk
+  pub leaves : LeavesDisk m (all_begun_none_acked m d (done_in filled)) ended before.disk after.disk
 
--- `fill`: so many entries are made, half of all is evicted, and all is checked and listed
+-- `fill`: so many entries are made, half of all is evicted, and all is checked and listed; or the run did not begin
 abbrev pub FillsCache : ℕ → ℕ → ℕ → Status → Output → Output → Type 0
 FillsCache moment count first ended before now =
-    (m : Machine) → StartsOn moment before.disk m → PrintsFill moment count first m ended before now
+    (m : Machine) → StartsOn moment before.disk m
+    → DoneAtOpening before.disk m (λ d. PrintsFill moment count first m d ended before now)
+    ⊎ HasNotBegun m ended before now

@@ -1,5 +1,6 @@
 pub mod AnyDisk
 pub mod Asked
+pub mod Beginning
 pub mod DoneFor
 pub mod Ending
 pub mod Fill

@@ -1,7 +1,7 @@
 -- How far a script was performed.
 use Rattle.std.specs.Io.KnownBytes.{Appends, Consumes, IsAtEnd}
 use Rattle.std.specs.List.{AllByRecursion}
-use Rattle.std.specs.Prelude.{Bool, Err, IfSome, IsTrue, List, None, Ok, Option, Result, Some, [], length, take, suc, ℕ, ◌+◌, ◌++◌, ◌<◌, ◌∷◌, ◌≡◌, ◌≢◌, ◌≤◌, ◌⊎◌}
+use Rattle.std.specs.Prelude.{Bool, Err, IfSome, IsTrue, List, None, Ok, Option, Result, Some, [], drop, length, min, take, suc, ℕ, ◌+◌, ◌++◌, ◌<◌, ◌∷◌, ◌≡◌, ◌≢◌, ◌≤◌, ◌⊎◌}
 use Rattle.cache_base.specs.declared.limits.TheConstants.{SCRIPT_MAX}
 use Rattle.cache_base.specs.declared.status.Status.{Status}
 use Rattle.cache_base.specs.declared.status.Status.TheVariants as status
@@ -14,17 +14,17 @@ use Rattle.cache_store.specs.declared.fault.StoreFault.TheVariants as fault
 use Rattle.cache_theory.specs.Command.{Command}
 use Rattle.cache_theory.specs.Crash.{IsSafe}
 use Rattle.cache_theory.specs.Faulted.{AreFaults, fault_line, replies_but, unfaulted}
-use Rattle.cache_theory.specs.History.{History, begun, settled_at, unanswered}
+use Rattle.cache_theory.specs.History.{History, begun, unanswered}
 use Rattle.cache_theory.specs.Machine.{Machine}
-use Rattle.cache_theory.specs.Marks.{all_acked}
+use Rattle.cache_theory.specs.Marks.{Marks, all_acked, all_begun}
 use Rattle.cache_theory.specs.Step.{after, step}
-use Rattle.cache_theory.specs.Text.{CommandsIn, IsCommand, ScriptSpells, SpellsFront, reply_text, script_bytes}
+use Rattle.cache_theory.specs.Text.{AreSpoken, CommandsIn, IsCommand, ScriptSpells, SpellsFront, reply_text, script_bytes}
 use Rattle.cache_tool.specs.DoneFor.{AreDoneFor}
 use Rattle.cache_tool.specs.Right.{LeadTo}
-use Rattle.cache_tool.specs.Script.{AreTaken}
+use Rattle.cache_tool.specs.Script.{AreTaken, performed}
 use Rattle.cache_tool.specs.Statuses.{IsClosing, status_in}
 use Rattle.cache_tool.specs.Tally.{RoseBy}
-use Rattle.cache_tool.specs.Verbs.{CountsFaults, Reach, TellsReplies, one_begun_after}
+use Rattle.cache_tool.specs.Verbs.{CountsFaults, Reach, TellsReplies}
 use Rattle.cache_tool.specs.World.{Progress}
 use Rattle.cache_tool.specs.declared.script.Ended.{Ended}
 use Rattle.cache_tool.specs.declared.script.Ended.TheVariants as ended
@@ -54,6 +54,7 @@ pub record ArePerformed (cs : List Command) (faults : List ℕ) (h : History) (b
 -- this is done for so many commands, and for each of those that are kept
 pub record DoneForKept (before : Session) (m : Machine) (cs done : List Command) (faults : List ℕ) : Type 0 where
   pub as_many : length done ≡ length cs
+  pub spoken : AreSpoken cs → AreSpoken done
   pub are_done : AreDoneFor (Tells before m) m (unfaulted faults cs) (unfaulted faults done)
 
 pub record SomePerformed (cs : List Command) (faults : List ℕ) (h : History) (before now : Progress)
@@ -175,7 +176,7 @@ pub record PerformsNext (tells : Bool) (answer : Result (Option Ended) StoreFaul
   pub on : (before : Progress) → HasPerformed tells old before mid
       → PerformsSoFar tells answer new before now
 
--- The whole script, for a machine and the commands of the source's bytes.
+-- The whole script, for a history and the commands of the source's bytes.
 
 -- what went out, which acknowledges what was done for `a` commands
 pub record TellsAcked (m : Machine) (bytes : List ℕ) (cs done : List Command) (ended : Status) (a : ℕ)
@@ -196,18 +197,34 @@ pub record LeavesScript (m : Machine) (r : Reach) (ended : Status) (before now :
   pub safe : IsSafe now.disk r.marks
   pub stands : IsClosing ended → LeadsWithin r m before now
 
-pub record ScriptIsRun (m : Machine) (bytes : List ℕ) (cs : List Command) (ended : Status)
+-- One by one after a history: of these commands so many are acknowledged, and one more may have begun, but for those that
+-- are answered `fault`.
+abbrev pub marks_on : History → List Command → List ℕ → ℕ → ℕ → Marks
+marks_on h cs faults a b =
+    let begun = unfaulted faults (take b cs) in
+    let kept = length (unfaulted faults (take a cs)) in
+    all_begun (after h.machine (take kept begun)) (drop kept (take (length begun) begun))
+    (all_acked h.machine (take kept begun) h.marks)
+
+abbrev pub one_begun_on : History → (acked : ℕ) (faults with_last : List ℕ) → Status → List Command → Reach
+one_begun_on h acked faults with_last ended cs = record {
+  done = unfaulted with_last (take (performed ended acked (length cs)) cs);
+  marks = marks_on h cs faults acked (min (acked + 1) (length cs));
+}
+
+pub record ScriptIsRun (h : History) (bytes : List ℕ) (cs : List Command) (ended : Status)
     (before now : Progress) : Type 0 where
   pub done : List Command
   pub acked : ℕ
   pub faults : List ℕ
   pub with_last : List ℕ
   pub counts : CountsFaults ended acked faults with_last before.disk_faults now.disk_faults
-  pub is_done : DoneForKept before.session m cs done with_last
-  pub tells : TellsAcked m bytes cs done ended acked faults with_last before now
-  pub leaves : LeavesScript m (one_begun_after m acked faults with_last ended done) ended before.session now.session
+  pub is_done : DoneForKept before.session h.machine cs done with_last
+  pub tells : TellsAcked h.machine bytes cs done ended acked faults with_last before now
+  pub leaves : LeavesScript h.machine (one_begun_on h acked faults with_last ended done) ended before.session now.session
 
+-- whatever history the disk kept to
 pub record PerformsScript (came : Result Status StoreFault) (before now : Progress) : Type 0 where
-  pub each : IfSome before.source.left (λ bytes. (m : Machine) (cs : List Command)
-      → KeepsTo before.session (settled_at m) → CommandsIn bytes cs
-      → ScriptIsRun m bytes cs (status_in came) before now)
+  pub each : IfSome before.source.left (λ bytes. (h : History) (cs : List Command)
+      → KeepsTo before.session h → CommandsIn bytes cs
+      → ScriptIsRun h bytes cs (status_in came) before now)

@@ -1,11 +1,10 @@
 -- What the verbs come to, for every machine at an opening on what stands.
 use Rattle.std.specs.Io.KnownBytes.{Appends, Keeps}
-use Rattle.std.specs.Prelude.{IfSome, IsSome, List, Option, [], length, min, suc, take, ℕ, ◌+◌, ◌++◌, ⊤, ◌∷◌, ◌≡◌, ◌≢◌, ◌⊎◌}
+use Rattle.std.specs.Prelude.{IfSome, IsSome, List, Option, [], length, min, suc, take, ℕ, ◌+◌, ◌++◌, ◌∷◌, ◌≡◌, ◌≢◌, ◌⊎◌}
 use Rattle.cache_base.specs.Causes.{Rose}
 use Rattle.cache_base.specs.declared.status.Status.{Status}
 use Rattle.cache_base.specs.declared.status.Status.TheVariants as status
 use Rattle.cache_store.specs.Answering.{outcome_of}
-use Rattle.cache_store.specs.DoneFor.{AreOfShelf, DoneBy, IsOfShelf}
 use Rattle.cache_store.specs.InUse.{HasShortJournal, StaysInUse}
 use Rattle.cache_store.specs.Open.{IsHonest, IsShut, StartsOn}
 use Rattle.cache_store.specs.Said.{IsCut}
@@ -16,9 +15,10 @@ use Rattle.cache_theory.specs.Crash.{IsCrashSafe}
 use Rattle.cache_theory.specs.Machine.{Machine}
 use Rattle.cache_theory.specs.Faulted.{AreFaults, fault_line, faulted, replies_but, unfaulted, with_next}
 use Rattle.cache_theory.specs.Marks.{Marks, marks_of}
-use Rattle.cache_theory.specs.Session.{BeginsWith, marks_between, marks_but}
-use Rattle.cache_theory.specs.Step.{after}
+use Rattle.cache_theory.specs.Session.{BeginsWith, marks_between}
+use Rattle.cache_theory.specs.Step.{after, step}
 use Rattle.cache_theory.specs.Text.{CommandsIn, ScriptSpells, reply_text}
+use Rattle.cache_tool.specs.Beginning.{DoneAtOpening, DoneOnResumed, ReadsNoEntry}
 use Rattle.cache_tool.specs.DoneFor.{AreDoneFor}
 use Rattle.cache_tool.specs.Put.{ArePut}
 use Rattle.cache_tool.specs.Replies.{last_reply}
@@ -30,14 +30,12 @@ use Rattle.cache_tool.specs.Tally.{RoseBy}
 use Rattle.cache_tool.specs.World.{Output, World, output_of}
 use Rattle.disk_model.specs.Sound.{IsQuiet}
 use Rattle.disk_model.specs.State.{State, standing}
-use Rattle.disk_model.specs.declared.place.Place.TheVariants.{Index, Log}
-use Rattle.index_record.specs.declared.record.IndexRecord.{IndexRecord}
-use Rattle.index_theory.specs.Honest.{Honest, LeavesHonest, index_records, journal_records}
+use Rattle.disk_model.specs.declared.place.Place.TheVariants.{Index}
+use Rattle.index_theory.specs.Honest.{Honest, LeavesHonest, index_records}
 use Rattle.index_theory.specs.Scan.{scan}
 use Rattle.index_theory.specs.Start.{start_of}
 use Rattle.index_theory.specs.declared.kinds.Start.{Start}
 use Rattle.index_theory.specs.declared.kinds.Start.TheVariants.{Build, Ready}
-use Rattle.record_list.specs.Change.{IsApplied}
 
 -- Commands are performed one after the other, from the first on.
 
@@ -46,20 +44,36 @@ pub record Reach : Type 0 where
   pub done : List Command
   pub marks : Marks
 
--- None of them is: the commands after the opening have not begun.
-abbrev pub none_performed : Machine → Reach
-none_performed m = record { done = []; marks = marks_of m }
+-- None is: the store did not open, and no command has begun.
+abbrev pub none_begun : Machine → Reach
+none_begun m = record { done = []; marks = marks_of m }
 
--- all of them at once, with one answer to the last
-abbrev pub all_begun_none_acked : Machine → List Command → Reach
-all_begun_none_acked m cs = record { done = cs; marks = marks_between m cs 0 (length cs) }
+-- In each run that begins this command comes first: what is done for `Resume`. It prints nothing, and so it counts as
+-- acknowledged.
 
--- One by one, each with an answer of its own: so many are acknowledged, and one more may have begun. Those with these
--- numbers are answered `fault`, and maybe the next one is, too.
-abbrev pub one_begun_after : Machine → (acked : ℕ) (faults with_last : List ℕ) → Status → List Command → Reach
-one_begun_after m acked faults with_last ended cs = record {
-  done = unfaulted with_last (take (performed ended acked (length cs)) cs);
-  marks = marks_but m cs faults acked (min (acked + 1) (length cs));
+-- it alone
+abbrev pub none_performed : Machine → Command → Reach
+none_performed m d = record { done = d ∷ []; marks = marks_between m (d ∷ []) 1 1 }
+
+-- it, and then all of these at once, with one answer to the last
+abbrev pub all_begun_none_acked : Machine → Command → List Command → Reach
+all_begun_none_acked m d cs =
+    record { done = d ∷ cs; marks = marks_between m (d ∷ cs) 1 (length (d ∷ cs)) }
+
+-- the marks where behind it the first `a` of these are acknowledged, and those up to `b` have begun, but for those with
+-- these numbers, which are answered `fault`; it is not counted among them
+abbrev pub marks_behind : Machine → Command → List Command → List ℕ → ℕ → ℕ → Marks
+marks_behind m d cs faults a b =
+    let begun = unfaulted faults (take b cs) in
+    marks_between m (d ∷ begun) (suc (length (unfaulted faults (take a cs)))) (suc (length begun))
+
+-- it, and then these one by one, each with an answer of its own: so many are acknowledged, and one more may have begun.
+-- Those with these numbers are answered `fault`, and maybe the next one is, too.
+abbrev pub one_begun_after :
+    Machine → Command → (acked : ℕ) (faults with_last : List ℕ) → Status → List Command → Reach
+one_begun_after m d acked faults with_last ended cs = record {
+  done = d ∷ unfaulted with_last (take (performed ended acked (length cs)) cs);
+  marks = marks_behind m d cs faults acked (min (acked + 1) (length cs));
 }
 
 -- what a session over these commands leaves of an index that could be read, where it held s and holds t
@@ -93,69 +107,67 @@ pub record PrintsText (text : List ℕ) (ended : Status) (before now : Output) :
   pub part : IsPart before.taken now.taken text
   pub cut : ended ≡ status.Sink → IsCut before.taken now.taken text
 
--- These commands were performed for words other than `run`, and the last reply is what is printed. None is acknowledged,
--- and all may have begun.
-pub record PrintsLast (m : Machine) (cs : List Command) (ended : Status) (before now : Output)
+-- The run did not begin: the store did not open, or what is done for `Resume` failed. Nothing is printed.
+pub record HasNotBegun (m : Machine) (ended : Status) (before now : Output) : Type 0 where
+  pub failed : (ended ≡ status.Disk) ⊎ (ended ≡ status.Memory)
+  pub rose : ended ≡ status.Disk → Rose before.disk_faults now.disk_faults
+  pub silent : Keeps before.taken now.taken
+  -- no command has begun, or that one alone
+  pub leaves : LeavesDisk m (none_begun m) ended before.disk now.disk
+      ⊎ DoneAtOpening before.disk m (λ d. LeavesDisk m (none_performed m d) ended before.disk now.disk)
+
+-- It began, and this was done for `Resume`. Then these commands were performed for words other than `run`, and the last
+-- reply is what is printed. None of them is acknowledged, and all may have begun.
+pub record PrintsLast (m : Machine) (d : Command) (cs : List Command) (ended : Status) (before now : Output)
     : Type 0 where
   -- with an answer the status is that of the last reply
-  pub answer : IsAnswer ended → ended ≡ status_of (outcome_of (last_reply m cs))
+  pub answer : IsAnswer ended → ended ≡ status_of (outcome_of (last_reply (step m d).next cs))
   -- what is printed is its text
-  pub text : PrintsText (reply_text (last_reply m cs)) ended before now
+  pub text : PrintsText (reply_text (last_reply (step m d).next cs)) ended before now
   pub silent : ended ≡ status.Source → Keeps before.taken now.taken
-  pub leaves : LeavesDisk m (all_begun_none_acked m cs) ended before.disk now.disk
+  pub leaves : LeavesDisk m (all_begun_none_acked m d cs) ended before.disk now.disk
 
--- A look at the disk failed before anything of the reply was said: the line that tells it is printed, or a part of it,
--- and no command was performed.
-pub record PrintsFault (m : Machine) (ended : Status) (before now : Output) : Type 0 where
+-- It began so, and then a look at the disk failed before anything of the reply was said: the line that tells it is printed,
+-- or a part of it, and no command was performed.
+pub record PrintsFault (m : Machine) (d : Command) (ended : Status) (before now : Output) : Type 0 where
   pub failed : (ended ≡ status.Disk) ⊎ (ended ≡ status.Memory)
   pub rose : Rose before.disk_faults now.disk_faults
   pub part : IsPart before.taken now.taken fault_line
-  pub leaves : LeavesDisk m (none_performed m) ended before.disk now.disk
+  pub leaves : LeavesDisk m (none_performed m d) ended before.disk now.disk
   -- the store was closed, unless the disk failed once more or memory ran out
   pub closed : ended ≡ status.Disk
-      → LeavesDisk m (none_performed m) status.No before.disk now.disk ⊎ RoseBy 2 before.disk_faults now.disk_faults
+      → LeavesDisk m (none_performed m d) status.No before.disk now.disk ⊎ RoseBy 2 before.disk_faults now.disk_faults
 
--- The store did not open: nothing is printed, and no command has begun.
-pub record IsUnopened (m : Machine) (ended : Status) (before now : Output) : Type 0 where
-  pub failed : (ended ≡ status.Disk) ⊎ (ended ≡ status.Memory)
-  pub silent : Keeps before.taken now.taken
-  pub leaves : LeavesDisk m (none_performed m) ended before.disk now.disk
-
--- the records by which a command goes that is performed right after the opening: those of all entries in an honest
--- directory; and where the index is trusted those of it with its journal applied, whatever the entries are
-pub record AreAtOpening (s : State) (m : Machine) (records : List IndexRecord) : Type 0 where
-  pub honest : AreOfShelf (Honest (standing s)) m records
-  pub trusted : start_of (standing s) ≡ Ready
-      → IsApplied (index_records (standing s Index)) (journal_records (standing s Log)) records
-
--- what is done for such a command
-abbrev pub DoneAtOpening : State → Command → Machine → (Command → Type 0) → Type 0
-DoneAtOpening s c m P = DoneBy (AreAtOpening s m) (IsOfShelf (Honest (standing s)) m) c m P
-
--- words other than `run` and `put`: the command is performed, and its reply is printed; or the line `fault` is, or the store
--- did not open
+-- words other than `run` and `put`: the command is performed, and its reply is printed; or the line `fault` is, or the run
+-- did not begin
 abbrev pub AnswersCommand : ℕ → Command → Status → Output → Output → Type 0
 AnswersCommand moment c ended before now = (m : Machine) → StartsOn moment before.disk m
-    → DoneAtOpening before.disk c m (λ d. PrintsLast m (d ∷ []) ended before now)
-    ⊎ (PrintsFault m ended before now ⊎ IsUnopened m ended before now)
+    → DoneAtOpening before.disk m (λ d.
+    DoneOnResumed before.disk m d c (λ e. PrintsLast m d (e ∷ []) ended before now)
+    ⊎ PrintsFault m d ended before now)
+    ⊎ HasNotBegun m ended before now
 
--- the words look at no entry: `flush` never does, and `list`, `evict` and `clear` do not where the index is trusted
-abbrev pub LooksAtNone : Command → Start → Type 0
-LooksAtNone Flush start = ⊤
-LooksAtNone ListRecords start = start ≡ Ready
-LooksAtNone (Evict kb) start = start ≡ Ready
-LooksAtNone (ClearOrigin origin) start = start ≡ Ready
-LooksAtNone _ start = ⊥
+-- the words look at no entry: `list`, `evict` and `clear` do not where the index is trusted, and `flush` does not either
+-- where no mark of an origin stands
+abbrev pub LooksAtNone : Command → Option ℕ → Start → Type 0
+LooksAtNone Flush mark start = ReadsNoEntry mark start
+LooksAtNone ListRecords mark start = start ≡ Ready
+LooksAtNone (Evict kb) mark start = start ≡ Ready
+LooksAtNone (ClearOrigin origin) mark start = start ≡ Ready
+LooksAtNone _ mark start = ⊥
 
 -- `put`, of a source that tells its bytes: the entry gets them as its body; or the line `fault` is printed, and nothing
--- of them was read
+-- of them was read, as where the run did not begin
 abbrev pub StoresEntry : ℕ → List ℕ → Status → World → World → Type 0
 StoresEntry moment key ended before now =
     IsSome before.source.left
     → (m : Machine) → StartsOn moment before.disk m
-    → ((cs : List Command) × (ArePut m key before.source now.source ended cs
-    × PrintsLast m cs ended (output_of before) (output_of now)))
-    ⊎ (PrintsFault m ended (output_of before) (output_of now) × (now.source ≡ before.source))
+    → let at = output_of before in let end = output_of now in
+    DoneAtOpening before.disk m (λ d.
+    ((cs : List Command) × (ArePut (step m d).next key before.source now.source ended cs
+    × PrintsLast m d cs ended at end))
+    ⊎ (PrintsFault m d ended at end × (now.source ≡ before.source)))
+    ⊎ (HasNotBegun m ended at end × (now.source ≡ before.source))
 
 -- What went out are the answers to what was done for commands. It tells how many are answered, and which of them by
 -- `fault`. The command behind them may have been answered so, too, with an answer that was cut.
@@ -182,9 +194,9 @@ pub record CountsFaults (ended : Status) (acked : ℕ) (faults with_last : List 
       ⊎ ((with_last ≡ with_next acked faults) × RoseBy (suc (length faults)) before now)
   pub disk : ended ≡ status.Disk → RoseBy (suc (length faults)) before now
 
--- These are the commands of a script, and what was done for them, of which some are acknowledged, and one more may have
--- begun. A command that is answered `fault` is left out, as if it had not been there.
-pub record PrintsReplies (m : Machine) (bytes : List ℕ) (cs : List Command) (ended : Status)
+-- These are the commands of a script, and what was done for them behind what was done for `Resume`: some are acknowledged,
+-- and one more may have begun. A command that is answered `fault` is left out, as if it had not been there.
+pub record PrintsReplies (m : Machine) (d : Command) (bytes : List ℕ) (cs : List Command) (ended : Status)
     (before now : World) : Type 0 where
   pub done : List Command
   pub as_many : length done ≡ length cs
@@ -192,18 +204,21 @@ pub record PrintsReplies (m : Machine) (bytes : List ℕ) (cs : List Command) (e
   pub faults : List ℕ
   pub with_last : List ℕ
   pub counts : CountsFaults ended acked faults with_last before.disk_faults now.disk_faults
-  pub are_done : AreDoneFor (Honest (standing before.disk)) m (unfaulted with_last cs) (unfaulted with_last done)
+  pub are_done : AreDoneFor (Honest (standing before.disk)) (step m d).next
+      (unfaulted with_last cs) (unfaulted with_last done)
   -- all of them are acknowledged, where none failed
   pub all : (ended ≡ status.Done) ⊎ (ended ≡ status.Script) → acked ≡ length cs
   -- what is printed are their answers, and tells how many are acknowledged
-  pub replies : TellsReplies m bytes cs done ended acked faults with_last before.taken now.taken
+  pub replies : TellsReplies (step m d).next bytes cs done ended acked faults with_last before.taken now.taken
   -- a source that failed gave these commands whole
   pub source : ended ≡ status.Source
       → AreTaken before.source.left now.source.left (take acked cs)
-  pub leaves : LeavesDisk m (one_begun_after m acked faults with_last ended done) ended before.disk now.disk
+  pub leaves : LeavesDisk m (one_begun_after m d acked faults with_last ended done) ended before.disk now.disk
 
--- `run`, of a source that tells its bytes: the commands that these spell are performed
+-- `run`, of a source that tells its bytes: the commands that these spell are performed; or the run did not begin, and
+-- nothing of them was read
 abbrev pub RunsScript : ℕ → Status → World → World → Type 0
 RunsScript moment ended before now = IfSome before.source.left (λ bytes.
     (m : Machine) (cs : List Command) → StartsOn moment before.disk m → CommandsIn bytes cs
-    → PrintsReplies m bytes cs ended before now)
+    → DoneAtOpening before.disk m (λ d. PrintsReplies m d bytes cs ended before now)
+    ⊎ (HasNotBegun m ended (output_of before) (output_of now) × (now.source ≡ before.source)))

@@ -22,7 +22,7 @@ ghost use Rattle.index_theory.specs.Honest.{LeavesHonest};
 
 use crate::last_reply::LastReply;
 use crate::put::send;
-use crate::session::{end, print_answer, status_of, status_of_fault};
+use crate::session::{begin, end, print_answer, status_of, status_of_fault};
 use cache_base::{Bytes, Moment, NoMemory, Status, bytes_fit};
 use cache_io::Sink;
 use cache_script::Command;
@@ -284,7 +284,7 @@ pub(crate) fn fill<D: Disk, K: Sink>(
     ensures calm { IsAnswer result → K.faults sink.new ≡ K.faults sink.old }
     ensures disk { HasCause (result ≡ Status.Disk) (D.faults disk.old) (D.faults disk.new) }
 {
-    let mut store = match Store::open(alloc, disk, now) {
+    let mut store = match begin(alloc, now, disk) {
         Ok(store) => store,
         Err(fault) => return status_of_fault(fault),
     };

@@ -7,19 +7,21 @@ ghost use Rattle.cache_store.specs.IndexCalls.{LooksAtNames};
 ghost use Rattle.cache_store.specs.Printed.{PrintsNo, PrintsOk, is_plain};
 ghost use Rattle.cache_store.specs.Saying.{TakesMore};
 ghost use Rattle.cache_theory.specs.Given.{IsGiven};
+ghost use Rattle.cache_theory.specs.Text.{IsSpoken};
 ghost use Rattle.cache_tool.specs.Statuses.{IsAnswer, IsClosing};
 ghost use Rattle.cache_tool.specs.Verbs.{AnswersCommand, LooksAtNone};
 ghost use Rattle.cache_tool.specs.World.{output};
+ghost use Rattle.context_clear.specs.Mark.{mark_of};
 ghost use Rattle.disk_model.specs.Calls.{StopsAtFault};
 ghost use Rattle.disk_model.specs.Sound.{IsQuiet};
 ghost use Rattle.disk_model.specs.State.{standing};
+ghost use Rattle.disk_model.specs.declared.place.Place.TheVariants.{Clear};
 ghost use Rattle.index_theory.specs.Start.{start_of};
 
-use crate::session::{end, end_faulted, status_of, status_of_fault};
+use crate::session::{begin, end, end_faulted, status_of, status_of_fault};
 use cache_base::{Moment, Status};
 use cache_io::Sink;
 use cache_script::Command;
-use cache_store::Store;
 use disk_model::Disk;
 use std::alloc::Global;
 
@@ -33,6 +35,7 @@ pub(crate) fn perform_one<D: Disk, K: Sink>(
     disk: &mut D,
 ) -> Status
     requires given { IsGiven (command_of command.now) }
+    requires spoken { IsSpoken (command_of command.now) }
     ensures answers { let at = output K.Sink D.Disk in let c = command_of command.now in
         IsTrue D.tells → AnswersCommand now c result (at sink.old disk.old) (at sink.new disk.new) }
     ensures others { IsAnswer result
@@ -42,7 +45,8 @@ pub(crate) fn perform_one<D: Disk, K: Sink>(
     ensures refused { result ≡ Status.No →
         PrintsNo (command_of command.now) (K.taken sink.old) (K.taken sink.new) }
     ensures grows { IsTrue D.tells → TakesMore (K.taken sink.old) (K.taken sink.new) }
-    ensures no_entry { LooksAtNone (command_of command.now) (start_of (standing (D.state disk.old))) →
+    ensures no_entry { let files = standing (D.state disk.old) in
+        LooksAtNone (command_of command.now) (mark_of (files Clear)) (start_of files) →
         LooksAtNames D.Disk 0 disk.old disk.new }
     ensures quiet { IsClosing result → IsTrue D.tells → IsQuiet (D.state disk.new) }
     ensures stops { IsTrue D.tells → StopsAtFault (D.counts disk.old) (D.counts disk.new) }
@@ -52,7 +56,7 @@ pub(crate) fn perform_one<D: Disk, K: Sink>(
     ensures disk_first { result ≢ Status.Disk → result ≢ Status.Memory →
         D.faults disk.new ≡ D.faults disk.old }
 {
-    let mut store = match Store::open(alloc, disk, now) {
+    let mut store = match begin(alloc, now, disk) {
         Ok(store) => store,
         Err(fault) => return status_of_fault(fault),
     };

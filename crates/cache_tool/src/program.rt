@@ -14,9 +14,11 @@ ghost use Rattle.cache_tool.specs.Statuses.{IsAnswer, IsClosing};
 ghost use Rattle.cache_tool.specs.Verbs.{AnswersCommand, LooksAtNone, RunsScript, StoresEntry};
 ghost use Rattle.cache_tool.specs.Words.{WhenFill, WhenOne, WhenPut, WhenRun, asked_in};
 ghost use Rattle.cache_tool.specs.World.{output, world};
+ghost use Rattle.context_clear.specs.Mark.{mark_of};
 ghost use Rattle.disk_model.specs.Calls.{StopsAtFault};
 ghost use Rattle.disk_model.specs.Sound.{IsQuiet};
 ghost use Rattle.disk_model.specs.State.{standing};
+ghost use Rattle.disk_model.specs.declared.place.Place.TheVariants.{Clear};
 ghost use Rattle.entry_key.specs.Writing.{may_write};
 ghost use Rattle.index_theory.specs.Start.{start_of};
 
@@ -36,18 +38,20 @@ use std::alloc::Global;
 /// what was written, `NOW list` prints the records of all entries, `NOW verify` checks all entries and prints what is
 /// wrong, and `NOW rebuild` reads all entries anew and writes the index. `NOW fill N FIRST` makes N entries, evicts
 /// half of all by their sizes, checks and lists the rest, and prints how many there were of each. Each opens the store
-/// at the moment NOW and closes it.
+/// at the moment NOW, does what is left of a clearing that an earlier run did not end, and closes the store.
 ///
 /// A command that ends in a failed look at the disk before anything of its reply is out is answered by the line `fault`,
 /// and leaves all as it was. A `run` goes on with the next command; for other words the status is that of a disk that
-/// failed. Looks in the opening, in the closing and in `fill` end the run, as does one behind a part of a reply.
+/// failed. Looks in the opening, in the clearing that is left, in the closing and in `fill` end the run, as does one behind a
+/// part of a reply.
 ///
 /// The clauses on contents hold where the disk and the source tell theirs. Those on a crash hold where nothing was
 /// pending at the call, and speak of every exit, whatever the status.
 ///
 /// `list`, `has`, `evict`, `clear` and `verify` go by the records in memory. Where the directory was honest these are right, and the
 /// commands come to what the machine's do. Elsewhere they print, remove and find what the records that there are tell: right
-/// after an opening with a trusted index these are its records with the journal applied.
+/// after an opening with a trusted index these are its records with the journal applied, but for those of entries that were
+/// cleared then.
 pub fn run<D: Disk, S: Source, K: Sink>(
     alloc: Global,
     words: &[String],
@@ -103,11 +107,11 @@ pub fn run<D: Disk, S: Source, K: Sink>(
     ensures one_no { result ≡ Status.No → WhenOne (asked_in words.now) (λ now c.
         PrintsNo c (K.taken sink.old) (K.taken sink.new)) }
 
-    // What is printed only grows. A `flush` looks at no entry, nor do a `list`, an `evict` and a `clear` where the index is
-    // trusted.
+    // What is printed only grows. Where the index is trusted a `flush` looks at no entry, nor do a `list`, an `evict` and a
+    // `clear`; and a `flush` does not either where the mark of no clearing stands.
     ensures grows { IsTrue D.tells → TakesMore (K.taken sink.old) (K.taken sink.new) }
-    ensures no_entry { WhenOne (asked_in words.now) (λ now c.
-        LooksAtNone c (start_of (standing (D.state disk.old))) → LooksAtNames D.Disk 0 disk.old disk.new) }
+    ensures no_entry { let files = standing (D.state disk.old) in WhenOne (asked_in words.now) (λ now c.
+        LooksAtNone c (mark_of (files Clear)) (start_of files) → LooksAtNames D.Disk 0 disk.old disk.new) }
 
     // Where the store was closed nothing is pending.
     ensures quiet { IsClosing result → IsTrue D.tells → IsQuiet (D.state disk.new) }

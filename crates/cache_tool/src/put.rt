@@ -27,7 +27,7 @@ ghost use Rattle.index_theory.specs.Honest.{LeavesHonest};
 
 use crate::last_reply::LastReply;
 use crate::piece::{Ended, fill};
-use crate::session::{end, end_faulted, print_answer, status_of, status_of_fault};
+use crate::session::{begin, end, end_faulted, print_answer, status_of, status_of_fault};
 use cache_base::{BODY_MAX, Moment, NoMemory, PIECE_MAX, Status};
 use cache_io::{Sink, Source};
 use cache_script::Command;
@@ -236,7 +236,7 @@ pub(crate) fn put<D: Disk, S: Source, K: Sink>(
     ensures disk_first { result ≢ Status.Disk → result ≢ Status.Memory →
         D.faults disk.new ≡ D.faults disk.old }
 {
-    let mut store = match Store::open(alloc, disk, now) {
+    let mut store = match begin(alloc, now, disk) {
         Ok(store) => store,
         Err(fault) => return status_of_fault(fault),
     };

@@ -18,7 +18,7 @@ ghost use Rattle.disk_model.specs.Calls.{StopsAtFault};
 ghost use Rattle.disk_model.specs.Sound.{IsQuiet};
 ghost use Rattle.index_theory.specs.Honest.{LeavesHonest};
 
-use crate::session::{end, status_of_fault};
+use crate::session::{begin, end, status_of_fault};
 use cache_base::{Bytes, Moment, NoMemory, Status};
 use cache_io::{Sink, Source, write_whole};
 use cache_script::{Reader, ScriptFault};
@@ -64,7 +64,7 @@ pub(crate) fn run_script<D: Disk, S: Source, K: Sink>(
     ensures went_on { result ≢ Status.Disk → result ≢ Status.Memory →
         IsTrue D.tells → (D.counts disk.new).failed ≡ (D.counts disk.old).failed }
 {
-    let mut store = match Store::open(alloc, disk, now) {
+    let mut store = match begin(alloc, now, disk) {
         Ok(store) => store,
         Err(fault) => return status_of_fault(fault),
     };

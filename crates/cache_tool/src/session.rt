@@ -1,23 +1,54 @@
-//! How a session ends, and how its answer is printed.
+//! How a session begins and ends, and how its answer is printed.
 
-ghost use Rattle.std.specs.Prelude.{◌≡◌, ◌≢◌, ◌⊎◌, ◌≤◌, Err, IfOk, IsTrue};
+ghost use Rattle.std.specs.Prelude.{◌≡◌, ◌≢◌, ◌⊎◌, ◌≤◌, Err, IfOk, IsTrue, OnErr};
 ghost use Rattle.std.specs.Io.KnownBytes.{Appends};
 ghost use Rattle.cache_base.specs.Causes.{HasCause, Rose};
+ghost use Rattle.cache_store.specs.Faults.{ending};
+ghost use Rattle.cache_store.specs.IndexCalls.{LooksAtNames};
 ghost use Rattle.cache_store.specs.Open.{IsOpen, LeavesOpen};
 ghost use Rattle.cache_store.specs.Said.{IsCut};
 ghost use Rattle.cache_store.specs.Saying.{IsPart};
 ghost use Rattle.cache_store.specs.Session.{session};
 ghost use Rattle.cache_theory.specs.Faulted.{fault_line};
+ghost use Rattle.cache_tool.specs.Beginning.{Begins, FailsToBegin, ReadsNoEntry};
 ghost use Rattle.cache_tool.specs.Ending.{EndsSession};
 ghost use Rattle.cache_tool.specs.Statuses.{IsAnswer, IsClosing, status_in, status_of as status_of_outcome};
-ghost use Rattle.disk_model.specs.Account.{LooksAtNoEntry};
+ghost use Rattle.context_clear.specs.Mark.{mark_of};
+ghost use Rattle.disk_model.specs.Account.{Accounts, LooksAtNoEntry};
 ghost use Rattle.disk_model.specs.Calls.{StopsAtFault};
 ghost use Rattle.disk_model.specs.Sound.{IsQuiet};
+ghost use Rattle.disk_model.specs.State.{standing};
+ghost use Rattle.disk_model.specs.Told.{Told};
+ghost use Rattle.disk_model.specs.declared.place.Place.TheVariants.{Clear};
+ghost use Rattle.index_theory.specs.Start.{start_of};
 
-use cache_base::Status;
+use crate::last_reply::LastReply;
+use cache_base::{Moment, Status};
 use cache_io::{Sink, SinkFault, write_whole};
+use cache_script::Command;
 use cache_store::{Store, StoreFault, Verdict};
 use disk_model::Disk;
+use std::alloc::Global;
+
+/// Begins a run: the store is opened at this moment, and the clearing is done that an earlier run left undone, if the mark of
+/// one stands. Nothing is printed, since the reply to that is empty.
+pub(crate) fn begin<D: Disk>(alloc: Global, now: Moment, disk: &mut D) -> Result<Store, StoreFault>
+    ensures begins { IfOk result (λ store. IsTrue D.tells →
+        Begins now (D.state disk.old) (session D.Disk store disk.new)) }
+    ensures open { IfOk result (λ store. IsTrue D.tells →
+        IsOpen (session D.Disk store disk.new)) }
+    ensures fails { OnErr result (Told D.Disk (FailsToBegin now) disk.old disk.new) }
+    ensures looks { IsTrue D.tells → let files = standing (D.state disk.old) in
+        ReadsNoEntry (mark_of (files Clear)) (start_of files) →
+        LooksAtNames D.Disk 0 disk.old disk.new }
+    ensures no_sink { result ≢ Err StoreFault.Sink }
+    ensures account { Accounts D.Disk (ending result) disk.old disk.new }
+{
+    let mut store = Store::open(alloc, disk, now)?;
+    let mut reply = LastReply::new(alloc);
+    store.attempt(alloc, disk, &Command::Resume, &mut reply)?;
+    Ok(store)
+}
 
 /// How the program ends by the outcome of the last command.
 pub(crate) fn status_of(outcome: Verdict) -> Status
@@ -29,7 +60,7 @@ pub(crate) fn status_of(outcome: Verdict) -> Status
     }
 }
 
-/// How the program ends where the store did not open.
+/// How the program ends where the run did not begin.
 pub(crate) fn status_of_fault(fault: StoreFault) -> Status
     ensures { result ≡ status_in (Err fault) }
 {

@@ -34,7 +34,7 @@ use Rattle.entry_metadata.specs.declared.meta.Meta.{Meta}
 use Rattle.entry_metadata.proofs.BlockLaws.{length-block_as}
 use Rattle.entry_metadata.proofs.FormatLaws.{bytes_within}
 use Rattle.entry_name.specs.EntryName.{file_name}
-use Rattle.index_theory.specs.Leaves.{LeavesIndex}
+use Rattle.index_theory.specs.Leaves.{LeavesBeside}
 use Rattle.file_handles.specs.Answers.{OnRefused, done_or, reply_in}
 use Rattle.file_handles.specs.Cache.{cache_at}
 use Rattle.file_handles.specs.Carries.{CarriesOut}
@@ -232,7 +232,7 @@ module _ (s t : State) (sound : IsSound s) (k after : Kept) (slot : ℕ) (small 
 
   -- what it leaves alone
   module _ (filed : IsFiledAt (cache_at k s) p) where
-    pub put_left : LeavesIndex s t
+    pub put_left : LeavesBeside s t
     put_left = change_left s t (without_chunks k x.number) after p x (behind kind alt) r sound has.found filed changes_there
 
     pub put_unsynced : SyncsNothing s t

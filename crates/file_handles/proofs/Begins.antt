@@ -46,35 +46,35 @@ module _ (k : Kept) (objects : (p : ℕ) → object_at k p ≡ None) (uses : (t 
   no_use : (t : ℕ) (u : Use) → use_at k t ≡ Some u → ⊥
   no_use t u at = never_some ⊥ u (sym (uses t) ∙ at)
 
-  none_held : (now : ℕ) (shelf : Table (List ℕ)) (rest : List (List ℕ)) (i : ℕ) → IsHeldAside (opened now shelf rest) i → ⊥
-  none_held now shelf rest i h = let slot = slot_with (opened now shelf rest) i h.slots in never_some ⊥ _ slot.at
+  none_held : (now : ℕ) (shelf : Table (List ℕ)) (mark : Option (List ℕ)) (rest : List (List ℕ)) (i : ℕ) → IsHeldAside (opened now shelf mark rest) i → ⊥
+  none_held now shelf mark rest i h = let slot = slot_with (opened now shelf mark rest) i h.slots in never_some ⊥ _ slot.at
 
-  none_there : (now : ℕ) (shelf : Table (List ℕ)) (rest : List (List ℕ)) → HandlesStand k (opened now shelf rest) (λ p. 0)
-  none_there now shelf rest = record {
+  none_there : (now : ℕ) (shelf : Table (List ℕ)) (mark : Option (List ℕ)) (rest : List (List ℕ)) → HandlesStand k (opened now shelf mark rest) (λ p. 0)
+  none_there now shelf mark rest = record {
     slots = λ t lt. ap (option_map (λ (u : Use). record { object = 0; writes = u.writes })) (sym (uses t));
     used = λ t u at. absurd (no_use t u at);
     objects = λ p x at. absurd (no_object p x at);
     apart = λ p q x y at also same. absurd (no_object p x at);
-    chunks = record { numbered = λ p x at. absurd (no_object p x at); made = none_made; held = subst (All (IsChunkInUse k (opened now shelf rest))) (sym no_chunks) (All-nil (IsChunkInUse k (opened now shelf rest))) };
+    chunks = record { numbered = λ p x at. absurd (no_object p x at); made = none_made; held = subst (All (IsChunkInUse k (opened now shelf mark rest))) (sym no_chunks) (All-nil (IsChunkInUse k (opened now shelf mark rest))) };
   }
 
   pub begins : Begins k
-  begins s now shelf rest small is no_doomed = record { stands = (λ p. 0, stands); crash = λ once safe. record { number = λ p. 0; stands = stands; crash_kept = crash_kept once safe } }
+  begins s now shelf mark rest small is no_doomed = record { stands = (λ p. 0, stands); crash = λ once safe. record { number = λ p. 0; stands = stands; crash_kept = crash_kept once safe } }
     where
-      stands : Stands (standing s) k (opened now shelf rest) (λ p. 0)
+      stands : Stands (standing s) k (opened now shelf mark rest) (λ p. 0)
       stands = record {
-        proper = proper_opens now shelf rest small is.table is.bytes;
-        handles = none_there now shelf rest;
+        proper = proper_opens now shelf mark rest small is.table is.bytes;
+        handles = none_there now shelf mark rest;
         entries = is.entries_are;
         aside = record {
-          held = λ i h. absurd (none_held now shelf rest i h);
+          held = λ i h. absurd (none_held now shelf mark rest i h);
           only = λ d some. absurd (some (no_doomed d));
           one_object = λ d i j a b. absurd (no_object a.place a.object a.at_place);
           one_number = λ d e i a b. absurd (no_object a.place a.object a.at_place);
         };
       }
 
-      crash_kept : IsFiledOnce s → IsSafe s (marks_of (opened now shelf rest)) → IsCrashKept s (opened now shelf rest) (marks_of (opened now shelf rest)) (IsAt k (λ p. 0))
+      crash_kept : IsFiledOnce s → IsSafe s (marks_of (opened now shelf mark rest)) → IsCrashKept s (opened now shelf mark rest) (marks_of (opened now shelf mark rest)) (IsAt k (λ p. 0))
       crash_kept once safe = record {
         safe = safe;
         once = once;

@@ -9,7 +9,7 @@ use Rattle.disk_model.proofs.Sound.{found}
 use Rattle.disk_model.proofs.Standing.{settled_same}
 use Rattle.index_theory.specs.Apart.{IsEntry, IsOfIndex}
 use Rattle.index_theory.specs.Ever.{EverAt}
-use Rattle.index_theory.specs.Leaves.{LeavesIndex}
+use Rattle.index_theory.specs.Leaves.{LeavesBeside, LeavesIndex}
 use Rattle.index_theory.proofs.EverSteps.{ever_renamed, ever_settled}
 use Rattle.index_theory.proofs.LeavesLaws.{moved_stands, sync_leaves_index}
 use Rattle.index_theory.proofs.UncleanLaws.{move_keeps_unclean}
@@ -60,9 +60,15 @@ module _ (s : State) (d : ℕ) (name : Name) (sound : IsSound s) where
         ]
       ]
 
-  pub published_leaves_index : LeavesIndex s (renamed (Doomed d) (Entry name) (settled s))
+  published_leaves_index : LeavesIndex s (renamed (Doomed d) (Entry name) (settled s))
   published_leaves_index = record {
     stands = λ p of. moved_stands (settled s) (Doomed d) (Entry name) p (apart_from p of) (λ e. subst IsOfIndex e of) ∙ settled_same s p;
     apart = λ a. record { entries = entries; index = index };
     unclean = λ a u. move_keeps_unclean (settled s) (Doomed d) (Entry name) (λ e. cc) (λ e. cc) ((sync_leaves_index s sound).unclean a u);
+  }
+
+  pub published_leaves_beside : LeavesBeside s (renamed (Doomed d) (Entry name) (settled s))
+  published_leaves_beside = record {
+    index = published_leaves_index;
+    mark = moved_stands (settled s) (Doomed d) (Entry name) Clear (λ e. cc) (λ e. cc) ∙ settled_same s Clear;
   }

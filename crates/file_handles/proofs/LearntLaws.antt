@@ -9,7 +9,7 @@ use Rattle.cache_base.specs.declared.name.Name.{Name}
 use Rattle.cache_base.proofs.CheckLaws.{all_hold}
 use Rattle.cache_theory.specs.Checks.{checks, with_alt_data, with_value}
 use Rattle.cache_theory.specs.Command.{Command}
-use Rattle.cache_theory.specs.Command.Command.{At, Create, OpenKey, Append, Finish, SetElement, UnsetElement, ElementOf, UseEntry, Pin, Unpin, PutAlt, ReadPart, Close, Doom, Get, GetAlt, MainBody, Flush, HasEntry, HasGiven, ListRecords, ListGiven, Evict, EvictNames, ClearOrigin, ClearNames, StepUpdate, UpdateState, Verify, VerifyRecords, Rebuild}
+use Rattle.cache_theory.specs.Command.Command.{At, Create, OpenKey, Append, Finish, SetElement, UnsetElement, ElementOf, UseEntry, Pin, Unpin, PutAlt, ReadPart, Close, Doom, Get, GetAlt, MainBody, Flush, HasEntry, HasGiven, ListRecords, ListGiven, Evict, EvictNames, ClearOrigin, ClearNames, Resume, ResumeNames, StepUpdate, UpdateState, Verify, VerifyRecords, Rebuild}
 use Rattle.cache_theory.specs.Command.Reply.{Done, NoneThere}
 use Rattle.cache_theory.specs.Machine.{Machine, Object as MachineObject, is_slot, is_writer, number_of, object_of, on_shelf, used_by}
 use Rattle.cache_theory.specs.Marks.{rewritten}
@@ -228,6 +228,8 @@ learnt_scanned m (Evict kb) of proper fine q = absurd of
 learnt_scanned m (EvictNames names) of proper fine q = absurd of
 learnt_scanned m (ClearOrigin origin) of proper fine q = absurd of
 learnt_scanned m (ClearNames names) of proper fine q = absurd of
+learnt_scanned m Resume of proper fine q = absurd of
+learnt_scanned m (ResumeNames names) of proper fine q = absurd of
 learnt_scanned m (StepUpdate n) of proper fine q = absurd of
 learnt_scanned m UpdateState of proper fine q = by_effect m proper q UpdateState fine refl
 learnt_scanned m Verify of proper fine q = absurd of

@@ -58,6 +58,6 @@ pub record StartsAs (now : Cache) (m : Machine) : Type 0 where
 
 -- on a disk with no doomed file the handles represent the machine at any opening
 abbrev pub Begins : Kept → Type 0
-Begins k = (s : State) (now : ℕ) (shelf : Table (List ℕ)) (rest : List (List ℕ))
+Begins k = (s : State) (now : ℕ) (shelf : Table (List ℕ)) (mark : Option (List ℕ)) (rest : List (List ℕ))
     → now < 2 ^ 32 → IsShelf s shelf → ((number : ℕ) → standing s (Doomed number) ≡ None)
-    → StartsAs (cache_at k s) (opened now shelf rest)
+    → StartsAs (cache_at k s) (opened now shelf mark rest)

@@ -10,7 +10,7 @@ ghost use Rattle.file_handles.specs.Answers.{OnRefused, done_or, ending};
 ghost use Rattle.file_handles.specs.Growing.{AnswersInChunk, FitsInChunk, grow_fault};
 ghost use Rattle.file_handles.specs.Held.{rest_in};
 ghost use Rattle.file_handles.specs.Unsynced.{SyncsNothing};
-ghost use Rattle.index_theory.specs.Leaves.{LeavesIndex};
+ghost use Rattle.index_theory.specs.Leaves.{LeavesBeside};
 
 use crate::object::{Draft, Entry, Object};
 use crate::{HandleFault, Handles};
@@ -128,7 +128,7 @@ impl Handles {
         ensures unchanged { OnRefused result (λ _. disk.new ≡ disk.old) }
         ensures no_read { result ≢ Err HandleFault.Read }
         ensures unsynced { Told D.Disk SyncsNothing disk.old disk.new }
-        ensures index { Told D.Disk LeavesIndex disk.old disk.new }
+        ensures index { Told D.Disk LeavesBeside disk.old disk.new }
         ensures account { Accounts D.Disk (ending result) disk.old disk.new }
         ensures change { FailsInChange D.Disk (ending result) disk.new }
     {

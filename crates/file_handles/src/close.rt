@@ -14,7 +14,7 @@ ghost use Rattle.file_handles.specs.Effects.{HasEffect, IsPlainEffect};
 ghost use Rattle.file_handles.specs.Held.{object_place};
 ghost use Rattle.file_handles.specs.Seats.{is_use_of};
 ghost use Rattle.file_handles.specs.Unsynced.{SyncsNothing};
-ghost use Rattle.index_theory.specs.Leaves.{LeavesIndex};
+ghost use Rattle.index_theory.specs.Leaves.{LeavesBeside};
 
 use crate::handles::take_at;
 use crate::object::{Entry, Object, Use};
@@ -100,7 +100,7 @@ impl Handles {
         ensures refused { OnRefused result (λ _. ⊥) }
         ensures no_read { result ≢ Err HandleFault.Read }
         ensures same { writes_draft (kept self.old) slot ≡ false → disk.new ≡ disk.old }
-        ensures index { Told D.Disk LeavesIndex disk.old disk.new }
+        ensures index { Told D.Disk LeavesBeside disk.old disk.new }
         ensures account { Accounts D.Disk (ending result) disk.old disk.new }
         ensures change { FailsInChange D.Disk (ending result) disk.new }
     {
@@ -123,7 +123,7 @@ impl Handles {
         ensures given_up { use_at (kept self.new) slot ≡ None }
         ensures chunks { (kept self.new).chunks ≡ chunks_left (kept self.old) slot place }
         ensures unsynced { Told D.Disk SyncsNothing disk.old disk.new }
-        ensures index { Told D.Disk LeavesIndex disk.old disk.new }
+        ensures index { Told D.Disk LeavesBeside disk.old disk.new }
         ensures account { Accounts D.Disk (disk_ending result) disk.old disk.new }
         ensures change { FailsInChange D.Disk (disk_ending result) disk.new }
     {
@@ -162,7 +162,7 @@ impl Handles {
         ensures no_read { result ≢ Err HandleFault.Read }
         ensures unsynced { writes_draft (kept self.old) slot ≡ false →
             Told D.Disk SyncsNothing disk.old disk.new }
-        ensures index { Told D.Disk LeavesIndex disk.old disk.new }
+        ensures index { Told D.Disk LeavesBeside disk.old disk.new }
         ensures account { Accounts D.Disk (ending result) disk.old disk.new }
         ensures change { FailsInChange D.Disk (ending result) disk.new }
     {
@@ -177,7 +177,7 @@ impl Handles {
         requires told { IsTrue D.tells → RepresentsSome (cache D.Disk self disk.old) }
         ensures closes { IsTrue D.tells →
             ClosesAll result (cache D.Disk self disk.old) (D.state disk.new) }
-        ensures index { Told D.Disk LeavesIndex disk.old disk.new }
+        ensures index { Told D.Disk LeavesBeside disk.old disk.new }
         ensures account { Accounts D.Disk (disk_ending result) disk.old disk.new }
         ensures change { FailsInChange D.Disk (disk_ending result) disk.new }
         ensures no_entry { LooksAtNoEntry D.Disk disk.old disk.new }

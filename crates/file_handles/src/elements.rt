@@ -16,7 +16,7 @@ ghost use Rattle.file_handles.specs.Effects.{HasEffect, IsPlainEffect};
 ghost use Rattle.file_handles.specs.Held.{body_len_in, elements_in, key_in};
 ghost use Rattle.file_handles.specs.Setting.{HasRoom, are_small, small_len};
 ghost use Rattle.file_handles.specs.Unsynced.{SyncsNothing};
-ghost use Rattle.index_theory.specs.Leaves.{LeavesIndex};
+ghost use Rattle.index_theory.specs.Leaves.{LeavesBeside};
 
 use crate::change::Change;
 use crate::object::Entry;
@@ -158,7 +158,7 @@ impl Handles {
         ensures unchanged { OnRefused result (λ _. disk.new ≡ disk.old) }
         ensures no_read { result ≢ Err HandleFault.Read }
         ensures unsynced { Told D.Disk SyncsNothing disk.old disk.new }
-        ensures index { Told D.Disk LeavesIndex disk.old disk.new }
+        ensures index { Told D.Disk LeavesBeside disk.old disk.new }
         ensures account { Accounts D.Disk (ending result) disk.old disk.new }
         ensures change { FailsInChange D.Disk (ending result) disk.new }
     {
@@ -189,7 +189,7 @@ impl Handles {
         ensures no_read { result ≢ Err HandleFault.Read }
         ensures none_there { IfOk result (λ effect. IfNone effect (disk.new ≡ disk.old)) }
         ensures unsynced { Told D.Disk SyncsNothing disk.old disk.new }
-        ensures index { Told D.Disk LeavesIndex disk.old disk.new }
+        ensures index { Told D.Disk LeavesBeside disk.old disk.new }
         ensures account { Accounts D.Disk (ending result) disk.old disk.new }
         ensures change { FailsInChange D.Disk (ending result) disk.new }
     {

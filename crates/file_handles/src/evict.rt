@@ -6,7 +6,7 @@ ghost use Rattle.disk_model.specs.State.{standing};
 ghost use Rattle.disk_model.specs.Told.{Told};
 ghost use Rattle.disk_model.specs.declared.place.Place.TheVariants.{Entry as EntryAt};
 ghost use Rattle.file_handles.specs.Unsynced.{SyncsNothing};
-ghost use Rattle.index_theory.specs.Leaves.{LeavesIndex};
+ghost use Rattle.index_theory.specs.Leaves.{LeavesBeside};
 
 use crate::Handles;
 use cache_base::Name;
@@ -29,7 +29,7 @@ impl Handles {
             DoomsUnder name.now.0 result (at self.old disk.old) (at self.new disk.new) }
         ensures kept { kept self.new ≡ kept self.old }
         ensures unsynced { Told D.Disk SyncsNothing disk.old disk.new }
-        ensures index { Told D.Disk LeavesIndex disk.old disk.new }
+        ensures index { Told D.Disk LeavesBeside disk.old disk.new }
         ensures no_entry { LooksAtNoEntry D.Disk disk.old disk.new }
         ensures account { Accounts D.Disk (disk_ending result) disk.old disk.new }
         ensures change { FailsInChange D.Disk (disk_ending result) disk.new }

@@ -12,7 +12,7 @@ ghost use Rattle.file_handles.specs.Effects.{HasEffect, IsLearntOf, IsPlainEffec
 ghost use Rattle.file_handles.specs.Held.{is_draft, place_of};
 ghost use Rattle.file_handles.specs.Publishing.{MayPublish};
 ghost use Rattle.file_handles.specs.Seats.{IsLow};
-ghost use Rattle.index_theory.specs.Leaves.{LeavesIndex};
+ghost use Rattle.index_theory.specs.Leaves.{LeavesBeside};
 
 use crate::object::{Draft, Entry, Object};
 use crate::{Effect, HandleFault, Handles};
@@ -165,7 +165,7 @@ impl Handles {
         ensures no_slot { TellsNoSlot (kept self.old) slot result }
         ensures unchanged { OnRefused result (λ _. disk.new ≡ disk.old) }
         ensures no_read { result ≢ Err HandleFault.Read }
-        ensures index { Told D.Disk LeavesIndex disk.old disk.new }
+        ensures index { Told D.Disk LeavesBeside disk.old disk.new }
         ensures account { Accounts D.Disk (ending result) disk.old disk.new }
         ensures change { FailsInChange D.Disk (ending result) disk.new }
     {

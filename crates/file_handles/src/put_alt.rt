@@ -17,7 +17,7 @@ ghost use Rattle.file_handles.specs.Effects.{HasEffect, IsLearntOf, IsPlainEffec
 ghost use Rattle.file_handles.specs.Held.{body_len_in, object_place};
 ghost use Rattle.file_handles.specs.PuttingAlt.{are_small_with, put_fault as put_fault_of, with_alt_at};
 ghost use Rattle.file_handles.specs.Unsynced.{SyncsNothing};
-ghost use Rattle.index_theory.specs.Leaves.{LeavesIndex};
+ghost use Rattle.index_theory.specs.Leaves.{LeavesBeside};
 
 use crate::change::{Change, changed_elements};
 use crate::fault::look_fault;
@@ -330,7 +330,7 @@ impl Handles {
         ensures change { result ≡ Err HandleFault.Disk →
             FailsInChange D.Disk (ending result) disk.new }
         ensures unsynced { Told D.Disk SyncsNothing disk.old disk.new }
-        ensures index { Told D.Disk LeavesIndex disk.old disk.new }
+        ensures index { Told D.Disk LeavesBeside disk.old disk.new }
         ensures account { Accounts D.Disk (ending result) disk.old disk.new }
         ensures calls { OnOk result (IsTrue D.tells →
             (D.counts disk.new).calls ≤ (D.counts disk.old).calls + 2) }

@@ -8,7 +8,7 @@ ghost use Rattle.disk_model.specs.Told.{Told};
 ghost use Rattle.file_handles.specs.Answers.{OnRefused, done_or, ending};
 ghost use Rattle.file_handles.specs.Effects.{HasEffectAt, IsPlainEffect};
 ghost use Rattle.file_handles.specs.Unsynced.{SyncsNothing};
-ghost use Rattle.index_theory.specs.Leaves.{LeavesIndex};
+ghost use Rattle.index_theory.specs.Leaves.{LeavesBeside};
 
 use crate::change::Change;
 use crate::{Effect, HandleFault, Handles};
@@ -59,7 +59,7 @@ impl Handles {
         ensures unchanged { OnRefused result (λ _. disk.new ≡ disk.old) }
         ensures no_read { result ≢ Err HandleFault.Read }
         ensures unsynced { Told D.Disk SyncsNothing disk.old disk.new }
-        ensures index { Told D.Disk LeavesIndex disk.old disk.new }
+        ensures index { Told D.Disk LeavesBeside disk.old disk.new }
         ensures account { Accounts D.Disk (ending result) disk.old disk.new }
         ensures change { FailsInChange D.Disk (ending result) disk.new }
     {

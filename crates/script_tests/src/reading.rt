@@ -228,7 +228,7 @@ fn other_lines_of_alternative_data_are_bad(rt: HostRuntime) -> Result<(), Fail> 
 
 #[test]
 fn other_lines_of_pins_and_clearings_are_bad(rt: HostRuntime) -> Result<(), Fail> {
-    let scripts: [&[u8]; 16] = [
+    let scripts: [&[u8]; 20] = [
         b"pin\n",
         b"pin \n",
         b"pin 64\n",
@@ -245,6 +245,10 @@ fn other_lines_of_pins_and_clearings_are_bad(rt: HostRuntime) -> Result<(), Fail
         b"clear",
         b"Clear x\n",
         b"cleared x\n",
+        b"resume\n",
+        b"Resume\n",
+        b"resume \n",
+        b"resume ^a\n",
     ];
     all_count(&rt, rt.alloc(), &scripts, Err(ScriptFault::Script(1)))?;
     Ok(())
@@ -410,11 +414,12 @@ fn all_end(
 
 #[test]
 fn no_more_is_read_at_a_bad_command(rt: HostRuntime) -> Result<(), Fail> {
-    let scripts: [&[u8]; 10] = [
+    let scripts: [&[u8]; 11] = [
         b"\n",
         b"fly\n",
         b"pin 64\n",
         b"clear\n",
+        b"resume\n",
         b"append 0 1048577\n",
         b"append 0 0\nx",
         b"append 0 1\nab",

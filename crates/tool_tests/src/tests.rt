@@ -65,9 +65,9 @@ const DAMAGED: &[u8] = b"jello\x06\xab\x5e\x9a\x39\x9e\
 
 const ABSENT: &[u8] = b"absent\n";
 
-// How many calls an opening makes where no index stands: it lists the doomed files, looks for the three files of the
-// index, syncs, and lists the entries.
-const OPENING: u32 = 6;
+// How many calls come before the first command where no index stands: the opening lists the doomed files, looks for the
+// three files of the index, syncs, and lists the entries; and then there is a look for the mark of a clearing.
+const OPENING: u32 = 7;
 
 fn bytes(alloc: Global, of: &[u8]) -> Result<Bytes, NoMemory> {
     let mut list = Bytes::new(alloc);

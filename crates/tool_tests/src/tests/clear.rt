@@ -14,8 +14,8 @@ fn rows_on_empty(alloc: Global, rows: &[Row<'_>]) -> Result<usize, Fail> {
     rows_so(alloc, &mut disk, rows)
 }
 
-// Two entries of the origin `^a`, of which the second is pinned, and one without an origin. Their names begin with E4, BB
-// and 67.
+// Two entries of the origin `^a`, of which the second is pinned, and one without an origin. Their names begin with E4,
+// BB and 67.
 const THREE: Row<'static> = (
     "1000 run",
     b"create 0 O^a,:https://x/1\nclose 0\ncreate 0 O^a,:https://x/2\npin 0\nclose 0\n\
@@ -364,56 +364,169 @@ fn entries_without_records_stay(rt: HostRuntime) -> Result<(), Fail> {
     Ok(())
 }
 
-// What stands at `clear`: the mark of the origin `^a`, of no origin, that one with another last byte, and no bytes.
-const LEFT_THERE: [&[u8]; 4] = [
-    MARK,
-    b"\xda\x39\xa3\xee\x5e\x6b\x4b\x0d\xed\xdc\xe9\x58",
-    b"\xda\x39\xa3\xee\x5e\x6b\x4b\x0d\xed\xdc\xe9\x59",
-    b"",
-];
+// The mark of the origin `^a`.
+const MARK: &[u8] = b"\xf8\x7f\xb1\x92\xd2\x66\x1a\x8c\xbf\x5c\x21\xfa";
 
-const AFTER_A_STOP: [Row<'static>; 4] = [
-    THREE,
-    (
-        "1000 get O^a,:https://x/1",
-        b"",
-        Status::Done,
-        b"found 1 1000 1000 1000 4294967295 0 0 0\n\n\n",
-    ),
-    ("1000 rebuild", b"", Status::Done, b"rebuilt 3\n"),
-    ("1000 verify", b"", Status::Done, b"findings 0\n"),
-];
-
-// Whether runs leave it alone, and a clearing takes it away.
-fn is_left_there(alloc: Global, left: &[u8]) -> Result<bool, Fail> {
+// A disk with what `THREE` makes, and these bytes at `clear`.
+fn three_and(alloc: Global, made: &MemDisk, left: &[u8]) -> Result<MemDisk, Fail> {
     let mut disk = MemDisk::new(alloc);
+    copy_index(alloc, made, &mut disk)?;
+    copy_file(alloc, made, &mut disk, place_of("O^a,:https://x/1"))?;
+    copy_file(alloc, made, &mut disk, place_of("O^a,:https://x/2"))?;
+    copy_file(alloc, made, &mut disk, place_of(":https://x/3"))?;
     put_file(alloc, &mut disk, Place::Clear, left)?;
-    if rows_so(alloc, &mut disk, &AFTER_A_STOP)? != AFTER_A_STOP.len() {
-        return Ok(false);
-    }
-    let stays = disk.file(&Place::Clear) == Some(left);
-    let clears = comes_so(
-        alloc,
-        &mut disk,
-        &("1000 clear ^a", b"", Status::Done, b"cleared 1\n"),
-    )?;
-    Ok(stays && clears && disk.file(&Place::Clear).is_none())
+    Ok(disk)
 }
 
-// No later run takes up a clearing that was stopped.
+// Each verb, and scripts, of which the last two have a malformed command.
+const AFTER_A_STOP: [Row<'static>; 16] = [
+    ("1001 list", b"", Status::Done, LIST_OF_TWO),
+    ("1001 put :new", b"hello", Status::Done, b"ok\n"),
+    ("1001 get O^a,:https://x/1", b"", Status::No, ABSENT),
+    ("1001 getalt O^a,:https://x/1", b"", Status::No, ABSENT),
+    ("1001 main O^a,:https://x/1", b"", Status::No, ABSENT),
+    ("1001 doom O^a,:https://x/1", b"", Status::No, ABSENT),
+    ("1001 evict 9", b"", Status::Done, b"evicted 0\n"),
+    ("1001 clear ^a", b"", Status::Done, b"cleared 0\n"),
+    ("1001 flush", b"", Status::Done, b"ok\n"),
+    ("1001 verify", b"", Status::Done, b"findings 0\n"),
+    ("1001 rebuild", b"", Status::Done, b"rebuilt 2\n"),
+    (
+        "1001 fill 1 1",
+        b"",
+        Status::Done,
+        b"made 1\nevicted 2\nfindings 0\nrecords 1\n",
+    ),
+    ("1001 run", b"", Status::Done, b""),
+    (
+        "1001 run",
+        b"has O^a,:https://x/1\nstep 1\n",
+        Status::Done,
+        b"no\nready\n",
+    ),
+    ("1001 run", b"fly\n", Status::Script, b"script 1\n"),
+    (
+        "1001 run",
+        b"state\nresume\n",
+        Status::Script,
+        b"ready\nscript 2\n",
+    ),
+];
+
+// Whether the row comes to what it says where the mark stands, which is gone then, as is the entry that is not pinned.
+fn resumes(alloc: Global, made: &MemDisk, row: &Row<'_>) -> Result<bool, Fail> {
+    let mut disk = three_and(alloc, made, MARK)?;
+    Ok(
+        comes_so(alloc, &mut disk, row)?
+            && disk.file(&Place::Clear).is_none()
+            && disk.file(&Place::Doomed(64)).is_none()
+            && holds(&disk, "O^a,:https://x/1", None)
+            && disk.file(&place_of("O^a,:https://x/2")).is_some(),
+    )
+}
+
+// Whatever a run is asked for, it does what is left of the clearing first. It prints nothing of that, and counts no
+// command.
 #[test]
-fn a_mark_starts_no_clearing(rt: HostRuntime) -> Result<(), Fail> {
-    for index in 0..LEFT_THERE.len() {
+fn every_run_resumes_a_clearing(rt: HostRuntime) -> Result<(), Fail> {
+    let mut made = MemDisk::new(rt.alloc());
+    comes_so(rt.alloc(), &mut made, &THREE)?;
+    for index in 0..AFTER_A_STOP.len() {
         assert!(rt;
-            is_left_there(rt.alloc(), LEFT_THERE[index])?,
+            resumes(rt.alloc(), &made, &AFTER_A_STOP[index])?,
             "row {index}"
         );
     }
     Ok(())
 }
 
-// The mark of the origin `^a`.
-const MARK: &[u8] = b"\xf8\x7f\xb1\x92\xd2\x66\x1a\x8c\xbf\x5c\x21\xfa";
+// What stands at `clear`: the mark of `^a` with another last byte, without its last byte and with a byte more, its
+// origin's hash alone, no bytes, and the mark of the origin `^nobody`.
+const LEFT_THERE: [&[u8]; 6] = [
+    b"\xf8\x7f\xb1\x92\xd2\x66\x1a\x8c\xbf\x5c\x21\xfb",
+    b"\xf8\x7f\xb1\x92\xd2\x66\x1a\x8c\xbf\x5c\x21",
+    b"\xf8\x7f\xb1\x92\xd2\x66\x1a\x8c\xbf\x5c\x21\xfa\0",
+    b"\xf8\x7f\xb1\x92\xd2\x66\x1a\x8c",
+    b"",
+    b"\x7a\x65\x3d\x54\x52\xa2\x4f\x80\xba\x12\xb6\xc1",
+];
+
+const LIST_OF_THREE: &[u8] = b"records 3\n\
+    6749AB76E8BBFCAD3CA2D603090C90D5968C9A26 1000 DA39A3EE5E6B4B0D 65535 65535 0 80000001\n\
+    BB7A999A49F7463180DC23AA3BD59FA9ED5548C6 1000 F87FB192D2661A8C 65535 65535 0 84000001\n\
+    E4839EC0787A0E66CEBF560E1AAA48378D9D07CD 1000 F87FB192D2661A8C 65535 65535 0 80000001\n";
+
+// Whether the same stands at the place on both disks.
+fn is_same(one: &MemDisk, other: &MemDisk, place: Place) -> bool {
+    match (one.file(&place), other.file(&place)) {
+        (Some(left), Some(right)) => left == right,
+        (None, None) => true,
+        _ => false,
+    }
+}
+
+// Whether a `list` takes the file away, prints all entries, and changes no other file.
+fn only_it_goes(alloc: Global, made: &MemDisk, left: &[u8]) -> Result<bool, Fail> {
+    let mut disk = three_and(alloc, made, left)?;
+    let so = comes_so(
+        alloc,
+        &mut disk,
+        &("1001 list", b"", Status::Done, LIST_OF_THREE),
+    )?;
+    Ok(
+        so && disk.file(&Place::Clear).is_none()
+            && disk.file(&Place::Doomed(64)).is_none()
+            && is_same(made, &disk, place_of("O^a,:https://x/1"))
+            && is_same(made, &disk, place_of("O^a,:https://x/2"))
+            && is_same(made, &disk, place_of(":https://x/3"))
+            && is_same(made, &disk, Place::Index)
+            && is_same(made, &disk, Place::Log),
+    )
+}
+
+// What is no mark goes, and so does the mark of an origin that no entry has.
+#[test]
+fn what_clears_nothing_goes_alone(rt: HostRuntime) -> Result<(), Fail> {
+    let mut made = MemDisk::new(rt.alloc());
+    comes_so(rt.alloc(), &mut made, &THREE)?;
+    for index in 0..LEFT_THERE.len() {
+        assert!(rt;
+            only_it_goes(rt.alloc(), &made, LEFT_THERE[index])?,
+            "row {index}"
+        );
+    }
+    Ok(())
+}
+
+// Words, and what their source gives.
+const LOOKING: [(&str, &[u8]); 4] = [
+    ("1000 run", b"flush\n"),
+    ("1000 put :x", b"hello"),
+    ("1000 list", b""),
+    ("1000 fill 1 1", b""),
+];
+
+// Whether the run ends where the look for the mark fails, and prints nothing.
+fn ends_without_a_line(alloc: Global, line: &str, input: &[u8]) -> Result<bool, Fail> {
+    let mut disk = disk_with(alloc, KEY, FILE)?;
+    disk.fail_at(one_number(alloc, OPENING)?);
+    let (status, text) = ends(alloc, &mut disk, line, input)?;
+    let ends_there = disk.calls() == u64::from(OPENING);
+    Ok(status == Status::Disk && text.as_slice().is_empty() && ends_there)
+}
+
+// No verb goes on where that cannot be looked for, and no line `fault` is printed.
+#[test]
+fn a_failed_look_for_the_mark_ends_the_run(rt: HostRuntime) -> Result<(), Fail> {
+    for index in 0..LOOKING.len() {
+        let (line, input) = LOOKING[index];
+        assert!(rt;
+            ends_without_a_line(rt.alloc(), line, input)?,
+            "row {index}"
+        );
+    }
+    Ok(())
+}
 
 // Six entries: four of the origin `^a`, one of it that is pinned, and one of no origin.
 const SIX: Row<'static> = (
@@ -437,22 +550,33 @@ const GETS: [&str; 4] = [
 
 const OLD: &[u8] = b"found 1 1000 1000 1000 4294967295 0 0 3\n\nold\n";
 
-// What a clearing answers where so many of them are gone.
-const CLEARED: [&[u8]; 5] = [
-    b"cleared 4\n",
-    b"cleared 3\n",
-    b"cleared 2\n",
-    b"cleared 1\n",
-    b"cleared 0\n",
-];
+// What a clearing answers, and one where they are gone.
+const ALL_CLEARED: &[u8] = b"cleared 4\n";
+
+const NONE_CLEARED: &[u8] = b"cleared 0\n";
+
+// What a `list` prints with all four, and with none of them.
+const LIST_OF_SIX: &[u8] = b"records 6\n\
+    04C6287C0869189DFFCDED3FA5DF4DE5F25B5287 1000 F87FB192D2661A8C 65535 65535 0 80000001\n\
+    1100F09CA3ED20B84AA16AF6C3D2EFA83059A176 1000 F87FB192D2661A8C 65535 65535 0 80000001\n\
+    1A9CD37C0723E3174AFE0CAE7E4EC3092D006460 1000 F87FB192D2661A8C 65535 65535 0 80000001\n\
+    247B836081D8C22400AD32FC4DFE5D5A121026E0 1000 DA39A3EE5E6B4B0D 65535 65535 0 80000001\n\
+    930E4473C4C3B4CDC8D5B3B5053B40FE41D78F14 1000 F87FB192D2661A8C 65535 65535 0 80000001\n\
+    F65E571F361C88F59343756F1F636E363935E6E8 1000 F87FB192D2661A8C 65535 65535 0 84000001\n";
+
+const LIST_OF_OTHERS: &[u8] = b"records 2\n\
+    247B836081D8C22400AD32FC4DFE5D5A121026E0 1000 DA39A3EE5E6B4B0D 65535 65535 0 80000001\n\
+    F65E571F361C88F59343756F1F636E363935E6E8 1000 F87FB192D2661A8C 65535 65535 0 84000001\n";
+
+const LIST: &str = "1001 list";
 
 const CLEAR: &str = "1001 clear ^a";
 
-// Whether the first of the four are gone, so many, and the others are found.
-fn are_gone(alloc: Global, disk: &mut MemDisk, gone: usize) -> Result<bool, Fail> {
-    for index in 0..GETS.len() {
-        let due = if index < gone { ABSENT } else { OLD };
-        if !prints(alloc, disk, GETS[index], due)? {
+// Whether all of the four are found, or none of them, and both others.
+fn are_found(alloc: Global, disk: &mut MemDisk, is_all: bool) -> Result<bool, Fail> {
+    let due = if is_all { OLD } else { ABSENT };
+    for get in GETS {
+        if !prints(alloc, disk, get, due)? {
             return Ok(false);
         }
     }
@@ -464,18 +588,18 @@ fn are_gone(alloc: Global, disk: &mut MemDisk, gone: usize) -> Result<bool, Fail
     )
 }
 
-// Whether that is so after a stop, the index agrees, and a clearing then takes the others.
-fn reopens_so(alloc: Global, image: &mut MemDisk, gone: usize) -> Result<bool, Fail> {
-    let due = match CLEARED.get(gone) {
-        Some(due) => *due,
-        None => return Ok(false),
-    };
+// Whether the first run after a stop lists all of the four, or none of them, and leaves no mark. The files agree, and a
+// clearing then takes those that are left.
+fn reopens_so(alloc: Global, image: &mut MemDisk, is_all: bool) -> Result<bool, Fail> {
+    let listed = if is_all { LIST_OF_SIX } else { LIST_OF_OTHERS };
+    let cleared = if is_all { ALL_CLEARED } else { NONE_CLEARED };
     Ok(
-        are_gone(alloc, image, gone)?
-            && lists_what_stands(alloc, image)?
-            && prints(alloc, image, CLEAR, due)?
+        prints(alloc, image, LIST, listed)?
             && image.file(&Place::Clear).is_none()
-            && are_gone(alloc, image, COVERED.len())?,
+            && are_found(alloc, image, is_all)?
+            && lists_what_stands(alloc, image)?
+            && prints(alloc, image, CLEAR, cleared)?
+            && prints(alloc, image, LIST, LIST_OF_OTHERS)?,
     )
 }
 
@@ -499,11 +623,13 @@ fn content_at<'a>(disk: &'a MemDisk, place: &Place) -> &'a [u8] {
     }
 }
 
-// The files of an image: how many of the four are gone, and where the mark and the journal stand, if they do.
+// The files of an image: how many of the four are gone, whether a file stands at the number 64 and whether the mark
+// does, and where the journal stands, if it does.
 #[derive(Clone, Copy)]
 struct Shape {
     gone: usize,
-    mark: Option<Place>,
+    is_aside: bool,
+    is_marked: bool,
     journal: Option<Place>,
 }
 
@@ -545,34 +671,81 @@ fn image_of_shape(
     if let Some(place) = shape.journal {
         add_file(alloc, &mut files, place, content_at(disk, &place))?;
     }
-    if let Some(place) = shape.mark {
-        let content = if place == Place::Clear {
-            MARK
-        } else {
-            content_at(disk, &place)
-        };
-        add_file(alloc, &mut files, place, content)?;
+    if shape.is_aside {
+        let place = Place::Doomed(64);
+        add_file(alloc, &mut files, place, content_at(disk, &place))?;
+    }
+    if shape.is_marked {
+        add_file(alloc, &mut files, Place::Clear, MARK)?;
     }
     Ok(disk.image(names, files).ok())
 }
 
-// Whether such an image, where there is one, is as it is due; and whether there is one. From the first that is gone to the
-// last the mark stands, and once the clearing is answered all are gone.
+// What an image of a stop may be: one of a clearing that is not answered, of one that is, or of one that was stopped
+// before.
+#[derive(Clone, Copy)]
+enum Stopped {
+    First,
+    Answered,
+    Again,
+}
+
+// Whether such a shape is allowed. From the first entry that is gone to the last the mark stands, and once the clearing
+// is answered all are gone.
+fn may_be(shape: &Shape, stopped: Stopped) -> bool {
+    match stopped {
+        Stopped::First => shape.gone == 0 || shape.gone == 4 || shape.is_marked,
+        Stopped::Answered => shape.gone == 4 && !shape.is_marked,
+        Stopped::Again => shape.gone == 4 || shape.is_marked,
+    }
+}
+
+// Whether such an image, where there is one, is as it is due; and whether there is one. Where the mark stands the next
+// run takes what is left.
 fn shape_is_so(
     alloc: Global,
     disk: &MemDisk,
     names: usize,
     shape: &Shape,
-    is_answered: bool,
+    stopped: Stopped,
 ) -> Result<(bool, bool), Fail> {
     match image_of_shape(alloc, disk, names, shape)? {
         Some(mut image) => {
-            let is_whole = shape.gone == 0 || shape.gone == 4 || shape.mark == Some(Place::Clear);
-            let is_due = is_whole && (shape.gone == 4 || !is_answered);
-            Ok((is_due && reopens_so(alloc, &mut image, shape.gone)?, true))
+            let is_all = shape.gone == 0 && !shape.is_marked;
+            let so = may_be(shape, stopped) && reopens_so(alloc, &mut image, is_all)?;
+            Ok((so, true))
         }
         None => Ok((true, false)),
     }
+}
+
+// Whether there is an image with these names and with so many gone, and all are as they are due.
+fn shapes_are_so(
+    alloc: Global,
+    disk: &MemDisk,
+    names: usize,
+    gone: usize,
+    stopped: Stopped,
+) -> Result<(bool, bool), Fail> {
+    let mut met = false;
+    for is_aside in [false, true] {
+        for is_marked in [false, true] {
+            for journal in [None, Some(Place::Log), Some(Place::Tmp)] {
+                let shape = Shape {
+                    gone,
+                    is_aside,
+                    is_marked,
+                    journal,
+                };
+                let (so, is_there) = shape_is_so(alloc, disk, names, &shape, stopped)?;
+                if !so {
+                    return Ok((false, true));
+                }
+                met = met || is_there;
+            }
+        }
+    }
+    Ok((true, met))
 }
 
 // Whether there is an image after so many name steps, and all are as they are due.
@@ -580,35 +753,26 @@ fn images_after(
     alloc: Global,
     disk: &MemDisk,
     names: usize,
-    is_answered: bool,
+    stopped: Stopped,
 ) -> Result<bool, Fail> {
     let mut met = false;
     for gone in 0..5usize {
-        for mark in [None, Some(Place::Doomed(64)), Some(Place::Clear)] {
-            for journal in [None, Some(Place::Log), Some(Place::Tmp)] {
-                let shape = Shape {
-                    gone,
-                    mark,
-                    journal,
-                };
-                let (so, is_there) = shape_is_so(alloc, disk, names, &shape, is_answered)?;
-                if !so {
-                    return Ok(false);
-                }
-                met = met || is_there;
-            }
+        let (so, is_there) = shapes_are_so(alloc, disk, names, gone, stopped)?;
+        if !so {
+            return Ok(false);
         }
+        met = met || is_there;
     }
     Ok(met)
 }
 
-fn images_are_so(alloc: Global, disk: &MemDisk, is_answered: bool) -> Result<bool, Fail> {
+fn images_are_so(alloc: Global, disk: &MemDisk, stopped: Stopped) -> Result<bool, Fail> {
     let most = disk.name_steps();
     for names in 0..20usize {
         if names > most {
             return Ok(true);
         }
-        if !images_after(alloc, disk, names, is_answered)? {
+        if !images_after(alloc, disk, names, stopped)? {
             return Ok(false);
         }
     }
@@ -620,9 +784,9 @@ fn calls_of_a_clearing(alloc: Global) -> Result<(u64, u64), Fail> {
     let mut disk = MemDisk::new(alloc);
     let made = comes_so(alloc, &mut disk, &SIX)?;
     let before = disk.calls();
-    let cleared = comes_so(alloc, &mut disk, &(CLEAR, b"", Status::Done, CLEARED[0]))?;
+    let cleared = comes_so(alloc, &mut disk, &(CLEAR, b"", Status::Done, ALL_CLEARED))?;
     let after = disk.calls();
-    if made && cleared && are_gone(alloc, &mut disk, COVERED.len())? {
+    if made && cleared && are_found(alloc, &mut disk, false)? {
         Ok((before, after))
     } else {
         Err(Fail::from("this is no clearing"))
@@ -635,8 +799,12 @@ fn stop_is_so(alloc: Global, stop: u64) -> Result<bool, Fail> {
     comes_so(alloc, &mut disk, &SIX)?;
     disk.stop_after(stop);
     let (status, text) = ends(alloc, &mut disk, CLEAR, b"")?;
-    let is_answered = before_faults(text.as_slice()) == CLEARED[0];
-    Ok(status == Status::Disk && images_are_so(alloc, &disk, is_answered)?)
+    let stopped = if before_faults(text.as_slice()) == ALL_CLEARED {
+        Stopped::Answered
+    } else {
+        Stopped::First
+    };
+    Ok(status == Status::Disk && images_are_so(alloc, &disk, stopped)?)
 }
 
 // The first number of calls after which a stop leaves another image, where there is one.
@@ -650,30 +818,123 @@ fn bad_stop(alloc: Global) -> Result<Option<u64>, Fail> {
     Ok(None)
 }
 
-// Each entry is whole or gone, and none is there once the clearing is answered.
+// After each stop the next run lists all four or none, each of them whole, and none once the clearing is answered.
 #[test]
-fn each_stop_of_a_clearing_leaves_whole_entries(rt: HostRuntime) -> Result<(), Fail> {
+fn each_stop_of_a_clearing_leaves_all_or_none(rt: HostRuntime) -> Result<(), Fail> {
     let bad = bad_stop(rt.alloc())?;
     assert!(rt; bad == None, "at {bad:?}");
     Ok(())
 }
 
+// Copies the six entries.
+fn copy_six(alloc: Global, made: &MemDisk, disk: &mut MemDisk) -> Result<(), NoMemory>
+    requires { IsQuiet (state_in disk.old) }
+    ensures { IsQuiet (state_in disk.new) }
+{
+    copy_file(alloc, made, disk, place_of("O^a,:1"))?;
+    copy_file(alloc, made, disk, place_of("O^a,:2"))?;
+    copy_file(alloc, made, disk, place_of("O^a,:3"))?;
+    copy_file(alloc, made, disk, place_of("O^a,:4"))?;
+    copy_file(alloc, made, disk, place_of("O^a,:p"))?;
+    copy_file(alloc, made, disk, place_of(":o"))
+}
+
 // The six entries, and no index: the update has their files to read.
 fn six_entries(alloc: Global, made: &MemDisk) -> Result<MemDisk, Fail> {
     let mut disk = MemDisk::new(alloc);
-    copy_file(alloc, made, &mut disk, place_of("O^a,:1"))?;
-    copy_file(alloc, made, &mut disk, place_of("O^a,:2"))?;
-    copy_file(alloc, made, &mut disk, place_of("O^a,:3"))?;
-    copy_file(alloc, made, &mut disk, place_of("O^a,:4"))?;
-    copy_file(alloc, made, &mut disk, place_of("O^a,:p"))?;
-    copy_file(alloc, made, &mut disk, place_of(":o"))?;
+    copy_six(alloc, made, &mut disk)?;
     Ok(disk)
+}
+
+// The six entries and the mark.
+fn six_and_mark(alloc: Global, made: &MemDisk) -> Result<MemDisk, Fail> {
+    let mut disk = MemDisk::new(alloc);
+    copy_six(alloc, made, &mut disk)?;
+    put_file(alloc, &mut disk, Place::Clear, MARK)?;
+    Ok(disk)
+}
+
+// The same with the index.
+fn six_mark_and_index(alloc: Global, made: &MemDisk) -> Result<MemDisk, Fail> {
+    let mut disk = MemDisk::new(alloc);
+    copy_index(alloc, made, &mut disk)?;
+    copy_six(alloc, made, &mut disk)?;
+    put_file(alloc, &mut disk, Place::Clear, MARK)?;
+    Ok(disk)
+}
+
+// How many calls a `list` makes that resumes the clearing.
+fn calls_of_resuming(alloc: Global, made: &MemDisk) -> Result<u64, Fail> {
+    let mut disk = six_mark_and_index(alloc, made)?;
+    if comes_so(alloc, &mut disk, &(LIST, b"", Status::Done, LIST_OF_OTHERS))? {
+        Ok(disk.calls())
+    } else {
+        Err(Fail::from("nothing is resumed"))
+    }
+}
+
+// Whether it stops after so many calls, and all images are then as they are due.
+fn resuming_stops_so(alloc: Global, made: &MemDisk, stop: u64) -> Result<bool, Fail> {
+    let mut disk = six_mark_and_index(alloc, made)?;
+    disk.stop_after(stop);
+    let (status, _) = ends(alloc, &mut disk, LIST, b"")?;
+    Ok(status == Status::Disk && images_are_so(alloc, &disk, Stopped::Again)?)
+}
+
+// The mark stands as long as one of them may, whatever stops the run after the stop, and the one after that goes on.
+#[test]
+fn each_stop_of_resuming_leaves_the_mark_or_none(rt: HostRuntime) -> Result<(), Fail> {
+    let mut made = MemDisk::new(rt.alloc());
+    comes_so(rt.alloc(), &mut made, &SIX)?;
+    let calls = calls_of_resuming(rt.alloc(), &made)?;
+    assert!(rt; calls > 20, "{calls} calls");
+    for stop in 0..calls {
+        assert!(rt;
+            resuming_stops_so(rt.alloc(), &made, stop)?,
+            "after {stop} calls"
+        );
+    }
+    Ok(())
+}
+
+// Where the call of this number fails alone, the run ends there and prints nothing, or all of its reply where that was
+// the closing's. The next run finds none of the four. Whether it failed.
+fn ends_and_goes_on(alloc: Global, made: &MemDisk, number: u32) -> Result<(bool, bool), Fail> {
+    let mut disk = six_and_mark(alloc, made)?;
+    disk.fail_at(one_number(alloc, number)?);
+    let (status, text) = ends(alloc, &mut disk, LIST, b"")?;
+    let is_met = status == Status::Disk;
+    let ends_there = !is_met || disk.calls() == u64::from(number);
+    let is_due = text.as_slice() == LIST_OF_OTHERS || (is_met && text.as_slice().is_empty());
+    let goes_on = !is_met || prints(alloc, &mut disk, LIST, LIST_OF_OTHERS)?;
+    Ok((
+        ends_there && is_due && goes_on && disk.file(&Place::Clear).is_none(),
+        is_met,
+    ))
+}
+
+// A look that fails while a clearing is resumed is answered by no line, and neither is a change. The mark stays.
+#[test]
+fn each_failing_call_of_resuming_ends_the_run(rt: HostRuntime) -> Result<(), Fail> {
+    let mut made = MemDisk::new(rt.alloc());
+    comes_so(rt.alloc(), &mut made, &SIX)?;
+    let mut failed = 0usize;
+    for number in 1..100u32 {
+        let (so, is_met) = ends_and_goes_on(rt.alloc(), &made, number)?;
+        assert!(rt; so, "at call {number}");
+        if !is_met {
+            break;
+        }
+        failed = failed.wrapping_add(1);
+    }
+    assert!(rt; failed > 25 && failed < 99, "{failed}");
+    Ok(())
 }
 
 // Whether nothing of a clearing stands, and no entry is gone.
 fn leaves_all(alloc: Global, disk: &mut MemDisk) -> Result<bool, Fail> {
     let is_unmarked = disk.file(&Place::Clear).is_none() && disk.file(&Place::Doomed(64)).is_none();
-    Ok(is_unmarked && are_gone(alloc, disk, 0)?)
+    Ok(is_unmarked && are_found(alloc, disk, true)?)
 }
 
 // Where the call of this number fails alone: the clearing is told to have failed and left all, or the run ended there.

@@ -143,7 +143,7 @@ fn a_bad_command_ends_the_script(rt: HostRuntime) -> Result<(), Fail> {
     Ok(())
 }
 
-const MALFORMED: [&[u8]; 34] = [
+const MALFORMED: [&[u8]; 35] = [
     b"\n",
     b"fly\n",
     b"flush",
@@ -178,6 +178,7 @@ const MALFORMED: [&[u8]; 34] = [
     b"use 64\n",
     b"evict\n",
     b"evict 4294967296\n",
+    b"resume\n",
 ];
 
 #[test]

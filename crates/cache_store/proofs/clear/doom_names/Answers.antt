@@ -7,6 +7,7 @@ use Rattle.cache_store.proofs.NamesDoomed.{Completes, next_done, next_fails, non
 use Rattle.file_handles.specs.Cache.{cache}
 use Rattle.file_handles.proofs.MarkLeft.{then_marked}
 use Rattle.file_handles.proofs.TakingSteps.{takes_then}
+use Rattle.index_theory.proofs.LeavesLaws.{both_leave_beside}
 use Rattle.cache_store.proofs.clear.doom_names.Goals as goal
 
 pub doom_name-requires : goal.doom_name-requires
@@ -33,7 +34,7 @@ loop-name-preserved g c =
       chunks = c.doom_name.ensures.chunks ∙ c.loop-name.invariant.chunks;
       mark = λ told. then_marked (g.D.Disk.state c.args.disk.now) (g.D.Disk.state c.loop-name.disk) (g.D.Disk.state c.doom_name.new.disk) (c.loop-name.invariant.mark told) (c.doom_name.ensures.mark told);
       takes = λ told. takes_then (g.D.Disk.state c.args.disk.now) (g.D.Disk.state c.loop-name.disk) (g.D.Disk.state c.doom_name.new.disk) (c.loop-name.invariant.takes told) (c.doom_name.ensures.takes told);
-      index = search rules;
+      index = λ told. both_leave_beside _ _ _ (c.loop-name.invariant.index told) (c.doom_name.ensures.index told);
       calm = search rules;
       looks = search rules;
     }
@@ -66,3 +67,6 @@ returns-clause-dooms g c = λ told.
 pub returns-in-Err-clause-takes : goal.returns-in-Err-clause-takes
 returns-in-Err-clause-takes g c = λ told.
     takes_then (g.D.Disk.state c.args.disk.now) (g.D.Disk.state c.loop-name.disk) (g.D.Disk.state c.doom_name.new.disk) (c.loop-name.invariant.takes told) (c.doom_name.ensures.takes told)
+
+pub returns-in-Err-clause-index : goal.returns-in-Err-clause-index
+returns-in-Err-clause-index g c = λ told. both_leave_beside _ _ _ (c.loop-name.invariant.index told) (c.doom_name.ensures.index told)

@@ -7,7 +7,7 @@ use Rattle.file_handles.specs.Cache.{cache}
 use Rattle.file_handles.specs.Dooming.{LeavesMark, TakesEntries}
 use Rattle.file_handles.specs.HeldChunks.{SameChunks}
 use Rattle.file_handles.specs.Kept.{kept}
-use Rattle.index_theory.specs.Leaves.{LeavesIndex}
+use Rattle.index_theory.specs.Leaves.{LeavesBeside}
 use Rattle.cache_store.proofs.clear.doom_names.Given as goal
 
 -- the names that are left may be doomed, and complete the whole
@@ -19,7 +19,7 @@ invariant-loop-name g l = record {
   chunks : SameChunks (kept l.fn.handles) (kept l.handles);
   mark : Told g.D.Disk LeavesMark l.fn.disk l.disk;
   takes : Told g.D.Disk TakesEntries l.fn.disk l.disk;
-  index : Told g.D.Disk LeavesIndex l.fn.disk l.disk;
+  index : Told g.D.Disk LeavesBeside l.fn.disk l.disk;
   calm : IsCalm g.D.Disk l.fn.disk l.disk;
   looks : LooksAtNoEntry g.D.Disk l.fn.disk l.disk;
 }

@@ -7,6 +7,7 @@ use Rattle.cache_store.proofs.NamesDoomed.{Completes, next_done, next_fails, non
 use Rattle.file_handles.specs.Cache.{cache}
 use Rattle.file_handles.specs.Kept.{Kept, kept}
 use Rattle.file_handles.proofs.UnsyncedLaws.{then_unsynced}
+use Rattle.index_theory.proofs.LeavesLaws.{both_leave_beside}
 use Rattle.cache_store.proofs.evict.remove_files.Goals as goal
 
 pub evict-requires-clause-unused : goal.evict-requires-clause-unused
@@ -39,7 +40,7 @@ loop-name-preserved g c =
       completes = λ told. next_done _ (drop (i + 1) names) names before now next (subst (λ (ns : List Name). Completes ns names before now) first (c.loop-name.invariant.completes told))
           _ (c.in_ok-evict.ensures.evicts told);
       kept = search rules;
-      index = search rules;
+      index = λ told. both_leave_beside _ _ _ (c.loop-name.invariant.index told) (c.evict.ensures.index told);
       unsynced = λ told. then_unsynced _ _ _ (c.loop-name.invariant.unsynced told) (c.evict.ensures.unsynced told);
       calm = search rules;
       looks = search rules;
@@ -69,3 +70,6 @@ returns-clause-dooms g c = λ told.
 
 pub returns-in_err-evict-clause-unsynced : goal.returns-in_err-evict-clause-unsynced
 returns-in_err-evict-clause-unsynced g c = λ told. then_unsynced _ _ _ (c.loop-name.invariant.unsynced told) (c.evict.ensures.unsynced told)
+
+pub returns-in_err-evict-clause-index : goal.returns-in_err-evict-clause-index
+returns-in_err-evict-clause-index g c = λ told. both_leave_beside _ _ _ (c.loop-name.invariant.index told) (c.evict.ensures.index told)

@@ -6,7 +6,7 @@ use Rattle.disk_model.specs.Told.{Told}
 use Rattle.file_handles.specs.Cache.{cache}
 use Rattle.file_handles.specs.Kept.{kept}
 use Rattle.file_handles.specs.Unsynced.{SyncsNothing}
-use Rattle.index_theory.specs.Leaves.{LeavesIndex}
+use Rattle.index_theory.specs.Leaves.{LeavesBeside}
 use Rattle.cache_store.proofs.evict.remove_files.Given as goal
 
 -- the files that are left may be removed, and complete the whole
@@ -17,7 +17,7 @@ invariant-loop-name g l = record {
   completes : IsTrue g.D.Disk.tells
       → Completes (drop l.name-index l.names) l.fn.names (cache g.D.Disk l.fn.handles l.fn.disk) (cache g.D.Disk l.handles l.disk);
   kept : kept l.handles ≡ kept l.fn.handles;
-  index : Told g.D.Disk LeavesIndex l.fn.disk l.disk;
+  index : Told g.D.Disk LeavesBeside l.fn.disk l.disk;
   unsynced : Told g.D.Disk SyncsNothing l.fn.disk l.disk;
   calm : IsCalm g.D.Disk l.fn.disk l.disk;
   looks : LooksAtNoEntry g.D.Disk l.fn.disk l.disk;

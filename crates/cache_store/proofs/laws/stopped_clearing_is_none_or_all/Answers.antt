@@ -1,5 +1,8 @@
 use Rattle.cache_store.proofs.ClearedLaws as laws
 use Rattle.cache_store.proofs.laws.stopped_clearing_is_none_or_all.Goals as goal
 
-pub returns : goal.returns
-returns c = laws.stopped_clearing_is_none_or_all
+pub returns-clause-stopped : goal.returns-clause-stopped
+returns-clause-stopped c = laws.stopped_clearing_is_none_or_all
+
+pub returns-clause-resumed : goal.returns-clause-resumed
+returns-clause-resumed c = laws.resumed_clearing_is_none_or_all

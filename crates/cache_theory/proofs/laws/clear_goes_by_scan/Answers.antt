@@ -1,4 +1,5 @@
 use Rattle.cache_theory.proofs.Clearing as laws
+use Rattle.cache_theory.proofs.MarkStays as marks
 use Rattle.cache_theory.proofs.Covering.{record_tells_covered}
 use Rattle.cache_theory.proofs.Evicting.{doomed_are_lost}
 use Rattle.cache_theory.proofs.laws.clear_goes_by_scan.Goals as goal
@@ -8,6 +9,21 @@ returns-clause-same c = laws.clear_is_of_names
 
 pub returns-clause-scan : goal.returns-clause-scan
 returns-clause-scan c = laws.clear_goes_by_scan
+
+pub returns-clause-resumed : goal.returns-clause-resumed
+returns-clause-resumed c = laws.resume_is_of_names
+
+pub returns-clause-unmarked : goal.returns-clause-unmarked
+returns-clause-unmarked c = laws.resume_without_mark
+
+pub returns-clause-resumed_scan : goal.returns-clause-resumed_scan
+returns-clause-resumed_scan c = laws.resume_goes_by_scan
+
+pub returns-clause-stays : goal.returns-clause-stays
+returns-clause-stays c = marks.mark_stays
+
+pub returns-clause-left : goal.returns-clause-left
+returns-clause-left c = marks.no_mark_is_left
 
 pub returns-clause-records : goal.returns-clause-records
 returns-clause-records c = record_tells_covered

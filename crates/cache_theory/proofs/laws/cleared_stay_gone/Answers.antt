@@ -1,6 +1,7 @@
+use Rattle.cache_theory.proofs.ClearedNames as names
 use Rattle.cache_theory.proofs.ClearedGone as gone
 use Rattle.cache_theory.proofs.SparedObjects as spared
 use Rattle.cache_theory.proofs.laws.cleared_stay_gone.Goals as goal
 
 pub returns : goal.returns
-returns c = record { gone = gone.cleared_stay_gone; spared = spared.written_are_spared }
+returns c = record { gone = gone.cleared_stay_gone; spared = spared.written_are_spared; resumed = names.resumed_leaves_none }

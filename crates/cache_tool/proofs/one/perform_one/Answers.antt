@@ -1,4 +1,4 @@
--- What the command came to, where the store opened and where it did not.
+-- What the command came to, where the run began and where it did not.
 use Rattle.std.proofs.Common.{◌≡◌, ◌∙◌, ap, arith, inl, inr, refl, subst, sym}
 use Rattle.cache_script.specs.Command.{command_of}
 use Rattle.cache_store.specs.IndexCalls.{LooksAtNames}
@@ -7,57 +7,77 @@ use Rattle.cache_store.specs.Saying.{IsPart}
 use Rattle.cache_store.specs.Session.{session}
 use Rattle.cache_store.proofs.Represented.{represents}
 use Rattle.cache_theory.specs.Faulted.{fault_line}
-use Rattle.cache_theory.specs.History.{settled_at}
+use Rattle.cache_theory.specs.History.{acked, settled_at}
+use Rattle.cache_theory.specs.Step.{step}
 use Rattle.cache_tool.specs.World.{output}
-use Rattle.cache_tool.proofs.DoneLaws.{begun_records, done_at_opening, done_right}
-use Rattle.cache_tool.proofs.EntryLooks.{nothing_to_read, reads_none}
-use Rattle.cache_tool.proofs.OneCommand.{came_ending, came_open, faulted_prints, performed_prints, rose_twice, unopened_prints}
+use Rattle.cache_tool.proofs.DoneLaws.{done_right, done_spoken}
+use Rattle.cache_tool.proofs.EntryLooks.{looks_none, nothing_to_read, reads_none}
+use Rattle.cache_tool.proofs.OneCommand.{came_ending, came_open, faulted_prints, not_begun, performed_prints, rose_twice}
 use Rattle.cache_tool.proofs.PutEnds.{put_stops}
+use Rattle.cache_tool.proofs.SessionEnds.{next_done, resumed_done}
 use Rattle.cache_tool.proofs.StayingLaws.{stays_done, stays_for}
+use Rattle.context_clear.specs.Mark.{mark_of}
 use Rattle.disk_model.specs.State.{standing}
+use Rattle.disk_model.specs.declared.place.Place.TheVariants.{Clear}
 use Rattle.index_theory.specs.Start.{start_of}
 use Rattle.cache_tool.proofs.one.perform_one.Goals as goal
 
 pub returns-in-Err-clause-answers : goal.returns-in-Err-clause-answers
 returns-in-Err-clause-answers g c = λ tells m is.
-    inr (inr (unopened_prints m (output g.K.Sink g.D.Disk c.args.sink.now c.args.disk.now) _ (g.D.Disk.faults c.open.new.disk) c.open.result c.in-Err.fault c.status_of_fault.result c.in-Err.is c.open.ensures.no_sink
-    c.status_of_fault.ensures (c.open.ensures.safe tells m is) (c.open.ensures.honest tells)))
+    inr (not_begun (output g.K.Sink g.D.Disk c.args.sink.now c.args.disk.now) (g.D.Disk.state c.begin.new.disk) (g.D.Disk.faults c.begin.new.disk) c.begin.result c.in-Err.fault c.status_of_fault.result c.in-Err.is
+    c.begin.ensures.no_sink c.status_of_fault.ensures c.begin.ensures.account.cause.rose (c.in-Err.ensures.fails tells) m is)
 
 pub returns-then-faulting-clause-answers : goal.returns-then-faulting-clause-answers
 returns-then-faulting-clause-answers g c = λ tells m is.
     let failed = sym c.faulting.ensures ∙ c.if-faulting.true in
     let command = c.attempt-answered.ensures in
     let same : g.K.Sink.taken c.attempt-answered.new.sink ≡ g.K.Sink.taken c.args.sink.now = ap (λ k. g.K.Sink.taken k) (command.silent failed) in
-    let calm : g.D.Disk.faults c.open.new.disk ≡ g.D.Disk.faults c.args.disk.now = c.in-Ok.ensures.account.cause.kept (λ e. cc e) in
+    let calm : g.D.Disk.faults c.begin.new.disk ≡ g.D.Disk.faults c.args.disk.now = c.in-Ok.ensures.account.cause.kept (λ e. cc e) in
     let rose = (command.looked failed).cause.rose refl in
     let later = c.end_faulted.ensures.later in
-    inr (inl (faulted_prints m (output g.K.Sink g.D.Disk c.args.sink.now c.args.disk.now) (output g.K.Sink g.D.Disk c.end_faulted.new.sink c.end_faulted.new.disk)
-    (session g.D.Disk c.in-Ok.store c.open.new.disk) (session g.D.Disk c.attempt-answered.new.self c.attempt-answered.new.disk)
-    (c.in-Ok.ensures.opens tells) is (c.in-Ok.ensures.based tells) (command.stays failed tells) (command.same_base failed) c.end_faulted.result (c.end_faulted.ensures.ends tells)
-    c.end_faulted.ensures.failed (omega (arith, calm, rose, later))
-    (subst (λ taken. IsPart taken (g.K.Sink.taken c.end_faulted.new.sink) fault_line) same c.end_faulted.ensures.part)
-    (λ disk. rose_twice (g.D.Disk.faults c.args.disk.now) (g.D.Disk.faults c.open.new.disk) (g.D.Disk.faults c.attempt-answered.new.disk) (g.D.Disk.faults c.end_faulted.new.disk) calm rose tells
-    (c.end_faulted.ensures.closed disk))))
+    let begins = c.in-Ok.ensures.begins tells in
+    let s = g.D.Disk.state c.args.disk.now in
+    let mid = session g.D.Disk c.in-Ok.store c.begin.new.disk in
+    inl (
+      (begins.resumed m is).done,
+      (
+        resumed_done s mid begins m is (g.met.D.Disk.finite c.args.disk.now tells),
+        inr (faulted_prints (output g.K.Sink g.D.Disk c.args.sink.now c.args.disk.now) (output g.K.Sink g.D.Disk c.end_faulted.new.sink c.end_faulted.new.disk)
+            mid (session g.D.Disk c.attempt-answered.new.self c.attempt-answered.new.disk) begins m is c.end_faulted.result (command.stays failed tells) (command.same_base failed) (c.end_faulted.ensures.ends tells)
+            c.end_faulted.ensures.failed (omega (arith, calm, rose, later))
+            (subst (λ taken. IsPart taken (g.K.Sink.taken c.end_faulted.new.sink) fault_line) same c.end_faulted.ensures.part)
+            (λ disk. rose_twice (g.D.Disk.faults c.args.disk.now) (g.D.Disk.faults c.begin.new.disk) (g.D.Disk.faults c.attempt-answered.new.disk) (g.D.Disk.faults c.end_faulted.new.disk) calm rose tells
+            (c.end_faulted.ensures.closed disk))),
+      ),
+    )
 
 pub returns-clause-answers : goal.returns-clause-answers
 returns-clause-answers g c = λ tells m is.
-    let opens = c.in-Ok.ensures.opens tells in
-    let keeps = opens.keeps m is in
-    let before = session g.D.Disk c.in-Ok.store c.open.new.disk in
+    let begins = c.in-Ok.ensures.begins tells in
+    let resumed = begins.resumed m is in
+    let next = (step m resumed.done).next in
+    let command = command_of c.args.command.now in
+    let s = g.D.Disk.state c.args.disk.now in
+    let finite = g.met.D.Disk.finite c.args.disk.now tells in
+    let mid = session g.D.Disk c.in-Ok.store c.begin.new.disk in
     let last = session g.D.Disk c.attempt-answered.new.self c.attempt-answered.new.disk in
-    let does = (c.attempt-answered.ensures.performs tells).crash (settled_at m) keeps in
-    let done = done_right before (command_of c.args.command.now) m does.0 does.1.0 in
-    let stays = stays_for (command_of c.args.command.now) c.attempt-answered.result before last (λ spares. c.attempt-answered.ensures.index spares tells) c.attempt-answered.ensures.base in
+    let does = (c.attempt-answered.ensures.performs tells).crash (acked resumed.done (settled_at m)) resumed.leads.keeps in
+    let done = done_right mid command next does.0 does.1.0 in
+    let stays = stays_for command c.attempt-answered.result mid last (λ spares. c.attempt-answered.ensures.index spares tells) c.attempt-answered.ensures.base in
     inl (
-      does.0,
+      resumed.done,
       (
-        done_at_opening (g.D.Disk.state c.args.disk.now) before m (opens.tells m is)
-            (begun_records (g.D.Disk.state c.args.disk.now) before (c.in-Ok.ensures.begins tells) (nothing_to_read c.args.now (g.D.Disk.state c.args.disk.now) before (c.open.ensures.shelf tells) opens))
-            (command_of c.args.command.now) does.0 does.1.0,
-        performed_prints m does.0 (output g.K.Sink g.D.Disk c.args.sink.now c.args.disk.now) (output g.K.Sink g.D.Disk c.attempt-answered.new.sink c.end.new.disk) before
-            last _ opens is (c.in-Ok.ensures.based tells) (c.end.ensures.ends tells) c.attempt-answered.result c.map.result does.1.1.performs does.1.1.keeps
-            (λ had. stays_done (Tells before m) (command_of c.args.command.now) before m last does.0 done (stays m (represents keeps) had)) (c.attempt-answered.ensures.honest tells) c.map.ensures.cases c.end.ensures.same
-            (λ not. let kept = c.end.ensures.dropped not in (kept.0, ap (λ d. g.D.Disk.state d) kept.1)),
+        resumed_done s mid begins m is finite,
+        inl (
+          does.0,
+          (
+            next_done s mid begins m is finite command does.0 does.1.0,
+            performed_prints (output g.K.Sink g.D.Disk c.args.sink.now c.args.disk.now) (output g.K.Sink g.D.Disk c.attempt-answered.new.sink c.end.new.disk) mid last begins m is c.end.result
+                does.0 (c.end.ensures.ends tells) c.attempt-answered.result c.map.result (done_spoken (Tells mid next) command next does.0 done c.requires.spoken) does.1.1.performs does.1.1.keeps
+                (λ had. stays_done (Tells mid next) command mid next last does.0 done (stays next (represents resumed.leads.keeps) had)) (c.attempt-answered.ensures.honest tells) c.map.ensures.cases c.end.ensures.same
+                (λ not. let kept = c.end.ensures.dropped not in (kept.0, ap (λ d. g.D.Disk.state d) kept.1)),
+          ),
+        ),
       ),
     )
 
@@ -73,21 +93,29 @@ end_faulted-requires g c = record {
 
 pub returns-then-faulting-clause-no_entry : goal.returns-then-faulting-clause-no_entry
 returns-then-faulting-clause-no_entry g c = λ none told.
-    let opened = c.open.ensures.no_entry told in
-    let ready = nothing_to_read c.args.now (g.D.Disk.state c.args.disk.now) (session g.D.Disk c.in-Ok.store c.open.new.disk) (c.open.ensures.shelf told) (c.in-Ok.ensures.opens told) in
-    let performed = reads_none (λ names. LooksAtNames g.D.Disk names c.open.new.disk c.attempt-answered.new.disk) (command_of c.args.command.now) (start_of (standing (g.D.Disk.state c.args.disk.now)))
+    let files = standing (g.D.Disk.state c.args.disk.now) in
+    let command = command_of c.args.command.now in
+    let opened = c.begin.ensures.looks told (looks_none command (mark_of (files Clear)) (start_of files) none) told in
+    let ready = nothing_to_read c.args.now (g.D.Disk.state c.args.disk.now) (session g.D.Disk c.in-Ok.store c.begin.new.disk) (g.met.D.Disk.finite c.args.disk.now told) (c.in-Ok.ensures.begins told) in
+    let performed = reads_none (λ names. LooksAtNames g.D.Disk names c.begin.new.disk c.attempt-answered.new.disk) command (mark_of (files Clear)) (mark_of (standing (g.D.Disk.state c.begin.new.disk) Clear)) (start_of files)
     c.in-Ok.store.index.update none ready c.attempt-answered.ensures.looks told in
     let ended = c.end_faulted.ensures.no_entry told in
     omega (arith, opened, performed, ended)
 
 pub returns-in-Err-clause-no_entry : goal.returns-in-Err-clause-no_entry
-returns-in-Err-clause-no_entry g c = λ none told. let opened = c.open.ensures.no_entry told in omega (arith, opened)
+returns-in-Err-clause-no_entry g c = λ none told.
+    let files = standing (g.D.Disk.state c.args.disk.now) in
+    let command = command_of c.args.command.now in
+    let opened = c.begin.ensures.looks told (looks_none command (mark_of (files Clear)) (start_of files) none) told in
+    omega (arith, opened)
 
 pub returns-clause-no_entry : goal.returns-clause-no_entry
 returns-clause-no_entry g c = λ none told.
-    let opened = c.open.ensures.no_entry told in
-    let ready = nothing_to_read c.args.now (g.D.Disk.state c.args.disk.now) (session g.D.Disk c.in-Ok.store c.open.new.disk) (c.open.ensures.shelf told) (c.in-Ok.ensures.opens told) in
-    let performed = reads_none (λ names. LooksAtNames g.D.Disk names c.open.new.disk c.attempt-answered.new.disk) (command_of c.args.command.now) (start_of (standing (g.D.Disk.state c.args.disk.now)))
+    let files = standing (g.D.Disk.state c.args.disk.now) in
+    let command = command_of c.args.command.now in
+    let opened = c.begin.ensures.looks told (looks_none command (mark_of (files Clear)) (start_of files) none) told in
+    let ready = nothing_to_read c.args.now (g.D.Disk.state c.args.disk.now) (session g.D.Disk c.in-Ok.store c.begin.new.disk) (g.met.D.Disk.finite c.args.disk.now told) (c.in-Ok.ensures.begins told) in
+    let performed = reads_none (λ names. LooksAtNames g.D.Disk names c.begin.new.disk c.attempt-answered.new.disk) command (mark_of (files Clear)) (mark_of (standing (g.D.Disk.state c.begin.new.disk) Clear)) (start_of files)
     c.in-Ok.store.index.update none ready c.attempt-answered.ensures.looks told in
     let ended = c.end.ensures.no_entry told in
     omega (arith, opened, performed, ended)
@@ -95,6 +123,6 @@ returns-clause-no_entry g c = λ none told.
 pub returns-clause-stops : goal.returns-clause-stops
 returns-clause-stops g c = λ told.
     let command = c.attempt-answered.ensures.account in
-    put_stops (g.D.Disk.counts c.args.disk.now) (g.D.Disk.counts c.open.new.disk) (c.in-Ok.ensures.account.went_on refl told) c.map.result
+    put_stops (g.D.Disk.counts c.args.disk.now) (g.D.Disk.counts c.begin.new.disk) (c.in-Ok.ensures.account.went_on refl told) c.map.result
     (g.D.Disk.counts c.attempt-answered.new.disk) (g.D.Disk.counts c.end.new.disk) (λ calm. command.went_on (came_ending c.attempt-answered.result c.map.result c.map.ensures.cases calm) told)
     (command.stops told) (c.end.ensures.stops told) (λ dropped. ap g.D.Disk.counts (c.end.ensures.dropped dropped).1)

@@ -3,53 +3,87 @@ use Rattle.std.specs.Io.KnownBytes.{Appends}
 use Rattle.std.specs.Prelude.{Err}
 use Rattle.cache_store.specs.Saying.{IsPart}
 use Rattle.cache_store.specs.Session.{session}
-use Rattle.cache_theory.specs.History.{settled_at}
+use Rattle.cache_theory.specs.History.{acked, settled_at}
 use Rattle.cache_tool.specs.HeldReply.{said_in}
 use Rattle.cache_tool.specs.Statuses.{status_in}
 use Rattle.cache_tool.specs.World.{output, supply}
 use Rattle.cache_tool.proofs.Growing.{takes_none, takes_part}
-use Rattle.cache_tool.proofs.OneCommand.{faulted_prints, rose_twice}
-use Rattle.cache_tool.proofs.PutEnds.{Printed, answered, disk_cause, ended_no_sink, never_others, never_sink, not_answered, not_opened, put_refuses, put_stops, source_came, stops_after}
+use Rattle.cache_tool.proofs.OneCommand.{faulted_prints, not_begun, rose_twice}
+use Rattle.cache_tool.proofs.PutEnds.{Printed, answered, disk_cause, ended_no_sink, never_others, never_sink, not_answered, put_refuses, put_stops, source_came, stops_after}
+use Rattle.cache_tool.proofs.SessionEnds.{resumed_done}
 use Rattle.cache_tool.proofs.StatusLaws.{no_answer}
 use Rattle.cache_tool.proofs.put.put.Goals as goal
 
 pub returns-in-Err-clause-stores : goal.returns-in-Err-clause-stores
-returns-in-Err-clause-stores g c = λ told some m is.
-    rw c.status_of_fault.ensures (inl (not_opened m c.args.key.now (supply g.S.Source c.args.source.now) (supply g.S.Source c.args.source.now) c.in-Err.fault
-    (output g.K.Sink g.D.Disk c.args.sink.now c.args.disk.now) (g.D.Disk.state c.open.new.disk) (λ e. c.in-Err.ensures.no_sink (ap (λ f. Err f) e)) refl some
-    (c.in-Err.ensures.safe told m is) (c.in-Err.ensures.honest told)))
+returns-in-Err-clause-stores g c = λ told some m is. inr (
+  not_begun (output g.K.Sink g.D.Disk c.args.sink.now c.args.disk.now) (g.D.Disk.state c.begin.new.disk) (g.D.Disk.faults c.begin.new.disk) c.begin.result c.in-Err.fault c.status_of_fault.result c.in-Err.is
+      c.begin.ensures.no_sink c.status_of_fault.ensures c.begin.ensures.account.cause.rose (c.in-Err.ensures.fails told) m is,
+  refl,
+)
 
 pub returns-in-Done-clause-stores : goal.returns-in-Done-clause-stores
 returns-in-Done-clause-stores g c = λ told some m is.
-    inl (answered m c.args.key.now (supply g.S.Source c.args.source.now) (supply g.S.Source c.perform_put-came.new.source) (status_in c.perform_put-came.result) c.end.result (output g.K.Sink g.D.Disk c.args.sink.now c.args.disk.now)
-    (session g.D.Disk c.in-Ok.store c.open.new.disk) (session g.D.Disk c.perform_put-came.new.store c.perform_put-came.new.disk) (g.D.Disk.state c.end.new.disk) (said_in c.perform_put-came.new.said)
-    (c.in-Ok.ensures.opens told) is (c.in-Ok.ensures.based told) ((c.perform_put-came.ensures.performs told).each some (settled_at m) ((c.in-Ok.ensures.opens told).keeps m is)) (c.end.ensures.ends told) c.end.ensures.same
-    c.print_answer.result (g.K.Sink.taken c.print_answer.new.sink) (inl c.in-Done.is)
-    (subst (Printed c.end.result c.print_answer.result (g.K.Sink.taken c.args.sink.now) (g.K.Sink.taken c.print_answer.new.sink)) c.as_slice.ensures
-    (record { same = rw c.in-Done.is c.print_answer.ensures.same; all = c.print_answer.ensures.all; part = c.print_answer.ensures.part; cut = c.print_answer.ensures.cut })))
+    let begins = c.in-Ok.ensures.begins told in
+    let resumed = begins.resumed m is in
+    let s = g.D.Disk.state c.args.disk.now in
+    let mid = session g.D.Disk c.in-Ok.store c.begin.new.disk in
+    inl (
+      resumed.done,
+      (
+        resumed_done s mid begins m is (g.met.D.Disk.finite c.args.disk.now told),
+        inl (answered c.args.key.now (supply g.S.Source c.args.source.now) (supply g.S.Source c.perform_put-came.new.source) (status_in c.perform_put-came.result) c.end.result (output g.K.Sink g.D.Disk c.args.sink.now c.args.disk.now)
+            mid (session g.D.Disk c.perform_put-came.new.store c.perform_put-came.new.disk) (g.D.Disk.state c.end.new.disk) (said_in c.perform_put-came.new.said) begins m is
+            ((c.perform_put-came.ensures.performs told).each some (acked resumed.done (settled_at m)) resumed.leads.keeps) (c.end.ensures.ends told) c.end.ensures.same
+            (c.perform_put-came.ensures.honest told) (λ dropped. ap g.D.Disk.state (c.end.ensures.dropped dropped).1)
+            c.print_answer.result (g.K.Sink.taken c.print_answer.new.sink) (inl c.in-Done.is)
+            (subst (Printed c.end.result c.print_answer.result (g.K.Sink.taken c.args.sink.now) (g.K.Sink.taken c.print_answer.new.sink)) c.as_slice.ensures
+            (record { same = rw c.in-Done.is c.print_answer.ensures.same; all = c.print_answer.ensures.all; part = c.print_answer.ensures.part; cut = c.print_answer.ensures.cut }))),
+      ),
+    )
 
 pub returns-in-No-clause-stores : goal.returns-in-No-clause-stores
 returns-in-No-clause-stores g c = λ told some m is.
-    inl (answered m c.args.key.now (supply g.S.Source c.args.source.now) (supply g.S.Source c.perform_put-came.new.source) (status_in c.perform_put-came.result) c.end.result (output g.K.Sink g.D.Disk c.args.sink.now c.args.disk.now)
-    (session g.D.Disk c.in-Ok.store c.open.new.disk) (session g.D.Disk c.perform_put-came.new.store c.perform_put-came.new.disk) (g.D.Disk.state c.end.new.disk) (said_in c.perform_put-came.new.said)
-    (c.in-Ok.ensures.opens told) is (c.in-Ok.ensures.based told) ((c.perform_put-came.ensures.performs told).each some (settled_at m) ((c.in-Ok.ensures.opens told).keeps m is)) (c.end.ensures.ends told) c.end.ensures.same
-    c.print_answer-in-No.result (g.K.Sink.taken c.print_answer-in-No.new.sink) (inr c.in-No.is)
-    (subst (Printed c.end.result c.print_answer-in-No.result (g.K.Sink.taken c.args.sink.now) (g.K.Sink.taken c.print_answer-in-No.new.sink)) c.as_slice-in-No.ensures
-    (record { same = rw c.in-No.is c.print_answer-in-No.ensures.same; all = c.print_answer-in-No.ensures.all; part = c.print_answer-in-No.ensures.part; cut = c.print_answer-in-No.ensures.cut })))
+    let begins = c.in-Ok.ensures.begins told in
+    let resumed = begins.resumed m is in
+    let s = g.D.Disk.state c.args.disk.now in
+    let mid = session g.D.Disk c.in-Ok.store c.begin.new.disk in
+    inl (
+      resumed.done,
+      (
+        resumed_done s mid begins m is (g.met.D.Disk.finite c.args.disk.now told),
+        inl (answered c.args.key.now (supply g.S.Source c.args.source.now) (supply g.S.Source c.perform_put-came.new.source) (status_in c.perform_put-came.result) c.end.result (output g.K.Sink g.D.Disk c.args.sink.now c.args.disk.now)
+            mid (session g.D.Disk c.perform_put-came.new.store c.perform_put-came.new.disk) (g.D.Disk.state c.end.new.disk) (said_in c.perform_put-came.new.said) begins m is
+            ((c.perform_put-came.ensures.performs told).each some (acked resumed.done (settled_at m)) resumed.leads.keeps) (c.end.ensures.ends told) c.end.ensures.same
+            (c.perform_put-came.ensures.honest told) (λ dropped. ap g.D.Disk.state (c.end.ensures.dropped dropped).1)
+            c.print_answer-in-No.result (g.K.Sink.taken c.print_answer-in-No.new.sink) (inr c.in-No.is)
+            (subst (Printed c.end.result c.print_answer-in-No.result (g.K.Sink.taken c.args.sink.now) (g.K.Sink.taken c.print_answer-in-No.new.sink)) c.as_slice-in-No.ensures
+            (record { same = rw c.in-No.is c.print_answer-in-No.ensures.same; all = c.print_answer-in-No.ensures.all; part = c.print_answer-in-No.ensures.part; cut = c.print_answer-in-No.ensures.cut }))),
+      ),
+    )
 
 pub returns : goal.returns
 returns g c =
     let cause =
-    disk_cause c.perform_put-came.result c.end.result (g.D.Disk.faults c.args.disk.now) (g.D.Disk.faults c.open.new.disk) (g.D.Disk.faults c.perform_put-came.new.disk) (g.D.Disk.faults c.end.new.disk)
+    disk_cause c.perform_put-came.result c.end.result (g.D.Disk.faults c.args.disk.now) (g.D.Disk.faults c.begin.new.disk) (g.D.Disk.faults c.perform_put-came.new.disk) (g.D.Disk.faults c.end.new.disk)
     c.perform_put-came.ensures.only c.perform_put-came.ensures.no_sink (c.in-Ok.ensures.account.cause.kept (λ h. cc)) c.perform_put-came.ensures.account.cause c.end.ensures.cause
     (λ dropped. ((c.end.ensures.dropped dropped).0, ap g.D.Disk.faults (c.end.ensures.dropped dropped).1)) in
     record {
       stores = λ told some m is.
-          inl (not_answered m c.args.key.now (supply g.S.Source c.args.source.now) (supply g.S.Source c.perform_put-came.new.source) (status_in c.perform_put-came.result) c.end.result (output g.K.Sink g.D.Disk c.args.sink.now c.args.disk.now)
-          (session g.D.Disk c.in-Ok.store c.open.new.disk) (session g.D.Disk c.perform_put-came.new.store c.perform_put-came.new.disk) (g.D.Disk.state c.end.new.disk) (said_in c.perform_put-came.new.said)
-          (c.in-Ok.ensures.opens told) is (c.in-Ok.ensures.based told) ((c.perform_put-came.ensures.performs told).each some (settled_at m) ((c.in-Ok.ensures.opens told).keeps m is)) (c.end.ensures.ends told) c.end.ensures.same
-          (no_answer c.end.result c.in_default-end.not-Done c.in_default-end.not-No) (ended_no_sink c.end.result (status_in c.perform_put-came.result) (never_sink c.perform_put-came.result c.perform_put-came.ensures.only c.perform_put-came.ensures.no_sink) c.end.ensures.same)
-          (c.perform_put-came.ensures.honest told) (λ dropped. ap g.D.Disk.state (c.end.ensures.dropped dropped).1));
+          let begins = c.in-Ok.ensures.begins told in
+          let resumed = begins.resumed m is in
+          let s = g.D.Disk.state c.args.disk.now in
+          let mid = session g.D.Disk c.in-Ok.store c.begin.new.disk in
+          inl (
+            resumed.done,
+            (
+              resumed_done s mid begins m is (g.met.D.Disk.finite c.args.disk.now told),
+              inl (not_answered c.args.key.now (supply g.S.Source c.args.source.now) (supply g.S.Source c.perform_put-came.new.source) (status_in c.perform_put-came.result) c.end.result (output g.K.Sink g.D.Disk c.args.sink.now c.args.disk.now)
+                  mid (session g.D.Disk c.perform_put-came.new.store c.perform_put-came.new.disk) (g.D.Disk.state c.end.new.disk) (said_in c.perform_put-came.new.said) begins m is
+                  ((c.perform_put-came.ensures.performs told).each some (acked resumed.done (settled_at m)) resumed.leads.keeps) (c.end.ensures.ends told) c.end.ensures.same
+                  (c.perform_put-came.ensures.honest told) (λ dropped. ap g.D.Disk.state (c.end.ensures.dropped dropped).1)
+                  (no_answer c.end.result c.in_default-end.not-Done c.in_default-end.not-No) (ended_no_sink c.end.result (status_in c.perform_put-came.result) (never_sink c.perform_put-came.result c.perform_put-came.ensures.only c.perform_put-came.ensures.no_sink) c.end.ensures.same)),
+            ),
+          );
       grows = takes_none (g.K.Sink.taken c.args.sink.now);
       read = λ done. absurd (c.in_default-end.not-Done done);
       unread = c.perform_put-came.ensures.unread;
@@ -59,7 +93,7 @@ returns g c =
       others = never_others c.perform_put-came.result c.end.result c.perform_put-came.ensures.only c.perform_put-came.ensures.no_sink c.end.ensures.same;
       quiet = c.end.ensures.quiet;
       stops = λ told.
-          put_stops (g.D.Disk.counts c.args.disk.now) (g.D.Disk.counts c.open.new.disk) (c.in-Ok.ensures.account.went_on refl told) c.perform_put-came.result
+          put_stops (g.D.Disk.counts c.args.disk.now) (g.D.Disk.counts c.begin.new.disk) (c.in-Ok.ensures.account.went_on refl told) c.perform_put-came.result
           (g.D.Disk.counts c.perform_put-came.new.disk) (g.D.Disk.counts c.end.new.disk) (λ calm. c.perform_put-came.ensures.account.went_on calm told)
           (c.perform_put-came.ensures.account.stops told) (c.end.ensures.stops told) (λ dropped. ap g.D.Disk.counts (c.end.ensures.dropped dropped).1);
       source = λ source. c.perform_put-came.ensures.source (source_came c.perform_put-came.result c.end.result c.end.ensures.same source);
@@ -82,23 +116,31 @@ returns-then-faulting-clause-stores g c = λ told some m is.
     let disk = c.in-Err-Disk.is ∙ ap (λ f. Err f) (rw c.in-Err-Disk.is at c.in-Err-Disk.field-0-is) in
     let failed = sym c.faulting.ensures ∙ c.if-faulting.true in
     let put = c.perform_put-came.ensures in
-    let calm : g.D.Disk.faults c.open.new.disk ≡ g.D.Disk.faults c.args.disk.now = c.in-Ok.ensures.account.cause.kept (λ e. cc e) in
+    let calm : g.D.Disk.faults c.begin.new.disk ≡ g.D.Disk.faults c.args.disk.now = c.in-Ok.ensures.account.cause.kept (λ e. cc e) in
     let rose = (put.looked disk failed).cause.rose refl in
     let later = c.end_faulted.ensures.later in
-    inr (
-      faulted_prints m (output g.K.Sink g.D.Disk c.args.sink.now c.args.disk.now) (output g.K.Sink g.D.Disk c.end_faulted.new.sink c.end_faulted.new.disk)
-          (session g.D.Disk c.in-Ok.store c.open.new.disk) (session g.D.Disk c.perform_put-came.new.store c.perform_put-came.new.disk)
-          (c.in-Ok.ensures.opens told) is (c.in-Ok.ensures.based told) (put.stays disk failed told) (put.same_base disk failed) c.end_faulted.result (c.end_faulted.ensures.ends told)
-          c.end_faulted.ensures.failed (omega (arith, calm, rose, later)) c.end_faulted.ensures.part
-          (λ is_disk. rose_twice (g.D.Disk.faults c.args.disk.now) (g.D.Disk.faults c.open.new.disk) (g.D.Disk.faults c.perform_put-came.new.disk) (g.D.Disk.faults c.end_faulted.new.disk) calm rose told
-          (c.end_faulted.ensures.closed is_disk)),
-      ap (supply g.S.Source) (put.unread_fault disk failed),
+    let begins = c.in-Ok.ensures.begins told in
+    let s = g.D.Disk.state c.args.disk.now in
+    let mid = session g.D.Disk c.in-Ok.store c.begin.new.disk in
+    inl (
+      (begins.resumed m is).done,
+      (
+        resumed_done s mid begins m is (g.met.D.Disk.finite c.args.disk.now told),
+        inr (
+          faulted_prints (output g.K.Sink g.D.Disk c.args.sink.now c.args.disk.now) (output g.K.Sink g.D.Disk c.end_faulted.new.sink c.end_faulted.new.disk)
+              mid (session g.D.Disk c.perform_put-came.new.store c.perform_put-came.new.disk) begins m is c.end_faulted.result (put.stays disk failed told) (put.same_base disk failed) (c.end_faulted.ensures.ends told)
+              c.end_faulted.ensures.failed (omega (arith, calm, rose, later)) c.end_faulted.ensures.part
+              (λ is_disk. rose_twice (g.D.Disk.faults c.args.disk.now) (g.D.Disk.faults c.begin.new.disk) (g.D.Disk.faults c.perform_put-came.new.disk) (g.D.Disk.faults c.end_faulted.new.disk) calm rose told
+              (c.end_faulted.ensures.closed is_disk)),
+          ap (supply g.S.Source) (put.unread_fault disk failed),
+        ),
+      ),
     )
 
 pub returns-then-faulting-clause-stops : goal.returns-then-faulting-clause-stops
 returns-then-faulting-clause-stops g c = λ told.
     let looked = c.perform_put-came.ensures.looked (c.in-Err-Disk.is ∙ ap (λ f. Err f) (rw c.in-Err-Disk.is at c.in-Err-Disk.field-0-is)) (sym c.faulting.ensures ∙ c.if-faulting.true) in
-    stops_after (g.D.Disk.counts c.args.disk.now) (g.D.Disk.counts c.open.new.disk) (c.in-Ok.ensures.account.went_on refl told) (g.D.Disk.counts c.perform_put-came.new.disk) (g.D.Disk.counts c.end_faulted.new.disk)
+    stops_after (g.D.Disk.counts c.args.disk.now) (g.D.Disk.counts c.begin.new.disk) (c.in-Ok.ensures.account.went_on refl told) (g.D.Disk.counts c.perform_put-came.new.disk) (g.D.Disk.counts c.end_faulted.new.disk)
     (looked.no_change told) (c.end_faulted.ensures.stops told)
 
 pub returns-in-No-clause-refused : goal.returns-in-No-clause-refused

@@ -1,8 +1,11 @@
-use Rattle.std.proofs.Common.{◌≡◌, [], ap, subst, sym}
+use Rattle.std.proofs.Common.{◌≡◌, ◌∙◌, [], Err, IsTrue, Ok, Result, ap, subst, sym}
 use Rattle.cache_script.specs.Command.{command_of}
 use Rattle.index_theory.proofs.UncleanLaws.{unclean_leaves_honest}
 use Rattle.cache_store.specs.Answering.{rest_of}
-use Rattle.cache_store.specs.Clearing.{LeavesUncleared}
+use Rattle.std.proofs.lemmas.Option.{IfSome_then}
+use Rattle.cache_store.specs.Clearing.{LeavesResumed, LeavesUncleared, origin_cleared}
+use Rattle.cache_store.specs.Performing.{HadEffect}
+use Rattle.cache_store.specs.declared.answered.Answered.{Answered}
 use Rattle.cache_store.specs.Evicting.{LeavesOthers}
 use Rattle.cache_store.specs.InMemory.{CutsPlainLine}
 use Rattle.cache_store.specs.IndexCalls.{IsFresh}
@@ -10,6 +13,14 @@ use Rattle.file_handles.specs.Kept.{kept}
 use Rattle.cache_store.specs.Reads.{LastIsFirst}
 use Rattle.cache_store.specs.Said.{saying}
 use Rattle.cache_store.specs.Session.{Open, open_of, session}
+use Rattle.cache_store.specs.declared.answered.Answered.TheVariants as answered
+use Rattle.cache_store.specs.declared.fault.StoreFault.{StoreFault}
+use Rattle.cache_store.specs.declared.fault.StoreFault.TheVariants as fault
+use Rattle.cache_store.specs.declared.fault.Verdict.{Verdict}
+use Rattle.cache_store.specs.declared.fault.Verdict.TheVariants as outcome
+use Rattle.context_clear.specs.Mark.{mark_of}
+use Rattle.disk_model.specs.State.{standing}
+use Rattle.disk_model.specs.declared.place.Place.TheVariants.{Clear}
 use Rattle.cache_store.specs.Verifying.{PrintsFound}
 use Rattle.cache_store.proofs.EvictDoes.{had_handed}
 use Rattle.cache_store.proofs.HandedFaults.{handed_disk}
@@ -81,8 +92,8 @@ returns-in_err-answered-clause-faulted g c = λ faulting.
     handed_fault c.from_residual.result c.in_err-answered.field-0.0 c.perform.result c.from_residual.ensures.1 c.in_err-answered.was (c.perform.ensures.faulted faulting)
 
 pub returns-in_err-answered-clause-fails : goal.returns-in_err-answered-clause-fails
-returns-in_err-answered-clause-fails g c = λ calm failed told.
-    c.perform.ensures.change calm (handed_disk c.from_residual.result c.in_err-answered.field-0.0 c.perform.result c.from_residual.ensures.1 c.in_err-answered.was failed) told
+returns-in_err-answered-clause-fails g c = λ calm other failed told.
+    c.perform.ensures.change calm other (handed_disk c.from_residual.result c.in_err-answered.field-0.0 c.perform.result c.from_residual.ensures.1 c.in_err-answered.was failed) told
 
 pub returns-in_err-answered-clause-in_memory : goal.returns-in_err-answered-clause-in_memory
 returns-in_err-answered-clause-in_memory g c idle =
@@ -112,9 +123,40 @@ returns-clause-evicts g c kb is had told =
     subst (λ (o : Open). LeavesOthers (session g.D.Disk c.args.self.now c.args.disk.now) kb o.index.map) (sym c.finish_reply.ensures.open) (c.in_ok-answered.ensures.evicts kb is tt told)
 
 pub returns-in_err-answered-clause-clears : goal.returns-in_err-answered-clause-clears
-returns-in_err-answered-clause-clears g c origin is had told =
-    c.in_err-answered.ensures.clears origin is (had_handed c.from_residual.result c.in_err-answered.field-0.0 c.from_residual.ensures.1 had) told
+returns-in_err-answered-clause-clears g c =
+    let before = session g.D.Disk c.args.self.now c.args.disk.now in
+    IfSome_then (origin_cleared (command_of c.args.c.now) (standing (g.D.Disk.state c.args.disk.now) Clear))
+    {P = λ origin. HadEffect {T = Answered} (Err c.in_err-answered.field-0.0) → IsTrue g.D.Disk.tells → LeavesUncleared before origin c.perform.new.self.index.map}
+    {Q = λ origin. HadEffect c.from_residual.result → IsTrue g.D.Disk.tells → LeavesUncleared before origin c.perform.new.self.index.map}
+    c.in_err-answered.ensures.clears (λ origin clears had told.
+    clears (had_handed c.from_residual.result c.in_err-answered.field-0.0 c.from_residual.ensures.1 had) told)
+
+pub returns-in_err-answered-clause-resumes : goal.returns-in_err-answered-clause-resumes
+returns-in_err-answered-clause-resumes g c is had told =
+    c.in_err-answered.ensures.resumes is (had_handed c.from_residual.result c.in_err-answered.field-0.0 c.from_residual.ensures.1 had) told
+
+pub returns-in_err-answered-clause-synced : goal.returns-in_err-answered-clause-synced
+returns-in_err-answered-clause-synced g c is had told =
+    c.in_err-answered.ensures.synced is (had_handed c.from_residual.result c.in_err-answered.field-0.0 c.from_residual.ensures.1 had) told
 
 pub returns-clause-clears : goal.returns-clause-clears
-returns-clause-clears g c origin is had told =
-    subst (λ (o : Open). LeavesUncleared (session g.D.Disk c.args.self.now c.args.disk.now) origin o.index.map) (sym c.finish_reply.ensures.open) (c.in_ok-answered.ensures.clears origin is tt told)
+returns-clause-clears g c =
+    let before = session g.D.Disk c.args.self.now c.args.disk.now in
+    IfSome_then (origin_cleared (command_of c.args.c.now) (standing (g.D.Disk.state c.args.disk.now) Clear))
+    {P = λ origin. HadEffect {T = Answered} (Ok c.in_ok-answered.answered) → IsTrue g.D.Disk.tells → LeavesUncleared before origin c.perform.new.self.index.map}
+    {Q = λ origin. HadEffect c.finish_reply.result → IsTrue g.D.Disk.tells → LeavesUncleared before origin c.finish_reply.new.self.index.map}
+    c.in_ok-answered.ensures.clears (λ origin clears had told.
+    subst (λ (o : Open). LeavesUncleared (session g.D.Disk c.args.self.now c.args.disk.now) origin o.index.map) (sym c.finish_reply.ensures.open) (clears tt told))
+
+pub returns-clause-resumes : goal.returns-clause-resumes
+returns-clause-resumes g c is had told =
+    subst (λ (o : Open). LeavesResumed (mark_of (standing (g.D.Disk.state c.args.disk.now) Clear)) (session g.D.Disk c.args.self.now c.args.disk.now) o.index) (sym c.finish_reply.ensures.open)
+    (c.in_ok-answered.ensures.resumes is tt told)
+
+pub returns-clause-wordless : goal.returns-clause-wordless
+returns-clause-wordless g c is =
+    let words = c.in_ok-answered.ensures.wordless is in
+    let resumed : c.in_ok-answered.answered ≡ answered.Resumed = words.1.1 in
+    let held = c.in_ok-answered.ensures.still_empty (λ all. let no : answered.Resumed ≡ answered.All = sym resumed ∙ all in cc) in
+    let done = c.finish_reply.ensures.resumed resumed held in
+    (done.1 ∙ words.0, λ failed. let no : ◌≡◌ {A = Result Verdict StoreFault} (Ok outcome.Ok) (Err fault.Sink) = sym done.0 ∙ failed in cc)

@@ -1,6 +1,13 @@
-use Rattle.std.proofs.Common.{◌∙◌, sym, true≢false}
+use Rattle.std.proofs.Common.{◌∙◌, Err, IsTrue, Ok, sym, true≢false, ℕ}
+use Rattle.std.proofs.lemmas.Option.{IfSome_then}
 use Rattle.cache_script.specs.Command.{command_of}
+use Rattle.cache_store.specs.Clearing.{LeavesUncleared, origin_cleared}
+use Rattle.cache_store.specs.Performing.{HadEffect}
 use Rattle.cache_store.specs.Session.{open_of, session}
+use Rattle.cache_store.specs.declared.fault.Outcome.{Outcome}
+use Rattle.cache_store.specs.declared.fault.Verdict.{Verdict}
+use Rattle.disk_model.specs.State.{standing}
+use Rattle.disk_model.specs.declared.place.Place.TheVariants.{Clear}
 use Rattle.cache_store.proofs.RepliedInMemory.{makes_no_look}
 use Rattle.cache_store.proofs.Stays.{open_still}
 use Rattle.cache_store.proofs.store.Store.command.Goals as goal
@@ -14,6 +21,20 @@ pub returns-then-self-clause-open : goal.returns-then-self-clause-open
 returns-then-self-clause-open g c = λ told none.
     open_still (session g.D.Disk c.args.self.now c.args.disk.now) (open_of c.attempt-answered.new.self) (open_of c.say_fault.new.self) (g.D.Disk.state c.attempt-answered.new.disk) c.say_fault.ensures.open
     (c.attempt-answered.ensures.stays c.if-self.true told) (c.requires.told told)
+
+-- a clearing that is resumed never ends in the line that tells of a failed look
+
+pub returns-in_err-say_fault-clause-resumes : goal.returns-in_err-say_fault-clause-resumes
+returns-in_err-say_fault-clause-resumes g c is had told = absurd (true≢false (sym c.if-self.true ∙ c.attempt-answered.ensures.ends is))
+
+pub returns-then-self-clause-resumes : goal.returns-then-self-clause-resumes
+returns-then-self-clause-resumes g c is had told = absurd (true≢false (sym c.if-self.true ∙ c.attempt-answered.ensures.ends is))
+
+pub returns-in_err-say_fault-clause-synced : goal.returns-in_err-say_fault-clause-synced
+returns-in_err-say_fault-clause-synced g c is had told some = absurd (true≢false (sym c.if-self.true ∙ c.attempt-answered.ensures.ends is))
+
+pub returns-then-self-clause-synced : goal.returns-then-self-clause-synced
+returns-then-self-clause-synced g c is had told some = absurd (true≢false (sym c.if-self.true ∙ c.attempt-answered.ensures.ends is))
 
 -- a command that makes no call never fails in a look
 pub returns-in_err-say_fault-clause-in_memory : goal.returns-in_err-say_fault-clause-in_memory
@@ -31,7 +52,17 @@ pub returns-in-Err-clause-evicts : goal.returns-in-Err-clause-evicts
 returns-in-Err-clause-evicts g c kb calm is had told = c.in-Err.ensures.evicts kb is had told
 
 pub returns-in-Ok-clause-clears : goal.returns-in-Ok-clause-clears
-returns-in-Ok-clause-clears g c origin calm is had told = c.in-Ok.ensures.clears origin is tt told
+returns-in-Ok-clause-clears g c calm =
+    let leaves : ℕ → Type 0 = λ origin. LeavesUncleared (session g.D.Disk c.args.self.now c.args.disk.now) origin c.attempt-answered.new.self.index.map in
+    IfSome_then (origin_cleared (command_of c.args.c.now) (standing (g.D.Disk.state c.args.disk.now) Clear))
+    {P = λ origin. HadEffect {T = Verdict} (Ok c.in-Ok.verdict) → IsTrue g.D.Disk.tells → leaves origin}
+    {Q = λ origin. HadEffect {T = Outcome} (Ok c.outcome_of.result) → IsTrue g.D.Disk.tells → leaves origin}
+    c.in-Ok.ensures.clears (λ origin clears had told. clears tt told)
 
 pub returns-in-Err-clause-clears : goal.returns-in-Err-clause-clears
-returns-in-Err-clause-clears g c origin calm is had told = c.in-Err.ensures.clears origin is had told
+returns-in-Err-clause-clears g c calm =
+    let leaves : ℕ → Type 0 = λ origin. LeavesUncleared (session g.D.Disk c.args.self.now c.args.disk.now) origin c.attempt-answered.new.self.index.map in
+    IfSome_then (origin_cleared (command_of c.args.c.now) (standing (g.D.Disk.state c.args.disk.now) Clear))
+    {P = λ origin. HadEffect {T = Verdict} (Err c.in-Err.fault) → IsTrue g.D.Disk.tells → leaves origin}
+    {Q = λ origin. HadEffect {T = Outcome} (Err c.in-Err.fault) → IsTrue g.D.Disk.tells → leaves origin}
+    c.in-Err.ensures.clears (λ origin clears had told. clears had told)

@@ -82,10 +82,10 @@ returns-clause-open g c = λ told. opens_open (g.D.Disk.state c.args.disk.now) c
 
 pub returns-clause-based : goal.returns-clause-based
 returns-clause-based g c = λ told.
-    in_use_along (g.D.Disk.state c.args.disk.now) (g.D.Disk.state c.clear.new.disk) (cleared_left (g.D.Disk.state c.args.disk.now) (g.D.Disk.state c.clear.new.disk) (c.clear.ensures.removes told)).stands
+    in_use_along (g.D.Disk.state c.args.disk.now) (g.D.Disk.state c.clear.new.disk) (cleared_left (g.D.Disk.state c.args.disk.now) (g.D.Disk.state c.clear.new.disk) (c.clear.ensures.removes told)).index.stands
     c.in_ok-index.index.map (g.D.Disk.state c.begin_index.new.disk) (c.in_ok-index.ensures.based told)
 
 pub returns-clause-begins : goal.returns-clause-begins
 returns-clause-begins g c = λ told.
-    begins_along (g.D.Disk.state c.args.disk.now) (g.D.Disk.state c.clear.new.disk) (cleared_left (g.D.Disk.state c.args.disk.now) (g.D.Disk.state c.clear.new.disk) (c.clear.ensures.removes told)).stands
+    begins_along (g.D.Disk.state c.args.disk.now) (g.D.Disk.state c.clear.new.disk) (cleared_left (g.D.Disk.state c.args.disk.now) (g.D.Disk.state c.clear.new.disk) (c.clear.ensures.removes told)).index.stands
     c.in_ok-index.index.map (c.in_ok-index.ensures.begins told)

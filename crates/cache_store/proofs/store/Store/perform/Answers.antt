@@ -1,11 +1,17 @@
 use Rattle.std.proofs.Common.{◌≡◌, ℕ, List, IfOk, IsTrue, true, refl, sym, ap, subst, ◌∙◌}
+use Rattle.std.specs.Prelude.{IfSome}
 use Rattle.cache_store.specs.Faulting.{has_failed_look}
 use Rattle.cache_store.proofs.Stays.{err_failed_look, on_failed_look, parts_stay}
 use Rattle.cache_script.specs.Command.{command_of}
-use Rattle.cache_theory.specs.Command.Command.{At, Append, ClearOrigin, Close, Create, Doom, ElementOf, Evict, Finish, Flush, Get, GetAlt, HasEntry, ListRecords, MainBody, OpenKey, Pin, PutAlt, ReadPart, Rebuild, SetElement, StepUpdate, Unpin, UnsetElement, UpdateState, UseEntry, Verify}
+use Rattle.cache_theory.specs.Command.Command.{At, Append, ClearOrigin, Close, Create, Doom, ElementOf, Evict, Finish, Flush, Get, GetAlt, HasEntry, ListRecords, MainBody, OpenKey, Pin, PutAlt, ReadPart, Rebuild, Resume, SetElement, StepUpdate, Unpin, UnsetElement, UpdateState, UseEntry, Verify}
 use Rattle.cache_theory.specs.Given.{IsGiven}
 use Rattle.cache_store.specs.Answering.{outcome_in}
-use Rattle.cache_store.specs.Clearing.{LeavesUncleared}
+use Rattle.cache_store.specs.Clearing.{LeavesUncleared, origin_cleared}
+use Rattle.cache_store.specs.Performing.{HadEffect}
+use Rattle.cache_theory.specs.Command.{Command}
+use Rattle.context_clear.specs.Mark.{mark_of}
+use Rattle.disk_model.specs.State.{standing}
+use Rattle.disk_model.specs.declared.place.Place.TheVariants.{Clear}
 use Rattle.cache_store.specs.Evicting.{LeavesOthers}
 use Rattle.cache_store.specs.Reads.{AreHeld, LastIsFirst}
 use Rattle.cache_store.specs.Said.{saying}
@@ -14,7 +20,7 @@ use Rattle.cache_store.specs.Session.{open_of, session}
 use Rattle.cache_store.specs.declared.fault.Verdict.TheVariants as outcome
 use Rattle.file_handles.proofs.ReadKept.{read_keeps}
 use Rattle.file_handles.specs.Kept.{kept}
-use Rattle.cache_store.proofs.ClearDoes.{origin_of}
+use Rattle.cache_store.proofs.ClearCommands.{resumed_clears, resumed_unsaid}
 use Rattle.cache_store.proofs.EvictDoes.{kb_of}
 use Rattle.cache_store.proofs.LearntAchieves.{append_achieves, close_achieves, create_achieves, doom_achieves, finish_achieves, open_achieves, pin_achieves, put_achieves, set_achieves, unpin_achieves, unset_achieves, use_achieves}
 use Rattle.cache_store.proofs.PerformDoes.{as_command, at_does, by_name, done_unsaid, has_does, reading_does, reading_does_with, state_does, unsaid_does, unsaid_done}
@@ -174,17 +180,17 @@ returns-in-Rebuild-clause-does g c = λ told.
 
 pub returns-in-Element-clause-grows : goal.returns-in-Element-clause-grows
 returns-in-Element-clause-grows g c = λ told.
-    open_takes (ElementOf c.in-Element.slot c.in-Element.name.now) c.say_element.result (session g.D.Disk c.args.self.now c.args.disk.now) (g.K.Sink.taken c.args.sink.now)
+    open_takes (ElementOf c.in-Element.slot c.in-Element.name.now) tt c.say_element.result (session g.D.Disk c.args.self.now c.args.disk.now) (g.K.Sink.taken c.args.sink.now)
     (saying g.K.Sink c.say_element.new.self.reply c.say_element.new.sink) (c.requires.told told) (c.say_element.ensures.answers (g.D.Disk.state c.args.disk.now))
 
 pub returns-in-ReadPart-clause-grows : goal.returns-in-ReadPart-clause-grows
 returns-in-ReadPart-clause-grows g c = λ told.
-    open_takes (ReadPart c.in-ReadPart.slot c.in-ReadPart.from c.in-ReadPart.len) c.say_read.result (session g.D.Disk c.args.self.now c.args.disk.now) (g.K.Sink.taken c.args.sink.now)
+    open_takes (ReadPart c.in-ReadPart.slot c.in-ReadPart.from c.in-ReadPart.len) tt c.say_read.result (session g.D.Disk c.args.self.now c.args.disk.now) (g.K.Sink.taken c.args.sink.now)
     (saying g.K.Sink c.say_read.new.self.reply c.say_read.new.sink) (c.requires.told told) (c.say_read.ensures.answers told)
 
 pub returns-in-Get-clause-grows : goal.returns-in-Get-clause-grows
 returns-in-Get-clause-grows g c = λ told.
-    open_takes (Get c.in-Get.key.now) c.say_shown.result (session g.D.Disk c.args.self.now c.args.disk.now) (g.K.Sink.taken c.args.sink.now)
+    open_takes (Get c.in-Get.key.now) tt c.say_shown.result (session g.D.Disk c.args.self.now c.args.disk.now) (g.K.Sink.taken c.args.sink.now)
     (saying g.K.Sink c.say_shown.new.self.reply c.say_shown.new.sink) (c.requires.told told) (c.say_shown.ensures.answers told)
 
 pub returns-in-ReadPart-clause-held : goal.returns-in-ReadPart-clause-held
@@ -240,12 +246,32 @@ returns-in-Evict-clause-evicts g c kb is had told =
     subst (λ (n : ℕ). LeavesOthers (session g.D.Disk c.args.self.now c.args.disk.now) n c.evict.new.self.index.map) (ap kb_of (sym (ap command_of c.in-Evict.is) ∙ is)) (c.evict.ensures.evicts had told)
 
 pub returns-in-Clear-clause-clears : goal.returns-in-Clear-clause-clears
-returns-in-Clear-clause-clears g c origin is had told =
-    subst (λ (xs : List ℕ). LeavesUncleared (session g.D.Disk c.args.self.now c.args.disk.now) xs c.clear.new.self.index.map) (ap origin_of (sym (ap command_of c.in-Clear.is) ∙ is)) (c.clear.ensures.clears had told)
+returns-in-Clear-clause-clears g c =
+    subst (λ (x : Command). IfSome (origin_cleared x (standing (g.D.Disk.state c.args.disk.now) Clear)) (λ origin. HadEffect c.clear.result → IsTrue g.D.Disk.tells
+    → LeavesUncleared (session g.D.Disk c.args.self.now c.args.disk.now) origin c.clear.new.self.index.map)) (sym (ap command_of c.in-Clear.is)) c.clear.ensures.clears
 
 pub returns-in-Clear-clause-stopped : goal.returns-in-Clear-clause-stopped
-returns-in-Clear-clause-stopped g c origin is told =
-    subst (λ (xs : List ℕ). ClearsUnderMark xs (session g.D.Disk c.args.self.now c.args.disk.now) (g.D.Disk.state c.clear.new.disk)) (ap origin_of (sym (ap command_of c.in-Clear.is) ∙ is)) (c.clear.ensures.stopped told)
+returns-in-Clear-clause-stopped g c =
+    subst (λ (x : Command). IfSome (origin_cleared x (standing (g.D.Disk.state c.args.disk.now) Clear)) (λ origin. IsTrue g.D.Disk.tells
+    → ClearsUnderMark origin (session g.D.Disk c.args.self.now c.args.disk.now) (g.D.Disk.state c.clear.new.disk))) (sym (ap command_of c.in-Clear.is)) c.clear.ensures.stopped
+
+pub returns-in-Resume-clause-does : goal.returns-in-Resume-clause-does
+returns-in-Resume-clause-does g c = λ told.
+    by_name _ Resume _ _ _ _ _ (ap command_of c.in-Resume.is)
+    (unsaid_done Resume c.resume.result _ _ (saying g.K.Sink c.resume.new.self.reply c.args.sink.now) (resumed_unsaid c.resume.result c.resume.ensures.answer) c.resume.ensures.no_sink (c.resume.ensures.held ∙ c.requires.empty) (c.resume.ensures.does told))
+
+pub returns-in-Resume-clause-clears : goal.returns-in-Resume-clause-clears
+returns-in-Resume-clause-clears g c =
+    let mark = mark_of (standing (g.D.Disk.state c.args.disk.now) Clear) in
+    let before = session g.D.Disk c.args.self.now c.args.disk.now in
+    subst (λ (x : Command). IfSome (origin_cleared x (standing (g.D.Disk.state c.args.disk.now) Clear)) (λ origin. HadEffect c.resume.result → IsTrue g.D.Disk.tells
+    → LeavesUncleared before origin c.resume.new.self.index.map)) (sym (ap command_of c.in-Resume.is))
+    (resumed_clears mark before c.resume.new.self.index (HadEffect c.resume.result) (IsTrue g.D.Disk.tells) c.resume.ensures.resumes)
+
+pub returns-in-Resume-clause-stopped : goal.returns-in-Resume-clause-stopped
+returns-in-Resume-clause-stopped g c =
+    subst (λ (x : Command). IfSome (origin_cleared x (standing (g.D.Disk.state c.args.disk.now) Clear)) (λ origin. IsTrue g.D.Disk.tells
+    → ClearsUnderMark origin (session g.D.Disk c.args.self.now c.args.disk.now) (g.D.Disk.state c.resume.new.disk))) (sym (ap command_of c.in-Resume.is)) c.resume.ensures.stopped
 
 pub returns-in-GetAlt-clause-does : goal.returns-in-GetAlt-clause-does
 returns-in-GetAlt-clause-does g c = λ told.
@@ -259,12 +285,12 @@ returns-in-MainBody-clause-does g c = λ told.
 
 pub returns-in-GetAlt-clause-grows : goal.returns-in-GetAlt-clause-grows
 returns-in-GetAlt-clause-grows g c = λ told.
-    open_takes (GetAlt c.in-GetAlt.key.now) c.say_shown-in-GetAlt.result (session g.D.Disk c.args.self.now c.args.disk.now) (g.K.Sink.taken c.args.sink.now)
+    open_takes (GetAlt c.in-GetAlt.key.now) tt c.say_shown-in-GetAlt.result (session g.D.Disk c.args.self.now c.args.disk.now) (g.K.Sink.taken c.args.sink.now)
     (saying g.K.Sink c.say_shown-in-GetAlt.new.self.reply c.say_shown-in-GetAlt.new.sink) (c.requires.told told) (c.say_shown-in-GetAlt.ensures.answers told)
 
 pub returns-in-MainBody-clause-grows : goal.returns-in-MainBody-clause-grows
 returns-in-MainBody-clause-grows g c = λ told.
-    open_takes (MainBody c.in-MainBody.key.now) c.say_shown-in-MainBody.result (session g.D.Disk c.args.self.now c.args.disk.now) (g.K.Sink.taken c.args.sink.now)
+    open_takes (MainBody c.in-MainBody.key.now) tt c.say_shown-in-MainBody.result (session g.D.Disk c.args.self.now c.args.disk.now) (g.K.Sink.taken c.args.sink.now)
     (saying g.K.Sink c.say_shown-in-MainBody.new.self.reply c.say_shown-in-MainBody.new.sink) (c.requires.told told) (c.say_shown-in-MainBody.ensures.answers told)
 
 pub returns-in-PutAlt-clause-does : goal.returns-in-PutAlt-clause-does

@@ -1,7 +1,7 @@
 use Rattle.std.proofs.Common.{◌<◌, ◌≤◌, length, Ok, sym, ap, subst, ◌∙◌, arith}
 use Rattle.std.proofs.lemmas.Result.{IfOk-from_err}
 use Rattle.disk_model.specs.Account.{IsCalm}
-use Rattle.index_theory.specs.Leaves.{LeavesIndex}
+use Rattle.index_theory.specs.Leaves.{LeavesBeside}
 use Rattle.file_handles.specs.Kept.{kept}
 use Rattle.file_handles.proofs.Accounting.{calm_then, calm_then_handed_on, fault_handed_on}
 use Rattle.file_handles.proofs.ClosedAll.{IsDroppedTo, all_closed, all_failed, item_at, next_somehow, none_dropped, one_dropped}
@@ -46,7 +46,7 @@ loop-object-preserved g c =
         long = before.long;
         to = λ told. none_dropped k i s (g.D.Disk.state c.match-object.disk) (item_at k i c.object-item.result _ within w.in_default.is)
             (subst (λ d. IsDroppedTo k i s (g.D.Disk.state d)) (sym w.disk-is) (before.to told));
-        left = λ told. subst (λ d. LeavesIndex s (g.D.Disk.state d)) (sym w.disk-is) (before.left told);
+        left = λ told. subst (λ d. LeavesBeside s (g.D.Disk.state d)) (sym w.disk-is) (before.left told);
         calm = subst (IsCalm g.D.Disk c.args.disk.now) (sym w.disk-is) before.calm;
         looks = λ told. ap (λ d. (g.D.Disk.counts d).entry_reads) w.disk-is ∙ before.looks told;
       }

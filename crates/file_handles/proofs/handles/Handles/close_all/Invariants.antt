@@ -1,6 +1,6 @@
 use Rattle.std.proofs.Common.{◌≡◌, IsTrue, length}
 use Rattle.disk_model.specs.Account.{IsCalm, LooksAtNoEntry}
-use Rattle.index_theory.specs.Leaves.{LeavesIndex}
+use Rattle.index_theory.specs.Leaves.{LeavesBeside}
 use Rattle.file_handles.specs.Kept.{kept}
 use Rattle.file_handles.proofs.ClosedAll.{IsDroppedTo}
 use Rattle.file_handles.proofs.handles.Handles.close_all.Given as goal
@@ -9,7 +9,7 @@ abbrev pub invariant-loop-object : goal.invariant-loop-object
 invariant-loop-object g l = record {
   long : length (kept l.fn.self).objects ≡ 64;
   to : IsTrue g.D.Disk.tells → IsDroppedTo (kept l.fn.self) l.object-index (g.D.Disk.state l.fn.disk) (g.D.Disk.state l.disk);
-  left : IsTrue g.D.Disk.tells → LeavesIndex (g.D.Disk.state l.fn.disk) (g.D.Disk.state l.disk);
+  left : IsTrue g.D.Disk.tells → LeavesBeside (g.D.Disk.state l.fn.disk) (g.D.Disk.state l.disk);
   calm : IsCalm g.D.Disk l.fn.disk l.disk;
   looks : LooksAtNoEntry g.D.Disk l.fn.disk l.disk;
 }

@@ -1,0 +1,127 @@
+use Rattle.std.proofs.Common.{◌≡◌, ◌∙◌, ap, not, subst, sym}
+use Rattle.cache_store.specs.Clearing.{LeavesResumed}
+use Rattle.cache_store.specs.Session.{session}
+use Rattle.cache_store.specs.StoppedClearing.{ClearsUnderMark}
+use Rattle.cache_store.proofs.ClearCommands.{cleared_from, ended_index, found_mark, mark_not_resumed, mark_resumed, no_size, nothing_resumed, of_each, of_marked, other_removed, other_stays, resume_looks, stopped_from, uncleared_from}
+use Rattle.cache_store.proofs.ClearDoes.{looks_stopped}
+use Rattle.context_clear.specs.Mark.{mark_of}
+use Rattle.disk_model.specs.State.{standing}
+use Rattle.disk_model.specs.declared.place.Place.TheVariants.{Clear}
+use Rattle.file_handles.specs.Kept.{kept}
+use Rattle.cache_store.proofs.store.Store.resume.Goals as goal
+
+-- ---- a look failed, or no file stands
+
+pub returns-in_err-size-clause-does : goal.returns-in_err-size-clause-does
+returns-in_err-size-clause-does g c = λ told.
+    resume_looks c.from_residual.result _ c.from_residual.ensures.1 (kept c.args.self.now.handles) c.args.self.now.moment (g.D.Disk.state c.args.disk.now) (g.D.Disk.state c.size.new.self)
+    c.args.self.now.index c.args.self.now.index (c.size.ensures.state told)
+
+pub returns-in_err-size-clause-stopped : goal.returns-in_err-size-clause-stopped
+returns-in_err-size-clause-stopped g c =
+    of_each (mark_of (standing (g.D.Disk.state c.args.disk.now) Clear)) (λ origin told.
+    looks_stopped origin (kept c.args.self.now.handles) c.args.self.now.moment (g.D.Disk.state c.args.disk.now) (g.D.Disk.state c.size.new.self) c.args.self.now.index (c.size.ensures.state told))
+
+pub returns-then-is_none-clause-does : goal.returns-then-is_none-clause-does
+returns-then-is_none-clause-does g c = λ told.
+    let s = g.D.Disk.state c.args.disk.now in
+    let none = no_size (standing s Clear) c.in_ok-size.field-0 (c.in_ok-size.ensures.size told) (c.is_none.ensures ∙ ap not c.if-is_none.true) in
+    nothing_resumed (kept c.args.self.now.handles) c.args.self.now.moment s (g.D.Disk.state c.size.new.self) c.args.self.now.index (ap mark_of none) none (c.size.ensures.state told)
+
+pub returns-in_err-origin-clause-does : goal.returns-in_err-origin-clause-does
+returns-in_err-origin-clause-does g c = λ told.
+    resume_looks c.from_residual-in_err-origin.result _ c.from_residual-in_err-origin.ensures.1 (kept c.args.self.now.handles) c.args.self.now.moment (g.D.Disk.state c.args.disk.now)
+    (g.D.Disk.state c.stored.new.disk) c.args.self.now.index c.args.self.now.index (c.stored.ensures.looks.state told ∙ c.size.ensures.state told)
+
+pub returns-in_err-origin-clause-stopped : goal.returns-in_err-origin-clause-stopped
+returns-in_err-origin-clause-stopped g c =
+    of_each (mark_of (standing (g.D.Disk.state c.args.disk.now) Clear)) (λ origin told.
+    looks_stopped origin (kept c.args.self.now.handles) c.args.self.now.moment (g.D.Disk.state c.args.disk.now) (g.D.Disk.state c.stored.new.disk) c.args.self.now.index
+    (c.stored.ensures.looks.state told ∙ c.size.ensures.state told))
+
+-- ---- a mark stands
+
+pub returns-in_err-cleared-in-Some-clause-does : goal.returns-in_err-cleared-in-Some-clause-does
+returns-in_err-cleared-in-Some-clause-does g c = λ told.
+    let k = kept c.args.self.now.handles in
+    let s = g.D.Disk.state c.args.disk.now in
+    let v = g.D.Disk.state c.stored.new.disk in
+    let looked = c.size.ensures.state told in
+    mark_not_resumed c.in-Some.origin (session g.D.Disk c.args.self.now c.args.disk.now) _
+    (found_mark k c.args.self.now.moment s (g.D.Disk.state c.size.new.self) c.args.self.now.index looked c.in_ok-origin.field-0 _ (c.in_ok-origin.ensures.origin told) c.in-Some.is)
+    c.in_err-cleared-in-Some.field-0.0 c.from_residual-in_err-cleared-in-Some.result _ c.from_residual-in_err-cleared-in-Some.ensures.1
+    (cleared_from k c.args.self.now.moment s v c.args.self.now.index (c.stored.ensures.looks.state told ∙ looked) c.in-Some.origin _ _ (c.in_err-cleared-in-Some.ensures.does told))
+
+pub returns-in_err-cleared-in-Some-clause-stopped : goal.returns-in_err-cleared-in-Some-clause-stopped
+returns-in_err-cleared-in-Some-clause-stopped g c =
+    let k = kept c.args.self.now.handles in
+    let s = g.D.Disk.state c.args.disk.now in
+    of_marked (mark_of (standing s Clear)) c.in-Some.origin _ (λ origin. ClearsUnderMark origin (session g.D.Disk c.args.self.now c.args.disk.now) (g.D.Disk.state c.clear_origin-cleared.new.disk))
+    (λ told. found_mark k c.args.self.now.moment s (g.D.Disk.state c.size.new.self) c.args.self.now.index (c.size.ensures.state told) c.in_ok-origin.field-0 _ (c.in_ok-origin.ensures.origin told) c.in-Some.is)
+    (λ told. stopped_from k c.args.self.now.moment s (g.D.Disk.state c.stored.new.disk) c.args.self.now.index (c.stored.ensures.looks.state told ∙ c.size.ensures.state told) c.in-Some.origin
+    (g.D.Disk.state c.clear_origin-cleared.new.disk) (c.clear_origin-cleared.ensures.stopped told))
+
+pub returns-in_ok-cleared-in-Some-clause-does : goal.returns-in_ok-cleared-in-Some-clause-does
+returns-in_ok-cleared-in-Some-clause-does g c = λ told.
+    let k = kept c.args.self.now.handles in
+    let s = g.D.Disk.state c.args.disk.now in
+    let v = g.D.Disk.state c.stored.new.disk in
+    let looked = c.size.ensures.state told in
+    mark_resumed c.in-Some.origin (session g.D.Disk c.args.self.now c.args.disk.now) _
+    (found_mark k c.args.self.now.moment s (g.D.Disk.state c.size.new.self) c.args.self.now.index looked c.in_ok-origin.field-0 _ (c.in_ok-origin.ensures.origin told) c.in-Some.is)
+    c.in_ok-cleared-in-Some.field-0
+    (cleared_from k c.args.self.now.moment s v c.args.self.now.index (c.stored.ensures.looks.state told ∙ looked) c.in-Some.origin _ _ (c.in_ok-cleared-in-Some.ensures.does told))
+
+pub returns-in_ok-cleared-in-Some-clause-resumes : goal.returns-in_ok-cleared-in-Some-clause-resumes
+returns-in_ok-cleared-in-Some-clause-resumes g c = λ had told.
+    let k = kept c.args.self.now.handles in
+    let s = g.D.Disk.state c.args.disk.now in
+    let looked = c.size.ensures.state told in
+    subst (λ mark. LeavesResumed mark (session g.D.Disk c.args.self.now c.args.disk.now) c.clear_origin-cleared.new.self.index)
+    (sym (found_mark k c.args.self.now.moment s (g.D.Disk.state c.size.new.self) c.args.self.now.index looked c.in_ok-origin.field-0 _ (c.in_ok-origin.ensures.origin told) c.in-Some.is))
+    (uncleared_from k c.args.self.now.moment s (g.D.Disk.state c.stored.new.disk) c.args.self.now.index (c.stored.ensures.looks.state told ∙ looked) c.in-Some.origin
+    c.clear_origin-cleared.new.self.index.map (c.in_ok-cleared-in-Some.ensures.clears told))
+
+pub returns-in_ok-cleared-in-Some-clause-stopped : goal.returns-in_ok-cleared-in-Some-clause-stopped
+returns-in_ok-cleared-in-Some-clause-stopped g c =
+    let k = kept c.args.self.now.handles in
+    let s = g.D.Disk.state c.args.disk.now in
+    of_marked (mark_of (standing s Clear)) c.in-Some.origin _ (λ origin. ClearsUnderMark origin (session g.D.Disk c.args.self.now c.args.disk.now) (g.D.Disk.state c.clear_origin-cleared.new.disk))
+    (λ told. found_mark k c.args.self.now.moment s (g.D.Disk.state c.size.new.self) c.args.self.now.index (c.size.ensures.state told) c.in_ok-origin.field-0 _ (c.in_ok-origin.ensures.origin told) c.in-Some.is)
+    (λ told. stopped_from k c.args.self.now.moment s (g.D.Disk.state c.stored.new.disk) c.args.self.now.index (c.stored.ensures.looks.state told ∙ c.size.ensures.state told) c.in-Some.origin
+    (g.D.Disk.state c.clear_origin-cleared.new.disk) (c.clear_origin-cleared.ensures.stopped told))
+
+-- ---- another file stands
+
+pub returns-in_err-end-in-None-clause-does : goal.returns-in_err-end-in-None-clause-does
+returns-in_err-end-in-None-clause-does g c = λ told.
+    let k = kept c.args.self.now.handles in
+    let s = g.D.Disk.state c.args.disk.now in
+    let looked = c.size.ensures.state told in
+    other_stays k c.args.self.now.moment s (g.D.Disk.state c.end.new.disk) c.args.self.now.index
+    (found_mark k c.args.self.now.moment s (g.D.Disk.state c.size.new.self) c.args.self.now.index looked c.in_ok-origin.field-0 _ (c.in_ok-origin.ensures.origin told) c.in-None.is)
+    (g.D.Disk.state c.stored.new.disk) (c.stored.ensures.looks.state told ∙ looked) (g.met.D.Disk.sound c.stored.new.disk told)
+    c.from_residual-in_err-end-in-None.result _ c.from_residual-in_err-end-in-None.ensures.1 (c.end.ensures.amid told)
+
+pub returns-in_err-end-in-None-clause-index : goal.returns-in_err-end-in-None-clause-index
+returns-in_err-end-in-None-clause-index g c = λ told.
+    ended_index (kept c.args.self.now.handles) c.args.self.now.moment (g.D.Disk.state c.args.disk.now) (g.D.Disk.state c.stored.new.disk) c.args.self.now.index
+    (c.stored.ensures.looks.state told ∙ c.size.ensures.state told) (g.D.Disk.state c.end.new.disk) (g.met.D.Disk.sound c.stored.new.disk told) (c.end.ensures.amid told)
+
+pub returns-in_ok-end-in-None-clause-does : goal.returns-in_ok-end-in-None-clause-does
+returns-in_ok-end-in-None-clause-does g c = λ told.
+    let k = kept c.args.self.now.handles in
+    let s = g.D.Disk.state c.args.disk.now in
+    let v = g.D.Disk.state c.stored.new.disk in
+    let looked = c.size.ensures.state told in
+    let same = c.stored.ensures.looks.state told ∙ looked in
+    let sound = g.met.D.Disk.sound c.stored.new.disk told in
+    other_removed k c.args.self.now.moment s (g.D.Disk.state c.end.new.disk) c.args.self.now.index
+    (found_mark k c.args.self.now.moment s (g.D.Disk.state c.size.new.self) c.args.self.now.index looked c.in_ok-origin.field-0 _ (c.in_ok-origin.ensures.origin told) c.in-None.is)
+    v same sound (c.end.ensures.amid told) (c.in_ok-end-in-None.ensures.ended told)
+    (ended_index k c.args.self.now.moment s v c.args.self.now.index same (g.D.Disk.state c.end.new.disk) sound (c.end.ensures.amid told))
+
+pub returns-in_ok-end-in-None-clause-index : goal.returns-in_ok-end-in-None-clause-index
+returns-in_ok-end-in-None-clause-index g c = λ told.
+    ended_index (kept c.args.self.now.handles) c.args.self.now.moment (g.D.Disk.state c.args.disk.now) (g.D.Disk.state c.stored.new.disk) c.args.self.now.index
+    (c.stored.ensures.looks.state told ∙ c.size.ensures.state told) (g.D.Disk.state c.end.new.disk) (g.met.D.Disk.sound c.stored.new.disk told) (c.end.ensures.amid told)

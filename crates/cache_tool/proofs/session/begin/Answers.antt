@@ -1,0 +1,41 @@
+-- A run began: the store was opened, and what is done for `Resume` was done; or one of them failed.
+use Rattle.std.proofs.Common.{Ok, arith, refl}
+use Rattle.cache_store.specs.IndexCalls.{LooksAtNames}
+use Rattle.cache_store.specs.Session.{session}
+use Rattle.cache_theory.specs.Command.Command.{Resume}
+use Rattle.cache_tool.proofs.EntryLooks.{resume_reads}
+use Rattle.cache_tool.proofs.RunBegins.{never_opened, on_err, resume_done, resume_fails}
+use Rattle.cache_tool.proofs.StayingLaws.{stays_for}
+use Rattle.cache_tool.proofs.session.begin.Goals as goal
+
+pub returns-in_err-store-clause-fails : goal.returns-in_err-store-clause-fails
+returns-in_err-store-clause-fails g c = on_err c.from_residual.result _ (λ told.
+    never_opened c.args.now (g.D.Disk.state c.args.disk.now) (g.D.Disk.state c.open.new.disk) (c.open.ensures.honest told) (c.open.ensures.safe told))
+
+pub returns-in_err-attempt-clause-fails : goal.returns-in_err-attempt-clause-fails
+returns-in_err-attempt-clause-fails g c = on_err c.from_residual-in_err-attempt.result _ (λ told.
+    resume_fails c.args.now (g.D.Disk.state c.args.disk.now) (session g.D.Disk c.in_ok-store.store c.open.new.disk) (session g.D.Disk c.attempt.new.self c.attempt.new.disk)
+    (g.met.D.Disk.finite c.args.disk.now told) (c.in_ok-store.ensures.opens told) (c.in_ok-store.ensures.begins told) _ _ c.attempt.result (c.attempt.ensures.performs told) (c.attempt.ensures.honest told))
+
+pub returns-in_err-attempt-clause-looks : goal.returns-in_err-attempt-clause-looks
+returns-in_err-attempt-clause-looks g c = λ told none again.
+    let opened = c.open.ensures.no_entry told in
+    let performed = resume_reads c.args.now (g.D.Disk.state c.args.disk.now) (session g.D.Disk c.in_ok-store.store c.open.new.disk) (λ names. LooksAtNames g.D.Disk names c.open.new.disk c.attempt.new.disk)
+    (g.met.D.Disk.finite c.args.disk.now told) (c.in_ok-store.ensures.opens told) none c.attempt.ensures.looks told in
+    omega (arith, opened, performed)
+
+pub returns-clause-looks : goal.returns-clause-looks
+returns-clause-looks g c = λ told none again.
+    let opened = c.open.ensures.no_entry told in
+    let performed = resume_reads c.args.now (g.D.Disk.state c.args.disk.now) (session g.D.Disk c.in_ok-store.store c.open.new.disk) (λ names. LooksAtNames g.D.Disk names c.open.new.disk c.attempt.new.disk)
+    (g.met.D.Disk.finite c.args.disk.now told) (c.in_ok-store.ensures.opens told) none c.attempt.ensures.looks told in
+    omega (arith, opened, performed)
+
+pub returns-clause-begins : goal.returns-clause-begins
+returns-clause-begins g c = λ told.
+    let first = session g.D.Disk c.in_ok-store.store c.open.new.disk in
+    let now = session g.D.Disk c.attempt.new.self c.attempt.new.disk in
+    let resume = c.in_ok-attempt.ensures in
+    resume_done c.args.now (g.D.Disk.state c.args.disk.now) first now (g.met.D.Disk.finite c.args.disk.now told) (c.in_ok-store.ensures.opens told) (c.in_ok-store.ensures.begins told) _ _
+    c.in_ok-attempt.field-0 (c.in_ok-store.ensures.based told) (resume.performs told)
+    (stays_for Resume (Ok c.in_ok-attempt.field-0) first now (λ spares. resume.index spares told) resume.base) (resume.resumes refl tt told)
