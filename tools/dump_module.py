@@ -6,7 +6,7 @@ import dataclasses
 import hashlib
 import struct
 
-from formats_module import CHUNK, MAX_BLOCK, MAX_KEY, are_elements, low_hash, lookup2, may_write
+from formats_module import CHUNK, MAX_BLOCK, MAX_KEY, alternative_place, are_elements, elements_in, low_hash, lookup2, may_write
 
 HEAD = b"C2DUMP01"
 MAX_BODY = 52428800
@@ -30,6 +30,11 @@ class Item:
     expires: int
     flags: int
     elements: bytes
+
+    def alternative_at(self):
+        """Where the alternative data begin in the body, or None where there are none."""
+        place = alternative_place(elements_in(self.elements).get(b"alt-data", b""), self.body_len)
+        return place and place[0]
 
 
 class Dump:

@@ -140,12 +140,22 @@ def file_of(body, header, key, elements=b""):
     return file_with(body, chunk_hashes(body) + header + key + b"\0" + elements)
 
 
+# No offset below 2^32 has more digits, and of some thousands Python makes no number.
+ALTERNATIVE = re.compile(rb"1;(0|[1-9][0-9]{0,9}),([^\0]+)", re.DOTALL)
+
+
+def alternative_place(value, body_len):
+    """Where the alternative data begin in a stored body of this length, and their kind, by the value of the element `alt-data`."""
+    told = ALTERNATIVE.fullmatch(value)
+    if not told or int(told[1]) > min(body_len, WORD):
+        return None
+    return int(told[1]), told[2]
+
+
 def alternative(value, body):
     """The main body, the kind and the alternative data, by the value of the element `alt-data`; or None where it tells of none."""
-    told = re.fullmatch(rb"1;(0|[1-9][0-9]*),([^\0]+)", value, re.DOTALL)
-    if not told or int(told[1]) > min(len(body), WORD):
-        return None
-    return body[:int(told[1])], told[2], body[int(told[1]):]
+    place = alternative_place(value, len(body))
+    return place and (body[:place[0]], place[1], body[place[0]:])
 
 
 # ---- the index and its journal
