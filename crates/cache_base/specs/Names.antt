@@ -6,6 +6,7 @@ use Rattle.std.specs.List.Sorted.{IsStrictlySortedBy}
 use Rattle.std.specs.Ordering.{nat_cmp}
 use Rattle.cache_base.specs.declared.name.Name.{Name}
 
+-- the order of two names, which is that of their bytes
 abbrev pub name_cmp : Name → Name → Ordering
 name_cmp a b = slice_cmp nat_cmp a.0 b.0
 

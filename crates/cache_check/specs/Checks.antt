@@ -65,6 +65,7 @@ looks_over files writing =
 abbrev pub table_of : Files → List Name → Table (List ℕ)
 table_of files names = map (λ name. (name.0, unwrap_or (files (Entry name)) [])) names
 
+-- the files of these names that stand now, as a table
 abbrev pub files_of : State → List Name → Table (List ℕ)
 files_of s names = table_of (standing s) names
 

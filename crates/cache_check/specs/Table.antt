@@ -10,6 +10,7 @@ use Rattle.cache_base.specs.declared.name.Name.{Name}
 abbrev pub bytes_cmp : List ℕ → List ℕ → Ordering
 bytes_cmp = slice_cmp nat_cmp
 
+-- a map, as its pairs of a name and a value
 abbrev pub Table : Type 0 → Type 0
 Table X = List (List ℕ × X)
 
@@ -17,12 +18,15 @@ Table X = List (List ℕ × X)
 pub record IsTable {X : Type 0} (t : Table X) : Type 0 where
   pub rising : T (is_sorted bytes_cmp t)
 
+-- the value of a name, if it has one
 abbrev pub get : {X : Type 0} → Table X → List ℕ → Option X
 get t name = find bytes_cmp name t
 
+-- the table with this value under the name
 abbrev pub insert : {X : Type 0} → Table X → List ℕ → X → Table X
 insert t name x = put bytes_cmp name x t
 
+-- the names in a table
 abbrev pub keys : {X : Type 0} → Table X → List (List ℕ)
 keys t = map (λ e. e.0) t
 

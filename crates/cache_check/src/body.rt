@@ -23,13 +23,15 @@ fn check_one<D: Disk>(
     buf: &mut Buffer,
 ) -> Result<Option<Damage>, DiskFault>
     requires index { index < chunks_of meta.now.offset }
-    requires told { IsTrue D.tells → HasMeta (spec.file_at (D.state disk.old) name.now) (meta_of meta.now) }
+    requires told { IsTrue D.tells →
+        HasMeta (spec.file_at (D.state disk.old) name.now) (meta_of meta.now) }
     ensures damage { IfOk result (λ damage. IsTrue D.tells →
         IfSome (spec.file_at (D.state disk.old) name.now) (λ content.
         damage ≡ spec.chunk_damage (meta_of meta.now) index content)) }
     ensures state { IsTrue D.tells → D.state disk.new ≡ D.state disk.old }
     ensures looks { IsTrue D.tells → LooksAtMost 1 (D.counts disk.old) (D.counts disk.new) }
-    ensures cause { HasCause (IsErrOf result DiskFault.Failed) (D.faults disk.old) (D.faults disk.new) }
+    ensures cause { HasCause (IsErrOf result DiskFault.Failed)
+        (D.faults disk.old) (D.faults disk.new) }
 {
     read_chunk(disk, &Place::Entry(*name), meta.offset, index, buf)?;
     match check_chunk(meta.hashes.as_slice()[index as usize], buf.as_slice()) {
@@ -44,7 +46,8 @@ fn check_one<D: Disk>(
 
 // Adds a damage, if there is one.
 fn add_damage(name: &Name, damage: Option<Damage>, out: &mut FindingList) -> Result<(), NoMemory>
-    ensures { OnOk result (spec.Adds name.now (map What.Damaged (option_to_list damage)) out.old out.new) }
+    ensures { OnOk result
+        (spec.Adds name.now (map What.Damaged (option_to_list damage)) out.old out.new) }
 {
     match damage {
         None => Ok(()),
@@ -64,12 +67,15 @@ pub(crate) fn add_damages<D: Disk>(
     buf: &mut Buffer,
     out: &mut FindingList,
 ) -> Result<(), DiskFault>
-    requires { IsTrue D.tells → HasMeta (spec.file_at (D.state disk.old) name.now) (meta_of meta.now) }
-    ensures adds { OnOk result (IsTrue D.tells → IfSome (spec.file_at (D.state disk.old) name.now) (λ content.
-        spec.Adds name.now (spec.damaged (meta_of meta.now) content) out.old out.new)) }
+    requires { IsTrue D.tells →
+        HasMeta (spec.file_at (D.state disk.old) name.now) (meta_of meta.now) }
+    ensures adds { OnOk result (IsTrue D.tells → IfSome (spec.file_at (D.state disk.old) name.now)
+        (λ content. spec.Adds name.now (spec.damaged (meta_of meta.now) content) out.old out.new)) }
     ensures state { IsTrue D.tells → D.state disk.new ≡ D.state disk.old }
-    ensures looks { IsTrue D.tells → LooksAtMost (chunks_of meta.now.offset) (D.counts disk.old) (D.counts disk.new) }
-    ensures cause { HasCause (IsErrOf result DiskFault.Failed) (D.faults disk.old) (D.faults disk.new) }
+    ensures looks { IsTrue D.tells →
+        LooksAtMost (chunks_of meta.now.offset) (D.counts disk.old) (D.counts disk.new) }
+    ensures cause { HasCause (IsErrOf result DiskFault.Failed)
+        (D.faults disk.old) (D.faults disk.new) }
 {
     for index in 0..chunks(u64::from(meta.offset)) as u32 {
         let damage = check_one(disk, name, meta, index, buf)?;

@@ -33,11 +33,14 @@ fn check_row<D: Disk>(
     out: &mut FindingList,
 ) -> Result<(), DiskFault>
     ensures adds { OnOk result (IsTrue D.tells →
-        spec.Adds row.now.name (rows.row_findings (standing (D.state disk.old)) row.now) out.old out.new) }
+        spec.Adds row.now.name
+        (rows.row_findings (standing (D.state disk.old)) row.now) out.old out.new) }
     ensures state { IsTrue D.tells → D.state disk.new ≡ D.state disk.old }
     ensures looks { IsTrue D.tells →
-        LooksAtMost (rows.row_looks (standing (D.state disk.old)) row.now) (D.counts disk.old) (D.counts disk.new) }
-    ensures cause { HasCause (IsErrOf result DiskFault.Failed) (D.faults disk.old) (D.faults disk.new) }
+        LooksAtMost (rows.row_looks (standing (D.state disk.old)) row.now)
+        (D.counts disk.old) (D.counts disk.new) }
+    ensures cause { HasCause (IsErrOf result DiskFault.Failed)
+        (D.faults disk.old) (D.faults disk.new) }
 {
     if row.filed {
         check_entry(alloc, disk, &row.name, row.known, buf, out)
@@ -56,13 +59,16 @@ fn check_turn<D: Disk>(
     buf: &mut Buffer,
     out: &mut FindingList,
 ) -> Result<(), DiskFault>
-    ensures adds { OnOk result (IsTrue D.tells → let is_written = contains_of name_cmp writing.now row.now.name in
+    ensures adds { OnOk result (IsTrue D.tells →
+        let is_written = contains_of name_cmp writing.now row.now.name in
         out.new ≡ out.old ++ rows.turn_findings (standing (D.state disk.old)) is_written row.now) }
     ensures state { IsTrue D.tells → D.state disk.new ≡ D.state disk.old }
-    ensures looks { IsTrue D.tells → let is_written = contains_of name_cmp writing.now row.now.name in
+    ensures looks { IsTrue D.tells →
+        let is_written = contains_of name_cmp writing.now row.now.name in
         LooksAtMost (rows.turn_looks (standing (D.state disk.old)) is_written row.now)
         (D.counts disk.old) (D.counts disk.new) }
-    ensures cause { HasCause (IsErrOf result DiskFault.Failed) (D.faults disk.old) (D.faults disk.new) }
+    ensures cause { HasCause (IsErrOf result DiskFault.Failed)
+        (D.faults disk.old) (D.faults disk.new) }
 {
     if writing.contains(&row.name) {
         return Ok(());
@@ -81,12 +87,14 @@ fn check_all<D: Disk>(
     requires rising { AreRising names.now }
     requires by_name { AreByName records.now }
     requires told { IsTrue D.tells → spec.AllStand (D.state disk.old) names.now }
-    ensures findings { IfOk result (λ list. IsTrue D.tells → let files = spec.files_of (D.state disk.old) names.now in
+    ensures findings { IfOk result (λ list. IsTrue D.tells →
+        let files = spec.files_of (D.state disk.old) names.now in
         list ≡ findings_in files records.now writing.now) }
     ensures state { IsTrue D.tells → D.state disk.new ≡ D.state disk.old }
     ensures looks { IsTrue D.tells → let files = spec.files_of (D.state disk.old) names.now in
         LooksAtMost (spec.looks_over files writing.now) (D.counts disk.old) (D.counts disk.new) }
-    ensures cause { HasCause (IsErrOf result DiskFault.Failed) (D.faults disk.old) (D.faults disk.new) }
+    ensures cause { HasCause (IsErrOf result DiskFault.Failed)
+        (D.faults disk.old) (D.faults disk.new) }
 {
     let set = name_set(alloc, writing)?;
     let mut buf = Buffer::new(alloc)?;
@@ -123,7 +131,8 @@ pub fn findings<D: Disk>(
     ensures findings { IfOk result (λ list. IsTrue D.tells →
         AreFindings (entries_on (D.state disk.old)) records.now writing.now list) }
     ensures once { IsTrue D.tells →
-        spec.LooksOnce (entries_on (D.state disk.old)) writing.now (D.counts disk.old) (D.counts disk.new) }
+        spec.LooksOnce (entries_on (D.state disk.old)) writing.now
+        (D.counts disk.old) (D.counts disk.new) }
     ensures looks { Looks D.Disk (ending result) disk.old disk.new }
 {
     let mut names = Names::new(alloc);

@@ -46,14 +46,17 @@ fn check_file<D: Disk>(
     buf: &mut Buffer,
     out: &mut FindingList,
 ) -> Result<Option<IndexRecord>, DiskFault>
-    ensures adds { OnOk result (IsTrue D.tells → let file = spec.file_at (D.state disk.old) name.now in
+    ensures adds { OnOk result (IsTrue D.tells →
+        let file = spec.file_at (D.state disk.old) name.now in
         spec.Adds name.now (file_findings name.now file) out.old out.new) }
-    ensures filed { IfOk result (λ filed. IsTrue D.tells → let file = spec.file_at (D.state disk.old) name.now in
+    ensures filed { IfOk result (λ filed. IsTrue D.tells →
+        let file = spec.file_at (D.state disk.old) name.now in
         filed ≡ option_and_then (record_of name.now) file) }
     ensures state { IsTrue D.tells → D.state disk.new ≡ D.state disk.old }
     ensures looks { IsTrue D.tells → let file = spec.file_at (D.state disk.old) name.now in
         LooksAtMost (spec.looks_at name.now file) (D.counts disk.old) (D.counts disk.new) }
-    ensures cause { HasCause (IsErrOf result DiskFault.Failed) (D.faults disk.old) (D.faults disk.new) }
+    ensures cause { HasCause (IsErrOf result DiskFault.Failed)
+        (D.faults disk.old) (D.faults disk.new) }
 {
     match read_meta(alloc, disk, &Place::Entry(*name), name)? {
         EntryRead::Absent => Ok(None),
@@ -80,12 +83,14 @@ pub(crate) fn check_entry<D: Disk>(
     buf: &mut Buffer,
     out: &mut FindingList,
 ) -> Result<(), DiskFault>
-    ensures adds { OnOk result (IsTrue D.tells → let file = spec.file_at (D.state disk.old) name.now in
+    ensures adds { OnOk result (IsTrue D.tells →
+        let file = spec.file_at (D.state disk.old) name.now in
         spec.Adds name.now (spec.findings_of name.now file known) out.old out.new) }
     ensures state { IsTrue D.tells → D.state disk.new ≡ D.state disk.old }
     ensures looks { IsTrue D.tells → let file = spec.file_at (D.state disk.old) name.now in
         LooksAtMost (spec.looks_at name.now file) (D.counts disk.old) (D.counts disk.new) }
-    ensures cause { HasCause (IsErrOf result DiskFault.Failed) (D.faults disk.old) (D.faults disk.new) }
+    ensures cause { HasCause (IsErrOf result DiskFault.Failed)
+        (D.faults disk.old) (D.faults disk.new) }
 {
     let filed = check_file(alloc, disk, name, buf, out)?;
     add_compared(name, filed, known, out)?;

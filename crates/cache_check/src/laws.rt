@@ -10,7 +10,8 @@ use disk_model::Disk;
 
 /// The entry files that stand on a disk have a table.
 pub fn files_have_table<D: Disk>(_disk: &D)
-    ensures { IsTrue D.tells → (files : Table (List ℕ)) × IsTableOf (entries_on (D.state _disk.now)) files }
+    ensures { IsTrue D.tells →
+        (files : Table (List ℕ)) × IsTableOf (entries_on (D.state _disk.now)) files }
 {}
 
 /// And only one.

@@ -10,6 +10,7 @@ pub record CachedChunk : Type 0 where
   pub index : ℕ
   pub bytes : List ℕ
 
+-- the chunk of an entry at an index, with these bytes
 abbrev pub cached : ℕ → ℕ → List ℕ → CachedChunk
 cached entry index bytes = record { entry = entry; index = index; bytes = bytes }
 

@@ -31,10 +31,13 @@ pub fn append_chunk<D: Disk>(
 ) -> Result<(), DiskFault>
     requires full { length buf.old ≡ CHUNK }
     requires limit { index ≤ 4194304 }
-    requires told { IsTrue D.tells → MayWriteAt (standing (D.state disk.old) place.now) (index * chunk_size) }
+    requires told { IsTrue D.tells →
+        MayWriteAt (standing (D.state disk.old) place.now) (index * chunk_size) }
     ensures buf { buf.new ≡ buf.old }
-    ensures state { IsTrue D.tells → D.state disk.new ≡ if_done result (wrote place.now (chunk_write index buf.old) (D.state disk.old)) (D.state disk.old) }
-    ensures counts { IsTrue D.tells → D.counts disk.new ≡ counted_change result (D.counts disk.old) }
+    ensures state { IsTrue D.tells → D.state disk.new ≡ if_done result
+        (wrote place.now (chunk_write index buf.old) (D.state disk.old)) (D.state disk.old) }
+    ensures counts { IsTrue D.tells →
+        D.counts disk.new ≡ counted_change result (D.counts disk.old) }
     ensures account { Accounts D.Disk (ending result) disk.old disk.new }
     ensures change { FailsInChange D.Disk (ending result) disk.new }
 {

@@ -22,9 +22,12 @@ pub fn read_chunk<D: Disk>(
 ) -> Result<(), DiskFault>
     requires { index < chunks offset }
     ensures len { OnOk result (length buf.new ≡ chunk_len offset index) }
-    ensures bytes { OnOk result (IsTrue D.tells → buf.new ≡ read_as offset index (standing (D.state disk.old) place.now)) }
-    ensures chunk { OnOk result (IsTrue D.tells → IfSome (standing (D.state disk.old) place.now) (λ content. offset ≤ length content → buf.new ≡ chunk (take offset content) index)) }
-    ensures counts { IsTrue D.tells → D.counts disk.new ≡ counted_read place.now (D.counts disk.old) }
+    ensures bytes { OnOk result (IsTrue D.tells →
+        buf.new ≡ read_as offset index (standing (D.state disk.old) place.now)) }
+    ensures chunk { OnOk result (IsTrue D.tells → IfSome (standing (D.state disk.old) place.now)
+        (λ content. offset ≤ length content → buf.new ≡ chunk (take offset content) index)) }
+    ensures counts { IsTrue D.tells →
+        D.counts disk.new ≡ counted_read place.now (D.counts disk.old) }
     ensures looks { Looks D.Disk (ending result) disk.old disk.new }
 {
     let len = CHUNK.min(offset as usize - index as usize * CHUNK);
@@ -52,9 +55,12 @@ pub fn read_chunk_into<D: Disk>(
 ) -> Result<(), DiskFault>
     requires index { index < chunks offset }
     requires len { length buf.old ≡ chunk_len offset index }
-    ensures bytes { OnOk result (IsTrue D.tells → buf.new ≡ read_as offset index (standing (D.state disk.old) place.now)) }
-    ensures chunk { OnOk result (IsTrue D.tells → IfSome (standing (D.state disk.old) place.now) (λ content. offset ≤ length content → buf.new ≡ chunk (take offset content) index)) }
-    ensures counts { IsTrue D.tells → D.counts disk.new ≡ counted_read place.now (D.counts disk.old) }
+    ensures bytes { OnOk result (IsTrue D.tells →
+        buf.new ≡ read_as offset index (standing (D.state disk.old) place.now)) }
+    ensures chunk { OnOk result (IsTrue D.tells → IfSome (standing (D.state disk.old) place.now)
+        (λ content. offset ≤ length content → buf.new ≡ chunk (take offset content) index)) }
+    ensures counts { IsTrue D.tells →
+        D.counts disk.new ≡ counted_read place.now (D.counts disk.old) }
     ensures looks { Looks D.Disk (ending result) disk.old disk.new }
 {
     let n = disk.read(place, index as u64 * CHUNK as u64, buf)?;

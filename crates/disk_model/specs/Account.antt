@@ -12,10 +12,12 @@ pub data Ending : Type 0 where
   OneFailed : Ending
   OutOfMemory : Ending
 
+-- what a fault says of the calls
 abbrev pub fault_ending : DiskFault → Ending
 fault_ending Failed = Ending.OneFailed
 fault_ending Memory = Ending.OutOfMemory
 
+-- what an answer says of them: at Ok that none failed, and else what its fault says
 abbrev pub ending : {T : Type 0} → Result T DiskFault → Ending
 ending (Ok value) = Ending.NoneFailed
 ending (Err fault) = fault_ending fault

@@ -22,6 +22,7 @@ pub record LastFailed : Type 0 where
   pub change : ℕ
   pub sync : ℕ
 
+-- what a disk has counted of its calls
 pub record Counts : Type 0 where
   -- the calls so far
   pub calls : ℕ

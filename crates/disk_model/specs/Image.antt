@@ -14,6 +14,7 @@ abbrev pub Reaches : ℕ → Write → Type 0
 Reaches i (End from bytes) = from ≤ i
 Reaches i (Patch from bytes) = (from ≤ i) × (i < from + length bytes)
 
+-- one of these writes reaches the position
 abbrev pub IsReached : ℕ → List Write → Type 0
 IsReached i [] = ⊥
 IsReached i (write ∷ earlier) = Reaches i write ⊎ IsReached i earlier

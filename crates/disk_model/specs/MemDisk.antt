@@ -6,9 +6,11 @@ use Rattle.disk_model.specs.Calls.{Counts}
 use Rattle.disk_model.specs.MemTable.{state_of}
 use Rattle.disk_model.specs.declared.mem_disk.MemDisk.{MemDisk}
 
+-- the state of a disk in memory, which is that of its table
 abbrev pub state_in : MemDisk → State
 state_in d = state_of d.table
 
+-- what it has counted of its calls
 abbrev pub counts_in : MemDisk → Counts
 counts_in d = record { calls = d.calls; failed = record { change = d.failed_change; sync = d.failed_sync }; entry_reads = d.entry_reads }
 

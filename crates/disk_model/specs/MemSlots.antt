@@ -34,6 +34,7 @@ names_in slots = λ place. now_of (slot_at slots place)
 abbrev pub synced_names_in : Slots → Names
 synced_names_in slots = λ place. synced_of (slot_at slots place)
 
+-- the place has a slot
 abbrev pub HasSlot : Slots → Place → Type 0
 HasSlot slots place = IsSome (slot_at slots place)
 

@@ -8,5 +8,6 @@ use Rattle.disk_model.specs.declared.mem_table.Table.{Table}
 abbrev pub written_to : ℕ → Write → State → State
 written_to file write s = record s { files = with_file file (add_write write (s.files file)) s.files }
 
+-- the state that a table stands for
 abbrev pub state_of : Table → State
 state_of t = state_from t.slots t.steps.items t.files.items

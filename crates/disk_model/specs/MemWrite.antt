@@ -6,6 +6,7 @@ use Rattle.disk_model.specs.State.Write.{End, Patch}
 use Rattle.disk_model.specs.declared.mem_file.MemWrite.{MemWrite}
 use Rattle.disk_model.specs.declared.mem_file.MemWrite.TheVariants.{AtEnd, Inside}
 
+-- the write step that a write in memory stands for
 abbrev pub write_of : MemWrite → Write
 write_of (AtEnd from bytes) = End from bytes.items
 write_of (Inside from bytes) = Patch from bytes.items

@@ -3,6 +3,7 @@ use Rattle.std.specs.Prelude.{Bool, true, false, ◌==◌, bytes_eq}
 use Rattle.disk_model.specs.declared.place.Place.{Place}
 use Rattle.disk_model.specs.declared.place.Place.TheVariants.{Entry, Doomed, Index, Log, Tmp, Clear}
 
+-- whether the two are one place
 abbrev pub is_same : Place → Place → Bool
 is_same (Entry a) (Entry b) = bytes_eq a.0 b.0
 is_same (Doomed a) (Doomed b) = a == b

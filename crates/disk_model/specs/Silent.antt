@@ -5,11 +5,14 @@ use Rattle.disk_model.specs.State.{State, empty_file}
 use Rattle.disk_model.specs.Sound.{IsSound}
 use Rattle.disk_model.specs.Listing.{IsFinite}
 
+-- a state with no file at all
 abbrev pub nothing : State
 nothing = record { names = λ _. None; steps = []; files = λ _. empty_file; made = 0 }
 
+-- that it is sound is asked for only where the disk tells, which it never does
 pub never : IsTrue false → IsSound nothing
 never told = absurd (false≢true told)
 
+-- that it is finite, likewise
 pub never_finite : IsTrue false → IsFinite nothing
 never_finite told = absurd (false≢true told)

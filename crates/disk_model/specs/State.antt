@@ -49,6 +49,7 @@ abbrev pub names_after : Names → List NameStep → Names
 names_after names [] = names
 names_after names (step ∷ earlier) = named step (names_after names earlier)
 
+-- the state of a disk: what was synced, and the steps since
 pub record State : Type 0 where
   -- the names at the last sync
   pub names : Names

@@ -61,16 +61,20 @@ pub trait Disk {
 
     /// Makes all changes last. After it nothing is pending.
     fn sync(&mut self) -> Result<(), DiskFault>
-        ensures state { IsTrue tells → state self.new ≡ if_ok result (settled (state self.old)) (state self.old) }
+        ensures state { IsTrue tells →
+            state self.new ≡ if_ok result (settled (state self.old)) (state self.old) }
         ensures counts { IsTrue tells → counts self.new ≡ counted_sync result (counts self.old) }
-        ensures cause { HasCause (IsErrOf result DiskFault.Failed) (faults self.old) (faults self.new) };
+        ensures cause { HasCause (IsErrOf result DiskFault.Failed)
+            (faults self.old) (faults self.new) };
 
     /// The length, in bytes, of the file at the place, or none where no file stands there.
     fn size(&mut self, place: &Place) -> Result<Option<u64>, DiskFault>
-        ensures size { IfOk result (λ size. IsTrue tells → size ≡ option_map length (standing (state self.old) place.now)) }
+        ensures size { IfOk result (λ size. IsTrue tells →
+            size ≡ option_map length (standing (state self.old) place.now)) }
         ensures state { IsTrue tells → state self.new ≡ state self.old }
         ensures counts { IsTrue tells → counts self.new ≡ counted_read place.now (counts self.old) }
-        ensures cause { HasCause (IsErrOf result DiskFault.Failed) (faults self.old) (faults self.new) };
+        ensures cause { HasCause (IsErrOf result DiskFault.Failed)
+            (faults self.old) (faults self.new) };
 
     /// Fills the buffer's front with the bytes of the file from the offset `from` on, as far as the file goes, and
     /// tells how many they are: none where no file stands there, or where `from` is at or past its end. The rest of
@@ -82,44 +86,56 @@ pub trait Disk {
             (n ≡ length part) × (buf.new ≡ part ++ drop n buf.old)) }
         ensures state { IsTrue tells → state self.new ≡ state self.old }
         ensures counts { IsTrue tells → counts self.new ≡ counted_read place.now (counts self.old) }
-        ensures cause { HasCause (IsErrOf result DiskFault.Failed) (faults self.old) (faults self.new) };
+        ensures cause { HasCause (IsErrOf result DiskFault.Failed)
+            (faults self.old) (faults self.new) };
 
     /// A new empty file takes the place. A file that stood there loses its name.
     fn create(&mut self, place: &Place) -> Result<(), DiskFault>
-        ensures state { IsTrue tells → state self.new ≡ if_done result (created place.now (state self.old)) (state self.old) }
+        ensures state { IsTrue tells →
+            state self.new ≡ if_done result (created place.now (state self.old)) (state self.old) }
         ensures counts { IsTrue tells → counts self.new ≡ counted_change result (counts self.old) }
-        ensures cause { HasCause (IsErrOf result DiskFault.Failed) (faults self.old) (faults self.new) };
+        ensures cause { HasCause (IsErrOf result DiskFault.Failed)
+            (faults self.old) (faults self.new) };
 
     /// Writes the bytes at the offset `from`. The file then ends behind them.
     fn write_end(&mut self, place: &Place, from: u64, bytes: &[u8]) -> Result<(), DiskFault>
         requires limit { from ≤ 2 ^ 40 }
         requires told { IsTrue tells → MayWriteAt (standing (state self.old) place.now) from }
-        ensures state { IsTrue tells → state self.new ≡ if_done result (wrote place.now (End from bytes.now) (state self.old)) (state self.old) }
+        ensures state { IsTrue tells → state self.new ≡ if_done result
+            (wrote place.now (End from bytes.now) (state self.old)) (state self.old) }
         ensures counts { IsTrue tells → counts self.new ≡ counted_change result (counts self.old) }
-        ensures cause { HasCause (IsErrOf result DiskFault.Failed) (faults self.old) (faults self.new) };
+        ensures cause { HasCause (IsErrOf result DiskFault.Failed)
+            (faults self.old) (faults self.new) };
 
     /// Writes the bytes at the offset `from` inside the file, whose length stays.
     fn patch(&mut self, place: &Place, from: u64, bytes: &[u8]) -> Result<(), DiskFault>
         requires limit { from ≤ 2 ^ 40 }
-        requires told { IsTrue tells → Holds (standing (state self.old) place.now) from (length bytes.now) }
-        ensures state { IsTrue tells → state self.new ≡ if_done result (wrote place.now (Patch from bytes.now) (state self.old)) (state self.old) }
+        requires told { IsTrue tells →
+            Holds (standing (state self.old) place.now) from (length bytes.now) }
+        ensures state { IsTrue tells → state self.new ≡ if_done result
+            (wrote place.now (Patch from bytes.now) (state self.old)) (state self.old) }
         ensures counts { IsTrue tells → counts self.new ≡ counted_change result (counts self.old) }
-        ensures cause { HasCause (IsErrOf result DiskFault.Failed) (faults self.old) (faults self.new) };
+        ensures cause { HasCause (IsErrOf result DiskFault.Failed)
+            (faults self.old) (faults self.new) };
 
     /// The file of the first place takes the second. A file that stood there loses its name.
     fn rename(&mut self, from: &Place, to: &Place) -> Result<(), DiskFault>
         requires stands { IsTrue tells → IsSome (standing (state self.old) from.now) }
         requires differ { IsTrue tells → from.now ≢ to.now }
-        ensures state { IsTrue tells → state self.new ≡ if_done result (renamed from.now to.now (state self.old)) (state self.old) }
+        ensures state { IsTrue tells → state self.new
+            ≡ if_done result (renamed from.now to.now (state self.old)) (state self.old) }
         ensures counts { IsTrue tells → counts self.new ≡ counted_change result (counts self.old) }
-        ensures cause { HasCause (IsErrOf result DiskFault.Failed) (faults self.old) (faults self.new) };
+        ensures cause { HasCause (IsErrOf result DiskFault.Failed)
+            (faults self.old) (faults self.new) };
 
     /// Removes the file at the place.
     fn remove(&mut self, place: &Place) -> Result<(), DiskFault>
         requires { IsTrue tells → IsSome (standing (state self.old) place.now) }
-        ensures state { IsTrue tells → state self.new ≡ if_done result (removed place.now (state self.old)) (state self.old) }
+        ensures state { IsTrue tells →
+            state self.new ≡ if_done result (removed place.now (state self.old)) (state self.old) }
         ensures counts { IsTrue tells → counts self.new ≡ counted_change result (counts self.old) }
-        ensures cause { HasCause (IsErrOf result DiskFault.Failed) (faults self.old) (faults self.new) };
+        ensures cause { HasCause (IsErrOf result DiskFault.Failed)
+            (faults self.old) (faults self.new) };
 
     /// The list becomes the names under which entry files stand, rising by their bytes.
     fn entries(&mut self, out: &mut Names) -> Result<(), DiskFault>
@@ -127,7 +143,8 @@ pub trait Disk {
         ensures names { OnOk result (IsTrue tells → AreEntries (state self.old) out.new) }
         ensures state { IsTrue tells → state self.new ≡ state self.old }
         ensures counts { IsTrue tells → counts self.new ≡ counted (counts self.old) }
-        ensures cause { HasCause (IsErrOf result DiskFault.Failed) (faults self.old) (faults self.new) };
+        ensures cause { HasCause (IsErrOf result DiskFault.Failed)
+            (faults self.old) (faults self.new) };
 
     /// The list becomes the numbers under which files of doomed entries stand, rising.
     fn doomed(&mut self, out: &mut Numbers) -> Result<(), DiskFault>
@@ -135,7 +152,8 @@ pub trait Disk {
         ensures numbers { OnOk result (IsTrue tells → AreDoomed (state self.old) out.new) }
         ensures state { IsTrue tells → state self.new ≡ state self.old }
         ensures counts { IsTrue tells → counts self.new ≡ counted (counts self.old) }
-        ensures cause { HasCause (IsErrOf result DiskFault.Failed) (faults self.old) (faults self.new) };
+        ensures cause { HasCause (IsErrOf result DiskFault.Failed)
+            (faults self.old) (faults self.new) };
 
     /// No file stands at two places, and each write lay within its file.
     ghost sound: { (disk : Self) → IsTrue tells → IsSound (state disk) };

@@ -59,7 +59,8 @@ impl Disk for LiarDisk {
     /// Fills half of the buffer, rounded up.
     fn read(&mut self, _place: &Place, _from: u64, buf: &mut [u8]) -> Result<usize, DiskFault>
         ensures count { result ≡ Ok ((length buf.old + 1) / 2) }
-        ensures bytes { let n = (length buf.old + 1) / 2 in buf.new ≡ replicate n self.old.byte ++ drop n buf.old }
+        ensures bytes { let n = (length buf.old + 1) / 2 in
+            buf.new ≡ replicate n self.old.byte ++ drop n buf.old }
         ensures same { self.new ≡ self.old }
     {
         let count = buf.len() - buf.len() / 2;

@@ -96,7 +96,8 @@ impl MemDisk {
 
     /// What the file at a place holds now, or none where no file stands there.
     pub fn file(&self, place: &Place) -> Option<&[u8]>
-        ensures { MatchOption result (standing (state_in self.now) place.now ≡ None) (λ bytes. standing (state_in self.now) place.now ≡ Some bytes.now) }
+        ensures { MatchOption result (standing (state_in self.now) place.now ≡ None) (λ bytes.
+            standing (state_in self.now) place.now ≡ Some bytes.now) }
     {
         match self.table.find(place) {
             None => None,
@@ -106,7 +107,8 @@ impl MemDisk {
 
     /// What the file at a place held at the last sync, or none where no file stood there then.
     pub fn synced_file(&self, place: &Place) -> Option<&[u8]>
-        ensures { MatchOption result (synced_at (state_in self.now) place.now ≡ None) (λ bytes. synced_at (state_in self.now) place.now ≡ Some bytes.now) }
+        ensures { MatchOption result (synced_at (state_in self.now) place.now ≡ None) (λ bytes.
+            synced_at (state_in self.now) place.now ≡ Some bytes.now) }
     {
         match self.table.find_synced(place) {
             None => None,
@@ -125,8 +127,10 @@ impl MemDisk {
     /// last sync: all is synced, no call is counted and no fault planned.
     pub fn image(&self, names: usize, contents: Vec<(Place, Bytes)>) -> Result<MemDisk, ImageFault>
         ensures image { OnOk result (MayLeave (state_in self.now) names contents.items) }
-        ensures refused { result ≡ Err ImageFault.NotAnImage → ¬ (MayLeave (state_in self.now) names contents.items) }
-        ensures stands { IfOk result (λ disk. (place : Where) → standing (state_in disk) place ≡ image_of contents.items place) }
+        ensures refused { result ≡ Err ImageFault.NotAnImage →
+            ¬ (MayLeave (state_in self.now) names contents.items) }
+        ensures stands { IfOk result (λ disk. (place : Where) →
+            standing (state_in disk) place ≡ image_of contents.items place) }
         ensures quiet { IfOk result (λ disk. IsQuiet (state_in disk)) }
         ensures counts { IfOk result (λ disk. counts_in disk ≡ no_counts) }
         ensures faults { IfOk result (λ disk. faults_in disk ≡ 0) }
@@ -173,7 +177,8 @@ impl MemDisk {
         ensures table { self.new.table ≡ self.old.table }
         ensures counts { counts_in self.new ≡ counted_read place.now (counts_in self.old) }
         ensures later { self.old.faults ≤ self.new.faults }
-        ensures faults { MatchBool result (Rose self.old.faults self.new.faults) (self.new.faults ≡ self.old.faults) }
+        ensures faults { MatchBool result (Rose self.old.faults self.new.faults)
+            (self.new.faults ≡ self.old.faults) }
     {
         let fails = self.begin();
         if let Place::Entry(_) = place {
@@ -191,7 +196,8 @@ impl MemDisk {
         ensures table { self.new.table ≡ self.old.table }
         ensures counts { counts_in self.new ≡ counted (counts_in self.old) }
         ensures later { self.old.faults ≤ self.new.faults }
-        ensures faults { MatchBool result (Rose self.old.faults self.new.faults) (self.new.faults ≡ self.old.faults) }
+        ensures faults { MatchBool result (Rose self.old.faults self.new.faults)
+            (self.new.faults ≡ self.old.faults) }
     {
         let fails = self.begin();
         if fails {
@@ -205,7 +211,8 @@ impl MemDisk {
         ensures answer { result ≡ (if fails then Err Failed else Ok tt) }
         ensures table { self.new.table ≡ self.old.table }
         ensures calls { self.new.calls ≡ self.old.calls }
-        ensures failed_change { self.new.failed_change ≡ (if fails then self.old.calls else self.old.failed_change) }
+        ensures failed_change { self.new.failed_change
+            ≡ (if fails then self.old.calls else self.old.failed_change) }
         ensures failed_sync { self.new.failed_sync ≡ self.old.failed_sync }
         ensures entry_reads { self.new.entry_reads ≡ self.old.entry_reads }
         ensures cause { HasCause (IsErrOf result DiskFault.Failed) self.old.faults self.new.faults }

@@ -64,6 +64,7 @@ impl MemFile {
     ghost use Rattle.disk_model.specs.Image.{IsReached, MayHold};
     ghost use Rattle.disk_model.specs.MemFile.{file_of, at_rest};
 
+    /// An empty file, with nothing pending.
     pub fn new(alloc: Global) -> MemFile
         ensures { file_of result ≡ empty_file }
     {
@@ -99,7 +100,8 @@ impl MemFile {
         ensures current { self.new.current.items ≡ self.old.current.items }
         ensures kept { OnOk result (IsSome self.new.synced) }
         ensures write { OnOk result (vec_len self.new.writes < vec_capacity self.new.writes) }
-        ensures bytes { OnOk result (vec_len self.new.current + more ≤ vec_capacity self.new.current) }
+        ensures bytes { OnOk result
+            (vec_len self.new.current + more ≤ vec_capacity self.new.current) }
     {
         if self.synced.is_none() {
             self.synced = Some(self.current.to_vec(alloc)?);
@@ -111,7 +113,8 @@ impl MemFile {
     /// The file then ends behind these bytes.
     pub fn write_end(&mut self, alloc: Global, from: usize, bytes: &[u8]) -> Result<(), AllocError>
         requires { from ≤ len_of (content (file_of self.old)) }
-        ensures ok { OnOk result (file_of self.new ≡ add_write (End from bytes.now) (file_of self.old)) }
+        ensures ok { OnOk result
+            (file_of self.new ≡ add_write (End from bytes.now) (file_of self.old)) }
         ensures err { OnErr result (file_of self.new ≡ file_of self.old) }
     {
         let kept = bytes.to_vec(alloc)?;
@@ -130,7 +133,8 @@ impl MemFile {
     /// Writes the bytes inside the file, whose length stays.
     pub fn patch(&mut self, alloc: Global, from: usize, bytes: &[u8]) -> Result<(), AllocError>
         requires { from + len_of bytes.now ≤ len_of (content (file_of self.old)) }
-        ensures ok { OnOk result (file_of self.new ≡ add_write (Patch from bytes.now) (file_of self.old)) }
+        ensures ok { OnOk result
+            (file_of self.new ≡ add_write (Patch from bytes.now) (file_of self.old)) }
         ensures err { OnErr result (file_of self.new ≡ file_of self.old) }
     {
         let kept = bytes.to_vec(alloc)?;

@@ -62,7 +62,8 @@ fn synced_slots(
 
 // Takes these name steps.
 fn take_steps(slots: &mut BTreeMap<Place, Slot>, steps: &[NameStep]) -> Result<(), AllocError>
-    ensures { OnOk result (names_in slots.new ≡ names_after (names_in slots.old) (reverse steps.now)) }
+    ensures { OnOk result
+        (names_in slots.new ≡ names_after (names_in slots.old) (reverse steps.now)) }
 {
     for step in steps {
         make_slots(slots, step)?;
@@ -74,7 +75,8 @@ fn take_steps(slots: &mut BTreeMap<Place, Slot>, steps: &[NameStep]) -> Result<(
 // The names after the first `names` name steps.
 fn names_then(table: &Table, names: usize) -> Result<BTreeMap<Place, Slot>, AllocError>
     requires { names ≤ length table.now.steps.items }
-    ensures { IfOk result (λ stands. names_in stands ≡ names_before (state_of table.now) (length (state_of table.now).steps - names)) }
+    ensures { IfOk result (λ stands. names_in stands
+        ≡ names_before (state_of table.now) (length (state_of table.now).steps - names)) }
 {
     let mut stands = synced_slots(table.alloc, &table.slots)?;
     take_steps(&mut stands, &table.steps[..names])?;
@@ -101,7 +103,8 @@ fn may_stand(
     content: &[u8],
 ) -> bool
     requires { AreMade files.now (names_in stands.now) }
-    ensures { IsTrue result ↔ MayStand (nth_file files.now) (names_in stands.now place.now) (Some content.now) }
+    ensures { IsTrue result
+        ↔ MayStand (nth_file files.now) (names_in stands.now place.now) (Some content.now) }
 {
     match file_at(stands, place) {
         None => false,
@@ -118,10 +121,13 @@ fn fill(
 ) -> Result<Table, ImageFault>
     requires { AreMade files.now (names_in stands.old) }
     ensures apart { OnOk result (ArePlacesApart contents.now) }
-    ensures taken { OnOk result (AreTaken files.now (names_in stands.old) (names_in stands.new) contents.now) }
-    ensures refused { result ≡ Err NotAnImage → ArePlacesApart contents.now → ¬ (MayStandAll files.now (names_in stands.old) contents.now) }
+    ensures taken { OnOk result
+        (AreTaken files.now (names_in stands.old) (names_in stands.new) contents.now) }
+    ensures refused { result ≡ Err NotAnImage → ArePlacesApart contents.now →
+        ¬ (MayStandAll files.now (names_in stands.old) contents.now) }
     ensures quiet { IfOk result (λ table. IsQuiet (state_of table)) }
-    ensures stands { IfOk result (λ table. (place : Where) → standing (state_of table) place ≡ image_of contents.now place) }
+    ensures stands { IfOk result (λ table. (place : Where) →
+        standing (state_of table) place ≡ image_of contents.now place) }
 {
     let mut table = Table::new(alloc);
     for (place, bytes) in contents {
@@ -141,9 +147,11 @@ pub(crate) fn image(
     contents: &[(Place, Bytes)],
 ) -> Result<Table, ImageFault>
     ensures image { OnOk result (MayLeave (state_of table.now) names contents.now) }
-    ensures refused { result ≡ Err NotAnImage → ¬ (MayLeave (state_of table.now) names contents.now) }
+    ensures refused { result ≡ Err NotAnImage →
+        ¬ (MayLeave (state_of table.now) names contents.now) }
     ensures quiet { IfOk result (λ left. IsQuiet (state_of left)) }
-    ensures stands { IfOk result (λ left. (place : Where) → standing (state_of left) place ≡ image_of contents.now place) }
+    ensures stands { IfOk result (λ left. (place : Where) →
+        standing (state_of left) place ≡ image_of contents.now place) }
 {
     if names > table.steps.len() {
         return Err(ImageFault::NotAnImage);

@@ -16,7 +16,8 @@ use std::collections::BTreeMap;
 /// The names under which entry files stand.
 pub(crate) fn entry_names(alloc: Global, slots: &BTreeMap<Place, Slot>) -> Result<Names, NoMemory>
     ensures rising { IfOk result AreRising }
-    ensures names { IfOk result (λ names. (name : NameValue) → Contains names name ↔ IsSome (names_in slots.now (Entry name))) }
+    ensures names { IfOk result (λ names. (name : NameValue) →
+        Contains names name ↔ IsSome (names_in slots.now (Entry name))) }
 {
     let mut names = Names::new(alloc);
     for (place, slot) in slots {
@@ -35,7 +36,8 @@ pub(crate) fn doomed_numbers(
     slots: &BTreeMap<Place, Slot>,
 ) -> Result<Numbers, NoMemory>
     ensures rising { IfOk result AreRisingNumbers }
-    ensures numbers { IfOk result (λ numbers. (number : ℕ) → Contains numbers number ↔ IsSome (names_in slots.now (Doomed number))) }
+    ensures numbers { IfOk result (λ numbers. (number : ℕ) →
+        Contains numbers number ↔ IsSome (names_in slots.now (Doomed number))) }
 {
     let mut numbers = Numbers::new(alloc);
     for (place, slot) in slots {

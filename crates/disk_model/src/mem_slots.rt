@@ -71,7 +71,8 @@ pub(crate) fn set_file(slots: &mut BTreeMap<Place, Slot>, place: &Place, file: O
 pub(crate) fn put_file(slots: &mut BTreeMap<Place, Slot>, place: &Place, file: usize)
     requires { HasSlot slots.old place.now }
     ensures now { names_in slots.new ≡ with_name place.now (Some file) (names_in slots.old) }
-    ensures synced { synced_names_in slots.new ≡ with_name place.now (Some file) (synced_names_in slots.old) }
+    ensures synced { synced_names_in slots.new
+        ≡ with_name place.now (Some file) (synced_names_in slots.old) }
 {
     if let Some(slot) = slots.get_mut(place) {
         slot.synced = Some(file);
@@ -117,7 +118,8 @@ pub(crate) fn take_step(slots: &mut BTreeMap<Place, Slot>, step: &NameStep)
 // The file that stands at a place is synced there.
 fn settle_place(slots: &mut BTreeMap<Place, Slot>, place: &Place)
     ensures now { names_in slots.new ≡ names_in slots.old }
-    ensures synced { synced_names_in slots.new ≡ with_name place.now (names_in slots.old place.now) (synced_names_in slots.old) }
+    ensures synced { synced_names_in slots.new
+        ≡ with_name place.now (names_in slots.old place.now) (synced_names_in slots.old) }
 {
     if let Some(slot) = slots.get_mut(place) {
         slot.synced = slot.now;
@@ -141,7 +143,8 @@ fn settle_step(slots: &mut BTreeMap<Place, Slot>, step: &NameStep)
 
 /// The files that stand at the places of these steps are synced there.
 pub(crate) fn settle_names(slots: &mut BTreeMap<Place, Slot>, steps: &[NameStep])
-    requires { (p : Where) → IsNamedBy p steps.now ⊎ (synced_names_in slots.old p ≡ names_in slots.old p) }
+    requires { (p : Where) →
+        IsNamedBy p steps.now ⊎ (synced_names_in slots.old p ≡ names_in slots.old p) }
     ensures now { names_in slots.new ≡ names_in slots.old }
     ensures synced { synced_names_in slots.new ≡ names_in slots.old }
 {

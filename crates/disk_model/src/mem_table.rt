@@ -34,7 +34,8 @@ pub(crate) struct Table {
 // What the file of this number holds now is synced.
 fn settle_file(files: &mut [MemFile], number: usize)
     ensures len { length files.new ≡ length files.old }
-    ensures files { nth_file files.new ≡ with_file number (at_rest (nth_file files.old number)) (nth_file files.old) }
+    ensures files { nth_file files.new
+        ≡ with_file number (at_rest (nth_file files.old number)) (nth_file files.old) }
 {
     if number < files.len() {
         files[number].settle();
@@ -62,6 +63,7 @@ impl Table {
     ghost use Rattle.disk_model.specs.declared.place.Place.{Place as Where};
     ghost use Rattle.disk_model.specs.MemTable.{state_of, written_to};
 
+    /// A table in which no file stands anywhere, with nothing pending.
     pub fn new(alloc: Global) -> Table
         ensures quiet { IsQuiet (state_of result) }
         ensures empty { (p : Where) → standing (state_of result) p ≡ None }
@@ -139,7 +141,8 @@ impl Table {
     pub fn put(&mut self, place: Place, bytes: &[u8]) -> Result<(), AllocError>
         requires { IsQuiet (state_of self.old) }
         ensures quiet { IsQuiet (state_of self.new) }
-        ensures ok { OnOk result (Puts place (Some bytes.now) (state_of self.old) (state_of self.new)) }
+        ensures ok { OnOk result
+            (Puts place (Some bytes.now) (state_of self.old) (state_of self.new)) }
         ensures err { OnErr result (state_of self.new ≡ state_of self.old) }
     {
         let file = MemFile::synced(self.alloc, bytes)?;
@@ -186,7 +189,8 @@ impl Table {
     pub fn write_end(&mut self, file: usize, from: usize, bytes: &[u8]) -> Result<(), AllocError>
         requires stands { file < length self.old.files.items }
         requires inside { from ≤ length (content ((state_of self.old).files file)) }
-        ensures ok { OnOk result (state_of self.new ≡ written_to file (End from bytes.now) (state_of self.old)) }
+        ensures ok { OnOk result
+            (state_of self.new ≡ written_to file (End from bytes.now) (state_of self.old)) }
         ensures err { OnErr result (state_of self.new ≡ state_of self.old) }
     {
         self.written.push(file)?;
@@ -196,8 +200,10 @@ impl Table {
     /// Writes the bytes inside a file, whose length stays.
     pub fn patch(&mut self, file: usize, from: usize, bytes: &[u8]) -> Result<(), AllocError>
         requires stands { file < length self.old.files.items }
-        requires inside { from + length bytes.now ≤ length (content ((state_of self.old).files file)) }
-        ensures ok { OnOk result (state_of self.new ≡ written_to file (Patch from bytes.now) (state_of self.old)) }
+        requires inside { from + length bytes.now
+            ≤ length (content ((state_of self.old).files file)) }
+        ensures ok { OnOk result
+            (state_of self.new ≡ written_to file (Patch from bytes.now) (state_of self.old)) }
         ensures err { OnErr result (state_of self.new ≡ state_of self.old) }
     {
         self.written.push(file)?;

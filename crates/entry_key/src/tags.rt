@@ -33,7 +33,8 @@ pub struct KeyTags<'a> {
 // The tags with one more, which has this spelled value.
 fn with_tag<'a>(tags: KeyTags<'a>, letter: u8, value: &'a [u8]) -> KeyTags<'a>
     ensures anonymous { result.anonymous ≡ ((letter == 97) || tags.entry.anonymous) }
-    ensures origin { result.origin.now ≡ (if letter == 79 then value.now else tags.entry.origin.now) }
+    ensures origin { result.origin.now
+        ≡ (if letter == 79 then value.now else tags.entry.origin.now) }
     ensures extra { result.extra.now ≡ (if letter == 126 then value.now else tags.entry.extra.now) }
 {
     match letter {

@@ -18,7 +18,8 @@ fn is_bare(letter: u8) -> bool
 pub(crate) fn value_end(key: &[u8], from: usize, letter: u8) -> Result<usize, KeyFault>
     requires { from ≤ length key.now }
     ensures end { IfOk result (ValueEnds key.now letter from) }
-    ensures fault { IfErr result (λ f. read_from (behind_letter letter) from (drop from key.now) ≡ Err f) }
+    ensures fault { IfErr result (λ f.
+        read_from (behind_letter letter) from (drop from key.now) ≡ Err f) }
 {
     if is_bare(letter) {
         if from < key.len() && key[from] == b',' {

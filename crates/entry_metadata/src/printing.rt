@@ -70,7 +70,8 @@ fn with_ends(alloc: Global, rest: &[u8], offset: u32) -> Result<Bytes, NoMemory>
 /// The block of version 3, and behind it the final offset in four bytes. Fails only for want of memory.
 pub fn print(alloc: Global, meta: &Meta) -> Result<Bytes, NoMemory>
     ensures meta { IsMeta (meta_of meta.now) }
-    ensures bytes { IfOk result (λ out. out ≡ block_bytes (meta_of meta.now) ++ be32 meta.now.offset) }
+    ensures bytes { IfOk result (λ out.
+        out ≡ block_bytes (meta_of meta.now) ++ be32 meta.now.offset) }
 {
     let rest = rest_of(alloc, meta)?;
     with_ends(alloc, rest.as_slice(), meta.offset)

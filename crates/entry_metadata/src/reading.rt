@@ -75,7 +75,8 @@ pub fn parse(alloc: Global, block: &[u8], offset: u32) -> Result<Meta, MetaFault
     // What is read is what the block spells.
     ensures spelled { IfOk result (λ meta. Spells block.now offset (meta_of meta)) }
     // A block that spells anything is refused only for want of memory.
-    ensures refused { (said : Said) → Spells block.now offset said → IfErr result (λ f. f ≡ Memory) }
+    ensures refused { (said : Said) → Spells block.now offset said →
+        IfErr result (λ f. f ≡ Memory) }
     ensures fault { IfErr result (IsFirstFault block.now offset) }
 {
     read_all(alloc, block, offset)

@@ -64,6 +64,7 @@ pub record AreVictims (records : List IndexRecord) (in_use : List Name) (limit :
   pub enough : 0 < length rest → total_kb records ≤ limit + total_kb first
   pub shortest : (k : ℕ) → k < length first → limit + total_kb (take k first) < total_kb records
 
+-- the victims are always such a prefix of the candidates
 abbrev pub VictimsSuffice : Type 0
 VictimsSuffice = (records : List IndexRecord) (in_use : List Name) (limit : ℕ) →
     (first : List IndexRecord) × (rest : List IndexRecord) × AreVictims records in_use limit first rest

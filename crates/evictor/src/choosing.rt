@@ -14,7 +14,8 @@ use std::collections::BTreeSet;
 
 /// The names as a set, in which each record's name is looked up. Fails only for want of memory.
 pub fn name_set(alloc: Global, names: &[Name]) -> Result<BTreeSet<Name>, NoMemory>
-    ensures { IfOk result (λ set. (q : AName) → contains_of name_cmp set q ≡ spec.has_name names.now q) }
+    ensures { IfOk result (λ set. (q : AName) →
+        contains_of name_cmp set q ≡ spec.has_name names.now q) }
 {
     let mut set = BTreeSet::new(alloc);
     for name in names {
@@ -59,7 +60,8 @@ fn first_names(
     total: u128,
     limit: u64,
 ) -> Result<Names, NoMemory>
-    ensures { IfOk result (λ names. names ≡ map (λ r. r.name) (spec.down_to total limit records.now)) }
+    ensures { IfOk result (λ names.
+        names ≡ map (λ r. r.name) (spec.down_to total limit records.now)) }
 {
     let limit = u128::from(limit);
     let mut left = total;

@@ -53,10 +53,11 @@ fn read_all(alloc: Global, b: &[u8]) -> Result<IndexImage, IndexFault>
 /// What the bytes of the file `index` say, or their first failing check. The kilobytes of the header are not read.
 pub fn parse(alloc: Global, b: &[u8]) -> Result<IndexImage, IndexFault>
     // What is read is what the bytes spell.
-    ensures spelled { IfOk result (λ image. IndexSpells b.now image.timestamp image.dirty image.records) }
+    ensures spelled { IfOk result (λ image.
+        IndexSpells b.now image.timestamp image.dirty image.records) }
     // Bytes that spell an index are refused only for want of memory.
-    ensures refused { (timestamp : ℕ) (dirty : Bool) (rs : List IndexRecord) → IndexSpells b.now timestamp dirty rs
-        → IfErr result (λ f. f ≡ Memory) }
+    ensures refused { (timestamp : ℕ) (dirty : Bool) (rs : List IndexRecord) →
+        IndexSpells b.now timestamp dirty rs → IfErr result (λ f. f ≡ Memory) }
     ensures distinct { IfOk result (λ image. HasNames image.records) }
     ensures clean { IfOk result (λ image. AreClean image.records) }
     ensures present { IfOk result (λ image. HasNoRemoved image.records) }

@@ -35,7 +35,8 @@ pub fn parse(alloc: Global, b: &[u8]) -> Result<Records, JournalFault>
     // What is read is what the bytes spell.
     ensures spelled { IfOk result (JournalSpells b.now) }
     // Bytes that spell a journal are refused only for want of memory.
-    ensures refused { (rs : List IndexRecord) → JournalSpells b.now rs → IfErr result (λ f. f ≡ Memory) }
+    ensures refused { (rs : List IndexRecord) → JournalSpells b.now rs →
+        IfErr result (λ f. f ≡ Memory) }
     ensures distinct { IfOk result HasNames }
     ensures clean { IfOk result AreClean }
     ensures fault { IfErr result (IsFirstFault b.now) }

@@ -21,6 +21,7 @@ pub record IsPlain (r : IndexRecord) : Type 0 where
   pub present : is_removed r ≡ false
   pub clean : (has_bit 28 r.flags ≡ false) × (has_bit 27 r.flags ≡ false)
 
+-- each of these records is plain
 abbrev pub ArePlain : List IndexRecord → Type 0
 ArePlain rs = AllByRecursion IsPlain rs
 

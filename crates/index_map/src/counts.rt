@@ -55,7 +55,8 @@ pub(crate) fn with(counts: &Counts, slot: &Held) -> Counts
     requires kilobytes { counts.now.kilobytes < 2 ^ 127 }
     requires changed { counts.now.changed < 2 ^ 63 }
     ensures records { result.records ≡ counts.now.records + spec.records_of (spec.bare slot.now) }
-    ensures kilobytes { result.kilobytes ≡ counts.now.kilobytes + spec.kilobytes_of (spec.bare slot.now) }
+    ensures kilobytes { result.kilobytes
+        ≡ counts.now.kilobytes + spec.kilobytes_of (spec.bare slot.now) }
     ensures changed { result.changed ≡ counts.now.changed + spec.changed_of (spec.bare slot.now) }
 {
     Counts {
@@ -71,7 +72,8 @@ pub(crate) fn without(counts: &Counts, slot: &Held) -> Counts
     requires kilobytes { spec.kilobytes_of (spec.bare slot.now) ≤ counts.now.kilobytes }
     requires changed { spec.changed_of (spec.bare slot.now) ≤ counts.now.changed }
     ensures records { result.records ≡ counts.now.records - spec.records_of (spec.bare slot.now) }
-    ensures kilobytes { result.kilobytes ≡ counts.now.kilobytes - spec.kilobytes_of (spec.bare slot.now) }
+    ensures kilobytes { result.kilobytes
+        ≡ counts.now.kilobytes - spec.kilobytes_of (spec.bare slot.now) }
     ensures changed { result.changed ≡ counts.now.changed - spec.changed_of (spec.bare slot.now) }
 {
     Counts {
@@ -135,9 +137,12 @@ pub(crate) fn with_marked(counts: &Counts, r: &IndexRecord, mark: Mark) -> Count
     requires records { counts.now.records < 2 ^ 63 }
     requires kilobytes { counts.now.kilobytes < 2 ^ 127 }
     requires changed { counts.now.changed < 2 ^ 63 }
-    ensures records { result.records ≡ counts.now.records + spec.weigh spec.records_of (spec.marked r.now mark) }
-    ensures kilobytes { result.kilobytes ≡ counts.now.kilobytes + spec.weigh spec.kilobytes_of (spec.marked r.now mark) }
-    ensures changed { result.changed ≡ counts.now.changed + spec.weigh spec.changed_of (spec.marked r.now mark) }
+    ensures records { result.records
+        ≡ counts.now.records + spec.weigh spec.records_of (spec.marked r.now mark) }
+    ensures kilobytes { result.kilobytes
+        ≡ counts.now.kilobytes + spec.weigh spec.kilobytes_of (spec.marked r.now mark) }
+    ensures changed { result.changed
+        ≡ counts.now.changed + spec.weigh spec.changed_of (spec.marked r.now mark) }
 {
     Counts {
         records: counts.records + records_in(r, mark),
@@ -149,11 +154,15 @@ pub(crate) fn with_marked(counts: &Counts, r: &IndexRecord, mark: Mark) -> Count
 /// The counts with one record of the base less.
 pub(crate) fn without_marked(counts: &Counts, r: &IndexRecord, mark: Mark) -> Counts
     requires records { spec.weigh spec.records_of (spec.marked r.now mark) ≤ counts.now.records }
-    requires kilobytes { spec.weigh spec.kilobytes_of (spec.marked r.now mark) ≤ counts.now.kilobytes }
+    requires kilobytes { spec.weigh spec.kilobytes_of (spec.marked r.now mark)
+        ≤ counts.now.kilobytes }
     requires changed { spec.weigh spec.changed_of (spec.marked r.now mark) ≤ counts.now.changed }
-    ensures records { result.records ≡ counts.now.records - spec.weigh spec.records_of (spec.marked r.now mark) }
-    ensures kilobytes { result.kilobytes ≡ counts.now.kilobytes - spec.weigh spec.kilobytes_of (spec.marked r.now mark) }
-    ensures changed { result.changed ≡ counts.now.changed - spec.weigh spec.changed_of (spec.marked r.now mark) }
+    ensures records { result.records
+        ≡ counts.now.records - spec.weigh spec.records_of (spec.marked r.now mark) }
+    ensures kilobytes { result.kilobytes
+        ≡ counts.now.kilobytes - spec.weigh spec.kilobytes_of (spec.marked r.now mark) }
+    ensures changed { result.changed
+        ≡ counts.now.changed - spec.weigh spec.changed_of (spec.marked r.now mark) }
 {
     Counts {
         records: counts.records - records_in(r, mark),

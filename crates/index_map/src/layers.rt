@@ -68,7 +68,8 @@ impl Layers {
 
     /// The slot of a name.
     pub fn get(&self, name: &Name) -> Option<Held>
-        ensures slot { option_map (spec.slot_of name.now) result ≡ lookup (same_name name.now) self.now }
+        ensures slot { option_map (spec.slot_of name.now) result
+            ≡ lookup (same_name name.now) self.now }
         ensures table { spec.IsTable self.now }
     {
         let kept = self.base.get(name);

@@ -77,8 +77,8 @@ pub(crate) fn push_changes(
     marks: &[Mark],
 ) -> Result<(), NoMemory>
     requires { length marks.now ≡ length records.now }
-    ensures { OnOk result (list.new.items
-        ≡ list.old.items ++ filter_map spec.change_in (values_of (spec.marked_in records.now marks.now))) }
+    ensures { OnOk result (list.new.items ≡ list.old.items
+        ++ filter_map spec.change_in (values_of (spec.marked_in records.now marks.now))) }
 {
     for i in 0..records.len() {
         push_if(list, change_of(&records[i], marks[i]))?;

@@ -184,7 +184,8 @@ impl RecordMap {
     pub fn diff(&self) -> Result<Records, NoMemory>
         ensures diff { IfOk result (IsDiff self.now.base self.now.records) }
         ensures clean { IfOk result AreClean }
-        ensures count { IfOk result (λ records. length records ≡ spec.changed self.now.base self.now.records) }
+        ensures count { IfOk result (λ records.
+            length records ≡ spec.changed self.now.base self.now.records) }
         ensures known { spec.IsKnown self.now }
     {
         Ok(by_name(self.slots.changes(self.alloc)?))

@@ -33,7 +33,8 @@ pub(crate) fn place_of(records: &[IndexRecord], name: &Name) -> Option<usize>
     requires { AreRising records.now }
     ensures within { IfSome result (λ i. i < length records.now) }
     ensures found { IfSome result (HoldsAt (λ r. r.name ≡ name.now) records.now) }
-    ensures none { IfNone result (AllByRecursion (λ n. same_name name.now n ≡ false) (names_of records.now)) }
+    ensures none { IfNone result
+        (AllByRecursion (λ n. same_name name.now n ≡ false) (names_of records.now)) }
 {
     match records.binary_search_by_key(name, |record| record.name) {
         Ok(place) => Some(place),

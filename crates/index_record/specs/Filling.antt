@@ -26,6 +26,7 @@ time_of name elements = unwrap_or (option_map (λ n. min n 0xFFFE) (number_of na
 abbrev pub small_or_zero : ℕ → ℕ
 small_or_zero n = if nat_le n 255 then n else 0
 
+-- the content type that the elements give, or 0 where they give none
 abbrev pub content_of : List Element → ℕ
 content_of elements = unwrap_or (option_map small_or_zero (number_of (codes "ctid") elements)) 0
 

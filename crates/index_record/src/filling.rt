@@ -116,8 +116,8 @@ fn is_pinned(flags: u32) -> bool
 }
 
 fn flags_of(anonymous: bool, pinned: bool, alt_data: bool, size: u64) -> u32
-    ensures { result ≡ 2 ^ 31 + spec.bit_if anonymous 30 + spec.bit_if pinned 26 + spec.bit_if alt_data 25
-        + min ((size + 1023) / 1024) 0xFFFFFF }
+    ensures { result ≡ 2 ^ 31 + spec.bit_if anonymous 30 + spec.bit_if pinned 26
+        + spec.bit_if alt_data 25 + min ((size + 1023) / 1024) 0xFFFFFF }
 {
     INITIALIZED
         + flag_if(anonymous, ANONYMOUS)

@@ -21,5 +21,6 @@ decide Clean BadLog tmp = Update
 decide Clean Valid true = Update
 decide Clean Valid false = Ready
 
+-- how an opening of a directory starts
 abbrev pub start_of : Files → Start
 start_of files = decide (index_kind (files Index)) (log_kind (files Log)) (is_some (files Tmp))

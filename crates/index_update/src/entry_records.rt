@@ -36,7 +36,8 @@ fn look<D: Disk>(alloc: Global, disk: &mut D, name: &Name) -> Result<Option<Inde
     ensures plain { IfOk result (λ found. IfSome found IsPlain) }
     ensures state { IsTrue D.tells → D.state disk.new ≡ D.state disk.old }
     ensures looks { IsTrue D.tells → LooksAtMost 4 (D.counts disk.old) (D.counts disk.new) }
-    ensures cause { HasCause (IsErrOf result DiskFault.Failed) (D.faults disk.old) (D.faults disk.new) }
+    ensures cause { HasCause (IsErrOf result DiskFault.Failed)
+        (D.faults disk.old) (D.faults disk.new) }
 {
     match read_meta(alloc, disk, &Place::Entry(*name), name)? {
         EntryRead::Absent => Ok(None),
@@ -58,7 +59,8 @@ fn read_one<D: Disk>(
     ensures kept { OnErr result (map.new ≡ map.old) }
     ensures state { IsTrue D.tells → D.state disk.new ≡ D.state disk.old }
     ensures looks { IsTrue D.tells → LooksAtMost 4 (D.counts disk.old) (D.counts disk.new) }
-    ensures cause { HasCause (IsErrOf result DiskFault.Failed) (D.faults disk.old) (D.faults disk.new) }
+    ensures cause { HasCause (IsErrOf result DiskFault.Failed)
+        (D.faults disk.old) (D.faults disk.new) }
 {
     match look(alloc, disk, name)? {
         Some(record) => map.set(record)?,
@@ -81,8 +83,10 @@ pub(crate) fn read_each<D: Disk>(
         ReadsSome (entries_on (D.state disk.old)) names.now map.old map.new) }
     ensures base { SameBase map.old map.new }
     ensures state { IsTrue D.tells → D.state disk.new ≡ D.state disk.old }
-    ensures looks { IsTrue D.tells → LooksAtMost (4 * length names.now) (D.counts disk.old) (D.counts disk.new) }
-    ensures cause { HasCause (IsErrOf result DiskFault.Failed) (D.faults disk.old) (D.faults disk.new) }
+    ensures looks { IsTrue D.tells →
+        LooksAtMost (4 * length names.now) (D.counts disk.old) (D.counts disk.new) }
+    ensures cause { HasCause (IsErrOf result DiskFault.Failed)
+        (D.faults disk.old) (D.faults disk.new) }
 {
     for name in names {
         read_one(alloc, disk, name, map)?;

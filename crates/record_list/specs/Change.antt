@@ -15,6 +15,7 @@ abbrev pub journal_or : Option IndexRecord → Option IndexRecord → Option Ind
 journal_or None r = r
 journal_or (Some j) r = kept j
 
+-- the record of a name after the journal is applied to the index
 abbrev pub applied : List IndexRecord → List IndexRecord → Name → Option IndexRecord
 applied rs js name = journal_or (record_at js name) (record_at rs name)
 

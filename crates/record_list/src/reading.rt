@@ -58,7 +58,8 @@ fn has_distinct_names(alloc: Global, groups: &[[u8; 41]]) -> Result<bool, NoMemo
 // The records in these groups, or those that are not removed.
 fn records_of(alloc: Global, groups: &[[u8; 41]], removed: bool) -> Result<Records, NoMemory>
     ensures { IfOk result (λ records.
-        records ≡ map cleared (filter (λ r. removed || not (is_removed_of r)) (map record_in groups.now))) }
+        records ≡ map cleared
+        (filter (λ r. removed || not (is_removed_of r)) (map record_in groups.now))) }
 {
     let mut records = Records::with_room(alloc, groups.len())?;
     for group in groups {

@@ -35,6 +35,7 @@ pub data ClosingMoment : Type 0 where
   Cleared : ClosingMoment
   Closed : ClosingMoment
 
+-- what the disk holds at such a moment, where the journal has these bytes
 abbrev pub closing_at : ClosingMoment → List ℕ → State → State
 closing_at Unlogged bytes s = s
 closing_at Begun bytes s = log_begun s
@@ -43,6 +44,7 @@ closing_at Synced bytes s = log_synced bytes s
 closing_at Cleared bytes s = flag_cleared bytes s
 closing_at Closed bytes s = closed bytes s
 
+-- the second state is what these steps leave of the first at one of the moments
 abbrev pub IsAmidLogging : List ℕ → State → State → Type 0
 IsAmidLogging bytes s t = (moment : ClosingMoment) × (t ≡ closing_at moment bytes s)
 

@@ -17,11 +17,13 @@ IsIndex Invalid = ⊥
 IsIndex Dirty = ⊤
 IsIndex Clean = ⊤
 
+-- a journal that is valid
 abbrev pub IsJournal : LogKind → Type 0
 IsJournal NoLog = ⊥
 IsJournal BadLog = ⊥
 IsJournal Valid = ⊤
 
+-- whether it is an index that is dirty
 abbrev pub is_dirty : IndexKind → Bool
 is_dirty Missing = false
 is_dirty Invalid = false

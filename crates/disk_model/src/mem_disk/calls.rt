@@ -30,9 +30,11 @@ impl Disk for MemDisk {
     ghost finite = { λ d _. finite_in d };
 
     fn sync(&mut self) -> Result<(), DiskFault>
-        ensures state { state_in self.new ≡ if_ok result (settled (state_in self.old)) (state_in self.old) }
+        ensures state { state_in self.new
+            ≡ if_ok result (settled (state_in self.old)) (state_in self.old) }
         ensures counts { counts_in self.new ≡ counted_sync result (counts_in self.old) }
-        ensures cause { HasCause (IsErrOf result DiskFault.Failed) (faults_in self.old) (faults_in self.new) }
+        ensures cause { HasCause (IsErrOf result DiskFault.Failed)
+            (faults_in self.old) (faults_in self.new) }
         ensures fails { IsErrOf result DiskFault.Failed → FailsNext self.old }
         ensures done { OnOk result (¬ (FailsNext self.old)) }
     {
@@ -45,10 +47,12 @@ impl Disk for MemDisk {
     }
 
     fn size(&mut self, place: &Place) -> Result<Option<u64>, DiskFault>
-        ensures size { IfOk result (λ size. size ≡ option_map length (standing (state_in self.old) place.now)) }
+        ensures size { IfOk result (λ size.
+            size ≡ option_map length (standing (state_in self.old) place.now)) }
         ensures state { state_in self.new ≡ state_in self.old }
         ensures counts { counts_in self.new ≡ counted_read place.now (counts_in self.old) }
-        ensures cause { HasCause (IsErrOf result DiskFault.Failed) (faults_in self.old) (faults_in self.new) }
+        ensures cause { HasCause (IsErrOf result DiskFault.Failed)
+            (faults_in self.old) (faults_in self.new) }
         ensures fails { IsErrOf result DiskFault.Failed ↔ FailsNext self.old }
     {
         if self.begin_read(place) {
@@ -67,7 +71,8 @@ impl Disk for MemDisk {
             (n ≡ length part) × (buf.new ≡ part ++ drop n buf.old)) }
         ensures state { state_in self.new ≡ state_in self.old }
         ensures counts { counts_in self.new ≡ counted_read place.now (counts_in self.old) }
-        ensures cause { HasCause (IsErrOf result DiskFault.Failed) (faults_in self.old) (faults_in self.new) }
+        ensures cause { HasCause (IsErrOf result DiskFault.Failed)
+            (faults_in self.old) (faults_in self.new) }
         ensures fails { IsErrOf result DiskFault.Failed ↔ FailsNext self.old }
     {
         if self.begin_read(place) {
@@ -80,9 +85,11 @@ impl Disk for MemDisk {
     }
 
     fn create(&mut self, place: &Place) -> Result<(), DiskFault>
-        ensures state { state_in self.new ≡ if_done result (created place.now (state_in self.old)) (state_in self.old) }
+        ensures state { state_in self.new
+            ≡ if_done result (created place.now (state_in self.old)) (state_in self.old) }
         ensures counts { counts_in self.new ≡ counted_change result (counts_in self.old) }
-        ensures cause { HasCause (IsErrOf result DiskFault.Failed) (faults_in self.old) (faults_in self.new) }
+        ensures cause { HasCause (IsErrOf result DiskFault.Failed)
+            (faults_in self.old) (faults_in self.new) }
         ensures fails { IsErrOf result DiskFault.Failed → FailsNext self.old }
         ensures done { OnOk result (¬ (FailsNext self.old)) }
     {
@@ -94,9 +101,11 @@ impl Disk for MemDisk {
     fn write_end(&mut self, place: &Place, from: u64, bytes: &[u8]) -> Result<(), DiskFault>
         requires limit { from ≤ 2 ^ 40 }
         requires told { MayWriteAt (standing (state_in self.old) place.now) from }
-        ensures state { state_in self.new ≡ if_done result (wrote place.now (End from bytes.now) (state_in self.old)) (state_in self.old) }
+        ensures state { state_in self.new ≡ if_done result
+            (wrote place.now (End from bytes.now) (state_in self.old)) (state_in self.old) }
         ensures counts { counts_in self.new ≡ counted_change result (counts_in self.old) }
-        ensures cause { HasCause (IsErrOf result DiskFault.Failed) (faults_in self.old) (faults_in self.new) }
+        ensures cause { HasCause (IsErrOf result DiskFault.Failed)
+            (faults_in self.old) (faults_in self.new) }
         ensures fails { IsErrOf result DiskFault.Failed → FailsNext self.old }
         ensures done { OnOk result (¬ (FailsNext self.old)) }
     {
@@ -111,9 +120,11 @@ impl Disk for MemDisk {
     fn patch(&mut self, place: &Place, from: u64, bytes: &[u8]) -> Result<(), DiskFault>
         requires limit { from ≤ 2 ^ 40 }
         requires told { Holds (standing (state_in self.old) place.now) from (length bytes.now) }
-        ensures state { state_in self.new ≡ if_done result (wrote place.now (Patch from bytes.now) (state_in self.old)) (state_in self.old) }
+        ensures state { state_in self.new ≡ if_done result
+            (wrote place.now (Patch from bytes.now) (state_in self.old)) (state_in self.old) }
         ensures counts { counts_in self.new ≡ counted_change result (counts_in self.old) }
-        ensures cause { HasCause (IsErrOf result DiskFault.Failed) (faults_in self.old) (faults_in self.new) }
+        ensures cause { HasCause (IsErrOf result DiskFault.Failed)
+            (faults_in self.old) (faults_in self.new) }
         ensures fails { IsErrOf result DiskFault.Failed → FailsNext self.old }
         ensures done { OnOk result (¬ (FailsNext self.old)) }
     {
@@ -128,9 +139,11 @@ impl Disk for MemDisk {
     fn rename(&mut self, from: &Place, to: &Place) -> Result<(), DiskFault>
         requires stands { IsSome (standing (state_in self.old) from.now) }
         requires differ { from.now ≢ to.now }
-        ensures state { state_in self.new ≡ if_done result (renamed from.now to.now (state_in self.old)) (state_in self.old) }
+        ensures state { state_in self.new
+            ≡ if_done result (renamed from.now to.now (state_in self.old)) (state_in self.old) }
         ensures counts { counts_in self.new ≡ counted_change result (counts_in self.old) }
-        ensures cause { HasCause (IsErrOf result DiskFault.Failed) (faults_in self.old) (faults_in self.new) }
+        ensures cause { HasCause (IsErrOf result DiskFault.Failed)
+            (faults_in self.old) (faults_in self.new) }
         ensures fails { IsErrOf result DiskFault.Failed → FailsNext self.old }
         ensures done { OnOk result (¬ (FailsNext self.old)) }
     {
@@ -141,9 +154,11 @@ impl Disk for MemDisk {
 
     fn remove(&mut self, place: &Place) -> Result<(), DiskFault>
         requires { IsSome (standing (state_in self.old) place.now) }
-        ensures state { state_in self.new ≡ if_done result (removed place.now (state_in self.old)) (state_in self.old) }
+        ensures state { state_in self.new
+            ≡ if_done result (removed place.now (state_in self.old)) (state_in self.old) }
         ensures counts { counts_in self.new ≡ counted_change result (counts_in self.old) }
-        ensures cause { HasCause (IsErrOf result DiskFault.Failed) (faults_in self.old) (faults_in self.new) }
+        ensures cause { HasCause (IsErrOf result DiskFault.Failed)
+            (faults_in self.old) (faults_in self.new) }
         ensures fails { IsErrOf result DiskFault.Failed → FailsNext self.old }
         ensures done { OnOk result (¬ (FailsNext self.old)) }
     {
@@ -157,7 +172,8 @@ impl Disk for MemDisk {
         ensures names { OnOk result (AreEntries (state_in self.old) out.new) }
         ensures state { state_in self.new ≡ state_in self.old }
         ensures counts { counts_in self.new ≡ counted (counts_in self.old) }
-        ensures cause { HasCause (IsErrOf result DiskFault.Failed) (faults_in self.old) (faults_in self.new) }
+        ensures cause { HasCause (IsErrOf result DiskFault.Failed)
+            (faults_in self.old) (faults_in self.new) }
         ensures fails { IsErrOf result DiskFault.Failed → FailsNext self.old }
         ensures done { OnOk result (¬ (FailsNext self.old)) }
     {
@@ -173,7 +189,8 @@ impl Disk for MemDisk {
         ensures numbers { OnOk result (AreDoomed (state_in self.old) out.new) }
         ensures state { state_in self.new ≡ state_in self.old }
         ensures counts { counts_in self.new ≡ counted (counts_in self.old) }
-        ensures cause { HasCause (IsErrOf result DiskFault.Failed) (faults_in self.old) (faults_in self.new) }
+        ensures cause { HasCause (IsErrOf result DiskFault.Failed)
+            (faults_in self.old) (faults_in self.new) }
         ensures fails { IsErrOf result DiskFault.Failed → FailsNext self.old }
         ensures done { OnOk result (¬ (FailsNext self.old)) }
     {
