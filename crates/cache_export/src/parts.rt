@@ -61,7 +61,8 @@ fn may_follow(due: Due, last: &[u8], key: &[u8]) -> bool
 // What the bytes of a key say.
 fn key_in(alloc: Global, due: Due, last: &[u8], part: &[u8]) -> Result<Item, PartFault>
     requires { IsWholeKey due part.now }
-    ensures ok { IfOk result (λ item. IfPart item (λ p. Spells (Stage.AtItem (before_at due last.now)) p part.now)) }
+    ensures ok { IfOk result (λ item.
+        IfPart item (λ p. Spells (Stage.AtItem (before_at due last.now)) p part.now)) }
     ensures bad { IfErr result (SpellsNone (Stage.AtItem (before_at due last.now)) part.now) }
 {
     bytes_fit(part);
@@ -117,7 +118,8 @@ fn block_in(
     requires len { len ≤ BODY_MAX }
     requires left { left_of len (length hashes.now) ≡ 0 }
     requires part { IsWholeBlock part.now }
-    ensures ok { IfOk result (λ meta. SpellsRest key.now len hashes.now (Part.BlockPart (meta_of meta)) part.now) }
+    ensures ok { IfOk result (λ meta.
+        SpellsRest key.now len hashes.now (Part.BlockPart (meta_of meta)) part.now) }
     ensures bad { IfErr result (SpellsNoRest key.now len hashes.now part.now) }
 {
     bytes_fit(part);
@@ -144,7 +146,8 @@ fn rest_in(
 ) -> Result<Item, PartFault>
     requires len { len ≤ BODY_MAX }
     requires part { IsWholeRest (left_of len (length hashes.now)) part.now }
-    ensures ok { IfOk result (λ item. IfPart item (λ p. SpellsRest key.now len hashes.now p part.now)) }
+    ensures ok { IfOk result (λ item.
+        IfPart item (λ p. SpellsRest key.now len hashes.now p part.now)) }
     ensures bad { IfErr result (SpellsNoRest key.now len hashes.now part.now) }
 {
     let given = hashes.len().saturating_mul(CHUNK);
@@ -173,7 +176,8 @@ pub(crate) fn part_in(
 ) -> Result<Item, PartFault>
     requires len { len ≤ BODY_MAX }
     requires part { IsWholePart due (left_of len (length hashes.now)) part.now }
-    ensures ok { IfOk result (λ item. IfPart item (λ p. Spells (stage_at due last.now len hashes.now) p part.now)) }
+    ensures ok { IfOk result (λ item.
+        IfPart item (λ p. Spells (stage_at due last.now len hashes.now) p part.now)) }
     ensures bad { IfErr result (SpellsNone (stage_at due last.now len hashes.now) part.now) }
 {
     match due {

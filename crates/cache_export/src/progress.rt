@@ -87,7 +87,8 @@ impl Progress {
     /// Goes on after a part of these bytes.
     pub(crate) fn pass(&mut self, item: &Item, part: &[u8]) -> Result<(), NoMemory>
         requires { IfPart item.now (λ p. Spells (stage_of self.old) p part.now) }
-        ensures { OnOk result (IfPart item.now (λ p. stage_of self.new ≡ after (stage_of self.old) p part.now)) }
+        ensures { OnOk result
+            (IfPart item.now (λ p. stage_of self.new ≡ after (stage_of self.old) p part.now)) }
     {
         match item {
             Item::Key(key) => self.pass_key(key.as_slice()),

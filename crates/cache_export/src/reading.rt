@@ -53,11 +53,15 @@ pub(crate) fn read_next<S: Source>(
     used: u64,
 ) -> Result<Next, ReadFault>
     requires { used ≤ DUMP_MAX }
-    ensures grew { Grew (items window.old) (items window.new) (S.left source.old) (S.left source.new) }
-    ensures reached { IfOk result (λ next. Reached due left used next (items window.new) (S.left source.new)) }
-    ensures cause { HasCause (IsErrOf result faults.Source) (S.faults source.old) (S.faults source.new) }
+    ensures grew { Grew (items window.old) (items window.new)
+        (S.left source.old) (S.left source.new) }
+    ensures reached { IfOk result (λ next.
+        Reached due left used next (items window.new) (S.left source.new)) }
+    ensures cause { HasCause (IsErrOf result faults.Source)
+        (S.faults source.old) (S.faults source.new) }
     ensures more { OnErr result (front_at due left used (items window.new) ≡ More) }
-    ensures wanted { ¬ (front_at due left used (items window.old) ≡ More) → source.new ≡ source.old }
+    ensures wanted { ¬ (front_at due left used (items window.old) ≡ More) →
+        source.new ≡ source.old }
 {
     'reads: loop {
         match front_of(due, left, used, window.as_slice()) {

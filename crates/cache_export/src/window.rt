@@ -50,7 +50,8 @@ pub(crate) struct Window {
 
 // Fills a list up to so many bytes, or leaves it as it was.
 fn fill_up(room: &mut Vec<u8>, n: usize) -> Result<(), NoMemory>
-    ensures ok { OnOk result (room.new.items ≡ take n room.old.items ++ replicate (n - length room.old.items) 0) }
+    ensures ok { OnOk result
+        (room.new.items ≡ take n room.old.items ++ replicate (n - length room.old.items) 0) }
     ensures len { OnOk result (vec_len room.new ≡ n) }
     ensures err { OnErr result (room.new.items ≡ room.old.items) }
 {
@@ -119,11 +120,13 @@ impl Window {
     /// read that fails leaves the bytes that are held.
     pub(crate) fn fill<S: BytesIn>(&mut self, source: &mut S) -> Result<usize, ReadFault>
         requires { length (items self.old) < HELD_MAX }
-        ensures grew { Grew (items self.old) (items self.new) (S.left source.old) (S.left source.new) }
+        ensures grew { Grew (items self.old) (items self.new)
+            (S.left source.old) (S.left source.new) }
         ensures count { IfOk result (λ n. length (items self.new) ≡ length (items self.old) + n) }
         ensures ended { result ≡ Ok 0 → IsAtEnd (S.left source.new) }
         ensures same { OnErr result (items self.new ≡ items self.old) }
-        ensures cause { HasCause (IsErrOf result Source) (S.faults source.old) (S.faults source.new) }
+        ensures cause { HasCause (IsErrOf result Source)
+            (S.faults source.old) (S.faults source.new) }
     {
         self.take_memory()?;
         self.make_room();

@@ -5,7 +5,7 @@ use Rattle.std.proofs.lemmas.Bool.Decides.{Decides-eqb}
 use Rattle.std.proofs.lemmas.List.{append_assoc, take_at}
 use Rattle.cache_base.specs.declared.limits.TheConstants.{SLOTS}
 use Rattle.cache_theory.specs.Command.{Command}
-use Rattle.cache_theory.specs.Command.Command.{At, Create, OpenKey, Append, Finish, SetElement, UnsetElement, ElementOf, PutAlt, UseEntry, Pin, Unpin, ReadPart, Close, Doom, Get, GetAlt, MainBody, HasEntry, HasGiven, ListRecords, ListGiven, Evict, EvictNames, ClearOrigin, ClearNames, Resume, ResumeNames, Flush, StepUpdate, UpdateState, Verify, VerifyRecords, Rebuild}
+use Rattle.cache_theory.specs.Command.Command.{At, Create, OpenKey, Append, Finish, SetElement, UnsetElement, ElementOf, PutAlt, UseEntry, Pin, Unpin, ReadPart, Close, Doom, Get, GetAlt, MainBody, HasEntry, HasGiven, ListRecords, ListGiven, Evict, EvictNames, ClearOrigin, ClearNames, Resume, ResumeNames, Flush, StepUpdate, UpdateState, Verify, VerifyRecords, Rebuild, FinishAs, Dump}
 use Rattle.cache_theory.specs.Text.{FieldsFit, IsOneLine, command_words, command_data, command_bytes, spaced, NoneBeginsAnother}
 use Rattle.cache_script.specs.Lines.{Form, form_of, cut, form_in}
 use Rattle.cache_script.proofs.CutLaws.{Lacks, cut_at}
@@ -68,6 +68,7 @@ one_line (MainBody key) fits = one_line_pair (codes "main") key (lacks_by 10 (co
 one_line (HasEntry key) fits =
     one_line_pair (codes "has") key (lacks_by 10 (codes "has") refl) fits.1
 one_line (HasGiven key there) fits = absurd fits
+one_line (FinishAs s header elements) fits = absurd fits
 one_line ListRecords fits = lacks_by 10 (codes "list") refl
 one_line (ListGiven records) fits = absurd fits
 one_line (Evict kb) fits =
@@ -86,6 +87,7 @@ one_line UpdateState fits = lacks_by 10 (codes "state") refl
 one_line Verify fits = lacks_by 10 (codes "verify") refl
 one_line (VerifyRecords records) fits = absurd fits
 one_line Rebuild fits = lacks_by 10 (codes "rebuild") refl
+one_line Dump fits = absurd fits
 
 -- ---- and so it is what stands before the first newline
 

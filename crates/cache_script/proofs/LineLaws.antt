@@ -8,7 +8,7 @@ use Rattle.std.proofs.lemmas.Str.Parse.{digit_from_value}
 use Rattle.std.proofs.lemmas.Fmt.{digits_decimal}
 use Rattle.cache_base.specs.declared.limits.TheConstants.{ALT_MAX, ELEMENTS_MAX, PIECE_MAX, SLOTS}
 use Rattle.cache_theory.specs.Command.{Command}
-use Rattle.cache_theory.specs.Command.Command.{At, Create, OpenKey, Append, Finish, SetElement, UnsetElement, ElementOf, PutAlt, UseEntry, Pin, Unpin, ReadPart, Close, Doom, Get, GetAlt, MainBody, HasEntry, HasGiven, ListRecords, ListGiven, Evict, EvictNames, ClearOrigin, ClearNames, Resume, ResumeNames, Flush, StepUpdate, UpdateState, Verify, VerifyRecords, Rebuild}
+use Rattle.cache_theory.specs.Command.Command.{At, Create, OpenKey, Append, Finish, SetElement, UnsetElement, ElementOf, PutAlt, UseEntry, Pin, Unpin, ReadPart, Close, Doom, Get, GetAlt, MainBody, HasEntry, HasGiven, ListRecords, ListGiven, Evict, EvictNames, ClearOrigin, ClearNames, Resume, ResumeNames, Flush, StepUpdate, UpdateState, Verify, VerifyRecords, Rebuild, FinishAs, Dump}
 use Rattle.cache_theory.specs.Text.{FieldsFit, command_words, spaced}
 use Rattle.cache_script.specs.Lines.{Form, form_of, cut, number_below, slot_in, len_in, read_in, slot_form, first_slot_form, number_form, verb_form, form_in}
 use Rattle.cache_base.specs.Numbers.{number_in}
@@ -94,6 +94,7 @@ line_read (GetAlt key) fits = refl
 line_read (MainBody key) fits = refl
 line_read (HasEntry key) fits = refl
 line_read (HasGiven key there) fits = absurd fits
+line_read (FinishAs s header elements) fits = absurd fits
 line_read ListRecords fits = refl
 line_read (ListGiven records) fits = absurd fits
 line_read (Evict kb) fits =
@@ -110,3 +111,4 @@ line_read UpdateState fits = refl
 line_read Verify fits = refl
 line_read (VerifyRecords records) fits = absurd fits
 line_read Rebuild fits = refl
+line_read Dump fits = absurd fits

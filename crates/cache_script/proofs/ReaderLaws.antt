@@ -4,7 +4,7 @@ use Rattle.std.proofs.lemmas.List.{append_assoc, length-append}
 use Rattle.std.specs.Io.KnownBytes.{Consumes, IsAtEnd, prepend_known}
 use Rattle.cache_base.specs.declared.limits.TheConstants.{SCRIPT_MAX}
 use Rattle.cache_theory.specs.Command.{Command}
-use Rattle.cache_theory.specs.Command.Command.{At, Create, OpenKey, Append, Finish, SetElement, UnsetElement, ElementOf, PutAlt, UseEntry, Pin, Unpin, ReadPart, Close, Doom, Get, GetAlt, MainBody, HasEntry, Evict, EvictNames, ClearOrigin, ClearNames, StepUpdate}
+use Rattle.cache_theory.specs.Command.Command.{At, Create, OpenKey, Append, Finish, SetElement, UnsetElement, ElementOf, PutAlt, UseEntry, Pin, Unpin, ReadPart, Close, Doom, Get, GetAlt, MainBody, HasEntry, Evict, EvictNames, ClearOrigin, ClearNames, StepUpdate, FinishAs}
 use Rattle.cache_theory.specs.Given.{IsGiven}
 use Rattle.cache_theory.specs.Text.{FieldsFit, command_bytes}
 use Rattle.cache_script.specs.Front.{Begins, HasNoCommand, IsBadFront, IsPart}
@@ -38,6 +38,7 @@ is_given (Create s key) fits = (fits.0, fits.1.0)
 is_given (OpenKey s key) fits = (fits.0, fits.1.0)
 is_given (Append s bytes) fits = (fits.0, fits.1.0)
 is_given (Finish s) fits = fits
+is_given (FinishAs s header elements) fits = absurd fits
 is_given (SetElement s name value) fits = (fits.0, (fits.1.0.0, fits.1.1.0))
 is_given (UnsetElement s name) fits = (fits.0, fits.1.0)
 is_given (ElementOf s name) fits = (fits.0, fits.1.0)

@@ -42,6 +42,7 @@ cut byte (x ∷ xs) = if x == byte then Some ([], xs) else option_map (λ parts.
 abbrev pub number_below : ℕ → List ℕ → Option ℕ
 number_below limit word = option_and_then (λ n. if nat_lt n limit then Some n else None) (number_in word)
 
+-- the number of a slot
 abbrev pub slot_in : List ℕ → Option ℕ
 slot_in word = number_below SLOTS word
 

@@ -1,6 +1,7 @@
 //! The commands of a script.
 
 use cache_base::Moment;
+use entry_parts::{Elements, Header};
 
 /// A command, with its texts as they stand in the script. A slot is a number below 64.
 #[derive(Clone, Copy, Debug, PartialEq, Eq)]
@@ -27,6 +28,13 @@ pub enum Command<'a> {
     /// The entry is finished.
     Finish {
         slot: u8,
+    },
+    /// The entry is finished with this header and these elements in place of its own; the header's version and key size
+    /// are set. A load of a dump does so, and no script spells it.
+    FinishAs {
+        slot: u8,
+        header: Header,
+        elements: &'a Elements,
     },
     /// The element of the name gets the value, at most `ELEMENTS_MAX` bytes.
     SetElement {
@@ -117,4 +125,6 @@ pub enum Command<'a> {
     Verify,
     /// The index is written anew from all files.
     Rebuild,
+    /// All entries as one stream. The verb `dump` does so, and no script spells it.
+    Dump,
 }

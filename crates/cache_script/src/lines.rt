@@ -200,7 +200,8 @@ fn text_line(text: &[u8]) -> Option<Line<'_>>
 pub(crate) fn line_in(text: &[u8]) -> Option<Line<'_>>
     ensures exact { option_map line_form result ≡ form_in text.now }
     ensures tells { IsOneLine text.now → IfSome result (λ line. Tells text.now (line_form line)) }
-    ensures none { IfNone result ((c : MachineCommand) → FieldsFit c → text.now ≢ spaced (command_words c)) }
+    ensures none { IfNone result ((c : MachineCommand) → FieldsFit c →
+        text.now ≢ spaced (command_words c)) }
 {
     text_line(text)
 }

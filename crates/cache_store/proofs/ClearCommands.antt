@@ -239,6 +239,11 @@ pub no_size : (file : Option (List ℕ)) (size : Option ℕ) → size ≡ option
 no_size None size is none = refl
 no_size (Some bytes) size is none = absurd (let some : is_some size ≡ true = ap is_some is in let no : true ≡ false = sym some ∙ none in cc)
 
+-- where none stands no length is told
+pub none_told : (file : Option (List ℕ)) (size : Option ℕ) → size ≡ option_map length file → is_some size ≡ true → file ≡ None → ⊥
+none_told None size is some none = let no : false ≡ true = sym (ap is_some is) ∙ some in cc
+none_told (Some bytes) size is some none = cc
+
 -- what holds of each origin holds of that of the mark, if one stands
 pub of_each : (mark : Option ℕ) {P : ℕ → Type 0} → ((origin : ℕ) → P origin) → IfSome mark P
 of_each None each = tt

@@ -6,7 +6,7 @@ use Rattle.std.proofs.lemmas.Result.{IfOk-weaker}
 use Rattle.cache_base.specs.Checks.{first_failing}
 use Rattle.cache_theory.specs.Checks.{checks}
 use Rattle.cache_theory.specs.Command.{Command, Reply}
-use Rattle.cache_theory.specs.Command.Command.{Create, OpenKey, Append, ClearNames, ClearOrigin, Finish, Resume, ResumeNames, SetElement, UnsetElement, UseEntry, Pin, Unpin, PutAlt, Close, Doom}
+use Rattle.cache_theory.specs.Command.Command.{Create, OpenKey, Append, ClearNames, ClearOrigin, Finish, Resume, ResumeNames, SetElement, UnsetElement, UseEntry, Pin, Unpin, PutAlt, Close, Doom, FinishAs}
 use Rattle.cache_theory.specs.Command.Reply.{Done, Refused, NoneThere}
 use Rattle.cache_theory.specs.History.{History}
 use Rattle.cache_theory.specs.Laws.{KeepsMark}
@@ -17,7 +17,7 @@ use Rattle.cache_theory.specs.Step.{Answer, answer, changed, effect, step, stepp
 use Rattle.cache_theory.specs.Table.{get}
 use Rattle.cache_theory.specs.declared.refusal.Refusal.{Refusal}
 use Rattle.cache_theory.proofs.MarkStays.{mark_stays}
-use Rattle.entry_parts.specs.Elements.{element}
+use Rattle.entry_parts.specs.Elements.{element, Element}
 use Rattle.entry_parts.specs.Setting.{without_element}
 use Rattle.file_handles.specs.Answers.{done_or, done_or_none}
 use Rattle.file_handles.specs.Carries.{CarriesOut, CarriesOutAt}
@@ -50,6 +50,7 @@ use Rattle.cache_store.specs.declared.fault.StoreFault.{StoreFault}
 use Rattle.cache_store.specs.declared.fault.StoreFault.TheVariants as fault
 use Rattle.cache_store.proofs.OneLearnt.{learns_nothing}
 use Rattle.cache_store.proofs.PerformSteps.{KeepsMoment, step_moment}
+use Rattle.entry_parts.specs.declared.header.Header.{Header}
 
 -- What a step of the machine changes of the rest and of the scan.
 
@@ -233,6 +234,10 @@ finish_done : (s : ℕ) → StaysUnlessDone (Finish s)
 unfolding effect StaysUnlessDone
 finish_done s m other = absurd (other refl)
 
+finish_as_done : (s : ℕ) (header : Header) (elements : List Element) → StaysUnlessDone (FinishAs s header elements)
+unfolding effect StaysUnlessDone
+finish_as_done s header elements m other = absurd (other refl)
+
 set_done : (s : ℕ) (name value : List ℕ) → StaysUnlessDone (SetElement s name value)
 unfolding effect StaysUnlessDone
 set_done s name value m other = absurd (other refl)
@@ -285,6 +290,10 @@ module _ (r : Result Effect HandleFault) (answer : Result Answered StoreFault) (
   pub finish_achieves : (s : ℕ) → CarriesOut (Finish s) (done_or r) (cache_of before) (cache_of after)
       → IfOk r (HasEffect before.open_store.handles (Finish s)) → AchievesFor (Finish s) answer before after
   finish_achieves s = handled_achieves (Finish s) tt tt (finish_done s)
+
+  pub finish_as_achieves : (s : ℕ) (header : Header) (elements : List Element) → CarriesOut (FinishAs s header elements) (done_or r) (cache_of before) (cache_of after)
+      → IfOk r (HasEffect before.open_store.handles (FinishAs s header elements)) → AchievesFor (FinishAs s header elements) answer before after
+  finish_as_achieves s header elements = handled_achieves (FinishAs s header elements) tt tt (finish_as_done s header elements)
 
   pub set_achieves : (s : ℕ) (name value : List ℕ) → CarriesOut (SetElement s name value) (done_or r) (cache_of before) (cache_of after)
       → IfOk r (HasEffect before.open_store.handles (SetElement s name value)) → AchievesFor (SetElement s name value) answer before after

@@ -8,6 +8,8 @@ pub mod ClearNames
 pub mod Closed
 pub mod ClosedInUse
 pub mod CountedChanges
+pub mod DumpDoes
+pub mod DumpedItems
 pub mod EvictDoes
 pub mod FaultLine
 pub mod FilesAmong

@@ -39,6 +39,7 @@ outcome_of (Refused r) = outcome.Refused
 outcome_of (Findings (f ∷ more)) = outcome.Refused
 outcome_of _ = outcome.Ok
 
+-- whether an answer is a refusal, or finds something wrong
 abbrev pub outcome_in : Answered → Verdict
 outcome_in (answered.Refused r) = outcome.Refused
 outcome_in (answered.Checked findings) = outcome_of (Findings findings)

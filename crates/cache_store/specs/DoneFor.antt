@@ -39,6 +39,7 @@ AreOfShelf right m records = right → records ≡ scan m.shelf
 abbrev pub IsOfShelf : (right : Type 0) → Machine → List ℕ → Bool → Type 0
 IsOfShelf right m key there = right → step m (HasGiven key there) ≡ step m (HasEntry key)
 
+-- what is done for the command goes by such records and such an answer
 abbrev pub IsDoneFor : (right : Type 0) → Command → Machine → Command → Type 0
 IsDoneFor right c m done = IsDoneBy (AreOfShelf right m) (IsOfShelf right m) c m done
 
@@ -46,5 +47,6 @@ IsDoneFor right c m done = IsDoneBy (AreOfShelf right m) (IsOfShelf right m) c m
 abbrev pub DoneBy : (List IndexRecord → Type 0) → (List ℕ → Bool → Type 0) → Command → Machine → (Command → Type 0) → Type 0
 DoneBy Holds Says c m P = (done : Command) × (IsDoneBy Holds Says c m done × P done)
 
+-- this holds of what is done for the command, by records that are right under the premise
 abbrev pub DoneFor : (right : Type 0) → Command → Machine → (Command → Type 0) → Type 0
 DoneFor right c m P = (done : Command) × (IsDoneFor right c m done × P done)

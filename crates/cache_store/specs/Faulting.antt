@@ -3,14 +3,15 @@
 use Rattle.std.specs.Io.KnownBytes.{Appends}
 use Rattle.std.specs.Prelude.{Bool, Err, List, None, Ok, Option, Result, Some, codes, false, length, take, true, ℕ, ⊤, ◌%◌, ◌++◌, ◌-◌, ◌≡◌, ◌⊎◌}
 use Rattle.cache_base.specs.Limits.{chunk_size}
+use Rattle.cache_export.specs.Dump.{head as dump_head}
 use Rattle.cache_store.specs.EntryText.{head_text}
 use Rattle.cache_store.specs.Open.{KeepsWhere, Represents, Tells}
 use Rattle.cache_store.specs.Session.{Session}
 use Rattle.cache_store.specs.declared.fault.StoreFault.{StoreFault}
 use Rattle.cache_store.specs.declared.fault.StoreFault.TheVariants as fault
 use Rattle.cache_theory.specs.Command.{Command, Reply}
-use Rattle.cache_theory.specs.Command.Command.{Append, At, Close, ElementOf, Finish, Flush, Get, GetAlt, HasEntry, MainBody, Pin, ReadPart, SetElement, Unpin, UnsetElement, UpdateState, UseEntry}
-use Rattle.cache_theory.specs.Command.Reply.{AltData, Found, Main, Part}
+use Rattle.cache_theory.specs.Command.Command.{Append, At, Close, Dump, ElementOf, Finish, FinishAs, Flush, Get, GetAlt, HasEntry, MainBody, Pin, ReadPart, SetElement, Unpin, UnsetElement, UpdateState, UseEntry}
+use Rattle.cache_theory.specs.Command.Reply.{AltData, Dumped, Found, Main, Part}
 use Rattle.cache_theory.specs.History.{History}
 use Rattle.cache_theory.specs.Machine.{Machine}
 use Rattle.cache_theory.specs.Step.{step}
@@ -36,6 +37,7 @@ is_failed_look handle.Read = true
 is_failed_look handle.Disk = false
 is_failed_look handle.Memory = false
 
+-- an answer of the handles tells it
 abbrev pub has_failed_look : {T : Type 0} → Result T HandleFault → Bool
 has_failed_look (Ok value) = false
 has_failed_look (Err f) = is_failed_look f
@@ -67,6 +69,7 @@ abbrev pub LooksAtNothing : Command → Type 0
 LooksAtNothing (At now) = ⊤
 LooksAtNothing (Append s bytes) = ⊤
 LooksAtNothing (Finish s) = ⊤
+LooksAtNothing (FinishAs s header elements) = ⊤
 LooksAtNothing (SetElement s name value) = ⊤
 LooksAtNothing (UnsetElement s name) = ⊤
 LooksAtNothing (ElementOf s name) = ⊤
@@ -79,7 +82,7 @@ LooksAtNothing Flush = ⊤
 LooksAtNothing UpdateState = ⊤
 LooksAtNothing _ = ⊥
 
--- a reply with bytes of a body up to the end of those of its first chunk
+-- a reply with bytes of a body up to the end of those of its first chunk, and that to a dump up to the end of its head
 abbrev pub reply_front : Command → Reply → Option (List ℕ)
 reply_front (ReadPart s from len) (Part bytes) =
     Some (with_number (codes "data") (length bytes) ++ take (chunk_size - from % chunk_size) bytes)
@@ -88,6 +91,7 @@ reply_front (GetAlt key) (AltData alt bytes) =
     Some (alt_line alt.kind (length bytes) ++ take (chunk_size - alt.offset % chunk_size) bytes)
 reply_front (MainBody key) (Main bytes) =
     Some (with_number (codes "main") (length bytes) ++ take chunk_size bytes)
+reply_front Dump (Dumped versions) = Some dump_head
 reply_front _ _ = None
 
 -- so much of the machine's reply is out, and maybe more

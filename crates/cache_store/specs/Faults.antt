@@ -8,10 +8,12 @@ use Rattle.disk_model.specs.Account.{Ending}
 use Rattle.disk_model.specs.declared.disk.DiskFault.{DiskFault}
 use Rattle.disk_model.specs.declared.disk.DiskFault.TheVariants as disk
 
+-- what a fault of the disk is to the store
 abbrev pub of_disk : DiskFault → StoreFault
 of_disk disk.Failed = Disk
 of_disk disk.Memory = Memory
 
+-- what a fault of the sink is to it
 abbrev pub of_sink : SinkFault → StoreFault
 of_sink sink.Failed = Sink
 of_sink sink.Memory = Memory

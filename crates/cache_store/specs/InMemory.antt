@@ -38,12 +38,14 @@ pub record IsOutOrCut (answer : Result Verdict StoreFault) (before now : Option 
   pub out : OnOk answer (Appends before now (reply_text r))
   pub cut : OnErr answer (IsReplyCut r before now)
 
+-- so it is with the reply that only what is in memory tells
 abbrev pub RepliesInMemory : Open → Command → Result Verdict StoreFault → Option (List ℕ) → Option (List ℕ) → Type 0
 RepliesInMemory o c answer before now = ForReply o c (IsOutOrCut answer before now)
 
--- a line that was cut is `ok` or a refusal
+-- the line is `ok` or a refusal
 abbrev pub IsPlainLine : List ℕ → Type 0
 IsPlainLine text = (text ≡ line (codes "ok" ∷ [])) ⊎ ((r : Refusal) × (text ≡ line (refusal_words r)))
 
+-- a part of such a line went out, and not all of it
 abbrev pub CutsPlainLine : Option (List ℕ) → Option (List ℕ) → Type 0
 CutsPlainLine before now = (text : List ℕ) × (IsPlainLine text × IsCut before now text)

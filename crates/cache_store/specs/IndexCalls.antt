@@ -4,9 +4,11 @@ use Rattle.cache_base.specs.declared.limits.TheConstants.{CHANGED_MAX}
 use Rattle.cache_base.specs.declared.name.Name.{Name}
 use Rattle.cache_store.specs.declared.memory_index.MemoryIndex.{MemoryIndex}
 use Rattle.cache_theory.specs.Command.{Command}
-use Rattle.cache_theory.specs.Command.Command.{At, ClearNames, ClearOrigin, Close, ElementOf, Evict, EvictNames, Finish, Flush, Get, GetAlt, HasEntry, ListRecords, MainBody, OpenKey, ReadPart, Rebuild, Resume, ResumeNames, StepUpdate, UpdateState, Verify}
+use Rattle.cache_theory.specs.Command.Command.{At, ClearNames, ClearOrigin, Close, ElementOf, Dump, Evict, EvictNames, Finish, FinishAs, Flush, Get, GetAlt, HasEntry, ListRecords, MainBody, OpenKey, ReadPart, Rebuild, Resume, ResumeNames, StepUpdate, UpdateState, Verify}
+use Rattle.disk_model.specs.Calls.{counted_read}
 use Rattle.disk_model.specs.State.{State, settled}
 use Rattle.disk_model.specs.declared.disk.Disk.{Ghosts}
+use Rattle.disk_model.specs.declared.place.Place.{Place}
 use Rattle.file_handles.specs.Closing.{writes_draft}
 use Rattle.file_handles.specs.Kept.{Kept}
 use Rattle.index_map.specs.Known.{Known, changed}
@@ -40,6 +42,11 @@ abbrev pub LooksAtNames : {Self : _} → Ghosts Self → ℕ → Self → Self �
 LooksAtNames D names before now =
     IsTrue D.tells → (D.counts now).entry_reads ≤ (D.counts before).entry_reads + 4 * names
 
+-- the disk is looked at once, at this place, and is as before
+abbrev pub LooksOnceAt : {Self : _} → Ghosts Self → Place → Self → Self → Type 0
+LooksOnceAt D place before now =
+    (D.state now ≡ D.state before) × (D.counts now ≡ counted_read place (D.counts before))
+
 -- a command that makes no call of the disk
 abbrev pub MakesNoCall : Command → Type 0
 MakesNoCall (At now) = ⊤
@@ -58,12 +65,14 @@ OnlyLooks (MainBody key) = ⊤
 OnlyLooks ListRecords = ⊤
 OnlyLooks (StepUpdate n) = ⊤
 OnlyLooks Verify = ⊤
+OnlyLooks Dump = ⊤
 OnlyLooks _ = ⊥
 
 -- one that syncs nothing, by what the handles keep: each but a `finish`, the closing of a slot whose entry is not finished,
 -- a `clear`, also one that is resumed, a `flush` and a `rebuild`
 abbrev pub NeverSyncs : Kept → Command → Type 0
 NeverSyncs k (Finish s) = ⊥
+NeverSyncs k (FinishAs s header elements) = ⊥
 NeverSyncs k (Close s) = writes_draft k s ≡ false
 NeverSyncs k (ClearOrigin origin) = ⊥
 NeverSyncs k Resume = ⊥

@@ -17,6 +17,7 @@ abbrev pub effect_of : Result Effect HandleFault → Effect
 effect_of (Ok e) = e
 effect_of (Err f) = effect.Same
 
+-- what is to be learnt of a call that may find nothing to do
 abbrev pub effect_of_some : Result (Option Effect) HandleFault → Effect
 effect_of_some (Ok (Some e)) = e
 effect_of_some (Ok None) = effect.Same

@@ -1,6 +1,7 @@
 pub mod Answering
 pub mod Clearing
 pub mod DoneFor
+pub mod Dumping
 pub mod EndsUpdate
 pub mod EntryText
 pub mod Evicting

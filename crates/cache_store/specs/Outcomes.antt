@@ -22,6 +22,7 @@ verdict_of outcome.Ok = verdict.Ok
 verdict_of outcome.Refused = verdict.Refused
 verdict_of outcome.Faulted = verdict.Refused
 
+-- the same of an answer, whose fault stays as it is
 abbrev pub verdict_in : Result Outcome StoreFault → Result Verdict StoreFault
 verdict_in (Ok o) = Ok (verdict_of o)
 verdict_in (Err f) = Err f

@@ -106,6 +106,7 @@ pub record Achieves (crash : Bool) (c : Command) (h : History) (answer : Result 
   pub next : OnOk answer (KeepsWhere crash after (acked c h))
   pub tells : OnOk answer (ComesToTell c before h.machine → Tells after (step h.machine c).next)
 
+-- whatever the history that the session keeps to
 abbrev pub AchievesFor : Command → Result Answered StoreFault → Session → Session → Type 0
 AchievesFor c answer before after =
     (crash : Bool) (h : History) → KeepsWhere crash before h → Achieves crash c h answer before after
@@ -125,6 +126,7 @@ pub record Does (crash : Bool) (c : Command) (h : History) (answer : Result Answ
   pub effect : IfErr answer (λ f. f ≡ fault.Sink → KeepsWhere crash after (acked c h))
   pub tells : HadEffect answer → ComesToTell c before h.machine → Tells after (step h.machine c).next
 
+-- whatever the history that the session keeps to
 abbrev pub DoesFor : Command → Result Answered StoreFault → Session → Session
     → Option (List ℕ) → Saying → Type 0
 DoesFor c answer before after taken now =

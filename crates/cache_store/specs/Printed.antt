@@ -7,7 +7,7 @@ use Rattle.cache_store.specs.declared.answered.Answered.TheVariants as answered
 use Rattle.cache_store.specs.declared.fault.Verdict.{Verdict}
 use Rattle.cache_store.specs.declared.fault.Verdict.TheVariants as outcome
 use Rattle.cache_theory.specs.Command.{Command}
-use Rattle.cache_theory.specs.Command.Command.{Create, UnsetElement, ElementOf, ReadPart, Get, GetAlt, MainBody, HasEntry, ListRecords, Evict, EvictNames, ClearOrigin, ClearNames, Resume, ResumeNames, StepUpdate, UpdateState, Verify, VerifyRecords, Rebuild}
+use Rattle.cache_theory.specs.Command.Command.{Create, UnsetElement, ElementOf, ReadPart, Get, GetAlt, MainBody, HasEntry, ListRecords, Evict, EvictNames, ClearOrigin, ClearNames, Resume, ResumeNames, StepUpdate, UpdateState, Verify, VerifyRecords, Rebuild, Dump}
 use Rattle.cache_theory.specs.Text.{findings_text, line, refusal_words}
 use Rattle.cache_theory.specs.declared.refusal.Refusal.{Refusal}
 use Rattle.entry_key.specs.Writing.{may_write}
@@ -33,6 +33,7 @@ is_plain UpdateState = false
 is_plain Verify = false
 is_plain (VerifyRecords records) = false
 is_plain Rebuild = false
+is_plain Dump = false
 is_plain _ = true
 
 -- such a reply, of which nothing is said yet

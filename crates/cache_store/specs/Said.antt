@@ -9,6 +9,7 @@ pub record Saying : Type 0 where
   pub taken : Option (List ℕ)
   pub held : List ℕ
 
+-- how far this reply is said, with the sink as it is now
 abbrev pub saying : {C : _} → Ghosts C → Pending → C → Saying
 saying K reply sink = record { taken = K.taken sink; held = reply.held }
 

@@ -13,6 +13,7 @@ pub record Open : Type 0 where
   pub moment : ℕ
   pub index : MemoryIndex
 
+-- what this store keeps
 abbrev pub open_of : Store → Open
 open_of store =
     record { handles = kept store.handles; moment = store.moment; index = store.index }
@@ -22,6 +23,7 @@ pub record Session : Type 0 where
   pub open_store : Open
   pub disk : State
 
+-- this store, and the disk under it
 abbrev pub session : {C : _} → Ghosts C → Store → C → Session
 session D store disk = record { open_store = open_of store; disk = D.state disk }
 

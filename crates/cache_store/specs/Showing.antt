@@ -22,6 +22,7 @@ pub record ShownPart : Type 0 where
   pub from : ℕ
   pub to : ℕ
 
+-- the text and the bytes that a part of the code stands for
 abbrev pub part_said : Part → ShownPart
 part_said p = record { head = p.head; from = p.from; to = p.to }
 
@@ -29,11 +30,12 @@ part_said p = record { head = p.head; from = p.from; to = p.to }
 abbrev pub alt_in_meta : Meta → Option Alt
 alt_in_meta m = alt_of m.elements m.offset
 
--- the length of its main body
+-- how much of a body of this length comes before its alternative data, or all of it where there are none
 abbrev pub length_before : ℕ → Option Alt → ℕ
 length_before len None = len
 length_before len (Some alt) = alt.offset
 
+-- the length of its main body
 abbrev pub main_length : Meta → ℕ
 main_length m = length_before m.offset (alt_in_meta m)
 

@@ -209,7 +209,8 @@ impl Store {
         ensures held { self.new.reply.held ≡ self.old.reply.held }
         ensures names { LooksAtNames D.Disk (length self.old.index.update) disk.old disk.new }
         ensures faulted { self.new.faulting ≡ true → result ≡ Err StoreFault.Disk }
-        ensures looked { self.new.faulting ≡ true → Looks D.Disk Ending.OneFailed disk.old disk.new }
+        ensures looked { self.new.faulting ≡ true →
+            Looks D.Disk Ending.OneFailed disk.old disk.new }
         ensures stays { let at = session D.Disk in self.new.faulting ≡ true → IsTrue D.tells →
             StaysAs (at self.old disk.old) (at self.new disk.new) }
         ensures same_base { self.new.faulting ≡ true →
@@ -246,11 +247,14 @@ impl Store {
         requires calm { self.old.faulting ≡ false }
         requires told { IsTrue D.tells → IsOpen (session D.Disk self.old disk.old) }
         ensures does { let at = session D.Disk in IsTrue D.tells →
-            AchievesWhatIsDone (ClearOrigin origin.now) result (at self.old disk.old) (at self.new disk.new) }
+            AchievesWhatIsDone (ClearOrigin origin.now) result
+            (at self.old disk.old) (at self.new disk.new) }
         ensures clears { HadEffect result → IsTrue D.tells →
-            LeavesUncleared (session D.Disk self.old disk.old) (value_hash origin.now) self.new.index.map }
+            LeavesUncleared (session D.Disk self.old disk.old)
+            (value_hash origin.now) self.new.index.map }
         ensures stopped { IsTrue D.tells →
-            ClearsUnderMark (value_hash origin.now) (session D.Disk self.old disk.old) (D.state disk.new) }
+            ClearsUnderMark (value_hash origin.now)
+            (session D.Disk self.old disk.old) (D.state disk.new) }
         ensures base { HadEffect result → SameBase self.old.index.map self.new.index.map }
         ensures index { Told D.Disk LeavesIndex disk.old disk.new }
         ensures quiet { OnOk result (IsTrue D.tells → IsQuiet (D.state disk.new)) }
@@ -262,7 +266,8 @@ impl Store {
         ensures held { self.new.reply.held ≡ self.old.reply.held }
         ensures names { LooksAtNames D.Disk (length self.old.index.update) disk.old disk.new }
         ensures faulted { self.new.faulting ≡ true → result ≡ Err StoreFault.Disk }
-        ensures looked { self.new.faulting ≡ true → Looks D.Disk Ending.OneFailed disk.old disk.new }
+        ensures looked { self.new.faulting ≡ true →
+            Looks D.Disk Ending.OneFailed disk.old disk.new }
         ensures stays { let at = session D.Disk in self.new.faulting ≡ true → IsTrue D.tells →
             StaysAs (at self.old disk.old) (at self.new disk.new) }
         ensures same_base { self.new.faulting ≡ true →

@@ -1,6 +1,6 @@
 //! Performs one command, and writes its reply.
 
-ghost use Rattle.std.specs.Prelude.{List, ℕ, ◌≡◌, ◌≢◌, ◌<◌, [], Err, Ok, true, false, IfOk, IfSome, IsErrOf, IsSome, IsTrue, OnErr, OnOk, codes};
+ghost use Rattle.std.specs.Prelude.{List, ℕ, ◌≡◌, ◌≢◌, ◌<◌, [], Err, Ok, true, false, IfOk, IfSome, IsErrOf, IsSome, IsTrue, None, OnErr, OnOk, codes};
 ghost use Rattle.std.specs.Io.KnownBytes.{Appends};
 ghost use Rattle.cache_base.specs.Causes.{HasCause};
 ghost use Rattle.cache_base.specs.declared.limits.TheConstants.{SLOTS};
@@ -10,7 +10,7 @@ ghost use Rattle.cache_store.specs.Clearing.{HasNoMark, IsClearing, LeavesResume
 ghost use Rattle.cache_store.specs.Evicting.{IsEviction, LeavesOthers, LooksBeforeChanges};
 ghost use Rattle.cache_store.specs.Faulting.{FailsForGood, LooksAtNothing, StaysAs};
 ghost use Rattle.cache_store.specs.Faults.{ending};
-ghost use Rattle.cache_store.specs.IndexCalls.{Flushes, IsFresh, IsWritten, LooksAtNames, MakesNoCall, NeverSyncs, OnlyLooks, Rebuilds, SyncsAll, names_read};
+ghost use Rattle.cache_store.specs.IndexCalls.{Flushes, IsFresh, IsWritten, LooksAtNames, LooksOnceAt, MakesNoCall, NeverSyncs, OnlyLooks, Rebuilds, SyncsAll, names_read};
 ghost use Rattle.cache_store.specs.InUse.{SparesIndex};
 ghost use Rattle.cache_store.specs.Printed.{HasBadKey, IsPlain, Prints, is_check, is_plain, lists_findings};
 ghost use Rattle.cache_store.specs.Reads.{AreHeld, LastIsFirst, LeavesChunks};
@@ -204,7 +204,8 @@ impl Store {
         ensures wordless { command_of c.now ≡ Resume → (sink.new ≡ sink.old)
             × ((result ≢ Err StoreFault.Sink) × IfOk result (λ a. a ≡ Answered.Resumed)) }
         ensures grows { IsTrue D.tells → TakesMore (K.taken sink.old) (K.taken sink.new) }
-        ensures index { SparesIndex (command_of c.now) self.old.index → Told D.Disk LeavesIndex disk.old disk.new }
+        ensures index { SparesIndex (command_of c.now) self.old.index →
+            Told D.Disk LeavesIndex disk.old disk.new }
         ensures base { SparesIndex (command_of c.now) self.old.index → HadEffect result →
             SameBase self.old.index.map self.new.index.map }
         ensures quiet { SyncsAll (command_of c.now) → HadEffect result →
@@ -223,14 +224,17 @@ impl Store {
             Looks D.Disk (ending result) disk.old disk.new }
         ensures unsynced { NeverSyncs (kept self.old.handles) (command_of c.now) →
             Told D.Disk SyncsNothing disk.old disk.new }
-        ensures evicts { (kb : ℕ) → command_of c.now ≡ Evict kb → HadEffect result → IsTrue D.tells →
+        ensures evicts { (kb : ℕ) → command_of c.now ≡ Evict kb →
+            HadEffect result → IsTrue D.tells →
             LeavesOthers (session D.Disk self.old disk.old) kb self.new.index.map }
-        ensures clears { IfSome (origin_cleared (command_of c.now) (standing (D.state disk.old) Clear)) (λ origin.
+        ensures clears { IfSome
+            (origin_cleared (command_of c.now) (standing (D.state disk.old) Clear)) (λ origin.
             HadEffect result → IsTrue D.tells →
             LeavesUncleared (session D.Disk self.old disk.old) origin self.new.index.map) }
         ensures unmarked { IsClearing (command_of c.now) → HadEffect result →
             IsTrue D.tells → HasNoMark (D.state disk.new) }
-        ensures stopped { IfSome (origin_cleared (command_of c.now) (standing (D.state disk.old) Clear)) (λ origin.
+        ensures stopped { IfSome
+            (origin_cleared (command_of c.now) (standing (D.state disk.old) Clear)) (λ origin.
             IsTrue D.tells →
             ClearsUnderMark origin (session D.Disk self.old disk.old) (D.state disk.new)) }
         ensures resumes { command_of c.now ≡ Resume → HadEffect result → IsTrue D.tells →
@@ -245,7 +249,8 @@ impl Store {
         // Where a look failed before anything was said, all is as before. Where the disk failed in another way, it was in a
         // change or a sync, or the reply is out up to its first chunk.
         ensures faulted { self.new.faulting ≡ true → result ≡ Err StoreFault.Disk }
-        ensures looked { self.new.faulting ≡ true → Looks D.Disk Ending.OneFailed disk.old disk.new }
+        ensures looked { self.new.faulting ≡ true →
+            Looks D.Disk Ending.OneFailed disk.old disk.new }
         ensures stays { let at = session D.Disk in self.new.faulting ≡ true → IsTrue D.tells →
             StaysAs (at self.old disk.old) (at self.new disk.new) }
         ensures same_base { self.new.faulting ≡ true →
@@ -253,9 +258,12 @@ impl Store {
         ensures silent { self.new.faulting ≡ true →
             (sink.new ≡ sink.old) × (self.new.reply.held ≡ []) }
         ensures change { let at = cache D.Disk self.old.handles disk.old in
-            self.new.faulting ≡ false → command_of c.now ≢ Resume → result ≡ Err StoreFault.Disk → IsTrue D.tells →
-            FailsForGood (D.counts disk.new) (command_of c.now) at (K.taken sink.old) (K.taken sink.new) }
+            self.new.faulting ≡ false → command_of c.now ≢ Resume → result ≡ Err StoreFault.Disk →
+            IsTrue D.tells → FailsForGood (D.counts disk.new) (command_of c.now) at
+            (K.taken sink.old) (K.taken sink.new) }
         ensures bare { LooksAtNothing (command_of c.now) → self.new.faulting ≡ false }
+        ensures once { command_of c.now ≡ Resume → IsTrue D.tells →
+            standing (D.state disk.old) Clear ≡ None → LooksOnceAt D.Disk Clear disk.old disk.new }
         ensures ends { command_of c.now ≡ Resume → self.new.faulting ≡ false }
         ensures held { (slot from len : ℕ) → command_of c.now ≡ ReadPart slot from len →
             AreHeld (kept self.old.handles) slot from len → disk.new ≡ disk.old }
@@ -289,6 +297,11 @@ impl Store {
                 let answer = self.handles.finish(alloc, disk, slot);
                 self.index.learn_of(answer)
             }
+            Command::FinishAs {
+                slot,
+                header,
+                elements,
+            } => self.finish_as(alloc, disk, slot, header, elements),
             Command::SetElement { slot, name, value } => {
                 let answer = self.handles.set_element(alloc, disk, slot, name, value);
                 self.index.learn_of(answer)
@@ -341,6 +354,7 @@ impl Store {
             Command::State => Ok(self.index.state()),
             Command::Verify => self.verify(alloc, disk),
             Command::Rebuild => self.rebuild(alloc, disk),
+            Command::Dump => self.dump(alloc, disk, sink),
         }
     }
 
@@ -395,7 +409,8 @@ impl Store {
         ensures prints { IfOk result (λ o.
             Prints (command_of c.now) o (K.taken sink.old) (K.taken sink.new)) }
         ensures verifies { command_of c.now ≡ Verify → OnOk result (IsTrue D.tells →
-            PrintsFound (session D.Disk self.old disk.old) self.new.index.map (K.taken sink.old) (K.taken sink.new)) }
+            PrintsFound (session D.Disk self.old disk.old) self.new.index.map
+            (K.taken sink.old) (K.taken sink.new)) }
         ensures in_memory { MakesNoCall (command_of c.now) →
             RepliesInMemory (open_of self.old) (command_of c.now) result
             (K.taken sink.old) (K.taken sink.new) }
@@ -411,7 +426,8 @@ impl Store {
         // The files of the index: they are left alone and the base in memory stays, but by a `rebuild`, and by a `flush`
         // where the update has ended and not few records differ. Where it has ended, a `flush` leaves an index with all
         // records but for few; and a `rebuild` leaves one with all. After both nothing is pending.
-        ensures index { SparesIndex (command_of c.now) self.old.index → Told D.Disk LeavesIndex disk.old disk.new }
+        ensures index { SparesIndex (command_of c.now) self.old.index →
+            Told D.Disk LeavesIndex disk.old disk.new }
         ensures base { SparesIndex (command_of c.now) self.old.index → HadEffect result →
             SameBase self.old.index.map self.new.index.map }
         ensures quiet { SyncsAll (command_of c.now) → HadEffect result →
@@ -419,14 +435,17 @@ impl Store {
         ensures flushed { command_of c.now ≡ Flush → OnOk result
             (self.new.index.update ≡ [] → IsFresh self.new.index.map) }
         ensures rebuilt { command_of c.now ≡ Rebuild → OnOk result (IsWritten self.new.index.map) }
-        ensures evicts { (kb : ℕ) → command_of c.now ≡ Evict kb → HadEffect result → IsTrue D.tells →
+        ensures evicts { (kb : ℕ) → command_of c.now ≡ Evict kb →
+            HadEffect result → IsTrue D.tells →
             LeavesOthers (session D.Disk self.old disk.old) kb self.new.index.map }
-        ensures clears { IfSome (origin_cleared (command_of c.now) (standing (D.state disk.old) Clear)) (λ origin.
+        ensures clears { IfSome
+            (origin_cleared (command_of c.now) (standing (D.state disk.old) Clear)) (λ origin.
             HadEffect result → IsTrue D.tells →
             LeavesUncleared (session D.Disk self.old disk.old) origin self.new.index.map) }
         ensures unmarked { IsClearing (command_of c.now) → HadEffect result →
             IsTrue D.tells → HasNoMark (D.state disk.new) }
-        ensures stopped { IfSome (origin_cleared (command_of c.now) (standing (D.state disk.old) Clear)) (λ origin.
+        ensures stopped { IfSome
+            (origin_cleared (command_of c.now) (standing (D.state disk.old) Clear)) (λ origin.
             IsTrue D.tells →
             ClearsUnderMark origin (session D.Disk self.old disk.old) (D.state disk.new)) }
         ensures resumes { command_of c.now ≡ Resume → HadEffect result → IsTrue D.tells →
@@ -470,16 +489,20 @@ impl Store {
         // failed in another way, it was in a change or a sync, as the last call, or the reply is out up to its first chunk.
         // A command that makes no look never fails in one; and a clearing that is resumed ends the run, as an opening does.
         ensures faulted { self.new.faulting ≡ true → result ≡ Err StoreFault.Disk }
-        ensures looked { self.new.faulting ≡ true → Looks D.Disk Ending.OneFailed disk.old disk.new }
+        ensures looked { self.new.faulting ≡ true →
+            Looks D.Disk Ending.OneFailed disk.old disk.new }
         ensures stays { let at = session D.Disk in self.new.faulting ≡ true → IsTrue D.tells →
             StaysAs (at self.old disk.old) (at self.new disk.new) }
         ensures same_base { self.new.faulting ≡ true →
             SameBase self.old.index.map self.new.index.map }
         ensures silent { self.new.faulting ≡ true → sink.new ≡ sink.old }
         ensures fails { let at = cache D.Disk self.old.handles disk.old in
-            self.new.faulting ≡ false → command_of c.now ≢ Resume → result ≡ Err StoreFault.Disk → IsTrue D.tells →
-            FailsForGood (D.counts disk.new) (command_of c.now) at (K.taken sink.old) (K.taken sink.new) }
+            self.new.faulting ≡ false → command_of c.now ≢ Resume → result ≡ Err StoreFault.Disk →
+            IsTrue D.tells → FailsForGood (D.counts disk.new) (command_of c.now) at
+            (K.taken sink.old) (K.taken sink.new) }
         ensures bare { LooksAtNothing (command_of c.now) → self.new.faulting ≡ false }
+        ensures once { command_of c.now ≡ Resume → IsTrue D.tells →
+            standing (D.state disk.old) Clear ≡ None → LooksOnceAt D.Disk Clear disk.old disk.new }
         ensures ends { command_of c.now ≡ Resume → self.new.faulting ≡ false }
     {
         self.reply.clear();

@@ -45,7 +45,8 @@ pub(crate) fn is_among(rising: &[Name], name: &Name) -> bool
 // Those of the names that are among rising ones, in their order.
 fn common(alloc: Global, names: &[Name], rising: &[Name]) -> Result<Names, NoMemory>
     requires { AreRising rising.now }
-    ensures { IfOk result (λ list. list ≡ filter (λ name. list_any (same_name name) rising.now) names.now) }
+    ensures { IfOk result (λ list.
+        list ≡ filter (λ name. list_any (same_name name) rising.now) names.now) }
 {
     let mut list = Names::with_room(alloc, names.len())?;
     for name in names {
@@ -138,7 +139,8 @@ impl Store {
         ensures names { LooksAtNames D.Disk (length self.old.index.update) disk.old disk.new }
         ensures looks_first { LooksBeforeChanges D.Disk (ending result) disk.old disk.new }
         ensures faulted { self.new.faulting ≡ true → result ≡ Err StoreFault.Disk }
-        ensures looked { self.new.faulting ≡ true → Looks D.Disk Ending.OneFailed disk.old disk.new }
+        ensures looked { self.new.faulting ≡ true →
+            Looks D.Disk Ending.OneFailed disk.old disk.new }
         ensures stays { let at = session D.Disk in self.new.faulting ≡ true → IsTrue D.tells →
             StaysAs (at self.old disk.old) (at self.new disk.new) }
         ensures same_base { self.new.faulting ≡ true →

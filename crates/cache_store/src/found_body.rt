@@ -39,8 +39,8 @@ fn cut(bytes: &[u8], from: usize, len: usize) -> &[u8]
     &rest[..len.min(rest.len())]
 }
 
-// Makes the chunk of the first of these bytes the one to be printed, if there are any.
-fn first_chunk<D: Disk>(
+/// Makes the chunk of the first of these bytes the one to be printed, if there are any.
+pub(crate) fn first_chunk<D: Disk>(
     disk: &mut D,
     range: Range<'_>,
     handles: &mut Handles,
@@ -142,6 +142,45 @@ fn say_range<D: Disk, K: Sink>(
     Ok(())
 }
 
+/// Says these bytes between a head and a tail. The chunk of the first is held.
+pub(crate) fn say_framed<D: Disk, K: Sink>(
+    disk: &mut D,
+    range: Range<'_>,
+    head: &[u8],
+    tail: &[u8],
+    handles: &mut Handles,
+    reply: &mut Pending,
+    sink: &mut K,
+) -> Result<(), StoreFault>
+    requires inside { (range.from ≤ range.to) × (range.to ≤ range.len) }
+    requires first { IsTrue D.tells → range.from < range.to →
+        HasChunkAt (standing (D.state disk.old) range.place.now) range.len
+        (range.from / chunk_size) handles.old.chunk }
+    ensures said { let at = saying K.Sink in OnOk result (IsTrue D.tells →
+        ForPrefix (D.state disk.old) range.entry.place.now range.entry.len (λ body.
+        let text = head.now ++ (range_of range.entry.from range.entry.to body ++ tail.now) in
+        SaysMore (at reply.old sink.old) (at reply.new sink.new) text)) }
+    ensures cut { let at = saying K.Sink in OnErr result (IsTrue D.tells →
+        ForPrefix (D.state disk.old) range.entry.place.now range.entry.len (λ body.
+        let text = head.now ++ (range_of range.entry.from range.entry.to body ++ tail.now) in
+        CutsIn (at reply.old sink.old) (K.taken sink.new) text)) }
+    // Where the disk failed all up to the end of the first chunk is out.
+    ensures front { let at = saying K.Sink in result ≡ Err StoreFault.Disk → IsTrue D.tells →
+        ForPrefix (D.state disk.old) range.entry.place.now range.entry.len (λ body.
+        let front = head.now
+        ++ part_of_body body range.entry.from (range.entry.to - range.entry.from) in
+        SendsFront (at reply.old sink.old) (K.taken sink.new) front) }
+    ensures kept { kept handles.new ≡ kept handles.old }
+    ensures looks { Looks D.Disk (ending result) disk.old disk.new }
+    ensures sink { let failed = IsErrOf result StoreFault.Sink in
+        HasCause failed (K.faults sink.old) (K.faults sink.new) }
+{
+    reply.put(sink, head)?;
+    say_range(disk, range, handles, reply, sink)?;
+    reply.put(sink, tail)?;
+    Ok(())
+}
+
 impl Store {
     ghost use Rattle.cache_store.specs.Session.{open_of};
 
@@ -172,7 +211,8 @@ impl Store {
         ensures front { let at = saying K.Sink in
             self.new.faulting ≡ false → result ≡ Err StoreFault.Disk → IsTrue D.tells →
             ForPrefix (D.state disk.old) range.entry.place.now range.entry.len (λ body.
-            let front = head.now ++ part_of_body body range.entry.from (range.entry.to - range.entry.from) in
+            let front = head.now
+            ++ part_of_body body range.entry.from (range.entry.to - range.entry.from) in
             SendsFront (at self.old.reply sink.old) (K.taken sink.new) front) }
         ensures open { open_of self.new ≡ open_of self.old }
         ensures looks { Looks D.Disk (ending result) disk.old disk.new }
@@ -183,9 +223,14 @@ impl Store {
             Ok(()) => {}
             Err(fault) => return Err(look_fault(fault, &mut self.faulting)),
         }
-        self.reply.put(sink, head)?;
-        say_range(disk, range, &mut self.handles, &mut self.reply, sink)?;
-        self.reply.put(sink, b"\n")?;
-        Ok(())
+        say_framed(
+            disk,
+            range,
+            head,
+            b"\n",
+            &mut self.handles,
+            &mut self.reply,
+            sink,
+        )
     }
 }

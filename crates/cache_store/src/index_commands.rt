@@ -156,7 +156,8 @@ impl Store {
         ensures flushes { OnOk result
             (Told D.Disk (Flushes self.old.index self.old.moment) disk.old disk.new) }
         ensures same { SparesIndex Flush self.old.index → self.new.index ≡ self.old.index }
-        ensures index { SparesIndex Flush self.old.index → Told D.Disk LeavesIndex disk.old disk.new }
+        ensures index { SparesIndex Flush self.old.index →
+            Told D.Disk LeavesIndex disk.old disk.new }
         ensures quiet { OnOk result (IsTrue D.tells → IsQuiet (D.state disk.new)) }
         ensures unclean { IsTrue D.tells → IsUnclean (D.state disk.new) }
         ensures calm { self.new.faulting ≡ self.old.faulting }
@@ -191,7 +192,8 @@ impl Store {
         ensures quiet { OnOk result (IsTrue D.tells → IsQuiet (D.state disk.new)) }
         ensures unclean { IsTrue D.tells → IsUnclean (D.state disk.new) }
         ensures faulted { self.new.faulting ≡ true → result ≡ Err StoreFault.Disk }
-        ensures looked { self.new.faulting ≡ true → Looks D.Disk Ending.OneFailed disk.old disk.new }
+        ensures looked { self.new.faulting ≡ true →
+            Looks D.Disk Ending.OneFailed disk.old disk.new }
         ensures stays { self.new.faulting ≡ true → open_of self.new ≡ open_of self.old }
         ensures change { self.new.faulting ≡ false → FailsInChange D.Disk (ending result) disk.new }
         ensures account { Accounts D.Disk (ending result) disk.old disk.new }

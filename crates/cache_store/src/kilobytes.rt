@@ -39,7 +39,8 @@ impl Store {
 
         // The sum, by the records in memory, and where they are right by the entries.
         ensures sum { IfOk result (λ kb. kb ≡ total_kb self.new.index.map.records) }
-        ensures total { IfOk result (λ kb. IsTrue D.tells → IsTotal (session D.Disk self.old disk.old) kb) }
+        ensures total { IfOk result (λ kb. IsTrue D.tells →
+            IsTotal (session D.Disk self.old disk.old) kb) }
         ensures ended { OnOk result (self.new.index.update ≡ []) }
         ensures base { SameBase self.old.index.map self.new.index.map }
 

@@ -40,7 +40,8 @@ impl MemoryIndex {
         answer: Result<Option<Effect>, HandleFault>,
     ) -> Result<Answered, StoreFault>
         requires { IsPlainEffect (effect_of_some answer) }
-        ensures learnt { IsLearnt (done_or_none answer) (effect_of_some answer) result self.old self.new }
+        ensures learnt { IsLearnt (done_or_none answer)
+            (effect_of_some answer) result self.old self.new }
         ensures unlisted { IfOk result (λ a. lists_findings a ≡ false) }
         ensures ending { EndsAs (handle_ending answer) (ending result) }
     {

@@ -5,9 +5,11 @@
 mod answered;
 mod clear;
 mod command;
+mod dump;
 mod evict;
 mod fault;
 mod faulting;
+mod finishing;
 mod found_body;
 mod index_commands;
 mod kilobytes;

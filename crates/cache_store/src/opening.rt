@@ -52,8 +52,10 @@ pub(crate) fn begin_index<D: Disk>(alloc: Global, disk: &mut D) -> Result<Memory
     // The index in memory.
     ensures rest { IfOk result (λ index. IsTrue D.tells → IsRest (D.state disk.old) index.update) }
     ensures tells { let es = entries_on (D.state disk.old) in
-        IfOk result (λ index. IsTrue D.tells → Honest (standing (D.state disk.old)) → TellsOf es index) }
-    ensures holds { IfOk result (λ index. IsTrue D.tells → HoldsIndex (D.state disk.new) index.map) }
+        IfOk result (λ index. IsTrue D.tells →
+        Honest (standing (D.state disk.old)) → TellsOf es index) }
+    ensures holds { IfOk result (λ index. IsTrue D.tells →
+        HoldsIndex (D.state disk.new) index.map) }
     ensures based { IfOk result (λ index. IsTrue D.tells →
         OpensInUse (D.state disk.old) index.map (D.state disk.new)) }
     ensures begins { IfOk result (λ index. IsTrue D.tells →

@@ -1,6 +1,6 @@
 //! Answers a command: by its reply, or by the line that tells of a failed look at the disk.
 
-ghost use Rattle.std.specs.Prelude.{List, ℕ, ◌≡◌, ◌≢◌, [], Err, Ok, true, false, IfOk, IfSome, IsErrOf, IsSome, IsTrue, OnErr, OnOk};
+ghost use Rattle.std.specs.Prelude.{List, ℕ, ◌≡◌, ◌≢◌, [], Err, Ok, true, false, IfOk, IfSome, IsErrOf, IsSome, IsTrue, None, OnErr, OnOk};
 ghost use Rattle.cache_base.specs.Causes.{HasCause};
 ghost use Rattle.cache_script.specs.Command.{command_of};
 ghost use Rattle.cache_store.specs.Clearing.{HasNoMark, IsClearing, LeavesResumed, LeavesUncleared, origin_cleared};
@@ -8,7 +8,7 @@ ghost use Rattle.cache_store.specs.Evicting.{IsEviction, LeavesOthers, LooksBefo
 ghost use Rattle.cache_store.specs.Faulting.{FailsForGood, LooksAtNothing};
 ghost use Rattle.cache_store.specs.Faults.{ending};
 ghost use Rattle.cache_store.specs.InUse.{SparesIndex};
-ghost use Rattle.cache_store.specs.IndexCalls.{Flushes, IsFresh, IsWritten, LooksAtNames, MakesNoCall, NeverSyncs, OnlyLooks, Rebuilds, SyncsAll, names_read};
+ghost use Rattle.cache_store.specs.IndexCalls.{Flushes, IsFresh, IsWritten, LooksAtNames, LooksOnceAt, MakesNoCall, NeverSyncs, OnlyLooks, Rebuilds, SyncsAll, names_read};
 ghost use Rattle.cache_store.specs.Outcomes.{Faults, verdict_in, verdict_of};
 ghost use Rattle.cache_store.specs.Printed.{HasBadKey, Prints, is_plain};
 ghost use Rattle.cache_store.specs.Reads.{AreHeld, LastIsFirst, LeavesChunks};
@@ -78,19 +78,23 @@ impl Store {
         requires told { IsTrue D.tells → IsOpen (session D.Disk self.old disk.old) }
         // Where a look at the disk failed, all is as it was.
         ensures faults { self.new.faulting ≡ true →
-            Faults D.Disk result self.old self.new disk.old disk.new (K.taken sink.old) (K.taken sink.new) }
+            Faults D.Disk result self.old self.new disk.old disk.new
+            (K.taken sink.old) (K.taken sink.new) }
         ensures faulted { result ≡ Ok Outcome.Faulted → self.new.faulting ≡ true }
         ensures bare { LooksAtNothing (command_of c.now) → self.new.faulting ≡ false }
         ensures ends { command_of c.now ≡ Resume → self.new.faulting ≡ false }
 
         // Elsewhere this is what it comes to, by the machine, and what a crash leaves at every exit.
         ensures performs { let at = session D.Disk in self.new.faulting ≡ false → IsTrue D.tells →
-            PerformsFor (command_of c.now) (verdict_in result) (at self.old disk.old) (at self.new disk.new)
+            PerformsFor (command_of c.now) (verdict_in result)
+            (at self.old disk.old) (at self.new disk.new)
             (K.taken sink.old) (K.taken sink.new) }
         ensures prints { self.new.faulting ≡ false → IfOk result (λ o.
             Prints (command_of c.now) (verdict_of o) (K.taken sink.old) (K.taken sink.new)) }
-        ensures verifies { self.new.faulting ≡ false → command_of c.now ≡ Verify → OnOk result (IsTrue D.tells →
-            PrintsFound (session D.Disk self.old disk.old) self.new.index.map (K.taken sink.old) (K.taken sink.new)) }
+        ensures verifies { self.new.faulting ≡ false → command_of c.now ≡ Verify →
+            OnOk result (IsTrue D.tells →
+            PrintsFound (session D.Disk self.old disk.old) self.new.index.map
+            (K.taken sink.old) (K.taken sink.new)) }
         ensures in_memory { MakesNoCall (command_of c.now) →
             RepliesInMemory (open_of self.old) (command_of c.now) (verdict_in result)
             (K.taken sink.old) (K.taken sink.new) }
@@ -120,15 +124,17 @@ impl Store {
         // An eviction leaves the records of all others, and so does a clearing, also one that is resumed, which leaves no mark.
         // Wherever it stops, a crash leaves nothing of it, or its mark, or all of it. An index that is written has the moment
         // of this store.
-        ensures evicts { (kb : ℕ) → self.new.faulting ≡ false → command_of c.now ≡ Evict kb → HadEffect result →
-            IsTrue D.tells → LeavesOthers (session D.Disk self.old disk.old) kb self.new.index.map }
-        ensures clears { self.new.faulting ≡ false →
-            IfSome (origin_cleared (command_of c.now) (standing (D.state disk.old) Clear)) (λ origin.
+        ensures evicts { (kb : ℕ) → self.new.faulting ≡ false → command_of c.now ≡ Evict kb →
             HadEffect result → IsTrue D.tells →
+            LeavesOthers (session D.Disk self.old disk.old) kb self.new.index.map }
+        ensures clears { self.new.faulting ≡ false →
+            IfSome (origin_cleared (command_of c.now) (standing (D.state disk.old) Clear))
+            (λ origin. HadEffect result → IsTrue D.tells →
             LeavesUncleared (session D.Disk self.old disk.old) origin self.new.index.map) }
-        ensures unmarked { self.new.faulting ≡ false → IsClearing (command_of c.now) → HadEffect result →
-            IsTrue D.tells → HasNoMark (D.state disk.new) }
-        ensures stopped { IfSome (origin_cleared (command_of c.now) (standing (D.state disk.old) Clear)) (λ origin.
+        ensures unmarked { self.new.faulting ≡ false → IsClearing (command_of c.now) →
+            HadEffect result → IsTrue D.tells → HasNoMark (D.state disk.new) }
+        ensures stopped { IfSome
+            (origin_cleared (command_of c.now) (standing (D.state disk.old) Clear)) (λ origin.
             IsTrue D.tells →
             ClearsUnderMark origin (session D.Disk self.old disk.old) (D.state disk.new)) }
         ensures resumes { command_of c.now ≡ Resume → HadEffect result → IsTrue D.tells →
@@ -138,7 +144,8 @@ impl Store {
             IsSome (mark_of (standing (D.state disk.old) Clear)) → IsQuiet (D.state disk.new) }
         ensures flushes { command_of c.now ≡ Flush → HadEffect result →
             Told D.Disk (Flushes self.old.index self.old.moment) disk.old disk.new }
-        ensures rebuilds { self.new.faulting ≡ false → command_of c.now ≡ Rebuild → HadEffect result →
+        ensures rebuilds { self.new.faulting ≡ false → command_of c.now ≡ Rebuild →
+            HadEffect result →
             Told D.Disk (Rebuilds self.new.index.map self.old.moment) disk.old disk.new }
 
         // A `read` makes no call of the disk where all its chunks are held. Afterwards its last one is the most recent. No
@@ -158,6 +165,8 @@ impl Store {
         ensures idle { MakesNoCall (command_of c.now) → disk.new ≡ disk.old }
         ensures looking { self.new.faulting ≡ false → OnlyLooks (command_of c.now) →
             Looks D.Disk (ending result) disk.old disk.new }
+        ensures once { command_of c.now ≡ Resume → IsTrue D.tells →
+            standing (D.state disk.old) Clear ≡ None → LooksOnceAt D.Disk Clear disk.old disk.new }
         ensures unsynced { NeverSyncs (kept self.old.handles) (command_of c.now) →
             Told D.Disk SyncsNothing disk.old disk.new }
         ensures looks { let mark = mark_of (standing (D.state disk.old) Clear) in
@@ -165,12 +174,14 @@ impl Store {
             (λ names. LooksAtNames D.Disk names disk.old disk.new) }
         ensures looks_first { self.new.faulting ≡ false → IsEviction (command_of c.now) →
             LooksBeforeChanges D.Disk (ending result) disk.old disk.new }
-        ensures account { self.new.faulting ≡ false → Accounts D.Disk (ending result) disk.old disk.new }
+        ensures account { self.new.faulting ≡ false →
+            Accounts D.Disk (ending result) disk.old disk.new }
         ensures sink { let failed = IsErrOf result StoreFault.Sink in
             HasCause failed (K.faults sink.old) (K.faults sink.new) }
         ensures fails { let at = cache D.Disk self.old.handles disk.old in
             command_of c.now ≢ Resume → result ≡ Err StoreFault.Disk → IsTrue D.tells →
-            FailsForGood (D.counts disk.new) (command_of c.now) at (K.taken sink.old) (K.taken sink.new) }
+            FailsForGood (D.counts disk.new) (command_of c.now) at
+            (K.taken sink.old) (K.taken sink.new) }
     {
         let answered = self.attempt(alloc, disk, c, sink);
         if self.faulting {

@@ -1,9 +1,9 @@
 //! Does what is left of a clearing that was stopped.
 
-ghost use Rattle.std.specs.Prelude.{◌≡◌, ◌≢◌, Err, false, IfOk, IfSome, IsSome, IsTrue};
+ghost use Rattle.std.specs.Prelude.{◌≡◌, ◌≢◌, Err, false, IfOk, IfSome, IsSome, IsTrue, None};
 ghost use Rattle.cache_store.specs.Clearing.{HasNoMark, LeavesResumed};
 ghost use Rattle.cache_store.specs.Faults.{ending};
-ghost use Rattle.cache_store.specs.IndexCalls.{LooksAtNames, names_resumed};
+ghost use Rattle.cache_store.specs.IndexCalls.{LooksAtNames, LooksOnceAt, names_resumed};
 ghost use Rattle.cache_store.specs.StoppedClearing.{ClearsUnderMark};
 ghost use Rattle.cache_theory.specs.Command.Command.{Resume};
 ghost use Rattle.context_clear.specs.Mark.{mark_of};
@@ -45,7 +45,8 @@ impl Store {
             LeavesResumed mark (session D.Disk self.old disk.old) self.new.index }
         ensures synced { HadEffect result → IsTrue D.tells →
             IsSome (mark_of (standing (D.state disk.old) Clear)) → IsQuiet (D.state disk.new) }
-        ensures stopped { let mark = mark_of (standing (D.state disk.old) Clear) in IfSome mark (λ origin. IsTrue D.tells →
+        ensures stopped { let mark = mark_of (standing (D.state disk.old) Clear) in
+            IfSome mark (λ origin. IsTrue D.tells →
             ClearsUnderMark origin (session D.Disk self.old disk.old) (D.state disk.new)) }
         ensures base { HadEffect result → SameBase self.old.index.map self.new.index.map }
         ensures index { Told D.Disk LeavesIndex disk.old disk.new }
@@ -56,6 +57,8 @@ impl Store {
         ensures held { self.new.reply.held ≡ self.old.reply.held }
         ensures names { let mark = mark_of (standing (D.state disk.old) Clear) in
             LooksAtNames D.Disk (names_resumed mark self.old.index.update) disk.old disk.new }
+        ensures once { IsTrue D.tells → standing (D.state disk.old) Clear ≡ None →
+            LooksOnceAt D.Disk Clear disk.old disk.new }
         ensures ends { self.new.faulting ≡ false }
         ensures account { Accounts D.Disk (ending result) disk.old disk.new }
     {

@@ -30,8 +30,8 @@ pub(crate) fn say_found<K: Sink>(
     reply: &mut Pending,
     sink: &mut K,
 ) -> Result<Verdict, StoreFault>
-    ensures says { let at = saying K.Sink in
-        OnOk result (SaysMore (at reply.old sink.old) (at reply.new sink.new) (findings_text found.now)) }
+    ensures says { let at = saying K.Sink in OnOk result
+        (SaysMore (at reply.old sink.old) (at reply.new sink.new) (findings_text found.now)) }
     ensures cut { let at = saying K.Sink in
         OnErr result (CutsIn (at reply.old sink.old) (K.taken sink.new) (findings_text found.now)) }
     ensures outcome { IfOk result (λ o. o ≡ outcome_of (Findings found.now)) }

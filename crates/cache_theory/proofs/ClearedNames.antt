@@ -9,7 +9,7 @@ use Rattle.std.proofs.lemmas.List.Folds.{list_any-append}
 use Rattle.std.proofs.lemmas.Map.Text.{is_eq-slice_cmp}
 use Rattle.cache_theory.specs.Checks.{checks}
 use Rattle.cache_theory.specs.Cleared.{ResumedLeavesNone}
-use Rattle.cache_theory.specs.Command.Command.{ClearOrigin, Resume}
+use Rattle.cache_theory.specs.Command.Command.{ClearOrigin}
 use Rattle.cache_theory.specs.Covers.{as_table, cleared, covered, covered_open, covered_there, covers, covers_content, covers_object, joined_names, resumed, taken_for}
 use Rattle.cache_theory.specs.Laws.{is_among}
 use Rattle.cache_theory.specs.Machine.{Machine, object}
@@ -19,7 +19,6 @@ use Rattle.cache_theory.proofs.Evicting.{cleared_are_lost, later_some}
 use Rattle.cache_theory.proofs.Names.{same_bytes}
 use Rattle.cache_theory.proofs.Readings.{whole_made}
 use Rattle.cache_theory.proofs.TableLaws.{get-insert}
-use Rattle.context_clear.specs.Mark.{mark_of}
 use Rattle.entry_file.specs.EntryFile.{Reading, file_meta, fits, found, read, read_for, whole_in}
 use Rattle.entry_file.specs.EntryFile.Reading.{Whole, Damaged, Nothing}
 use Rattle.entry_file.specs.Version.{Version}

@@ -1,5 +1,5 @@
 -- The machine's own clearing is that of its names, which the records of a scan tell.
-use Rattle.std.proofs.Common.{◌≡◌, Bool, List, None, Option, Some, if◌then◌else◌, map, ℕ, refl, ap}
+use Rattle.std.proofs.Common.{◌≡◌, Bool, None, Option, Some, if◌then◌else◌, map, ℕ, refl, ap}
 use Rattle.std.specs.Prelude.{is_some}
 use Rattle.cache_base.specs.declared.name.Name.{Name}
 use Rattle.cache_theory.specs.Checks.{checks}

@@ -6,11 +6,11 @@ use Rattle.cache_base.specs.Checks.{first_failing}
 use Rattle.cache_base.specs.declared.name.Name.{Name}
 use Rattle.cache_theory.specs.Checks.{checks, with_alt_data, with_value}
 use Rattle.cache_theory.specs.Command.{Command}
-use Rattle.cache_theory.specs.Command.Command.{Create, OpenKey, Append, Finish, SetElement, UnsetElement, UseEntry, Pin, Unpin, PutAlt, Close, Doom, Evict, EvictNames, ClearOrigin, ClearNames, Resume, ResumeNames}
+use Rattle.cache_theory.specs.Command.Command.{Create, OpenKey, Append, Finish, SetElement, UnsetElement, UseEntry, Pin, Unpin, PutAlt, Close, Doom, Evict, EvictNames, ClearOrigin, ClearNames, Resume, ResumeNames, FinishAs}
 use Rattle.cache_theory.specs.Command.Reply.{Done, NoneThere}
 use Rattle.cache_theory.specs.Covers.{cleared, resumed}
 use Rattle.cache_theory.specs.Machine.{Machine, Object, is_writer, nobody, number_of, object_of, on_shelf, used_by}
-use Rattle.cache_theory.specs.Step.{after, all_doomed, answer, changed, doomed_at, doomed_under, effect, entered, evicted, finished_by, fresh, joined, step, stepped, stored, update_ended, used, with_pin, cleared_of, unmarked}
+use Rattle.cache_theory.specs.Step.{after, all_doomed, answer, changed, doomed_at, doomed_under, effect, entered, evicted, finished_by, fresh, joined, step, stepped, stored, update_ended, used, with_pin, cleared_of, unmarked, finished_as}
 use Rattle.cache_theory.specs.Table.{get}
 use Rattle.cache_theory.specs.declared.refusal.Refusal.{Refusal}
 use Rattle.cache_theory.proofs.Objects.{length_more}
@@ -127,6 +127,8 @@ effect_grows m (Create s key) =
 effect_grows m (OpenKey s key) = joined_grows m s (used_by m key) (on_shelf m key)
 effect_grows m (Append s bytes) = changed_grows m s (λ v. record v { body = v.body ++ bytes })
 effect_grows m (Finish s) = finished_grows m s
+effect_grows m (FinishAs s header elements) =
+    grow_set m.objects (number_of m s) (finished_as header elements (object_of m s)) (doomed_object m.objects (number_of m s))
 effect_grows m (SetElement s key value) = changed_grows m s (with_value key value)
 effect_grows m (UnsetElement s key) =
     cond_both (is_none (element key (object_of m s).version.elements)) (answer m NoneThere)

@@ -64,3 +64,6 @@ pub mod ClearedGone
 pub mod SlotsBefore
 pub mod SparedObjects
 pub mod MarkStays
+pub mod WrittenItems
+pub mod StockedShelf
+pub mod LoadedBack

@@ -5,11 +5,11 @@ use Rattle.cache_base.specs.Checks.{first_failing}
 use Rattle.cache_base.specs.declared.name.Name.{Name}
 use Rattle.cache_theory.specs.Checks.{checks, with_alt_data, with_value}
 use Rattle.cache_theory.specs.Command.{Command}
-use Rattle.cache_theory.specs.Command.Command.{Create, OpenKey, Append, Finish, SetElement, UnsetElement, UseEntry, Pin, Unpin, PutAlt, Close, Doom, Evict, EvictNames, ClearOrigin, ClearNames, Resume, ResumeNames}
+use Rattle.cache_theory.specs.Command.Command.{Create, OpenKey, Append, Finish, SetElement, UnsetElement, UseEntry, Pin, Unpin, PutAlt, Close, Doom, Evict, EvictNames, ClearOrigin, ClearNames, Resume, ResumeNames, FinishAs}
 use Rattle.cache_theory.specs.Command.Reply.{Done, NoneThere}
 use Rattle.cache_theory.specs.Covers.{cleared, resumed}
 use Rattle.cache_theory.specs.Machine.{Machine, Object, has_slots, is_writer, number_of, object_of, on_shelf, used_by}
-use Rattle.cache_theory.specs.Step.{Answer, after, all_doomed, answer, changed, doomed_under, effect, evicted, finished_by, joined, released, step, stepped, stored, update_ended, used, with_pin, with_slot, cleared_of, unmarked}
+use Rattle.cache_theory.specs.Step.{Answer, after, all_doomed, answer, changed, doomed_under, effect, evicted, finished_by, joined, released, step, stepped, stored, update_ended, used, with_pin, with_slot, cleared_of, unmarked, finished_as}
 use Rattle.cache_theory.specs.Table.{Table, IsTable, remove}
 use Rattle.cache_theory.specs.declared.refusal.Refusal.{Refusal}
 use Rattle.cache_theory.proofs.TableLaws.{insert_is_table, remove_is_table}
@@ -72,6 +72,7 @@ effect_table m (Create s key) h = remove_is_table m.shelf (file_name key) h
 effect_table m (OpenKey s key) h = joined_table m s (used_by m key) (on_shelf m key) h
 effect_table m (Append s bytes) h = changed_table m s (λ v. record v { body = v.body ++ bytes }) h
 effect_table m (Finish s) h = finished_table m s h
+effect_table m (FinishAs s header elements) h = stored_table m (number_of m s) (finished_as header elements (object_of m s)) h
 effect_table m (SetElement s name value) h = changed_table m s (with_value name value) h
 effect_table m (UnsetElement s name) h =
     let unset : Version → Version = λ v. record v { elements = without_element name v.elements } in

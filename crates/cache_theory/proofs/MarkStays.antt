@@ -1,5 +1,5 @@
 -- What stands at `clear` is left alone by each command but a clearing, which leaves nothing there.
-use Rattle.std.proofs.Common.{◌≡◌, ◌∙◌, Bool, true, false, List, [], ◌∷◌, None, Option, Some, ℕ, if◌then◌else◌, refl}
+use Rattle.std.proofs.Common.{◌≡◌, ◌∙◌, true, List, [], ◌∷◌, None, Option, Some, ℕ, refl}
 use Rattle.std.specs.Prelude.{is_none, is_some, not, ◌&&◌, ◌||◌}
 use Rattle.std.proofs.lemmas.Bool.{cond_both}
 use Rattle.cache_base.specs.Checks.{first_failing}
@@ -11,7 +11,7 @@ use Rattle.cache_theory.specs.Command.Reply.{Done, NoneThere}
 use Rattle.cache_theory.specs.Covers.{cleared, resumed}
 use Rattle.cache_theory.specs.Laws.{KeepsMark, MarkStays, NoMarkIsLeft}
 use Rattle.cache_theory.specs.Machine.{Machine, has_slots, is_writer, number_of, object_of, on_shelf, used_by}
-use Rattle.cache_theory.specs.Step.{all_doomed, answer, changed, cleared_of, doomed_under, effect, evicted, finished_by, joined, released, step, stepped, stored, unmarked, update_ended, with_slot}
+use Rattle.cache_theory.specs.Step.{all_doomed, answer, changed, cleared_of, doomed_under, effect, evicted, finished_by, joined, released, stepped, stored, unmarked, update_ended, with_slot}
 use Rattle.cache_theory.specs.Table.{remove}
 use Rattle.cache_theory.specs.declared.refusal.Refusal.{Refusal}
 use Rattle.context_clear.specs.Mark.{mark_of}

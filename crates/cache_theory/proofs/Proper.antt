@@ -6,7 +6,7 @@ use Rattle.cache_base.specs.Checks.{first_failing}
 use Rattle.cache_base.proofs.CheckLaws.{AllHold, all_hold}
 use Rattle.cache_theory.specs.Checks.{checks, with_alt_data, with_value}
 use Rattle.cache_theory.specs.Command.{Command}
-use Rattle.cache_theory.specs.Command.Command.{At, Create, OpenKey, Append, Finish, SetElement, UnsetElement, UseEntry, Pin, Unpin, PutAlt, Close, Doom, ListRecords, ListGiven, Evict, EvictNames, ClearOrigin, ClearNames, Resume, ResumeNames, StepUpdate, Verify, VerifyRecords, Rebuild}
+use Rattle.cache_theory.specs.Command.Command.{At, Create, OpenKey, Append, Finish, SetElement, UnsetElement, UseEntry, Pin, Unpin, PutAlt, Close, Doom, ListRecords, ListGiven, Evict, EvictNames, ClearOrigin, ClearNames, Resume, ResumeNames, StepUpdate, Verify, VerifyRecords, Rebuild, FinishAs, Dump}
 use Rattle.cache_theory.specs.Command.Reply.{Done, NoneThere}
 use Rattle.cache_theory.specs.Covers.{cleared, resumed}
 use Rattle.cache_theory.specs.Given.{IsGiven}
@@ -15,11 +15,11 @@ use Rattle.cache_theory.specs.Proper.{IsProper, StaysProper}
 use Rattle.cache_theory.specs.Step.{answer, changed, effect, evicted, stepped, update_ended, used, with_pin, cleared_of, unmarked}
 use Rattle.cache_theory.specs.declared.refusal.Refusal.{Refusal}
 use Rattle.cache_theory.proofs.AltData.{object_with_alt}
-use Rattle.cache_theory.proofs.Changes.{object_is, proper_changed, proper_closed, proper_created, proper_finished, proper_joined}
+use Rattle.cache_theory.proofs.Changes.{object_is, proper_changed, proper_closed, proper_created, proper_finished, proper_finished_as, proper_joined}
 use Rattle.cache_theory.proofs.Dooming.{proper_doomed_under}
 use Rattle.cache_theory.proofs.Rested.{proper_all_doomed, proper_rested, proper_cleared, proper_unmarked}
 use Rattle.cache_theory.proofs.Slotted.{proper_slotted, same_slots}
-use Rattle.cache_theory.proofs.Versions.{object_appended, object_pinned, object_used, object_with, object_without}
+use Rattle.cache_theory.proofs.Versions.{object_appended, object_finished_as, object_pinned, object_used, object_with, object_without}
 use Rattle.entry_name.specs.EntryName.{file_name}
 use Rattle.entry_parts.specs.Elements.{element}
 use Rattle.entry_parts.specs.Setting.{without_element}
@@ -35,6 +35,10 @@ effect_proper m (Append s bytes) given proper hold =
     proper_changed m s (λ v. record v { body = v.body ++ bytes }) proper is refl
     (object_appended (object_of m s) bytes (not-true (object_of m s).finished hold.1.1.0) given.1 hold.1.1.1.0 (object_is m s proper is))
 effect_proper m (Finish s) given proper hold = proper_finished m s proper
+effect_proper m (FinishAs s header elements) given proper hold =
+    let is : is_slot m s ≡ true = hold.0 in
+    proper_finished_as m s header elements proper is
+    (object_finished_as (object_of m s) header elements (not-true (object_of m s).finished hold.1.1.0) given.1 hold.1.1.1.0 (object_is m s proper is))
 effect_proper m (SetElement s name value) given proper hold =
     let is : is_slot m s ≡ true = hold.0 in
     proper_changed m s (with_value name value) proper is refl
@@ -78,6 +82,7 @@ effect_proper m (StepUpdate n) given proper hold = proper_rested m (drop n m.res
 effect_proper m Verify given proper hold = proper_rested m [] proper
 effect_proper m (VerifyRecords records) given proper hold = proper_rested m [] proper
 effect_proper m Rebuild given proper hold = proper_rested m [] proper
+effect_proper m Dump given proper hold = proper_rested m [] proper
 effect_proper m c given proper hold = proper
 
 pub stays_proper : StaysProper

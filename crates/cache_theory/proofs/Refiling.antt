@@ -8,13 +8,13 @@ use Rattle.std.proofs.lemmas.Map.Text.{is_eq-slice_cmp}
 use Rattle.cache_base.proofs.CheckLaws.{AllHold, all_hold}
 use Rattle.cache_theory.specs.Checks.{checks, with_alt_data, with_value}
 use Rattle.cache_theory.specs.Command.{Command}
-use Rattle.cache_theory.specs.Command.Command.{Create, OpenKey, Append, Finish, SetElement, UnsetElement, UseEntry, Pin, Unpin, PutAlt, Close, Doom, ListRecords, ListGiven, Evict, EvictNames, ClearOrigin, ClearNames, Resume, ResumeNames, StepUpdate, Verify, VerifyRecords, Rebuild}
+use Rattle.cache_theory.specs.Command.Command.{Create, OpenKey, Append, Finish, SetElement, UnsetElement, UseEntry, Pin, Unpin, PutAlt, Close, Doom, ListRecords, ListGiven, Evict, EvictNames, ClearOrigin, ClearNames, Resume, ResumeNames, StepUpdate, Verify, VerifyRecords, Rebuild, FinishAs, Dump}
 use Rattle.cache_theory.specs.Command.Reply.{Done, NoneThere}
 use Rattle.cache_theory.specs.Laws.{EntriesHaveRecords}
 use Rattle.cache_theory.specs.Machine.{Machine, Object, has_slots, is_writer, number_of, object, object_of, on_shelf, used_by}
 use Rattle.cache_theory.specs.Proper.{IsProper}
 use Rattle.cache_theory.specs.Refiled.{EntriesAreRefiled, IsOfEntries, IsRefiled, Refiled, refiled, refiled_by}
-use Rattle.cache_theory.specs.Step.{answer, changed, effect, finished_by, fits_there, joined, released, stepped, stored, used, with_pin, with_slot, without}
+use Rattle.cache_theory.specs.Step.{answer, changed, effect, finished_by, fits_there, joined, released, stepped, stored, used, with_pin, with_slot, without, finished_as}
 use Rattle.cache_theory.specs.Table.{Table, get, insert, remove}
 use Rattle.cache_theory.proofs.Names.{get-remove_other, get-remove_same, same_bytes}
 use Rattle.cache_theory.proofs.Objects.{nth, nth-set_same}
@@ -191,6 +191,8 @@ effect_refiled m (Finish s) of proper hold =
     subst (λ b. IsRefiled m (finished_by m s) (refiled_where (finished_by m s) (number_of m s) b))
     (sym (both_hold (is_writer m s) (not (object_of m s).finished) hold.1.0 hold.1.1.0))
     (refiled_finished m s (slot_in_use m proper s hold.0).number)
+effect_refiled m (FinishAs s header elements) of proper hold =
+    refiled_stored m (number_of m s) (finished_as header elements (object_of m s)) (slot_in_use m proper s hold.0).number refl
 effect_refiled m (SetElement s key value) of proper hold =
     refiled_changed m s (with_value key value) (slot_in_use m proper s hold.0).number
 effect_refiled m (UnsetElement s key) of proper hold =
@@ -219,6 +221,7 @@ effect_refiled m (StepUpdate n) of proper hold = absurd of
 effect_refiled m Verify of proper hold = absurd of
 effect_refiled m (VerifyRecords records) of proper hold = absurd of
 effect_refiled m Rebuild of proper hold = absurd of
+effect_refiled m Dump of proper hold = absurd of
 effect_refiled m c of proper hold = (λ q. refl, refl)
 
 pub entries_are_refiled : EntriesAreRefiled

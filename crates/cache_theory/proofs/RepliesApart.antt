@@ -4,7 +4,7 @@ use Rattle.std.proofs.Math.Seq.{take-append-le}
 use Rattle.cache_theory.specs.Command.{Reply, Command}
 use Rattle.cache_theory.specs.declared.refusal.Refusal.{Refusal}
 use Rattle.cache_theory.specs.declared.refusal.Refusal.TheVariants as refused
-use Rattle.cache_theory.specs.Command.Reply.{Done, Refused, NoneThere, Value, Part, Found, AltData, Main, Yes, No, Unknown, Records, Evicted, Cleared, Resumed, Ready, Updating, Findings, Rebuilt}
+use Rattle.cache_theory.specs.Command.Reply.{Done, Refused, NoneThere, Value, Part, Found, AltData, Main, Yes, No, Unknown, Records, Evicted, Cleared, Resumed, Ready, Updating, Findings, Rebuilt, Dumped}
 use Rattle.cache_theory.specs.Faulted.{NoReplyIsFault, fault_line}
 use Rattle.cache_theory.specs.Text.{found_line, line, reply_text, refusal_words, IsSpoken}
 use Rattle.cache_theory.proofs.TextsApart.{Differ}
@@ -65,6 +65,7 @@ reply_differs Ready some = first_differs 114 102 _ _ (λ e. omega (arith, e))
 reply_differs (Updating names) some = first_differs 117 102 _ _ (λ e. omega (arith, e))
 reply_differs (Findings findings) some = second_differs 102 105 97 _ _ (λ e. omega (arith, e))
 reply_differs (Rebuilt records) some = first_differs 114 102 _ _ (λ e. omega (arith, e))
+reply_differs (Dumped versions) some = first_differs 67 102 _ _ (λ e. omega (arith, e))
 
 -- a command whose reply is printed has another reply
 found_spoken : (r : Reading) → found_reply r ≢ Resumed

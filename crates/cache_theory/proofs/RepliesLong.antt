@@ -2,13 +2,14 @@
 use Rattle.std.proofs.Common.{ℕ, ◌<◌, List, [], ◌∷◌, ◌++◌, codes, decimal, flat_map, length, arith, length-append, refl}
 use Rattle.cache_base.specs.declared.name.Name.{Name}
 use Rattle.cache_check.specs.declared.finding.Finding.{Finding}
-use Rattle.cache_theory.specs.Command.Reply.{Done, Refused, NoneThere, Value, Part, Found, AltData, Main, Yes, No, Unknown, Records, Evicted, Cleared, Resumed, Ready, Updating, Findings, Rebuilt}
+use Rattle.cache_theory.specs.Command.Reply.{Done, Refused, NoneThere, Value, Part, Found, AltData, Main, Yes, No, Unknown, Records, Evicted, Cleared, Resumed, Ready, Updating, Findings, Rebuilt, Dumped}
 use Rattle.cache_theory.specs.Text.{ReplyIsNotEmpty, finding_words, found_line, line, record_words, refusal_words, reply_text, version_text, with_bytes, with_number}
 use Rattle.entry_file.specs.Version.{Version, version_meta}
 use Rattle.entry_metadata.specs.Metadata.{Meta}
 use Rattle.entry_parts.specs.Elements.{elements_bytes}
 use Rattle.hex.specs.Hex.{encode_upper}
 use Rattle.index_record.specs.declared.record.IndexRecord.{IndexRecord}
+use Rattle.cache_export.specs.Dump.{head, item_bytes}
 
 line_long : (words : List (List ℕ)) → 0 < length (line words)
 line_long words = end_long _
@@ -72,3 +73,4 @@ replies_are_not_empty (Findings findings) some =
     (flat_map (λ (f : Finding). line (finding_words f)) findings)
     (number_long (codes "findings") (length findings))
 replies_are_not_empty (Rebuilt records) some = number_long (codes "rebuilt") records
+replies_are_not_empty (Dumped versions) some = longer head (flat_map item_bytes versions ++ 0 ∷ []) (omega arith)

@@ -7,7 +7,7 @@ use Rattle.cache_base.specs.Checks.{first_failing}
 use Rattle.cache_base.specs.declared.name.Name.{Name}
 use Rattle.cache_theory.specs.Checks.{checks}
 use Rattle.cache_theory.specs.Command.{Command}
-use Rattle.cache_theory.specs.Command.Command.{Create, Doom, ListRecords, ListGiven, Evict, EvictNames, ClearOrigin, ClearNames, Resume, ResumeNames, StepUpdate, Verify, VerifyRecords, Rebuild}
+use Rattle.cache_theory.specs.Command.Command.{Create, Doom, ListRecords, ListGiven, Evict, EvictNames, ClearOrigin, ClearNames, Resume, ResumeNames, StepUpdate, Verify, VerifyRecords, Rebuild, Dump}
 use Rattle.cache_theory.specs.Covers.{cleared, resumed}
 use Rattle.cache_theory.specs.Laws.{AreLost, is_among}
 use Rattle.cache_theory.specs.Machine.{Machine, Object, object}
@@ -106,6 +106,7 @@ passed m (ResumeNames names) name proper passes =
     lost m (ResumeNames names) (effect m (ResumeNames names)).next name names (cleared_are_lost m names)
 passed m (StepUpdate n) name proper passes = Stays refl
 passed m Verify name proper passes = Stays refl
+passed m Dump name proper passes = Stays refl
 passed m (VerifyRecords records) name proper passes = Stays refl
 passed m Rebuild name proper passes = Stays refl
 passed m c name proper passes = entries_passed m c name tt proper passes

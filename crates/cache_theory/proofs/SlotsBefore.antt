@@ -9,7 +9,7 @@ use Rattle.cache_base.specs.declared.name.Name.{Name}
 use Rattle.cache_base.proofs.CheckLaws.{AllHold, all_hold}
 use Rattle.cache_theory.specs.Checks.{checks}
 use Rattle.cache_theory.specs.Command.{Command}
-use Rattle.cache_theory.specs.Command.Command.{Create, OpenKey, Finish, SetElement, UnsetElement, UseEntry, Pin, Unpin, PutAlt, Close, Evict, EvictNames, ClearOrigin, ClearNames, Resume, ResumeNames, Flush}
+use Rattle.cache_theory.specs.Command.Command.{Create, OpenKey, Finish, SetElement, UnsetElement, UseEntry, Pin, Unpin, PutAlt, Close, Evict, EvictNames, ClearOrigin, ClearNames, Resume, ResumeNames, Flush, FinishAs}
 use Rattle.cache_theory.specs.Command.Reply.{Done, NoneThere}
 use Rattle.cache_theory.specs.Covers.{cleared, resumed}
 use Rattle.cache_theory.specs.Given.{IsGiven}
@@ -127,6 +127,7 @@ written_number m s i proper is b writes =
 written_held : (m : Machine) (c : Command) (i : ℕ) → IsProper m → AllHold (checks m c) → rewritten m c ≡ Some i → HasSlot m.slots i
 unfolding checks
 written_held m (Finish s) i proper hold writes = written_number m s i proper hold.0 true writes
+written_held m (FinishAs s header elements) i proper hold writes = written_number m s i proper hold.0 true writes
 written_held m (SetElement s key value) i proper hold writes = written_number m s i proper hold.0 (object_of m s).finished writes
 written_held m (UnsetElement s key) i proper hold writes =
     written_number m s i proper hold.0 ((object_of m s).finished && is_some (element key (object_of m s).version.elements)) writes

@@ -10,13 +10,13 @@ use Rattle.cache_base.specs.declared.name.Name.{Name}
 use Rattle.cache_base.proofs.CheckLaws.{AllHold, all_hold}
 use Rattle.cache_theory.specs.Checks.{checks, with_alt_data, with_value}
 use Rattle.cache_theory.specs.Command.{Command}
-use Rattle.cache_theory.specs.Command.Command.{Create, OpenKey, Append, Finish, SetElement, UnsetElement, UseEntry, Pin, Unpin, PutAlt, Close, Doom, Evict, EvictNames, ClearOrigin, ClearNames, Resume, ResumeNames}
+use Rattle.cache_theory.specs.Command.Command.{Create, OpenKey, Append, Finish, SetElement, UnsetElement, UseEntry, Pin, Unpin, PutAlt, Close, Doom, Evict, EvictNames, ClearOrigin, ClearNames, Resume, ResumeNames, FinishAs}
 use Rattle.cache_theory.specs.Command.Reply.{Done, NoneThere}
 use Rattle.cache_theory.specs.Covers.{cleared, resumed}
 use Rattle.cache_theory.specs.Laws.{ChangesAreTouched}
 use Rattle.cache_theory.specs.Machine.{Machine, Object, has_slots, is_writer, number_of, object, object_of, on_shelf, used_by}
 use Rattle.cache_theory.specs.Marks.{name_of_some, touches}
-use Rattle.cache_theory.specs.Step.{all_doomed, answer, changed, doomed_under, effect, evicted, finished_by, joined, released, stepped, stored, update_ended, used, with_pin, with_slot, cleared_of, unmarked}
+use Rattle.cache_theory.specs.Step.{all_doomed, answer, changed, doomed_under, effect, evicted, finished_by, joined, released, stepped, stored, update_ended, used, with_pin, with_slot, cleared_of, unmarked, finished_as}
 use Rattle.cache_theory.specs.Table.{get, insert, remove}
 use Rattle.cache_theory.specs.declared.refusal.Refusal.{Refusal}
 use Rattle.cache_theory.proofs.Names.{get-insert_other, get-remove_other}
@@ -159,6 +159,9 @@ effect_stays m (Finish s) name hold none =
     stays_finished m s name
     (subst (λ b. IsNone name (name_of_some m (cond b (Some (number_of m s)) None)))
     (sym (both_hold (is_writer m s) (not (object_of m s).finished) hold.1.0 hold.1.1.0)) none)
+effect_stays m (FinishAs s header elements) name hold none =
+    stays_stored m (number_of m s) (finished_as header elements (object_of m s)) name
+    (λ done undoomed. not_rewritten m (number_of m s) name true none refl undoomed)
 effect_stays m (SetElement s key value) name hold none =
     stays_changed m s (with_value key value) name refl none
 effect_stays m (UnsetElement s key) name hold none =

@@ -7,10 +7,10 @@ use Rattle.std.proofs.lemmas.List.FromFn.{length-map-range_with_len}
 use Rattle.cache_base.specs.Bytes.{AreBytes}
 use Rattle.cache_base.specs.Limits.{chunks}
 use Rattle.cache_base.specs.declared.limits.TheConstants.{BLOCK_MAX, BODY_MAX, ELEMENTS_MAX}
-use Rattle.cache_theory.specs.Checks.{good_element, small_parts, with_value}
+use Rattle.cache_theory.specs.Checks.{good_element, small_block, small_parts, with_parts, with_value}
 use Rattle.cache_theory.specs.Machine.{Object}
 use Rattle.cache_theory.specs.Proper.{IsDraft, IsObject}
-use Rattle.cache_theory.specs.Step.{fresh, used, with_pin}
+use Rattle.cache_theory.specs.Step.{finished_as, fresh, used, with_pin}
 use Rattle.cache_theory.proofs.Elements.{bytes_with, bytes_without, elements_with, elements_without, without_no_longer}
 use Rattle.cache_theory.proofs.FileBytes.{bytes-append}
 use Rattle.chunk_store.specs.Chunks.{chunk, chunk_hashes}
@@ -272,6 +272,40 @@ version_pinned pinned v h =
 
 pub object_finished : (o : Object) → o.finished ≡ false → IsObject o → IsObject (record o { finished = true })
 object_finished o un h = record { draft = λ no. absurd (cc); version = λ done. draft_finished o.version (h.draft un) }
+
+-- with a header and elements that are given
+version_finished_as : (header : Header) (elements : List Element) (v : Version) → IsHeader header → AreElements elements → AreBytes (elements_bytes elements)
+    → (small_block (with_parts header elements v)).0 ≡ true → IsDraft v → IsVersion (with_parts header elements v)
+version_finished_as header elements v is are bytes room d =
+    let key = is_key v.key d.key in
+    let count = length_hashes_of v.body in
+    let short = key.short in
+    let bounded = d.short in
+    let small = leb-true (block_length (chunks (length v.body)) (length v.key) (length (elements_bytes elements))) BLOCK_MAX room in
+    record {
+      meta = is_meta (version_meta (with_parts header elements v))
+          (record {
+            version = omega arith;
+            fetch_count = is.fetch_count;
+            last_fetched = is.last_fetched;
+            last_modified = is.last_modified;
+            frecency = is.frecency;
+            expiration = is.expiration;
+            key_size = omega (arith, short);
+            flags = is.flags;
+          })
+          refl refl key.grammar (record { hashes = hash_words v.body 0 (chunks (length v.body)); key = d.key_bytes; elements = bytes }) are count
+          (omega (arith, bounded)) (omega (arith, small, count));
+      body = d.body;
+    }
+
+pub object_finished_as : (o : Object) (header : Header) (elements : List Element) → o.finished ≡ false
+    → IsHeader header × (AreElements elements × AreBytes (elements_bytes elements)) → (small_block (with_parts header elements o.version)).0 ≡ true
+    → IsObject o → IsObject (finished_as header elements o)
+object_finished_as o header elements un is room h = record {
+  draft = λ no. absurd (cc);
+  version = λ done. version_finished_as header elements o.version is.0 is.1.0 is.1.1 room (h.draft un);
+}
 
 pub object_appended : (o : Object) (bytes : List ℕ) → o.finished ≡ false → AreBytes bytes → nat_le (length o.version.body + length bytes) BODY_MAX ≡ true → IsObject o
     → IsObject (record o { version = record o.version { body = o.version.body ++ bytes } })

@@ -9,12 +9,12 @@ use Rattle.cache_base.specs.Checks.{first_failing}
 use Rattle.cache_base.specs.declared.name.Name.{Name}
 use Rattle.cache_theory.specs.Checks.{checks, with_alt_data, with_value}
 use Rattle.cache_theory.specs.Command.{Command}
-use Rattle.cache_theory.specs.Command.Command.{Create, OpenKey, Append, Finish, SetElement, UnsetElement, UseEntry, Pin, Unpin, PutAlt, Close, Doom, ListRecords, ListGiven, Evict, EvictNames, ClearOrigin, ClearNames, Resume, ResumeNames, StepUpdate, Verify, VerifyRecords, Rebuild}
+use Rattle.cache_theory.specs.Command.Command.{Create, OpenKey, Append, Finish, SetElement, UnsetElement, UseEntry, Pin, Unpin, PutAlt, Close, Doom, ListRecords, ListGiven, Evict, EvictNames, ClearOrigin, ClearNames, Resume, ResumeNames, StepUpdate, Verify, VerifyRecords, Rebuild, FinishAs, Dump}
 use Rattle.cache_theory.specs.Command.Reply.{Done, NoneThere}
 use Rattle.cache_theory.specs.Covers.{cleared, resumed}
 use Rattle.cache_theory.specs.Laws.{ChangesLeaveRest, IsUnread}
 use Rattle.cache_theory.specs.Machine.{Machine, Object, has_slots, is_writer, number_of, object_of, on_shelf, used_by, waits_for}
-use Rattle.cache_theory.specs.Step.{all_doomed, answer, changed, doomed_under, effect, evicted, finished_by, joined, released, stepped, stored, update_ended, used, with_pin, with_slot, without, cleared_of, unmarked}
+use Rattle.cache_theory.specs.Step.{all_doomed, answer, changed, doomed_under, effect, evicted, finished_by, joined, released, stepped, stored, update_ended, used, with_pin, with_slot, without, cleared_of, unmarked, finished_as}
 use Rattle.cache_theory.specs.Table.{get, insert, remove}
 use Rattle.cache_theory.specs.declared.refusal.Refusal.{Refusal}
 use Rattle.cache_theory.proofs.Names.{get-insert_other, get-remove_other, same_bytes}
@@ -169,6 +169,8 @@ effect_keeps m (OpenKey s key) name = keeps_joined m s (used_by m key) (on_shelf
 effect_keeps m (Append s bytes) name =
     keeps_changed m s (λ v. record v { body = v.body ++ bytes }) name
 effect_keeps m (Finish s) name = keeps_finished m s name
+effect_keeps m (FinishAs s header elements) name =
+    keeps_stored m (number_of m s) (finished_as header elements (object_of m s)) name
 effect_keeps m (SetElement s key value) name = keeps_changed m s (with_value key value) name
 effect_keeps m (UnsetElement s key) name =
     keeps_unset m s key name (is_none (element key (object_of m s).version.elements))
@@ -197,6 +199,7 @@ effect_keeps m (StepUpdate n) name = λ waits. record {
 effect_keeps m Verify name = λ waits. absurd (cc)
 effect_keeps m (VerifyRecords records) name = λ waits. absurd (cc)
 effect_keeps m Rebuild name = λ waits. absurd (cc)
+effect_keeps m Dump name = λ waits. absurd (cc)
 effect_keeps m c name = keeps_same m _ name refl refl
 
 pub changes_leave_rest : ChangesLeaveRest

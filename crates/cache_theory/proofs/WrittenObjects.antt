@@ -6,12 +6,12 @@ use Rattle.cache_base.specs.Checks.{first_failing}
 use Rattle.cache_base.proofs.CheckLaws.{AllHold, all_hold}
 use Rattle.cache_theory.specs.Checks.{checks, with_alt_data, with_value}
 use Rattle.cache_theory.specs.Command.{Command}
-use Rattle.cache_theory.specs.Command.Command.{Finish, SetElement, UnsetElement, UseEntry, Pin, Unpin, PutAlt, Close}
+use Rattle.cache_theory.specs.Command.Command.{Finish, SetElement, UnsetElement, UseEntry, Pin, Unpin, PutAlt, Close, FinishAs}
 use Rattle.cache_theory.specs.Command.Reply.{Done, NoneThere}
 use Rattle.cache_theory.specs.Machine.{Machine, Object, is_writer, number_of, object, object_of}
 use Rattle.cache_theory.specs.Marks.{rewritten}
 use Rattle.cache_theory.specs.Proper.{IsProper}
-use Rattle.cache_theory.specs.Step.{answer, changed, effect, finished_by, stored, used, with_pin}
+use Rattle.cache_theory.specs.Step.{answer, changed, effect, finished_by, stored, used, with_pin, finished_as}
 use Rattle.cache_theory.proofs.Refiling.{is_released}
 use Rattle.cache_theory.proofs.Objects.{nth, nth-set_same}
 use Rattle.cache_theory.proofs.Users.{same_number, slot_in_use}
@@ -67,6 +67,8 @@ unfolding checks effect
 effect_done m (Finish s) i proper hold writes =
     finished_by_writer m s i (slot_in_use m proper s hold.0).number
     (ap (λ b. cond b (Some (number_of m s)) None) (and_from (is_writer m s) (not (object_of m s).finished) hold.1.0 hold.1.1.0) ∙ writes)
+effect_done m (FinishAs s header elements) i proper hold writes =
+    finished_stored m (number_of m s) i (finished_as header elements (object_of m s)) (slot_in_use m proper s hold.0).number refl writes
 effect_done m (SetElement s key value) i proper hold writes =
     finished_changed m s i (with_value key value) (slot_in_use m proper s hold.0).number writes
 effect_done m (UnsetElement s key) i proper hold writes =

@@ -4,7 +4,7 @@ use Rattle.alt_data.specs.AltData.{Alt, alt_of, is_kind, with_alt}
 use Rattle.cache_base.specs.Limits.{chunks}
 use Rattle.cache_base.specs.declared.limits.TheConstants.{BLOCK_MAX, BODY_MAX, ELEMENTS_MAX}
 use Rattle.cache_theory.specs.Command.{Command}
-use Rattle.cache_theory.specs.Command.Command.{Create, OpenKey, Append, Finish, SetElement, UnsetElement, ElementOf, UseEntry, Pin, Unpin, PutAlt, ReadPart, Close, Doom, Get, GetAlt, MainBody, HasEntry, HasGiven}
+use Rattle.cache_theory.specs.Command.Command.{Create, OpenKey, Append, Finish, FinishAs, SetElement, UnsetElement, ElementOf, UseEntry, Pin, Unpin, PutAlt, ReadPart, Close, Doom, Get, GetAlt, MainBody, HasEntry, HasGiven}
 use Rattle.cache_theory.specs.Machine.{Machine, is_entry, is_slot, is_writer, object, object_of, on_shelf, used_by}
 use Rattle.cache_theory.specs.declared.refusal.Refusal.{Refusal}
 use Rattle.cache_theory.specs.declared.refusal.Refusal.TheVariants as refused
@@ -13,28 +13,35 @@ use Rattle.entry_file.specs.EntryFile.Reading.{Whole, Damaged, Nothing}
 use Rattle.entry_file.specs.Version.{Version}
 use Rattle.entry_key.specs.Writing.{may_write}
 use Rattle.entry_metadata.specs.Metadata.{block_length}
-use Rattle.entry_parts.specs.Elements.{element, elements_bytes}
+use Rattle.entry_parts.specs.Elements.{Element, element, elements_bytes}
 use Rattle.entry_parts.specs.Setting.{has_zero, with_element}
+use Rattle.entry_parts.specs.declared.header.Header.{Header}
 
 -- a check: it holds, or the command is refused so
 abbrev pub Check : Type 0
 Check = Bool × Refusal
 
+-- the slot is free
 abbrev pub slot_free : Machine → ℕ → Check
 slot_free m s = (not (is_slot m s), refused.SlotTaken)
 
+-- the slot is in use
 abbrev pub slot_used : Machine → ℕ → Check
 slot_used m s = (is_slot m s, refused.NoSlot)
 
+-- an entry may be written under this key
 abbrev pub good_key : List ℕ → Check
 good_key key = (may_write key, refused.BadKey)
 
+-- the slot is its object's writer
 abbrev pub writer : Machine → ℕ → Check
 writer m s = (is_writer m s, refused.NotWriter)
 
+-- the entry of the slot is not finished
 abbrev pub unfinished : Machine → ℕ → Check
 unfinished m s = (not (object_of m s).finished, refused.Finished)
 
+-- the entry of the slot is finished
 abbrev pub finished : Machine → ℕ → Check
 finished m s = ((object_of m s).finished, refused.Unfinished)
 
@@ -95,6 +102,17 @@ has_alt (Whole v) = (is_some (alt_in_version v), refused.NoAlt)
 has_alt (Damaged d) = (true, refused.NoAlt)
 has_alt Nothing = (true, refused.NoAlt)
 
+-- the version with this header and these elements, as one that is written: in version 3 of the format, and with its key's length
+abbrev pub with_parts : Header → List Element → Version → Version
+with_parts header elements v = record v { header = record header { version = 3; key_size = length v.key }; elements = elements }
+
+-- the block of a version is not too large
+abbrev pub small_block : Version → Check
+small_block v = (
+  nat_le (block_length (chunks (length v.body)) (length v.key) (length (elements_bytes v.elements))) BLOCK_MAX,
+  refused.TooLarge,
+)
+
 -- the elements of a version, and its block, are not too large
 abbrev pub small_parts : Version → Check
 small_parts v = (
@@ -103,11 +121,14 @@ small_parts v = (
   refused.TooLarge,
 )
 
+-- the checks of each command
 unfoldable pub checks : Machine → Command → List Check
 checks m (Create s key) = slot_free m s ∷ good_key key ∷ []
 checks m (OpenKey s key) = slot_free m s ∷ good_key key ∷ there m key ∷ unless_used (used_by m key) (undamaged (on_shelf m key)) ∷ []
 checks m (Append s bytes) = slot_used m s ∷ writer m s ∷ unfinished m s ∷ room_for m s (length bytes) ∷ []
 checks m (Finish s) = slot_used m s ∷ writer m s ∷ unfinished m s ∷ []
+checks m (FinishAs s header elements) =
+    slot_used m s ∷ writer m s ∷ unfinished m s ∷ small_block (with_parts header elements (object_of m s).version) ∷ []
 checks m (SetElement s name value) = slot_used m s ∷ may_set m s ∷ good_element name value ∷ small_parts (with_value name value (object_of m s).version) ∷ []
 checks m (UnsetElement s name) = slot_used m s ∷ may_set m s ∷ []
 checks m (ElementOf s name) = slot_used m s ∷ []

@@ -5,14 +5,19 @@ use Rattle.cache_base.specs.declared.name.Name.{Name}
 use Rattle.cache_check.specs.declared.finding.Finding.{Finding}
 use Rattle.cache_theory.specs.declared.refusal.Refusal.{Refusal}
 use Rattle.entry_file.specs.Version.{Version}
+use Rattle.entry_parts.specs.Elements.{Element}
+use Rattle.entry_parts.specs.declared.header.Header.{Header}
 use Rattle.index_record.specs.declared.record.IndexRecord.{IndexRecord}
 
+-- what the machine is asked to do
 pub data Command : Type 0 where
   At : (now : ℕ) → Command
   Create : (slot : ℕ) (key : List ℕ) → Command
   OpenKey : (slot : ℕ) (key : List ℕ) → Command
   Append : (slot : ℕ) (bytes : List ℕ) → Command
   Finish : (slot : ℕ) → Command
+  -- the same with this header and these elements in place of its own; no script spells it
+  FinishAs : (slot : ℕ) (header : Header) (elements : List Element) → Command
   SetElement : (slot : ℕ) (name value : List ℕ) → Command
   UnsetElement : (slot : ℕ) (name : List ℕ) → Command
   ElementOf : (slot : ℕ) (name : List ℕ) → Command
@@ -52,7 +57,10 @@ pub data Command : Type 0 where
   -- a check against these records, whatever the files say; no script spells it
   VerifyRecords : (records : List IndexRecord) → Command
   Rebuild : Command
+  -- all entries as one stream; no script spells it
+  Dump : Command
 
+-- what it answers
 pub data Reply : Type 0 where
   Done : Reply
   Refused : (refusal : Refusal) → Reply
@@ -87,3 +95,5 @@ pub data Reply : Type 0 where
   Findings : (findings : List Finding) → Reply
   -- the index is written anew, with so many records
   Rebuilt : (records : ℕ) → Reply
+  -- the entries of a dump
+  Dumped : (versions : List Version) → Reply

@@ -56,6 +56,7 @@ covered_by records m origin = joined_names (covered_open m origin) (covered_reco
 unfoldable pub cleared : Machine → List ℕ → List Name
 cleared m origin = covered m (value_hash origin)
 
+-- the same, where these records stand for the shelf
 unfoldable pub cleared_by : List IndexRecord → Machine → List ℕ → List Name
 cleared_by records m origin = covered_by records m (value_hash origin)
 
@@ -64,6 +65,7 @@ abbrev pub taken_for : Machine → Option ℕ → List Name
 taken_for m None = []
 taken_for m (Some origin) = covered m origin
 
+-- what a `Resume` takes
 unfoldable pub resumed : Machine → List Name
 resumed m = taken_for m (mark_of m.mark)
 
@@ -72,5 +74,6 @@ abbrev pub taken_for_by : List IndexRecord → Machine → Option ℕ → List N
 taken_for_by records m None = []
 taken_for_by records m (Some origin) = covered_by records m origin
 
+-- what a `Resume` takes then
 unfoldable pub resumed_by : List IndexRecord → Machine → List Name
 resumed_by records m = taken_for_by records m (mark_of m.mark)

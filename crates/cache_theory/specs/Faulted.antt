@@ -43,9 +43,11 @@ replies_from n faults m (c ∷ cs) =
 
 -- From the first command on.
 
+-- the commands but for those with these numbers
 abbrev pub unfaulted : List ℕ → List Command → List Command
 unfaulted faults cs = unfaulted_from 1 faults cs
 
+-- what is printed for the commands, with the line for each of those
 abbrev pub replies_but : Machine → List Command → List ℕ → List ℕ
 replies_but m cs faults = replies_from 1 faults m cs
 
@@ -56,6 +58,7 @@ pub record Faulted : Type 0 where
   pub answered : ℕ
   pub faults : List ℕ
 
+-- none is answered
 abbrev pub none_answered : Faulted
 none_answered = record { answered = 0; faults = [] }
 
@@ -81,6 +84,7 @@ faulted_from n m (c ∷ cs) bytes =
     else if begins_with reply bytes then reply_before (faulted_from (suc n) (step m c).next cs (drop (length reply) bytes))
     else none_answered
 
+-- the bytes are read against all commands
 abbrev pub faulted : Machine → List Command → List ℕ → Faulted
 faulted m cs bytes = faulted_from 1 m cs bytes
 
@@ -110,23 +114,26 @@ FaultedIsTold = (m : Machine) (cs : List Command) (p : ℕ) (faults x : List ℕ
     → AreSpoken cs → p ≤ length cs → AreFaults p faults → MayFollow m cs p faults x
     → faulted m cs (replies_but m (take p cs) faults ++ x) ≡ record { answered = p; faults = faults }
 
--- So it is of the answers to all commands, whatever follows them; of those to the first; and where the answer to the next
--- one was cut, be it its reply or the line.
+-- So it is where this went out.
 
+-- the answers to all commands, whatever follows them
 abbrev pub WholeIsTold : Type 0
 WholeIsTold = (m : Machine) (cs : List Command) (faults x : List ℕ) → AreSpoken cs → AreFaults (length cs) faults
     → faulted m cs (replies_but m cs faults ++ x) ≡ record { answered = length cs; faults = faults }
 
+-- the answers to the first commands
 abbrev pub FrontIsTold : Type 0
 FrontIsTold = (m : Machine) (cs more : List Command) (faults : List ℕ) → AreSpoken (cs ++ more) → AreFaults (length cs) faults
     → faulted m (cs ++ more) (replies_but m cs faults) ≡ record { answered = length cs; faults = faults }
 
+-- these, and a part of the reply to the next one
 abbrev pub CutIsTold : Type 0
 CutIsTold = (m : Machine) (cs more : List Command) (c : Command) (faults : List ℕ) (n : ℕ) → AreSpoken (cs ++ c ∷ more) → AreFaults (length cs) faults
     → let text = reply_text (step (after m (unfaulted faults cs)) c).reply in
     n < length text
     → faulted m (cs ++ c ∷ more) (replies_but m cs faults ++ take n text) ≡ record { answered = length cs; faults = faults }
 
+-- these, and a part of the line
 abbrev pub FaultCutIsTold : Type 0
 FaultCutIsTold = (m : Machine) (cs more : List Command) (c : Command) (faults : List ℕ) (n : ℕ) → AreSpoken (cs ++ c ∷ more) → AreFaults (length cs) faults
     → n < length fault_line
@@ -142,6 +149,7 @@ pub record IsRead (m : Machine) (cs : List Command) (bytes : List ℕ) (r : Faul
   pub ends : (c : Command) → slice_get cs r.answered ≡ Some c
       → (begins_with fault_line left ≡ false) × (begins_with (reply_behind m cs r.answered r.faults c) left ≡ false)
 
+-- so it is with what is read of any bytes
 abbrev pub FaultedIsRead : Type 0
 FaultedIsRead = (m : Machine) (cs : List Command) (bytes : List ℕ) → IsRead m cs bytes (faulted m cs bytes)
 
@@ -169,6 +177,7 @@ pub record FaultsNext (m : Machine) (cs : List Command) (c : Command) (faults : 
   pub replies : replies_but m (cs ++ c ∷ []) (with_next (length cs) faults) ≡ replies_but m cs faults ++ fault_line
   pub kept : unfaulted (with_next (length cs) faults) (cs ++ c ∷ []) ≡ unfaulted faults cs
 
+-- so it may be with any command behind any others
 abbrev pub NextMayFault : Type 0
 NextMayFault = (m : Machine) (cs : List Command) (c : Command) (faults : List ℕ) → AreFaults (length cs) faults → FaultsNext m cs c faults
 

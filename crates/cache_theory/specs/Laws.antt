@@ -116,6 +116,7 @@ abbrev pub main_reply_by : Reply → Reply
 main_reply_by (Found v) = main_reply_of v
 main_reply_by r = r
 
+-- the two are answered so
 abbrev pub AltIsOfGet : Type 0
 AltIsOfGet = (m : Machine) (key : List ℕ)
     → ((step m (GetAlt key)).reply ≡ alt_reply_by (step m (Get key)).reply)
@@ -151,6 +152,7 @@ KeepsMark Resume = ⊥
 KeepsMark (ResumeNames names) = ⊥
 KeepsMark _ = ⊤
 
+-- so it does in each state of the machine
 abbrev pub MarkStays : Type 0
 MarkStays = (m : Machine) (c : Command) → KeepsMark c → (step m c).next.mark ≡ m.mark
 
@@ -158,6 +160,7 @@ MarkStays = (m : Machine) (c : Command) → KeepsMark c → (step m c).next.mark
 abbrev pub NoMarkIsLeft : Type 0
 NoMarkIsLeft = (m : Machine) (c : Command) → (KeepsMark c → ⊥) → (step m c).next.mark ≡ None
 
+-- the names of the clearing that is resumed are those that the records of a scan tell
 abbrev pub ResumeGoesByScan : Type 0
 ResumeGoesByScan = (m : Machine) → resumed m ≡ resumed_by (scan m.shelf) m
 

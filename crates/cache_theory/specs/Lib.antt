@@ -19,3 +19,4 @@ pub mod Covers
 pub mod Keeps
 pub mod Wording
 pub mod Cleared
+pub mod Loading

@@ -6,7 +6,7 @@ use Rattle.std.specs.Str.{bytes_eq}
 use Rattle.cache_base.specs.Checks.{first_failing}
 use Rattle.cache_theory.specs.Checks.{checks}
 use Rattle.cache_theory.specs.Command.{Command}
-use Rattle.cache_theory.specs.Command.Command.{Create, Append, Finish, SetElement, UnsetElement, UseEntry, Pin, Unpin, PutAlt, Close, Doom, Evict, EvictNames, ClearOrigin, ClearNames, Resume, ResumeNames, Flush}
+use Rattle.cache_theory.specs.Command.Command.{Create, Append, Finish, FinishAs, SetElement, UnsetElement, UseEntry, Pin, Unpin, PutAlt, Close, Doom, Evict, EvictNames, ClearOrigin, ClearNames, Resume, ResumeNames, Flush}
 use Rattle.cache_theory.specs.Covers.{cleared, resumed}
 use Rattle.cache_theory.specs.Machine.{Machine, Object, is_writer, number_of, object, object_of}
 use Rattle.cache_theory.specs.Step.{effect, evicted, step}
@@ -22,6 +22,7 @@ pub record Written : Type 0 where
   pub name : List ℕ
   pub version : Version
 
+-- what promises about a stop go by
 pub record Marks : Type 0 where
   -- the machine at the last acknowledged flush or clearing, or at the opening
   pub marked : Machine
@@ -43,6 +44,7 @@ is_buried w i = unwrap_or (option_map (λ o. o.doomed) (slice_get w.marked.objec
 -- the number of the object whose file a command finishes or rewrites
 abbrev pub rewritten : Machine → Command → Option ℕ
 rewritten m (Finish s) = Some (number_of m s)
+rewritten m (FinishAs s header elements) = Some (number_of m s)
 rewritten m (SetElement s name value) = if (object_of m s).finished then Some (number_of m s) else None
 rewritten m (UnsetElement s name) = if (object_of m s).finished && is_some (element name (object_of m s).version.elements) then Some (number_of m s) else None
 rewritten m (UseEntry s) = if (object_of m s).finished then Some (number_of m s) else None
@@ -66,6 +68,7 @@ rewritten_in_place m _ = None
 abbrev pub undoomed_name : Object → List (List ℕ)
 undoomed_name o = if o.doomed then [] else file_name o.version.key ∷ []
 
+-- so of the object of this number, if there is one
 abbrev pub name_of_some : Machine → Option ℕ → List (List ℕ)
 name_of_some m None = []
 name_of_some m (Some i) = undoomed_name (object m i)
@@ -82,6 +85,7 @@ touches m Resume = map (λ name. name.0) (resumed m)
 touches m (ResumeNames names) = map (λ name. name.0) names
 touches m (Append s bytes) = undoomed_name (object_of m s)
 touches m (Finish s) = name_of_some m (rewritten m (Finish s))
+touches m (FinishAs s header elements) = name_of_some m (rewritten m (FinishAs s header elements))
 touches m (SetElement s name value) = name_of_some m (rewritten m (SetElement s name value))
 touches m (UnsetElement s name) = name_of_some m (rewritten m (UnsetElement s name))
 touches m (UseEntry s) = name_of_some m (rewritten m (UseEntry s))
@@ -111,6 +115,7 @@ went_out m c w = record w {
   in_place = unburied_name w m (rewritten_in_place m c) ++ w.in_place;
 }
 
+-- a command that is refused leaves them as they are
 abbrev pub begun_by : Option Refusal → Machine → Command → Marks → Marks
 begun_by None m c w = went_out m c w
 begun_by (Some r) m c w = w

@@ -4,7 +4,7 @@ use Rattle.std.specs.Str.{bytes_eq}
 use Rattle.cache_base.specs.Checks.{first_failing}
 use Rattle.cache_theory.specs.Checks.{checks}
 use Rattle.cache_theory.specs.Command.{Command}
-use Rattle.cache_theory.specs.Command.Command.{Create, Doom, ListRecords, ListGiven, Evict, EvictNames, ClearOrigin, ClearNames, Resume, ResumeNames, StepUpdate, Verify, VerifyRecords, Rebuild}
+use Rattle.cache_theory.specs.Command.Command.{Create, Doom, ListRecords, ListGiven, Evict, EvictNames, ClearOrigin, ClearNames, Resume, ResumeNames, StepUpdate, Verify, VerifyRecords, Rebuild, Dump}
 use Rattle.cache_theory.specs.Machine.{Machine, Object, object}
 use Rattle.cache_theory.specs.Marks.{rewritten}
 use Rattle.cache_theory.specs.Proper.{IsProper}
@@ -54,6 +54,7 @@ IsOfEntries (StepUpdate n) = ⊥
 IsOfEntries Verify = ⊥
 IsOfEntries (VerifyRecords records) = ⊥
 IsOfEntries Rebuild = ⊥
+IsOfEntries Dump = ⊥
 IsOfEntries _ = ⊤
 
 -- it changes one name at most

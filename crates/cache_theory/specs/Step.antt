@@ -5,10 +5,11 @@ use Rattle.alt_data.specs.AltData.{Alt, main_body}
 use Rattle.cache_base.specs.Checks.{first_failing}
 use Rattle.cache_base.specs.declared.name.Name.{Name}
 use Rattle.cache_check.specs.Findings.{findings}
-use Rattle.cache_theory.specs.Checks.{alt_in_version, checks, with_alt_data, with_value}
+use Rattle.cache_export.specs.Dumped.{dumped}
+use Rattle.cache_theory.specs.Checks.{alt_in_version, checks, with_alt_data, with_parts, with_value}
 use Rattle.cache_theory.specs.Command.{Command, Reply}
-use Rattle.cache_theory.specs.Command.Command.{At, Create, OpenKey, Append, Finish, SetElement, UnsetElement, ElementOf, UseEntry, Pin, Unpin, PutAlt, ReadPart, Close, Doom, Get, GetAlt, MainBody, HasEntry, HasGiven, ListRecords, ListGiven, Evict, EvictNames, ClearOrigin, ClearNames, Resume, ResumeNames, Flush, StepUpdate, UpdateState, Verify, VerifyRecords, Rebuild}
-use Rattle.cache_theory.specs.Command.Reply.{Done, Refused, NoneThere, Value, Part, Found, AltData, Main, Yes, No, Unknown, Records, Evicted, Cleared, Resumed, Ready, Updating, Findings, Rebuilt}
+use Rattle.cache_theory.specs.Command.Command.{At, Create, OpenKey, Append, Finish, FinishAs, SetElement, UnsetElement, ElementOf, UseEntry, Pin, Unpin, PutAlt, ReadPart, Close, Doom, Get, GetAlt, MainBody, HasEntry, HasGiven, ListRecords, ListGiven, Evict, EvictNames, ClearOrigin, ClearNames, Resume, ResumeNames, Flush, StepUpdate, UpdateState, Verify, VerifyRecords, Rebuild, Dump}
+use Rattle.cache_theory.specs.Command.Reply.{Done, Refused, NoneThere, Value, Part, Found, AltData, Main, Yes, No, Unknown, Records, Evicted, Cleared, Resumed, Ready, Updating, Findings, Rebuilt, Dumped}
 use Rattle.cache_theory.specs.Covers.{cleared, resumed}
 use Rattle.cache_theory.specs.Machine.{Machine, Object, Slot, has_slots, is_writer, nobody, number_of, object_of, on_shelf, open_names, used_by, waits_for, writing_names}
 use Rattle.cache_theory.specs.Table.{get, insert, remove}
@@ -19,9 +20,10 @@ use Rattle.entry_file.specs.EntryFile.{Reading, fits}
 use Rattle.entry_file.specs.EntryFile.Reading.{Whole, Damaged, Nothing}
 use Rattle.entry_file.specs.Version.{Version, file_of}
 use Rattle.entry_name.specs.EntryName.{file_name}
-use Rattle.entry_parts.specs.Elements.{element}
+use Rattle.entry_parts.specs.Elements.{Element, element}
 use Rattle.entry_parts.specs.Setting.{without_element}
 use Rattle.entry_parts.specs.Header.{fresh_header, used_header}
+use Rattle.entry_parts.specs.declared.header.Header.{Header}
 use Rattle.evictor.specs.Evict.{victims}
 use Rattle.frecency.specs.Frecency.{next as next_frecency}
 use Rattle.index_record.specs.Filling.{bit_if}
@@ -107,6 +109,10 @@ with_pin pinned v = record v { header = record v.header { flags = v.header.flags
 abbrev pub finished_by : Machine → ℕ → Machine
 finished_by m s = let o = object_of m s in if is_writer m s && not o.finished then stored m (number_of m s) (record o { finished = true }) else m
 
+-- an object finished with this header and these elements
+abbrev pub finished_as : Header → List Element → Object → Object
+finished_as header elements o = record o { finished = true; version = with_parts header elements o.version }
+
 -- the update of the index has read the first names of its rest, so many or all
 abbrev pub update_stepped : Machine → ℕ → Machine
 update_stepped m n = record m { rest = drop n m.rest }
@@ -141,13 +147,16 @@ pub record Answer : Type 0 where
   pub next : Machine
   pub reply : Reply
 
+-- this machine, and this reply
 abbrev pub answer : Machine → Reply → Answer
 answer m r = record { next = m; reply = r }
 
+-- the value of an element, as the reply
 abbrev pub element_reply : Option (List ℕ) → Reply
 element_reply None = NoneThere
 element_reply (Some value) = Value value
 
+-- what is found under a key, as the reply
 abbrev pub found_reply : Reading → Reply
 found_reply (Whole v) = Found v
 found_reply (Damaged d) = Refused (refused.Damaged d)
@@ -158,14 +167,17 @@ abbrev pub alt_reply_of : Version → Option Alt → Reply
 alt_reply_of v None = Refused refused.NoAlt
 alt_reply_of v (Some alt) = AltData alt (drop alt.offset v.body)
 
+-- the alternative data of what is found under a key, as the reply
 abbrev pub alt_reply : Reading → Reply
 alt_reply (Whole v) = alt_reply_of v (alt_in_version v)
 alt_reply (Damaged d) = Refused (refused.Damaged d)
 alt_reply Nothing = Refused refused.Absent
 
+-- the main body of a version, as the reply
 abbrev pub main_reply_of : Version → Reply
 main_reply_of v = Main (main_body (alt_in_version v) v.body)
 
+-- the main body of what is found under a key, as the reply
 abbrev pub main_reply : Reading → Reply
 main_reply (Whole v) = main_reply_of v
 main_reply (Damaged d) = Refused (refused.Damaged d)
@@ -192,6 +204,7 @@ effect m (Create s key) = answer (entered (doomed_under m (file_name key)) s tru
 effect m (OpenKey s key) = answer (joined m s (used_by m key) (on_shelf m key)) Done
 effect m (Append s bytes) = answer (changed m s (λ v. record v { body = v.body ++ bytes })) Done
 effect m (Finish s) = answer (finished_by m s) Done
+effect m (FinishAs s header elements) = answer (stored m (number_of m s) (finished_as header elements (object_of m s))) Done
 effect m (SetElement s name value) = answer (changed m s (with_value name value)) Done
 effect m (UnsetElement s name) =
     if is_none (element name (object_of m s).version.elements) then answer m NoneThere
@@ -223,12 +236,14 @@ effect m UpdateState = answer m (state_reply m.rest)
 effect m Verify = answer (update_ended m) (Findings (findings m.shelf (scan m.shelf) (writing_names m)))
 effect m (VerifyRecords records) = answer (update_ended m) (Findings (findings m.shelf records (writing_names m)))
 effect m Rebuild = answer (update_ended m) (Rebuilt (length (scan m.shelf)))
+effect m Dump = answer (update_ended m) (Dumped (dumped m.shelf))
 
 -- one step: the first failing check is the reply, and then nothing changes
 abbrev pub stepped : Machine → Command → Option Refusal → Answer
 stepped m c None = effect m c
 stepped m c (Some r) = answer m (Refused r)
 
+-- the step of the machine for a command
 abbrev pub step : Machine → Command → Answer
 step m c = stepped m c (first_failing (checks m c))
 

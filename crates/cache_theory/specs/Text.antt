@@ -8,9 +8,10 @@ use Rattle.cache_base.specs.declared.name.Name.{Name}
 use Rattle.cache_check.specs.declared.finding.Finding.{Finding}
 use Rattle.cache_check.specs.declared.finding.What.{What}
 use Rattle.cache_check.specs.declared.finding.What.TheVariants as what
+use Rattle.cache_export.specs.Dump.{dump_bytes}
 use Rattle.cache_theory.specs.Command.{Command, Reply}
-use Rattle.cache_theory.specs.Command.Command.{At, Create, OpenKey, Append, Finish, SetElement, UnsetElement, ElementOf, UseEntry, Pin, Unpin, PutAlt, ReadPart, Close, Doom, Get, GetAlt, MainBody, HasEntry, HasGiven, ListRecords, ListGiven, Evict, EvictNames, ClearOrigin, ClearNames, Resume, ResumeNames, Flush, StepUpdate, UpdateState, Verify, VerifyRecords, Rebuild}
-use Rattle.cache_theory.specs.Command.Reply.{Done, Refused, NoneThere, Value, Part, Found, AltData, Main, Yes, No, Unknown, Records, Evicted, Cleared, Resumed, Ready, Updating, Findings, Rebuilt}
+use Rattle.cache_theory.specs.Command.Command.{At, Create, OpenKey, Append, Finish, FinishAs, SetElement, UnsetElement, ElementOf, UseEntry, Pin, Unpin, PutAlt, ReadPart, Close, Doom, Get, GetAlt, MainBody, HasEntry, HasGiven, ListRecords, ListGiven, Evict, EvictNames, ClearOrigin, ClearNames, Resume, ResumeNames, Flush, StepUpdate, UpdateState, Verify, VerifyRecords, Rebuild, Dump}
+use Rattle.cache_theory.specs.Command.Reply.{Done, Refused, NoneThere, Value, Part, Found, AltData, Main, Yes, No, Unknown, Records, Evicted, Cleared, Resumed, Ready, Updating, Findings, Rebuilt, Dumped}
 use Rattle.cache_theory.specs.Machine.{Machine}
 use Rattle.cache_theory.specs.Step.{replies}
 use Rattle.cache_theory.specs.declared.refusal.Refusal.{Refusal}
@@ -36,6 +37,7 @@ line words = spaced words ++ 10 ∷ []
 abbrev pub damage_words : Damage → List (List ℕ)
 damage_words d = codes "damaged" ∷ decimal d.chunk ∷ encode_upper (be16 d.stored) ∷ encode_upper (be16 d.found) ∷ []
 
+-- the words of a refusal
 abbrev pub refusal_words : Refusal → List (List ℕ)
 refusal_words refused.SlotTaken = codes "slot taken" ∷ []
 refusal_words refused.NoSlot = codes "no slot" ∷ []
@@ -143,6 +145,7 @@ reply_text Ready = line (codes "ready" ∷ [])
 reply_text (Updating names) = with_number (codes "updating") names
 reply_text (Findings findings) = findings_text findings
 reply_text (Rebuilt records) = with_number (codes "rebuilt") records
+reply_text (Dumped versions) = dump_bytes versions
 
 -- the reply to the command is printed; that to a clearing that is resumed is empty
 abbrev pub IsSpoken : Command → Type 0
@@ -150,6 +153,7 @@ IsSpoken Resume = ⊥
 IsSpoken (ResumeNames names) = ⊥
 IsSpoken _ = ⊤
 
+-- the reply to each of these commands is printed
 abbrev pub AreSpoken : List Command → Type 0
 AreSpoken cs = AllByRecursion IsSpoken cs
 
@@ -168,6 +172,7 @@ command_words (Create s key) = codes "create" ∷ decimal s ∷ key ∷ []
 command_words (OpenKey s key) = codes "open" ∷ decimal s ∷ key ∷ []
 command_words (Append s bytes) = codes "append" ∷ decimal s ∷ decimal (length bytes) ∷ []
 command_words (Finish s) = codes "finish" ∷ decimal s ∷ []
+command_words (FinishAs s header elements) = []
 command_words (SetElement s name value) = codes "set" ∷ decimal s ∷ decimal (length value) ∷ name ∷ []
 command_words (UnsetElement s name) = codes "unset" ∷ decimal s ∷ name ∷ []
 command_words (ElementOf s name) = codes "element" ∷ decimal s ∷ name ∷ []
@@ -197,6 +202,7 @@ command_words UpdateState = codes "state" ∷ []
 command_words Verify = codes "verify" ∷ []
 command_words (VerifyRecords records) = []
 command_words Rebuild = codes "rebuild" ∷ []
+command_words Dump = []
 
 -- the bytes behind a command's line, with their newline
 abbrev pub command_data : Command → List ℕ
@@ -224,6 +230,7 @@ FieldsFit (Create s key) = (s < SLOTS) × (AreBytes key × IsOneLine key)
 FieldsFit (OpenKey s key) = (s < SLOTS) × (AreBytes key × IsOneLine key)
 FieldsFit (Append s bytes) = (s < SLOTS) × (AreBytes bytes × (length bytes ≤ PIECE_MAX))
 FieldsFit (Finish s) = s < SLOTS
+FieldsFit (FinishAs s header elements) = ⊥
 FieldsFit (SetElement s name value) = (s < SLOTS) × ((AreBytes name × IsOneLine name) × (AreBytes value × (length value ≤ ELEMENTS_MAX)))
 FieldsFit (UnsetElement s name) = (s < SLOTS) × (AreBytes name × IsOneLine name)
 FieldsFit (ElementOf s name) = (s < SLOTS) × (AreBytes name × IsOneLine name)
@@ -248,6 +255,7 @@ FieldsFit Resume = ⊥
 FieldsFit (ResumeNames names) = ⊥
 FieldsFit (VerifyRecords records) = ⊥
 FieldsFit (StepUpdate n) = IsNumber n
+FieldsFit Dump = ⊥
 -- the others have no fields
 FieldsFit _ = ⊤
 

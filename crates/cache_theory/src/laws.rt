@@ -4,6 +4,7 @@ ghost use Rattle.cache_theory.specs.Cleared.{ClearedStayGone, ResumedLeavesNone,
 ghost use Rattle.cache_theory.specs.Faulted.{CutIsTold, FaultCutIsTold, FaultedIsRead, FaultedIsTold, FaultsAreInFront, FaultsAreWithin, FrontIsTold, KeptAreCounted, NextIsNumbered, NextMayFault, NoReplyIsFault, WholeIsTold};
 ghost use Rattle.cache_theory.specs.Keeps.{BeginKeeps, CreateFilesOnce, CreateKeeps, CreateLeavesUnpublished, CreateUnpublished, MoveAsideFilesOnce, MoveAsideKeeps, PublishFilesOnce, PublishKeeps, PublishLeavesUnpublished, QuietFilesOnce, QuietIsSafe, QuietUnpublished, RemoveFilesOnce, RemoveKeeps, RemoveLeavesUnpublished, RenameFilesOnce, RenameKeeps, RenameLeavesUnpublished, SafeIsCrashSafe, SyncFilesOnce, SyncKeeps, SyncLeavesUnpublished, WholeIsFine, WriteAsideKeeps, WriteFilesOnce, WriteKeeps, WriteLeavesUnpublished};
 ghost use Rattle.cache_theory.specs.Laws.{AltIsOfGet, AltStays, BegunTouchesMore, ChangesAreTouched, ChangesLeaveRest, ClearGoesByScan, ClearIsOfNames, MarkStays, NoMarkIsLeft, ResumeGoesByScan, ResumeIsOfNames, ResumeWithoutMark, DoomedAreLost, EntriesHaveRecords, EvictIsOfNames, EvictMeetsLimit, EvictTakesOff, HasIsOfShelf, ListIsOfRecords, EvictedMayGo, RecordTellsCovered, ShelfStaysTable, UnusedAreTakenOff, VerifyIsOfRecords};
+ghost use Rattle.cache_theory.specs.Loading.{DumpLoadsBack, ItemsAreStocked, StockIsFound};
 ghost use Rattle.cache_theory.specs.Proper.{OpensProper, StaysProper};
 ghost use Rattle.cache_theory.specs.Refiled.{EntriesAreRefiled};
 ghost use Rattle.cache_theory.specs.Session.{MarksAreOfKept};
@@ -176,4 +177,12 @@ pub fn cleared_stay_gone()
     ensures gone { ClearedStayGone }
     ensures spared { WrittenAreSpared }
     ensures resumed { ResumedLeavesNone }
+{}
+
+/// The items of a dump are written one after the other, each is found then, and each key of another name is found as
+/// before. So a dump brings back what may be dumped, and nothing else.
+pub fn items_are_stocked()
+    ensures stocked { ItemsAreStocked }
+    ensures found { StockIsFound }
+    ensures back { DumpLoadsBack }
 {}

@@ -10,7 +10,7 @@ pub use laws::{
     alt_goes_by_get, changes_are_touched, changes_file_once, changes_keep_safe, changes_leave_rest,
     changes_leave_unpublished, clear_goes_by_scan, cleared_stay_gone, entries_are_refiled,
     entries_have_records, evict_is_of_names, evict_takes_off, faults_are_left_out, faults_are_told,
-    marks_are_worded, opens_proper, replies_are_not_empty, replies_go_by_scan, safe_is_crash_safe,
-    shelf_stays_table, stays_proper,
+    items_are_stocked, marks_are_worded, opens_proper, replies_are_not_empty, replies_go_by_scan,
+    safe_is_crash_safe, shelf_stays_table, stays_proper,
 };
 pub use refusal::Refusal;

@@ -5,6 +5,7 @@ use Rattle.chunk_store.specs.declared.damage.Damage.{Damage}
 use Rattle.entry_metadata.specs.Metadata.{Meta}
 use Rattle.entry_file.specs.EntryFile.{file_meta}
 
+-- the first of these damages, if there is one
 abbrev pub first : List Damage → Option Damage
 first [] = None
 first (damage ∷ more) = Some damage

@@ -76,6 +76,7 @@ abbrev pub by_damages : Meta → List ℕ → List Damage → Reading
 by_damages m body [] = Whole (record { header = m.header; key = m.key; elements = m.elements; body = body })
 by_damages m body (d ∷ ds) = Damaged d
 
+-- what a file reads as by its first failing check: nothing where one fails
 abbrev pub by_fault : Option Unfit → List ℕ → Reading
 by_fault None c = by_damages (file_meta c) (body_in c) (damages (file_meta c).hashes (file_meta c).offset (body_in c))
 by_fault (Some f) c = Nothing

@@ -4,6 +4,7 @@ use Rattle.chunk_store.specs.Chunks.{chunk}
 use Rattle.entry_file.specs.NewEntry.{Growing}
 use Rattle.entry_file.specs.declared.new_entry.NewEntry.{NewEntry}
 
+-- what is held of the body of a new entry
 abbrev pub held : NewEntry → Growing
 held e = record { hashes = e.hashes; rest = e.rest }
 

@@ -6,6 +6,7 @@ use Rattle.entry_metadata.specs.Metadata.{CanSay, Format, Third, IsMeta, Meta, b
 use Rattle.entry_parts.specs.Elements.{Element}
 use Rattle.entry_parts.specs.declared.header.Header.{Header}
 
+-- an entry's body and metadata, as they were at some time
 pub record Version : Type 0 where
   pub header : Header
   pub key : List ℕ

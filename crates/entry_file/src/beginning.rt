@@ -17,7 +17,8 @@ use std::alloc::Global;
 /// taken first.
 pub fn begin<D: Disk>(alloc: Global, disk: &mut D, place: &Place) -> Result<NewEntry, DiskFault>
     ensures body { IfOk result (λ entry. HasBody (held entry) []) }
-    ensures state { IsTrue D.tells → D.state disk.new ≡ if_done result (created place.now (D.state disk.old)) (D.state disk.old) }
+    ensures state { IsTrue D.tells → D.state disk.new
+        ≡ if_done result (created place.now (D.state disk.old)) (D.state disk.old) }
     ensures calls { OnOk result (IsTrue D.tells → D.counts disk.new ≡ counted (D.counts disk.old)) }
     ensures account { Accounts D.Disk (ending result) disk.old disk.new }
     ensures change { FailsInChange D.Disk (ending result) disk.new }

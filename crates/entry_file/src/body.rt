@@ -24,9 +24,13 @@ fn check_one<D: Disk>(
     buf: &mut Buffer,
 ) -> Result<Option<Damage>, DiskFault>
     requires index { index < chunks_of meta.now.offset }
-    requires told { IsTrue D.tells → HasMeta (standing (D.state disk.old) place.now) (meta_of meta.now) }
-    ensures damage { IfOk result (λ damage. IsTrue D.tells → IfSome (standing (D.state disk.old) place.now) (λ content. damage ≡ damage_at meta.now.hashes (take meta.now.offset content) index)) }
-    ensures held { OnOk result (IsTrue D.tells → IsLastOf (index + 1) (standing (D.state disk.old) place.now) meta.now.offset buf.new) }
+    requires told { IsTrue D.tells →
+        HasMeta (standing (D.state disk.old) place.now) (meta_of meta.now) }
+    ensures damage { IfOk result (λ damage. IsTrue D.tells →
+        IfSome (standing (D.state disk.old) place.now) (λ content.
+        damage ≡ damage_at meta.now.hashes (take meta.now.offset content) index)) }
+    ensures held { OnOk result (IsTrue D.tells →
+        IsLastOf (index + 1) (standing (D.state disk.old) place.now) meta.now.offset buf.new) }
     ensures calls { IsTrue D.tells → (D.counts disk.new).calls ≤ (D.counts disk.old).calls + 1 }
     ensures looks { Looks D.Disk (ending result) disk.old disk.new }
 {
@@ -51,10 +55,16 @@ pub fn check_body<D: Disk>(
     buf: &mut Buffer,
 ) -> Result<Option<Damage>, DiskFault>
     requires { IsTrue D.tells → HasMeta (standing (D.state disk.old) place.now) (meta_of meta.now) }
-    ensures damage { IfOk result (λ damage. IsTrue D.tells → IfSome (standing (D.state disk.old) place.now) (λ content. damage ≡ first_damage (meta_of meta.now) content)) }
-    ensures stores { IfOk result (λ damage. IsTrue D.tells → damage ≡ None → StoresBody (standing (D.state disk.old) place.now) (meta_of meta.now)) }
-    ensures held { IfOk result (λ damage. IsTrue D.tells → damage ≡ None → IsLastOf (chunks_of meta.now.offset) (standing (D.state disk.old) place.now) meta.now.offset buf.new) }
-    ensures calls { IsTrue D.tells → (D.counts disk.new).calls ≤ (D.counts disk.old).calls + chunks_of meta.now.offset }
+    ensures damage { IfOk result (λ damage. IsTrue D.tells →
+        IfSome (standing (D.state disk.old) place.now) (λ content.
+        damage ≡ first_damage (meta_of meta.now) content)) }
+    ensures stores { IfOk result (λ damage. IsTrue D.tells → damage ≡ None →
+        StoresBody (standing (D.state disk.old) place.now) (meta_of meta.now)) }
+    ensures held { IfOk result (λ damage. IsTrue D.tells → damage ≡ None →
+        IsLastOf (chunks_of meta.now.offset)
+        (standing (D.state disk.old) place.now) meta.now.offset buf.new) }
+    ensures calls { IsTrue D.tells →
+        (D.counts disk.new).calls ≤ (D.counts disk.old).calls + chunks_of meta.now.offset }
     ensures looks { Looks D.Disk (ending result) disk.old disk.new }
 {
     for index in 0..chunks(u64::from(meta.offset)) as u32 {

@@ -42,7 +42,8 @@ fn parts_fit(header: Header, key: &[u8], elements: &Elements)
 // The hashes of the whole chunks, and behind them that of the rest, where there is one.
 fn all_hashes(hashes: ChunkHashes, rest: &[u8]) -> Hashes
     requires { length hashes * CHUNK + length rest.now ≤ BODY_MAX }
-    ensures { result ≡ (if length rest.now == 0 then hashes else (hashes ++ hash16_of rest.now ∷ [])) }
+    ensures { result
+        ≡ (if length rest.now == 0 then hashes else (hashes ++ hash16_of rest.now ∷ [])) }
 {
     let mut hashes = hashes;
     if !rest.is_empty() {
@@ -54,7 +55,8 @@ fn all_hashes(hashes: ChunkHashes, rest: &[u8]) -> Hashes
 /// The bytes, and after them the block and its offset, in one piece.
 pub(crate) fn tail_of(alloc: Global, rest: &[u8], meta: &Meta) -> Result<Bytes, NoMemory>
     ensures meta { IsMeta (meta_of meta.now) }
-    ensures bytes { IfOk result (λ tail. tail ≡ rest.now ++ (block_bytes (meta_of meta.now) ++ be32 meta.now.offset)) }
+    ensures bytes { IfOk result (λ tail.
+        tail ≡ rest.now ++ (block_bytes (meta_of meta.now) ++ be32 meta.now.offset)) }
 {
     let block = entry_metadata::print(alloc, meta)?;
     let mut tail = Bytes::with_room(alloc, rest.len() + block.as_slice().len())?;
@@ -69,8 +71,10 @@ impl NewEntry {
         requires version { header.version ≡ 3 }
         requires key_size { header.key_size ≡ length key.now }
         requires grammar { reads (read_key key.now) ≡ true }
-        requires small { block_length (chunks (grown_len (held self.now))) (length key.now) (length (elements_bytes elements.now)) ≤ BLOCK_MAX }
-        ensures { (body : List ℕ) → HasBody (held self.now) body → AreBytes body → IsVersion (finished header key.now elements.now body) }
+        requires small { block_length (chunks (grown_len (held self.now))) (length key.now)
+            (length (elements_bytes elements.now)) ≤ BLOCK_MAX }
+        ensures { (body : List ℕ) → HasBody (held self.now) body → AreBytes body →
+            IsVersion (finished header key.now elements.now body) }
     {
         parts_fit(header, key.as_slice(), elements);
     }
@@ -89,19 +93,31 @@ impl NewEntry {
         requires version { header.version ≡ 3 }
         requires key_size { header.key_size ≡ length key }
         requires grammar { reads (read_key key) ≡ true }
-        requires small { block_length (chunks (grown_len (held self))) (length key) (length (elements_bytes elements)) ≤ BLOCK_MAX }
-        requires told { IsTrue D.tells → IsItsFile (held self) (standing (D.state disk.old) place.now) }
-        ensures version { (body : List ℕ) → HasBody (held self) body → AreBytes body → IsVersion (finished header key elements body) }
-        ensures meta { IfOk result (λ meta. (body : List ℕ) → HasBody (held self) body → meta_of meta ≡ version_meta (finished header key elements body)) }
+        requires small { block_length (chunks (grown_len (held self))) (length key)
+            (length (elements_bytes elements)) ≤ BLOCK_MAX }
+        requires told { IsTrue D.tells →
+            IsItsFile (held self) (standing (D.state disk.old) place.now) }
+        ensures version { (body : List ℕ) → HasBody (held self) body → AreBytes body →
+            IsVersion (finished header key elements body) }
+        ensures meta { IfOk result (λ meta. (body : List ℕ) → HasBody (held self) body →
+            meta_of meta ≡ version_meta (finished header key elements body)) }
 
         // The file gets one moment more, which is the file of the version.
-        ensures state { IsTrue D.tells → (body : List ℕ) → HasBody (held self) body → standing (D.state disk.old) place.now ≡ Some (unfinished_file body)
-            → D.state disk.new ≡ if_done result (wrote place.now (last_write (finished header key elements body)) (D.state disk.old)) (D.state disk.old) }
-        ensures writes { IsTrue D.tells → (body : List ℕ) → HasBody (held self) body → standing (D.state disk.old) place.now ≡ Some (unfinished_file body)
-            → WritesAt place.now (λ c. c ≡ file_of (finished header key elements body)) (D.state disk.old) (D.state disk.new) }
-        ensures stands { OnOk result (IsTrue D.tells → (body : List ℕ) → HasBody (held self) body → standing (D.state disk.old) place.now ≡ Some (unfinished_file body)
-            → standing (D.state disk.new) place.now ≡ Some (file_of (finished header key elements body))) }
-        ensures calls { OnOk result (IsTrue D.tells → D.counts disk.new ≡ counted (D.counts disk.old)) }
+        ensures state { IsTrue D.tells → (body : List ℕ) → HasBody (held self) body →
+            standing (D.state disk.old) place.now ≡ Some (unfinished_file body) →
+            D.state disk.new ≡ if_done result
+            (wrote place.now (last_write (finished header key elements body)) (D.state disk.old))
+            (D.state disk.old) }
+        ensures writes { IsTrue D.tells → (body : List ℕ) → HasBody (held self) body →
+            standing (D.state disk.old) place.now ≡ Some (unfinished_file body) →
+            WritesAt place.now (λ c. c ≡ file_of (finished header key elements body))
+            (D.state disk.old) (D.state disk.new) }
+        ensures stands { OnOk result (IsTrue D.tells → (body : List ℕ) → HasBody (held self) body →
+            standing (D.state disk.old) place.now ≡ Some (unfinished_file body) →
+            standing (D.state disk.new) place.now
+            ≡ Some (file_of (finished header key elements body))) }
+        ensures calls { OnOk result (IsTrue D.tells →
+            D.counts disk.new ≡ counted (D.counts disk.old)) }
         ensures account { Accounts D.Disk (ending result) disk.old disk.new }
         ensures change { FailsInChange D.Disk (ending result) disk.new }
     {

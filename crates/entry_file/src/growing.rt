@@ -29,9 +29,12 @@ fn put_full<D: Disk>(
 ) -> Result<(), DiskFault>
     requires full { length chunk.old ≡ CHUNK }
     requires limit { length hashes.old * CHUNK + CHUNK ≤ BODY_MAX }
-    requires told { IsTrue D.tells → MayWriteAt (standing (D.state disk.old) place.now) (length hashes.old * chunk_size) }
+    requires told { IsTrue D.tells →
+        MayWriteAt (standing (D.state disk.old) place.now) (length hashes.old * chunk_size) }
     ensures hashes { hashes.new ≡ hashes.old ++ hash16_of chunk.old ∷ [] }
-    ensures state { IsTrue D.tells → D.state disk.new ≡ if_done result (wrote place.now (chunk_write (length hashes.old) chunk.old) (D.state disk.old)) (D.state disk.old) }
+    ensures state { IsTrue D.tells → D.state disk.new ≡ if_done result
+        (wrote place.now (chunk_write (length hashes.old) chunk.old) (D.state disk.old))
+        (D.state disk.old) }
     ensures calls { IsTrue D.tells → (D.counts disk.new).calls ≤ (D.counts disk.old).calls + 1 }
     ensures account { Accounts D.Disk (ending result) disk.old disk.new }
     ensures change { FailsInChange D.Disk (ending result) disk.new }
@@ -46,13 +49,19 @@ impl NewEntry {
     fn put_chunk<D: Disk>(&mut self, disk: &mut D, place: &Place, b: &[u8]) -> Result<(), DiskFault>
         requires full { length (held self.old).rest + length b.now ≡ CHUNK }
         requires limit { grown_len (held self.old) + length b.now ≤ BODY_MAX }
-        requires told { IsTrue D.tells → IsItsFile (held self.old) (standing (D.state disk.old) place.now) }
-        ensures len { OnOk result (grown_len (held self.new) ≡ grown_len (held self.old) + length b.now) }
+        requires told { IsTrue D.tells →
+            IsItsFile (held self.old) (standing (D.state disk.old) place.now) }
+        ensures len { OnOk result
+            (grown_len (held self.new) ≡ grown_len (held self.old) + length b.now) }
         ensures rest { OnOk result ((held self.new).rest ≡ []) }
-        ensures body { OnOk result ((body : List ℕ) → HasBody (held self.old) body → HasBody (held self.new) (body ++ b.now)) }
-        ensures stands { OnOk result (IsTrue D.tells → (body : List ℕ) → HasBody (held self.old) body → standing (D.state disk.old) place.now ≡ Some (unfinished_file body)
-            → standing (D.state disk.new) place.now ≡ Some (unfinished_file (body ++ b.now))) }
-        ensures writes { IsTrue D.tells → WritesAt place.now IsUnfinished (D.state disk.old) (D.state disk.new) }
+        ensures body { OnOk result ((body : List ℕ) → HasBody (held self.old) body →
+            HasBody (held self.new) (body ++ b.now)) }
+        ensures stands { OnOk result (IsTrue D.tells → (body : List ℕ) →
+            HasBody (held self.old) body →
+            standing (D.state disk.old) place.now ≡ Some (unfinished_file body) →
+            standing (D.state disk.new) place.now ≡ Some (unfinished_file (body ++ b.now))) }
+        ensures writes { IsTrue D.tells →
+            WritesAt place.now IsUnfinished (D.state disk.old) (D.state disk.new) }
         ensures calls { IsTrue D.tells → (D.counts disk.new).calls ≤ (D.counts disk.old).calls + 1 }
         ensures account { Accounts D.Disk (ending result) disk.old disk.new }
         ensures change { FailsInChange D.Disk (ending result) disk.new }
@@ -72,17 +81,24 @@ impl NewEntry {
         b: &[u8],
     ) -> Result<(), DiskFault>
         requires limit { grown_len (held self.old) + length b.now ≤ BODY_MAX }
-        requires told { IsTrue D.tells → IsItsFile (held self.old) (standing (D.state disk.old) place.now) }
+        requires told { IsTrue D.tells →
+            IsItsFile (held self.old) (standing (D.state disk.old) place.now) }
 
         // The body grows by these bytes, and the file is that of the longer body.
-        ensures body { OnOk result ((body : List ℕ) → HasBody (held self.old) body → HasBody (held self.new) (body ++ b.now)) }
-        ensures stands { OnOk result (IsTrue D.tells → (body : List ℕ) → HasBody (held self.old) body → standing (D.state disk.old) place.now ≡ Some (unfinished_file body)
-            → standing (D.state disk.new) place.now ≡ Some (unfinished_file (body ++ b.now))) }
-        ensures within { length (held self.old).rest + length b.now < CHUNK → (result ≡ Ok tt) × (disk.new ≡ disk.old) }
+        ensures body { OnOk result ((body : List ℕ) → HasBody (held self.old) body →
+            HasBody (held self.new) (body ++ b.now)) }
+        ensures stands { OnOk result (IsTrue D.tells → (body : List ℕ) →
+            HasBody (held self.old) body →
+            standing (D.state disk.old) place.now ≡ Some (unfinished_file body) →
+            standing (D.state disk.new) place.now ≡ Some (unfinished_file (body ++ b.now))) }
+        ensures within { length (held self.old).rest + length b.now < CHUNK →
+            (result ≡ Ok tt) × (disk.new ≡ disk.old) }
 
         // In any case this file alone was written to, and none of its new moments fits.
-        ensures writes { IsTrue D.tells → WritesAt place.now IsUnfinished (D.state disk.old) (D.state disk.new) }
-        ensures calls { IsTrue D.tells → (D.counts disk.new).calls ≤ (D.counts disk.old).calls + (length (held self.old).rest + length b.now) / chunk_size }
+        ensures writes { IsTrue D.tells →
+            WritesAt place.now IsUnfinished (D.state disk.old) (D.state disk.new) }
+        ensures calls { IsTrue D.tells → (D.counts disk.new).calls ≤ (D.counts disk.old).calls
+            + (length (held self.old).rest + length b.now) / chunk_size }
         ensures account { Accounts D.Disk (ending result) disk.old disk.new }
         ensures change { FailsInChange D.Disk (ending result) disk.new }
     {

@@ -67,12 +67,16 @@ fn read_of_block(
 
 // The number in the four bytes from `end` on, which are the file's last.
 fn last_offset<D: Disk>(disk: &mut D, place: &Place, end: u64) -> Result<u32, DiskFault>
-    requires { IsTrue D.tells → Some (end + 4) ≡ option_map length (standing (D.state disk.old) place.now) }
-    ensures offset { IfOk result (λ offset. IsTrue D.tells → IfSome (standing (D.state disk.old) place.now) (λ content. offset ≡ offset_in content)) }
-    ensures bytes { OnOk result (IsTrue D.tells → IfSome (standing (D.state disk.old) place.now) (λ content. AreBytes (drop (length content - 4) content))) }
+    requires { IsTrue D.tells →
+        Some (end + 4) ≡ option_map length (standing (D.state disk.old) place.now) }
+    ensures offset { IfOk result (λ offset. IsTrue D.tells →
+        IfSome (standing (D.state disk.old) place.now) (λ content. offset ≡ offset_in content)) }
+    ensures bytes { OnOk result (IsTrue D.tells → IfSome (standing (D.state disk.old) place.now)
+        (λ content. AreBytes (drop (length content - 4) content))) }
     ensures state { IsTrue D.tells → D.state disk.new ≡ D.state disk.old }
     ensures looks { IsTrue D.tells → LooksAtMost 1 (D.counts disk.old) (D.counts disk.new) }
-    ensures cause { HasCause (IsErrOf result DiskFault.Failed) (D.faults disk.old) (D.faults disk.new) }
+    ensures cause { HasCause (IsErrOf result DiskFault.Failed)
+        (D.faults disk.old) (D.faults disk.new) }
 {
     let mut bytes = [0; 4];
     disk.read(place, end, &mut bytes)?;
@@ -89,10 +93,13 @@ fn part_at<D: Disk>(
     len: usize,
 ) -> Result<Vec<u8>, DiskFault>
     requires { IsTrue D.tells → Holds (standing (D.state disk.old) place.now) from len }
-    ensures bytes { IfOk result (λ part. IsTrue D.tells → IfSome (standing (D.state disk.old) place.now) (λ content. part.items ≡ slice_range content from (from + len))) }
+    ensures bytes { IfOk result (λ part. IsTrue D.tells →
+        IfSome (standing (D.state disk.old) place.now) (λ content.
+        part.items ≡ slice_range content from (from + len))) }
     ensures state { IsTrue D.tells → D.state disk.new ≡ D.state disk.old }
     ensures looks { IsTrue D.tells → LooksAtMost 1 (D.counts disk.old) (D.counts disk.new) }
-    ensures cause { HasCause (IsErrOf result DiskFault.Failed) (D.faults disk.old) (D.faults disk.new) }
+    ensures cause { HasCause (IsErrOf result DiskFault.Failed)
+        (D.faults disk.old) (D.faults disk.new) }
 {
     let mut part = vec![in alloc; 0u8; len]?;
     disk.read(place, from, &mut part)?;
@@ -107,13 +114,18 @@ fn read_sized<D: Disk>(
     name: &Name,
     size: u64,
 ) -> Result<EntryRead, DiskFault>
-    requires { IsTrue D.tells → Some size ≡ option_map length (standing (D.state disk.old) place.now) }
-    ensures reads { IfOk result (λ read. IsTrue D.tells → ReadsAs name.now.0 (standing (D.state disk.old) place.now) read) }
-    ensures has_meta { IfOk result (λ read. IsTrue D.tells → IfFits read (HasMeta (standing (D.state disk.old) place.now))) }
-    ensures join { IfOk result (λ read. IsTrue D.tells → IfFits read (Joins name.now.0 (standing (D.state disk.old) place.now))) }
+    requires { IsTrue D.tells →
+        Some size ≡ option_map length (standing (D.state disk.old) place.now) }
+    ensures reads { IfOk result (λ read. IsTrue D.tells →
+        ReadsAs name.now.0 (standing (D.state disk.old) place.now) read) }
+    ensures has_meta { IfOk result (λ read. IsTrue D.tells →
+        IfFits read (HasMeta (standing (D.state disk.old) place.now))) }
+    ensures join { IfOk result (λ read. IsTrue D.tells →
+        IfFits read (Joins name.now.0 (standing (D.state disk.old) place.now))) }
     ensures state { IsTrue D.tells → D.state disk.new ≡ D.state disk.old }
     ensures looks { IsTrue D.tells → LooksAtMost 2 (D.counts disk.old) (D.counts disk.new) }
-    ensures cause { HasCause (IsErrOf result DiskFault.Failed) (D.faults disk.old) (D.faults disk.new) }
+    ensures cause { HasCause (IsErrOf result DiskFault.Failed)
+        (D.faults disk.old) (D.faults disk.new) }
 {
     if size < 4 {
         return Ok(EntryRead::Unfit(Unfit::Short));
@@ -141,11 +153,15 @@ pub fn read_meta<D: Disk>(
     place: &Place,
     name: &Name,
 ) -> Result<EntryRead, DiskFault>
-    ensures reads { IfOk result (λ read. IsTrue D.tells → ReadsAs name.now.0 (standing (D.state disk.old) place.now) read) }
-    ensures has_meta { IfOk result (λ read. IsTrue D.tells → IfFits read (HasMeta (standing (D.state disk.old) place.now))) }
-    ensures join { IfOk result (λ read. IsTrue D.tells → IfFits read (Joins name.now.0 (standing (D.state disk.old) place.now))) }
+    ensures reads { IfOk result (λ read. IsTrue D.tells →
+        ReadsAs name.now.0 (standing (D.state disk.old) place.now) read) }
+    ensures has_meta { IfOk result (λ read. IsTrue D.tells →
+        IfFits read (HasMeta (standing (D.state disk.old) place.now))) }
+    ensures join { IfOk result (λ read. IsTrue D.tells →
+        IfFits read (Joins name.now.0 (standing (D.state disk.old) place.now))) }
     ensures calls { IsTrue D.tells → (D.counts disk.new).calls ≤ (D.counts disk.old).calls + 4 }
-    ensures entry_reads { IsTrue D.tells → (D.counts disk.new).entry_reads ≤ (D.counts disk.old).entry_reads + 4 }
+    ensures entry_reads { IsTrue D.tells →
+        (D.counts disk.new).entry_reads ≤ (D.counts disk.old).entry_reads + 4 }
     ensures looks { Looks D.Disk (ending result) disk.old disk.new }
 {
     match disk.size(place)? {

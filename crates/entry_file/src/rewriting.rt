@@ -22,16 +22,23 @@ pub fn rewrite_meta<D: Disk>(
     place: &Place,
     meta: &Meta,
 ) -> Result<(), DiskFault>
-    requires { IsTrue D.tells → StoresBody (standing (D.state disk.old) place.now) (meta_of meta.now) }
-    ensures meta { (content : List ℕ) → StoresBody (Some content) (meta_of meta.now) → version_meta (rewritten (meta_of meta.now) content) ≡ meta_of meta.now }
-    ensures version { (content : List ℕ) → StoresBody (Some content) (meta_of meta.now) → AreBytes (take meta.now.offset content) → IsVersion (rewritten (meta_of meta.now) content) }
+    requires { IsTrue D.tells →
+        StoresBody (standing (D.state disk.old) place.now) (meta_of meta.now) }
+    ensures meta { (content : List ℕ) → StoresBody (Some content) (meta_of meta.now) →
+        version_meta (rewritten (meta_of meta.now) content) ≡ meta_of meta.now }
+    ensures version { (content : List ℕ) → StoresBody (Some content) (meta_of meta.now) →
+        AreBytes (take meta.now.offset content) → IsVersion (rewritten (meta_of meta.now) content) }
 
     // The file gets one moment more, which is the file of the version.
-    ensures state { IsTrue D.tells → D.state disk.new ≡ if_done result (wrote place.now (block_write (meta_of meta.now)) (D.state disk.old)) (D.state disk.old) }
-    ensures writes { IsTrue D.tells → (content : List ℕ) → standing (D.state disk.old) place.now ≡ Some content
-        → WritesAt place.now (λ c. c ≡ file_of (rewritten (meta_of meta.now) content)) (D.state disk.old) (D.state disk.new) }
-    ensures stands { OnOk result (IsTrue D.tells → (content : List ℕ) → standing (D.state disk.old) place.now ≡ Some content
-        → standing (D.state disk.new) place.now ≡ Some (file_of (rewritten (meta_of meta.now) content))) }
+    ensures state { IsTrue D.tells → D.state disk.new ≡ if_done result
+        (wrote place.now (block_write (meta_of meta.now)) (D.state disk.old)) (D.state disk.old) }
+    ensures writes { IsTrue D.tells → (content : List ℕ) →
+        standing (D.state disk.old) place.now ≡ Some content →
+        WritesAt place.now (λ c. c ≡ file_of (rewritten (meta_of meta.now) content))
+        (D.state disk.old) (D.state disk.new) }
+    ensures stands { OnOk result (IsTrue D.tells → (content : List ℕ) →
+        standing (D.state disk.old) place.now ≡ Some content → standing (D.state disk.new)
+        place.now ≡ Some (file_of (rewritten (meta_of meta.now) content))) }
     ensures calls { OnOk result (IsTrue D.tells → D.counts disk.new ≡ counted (D.counts disk.old)) }
     ensures account { Accounts D.Disk (ending result) disk.old disk.new }
     ensures change { FailsInChange D.Disk (ending result) disk.new }

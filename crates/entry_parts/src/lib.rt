@@ -2,6 +2,7 @@
 //! Each is read from its bytes and written as its bytes, and what one does the other undoes.
 #![tactic(auto)]
 
+mod comparing;
 mod elements;
 mod fault;
 mod header;

@@ -63,7 +63,8 @@ fn place_to_set(b: &[u8], name: &[u8], value: &[u8]) -> Result<Place, PartsFault
     requires { have_form b.now ≡ true }
     ensures place { IfOk result (λ place. IsPlace name.now b.now place.start place.end) }
     ensures passes { OnOk result (set_fault name.now value.now (elements_of b.now) ≡ None) }
-    ensures fault { IfErr result (λ fault. set_fault name.now value.now (elements_of b.now) ≡ Some fault) }
+    ensures fault { IfErr result (λ fault.
+        set_fault name.now value.now (elements_of b.now) ≡ Some fault) }
 {
     if name.is_empty() || has_zero(name) {
         return Err(PartsFault::BadName);
@@ -88,7 +89,8 @@ fn joined(
     rest: &[u8],
 ) -> Result<Vec<u8>, AllocError>
     ensures { IfOk result (λ bytes.
-        bytes.items ≡ front.now ++ (element_bytes (record { name = name.now; value = value.now }) ++ rest.now)) }
+        bytes.items ≡ front.now
+        ++ (element_bytes (record { name = name.now; value = value.now }) ++ rest.now)) }
 {
     let mut bytes = Vec::from_slice(alloc, front)?;
     bytes.extend_from_slice(name)?;

@@ -36,6 +36,7 @@ use Rattle.file_handles.specs.declared.object.Entry.TheVariants as entry
 use Rattle.file_handles.specs.declared.object.Object.{Object}
 use Rattle.file_handles.specs.declared.object.Use.{Use}
 use Rattle.file_handles.proofs.Begun.{begun_in}
+use Rattle.file_handles.proofs.Completions.{completion}
 use Rattle.file_handles.proofs.ElementMarks.{finishes_out}
 use Rattle.file_handles.proofs.ElementSlots.{no_slot, no_use_found, slot_is, slot_number, slot_writes}
 use Rattle.file_handles.proofs.FinishCarried.{completed_in, completed_safe}
@@ -134,7 +135,7 @@ module _ (s : State) (k : Kept) (slot : ℕ) (small : slot < SLOTS) (u : Use) (a
         subst (λ (n : Machine). KeepsWhere b (cache_at k s) (history_of n (begun m (Close slot) w))) (sym same) (begun_in s k m (Close slot) w is)
 
   -- The object is finished.
-  module _ (to_finish : (u.writes && is_some_draft (object_at k u.place)) ≡ true) {T : Type 0} (r : Result T HandleFault) (t : State) (after : Kept) (completes : CompletesThere u.place r (cache_at k s) (cache_at after t)) where
+  module _ (to_finish : (u.writes && is_some_draft (object_at k u.place)) ≡ true) {T : Type 0} (r : Result T HandleFault) (t : State) (after : Kept) (completes : CompletesThere u.place completed r (cache_at k s) (cache_at after t)) where
     module _ {b : Bool} (m : Machine) (w : Marks) (is : KeepsWhere b (cache_at k s) (history_of m (begun m (Close slot) w))) where
       writes : (is_writer m slot && not (object_of m slot).finished) ≡ true
       writes = finishes k slot small u at m is.number is.stands.handles ∙ to_finish
@@ -167,13 +168,13 @@ module _ (s : State) (k : Kept) (slot : ℕ) (small : slot < SLOTS) (u : Use) (a
           subst (λ j. MayFinish (begun m (Close slot) w) j (completed (object m j))) (numbered k slot small u at m is.number is.stands.handles)
           (finishes_out m (Close slot) w (close_passes k slot small u at m is.number is.stands.handles) (number_of m slot) (completed (object_of m slot)) writes_it refl becomes refl refl)
 
-      there : CompletesAt u.place r (cache_at k s) (cache_at after t) (object_there k slot small u at m is.number is.stands.handles).0
+      there : CompletesAt u.place completed r (cache_at k s) (cache_at after t) (object_there k slot small u at m is.number is.stands.handles).0
       there = let x = object_there k slot small u at m is.number is.stands.handles in completes x.0 x.1
 
       pub finished_safe : IsTrue b → IsSafe t (begun m (Close slot) w)
       finished_safe =
           let x = object_there k slot small u at m is.number is.stands.handles in
-          completed_safe s t k m (begun m (Close slot) w) is u.place x.0 there.changed x.1 there.completes un may out
+          completed_safe completed (completion None) s t k m (begun m (Close slot) w) is u.place x.0 there.changed x.1 there.completes un may out
 
       finished_when : IsSound s → IsOkAnd there.changed (λ y. after ≡ with_object k u.place (Some y)) → KeepsWhere b (cache_at after t) (history_of (finished_by m slot) (begun m (Close slot) w))
       finished_when sound put = go there.changed refl put
@@ -183,7 +184,7 @@ module _ (s : State) (k : Kept) (slot : ℕ) (small : slot < SLOTS) (u : Use) (a
           go (Ok y) e put =
               let x = object_there k slot small u at m is.number is.stands.handles in
               let stands : KeepsWhere b (cache_at (with_object k u.place (Some y)) t) (history_of (stored m (is.number u.place) (completed (object m (is.number u.place)))) (begun m (Close slot) w)) =
-              completed_in s t k m (begun m (Close slot) w) is u.place x.0 y there.changed sound x.1 there.completes e un may out in
+              completed_in completed (completion None) s t k m (begun m (Close slot) w) is u.place x.0 y there.changed sound x.1 there.completes e un may out in
               let same : stored m (is.number u.place) (completed (object m (is.number u.place))) ≡ finished_by m slot = ap (λ j. stored m j (completed (object m j))) (sym (numbered k slot small u at m is.number is.stands.handles)) ∙ sym finished_is in
               subst (λ (l : Kept). KeepsWhere b (cache_at l t) (history_of (finished_by m slot) (begun m (Close slot) w))) (sym put)
               (subst (λ (n : Machine). KeepsWhere b (cache_at (with_object k u.place (Some y)) t) (history_of n (begun m (Close slot) w))) same stands)

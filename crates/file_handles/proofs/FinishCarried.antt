@@ -14,7 +14,7 @@ use Rattle.disk_model.specs.State.{State}
 use Rattle.file_handles.specs.Answers.{OnRefused, done_or}
 use Rattle.file_handles.specs.Cache.{cache_at}
 use Rattle.file_handles.specs.Carries.{CarriesOut}
-use Rattle.file_handles.specs.Changes.{IsFiledAs, completed}
+use Rattle.file_handles.specs.Changes.{IsFiledAs}
 use Rattle.file_handles.specs.Held.{IsEntryOf, is_draft}
 use Rattle.file_handles.specs.Kept.{Kept, object_at, with_object}
 use Rattle.file_handles.specs.Publishing.{BecomesWhole, Completes, CompletesAt, published_by}
@@ -27,6 +27,7 @@ use Rattle.file_handles.specs.declared.object.Entry.TheVariants as entry
 use Rattle.file_handles.specs.declared.object.Object.{Object}
 use Rattle.file_handles.proofs.Begun.{begun_in}
 use Rattle.file_handles.proofs.Carried.{MakesChangeAt, change_made, change_may, change_out}
+use Rattle.file_handles.proofs.Completions.{IsCompletion}
 use Rattle.file_handles.proofs.Histories.{history_of}
 use Rattle.file_handles.proofs.Places.{is_filed}
 use Rattle.file_handles.proofs.Published.{MayFinish, amid_safe, whole_in, written_safe}
@@ -41,43 +42,45 @@ pub not_finished : {b : Bool} (s : State) (k : Kept) (m : Machine) (w : Marks) (
 not_finished s k m w is p x at draft = draft_unfinished x.entry (object m (is.number p)) (is.stands.handles.objects p x at).as_held.held_entry draft
 
 -- at every exit a crash may lose no more than the marks allow
-pub completed_safe : {b : Bool} (s t : State) (k : Kept) (m : Machine) (w : Marks) (is : KeepsWhere b (cache_at k s) (history_of m w)) (p : ℕ) (x : Object) (changed : Result Object HandleFault)
-    → object_at k p ≡ Some x → Completes x changed s t → (object m (is.number p)).finished ≡ false → MayStand m (is.number p) (completed (object m (is.number p)))
-    → MayFinish w (is.number p) (completed (object m (is.number p))) → IsTrue b → IsSafe t w
-completed_safe s t k m w is p x changed at completes un may out on =
-    let o : MachineObject = completed (object m (is.number p)) in
+pub completed_safe : {b : Bool} (change : MachineObject → MachineObject) → IsCompletion change → (s t : State) (k : Kept) (m : Machine) (w : Marks) (is : KeepsWhere b (cache_at k s) (history_of m w)) (p : ℕ) (x : Object) (changed : Result Object HandleFault)
+    → object_at k p ≡ Some x → Completes x change changed s t → (object m (is.number p)).finished ≡ false → MayStand m (is.number p) (change (object m (is.number p)))
+    → MayFinish w (is.number p) (change (object m (is.number p))) → IsTrue b → IsSafe t w
+completed_safe change finishes s t k m w is p x changed at completes un may out on =
+    let o : MachineObject = change (object m (is.number p)) in
+    let done = finishes.done (object m (is.number p)) in
     let filed = is_filed s k m is.number is.stands p x at in
     elim completes.amid [
-      | inl same ↦ subst (λ z. IsSafe z w) (sym same) (written_safe s k m w is p x at un o refl may completes.written (completes.writes (object m (is.number p)) filed) on)
-      | inr amid ↦ amid_safe s k m w is p x at un o refl may completes.written (completes.writes (object m (is.number p)) filed) t (amid.1 (object m (is.number p)) filed) out amid.0 on
+      | inl same ↦ subst (λ z. IsSafe z w) (sym same) (written_safe s k m w is p x at un o done may completes.written (completes.writes (object m (is.number p)) filed) on)
+      | inr amid ↦ amid_safe s k m w is p x at un o done may completes.written (completes.writes (object m (is.number p)) filed) t (amid.1 (object m (is.number p)) filed) out amid.0 on
     ]
 
 -- and after an Ok all stands for the machine with the object finished
-pub completed_in : {b : Bool} (s t : State) (k : Kept) (m : Machine) (w : Marks) (is : KeepsWhere b (cache_at k s) (history_of m w)) (p : ℕ) (x y : Object) (changed : Result Object HandleFault)
-    → IsSound s → object_at k p ≡ Some x → Completes x changed s t → changed ≡ Ok y → (object m (is.number p)).finished ≡ false → MayStand m (is.number p) (completed (object m (is.number p)))
-    → MayFinish w (is.number p) (completed (object m (is.number p))) → KeepsWhere b (cache_at (with_object k p (Some y)) t) (history_of (stored m (is.number p) (completed (object m (is.number p)))) w)
-completed_in {b} s t k m w is p x y changed sound at completes ok un may out =
-    let o : MachineObject = completed (object m (is.number p)) in
+pub completed_in : {b : Bool} (change : MachineObject → MachineObject) → IsCompletion change → (s t : State) (k : Kept) (m : Machine) (w : Marks) (is : KeepsWhere b (cache_at k s) (history_of m w)) (p : ℕ) (x y : Object) (changed : Result Object HandleFault)
+    → IsSound s → object_at k p ≡ Some x → Completes x change changed s t → changed ≡ Ok y → (object m (is.number p)).finished ≡ false → MayStand m (is.number p) (change (object m (is.number p)))
+    → MayFinish w (is.number p) (change (object m (is.number p))) → KeepsWhere b (cache_at (with_object k p (Some y)) t) (history_of (stored m (is.number p) (change (object m (is.number p)))) w)
+completed_in {b} change finishes s t k m w is p x y changed sound at completes ok un may out =
+    let o : MachineObject = change (object m (is.number p)) in
+    let done = finishes.done (object m (is.number p)) in
     let filed = is_filed s k m is.number is.stands p x at in
-    let at_ok : IfOk {E = HandleFault} (Ok y) (λ y. (t ≡ published_by x.name x.doomed x.aside completes.written) × ((o : MachineObject) → IsFiledAs x o s → BecomesWhole x y o completes.written)) =
-    subst (λ (r : Result Object HandleFault). IfOk r (λ y. (t ≡ published_by x.name x.doomed x.aside completes.written) × ((o : MachineObject) → IsFiledAs x o s → BecomesWhole x y o completes.written))) ok completes.becomes in
+    let at_ok : IfOk {E = HandleFault} (Ok y) (λ y. (t ≡ published_by x.name x.doomed x.aside completes.written) × ((o : MachineObject) → IsFiledAs x o s → BecomesWhole change x y o completes.written)) =
+    subst (λ (r : Result Object HandleFault). IfOk r (λ y. (t ≡ published_by x.name x.doomed x.aside completes.written) × ((o : MachineObject) → IsFiledAs x o s → BecomesWhole change x y o completes.written))) ok completes.becomes in
     subst (λ z. KeepsWhere b (cache_at (with_object k p (Some y)) z) (history_of (stored m (is.number p) o) w)) (sym at_ok.0)
-    (whole_in s k m w is p x at un o refl may completes.written (completes.writes (object m (is.number p)) filed) y sound completes.sound (at_ok.1 (object m (is.number p)) filed) refl (λ on. out))
+    (whole_in s k m w is p x at un o done may completes.written (completes.writes (object m (is.number p)) filed) change y sound completes.sound (at_ok.1 (object m (is.number p)) filed) refl (λ on. out))
 
-module _ (s t : State) (k after : Kept) (c : Command) (slot : ℕ) (small : slot < SLOTS) (p : ℕ) (x : Object) (has : HasAt k slot p x) (draft : is_draft x.entry ≡ true)
-    (makes : MakesChangeAt (λ m. Unit {0}) MayFinish k c slot completed (λ o. o.finished ≡ false)) {T : Type 0} (r : Result T HandleFault) (there : CompletesAt p r (cache_at k s) (cache_at after t) x) where
+module _ (change : MachineObject → MachineObject) (finishes : IsCompletion change) (s t : State) (k after : Kept) (c : Command) (slot : ℕ) (small : slot < SLOTS) (p : ℕ) (x : Object) (has : HasAt k slot p x) (draft : is_draft x.entry ≡ true)
+    (makes : MakesChangeAt (λ m. Unit {0}) MayFinish k c slot change (λ o. o.finished ≡ false)) {T : Type 0} (r : Result T HandleFault) (there : CompletesAt p change r (cache_at k s) (cache_at after t) x) where
   module _ {b : Bool} (m : Machine) (w : Marks) (is : KeepsWhere b (cache_at k s) (history_of m (begun m c w))) where
     un : (object m (is.number p)).finished ≡ false
     un = not_finished s k m (begun m c w) is p x has.found draft
 
-    may : MayStand m (is.number p) (completed (object m (is.number p)))
-    may = change_may (λ m. Unit {0}) MayFinish s k c slot small p x has completed (λ o. o.finished ≡ false) makes m w tt is
+    may : MayStand m (is.number p) (change (object m (is.number p)))
+    may = change_may (λ m. Unit {0}) MayFinish s k c slot small p x has change (λ o. o.finished ≡ false) makes m w tt is
 
-    out : MayFinish (begun m c w) (is.number p) (completed (object m (is.number p)))
-    out = change_out (λ m. Unit {0}) MayFinish s k c slot small p x has completed (λ o. o.finished ≡ false) makes m w tt is un
+    out : MayFinish (begun m c w) (is.number p) (change (object m (is.number p)))
+    out = change_out (λ m. Unit {0}) MayFinish s k c slot small p x has change (λ o. o.finished ≡ false) makes m w tt is un
 
     safe : IsTrue b → IsSafe t (begun m c w)
-    safe = completed_safe s t k m (begun m c w) is p x there.changed has.found there.completes un may out
+    safe = completed_safe change finishes s t k m (begun m c w) is p x there.changed has.found there.completes un may out
 
     failed : LeavesWhere b c (history_of m w) None (cache_at after t)
     failed = record { safe = safe; replies = tt; next = tt }
@@ -88,23 +91,23 @@ module _ (s t : State) (k after : Kept) (c : Command) (slot : ℕ) (small : slot
         go : (changed : Result Object HandleFault) → there.changed ≡ changed → IsOkAnd changed (λ y. after ≡ with_object k p (Some y)) → LeavesWhere b c (history_of m w) (Some Done) (cache_at after t)
         go (Err f) e put = absurd put
         go (Ok y) e put =
-            let stands : KeepsWhere b (cache_at (with_object k p (Some y)) t) (history_of (stored m (is.number p) (completed (object m (is.number p)))) (begun m c w)) =
-            completed_in s t k m (begun m c w) is p x y there.changed sound has.found there.completes e un may out in
-            change_made (λ m. Unit {0}) MayFinish s k c slot small p x has completed (λ o. o.finished ≡ false) makes m w tt is t after safe
-            (subst (λ (l : Kept). KeepsWhere b (cache_at l t) (history_of (stored m (is.number p) (completed (object m (is.number p)))) (begun m c w))) (sym put) stands)
+            let stands : KeepsWhere b (cache_at (with_object k p (Some y)) t) (history_of (stored m (is.number p) (change (object m (is.number p)))) (begun m c w)) =
+            completed_in change finishes s t k m (begun m c w) is p x y there.changed sound has.found there.completes e un may out in
+            change_made (λ m. Unit {0}) MayFinish s k c slot small p x has change (λ o. o.finished ≡ false) makes m w tt is t after safe
+            (subst (λ (l : Kept). KeepsWhere b (cache_at l t) (history_of (stored m (is.number p) (change (object m (is.number p)))) (begun m c w))) (sym put) stands)
 
 -- such a command is carried out: a fault is no refusal
-finish_where : (s t : State) → IsSound s → (k after : Kept) (c : Command) (slot : ℕ) → slot < SLOTS → (p : ℕ) (x : Object) → HasAt k slot p x → is_draft x.entry ≡ true
-    → MakesChangeAt (λ m. Unit {0}) MayFinish k c slot completed (λ o. o.finished ≡ false) → {T : Type 0} (r : Result T HandleFault)
-    → CompletesAt p r (cache_at k s) (cache_at after t) x → OnRefused r (λ _. ⊥)
+finish_where : (change : MachineObject → MachineObject) → IsCompletion change → (s t : State) → IsSound s → (k after : Kept) (c : Command) (slot : ℕ) → slot < SLOTS → (p : ℕ) (x : Object) → HasAt k slot p x → is_draft x.entry ≡ true
+    → MakesChangeAt (λ m. Unit {0}) MayFinish k c slot change (λ o. o.finished ≡ false) → {T : Type 0} (r : Result T HandleFault)
+    → CompletesAt p change r (cache_at k s) (cache_at after t) x → OnRefused r (λ _. ⊥)
     → (b : Bool) (m : Machine) (w : Marks) → KeepsWhere b (cache_at k s) (history_of m w) → LeavesWhere b c (history_of m w) (done_or r) (cache_at after t)
-finish_where s t sound k after c slot small p x has draft makes (Ok value) there none b m w is = made s t k after c slot small p x has draft makes (Ok value) there m w (begun_in s k m c w is) sound there.put_back
-finish_where s t sound k after c slot small p x has draft makes (Err fault.Read) there none b m w is = failed s t k after c slot small p x has draft makes (Err fault.Read) there m w (begun_in s k m c w is)
-finish_where s t sound k after c slot small p x has draft makes (Err fault.Disk) there none b m w is = failed s t k after c slot small p x has draft makes (Err fault.Disk) there m w (begun_in s k m c w is)
-finish_where s t sound k after c slot small p x has draft makes (Err fault.Memory) there none b m w is = failed s t k after c slot small p x has draft makes (Err fault.Memory) there m w (begun_in s k m c w is)
-finish_where s t sound k after c slot small p x has draft makes (Err (fault.Refused refusal)) there none b m w is = absurd (none refusal refl)
+finish_where change finishes s t sound k after c slot small p x has draft makes (Ok value) there none b m w is = made change finishes s t k after c slot small p x has draft makes (Ok value) there m w (begun_in s k m c w is) sound there.put_back
+finish_where change finishes s t sound k after c slot small p x has draft makes (Err fault.Read) there none b m w is = failed change finishes s t k after c slot small p x has draft makes (Err fault.Read) there m w (begun_in s k m c w is)
+finish_where change finishes s t sound k after c slot small p x has draft makes (Err fault.Disk) there none b m w is = failed change finishes s t k after c slot small p x has draft makes (Err fault.Disk) there m w (begun_in s k m c w is)
+finish_where change finishes s t sound k after c slot small p x has draft makes (Err fault.Memory) there none b m w is = failed change finishes s t k after c slot small p x has draft makes (Err fault.Memory) there m w (begun_in s k m c w is)
+finish_where change finishes s t sound k after c slot small p x has draft makes (Err (fault.Refused refusal)) there none b m w is = absurd (none refusal refl)
 
-pub finish_carried : (s t : State) → IsSound s → (k after : Kept) (c : Command) (slot : ℕ) → slot < SLOTS → (p : ℕ) (x : Object) → HasAt k slot p x → is_draft x.entry ≡ true
-    → MakesChangeAt (λ m. Unit {0}) MayFinish k c slot completed (λ o. o.finished ≡ false) → {T : Type 0} (r : Result T HandleFault)
-    → CompletesAt p r (cache_at k s) (cache_at after t) x → OnRefused r (λ _. ⊥) → CarriesOut c (done_or r) (cache_at k s) (cache_at after t)
-finish_carried s t sound k after c slot small p x has draft makes r there none = carries_out (finish_where s t sound k after c slot small p x has draft makes r there none)
+pub finish_carried : (change : MachineObject → MachineObject) → IsCompletion change → (s t : State) → IsSound s → (k after : Kept) (c : Command) (slot : ℕ) → slot < SLOTS → (p : ℕ) (x : Object) → HasAt k slot p x → is_draft x.entry ≡ true
+    → MakesChangeAt (λ m. Unit {0}) MayFinish k c slot change (λ o. o.finished ≡ false) → {T : Type 0} (r : Result T HandleFault)
+    → CompletesAt p change r (cache_at k s) (cache_at after t) x → OnRefused r (λ _. ⊥) → CarriesOut c (done_or r) (cache_at k s) (cache_at after t)
+finish_carried change finishes s t sound k after c slot small p x has draft makes r there none = carries_out (finish_where change finishes s t sound k after c slot small p x has draft makes r there none)

@@ -22,7 +22,7 @@ use Rattle.file_handles.specs.declared.fault.HandleFault.TheVariants as fault
 read_if : (key c : List ℕ) (e : Bool) → bytes_eq (file_meta c).key key ≡ e → read_for key (Some c) ≡ (if e then reading (file_name key) c else Nothing)
 read_if key c e same = ap (λ (x : Bool). if x then reading (file_name key) c else Nothing) same
 
-reads_nothing : (name c : List ℕ) (f : Unfit) → file_fault name c ≡ Some f → reading name c ≡ Nothing
+pub reads_nothing : (name c : List ℕ) (f : Unfit) → file_fault name c ≡ Some f → reading name c ≡ Nothing
 unfolding reading
 reads_nothing name c f is = ap (λ (o : Option Unfit). by_fault o c) is
 

@@ -40,19 +40,20 @@ reads_body : (name c : List ℕ) → file_fault name c ≡ None → read name c 
 unfolding read
 reads_body name c none = ap (λ (o : Option Unfit). by_fault o c) none
 
--- a file that fits
-reads_first : (name c : List ℕ) → fits name c ≡ true → read name c ≡ whole_or (first_damage (file_meta c) c) (rewritten (file_meta c) c)
-reads_first name c fine =
+-- a file that fits, with these metadata
+pub reads_first : (name c : List ℕ) (m : Said) → file_fault name c ≡ None → m ≡ file_meta c → read name c ≡ whole_or (first_damage m c) (rewritten m c)
+reads_first name c m fine is =
     let body : body_in c ≡ take (file_meta c).offset c = ap (λ n. take n c) (sym (offset_of_meta c)) in
-    reads_body name c (none_of (file_fault name c) fine)
+    reads_body name c fine
     ∙ ap (λ (b : List ℕ). by_damages (file_meta c) b (damages (file_meta c).hashes (file_meta c).offset b)) body
     ∙ by_first (file_meta c) (take (file_meta c).offset c) (damages (file_meta c).hashes (file_meta c).offset (take (file_meta c).offset c))
+    ∙ ap (λ (n : Said). whole_or (first_damage n c) (rewritten n c)) (sym is)
 
--- one of this key, with these metadata
+-- one of this key
 reads_by : (key c : List ℕ) (m : Said) → fits (file_name key) c ≡ true → (file_meta c).key ≡ key → m ≡ file_meta c → read_for key (Some c) ≡ whole_or (first_damage m c) (rewritten m c)
 reads_by key c m fine same is =
     ap (λ (b : Bool). if b then read (file_name key) c else Nothing) ((bytes_decides (file_meta c).key key).1 same)
-    ∙ reads_first (file_name key) c fine ∙ ap (λ (n : Said). whole_or (first_damage n c) (rewritten n c)) (sym is)
+    ∙ reads_first (file_name key) c m (none_of (file_fault (file_name key) c) fine) is
 
 -- the body of a file of a key stands before its metadata
 pub meta_has : (key : List ℕ) (o : Option (List ℕ)) (meta : Meta) → IsMetaFor key o meta → HasMeta o (meta_of meta)

@@ -5,11 +5,13 @@ use Rattle.std.proofs.lemmas.List.Elements.{All-weaker}
 use Rattle.cache_theory.specs.Machine.{Machine, Object as MachineObject, object as object_of_number}
 use Rattle.cache_base.specs.Limits.{chunks}
 use Rattle.chunk_cache.specs.Cached.{CachedChunk}
+use Rattle.chunk_store.specs.Chunks.{chunk}
 use Rattle.entry_file.proofs.Bodies.{part_in_front}
-use Rattle.file_handles.specs.Changes.{appended, completed}
+use Rattle.file_handles.specs.Changes.{appended}
 use Rattle.file_handles.specs.HeldChunks.{ChunksStand, IsChunkInUse, KeepsChunks, chunks_on_disk}
 use Rattle.file_handles.specs.Kept.{Kept, object_at}
 use Rattle.file_handles.specs.declared.object.Object.{Object}
+use Rattle.file_handles.proofs.Completions.{IsCompletion}
 
 -- an object keeps its own chunks
 pub keeps_own : (o next : MachineObject) → next ≡ o → KeepsChunks o next
@@ -30,8 +32,12 @@ keeps_appended b o draft =
       same = λ i lt. sym (part_in_front 262144 (i * 262144) body b (omega (arith, lt, before)));
     }
 
-pub keeps_completed : (o : MachineObject) → o.finished ≡ false → KeepsChunks o (completed o)
-keeps_completed o draft = let before = draft_chunks o draft in record { more = omega (arith, before); same = λ i lt. refl }
+pub keeps_completed : (change : MachineObject → MachineObject) → IsCompletion change → (o : MachineObject) → o.finished ≡ false → KeepsChunks o (change o)
+keeps_completed change is o draft =
+    let before = draft_chunks o draft in
+    let after : chunks_on_disk (change o) ≡ chunks (length o.version.body) =
+    λ i. cond (is.done o i) (chunks (length (is.body o i))) (length (is.body o i) / 262144) in
+    record { more = omega (arith, before, after); same = λ i lt. ap (λ body. chunk body i) (sym (is.body o)) }
 
 module _ (k after : Kept) (m next : Machine) where
   -- a chunk whose object is at a place then

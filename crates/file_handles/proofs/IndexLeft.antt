@@ -63,9 +63,9 @@ change_left s t k after p x change r sound at filed changes =
     (writes_weaker s t there.0 _ (λ c. Unit {0}) (λ c is. tt) ((changes x at).changes.writes o.0 o.1 there.0 there.1))
 
 -- One that is finished: its file alone is written to, and then all is synced and the file moved.
-pub completed_left : {T : Type 0} (s t : State) (k after : Kept) (p : ℕ) (x : Object) (r : Result T HandleFault) → IsSound s → object_at k p ≡ Some x
-    → IsFiledAt (cache_at k s) p → CompletesThere p r (cache_at k s) (cache_at after t) → LeavesBeside s t
-completed_left s t k after p x r sound at filed completes =
+pub completed_left : {T : Type 0} (s t : State) (k after : Kept) (p : ℕ) (x : Object) (change : MachineObject → MachineObject) (r : Result T HandleFault) → IsSound s → object_at k p ≡ Some x
+    → IsFiledAt (cache_at k s) p → CompletesThere p change r (cache_at k s) (cache_at after t) → LeavesBeside s t
+completed_left s t k after p x change r sound at filed completes =
     let o = filed x at in
     let file = some_of (content_of s.files (names_now s (object_place x))) o.1.file in
     let there = named_file s.files (names_now s (object_place x)) file.0 file.1.0 in

@@ -9,12 +9,12 @@ use Rattle.cache_base.specs.declared.name.Name.{Name}
 use Rattle.cache_base.proofs.CheckLaws.{all_hold}
 use Rattle.cache_theory.specs.Checks.{checks, with_alt_data, with_value}
 use Rattle.cache_theory.specs.Command.{Command}
-use Rattle.cache_theory.specs.Command.Command.{At, Create, OpenKey, Append, Finish, SetElement, UnsetElement, ElementOf, UseEntry, Pin, Unpin, PutAlt, ReadPart, Close, Doom, Get, GetAlt, MainBody, Flush, HasEntry, HasGiven, ListRecords, ListGiven, Evict, EvictNames, ClearOrigin, ClearNames, Resume, ResumeNames, StepUpdate, UpdateState, Verify, VerifyRecords, Rebuild}
+use Rattle.cache_theory.specs.Command.Command.{At, Create, OpenKey, Append, Finish, FinishAs, SetElement, UnsetElement, ElementOf, UseEntry, Pin, Unpin, PutAlt, ReadPart, Close, Doom, Get, GetAlt, MainBody, Flush, HasEntry, HasGiven, ListRecords, ListGiven, Evict, EvictNames, ClearOrigin, ClearNames, Resume, ResumeNames, StepUpdate, UpdateState, Verify, VerifyRecords, Rebuild, Dump}
 use Rattle.cache_theory.specs.Command.Reply.{Done, NoneThere}
 use Rattle.cache_theory.specs.Machine.{Machine, Object as MachineObject, is_slot, is_writer, number_of, object_of, on_shelf, used_by}
 use Rattle.cache_theory.specs.Marks.{rewritten}
 use Rattle.cache_theory.specs.Proper.{IsProper}
-use Rattle.cache_theory.specs.Step.{Answer, answer, changed, effect, finished_by, joined, released, step, stepped, stored, used, with_pin}
+use Rattle.cache_theory.specs.Step.{Answer, answer, changed, effect, finished_as, finished_by, joined, released, step, stepped, stored, used, with_pin}
 use Rattle.cache_theory.specs.Table.{Table, get, insert, remove}
 use Rattle.cache_theory.proofs.Names.{get-insert_other, get-insert_same, get-remove_other, get-remove_same, same_bytes}
 use Rattle.cache_theory.proofs.Objects.{nth, nth-set_same}
@@ -24,8 +24,9 @@ use Rattle.entry_file.specs.EntryFile.Reading.{Whole, Damaged, Nothing}
 use Rattle.entry_file.specs.Version.{file_of}
 use Rattle.entry_metadata.specs.Metadata.{Meta as Said}
 use Rattle.entry_name.specs.EntryName.{file_name}
-use Rattle.entry_parts.specs.Elements.{element}
+use Rattle.entry_parts.specs.Elements.{Element, element}
 use Rattle.entry_parts.specs.Setting.{without_element}
+use Rattle.entry_parts.specs.declared.header.Header.{Header}
 use Rattle.index_record.specs.Filling.{record_of_meta}
 use Rattle.index_record.specs.declared.record.IndexRecord.{IndexRecord}
 use Rattle.index_theory.specs.Scan.{record_of, scanned}
@@ -131,6 +132,13 @@ module _ (m : Machine) (proper : IsProper m) (q : Name) where
         in
         stored_learnt m (number_of m s) (completed (object_of m s)) q (within all.0) (finished_by m s) (ap (λ (n : Machine). n.objects) next) (ap (λ (n : Machine). n.shelf) next)
 
+    finishes_as : (header : Header) (elements : List Element) → first_failing (checks m (FinishAs s header elements)) ≡ None → Scans m (FinishAs s header elements) q (effect m (FinishAs s header elements)).next
+    unfolding checks effect
+    finishes_as header elements fine =
+        let all = all_hold (checks m (FinishAs s header elements)) fine in
+        let next : Machine = stored m (number_of m s) (finished_as header elements (object_of m s)) in
+        stored_learnt m (number_of m s) (finished_as header elements (object_of m s)) q (within all.0) next refl refl
+
     sets : (name value : List ℕ) → first_failing (checks m (SetElement s name value)) ≡ None → Scans m (SetElement s name value) q (effect m (SetElement s name value)).next
     unfolding checks effect
     sets name value fine =
@@ -206,6 +214,7 @@ learnt_scanned m (Create s key) of proper fine q = gone m proper q (Create s key
 learnt_scanned m (OpenKey s key) of proper fine q = by_effect m proper q (OpenKey s key) fine (ap (λ (t : Table (List ℕ)). scanned (get t) q) (joined_scanned m s (used_by m key) (on_shelf m key)))
 learnt_scanned m (Append s bytes) of proper fine q = by_effect m proper q (Append s bytes) fine (appends m proper q s bytes fine)
 learnt_scanned m (Finish s) of proper fine q = by_effect m proper q (Finish s) fine (finishes m proper q s fine)
+learnt_scanned m (FinishAs s header elements) of proper fine q = by_effect m proper q (FinishAs s header elements) fine (finishes_as m proper q s header elements fine)
 learnt_scanned m (SetElement s name value) of proper fine q = by_effect m proper q (SetElement s name value) fine (sets m proper q s name value fine)
 learnt_scanned m (UnsetElement s name) of proper fine q = by_effect m proper q (UnsetElement s name) fine (unsets m proper q s name fine)
 learnt_scanned m (ElementOf s name) of proper fine q = by_effect m proper q (ElementOf s name) fine refl
@@ -235,3 +244,4 @@ learnt_scanned m UpdateState of proper fine q = by_effect m proper q UpdateState
 learnt_scanned m Verify of proper fine q = absurd of
 learnt_scanned m (VerifyRecords records) of proper fine q = absurd of
 learnt_scanned m Rebuild of proper fine q = absurd of
+learnt_scanned m Dump of proper fine q = absurd of

@@ -7,13 +7,13 @@ use Rattle.cache_base.specs.declared.name.Name.{Name}
 use Rattle.cache_base.proofs.CheckLaws.{AllHold, all_hold}
 use Rattle.cache_theory.specs.Checks.{checks, with_alt_data, with_value}
 use Rattle.cache_theory.specs.Command.{Command}
-use Rattle.cache_theory.specs.Command.Command.{Create, Doom, Finish, SetElement, UnsetElement, UseEntry, Pin, Unpin, PutAlt, Close}
+use Rattle.cache_theory.specs.Command.Command.{Create, Doom, Finish, FinishAs, SetElement, UnsetElement, UseEntry, Pin, Unpin, PutAlt, Close}
 use Rattle.cache_theory.specs.Command.Reply.{Done, NoneThere}
 use Rattle.cache_theory.specs.Machine.{Machine, Object as MachineObject, is_writer, number_of, object, object_of}
 use Rattle.cache_theory.specs.Marks.{rewritten}
 use Rattle.cache_theory.specs.Proper.{IsProper}
 use Rattle.cache_theory.specs.Refiled.{IsRefiled, Refiled, refiled, refiled_by}
-use Rattle.cache_theory.specs.Step.{Answer, answer, changed, effect, finished_by, released, step, stepped, stored, used, with_pin, without}
+use Rattle.cache_theory.specs.Step.{Answer, answer, changed, effect, finished_as, finished_by, released, step, stepped, stored, used, with_pin, without}
 use Rattle.cache_theory.proofs.Objects.{nth, nth-set_same}
 use Rattle.cache_theory.proofs.Refiling.{entries_are_refiled}
 use Rattle.cache_theory.proofs.Users.{slot_in_use}
@@ -60,6 +60,8 @@ written_done : (m : Machine) (c : Command) → IsProper m → AllHold (checks m 
 unfolding checks effect
 written_done m (Finish s) proper hold =
     completed_done m s (slot_in_use m proper s hold.0).number (λ i. hold.1.0 i && hold.1.1.0 i)
+written_done m (FinishAs s header elements) proper hold =
+    ap (λ (o : MachineObject). o.finished) (nth-set_same m.objects (number_of m s) (number_of m s) (finished_as header elements (object_of m s)) (slot_in_use m proper s hold.0).number refl)
 written_done m (SetElement s name value) proper hold =
     where_done (changed m s (with_value name value)) (number_of m s) (object_of m s).finished (changed_done m s (slot_in_use m proper s hold.0).number (with_value name value))
 written_done m (UnsetElement s name) proper hold =

@@ -1,6 +1,7 @@
 pub mod Histories
 pub mod Accounting
 pub mod KeptLaws
+pub mod Completions
 pub mod HeldChunkLaws
 pub mod PassingNames
 pub mod PinCommand
@@ -45,6 +46,7 @@ pub mod UnsyncedLaws
 pub mod FirstFree
 pub mod FoundFile
 pub mod FoundLoad
+pub mod FoundNamed
 pub mod FoundUser
 pub mod FoundShelf
 pub mod Found

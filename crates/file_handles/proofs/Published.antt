@@ -297,9 +297,9 @@ module _ {b : Bool} (s : State) (k : Kept) (m : Machine) (w : Marks) (is : Keeps
   written_safe on = safe_u on
 
   -- and after an Ok all stands for the machine with the object finished
-  pub whole_in : (y : Object) → IsSound s → IsSound u → BecomesWhole x y (object m (is.number p)) u → o ≡ record (object m (is.number p)) { finished = true } → (IsTrue b → MayFinish w (is.number p) o)
+  pub whole_in : (change : MachineObject → MachineObject) (y : Object) → IsSound s → IsSound u → BecomesWhole change x y (object m (is.number p)) u → o ≡ change (object m (is.number p)) → (IsTrue b → MayFinish w (is.number p) o)
       → KeepsWhere b (cache_at (with_object k p (Some y)) (published_by x.name x.doomed x.aside u)) (history_of (stored m (is.number p) o) w)
-  whole_in y sound_s sound becomes_whole is_o out = go x.doomed x.aside refl refl
+  whole_in change y sound_s sound becomes_whole is_o out = go x.doomed x.aside refl refl
     where
       changed_to : IsChangedTo k.chunks x y (object m (is.number p)) o
       changed_to = record {

@@ -9,7 +9,7 @@ use Rattle.disk_model.specs.Sound.{IsSound}
 use Rattle.disk_model.specs.State.{State, standing}
 use Rattle.disk_model.specs.Writes.{WritesAt}
 use Rattle.file_handles.specs.Cache.{cache_at}
-use Rattle.file_handles.specs.Changes.{Becomes, ChangesAt, IsFiledAs, IsMomentOf, completed}
+use Rattle.file_handles.specs.Changes.{Becomes, ChangesAt, IsFiledAs, IsMomentOf}
 use Rattle.file_handles.specs.Held.{object_place}
 use Rattle.file_handles.specs.Kept.{Kept, object_at, with_object}
 use Rattle.file_handles.specs.Publishing.{BecomesWhole, CompletesAt, IsAmidPublishing, published_by}
@@ -48,19 +48,19 @@ module _ {T : Type 0} (p : ℕ) (change : MachineObject → MachineObject) (answ
       on_ok (Err e) = tt
 
 -- The same of a call that finishes it.
-module _ {T : Type 0} (p : ℕ) (answer : Result T HandleFault) (s t u : State) (before after : Kept) (x : Object) (at : object_at before p ≡ Some x)
-    (writes : (o : MachineObject) → IsFiledAs x o s → WritesAt (object_place x) (IsMomentOf (completed o)) s u) (sound : IsSound u)
-    (amid : (t ≡ u) ⊎ (IsAmidPublishing x.name x.doomed x.aside u t × ((o : MachineObject) → IsFiledAs x o s → standing u (object_place x) ≡ Some (object_file (completed o))))) where
-  pub completes_failed : IsErr answer → (z : Object) → object_at before p ≡ Some z → CompletesAt p answer (cache_at before s) (cache_at after t) z
-  completes_failed failed z also = subst (CompletesAt p answer (cache_at before s) (cache_at after t)) (one_object before p x z at also) (record {
+module _ {T : Type 0} (p : ℕ) (change : MachineObject → MachineObject) (answer : Result T HandleFault) (s t u : State) (before after : Kept) (x : Object) (at : object_at before p ≡ Some x)
+    (writes : (o : MachineObject) → IsFiledAs x o s → WritesAt (object_place x) (IsMomentOf (change o)) s u) (sound : IsSound u)
+    (amid : (t ≡ u) ⊎ (IsAmidPublishing x.name x.doomed x.aside u t × ((o : MachineObject) → IsFiledAs x o s → standing u (object_place x) ≡ Some (object_file (change o))))) where
+  pub completes_failed : IsErr answer → (z : Object) → object_at before p ≡ Some z → CompletesAt p change answer (cache_at before s) (cache_at after t) z
+  completes_failed failed z also = subst (CompletesAt p change answer (cache_at before s) (cache_at after t)) (one_object before p x z at also) (record {
     changed = Err fault.Memory;
     completes = record { written = u; writes = writes; sound = sound; amid = amid; becomes = tt };
     put_back = IfOk-from_err answer (λ v. IsOkAnd {E = HandleFault} (Err fault.Memory) (λ y. after ≡ with_object before p (Some y))) failed;
   })
 
-  pub completes_done : (y : Object) → t ≡ published_by x.name x.doomed x.aside u → ((o : MachineObject) → IsFiledAs x o s → BecomesWhole x y o u) → after ≡ with_object before p (Some y) → (z : Object) → object_at before p ≡ Some z
-      → CompletesAt p answer (cache_at before s) (cache_at after t) z
-  completes_done y is becomes put z also = subst (CompletesAt p answer (cache_at before s) (cache_at after t)) (one_object before p x z at also) (record {
+  pub completes_done : (y : Object) → t ≡ published_by x.name x.doomed x.aside u → ((o : MachineObject) → IsFiledAs x o s → BecomesWhole change x y o u) → after ≡ with_object before p (Some y) → (z : Object) → object_at before p ≡ Some z
+      → CompletesAt p change answer (cache_at before s) (cache_at after t) z
+  completes_done y is becomes put z also = subst (CompletesAt p change answer (cache_at before s) (cache_at after t)) (one_object before p x z at also) (record {
     changed = Ok y;
     completes = record { written = u; writes = writes; sound = sound; amid = amid; becomes = (is, becomes) };
     put_back = on_ok answer;

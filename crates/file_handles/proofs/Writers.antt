@@ -1,17 +1,21 @@
 -- The checks of the commands of a writer, by what the handles have.
 use Rattle.std.proofs.Common.{◌≡◌, ℕ, ◌+◌, ◌<◌, List, length, [], ◌∷◌, Bool, true, false, cond, not, Option, Some, None, Result, Ok, Err, refl, sym, ap, ◌∙◌}
-use Rattle.std.specs.Prelude.{nat_le}
+use Rattle.std.specs.Prelude.{IsSomeAnd, nat_le}
 use Rattle.std.proofs.lemmas.Bool.{cond-false, cond-true}
 use Rattle.cache_base.specs.Checks.{first_failing}
-use Rattle.cache_base.specs.declared.limits.TheConstants.{BODY_MAX, SLOTS}
-use Rattle.cache_theory.specs.Checks.{Check, checks, room_for, slot_used, unfinished, writer}
-use Rattle.cache_theory.specs.Command.Command.{Append, Finish}
+use Rattle.cache_base.specs.Limits.{chunks}
+use Rattle.cache_base.specs.declared.limits.TheConstants.{BLOCK_MAX, BODY_MAX, SLOTS}
+use Rattle.cache_theory.specs.Checks.{Check, checks, room_for, slot_used, small_block, unfinished, with_parts, writer}
+use Rattle.cache_theory.specs.Command.Command.{Append}
 use Rattle.cache_theory.specs.Machine.{Machine, Object as MachineObject, is_slot, is_writer, object, object_of}
 use Rattle.cache_theory.specs.declared.refusal.Refusal.{Refusal}
 use Rattle.cache_theory.specs.declared.refusal.Refusal.TheVariants as refused
 use Rattle.entry_file.specs.Held.{held}
 use Rattle.entry_file.specs.NewEntry.{grown_len}
 use Rattle.entry_file.proofs.Bodies.{grown}
+use Rattle.entry_metadata.specs.Metadata.{block_length}
+use Rattle.entry_parts.specs.Elements.{elements_bytes}
+use Rattle.file_handles.specs.Finishing.{finish_command, finish_fault, size_fault}
 use Rattle.file_handles.specs.Growing.{grow_fault}
 use Rattle.file_handles.specs.Held.{IsEntryOf, is_draft}
 use Rattle.file_handles.specs.Kept.{Kept, object_at, use_at, writing}
@@ -20,7 +24,9 @@ use Rattle.file_handles.specs.Stands.{HandlesStand}
 use Rattle.file_handles.specs.declared.object.Entry.{Entry}
 use Rattle.file_handles.specs.declared.object.Entry.TheVariants as entry
 use Rattle.file_handles.specs.declared.object.Object.{Object}
+use Rattle.file_handles.specs.declared.object.Parts.{Parts}
 use Rattle.file_handles.specs.declared.object.Use.{Use}
+use Rattle.file_handles.proofs.ElementEntries.{body_len_is, key_is}
 use Rattle.file_handles.proofs.ElementSlots.{no_slot, slot_is, slot_number, slot_writes}
 
 -- how a check by a result ends
@@ -50,10 +56,25 @@ grow_ends (entry.Draft d) o more is =
     go true = refl
     go false = refl
 
--- whether an entry may be finished
-finish_ends_by : (x : Entry) (o : MachineObject) → IsEntryOf x o → cond (not o.finished) None (Some refused.Finished) ≡ cond (is_draft x) None (Some refused.Finished)
-finish_ends_by (entry.Finished meta) o is = ap (λ b. cond (not b) None (Some refused.Finished)) is.0
-finish_ends_by (entry.Draft d) o is = ap (λ b. cond (not b) None (Some refused.Finished)) is.0
+-- whether an entry may be finished, and whether its block is small with the parts that are given
+finish_ends_by : (x : Entry) (o : MachineObject) (size : Option Refusal) → IsEntryOf x o → cond (not o.finished) size (Some refused.Finished) ≡ cond (is_draft x) size (Some refused.Finished)
+finish_ends_by (entry.Finished meta) o size is = ap (λ b. cond (not b) size (Some refused.Finished)) is.0
+finish_ends_by (entry.Draft d) o size is = ap (λ b. cond (not b) size (Some refused.Finished)) is.0
+
+size_ends_by : (x : Entry) (o : MachineObject) (parts : Parts) → IsEntryOf x o
+    → cond (small_block (with_parts parts.header parts.elements o.version)).0 None (Some refused.TooLarge) ≡ size_fault x (Some parts)
+size_ends_by x o parts is = λ i.
+    cond (nat_le (block_length (chunks (sym (body_len_is x o is) i)) (length (sym (key_is x o is) i)) (length (elements_bytes parts.elements))) BLOCK_MAX) None (Some refused.TooLarge)
+
+-- an entry that may be finished is a draft
+pub may_is_draft : (x : Entry) (given : Option Parts) → finish_fault x given ≡ None → is_draft x ≡ true
+may_is_draft (entry.Draft d) given may = refl
+may_is_draft (entry.Finished meta) given may = absurd (cc)
+
+-- and a draft may be finished with its own parts
+pub draft_may : (o : Option Object) → IsSomeAnd o (λ x. is_draft x.entry ≡ true) → IsSomeAnd o (λ x. finish_fault x.entry None ≡ None)
+draft_may None draft = draft
+draft_may (Some x) draft = ap (λ b. cond b None (Some refused.Finished)) draft
 
 module _ (k : Kept) (s : ℕ) (small : s < SLOTS) where
   -- no slot that writes
@@ -80,9 +101,11 @@ module _ (k : Kept) (s : ℕ) (small : s < SLOTS) where
   unfolding checks
   append_no_writer r is bytes m number proper stand = no_writer r is m number stand (unfinished m s ∷ room_for m s (length bytes) ∷ [])
 
-  pub finish_no_writer : (r : Refusal) → writing (use_at k s) ≡ Err r → Refuses k (Finish s) r
+  pub finish_no_writer : (r : Refusal) → writing (use_at k s) ≡ Err r → (given : Option Parts) → Refuses k (finish_command given s) r
   unfolding checks
-  finish_no_writer r is m number proper stand = no_writer r is m number stand (unfinished m s ∷ [])
+  finish_no_writer r is None m number proper stand = no_writer r is m number stand (unfinished m s ∷ [])
+  finish_no_writer r is (Some parts) m number proper stand =
+      no_writer r is m number stand (unfinished m s ∷ small_block (with_parts parts.header parts.elements (object_of m s).version) ∷ [])
 
   module _ (u : Use) (x : Object) (is : writing (use_at k s) ≡ Ok u) (found : object_at k u.place ≡ Some x) where
     pub is_writing : (m : Machine) (number : ℕ → ℕ) → HandlesStand k m number → (rest : List Check) → first_failing (slot_used m s ∷ writer m s ∷ rest) ≡ first_failing rest
@@ -102,9 +125,15 @@ module _ (k : Kept) (s : ℕ) (small : s < SLOTS) where
         ∙ grow_ends x.entry (object m (number u.place)) (length bytes) (stand.objects u.place x found).as_held.held_entry
         ∙ ap (λ n. ending (grow_fault x.entry n)) long
 
-    pub finish_ends : EndsIn k (Finish s) (cond (is_draft x.entry) None (Some refused.Finished))
+    pub finish_ends : (given : Option Parts) → EndsIn k (finish_command given s) (finish_fault x.entry given)
     unfolding checks
-    finish_ends m number proper stand =
+    finish_ends None m number proper stand =
         is_writing m number stand (unfinished m s ∷ [])
         ∙ ap (λ (o : MachineObject). cond (not o.finished) None (Some refused.Finished)) (object_is m number stand)
-        ∙ finish_ends_by x.entry (object m (number u.place)) (stand.objects u.place x found).as_held.held_entry
+        ∙ finish_ends_by x.entry (object m (number u.place)) None (stand.objects u.place x found).as_held.held_entry
+    finish_ends (Some parts) m number proper stand =
+        let held = (stand.objects u.place x found).as_held.held_entry in
+        is_writing m number stand (unfinished m s ∷ small_block (with_parts parts.header parts.elements (object_of m s).version) ∷ [])
+        ∙ ap (λ (o : MachineObject). cond (not o.finished) (cond (small_block (with_parts parts.header parts.elements o.version)).0 None (Some refused.TooLarge)) (Some refused.Finished)) (object_is m number stand)
+        ∙ ap (λ size. cond (not (object m (number u.place)).finished) size (Some refused.Finished)) (size_ends_by x.entry (object m (number u.place)) parts held)
+        ∙ finish_ends_by x.entry (object m (number u.place)) (size_fault x.entry (Some parts)) held

@@ -4,10 +4,12 @@ use Rattle.disk_model.specs.declared.disk.Disk.{Ghosts}
 use Rattle.file_handles.specs.Kept.{Kept, kept}
 use Rattle.file_handles.specs.declared.handles.Handles.{Handles}
 
+-- what the handles keep, and the state of the disk under them
 pub record Cache : Type 0 where
   pub handles : Kept
   pub disk : State
 
+-- these handles over this disk
 abbrev pub cache_at : Kept → State → Cache
 cache_at k s = record { handles = k; disk = s }
 

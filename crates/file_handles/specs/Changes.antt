@@ -67,7 +67,7 @@ abbrev pub IsFiledAt : Cache → ℕ → Type 0
 IsFiledAt now p =
     (x : Object) → object_at now.handles p ≡ Some x → (o : MachineObject) × IsFiledAs x o now.disk
 
--- the changes: bytes more in the body, and the elements changed
+-- the changes of an object: bytes more in the body
 abbrev pub appended : List ℕ → MachineObject → MachineObject
 appended bytes o = record o { version = record (o.version) { body = o.version.body ++ bytes } }
 
@@ -75,5 +75,6 @@ appended bytes o = record o { version = record (o.version) { body = o.version.bo
 abbrev pub completed : MachineObject → MachineObject
 completed o = record o { finished = true }
 
+-- its version changed
 abbrev pub with_version : (Version → Version) → MachineObject → MachineObject
 with_version f o = record o { version = f o.version }

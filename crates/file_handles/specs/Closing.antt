@@ -41,6 +41,7 @@ abbrev pub without_doomed : Option ℕ → State → State
 without_doomed None s = s
 without_doomed (Some number) s = removed (Doomed number) s
 
+-- the disk without the file of an object, where that stands aside
 abbrev pub let_go_by : Object → State → State
 let_go_by x s = without_doomed x.aside s
 

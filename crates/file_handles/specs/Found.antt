@@ -1,5 +1,5 @@
--- What a `get` finds.
-use Rattle.std.specs.Prelude.{IfOk, IsSomeAnd, List, Result, ℕ, ◌≡◌}
+-- What a `get` finds, and what is found under a name.
+use Rattle.std.specs.Prelude.{IfOk, IsSomeAnd, List, None, Option, Result, Some, length, ℕ, ◌≡◌, ◌≤◌}
 use Rattle.cache_base.specs.Limits.{chunks}
 use Rattle.cache_base.specs.declared.name.Name.{Name}
 use Rattle.cache_theory.specs.Command.Command.{Get}
@@ -9,7 +9,10 @@ use Rattle.cache_theory.specs.Machine.{Machine}
 use Rattle.cache_theory.specs.Step.{step}
 use Rattle.disk_model.specs.State.{State, standing}
 use Rattle.disk_model.specs.declared.place.Place.TheVariants.{Entry as EntryAt}
+use Rattle.entry_file.specs.EntryFile.{read, whole_in}
+use Rattle.entry_file.specs.EntryFile.Reading.{Whole}
 use Rattle.entry_file.specs.Held.{IsLastOf}
+use Rattle.entry_file.specs.Rewriting.{rewritten}
 use Rattle.entry_file.specs.Version.{IsFileOf, IsVersion, Version, version_meta}
 use Rattle.entry_metadata.specs.Meta.{meta_of}
 use Rattle.entry_metadata.specs.declared.meta.Meta.{Meta}
@@ -41,3 +44,15 @@ pub record Finds (key : List ℕ) (answer : Result Meta HandleFault) (now : Cach
 abbrev pub HoldsLast : State → List ℕ → ℕ → List ℕ → Type 0
 HoldsLast s key offset bytes =
     (name : Name) → name.0 ≡ file_name key → IsLastOf (chunks offset) (standing s (EntryAt name)) offset bytes
+
+-- the content is the file of a whole entry with these metadata under the name: the version whose body it begins with
+pub record IsWholeOf (name c : List ℕ) (found : Meta) : Type 0 where
+  pub reads : read name c ≡ Whole (rewritten (meta_of found) c)
+  pub meta : version_meta (rewritten (meta_of found) c) ≡ meta_of found
+  pub long : found.offset ≤ length c
+
+-- what is found under a name, by what stands there
+abbrev pub IsFoundUnder : List ℕ → Option (List ℕ) → Option Meta → Type 0
+IsFoundUnder name None found = found ≡ None
+IsFoundUnder name (Some c) None = whole_in (read name c) ≡ None
+IsFoundUnder name (Some c) (Some meta) = IsWholeOf name c meta

@@ -22,6 +22,7 @@ abbrev pub place_of : Name → Option ℕ → Place
 place_of name None = place.Entry name
 place_of name (Some number) = place.Doomed number
 
+-- where the file of an object stands
 abbrev pub object_place : Object → Place
 object_place x = place_of x.name x.aside
 
@@ -34,7 +35,7 @@ abbrev pub is_draft : Entry → Bool
 is_draft (entry.Draft d) = true
 is_draft (entry.Finished meta) = false
 
--- the key, the elements, the header and the body's length of an entry
+-- the key, the elements and the header of an entry
 abbrev pub key_in : Entry → List ℕ
 key_in (entry.Draft d) = d.key
 key_in (entry.Finished meta) = meta.key
@@ -52,6 +53,7 @@ abbrev pub rest_in : Entry → List ℕ
 rest_in (entry.Draft d) = (held d.body).rest
 rest_in (entry.Finished meta) = []
 
+-- the length of its body
 abbrev pub body_len_in : Entry → ℕ
 body_len_in (entry.Draft d) = grown_len (held d.body)
 body_len_in (entry.Finished meta) = meta.offset
@@ -68,6 +70,7 @@ abbrev pub IsEntryOf : Entry → MachineObject → Type 0
 IsEntryOf (entry.Draft d) o = (o.finished ≡ false) × IsDraftOf d o.version
 IsEntryOf (entry.Finished meta) o = (o.finished ≡ true) × (meta_of meta ≡ version_meta o.version)
 
+-- the object that is held is this one of the machine
 pub record IsHeldAs (x : Object) (o : MachineObject) : Type 0 where
   pub named : x.name.0 ≡ file_name o.version.key
   pub doomed : x.doomed ≡ o.doomed

@@ -7,6 +7,7 @@ use Rattle.file_handles.specs.declared.handles.Handles.{Handles}
 use Rattle.file_handles.specs.declared.object.Object.{Object}
 use Rattle.file_handles.specs.declared.object.Use.{Use}
 
+-- what the handles keep
 pub record Kept : Type 0 where
   pub objects : List (Option Object)
   pub slots : List (Option Use)
@@ -15,6 +16,7 @@ pub record Kept : Type 0 where
   -- the chunks that were read last, the most recent first
   pub chunks : List CachedChunk
 
+-- what these handles keep
 abbrev pub kept : Handles → Kept
 kept h = record { objects = h.table.objects; slots = h.table.slots; made = h.made; chunks = h.chunks }
 
@@ -28,10 +30,11 @@ use_at k s = unwrap_or (slice_get k.slots s) None
 abbrev pub object_in : Kept → ℕ → Option Object
 object_in k s = option_and_then (λ u. object_at k u.place) (use_at k s)
 
--- the use of a slot, where its object is there
+-- a use, where its object is there
 abbrev pub if_there : Kept → Use → Option Use
 if_there k u = if is_some (object_at k u.place) then Some u else None
 
+-- the use of a slot, where its object is there
 abbrev pub live_use : Kept → ℕ → Option Use
 live_use k s = option_and_then (if_there k) (use_at k s)
 
@@ -39,7 +42,7 @@ live_use k s = option_and_then (if_there k) (use_at k s)
 abbrev pub number_at : Kept → ℕ → Option ℕ
 number_at k p = option_map (λ x. x.number) (object_at k p)
 
--- another object at a place, or none, and another use of a slot
+-- another object at a place, or none
 abbrev pub with_object : Kept → ℕ → Option Object → Kept
 with_object k p x = record k { objects = slice_set k.objects p x }
 
@@ -51,6 +54,7 @@ with_new k p x = record (with_object k p (Some x)) { made = k.made + 1 }
 abbrev pub without_chunks : Kept → ℕ → Kept
 without_chunks k number = record k { chunks = without_entry number k.chunks }
 
+-- another use of a slot, or none
 abbrev pub with_use : Kept → ℕ → Option Use → Kept
 with_use k s u = record k { slots = slice_set k.slots s u }
 

@@ -12,6 +12,7 @@ pub mod Publishing
 pub mod Finding
 pub mod Growing
 pub mod Setting
+pub mod Finishing
 pub mod PuttingAlt
 pub mod Reading
 pub mod Resting

@@ -50,5 +50,6 @@ used_place k name key = option_and_then (if_key k key) (user_place k name)
 abbrev pub is_draft_at : Kept → ℕ → Bool
 is_draft_at k p = unwrap_or (option_map (λ x. is_draft x.entry) (object_at k p)) false
 
+-- the object in use of the name has the key, and is a draft
 abbrev pub is_writing : Kept → Name → List ℕ → Bool
 is_writing k name key = unwrap_or (option_map (is_draft_at k) (used_place k name key)) false

@@ -20,9 +20,11 @@ EndsIn k c end =
     (m : Machine) (number : ℕ → ℕ) → IsProper m → HandlesStand k m number
     → first_failing (checks m c) ≡ end
 
+-- each such machine refuses the command so
 abbrev pub Refuses : Kept → Command → Refusal → Type 0
 Refuses k c r = EndsIn k c (Some r)
 
+-- no such machine refuses it
 abbrev pub Passes : Kept → Command → Type 0
 Passes k c = EndsIn k c None
 

@@ -50,13 +50,14 @@ HasRoom (entry.Draft d) es = length (elements_bytes es) ≤ ELEMENTS_MAX
 HasRoom (entry.Finished meta) es =
     block_length (length meta.hashes) (length meta.key) (length (elements_bytes es)) ≤ BLOCK_MAX
 
+-- the block of the entry is small with so many bytes of elements
+abbrev pub has_small_block : Entry → ℕ → Bool
+has_small_block x len = nat_le (block_length (chunks (body_len_in x)) (length (key_in x)) len) BLOCK_MAX
+
 -- the elements are small, and so is the block of the entry with them
 abbrev pub are_small : Entry → List Element → Bool
 are_small x es =
-    nat_le (length (elements_bytes es)) ELEMENTS_MAX
-    && nat_le
-    (block_length (chunks (body_len_in x)) (length (key_in x)) (length (elements_bytes es)))
-    BLOCK_MAX
+    nat_le (length (elements_bytes es)) ELEMENTS_MAX && has_small_block x (length (elements_bytes es))
 
 -- a length that is small
 abbrev pub small_len : ℕ → Option ℕ

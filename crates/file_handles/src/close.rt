@@ -105,7 +105,7 @@ impl Handles {
         ensures change { FailsInChange D.Disk (ending result) disk.new }
     {
         if self.is_finished_by(used) {
-            self.finish_at(alloc, disk, used.place)
+            self.finish_at(alloc, disk, used.place, None)
         } else {
             Ok(Effect::Same)
         }

@@ -126,8 +126,10 @@ impl Handles {
         ensures slots { (kept self.new).slots ≡ (kept self.old).slots }
         ensures chunks { SameChunks (kept self.old) (kept self.new) }
         ensures refused { OnRefused result (λ _. ⊥) }
-        ensures read { OnRead result (LeavesAll D.Disk (kept self.old) (kept self.new) disk.old disk.new) }
-        ensures change { result ≡ Err HandleFault.Disk → FailsInChange D.Disk (ending result) disk.new }
+        ensures read { OnRead result
+            (LeavesAll D.Disk (kept self.old) (kept self.new) disk.old disk.new) }
+        ensures change { result ≡ Err HandleFault.Disk →
+            FailsInChange D.Disk (ending result) disk.new }
         ensures unsynced { Told D.Disk SyncsNothing disk.old disk.new }
         ensures index { Told D.Disk LeavesBeside disk.old disk.new }
         ensures account { Accounts D.Disk (ending result) disk.old disk.new }
@@ -172,8 +174,10 @@ impl Handles {
         ensures numbered { Told D.Disk TakesFirstFree disk.old disk.new }
         ensures chunks { SameChunks (kept self.old) (kept self.new) }
         ensures unchanged { OnRefused result (λ _. disk.new ≡ disk.old) }
-        ensures read { OnRead result (LeavesAll D.Disk (kept self.old) (kept self.new) disk.old disk.new) }
-        ensures change { result ≡ Err HandleFault.Disk → FailsInChange D.Disk (ending result) disk.new }
+        ensures read { OnRead result
+            (LeavesAll D.Disk (kept self.old) (kept self.new) disk.old disk.new) }
+        ensures change { result ≡ Err HandleFault.Disk →
+            FailsInChange D.Disk (ending result) disk.new }
         ensures unsynced { Told D.Disk SyncsNothing disk.old disk.new }
         ensures index { Told D.Disk LeavesBeside disk.old disk.new }
         ensures account { Accounts D.Disk (ending result) disk.old disk.new }

@@ -2,7 +2,7 @@
 
 ghost use Rattle.std.specs.Prelude.{ℕ, List, None, Some, ◌+◌, ◌≡◌, ◌<◌, ◌≤◌, IfErr, IfNone, IfOk, IfSome, IsSome, IsSomeAnd, IsTrue, OnOk, length, option_map, ◌≢◌, Err};
 ghost use Rattle.cache_base.specs.Limits.{chunks as chunks_of};
-ghost use Rattle.cache_base.specs.declared.limits.TheConstants.{ELEMENTS_MAX, SLOTS};
+ghost use Rattle.cache_base.specs.declared.limits.TheConstants.{BLOCK_MAX, ELEMENTS_MAX, SLOTS};
 ghost use Rattle.cache_theory.specs.Command.Command.{ElementOf, SetElement, UnsetElement};
 ghost use Rattle.cache_theory.specs.Command.Reply.{Refused};
 ghost use Rattle.cache_theory.specs.Step.{element_reply};
@@ -14,7 +14,7 @@ ghost use Rattle.entry_parts.specs.Setting.{has_zero as has_zero_in, set_fault, 
 ghost use Rattle.file_handles.specs.Answers.{OnRefused, done_or, done_or_none, ending};
 ghost use Rattle.file_handles.specs.Effects.{HasEffect, IsPlainEffect};
 ghost use Rattle.file_handles.specs.Held.{body_len_in, elements_in, key_in};
-ghost use Rattle.file_handles.specs.Setting.{HasRoom, are_small, small_len};
+ghost use Rattle.file_handles.specs.Setting.{HasRoom, are_small, has_small_block as has_small_block_of, small_len};
 ghost use Rattle.file_handles.specs.Unsynced.{SyncsNothing};
 ghost use Rattle.index_theory.specs.Leaves.{LeavesBeside};
 
@@ -59,7 +59,7 @@ fn len_with(elements: &Elements, name: &[u8], value: &[u8]) -> Option<usize>
 
 // The length of the block of an entry with so many bytes of elements.
 fn block_with(entry: &Entry, elements: usize) -> usize
-    requires { elements ≤ ELEMENTS_MAX }
+    requires { elements ≤ BLOCK_MAX }
     ensures { result ≡ block_length
         (chunks_of (body_len_in entry.now)) (length (key_in entry.now)) elements }
 {
@@ -73,12 +73,22 @@ fn block_with(entry: &Entry, elements: usize) -> usize
     4 + 2 * hashes + 32 + key + 1 + elements
 }
 
+/// Whether the block of an entry with so many bytes of elements is not too large.
+pub(crate) fn has_small_block(entry: &Entry, elements: usize) -> bool
+    ensures { result ≡ has_small_block_of entry.now elements }
+{
+    if elements > BLOCK_MAX {
+        return false;
+    }
+    block_with(entry, elements) <= BLOCK_MAX
+}
+
 // Whether the entry has room for its elements with this one set.
 fn may_have(entry: &Entry, elements: &Elements, name: &[u8], value: &[u8]) -> bool
     ensures { result ≡ are_small entry.now (with_element name.now value.now elements.now) }
 {
     match len_with(elements, name, value) {
-        Some(len) => block_with(entry, len) <= BLOCK_MAX,
+        Some(len) => has_small_block(entry, len),
         None => false,
     }
 }

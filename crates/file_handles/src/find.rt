@@ -76,12 +76,14 @@ fn check_under<D: Disk>(
     meta: &Meta,
     chunk: &mut Buffer,
 ) -> Result<Option<Damage>, HandleFault>
-    requires { IsTrue D.tells → HasMeta (standing (D.state disk.old) (EntryAt name.now)) (meta_of meta.now) }
+    requires { IsTrue D.tells →
+        HasMeta (standing (D.state disk.old) (EntryAt name.now)) (meta_of meta.now) }
     ensures damage { let file = standing (D.state disk.old) (EntryAt name.now) in
         IfOk result (λ damage. IsTrue D.tells → IfSome file (λ content.
         damage ≡ first_damage (meta_of meta.now) content)) }
     ensures stores { let file = standing (D.state disk.old) (EntryAt name.now) in
-        IfOk result (λ damage. IsTrue D.tells → damage ≡ None → StoresBody file (meta_of meta.now)) }
+        IfOk result (λ damage. IsTrue D.tells → damage ≡ None →
+        StoresBody file (meta_of meta.now)) }
     ensures held { let file = standing (D.state disk.old) (EntryAt name.now) in
         IfOk result (λ damage. IsTrue D.tells → damage ≡ None →
         IsLastOf (chunks_of meta.now.offset) file meta.now.offset chunk.new) }
@@ -107,7 +109,8 @@ pub(crate) fn load<D: Disk>(
     ensures loads { let file = standing (D.state disk.old) (EntryAt name.now) in
         IsTrue D.tells → LoadsAs (read_for key.now file) result }
     ensures held { let file = standing (D.state disk.old) (EntryAt name.now) in
-        IfOk result (λ meta. IsTrue D.tells → IsLastOf (chunks_of meta.offset) file meta.offset chunk.new) }
+        IfOk result (λ meta. IsTrue D.tells →
+        IsLastOf (chunks_of meta.offset) file meta.offset chunk.new) }
     ensures no_change { result ≢ Err HandleFault.Disk }
     ensures looks { Looks D.Disk (ending result) disk.old disk.new }
 {
@@ -120,7 +123,7 @@ pub(crate) fn load<D: Disk>(
 
 impl Handles {
     ghost use Rattle.file_handles.specs.Cache.{cache};
-    ghost use Rattle.file_handles.specs.Found.{Finds, HoldsLast};
+    ghost use Rattle.file_handles.specs.Found.{Finds, HoldsLast, IsFoundUnder};
     ghost use Rattle.file_handles.specs.Kept.{kept, object_at as object_kept_at};
     ghost use Rattle.file_handles.specs.Loading.{is_writing as is_writing_in, used_place};
     ghost use Rattle.file_handles.specs.Stands.{RepresentsSome};
@@ -173,6 +176,32 @@ impl Handles {
             return Err(HandleFault::Refused(Refusal::Unfinished));
         }
         load(alloc, disk, key, &name, &mut self.chunk)
+    }
+
+    /// The metadata of the entry that is found under a name, whatever its key: each chunk is checked against its hash, and
+    /// the last one is held for `read_found`. None where nothing stands there, or what does is unfit or damaged.
+    pub fn find_named<D: Disk>(
+        &mut self,
+        alloc: Global,
+        disk: &mut D,
+        name: &Name,
+    ) -> Result<Option<Meta>, DiskFault>
+        ensures found { let file = standing (D.state disk.old) (EntryAt name.now) in
+            IfOk result (λ found. IsTrue D.tells → IsFoundUnder name.now.0 file found) }
+        ensures held { let file = standing (D.state disk.old) (EntryAt name.now) in
+            IfOk result (λ found. IsTrue D.tells → IfSome found (λ meta.
+            IsLastOf (chunks_of meta.offset) file meta.offset self.new.chunk)) }
+        ensures kept { kept self.new ≡ kept self.old }
+        ensures looks { Looks D.Disk (disk_ending result) disk.old disk.new }
+    {
+        let place = Place::Entry(*name);
+        let EntryRead::Fits { meta, .. } = read_meta(alloc, disk, &place, name)? else {
+            return Ok(None);
+        };
+        match check_body(disk, &place, &meta, &mut self.chunk)? {
+            None => Ok(Some(meta)),
+            Some(_) => Ok(None),
+        }
     }
 
     /// Makes the chunk `index` of the body of an entry that was just found the one to be printed, by one call of the

@@ -1,25 +1,31 @@
-//! Finishes the entry of a slot: its file becomes whole.
+//! Finishes the entry of a slot, with its own header and elements or with given ones: its file becomes whole.
 
-ghost use Rattle.std.specs.Prelude.{◌≡◌, ◌≢◌, ◌<◌, Err, IfErr, IfOk, IsSome, IsSomeAnd, IsTrue, None, OnOk, true};
-ghost use Rattle.cache_base.specs.declared.limits.TheConstants.{SLOTS};
-ghost use Rattle.cache_theory.specs.Command.Command.{Finish};
+ghost use Rattle.std.specs.Prelude.{◌≡◌, ◌≢◌, ◌<◌, ◌≤◌, Err, IfErr, IfOk, IfSome, IsSome, IsSomeAnd, IsTrue, None, OnOk, length};
+ghost use Rattle.cache_base.specs.Bytes.{AreBytes};
+ghost use Rattle.cache_base.specs.declared.limits.TheConstants.{KEY_MAX, SLOTS};
+ghost use Rattle.cache_theory.specs.Command.Command.{Finish, FinishAs};
 ghost use Rattle.disk_model.specs.Account.{Accounts, FailsInChange, ending as disk_ending};
 ghost use Rattle.disk_model.specs.State.{standing};
 ghost use Rattle.disk_model.specs.Told.{Told};
 ghost use Rattle.entry_metadata.specs.Meta.{meta_of};
+ghost use Rattle.entry_parts.specs.Elements.{AreElements, elements_bytes};
+ghost use Rattle.entry_parts.specs.Header.{IsHeader};
 ghost use Rattle.file_handles.specs.Answers.{OnRefused, done_or, ending};
 ghost use Rattle.file_handles.specs.Effects.{HasEffect, IsLearntOf, IsPlainEffect, file_len as file_len_of, learnt_of_held};
-ghost use Rattle.file_handles.specs.Held.{is_draft, place_of};
+ghost use Rattle.file_handles.specs.Finishing.{AreParts, completed_by, finish_command, finish_fault as finish_fault_of, parts_by as parts_by_of};
+ghost use Rattle.file_handles.specs.Held.{place_of};
 ghost use Rattle.file_handles.specs.Publishing.{MayPublish};
 ghost use Rattle.file_handles.specs.Seats.{IsLow};
 ghost use Rattle.index_theory.specs.Leaves.{LeavesBeside};
 
-use crate::object::{Draft, Entry, Object};
+use crate::elements::has_small_block;
+use crate::object::{Draft, Entry, Object, Parts};
 use crate::{Effect, HandleFault, Handles};
-use cache_base::Name;
+use cache_base::{Bytes, Name, bytes_fit};
 use cache_theory::Refusal;
 use disk_model::{Disk, DiskFault, Place};
 use entry_metadata::{Meta, block_len};
+use entry_parts::{Elements, Header};
 use index_record::of_meta;
 use std::alloc::Global;
 
@@ -69,47 +75,101 @@ fn publish<D: Disk>(
     Ok(None)
 }
 
+// Values of these types may stand in a block.
+fn parts_fit(header: Header, elements: &Elements)
+    ensures header { IsHeader header }
+    ensures elements { AreElements elements.now }
+    ensures bytes { AreBytes (elements_bytes elements.now) }
+{
+    bytes_fit(elements.print());
+}
+
+// The first reason why an entry may not be finished with the parts that are given, or else with its own, if there is one.
+fn finish_fault(entry: &Entry, given: &Option<Parts>) -> Option<Refusal>
+    ensures { result ≡ finish_fault_of entry.now given.now }
+{
+    let Entry::Draft(_) = entry else {
+        return Some(Refusal::Finished);
+    };
+    let Some(parts) = given else {
+        return None;
+    };
+    if has_small_block(entry, parts.elements.len()) {
+        None
+    } else {
+        Some(Refusal::TooLarge)
+    }
+}
+
+// The parts that are written behind a body of this key: those that are given, in version 3 of the format and with the
+// key's length, or else its own.
+fn parts_by(given: Option<Parts>, key: &Bytes, own: Parts) -> Parts
+    requires short { length key.now ≤ KEY_MAX }
+    requires version { own.header.version ≡ 3 }
+    requires key_size { own.header.key_size ≡ length key.now }
+    ensures parts { result ≡ parts_by_of given key.now own }
+    ensures version { result.header.version ≡ 3 }
+    ensures key_size { result.header.key_size ≡ length key.now }
+{
+    let Some(parts) = given else {
+        return own;
+    };
+    let Parts { header, elements } = parts;
+    Parts {
+        header: Header {
+            version: 3,
+            key_size: key.as_slice().len() as u32,
+            ..header
+        },
+        elements,
+    }
+}
+
 impl Handles {
     ghost use Rattle.file_handles.specs.Cache.{cache};
     ghost use Rattle.file_handles.specs.Carries.{CarriesOut};
-    ghost use Rattle.file_handles.specs.Changes.{IsFiledAt, completed};
+    ghost use Rattle.file_handles.specs.Changes.{IsFiledAt};
     ghost use Rattle.file_handles.specs.Publishing.{CompletesThere};
     ghost use Rattle.file_handles.specs.HeldChunks.{SameChunks};
-    ghost use Rattle.file_handles.specs.Kept.{kept, number_at, object_at as object_kept_at, object_in};
+    ghost use Rattle.file_handles.specs.Kept.{kept, number_at, object_at as object_kept_at};
     ghost use Rattle.file_handles.specs.Refuses.{ChecksNoSlot, Passes, Refuses, TellsNoSlot, UsesObject};
     ghost use Rattle.file_handles.specs.Stands.{RepresentsSome};
 
-    // The place of the draft that a slot may finish.
-    fn may_finish(&self, slot: u8) -> Result<usize, Refusal>
+    // The place of the draft that a slot may finish with the parts that are given, or else with its own.
+    fn may_finish(&self, slot: u8, given: &Option<Parts>) -> Result<usize, Refusal>
         requires { slot < SLOTS }
-        ensures refused { IfErr result (λ r. Refuses (kept self.now) (Finish slot) r) }
+        ensures refused { IfErr result (λ r.
+            Refuses (kept self.now) (finish_command given.now slot) r) }
         ensures no_slot { ChecksNoSlot (kept self.now) slot result }
-        ensures passes { OnOk result (Passes (kept self.now) (Finish slot)) }
+        ensures passes { OnOk result (Passes (kept self.now) (finish_command given.now slot)) }
         ensures object { IfOk result (λ place.
-            UsesObject (kept self.now) slot place (λ x. is_draft x.entry ≡ true)) }
+            UsesObject (kept self.now) slot place (λ x. finish_fault_of x.entry given.now ≡ None)) }
     {
         let used = self.writing(slot)?;
-        match self.object_at(used.place).entry {
-            Entry::Draft(_) => Ok(used.place),
-            Entry::Finished(_) => Err(Refusal::Finished),
+        match finish_fault(&self.object_at(used.place).entry, given) {
+            Some(refusal) => Err(refusal),
+            None => Ok(used.place),
         }
     }
 
-    /// Finishes the draft at a place. Its file becomes whole by one call of the disk, is synced and gets its name.
+    /// Finishes the draft at a place with the parts that are given, or else with its own. Its file becomes whole by one
+    /// call of the disk, is synced and gets its name.
     pub(crate) fn finish_at<D: Disk>(
         &mut self,
         alloc: Global,
         disk: &mut D,
         place: usize,
+        given: Option<Parts>,
     ) -> Result<Effect, HandleFault>
         requires place { place < SLOTS }
         requires draft { IsSomeAnd (object_kept_at (kept self.old) place)
-            (λ x. is_draft x.entry ≡ true) }
+            (λ x. finish_fault_of x.entry given ≡ None) }
         requires told { IsTrue D.tells → IsFiledAt (cache D.Disk self.old disk.old) place }
         ensures changes { let at = cache D.Disk in IsTrue D.tells →
-            CompletesThere place result (at self.old disk.old) (at self.new disk.new) }
+            CompletesThere place (completed_by given) result
+            (at self.old disk.old) (at self.new disk.new) }
         ensures effect { IfOk result
-            (IsLearntOf completed (object_kept_at (kept self.old) place)) }
+            (IsLearntOf (completed_by given) (object_kept_at (kept self.old) place)) }
         ensures plain { IfOk result IsPlainEffect }
         ensures chunks { SameChunks (kept self.old) (kept self.new) }
         ensures slots { (kept self.new).slots ≡ (kept self.old).slots }
@@ -138,6 +198,8 @@ impl Handles {
             key,
             elements,
         } = draft;
+        let parts = parts_by(given, &key, Parts { header, elements });
+        let Parts { header, elements } = parts;
         let meta = body.finish(alloc, disk, &file, header, key, elements)?;
         let aside = publish(disk, &name, doomed, aside)?;
         let entry = Entry::Finished(meta);
@@ -146,8 +208,36 @@ impl Handles {
         Ok(effect)
     }
 
-    /// Finishes the entry of a slot. Its file becomes whole, and gets its name when it is on the disk.
+    // Finishes the entry of a slot with the parts that are given, or else with its own.
     #[tactic(auto, using(crate::proofs::Refused::faulted_index, crate::proofs::Refused::faulted_same, crate::proofs::Refused::refused_same))]
+    fn finish_by<D: Disk>(
+        &mut self,
+        alloc: Global,
+        disk: &mut D,
+        slot: u8,
+        given: Option<Parts>,
+    ) -> Result<Effect, HandleFault>
+        requires slot { slot < SLOTS }
+        requires parts { IfSome given AreParts }
+        requires told { IsTrue D.tells → RepresentsSome (cache D.Disk self.old disk.old) }
+        ensures carried { let at = cache D.Disk in IsTrue D.tells →
+            CarriesOut (finish_command given slot) (done_or result)
+            (at self.old disk.old) (at self.new disk.new) }
+        ensures effect { IfOk result (HasEffect (kept self.old) (finish_command given slot)) }
+        ensures plain { IfOk result IsPlainEffect }
+        ensures chunks { SameChunks (kept self.old) (kept self.new) }
+        ensures no_slot { TellsNoSlot (kept self.old) slot result }
+        ensures unchanged { OnRefused result (λ _. disk.new ≡ disk.old) }
+        ensures no_read { result ≢ Err HandleFault.Read }
+        ensures index { Told D.Disk LeavesBeside disk.old disk.new }
+        ensures account { Accounts D.Disk (ending result) disk.old disk.new }
+        ensures change { FailsInChange D.Disk (ending result) disk.new }
+    {
+        let place = self.may_finish(slot, &given)?;
+        self.finish_at(alloc, disk, place, given)
+    }
+
+    /// Finishes the entry of a slot. Its file becomes whole, and gets its name when it is on the disk.
     pub fn finish<D: Disk>(
         &mut self,
         alloc: Global,
@@ -169,7 +259,35 @@ impl Handles {
         ensures account { Accounts D.Disk (ending result) disk.old disk.new }
         ensures change { FailsInChange D.Disk (ending result) disk.new }
     {
-        let place = self.may_finish(slot)?;
-        self.finish_at(alloc, disk, place)
+        self.finish_by(alloc, disk, slot, None)
+    }
+
+    /// Finishes the entry of a slot with this header and these elements in place of its own. The header is written with
+    /// version 3 and the length of the entry's key. Its file becomes whole, and gets its name when it is on the disk.
+    pub fn finish_as<D: Disk>(
+        &mut self,
+        alloc: Global,
+        disk: &mut D,
+        slot: u8,
+        header: Header,
+        elements: Elements,
+    ) -> Result<Effect, HandleFault>
+        requires slot { slot < SLOTS }
+        requires told { IsTrue D.tells → RepresentsSome (cache D.Disk self.old disk.old) }
+        ensures carried { let at = cache D.Disk in IsTrue D.tells →
+            CarriesOut (FinishAs slot header elements) (done_or result)
+            (at self.old disk.old) (at self.new disk.new) }
+        ensures effect { IfOk result (HasEffect (kept self.old) (FinishAs slot header elements)) }
+        ensures plain { IfOk result IsPlainEffect }
+        ensures chunks { SameChunks (kept self.old) (kept self.new) }
+        ensures no_slot { TellsNoSlot (kept self.old) slot result }
+        ensures unchanged { OnRefused result (λ _. disk.new ≡ disk.old) }
+        ensures no_read { result ≢ Err HandleFault.Read }
+        ensures index { Told D.Disk LeavesBeside disk.old disk.new }
+        ensures account { Accounts D.Disk (ending result) disk.old disk.new }
+        ensures change { FailsInChange D.Disk (ending result) disk.new }
+    {
+        parts_fit(header, &elements);
+        self.finish_by(alloc, disk, slot, Some(Parts { header, elements }))
     }
 }

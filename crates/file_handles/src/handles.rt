@@ -151,8 +151,8 @@ impl Handles {
         requires place { place < SLOTS }
         requires used { list_any (is_use_of place) (kept self.old).slots ≡ true }
         requires low { IsLow aside }
-        ensures { kept self.new
-            ≡ with_object (kept self.old) place (Some (object_with number name doomed aside entry)) }
+        ensures { kept self.new ≡ with_object (kept self.old) place
+            (Some (object_with number name doomed aside entry)) }
     {
         self.put(
             place,

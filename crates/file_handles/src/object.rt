@@ -25,6 +25,13 @@ pub(crate) struct Draft {
     pub(crate) ghost short_elements: { length (elements_bytes elements) ≤ ELEMENTS_MAX },
 }
 
+/// A header and elements with which an entry is finished in place of its own.
+#[derive(Drop)]
+pub(crate) struct Parts {
+    pub(crate) header: Header,
+    pub(crate) elements: Elements,
+}
+
 /// What is held of an entry: all but the chunks of its body that are on the disk.
 #[derive(Drop)]
 pub(crate) enum Entry {

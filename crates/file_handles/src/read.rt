@@ -153,8 +153,8 @@ impl Handles {
         ensures object { OnOk result (IsSome (object_in (kept self.old) slot)) }
         ensures passes { OnOk result (Passes (kept self.old) (ReadPart slot from len)) }
         // Once the part is given back.
-        ensures* read { let before = cache D.Disk self.old disk.old in
-            sem 𝓛 (RestsWith self.entry (HasReadOrNot (IsTrue D.tells) slot from len result before)) }
+        ensures* read { let before = cache D.Disk self.old disk.old in sem 𝓛
+            (RestsWith self.entry (HasReadOrNot (IsTrue D.tells) slot from len result before)) }
         ensures held { IsPartHeld (kept self.old) slot from len →
             (disk.new ≡ disk.old) × (result ≢ Err HandleFault.Read) }
         ensures no_change { result ≢ Err HandleFault.Disk }

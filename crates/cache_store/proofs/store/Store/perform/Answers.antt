@@ -3,7 +3,7 @@ use Rattle.std.specs.Prelude.{IfSome}
 use Rattle.cache_store.specs.Faulting.{has_failed_look}
 use Rattle.cache_store.proofs.Stays.{err_failed_look, on_failed_look, parts_stay}
 use Rattle.cache_script.specs.Command.{command_of}
-use Rattle.cache_theory.specs.Command.Command.{At, Append, ClearOrigin, Close, Create, Doom, ElementOf, Evict, Finish, Flush, Get, GetAlt, HasEntry, ListRecords, MainBody, OpenKey, Pin, PutAlt, ReadPart, Rebuild, Resume, SetElement, StepUpdate, Unpin, UnsetElement, UpdateState, UseEntry, Verify}
+use Rattle.cache_theory.specs.Command.Command.{At, Append, ClearOrigin, Close, Create, Doom, ElementOf, Evict, Finish, Flush, Get, GetAlt, HasEntry, ListRecords, MainBody, OpenKey, Pin, PutAlt, ReadPart, Rebuild, Resume, SetElement, StepUpdate, Unpin, UnsetElement, UpdateState, UseEntry, Verify, FinishAs, Dump}
 use Rattle.cache_theory.specs.Given.{IsGiven}
 use Rattle.cache_store.specs.Answering.{outcome_in}
 use Rattle.cache_store.specs.Clearing.{LeavesUncleared, origin_cleared}
@@ -306,3 +306,14 @@ returns-in-PutAlt-clause-stays g c = λ noted told.
     let all = on_failed_look c.put_alt-answer.result _ failed c.put_alt-answer.ensures.read in
     parts_stay (kept c.args.self.now.handles) (kept c.put_alt-answer.new.self) c.args.self.now.moment (g.D.Disk.state c.args.disk.now) (g.D.Disk.state c.put_alt-answer.new.disk) c.args.self.now.index c.learn_of-in-PutAlt.new.self
     all.handles (err_failed_look c.put_alt-answer.result _ failed c.learn_of-in-PutAlt.ensures.unlearnt) (all.looks.state told)
+
+pub returns-in-FinishAs-clause-does : goal.returns-in-FinishAs-clause-does
+returns-in-FinishAs-clause-does g c = λ told.
+    let command : Command = FinishAs c.in-FinishAs.slot c.in-FinishAs.header c.in-FinishAs.elements.now in
+    as_command _ command _ _ _ _ _ (ap command_of c.in-FinishAs.is) (λ m. refl)
+    (unsaid_does command c.finish_as.result _ _ (saying g.K.Sink c.finish_as.new.self.reply c.args.sink.now) c.finish_as.ensures.not_said c.finish_as.ensures.no_sink (c.finish_as.ensures.held ∙ c.requires.empty)
+    (c.finish_as.ensures.does told))
+
+pub returns-in-Dump-clause-does : goal.returns-in-Dump-clause-does
+returns-in-Dump-clause-does g c = λ told.
+    as_command _ Dump _ _ _ _ _ (ap command_of c.in-Dump.is) (λ m. refl) (c.dump.ensures.does told)

@@ -2,7 +2,7 @@ use Rattle.std.proofs.Common.{◌≡◌, ◌∙◌, ap, not, subst, sym}
 use Rattle.cache_store.specs.Clearing.{LeavesResumed}
 use Rattle.cache_store.specs.Session.{session}
 use Rattle.cache_store.specs.StoppedClearing.{ClearsUnderMark}
-use Rattle.cache_store.proofs.ClearCommands.{cleared_from, ended_index, found_mark, mark_not_resumed, mark_resumed, no_size, nothing_resumed, of_each, of_marked, other_removed, other_stays, resume_looks, stopped_from, uncleared_from}
+use Rattle.cache_store.proofs.ClearCommands.{cleared_from, ended_index, found_mark, mark_not_resumed, mark_resumed, no_size, none_told, nothing_resumed, of_each, of_marked, other_removed, other_stays, resume_looks, stopped_from, uncleared_from}
 use Rattle.cache_store.proofs.ClearDoes.{looks_stopped}
 use Rattle.context_clear.specs.Mark.{mark_of}
 use Rattle.disk_model.specs.State.{standing}
@@ -125,3 +125,25 @@ pub returns-in_ok-end-in-None-clause-index : goal.returns-in_ok-end-in-None-clau
 returns-in_ok-end-in-None-clause-index g c = λ told.
     ended_index (kept c.args.self.now.handles) c.args.self.now.moment (g.D.Disk.state c.args.disk.now) (g.D.Disk.state c.stored.new.disk) c.args.self.now.index
     (c.stored.ensures.looks.state told ∙ c.size.ensures.state told) (g.D.Disk.state c.end.new.disk) (g.met.D.Disk.sound c.stored.new.disk told) (c.end.ensures.amid told)
+
+-- ---- where no file stands, the length of one is asked for alone
+
+pub returns-in_err-origin-clause-once : goal.returns-in_err-origin-clause-once
+returns-in_err-origin-clause-once g c = λ told none.
+    absurd (none_told (standing (g.D.Disk.state c.args.disk.now) Clear) c.in_ok-size.field-0 (c.in_ok-size.ensures.size told) (c.is_none.ensures ∙ ap not c.if-is_none.false) none)
+
+pub returns-in_err-cleared-in-Some-clause-once : goal.returns-in_err-cleared-in-Some-clause-once
+returns-in_err-cleared-in-Some-clause-once g c = λ told none.
+    absurd (none_told (standing (g.D.Disk.state c.args.disk.now) Clear) c.in_ok-size.field-0 (c.in_ok-size.ensures.size told) (c.is_none.ensures ∙ ap not c.if-is_none.false) none)
+
+pub returns-in_ok-cleared-in-Some-clause-once : goal.returns-in_ok-cleared-in-Some-clause-once
+returns-in_ok-cleared-in-Some-clause-once g c = λ told none.
+    absurd (none_told (standing (g.D.Disk.state c.args.disk.now) Clear) c.in_ok-size.field-0 (c.in_ok-size.ensures.size told) (c.is_none.ensures ∙ ap not c.if-is_none.false) none)
+
+pub returns-in_err-end-in-None-clause-once : goal.returns-in_err-end-in-None-clause-once
+returns-in_err-end-in-None-clause-once g c = λ told none.
+    absurd (none_told (standing (g.D.Disk.state c.args.disk.now) Clear) c.in_ok-size.field-0 (c.in_ok-size.ensures.size told) (c.is_none.ensures ∙ ap not c.if-is_none.false) none)
+
+pub returns-in_ok-end-in-None-clause-once : goal.returns-in_ok-end-in-None-clause-once
+returns-in_ok-end-in-None-clause-once g c = λ told none.
+    absurd (none_told (standing (g.D.Disk.state c.args.disk.now) Clear) c.in_ok-size.field-0 (c.in_ok-size.ensures.size told) (c.is_none.ensures ∙ ap not c.if-is_none.false) none)

@@ -11,10 +11,12 @@ use Rattle.file_handles.proofs.Places.{filed_somehow}
 use Rattle.file_handles.proofs.IndexLeft.{completed_left}
 use Rattle.file_handles.specs.Changes.{completed}
 use Rattle.file_handles.proofs.UnsyncedLaws.{writes_or_not}
+use Rattle.file_handles.proofs.Writers.{draft_may}
 use Rattle.file_handles.proofs.handles.Handles.finish_first.Goals as goal
 
 pub finish_at-requires-clause-draft : goal.finish_at-requires-clause-draft
-finish_at-requires-clause-draft g c = draft_there c.args.used.writes _ (sym c.is_finished_by.ensures ∙ c.if-is_finished_by.true)
+finish_at-requires-clause-draft g c =
+    draft_may _ (draft_there c.args.used.writes _ (sym c.is_finished_by.ensures ∙ c.if-is_finished_by.true))
 
 pub finish_at-requires-clause-told : goal.finish_at-requires-clause-told
 finish_at-requires-clause-told g c told = filed_somehow _ _ _ (c.requires.told told)
@@ -72,7 +74,7 @@ returns-else-is_finished_by-clause-there g c told =
 pub returns-then-is_finished_by-clause-index : goal.returns-then-is_finished_by-clause-index
 returns-then-is_finished_by-clause-index g c told =
     let there = the_object _ _ (draft_there c.args.used.writes _ (sym c.is_finished_by.ensures ∙ c.if-is_finished_by.true)) in
-    completed_left (g.D.Disk.state c.args.disk.now) (g.D.Disk.state c.finish_at.new.disk) (kept c.args.self.now) (kept c.finish_at.new.self) c.args.used.place there.0 c.finish_at.result
+    completed_left (g.D.Disk.state c.args.disk.now) (g.D.Disk.state c.finish_at.new.disk) (kept c.args.self.now) (kept c.finish_at.new.self) c.args.used.place there.0 completed c.finish_at.result
     (g.met.D.Disk.sound c.args.disk.now told) there.1.0 (filed_somehow _ _ _ (c.requires.told told)) (c.finish_at.ensures.changes told)
 
 pub returns-then-is_finished_by-clause-same : goal.returns-then-is_finished_by-clause-same

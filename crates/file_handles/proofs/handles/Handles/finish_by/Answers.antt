@@ -1,20 +1,19 @@
-use Rattle.std.proofs.Common.{◌≡◌, false, refl, true}
 use Rattle.std.proofs.lemmas.Result.{IfOk-weaker}
-use Rattle.cache_theory.specs.Command.Command.{Finish}
-use Rattle.file_handles.specs.Changes.{completed}
 use Rattle.file_handles.specs.Effects.{HasEffect, IsLearntOf}
-use Rattle.file_handles.specs.Held.{is_draft}
+use Rattle.file_handles.specs.Finishing.{completed_by, finish_command, finish_fault}
 use Rattle.file_handles.specs.Kept.{kept, object_at}
 use Rattle.file_handles.specs.Refuses.{HasAt}
+use Rattle.std.proofs.Common.{◌≡◌, None}
+use Rattle.file_handles.proofs.Completions.{completion}
 use Rattle.file_handles.proofs.FinishCarried.{finish_carried}
-use Rattle.file_handles.proofs.EffectLaws.{change_effect}
 use Rattle.file_handles.proofs.ElementChecks.{both_right, the_object}
 use Rattle.file_handles.proofs.Places.{filed_somehow}
-use Rattle.file_handles.proofs.WriterCommands.{finish_makes}
+use Rattle.file_handles.proofs.WriterCommands.{finish_effect, finish_makes}
+use Rattle.file_handles.proofs.Writers.{may_is_draft}
 use Rattle.file_handles.proofs.Refused.{refused_answer}
 use Rattle.file_handles.proofs.IndexLeft.{completed_left}
 use Rattle.file_handles.proofs.NoSlots.{call_handed_on, call_passed}
-use Rattle.file_handles.proofs.handles.Handles.finish.Goals as goal
+use Rattle.file_handles.proofs.handles.Handles.finish_by.Goals as goal
 
 pub finish_at-requires-clause-told : goal.finish_at-requires-clause-told
 finish_at-requires-clause-told g c told = filed_somehow _ _ _ (c.requires.told told)
@@ -27,28 +26,30 @@ returns-clause-carried g c told =
     let s = g.D.Disk.state c.args.disk.now in
     let t = g.D.Disk.state c.finish_at.new.disk in
     let k = kept c.args.self.now in
+    let given = c.args.given in
     let there = the_object _ _ c.in_ok-place.ensures.object in
-    finish_carried s t (g.met.D.Disk.sound c.args.disk.now told) k (kept c.finish_at.new.self) (Finish c.args.slot) c.args.slot c.requires.slot c.in_ok-place.place there.0 there.1.1.0 there.1.1.1
-    (finish_makes k c.args.slot c.in_ok-place.ensures.passes)
+    finish_carried (completed_by given) (completion given) s t (g.met.D.Disk.sound c.args.disk.now told) k (kept c.finish_at.new.self) (finish_command given c.args.slot) c.args.slot c.requires.slot
+    c.in_ok-place.place there.0 there.1.1.0 (may_is_draft there.0.entry given there.1.1.1)
+    (finish_makes k c.args.slot given c.requires.parts c.in_ok-place.ensures.passes)
     c.finish_at.result (c.finish_at.ensures.changes told there.0 there.1.0) c.finish_at.ensures.refused
 
 pub returns-clause-effect : goal.returns-clause-effect
 returns-clause-effect g c =
     let k = kept c.args.self.now in
-    let there = the_object (object_at k c.in_ok-place.place) (λ x. HasAt k c.args.slot c.in_ok-place.place x × (is_draft x.entry ≡ true)) c.in_ok-place.ensures.object in
-    IfOk-weaker c.finish_at.result (IsLearntOf completed (object_at k c.in_ok-place.place)) (HasEffect k (Finish c.args.slot)) (λ e is.
-    change_effect k (Finish c.args.slot) c.args.slot c.requires.slot c.in_ok-place.place there.0 there.1.1.0 completed (λ o. o.finished ≡ false)
-    (finish_makes k c.args.slot c.in_ok-place.ensures.passes) e (λ m. refl) (λ m number stand. refl) is)
+    let given = c.args.given in
+    let there = the_object (object_at k c.in_ok-place.place) (λ x. HasAt k c.args.slot c.in_ok-place.place x × (finish_fault x.entry given ≡ None)) c.in_ok-place.ensures.object in
+    IfOk-weaker c.finish_at.result (IsLearntOf (completed_by given) (object_at k c.in_ok-place.place)) (HasEffect k (finish_command given c.args.slot)) (λ e is.
+    finish_effect k c.args.slot c.requires.slot c.in_ok-place.place there.0 there.1.1.0 given c.requires.parts c.in_ok-place.ensures.passes e is)
     c.finish_at.ensures.effect
 
 pub returns-in_err-place-clause-carried : goal.returns-in_err-place-clause-carried
 returns-in_err-place-clause-carried g c = λ told.
-    refused_answer c.from_residual.result (g.D.Disk.state c.args.disk.now) (kept c.args.self.now) (Finish c.args.slot) c.in_err-place.field-0.0 c.from_residual.ensures.1 c.in_err-place.ensures.refused
+    refused_answer c.from_residual.result (g.D.Disk.state c.args.disk.now) (kept c.args.self.now) (finish_command c.args.given c.args.slot) c.in_err-place.field-0.0 c.from_residual.ensures.1 c.in_err-place.ensures.refused
 
 pub returns-clause-index : goal.returns-clause-index
 returns-clause-index g c told =
     let there = the_object _ _ c.in_ok-place.ensures.object in
-    completed_left (g.D.Disk.state c.args.disk.now) (g.D.Disk.state c.finish_at.new.disk) (kept c.args.self.now) (kept c.finish_at.new.self) c.in_ok-place.place there.0 c.finish_at.result
+    completed_left (g.D.Disk.state c.args.disk.now) (g.D.Disk.state c.finish_at.new.disk) (kept c.args.self.now) (kept c.finish_at.new.self) c.in_ok-place.place there.0 (completed_by c.args.given) c.finish_at.result
     (g.met.D.Disk.sound c.args.disk.now told) there.1.0 (filed_somehow _ _ _ (c.requires.told told)) (c.finish_at.ensures.changes told)
 
 pub returns-in_err-place-clause-no_slot : goal.returns-in_err-place-clause-no_slot

@@ -1,0 +1,69 @@
+//! Finishes an entry with metadata that are given.
+
+ghost use Rattle.std.specs.Prelude.{◌≡◌, ◌≢◌, ◌<◌, Err, IfOk, IsTrue, Ok, false};
+ghost use Rattle.cache_base.specs.declared.limits.TheConstants.{SLOTS};
+ghost use Rattle.cache_store.specs.Faults.{ending};
+ghost use Rattle.cache_store.specs.Performing.{HadEffect};
+ghost use Rattle.cache_store.specs.Printed.{IsPlain, lists_findings};
+ghost use Rattle.cache_theory.specs.Command.Command.{FinishAs};
+ghost use Rattle.disk_model.specs.Account.{Accounts, FailsInChange};
+ghost use Rattle.disk_model.specs.Told.{Told};
+ghost use Rattle.file_handles.specs.HeldChunks.{SameChunks};
+ghost use Rattle.file_handles.specs.Kept.{kept};
+ghost use Rattle.index_map.specs.Known.{SameBase};
+ghost use Rattle.index_theory.specs.Leaves.{LeavesBeside};
+
+use crate::StoreFault;
+use crate::answered::Answered;
+use crate::store::Store;
+use cache_base::NoMemory;
+use disk_model::Disk;
+use entry_parts::{Elements, Header, elements_read_back};
+use std::alloc::Global;
+
+// A copy of the elements.
+fn copied(alloc: Global, elements: &Elements) -> Result<Elements, NoMemory>
+    ensures { IfOk result (λ copy. copy ≡ elements.now) }
+{
+    elements_read_back();
+    match Elements::parse(alloc, elements.print()) {
+        Ok(copy) => Ok(copy),
+        Err(_) => Err(NoMemory),
+    }
+}
+
+impl Store {
+    ghost use Rattle.cache_store.specs.Open.{IsOpen};
+    ghost use Rattle.cache_store.specs.Performing.{AchievesFor};
+    ghost use Rattle.cache_store.specs.Session.{session};
+
+    /// Finishes the entry of a slot with this header and a copy of these elements.
+    pub(crate) fn finish_as<D: Disk>(
+        &mut self,
+        alloc: Global,
+        disk: &mut D,
+        slot: u8,
+        header: Header,
+        elements: &Elements,
+    ) -> Result<Answered, StoreFault>
+        requires slot { slot < SLOTS }
+        requires told { IsTrue D.tells → IsOpen (session D.Disk self.old disk.old) }
+        ensures does { let at = session D.Disk in IsTrue D.tells →
+            AchievesFor (FinishAs slot header elements.now) result (at self.old disk.old) (at self.new disk.new) }
+        ensures plain { IfOk result IsPlain }
+        ensures base { HadEffect result → SameBase self.old.index.map self.new.index.map }
+        ensures chunks { SameChunks (kept self.old.handles) (kept self.new.handles) }
+        ensures unlisted { IfOk result (λ a. lists_findings a ≡ false) }
+        ensures not_said { result ≢ Ok Answered.All }
+        ensures no_sink { result ≢ Err StoreFault.Sink }
+        ensures held { self.new.reply.held ≡ self.old.reply.held }
+        ensures calm { self.new.faulting ≡ self.old.faulting }
+        ensures index { Told D.Disk LeavesBeside disk.old disk.new }
+        ensures change { FailsInChange D.Disk (ending result) disk.new }
+        ensures account { Accounts D.Disk (ending result) disk.old disk.new }
+    {
+        let elements = copied(alloc, elements)?;
+        let answer = self.handles.finish_as(alloc, disk, slot, header, elements);
+        self.index.learn_of(answer)
+    }
+}

@@ -1,0 +1,13 @@
+use Rattle.cache_theory.proofs.LoadedBack as back
+use Rattle.cache_theory.proofs.StockedShelf as shelf
+use Rattle.cache_theory.proofs.WrittenItems as written
+use Rattle.cache_theory.proofs.laws.items_are_stocked.Goals as goal
+
+pub returns-clause-stocked : goal.returns-clause-stocked
+returns-clause-stocked c = written.items_are_stocked
+
+pub returns-clause-found : goal.returns-clause-found
+returns-clause-found c = shelf.stock_is_found
+
+pub returns-clause-back : goal.returns-clause-back
+returns-clause-back c = back.dump_loads_back
