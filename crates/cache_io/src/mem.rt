@@ -78,12 +78,16 @@ impl Source for MemSource {
     fn read(&mut self, buf: &mut [u8]) -> Result<usize, SourceFault>
         requires { 0 < length buf.old }
         ensures bound { ReadsAtMost result buf.new }
-        ensures bytes { ReadConsumes (Some (left_in self.old)) (Some (left_in self.new)) result buf.new }
-        ensures cause { HasCause (IsErrOf result SourceFault.Failed) self.old.faults self.new.faults }
-        ensures count { IfOk result (λ n. n ≡ min (length (left_in self.old)) (min (length buf.old) (piece_of self.old))) }
+        ensures bytes { ReadConsumes (Some (left_in self.old))
+            (Some (left_in self.new)) result buf.new }
+        ensures cause { HasCause (IsErrOf result SourceFault.Failed)
+            self.old.faults self.new.faults }
+        ensures count { IfOk result (λ n.
+            n ≡ min (length (left_in self.old)) (min (length buf.old) (piece_of self.old))) }
         ensures fails { IsErrOf result SourceFault.Failed ↔ FailsNextRead self.old }
         ensures calls { reads_of self.new ≡ one_more (reads_of self.old) }
-        ensures plan { (failing_reads self.new ≡ failing_reads self.old) × (piece_of self.new ≡ piece_of self.old) }
+        ensures plan { (failing_reads self.new ≡ failing_reads self.old)
+            × (piece_of self.new ≡ piece_of self.old) }
     {
         self.calls = self.calls.saturating_add(1);
         if self.planned.has(self.calls) {
@@ -152,7 +156,8 @@ impl Sink for MemSink {
     fn write(&mut self, b: &[u8]) -> Result<usize, SinkFault>
         requires { 0 < length b.now }
         ensures bound { IfOk result (λ n. (0 < n) × (n ≤ length b.now)) }
-        ensures bytes { WriteAppends (Some (taken_in self.old)) (Some (taken_in self.new)) result b.now }
+        ensures bytes { WriteAppends (Some (taken_in self.old))
+            (Some (taken_in self.new)) result b.now }
         ensures cause { HasCause (IsErrOf result SinkFault.Failed) self.old.faults self.new.faults }
         ensures whole { IfOk result (λ n. n ≡ length b.now) }
         ensures fails { IsErrOf result SinkFault.Failed ↔ FailsNextWrite self.old }

@@ -27,14 +27,17 @@ pub trait Sink {
         requires { 0 < length b.now }
         ensures bound { IfOk result (λ n. (0 < n) × (n ≤ length b.now)) }
         ensures bytes { WriteAppends (taken self.old) (taken self.new) result b.now }
-        ensures cause { HasCause (IsErrOf result SinkFault.Failed) (faults self.old) (faults self.new) };
+        ensures cause { HasCause (IsErrOf result SinkFault.Failed)
+            (faults self.old) (faults self.new) };
 }
 
 /// Writes all the bytes. After a fault a proper prefix of them went out.
 pub fn write_whole<K: Sink>(sink: &mut K, b: &[u8]) -> Result<(), SinkFault>
     ensures all { OnOk result (Appends (K.taken sink.old) (K.taken sink.new) b.now) }
-    ensures part { OnErr result ((n : ℕ) × (n < length b.now) × Appends (K.taken sink.old) (K.taken sink.new) (take n b.now)) }
-    ensures cause { HasCause (IsErrOf result SinkFault.Failed) (K.faults sink.old) (K.faults sink.new) }
+    ensures part { OnErr result ((n : ℕ) × (n < length b.now)
+        × Appends (K.taken sink.old) (K.taken sink.new) (take n b.now)) }
+    ensures cause { HasCause (IsErrOf result SinkFault.Failed)
+        (K.faults sink.old) (K.faults sink.new) }
 {
     let mut sent = 0;
     while sent < b.len() {

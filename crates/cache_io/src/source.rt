@@ -27,7 +27,8 @@ pub trait Source {
         requires { 0 < length buf.old }
         ensures bound { ReadsAtMost result buf.new }
         ensures bytes { ReadConsumes (left self.old) (left self.new) result buf.new }
-        ensures cause { HasCause (IsErrOf result SourceFault.Failed) (faults self.old) (faults self.new) };
+        ensures cause { HasCause (IsErrOf result SourceFault.Failed)
+            (faults self.old) (faults self.new) };
 }
 
 /// Reads some bytes into the room after its first `end` bytes, which stay, and tells how many.
@@ -39,10 +40,12 @@ pub fn read_after<S: Source>(
     requires { end < length room.old }
     ensures front { take end room.new ≡ take end room.old }
     ensures bound { IfOk result (λ n. end + n ≤ length room.new) }
-    ensures bytes { IfOk result (λ n. Consumes (S.left source.old) (S.left source.new) (take n (drop end room.new))) }
+    ensures bytes { IfOk result (λ n.
+        Consumes (S.left source.old) (S.left source.new) (take n (drop end room.new))) }
     ensures ended { result ≡ Ok 0 → IsAtEnd (S.left source.new) }
     ensures failed { OnErr result (Keeps (S.left source.old) (S.left source.new)) }
-    ensures cause { HasCause (IsErrOf result SourceFault.Failed) (S.faults source.old) (S.faults source.new) }
+    ensures cause { HasCause (IsErrOf result SourceFault.Failed)
+        (S.faults source.old) (S.faults source.new) }
 {
     source.read(&mut room[end..])
 }

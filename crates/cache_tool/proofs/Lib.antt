@@ -13,6 +13,10 @@ pub mod FillTexts
 pub mod FillWhole
 pub mod Growing
 pub mod Handed
+pub mod LoadBytes
+pub mod LoadEnds
+pub mod LoadParts
+pub mod LoadTurns
 pub mod Moments
 pub mod OneCommand
 pub mod PutBody

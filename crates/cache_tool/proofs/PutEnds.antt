@@ -172,13 +172,13 @@ only_closes : (s : Status) → IsAnswer s ⊎ (s ≡ status.Source) → IsClosin
 only_closes s (inl answer) = answer_closes s answer
 only_closes s (inr source) = subst IsClosing (sym source) tt
 
-pub disk_cause : (came : Result Status StoreFault) (ended : Status) (a b c d : ℕ) → IfOk came (λ s. IsAnswer s ⊎ (s ≡ status.Source)) → came ≢ Err fault.Sink → b ≡ a
+pub closing_cause : (came : Result Status StoreFault) (ended : Status) (a b c d : ℕ) → IfOk came IsClosing → came ≢ Err fault.Sink → b ≡ a
     → HasCause (ending came ≡ Ending.OneFailed) b c → (IsClosing (status_in came) → HasCause (ended ≡ status.Disk) c d)
     → (¬ (IsClosing (status_in came)) → (ended ≡ status_in came) × (d ≡ c)) → HasCause (ended ≡ status.Disk) a d
-disk_cause (Ok s) ended a b c d only other same first second dropped =
+closing_cause (Ok s) ended a b c d closes other same first second dropped =
     let kept : c ≡ a = first.kept (λ h. cc) ∙ same in
-    subst (λ n. HasCause (ended ≡ status.Disk) n d) kept (second (only_closes s only))
-disk_cause (Err fault.Memory) ended a b c d only other same first second dropped =
+    subst (λ n. HasCause (ended ≡ status.Disk) n d) kept (second closes)
+closing_cause (Err fault.Memory) ended a b c d closes other same first second dropped =
     let end = dropped (λ h. h) in
     let kept : d ≡ a = end.1 ∙ first.kept (λ h. absurd (cc)) ∙ same in
     record {
@@ -186,7 +186,7 @@ disk_cause (Err fault.Memory) ended a b c d only other same first second dropped
       rose = λ disk. absurd (let e : status.Memory ≡ status.Disk = sym end.0 ∙ disk in cc);
       kept = λ other_end. kept;
     }
-disk_cause (Err fault.Disk) ended a b c d only other same first second dropped =
+closing_cause (Err fault.Disk) ended a b c d closes other same first second dropped =
     let end = dropped (λ h. h) in
     let rose : Rose a d = subst (λ n. Rose n d) same (subst (λ n. Rose b n) (sym end.1) (first.rose refl)) in
     let later : b ≤ c = first.later in
@@ -195,7 +195,16 @@ disk_cause (Err fault.Disk) ended a b c d only other same first second dropped =
       rose = λ disk. rose;
       kept = λ other_end. absurd (other_end end.0);
     }
-disk_cause (Err fault.Sink) ended a b c d only other same first second dropped = absurd (other refl)
+closing_cause (Err fault.Sink) ended a b c d closes other same first second dropped = absurd (other refl)
+
+pub disk_cause : (came : Result Status StoreFault) (ended : Status) (a b c d : ℕ) → IfOk came (λ s. IsAnswer s ⊎ (s ≡ status.Source)) → came ≢ Err fault.Sink → b ≡ a
+    → HasCause (ending came ≡ Ending.OneFailed) b c → (IsClosing (status_in came) → HasCause (ended ≡ status.Disk) c d)
+    → (¬ (IsClosing (status_in came)) → (ended ≡ status_in came) × (d ≡ c)) → HasCause (ended ≡ status.Disk) a d
+disk_cause came ended a b c d only other same first second dropped = closing_cause came ended a b c d (closes came only) other same first second dropped
+  where
+    closes : (came : Result Status StoreFault) → IfOk came (λ s. IsAnswer s ⊎ (s ≡ status.Source)) → IfOk came IsClosing
+    closes (Ok s) only = only_closes s only
+    closes (Err f) only = tt
 
 -- Once a change or a sync fails no call follows: the opening went on, and where the commands failed the closing makes no call.
 

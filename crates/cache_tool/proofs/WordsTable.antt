@@ -7,7 +7,7 @@ use Rattle.std.proofs.lemmas.Bool.{and_parts}
 use Rattle.std.proofs.lemmas.Slice.Eq.{bytes_eq-Decides}
 use Rattle.cache_base.specs.Numbers.{number_in}
 use Rattle.cache_base.proofs.NumberLaws.{number_read, number_spelled}
-use Rattle.cache_theory.specs.Command.Command.{ClearOrigin, Doom, Evict, Flush, Get, GetAlt, ListRecords, MainBody, Rebuild, Verify}
+use Rattle.cache_theory.specs.Command.Command.{ClearOrigin, Doom, Dump, Evict, Flush, Get, GetAlt, ListRecords, MainBody, Rebuild, Verify}
 use Rattle.cache_tool.specs.Words.{AreOfOne, AreWords, Asked, IsCount, WordsAreOfTable, alone, asked_by, fill_limit, fill_of, verbs, with_word, with_words}
 
 -- one test of a chain
@@ -36,9 +36,15 @@ alone_is now verb asked e = elim (tested verb (codes "run") (Asked.Run now) aske
       | inl list ↦ inr (inr (inr (inr (inr (inr (inr (inr (inr (inl (ap (λ w. w ∷ []) list.0, list.1))))))))))
       | inr further ↦ elim (tested verb (codes "verify") (Asked.One now Verify) asked _ further) [
         | inl verify ↦ inr (inr (inr (inr (inr (inr (inr (inr (inr (inr (inl (ap (λ w. w ∷ []) verify.0, verify.1)))))))))))
-        | inr last ↦ elim (tested verb (codes "rebuild") (Asked.One now Rebuild) asked None last) [
+        | inr next ↦ elim (tested verb (codes "rebuild") (Asked.One now Rebuild) asked _ next) [
           | inl rebuild ↦ inr (inr (inr (inr (inr (inr (inr (inr (inr (inr (inr (inl (ap (λ w. w ∷ []) rebuild.0, rebuild.1))))))))))))
-          | inr none ↦ absurd (cc)
+          | inr after ↦ elim (tested verb (codes "dump") (Asked.One now Dump) asked _ after) [
+            | inl dump ↦ inr (inr (inr (inr (inr (inr (inr (inr (inr (inr (inr (inr (inr (inl (ap (λ w. w ∷ []) dump.0, dump.1))))))))))))))
+            | inr last ↦ elim (tested verb (codes "load") (Asked.Load now) asked None last) [
+              | inl load ↦ inr (inr (inr (inr (inr (inr (inr (inr (inr (inr (inr (inr (inr (inr (inl (ap (λ w. w ∷ []) load.0, load.1)))))))))))))))
+              | inr none ↦ absurd (cc)
+            ]
+          ]
         ]
       ]
     ]
@@ -182,7 +188,11 @@ table_read now small rest asked (inr (inr (inr (inr (inr (inr (inr (inr (inr (in
     ap (λ r. asked_by (decimal now ∷ r)) words ∙ ap (option_and_then (λ k. with_words k (codes "fill") (decimal n) (decimal x))) (number_read now small)
     ∙ ap (option_and_then (λ k. option_and_then (λ y. fill_of now k y) (number_in (decimal x)))) (number_read n (below_limit n count.1))
     ∙ ap (option_and_then (λ y. fill_of now n y)) (number_read x bound) ∙ counted now n x count ∙ ap Some (sym is)
-table_read now small rest asked (inr (inr (inr (inr (inr (inr (inr (inr (inr (inr (inr (inr (inr none))))))))))))) = absurd none
+table_read now small rest asked (inr (inr (inr (inr (inr (inr (inr (inr (inr (inr (inr (inr (inr (inl dump)))))))))))))) =
+    ap (λ r. asked_by (decimal now ∷ r)) dump.0 ∙ ap (option_and_then (λ n. alone n (codes "dump"))) (number_read now small) ∙ ap Some (sym dump.1)
+table_read now small rest asked (inr (inr (inr (inr (inr (inr (inr (inr (inr (inr (inr (inr (inr (inr (inl load))))))))))))))) =
+    ap (λ r. asked_by (decimal now ∷ r)) load.0 ∙ ap (option_and_then (λ n. alone n (codes "load"))) (number_read now small) ∙ ap Some (sym load.1)
+table_read now small rest asked (inr (inr (inr (inr (inr (inr (inr (inr (inr (inr (inr (inr (inr (inr (inr none))))))))))))))) = absurd none
 
 pub words_are_of_table : WordsAreOfTable
 words_are_of_table = λ words asked. (

@@ -8,6 +8,8 @@ pub mod Filled
 pub mod FillProgress
 pub mod FirstLine
 pub mod HeldReply
+pub mod Load
+pub mod LoadProgress
 pub mod Pieces
 pub mod Put
 pub mod PutProgress

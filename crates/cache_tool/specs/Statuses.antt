@@ -22,6 +22,10 @@ IsClosing status.Words = ⊥
 abbrev pub IsAnswer : Status → Type 0
 IsAnswer s = (s ≡ status.Done) ⊎ (s ≡ status.No)
 
+-- and those of which a line tells, also that of a bad script or dump
+abbrev pub IsSaid : Status → Type 0
+IsSaid s = IsAnswer s ⊎ (s ≡ status.Script)
+
 -- how the program ends by the outcome of the last command
 abbrev pub status_of : Verdict → Status
 status_of outcome.Ok = status.Done

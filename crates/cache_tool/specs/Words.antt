@@ -7,7 +7,7 @@ use Rattle.std.specs.declared.option.Option.{Option}
 use Rattle.std.specs.declared.string.String.{String}
 use Rattle.cache_base.specs.Numbers.{number_in}
 use Rattle.cache_theory.specs.Command.{Command}
-use Rattle.cache_theory.specs.Command.Command.{ClearOrigin, Doom, Evict, Flush, Get, GetAlt, ListRecords, MainBody, Rebuild, Verify}
+use Rattle.cache_theory.specs.Command.Command.{ClearOrigin, Doom, Dump, Evict, Flush, Get, GetAlt, ListRecords, MainBody, Rebuild, Verify}
 
 -- what the words ask for, at a moment
 pub data Asked : Type 0 where
@@ -19,6 +19,8 @@ pub data Asked : Type 0 where
   One : (now : ℕ) (command : Command) → Asked
   -- so many entries are made, the sizes of whose bodies follow from a first number; half of all is evicted, and all checked
   Fill : (now count first : ℕ) → Asked
+  -- the entries of the dump that the source has
+  Load : (now : ℕ) → Asked
 
 -- The table of the verbs, and which words are those of the table.
 
@@ -49,7 +51,9 @@ verbs =
     ∷ (Verb.Alone (codes "verify") (λ now. Asked.One now Verify)
     ∷ (Verb.Alone (codes "rebuild") (λ now. Asked.One now Rebuild)
     ∷ (Verb.WithNumbers (codes "fill") fill_limit (λ now count first. Asked.Fill now count first)
-    ∷ []))))))))))))
+    ∷ (Verb.Alone (codes "dump") (λ now. Asked.One now Dump)
+    ∷ (Verb.Alone (codes "load") (λ now. Asked.Load now)
+    ∷ []))))))))))))))
 
 -- a number from 1 up to the limit
 abbrev pub IsCount : ℕ → ℕ → Type 0
@@ -90,6 +94,8 @@ alone now verb =
     else if pointwise nat_eq verb (codes "list") then Some (Asked.One now ListRecords)
     else if pointwise nat_eq verb (codes "verify") then Some (Asked.One now Verify)
     else if pointwise nat_eq verb (codes "rebuild") then Some (Asked.One now Rebuild)
+    else if pointwise nat_eq verb (codes "dump") then Some (Asked.One now Dump)
+    else if pointwise nat_eq verb (codes "load") then Some (Asked.Load now)
     else None
 
 -- a verb with a key, an origin or a number
@@ -131,7 +137,7 @@ WordsAreOfTable =
 abbrev pub asked_in : List (String Global) → Option Asked
 asked_in words = asked_by (map (λ w. string_bytes w) words)
 
--- P of the moment of a `run`, of the moment and the key of a `put`, of the moment and the two numbers of a `fill`, and of
+-- P of the moment of a `run` or a `load`, of the moment and the key of a `put`, of the moment and the two numbers of a `fill`, and of
 -- the moment and the command of other words
 abbrev pub WhenRun : Option Asked → (ℕ → Type 0) → Type 0
 WhenRun (Some (Asked.Run now)) P = P now
@@ -148,3 +154,7 @@ WhenOne _ P = Unit {0}
 abbrev pub WhenFill : Option Asked → (ℕ → ℕ → ℕ → Type 0) → Type 0
 WhenFill (Some (Asked.Fill now count first)) P = P now count first
 WhenFill _ P = Unit {0}
+
+abbrev pub WhenLoad : Option Asked → (ℕ → Type 0) → Type 0
+WhenLoad (Some (Asked.Load now)) P = P now
+WhenLoad _ P = Unit {0}

@@ -5,6 +5,7 @@
 mod fill;
 mod last_reply;
 mod laws;
+mod load;
 mod one;
 mod piece;
 mod program;

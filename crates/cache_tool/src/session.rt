@@ -12,7 +12,7 @@ ghost use Rattle.cache_store.specs.Session.{session};
 ghost use Rattle.cache_theory.specs.Faulted.{fault_line};
 ghost use Rattle.cache_tool.specs.Beginning.{Begins, FailsToBegin, ReadsNoEntry};
 ghost use Rattle.cache_tool.specs.Ending.{EndsSession};
-ghost use Rattle.cache_tool.specs.Statuses.{IsAnswer, IsClosing, status_in, status_of as status_of_outcome};
+ghost use Rattle.cache_tool.specs.Statuses.{IsAnswer, IsClosing, IsSaid, status_in, status_of as status_of_outcome};
 ghost use Rattle.context_clear.specs.Mark.{mark_of};
 ghost use Rattle.disk_model.specs.Account.{Accounts, LooksAtNoEntry};
 ghost use Rattle.disk_model.specs.Calls.{StopsAtFault};
@@ -134,15 +134,17 @@ pub(crate) fn end_faulted<D: Disk, K: Sink>(mut store: Store, sink: &mut K, disk
     }
 }
 
-/// Prints the text of an answer, which came with this status.
+/// Prints the text of an answer, or the line of what is bad, which came with this status.
 pub(crate) fn print_answer<K: Sink>(status: Status, text: &[u8], sink: &mut K) -> Status
-    requires answer { IsAnswer status }
+    requires answer { IsSaid status }
     ensures same { (result ≡ status) ⊎ ((result ≡ Status.Sink) ⊎ (result ≡ Status.Memory)) }
     ensures all { IsAnswer result → Appends (K.taken sink.old) (K.taken sink.new) text.now }
+    ensures bad { result ≡ Status.Script → Appends (K.taken sink.old) (K.taken sink.new) text.now }
     ensures part { IsPart (K.taken sink.old) (K.taken sink.new) text.now }
     ensures cut { result ≡ Status.Sink → IsCut (K.taken sink.old) (K.taken sink.new) text.now }
     ensures sink { result ≡ Status.Sink → Rose (K.faults sink.old) (K.faults sink.new) }
     ensures calm { IsAnswer result → K.faults sink.new ≡ K.faults sink.old }
+    ensures bad_calm { result ≡ Status.Script → K.faults sink.new ≡ K.faults sink.old }
 {
     match write_whole(sink, text) {
         Ok(()) => status,

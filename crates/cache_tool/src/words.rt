@@ -16,10 +16,12 @@ pub(crate) enum Asked<'a> {
     /// `NOW put KEY`
     Put { now: Moment, key: &'a [u8] },
     /// `NOW get KEY`, `NOW getalt KEY`, `NOW main KEY`, `NOW doom KEY`, `NOW clear ORIGIN`,
-    /// `NOW evict KB`, `NOW flush`, `NOW list`, `NOW verify`, `NOW rebuild`
+    /// `NOW evict KB`, `NOW flush`, `NOW list`, `NOW verify`, `NOW rebuild`, `NOW dump`
     One { now: Moment, command: Command<'a> },
     /// `NOW fill N FIRST`
     Fill { now: Moment, count: u32, first: u32 },
+    /// `NOW load`
+    Load { now: Moment },
 }
 
 // A `fill` makes at most so many entries.
@@ -48,6 +50,11 @@ fn alone(now: Moment, verb: &str) -> Option<Asked<'_>>
             now,
             command: Command::Rebuild,
         }),
+        "dump" => Some(Asked::One {
+            now,
+            command: Command::Dump,
+        }),
+        "load" => Some(Asked::Load { now }),
         _ => None,
     }
 }

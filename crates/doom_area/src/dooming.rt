@@ -30,8 +30,11 @@ pub fn doom<D: Disk>(disk: &mut D, name: &Name, in_use: &[u32]) -> Result<u32, D
     requires told { IsTrue D.tells → IsSome (standing (D.state disk.old) (Entry name.now)) }
     ensures number { IfOk result (IsLeastFree in_use.now) }
     ensures state { (number : ℕ) → IsLeastFree in_use.now number →
-        Told D.Disk (λ s t. t ≡ if_done result (renamed (Entry name.now) (Doomed number) s) s) disk.old disk.new }
-    ensures counts { IsTrue D.tells → D.counts disk.new ≡ counted_change result (D.counts disk.old) }
+        Told D.Disk
+        (λ s t. t ≡ if_done result (renamed (Entry name.now) (Doomed number) s) s)
+        disk.old disk.new }
+    ensures counts { IsTrue D.tells →
+        D.counts disk.new ≡ counted_change result (D.counts disk.old) }
     ensures account { Accounts D.Disk (ending result) disk.old disk.new }
     ensures change { FailsInChange D.Disk (ending result) disk.new }
 {
@@ -43,8 +46,10 @@ pub fn doom<D: Disk>(disk: &mut D, name: &Name, in_use: &[u32]) -> Result<u32, D
 /// Removes the file of a doomed entry.
 pub fn release<D: Disk>(disk: &mut D, number: u32) -> Result<(), DiskFault>
     requires { IsTrue D.tells → IsSome (standing (D.state disk.old) (Doomed number)) }
-    ensures state { Told D.Disk (λ s t. t ≡ if_done result (removed (Doomed number) s) s) disk.old disk.new }
-    ensures counts { IsTrue D.tells → D.counts disk.new ≡ counted_change result (D.counts disk.old) }
+    ensures state { Told D.Disk
+        (λ s t. t ≡ if_done result (removed (Doomed number) s) s) disk.old disk.new }
+    ensures counts { IsTrue D.tells →
+        D.counts disk.new ≡ counted_change result (D.counts disk.old) }
     ensures account { Accounts D.Disk (ending result) disk.old disk.new }
     ensures change { FailsInChange D.Disk (ending result) disk.new }
 {

@@ -5,16 +5,18 @@ ghost use Rattle.std.specs.Prelude.{◌<◌};
 mod chunks;
 mod doomed;
 mod elements;
+mod given;
 mod pins;
 mod refusals;
 mod sessions;
 mod slots;
 mod users;
 
-use cache_base::{Moment, Name, Names, NoMemory};
+use cache_base::{Bytes, Moment, Name, Names, NoMemory};
 use disk_model::DiskFault;
 use entry_metadata::Meta;
 use entry_name::name_of;
+use entry_parts::{Elements, Header};
 use file_handles::{Effect, HandleFault, Handles, Refusal};
 use index_record::{INITIALIZED, IndexRecord, NO_TIME, PINNED};
 use real_disk::RealDisk;
@@ -41,6 +43,10 @@ enum Call<'a> {
     // A whole chunk of this byte.
     AppendChunk(u8, u8),
     Finish(u8),
+    // With this header, and elements of these bytes.
+    FinishAs(u8, Header, &'a [u8]),
+    // With this header, and an element whose value has so many bytes.
+    FinishLong(u8, Header, usize),
     Set(u8, &'a [u8], &'a [u8]),
     Unset(u8, &'a [u8]),
     Element(u8, &'a [u8]),
@@ -233,6 +239,47 @@ fn append_chunk(
     }
 }
 
+fn finish_as(
+    rt: &HostRuntime,
+    handles: &mut Handles,
+    disk: &mut HostDisk<'_>,
+    slot: u8,
+    header: Header,
+    bytes: &[u8],
+) -> Result<Effect, HandleFault>
+    requires { slot < 64 }
+{
+    match Elements::parse(rt.alloc(), bytes) {
+        Ok(elements) => handles.finish_as(rt.alloc(), disk, slot, header, elements),
+        Err(_) => Err(HandleFault::Memory),
+    }
+}
+
+// An element of the name `e` and so many bytes.
+fn long_element(rt: &HostRuntime, len: usize) -> Result<Bytes, NoMemory> {
+    let mut bytes = Bytes::new(rt.alloc());
+    bytes.extend(b"e\0")?;
+    bytes.extend(&vec![in rt.alloc(); b'v'; len]?)?;
+    bytes.push(0)?;
+    Ok(bytes)
+}
+
+fn finish_long(
+    rt: &HostRuntime,
+    handles: &mut Handles,
+    disk: &mut HostDisk<'_>,
+    slot: u8,
+    header: Header,
+    len: usize,
+) -> Result<Effect, HandleFault>
+    requires { slot < 64 }
+{
+    match long_element(rt, len) {
+        Ok(bytes) => finish_as(rt, handles, disk, slot, header, bytes.as_slice()),
+        Err(_) => Err(HandleFault::Memory),
+    }
+}
+
 // Makes an entry for each slot, whose keys differ in their last byte.
 fn create_all(
     rt: &HostRuntime,
@@ -283,6 +330,12 @@ fn slot_answers(
         Call::Append(_, bytes) => is_done(handles.append(disk, slot, bytes), wanted),
         Call::AppendChunk(_, byte) => is_done(append_chunk(rt, handles, disk, slot, byte), wanted),
         Call::Finish(_) => learns(handles.finish(alloc, disk, slot), wanted),
+        Call::FinishAs(_, header, bytes) => {
+            learns(finish_as(rt, handles, disk, slot, header, bytes), wanted)
+        }
+        Call::FinishLong(_, header, len) => {
+            learns(finish_long(rt, handles, disk, slot, header, len), wanted)
+        }
         Call::Set(_, name, value) => {
             learns(handles.set_element(alloc, disk, slot, name, value), wanted)
         }
@@ -320,6 +373,8 @@ fn slot_of(call: &Call<'_>) -> Option<u8> {
         | Call::Append(slot, _)
         | Call::AppendChunk(slot, _)
         | Call::Finish(slot)
+        | Call::FinishAs(slot, _, _)
+        | Call::FinishLong(slot, _, _)
         | Call::Set(slot, _, _)
         | Call::Unset(slot, _)
         | Call::Element(slot, _)

@@ -4,6 +4,7 @@ use Rattle.disk_model.specs.declared.place.Place.TheVariants.{Entry, Doomed as I
 use Rattle.real_disk.specs.declared.paths.Area.{Area}
 use Rattle.real_disk.specs.declared.paths.Area.TheVariants.{Top, Entries, Doomed}
 
+-- the folder that the file of a place lies in
 abbrev pub area_in : Place → Area
 area_in (Entry name) = Entries
 area_in (InDoomed number) = Doomed

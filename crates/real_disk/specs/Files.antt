@@ -8,6 +8,7 @@ use Rattle.real_disk.specs.declared.notes.FolderNotes.{FolderNotes}
 use Rattle.real_disk.specs.Areas.{area_in}
 use Rattle.real_disk.specs.Folders.{HasNote}
 
+-- the places whose files are noted
 abbrev pub FileNotes : Type 0
 FileNotes = BTreeSet Place
 

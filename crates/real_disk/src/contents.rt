@@ -10,7 +10,8 @@ use std::io::{self, ErrorKind, Read, Seek, SeekFrom, Write};
 
 /// Fills the buffer from the offset on. A file that does not have all these bytes is an error.
 pub(crate) fn read_whole<F: Read + Seek>(file: &mut F, from: u64, buf: &mut [u8]) -> io::Result<()>
-    ensures whole { OnOk result ((begun : F) × Consumes (F.remaining begun) (F.remaining file.new) buf.new) }
+    ensures whole { OnOk result
+        ((begun : F) × Consumes (F.remaining begun) (F.remaining file.new) buf.new) }
 {
     file.seek(SeekFrom::Start(from))?;
     file.read_exact(buf)
@@ -50,7 +51,8 @@ pub(crate) fn read_at<F: Read + Seek>(
 
 /// Writes all the bytes over what stands from the offset on.
 pub(crate) fn write_over<F: Write + Seek>(file: &mut F, from: u64, bytes: &[u8]) -> io::Result<()>
-    ensures whole { OnOk result ((begun : F) × Appends (F.contents begun) (F.contents file.new) bytes.now) }
+    ensures whole { OnOk result
+        ((begun : F) × Appends (F.contents begun) (F.contents file.new) bytes.now) }
 {
     file.seek(SeekFrom::Start(from))?;
     write_whole(file, bytes)
@@ -71,7 +73,8 @@ pub(crate) fn write_end<F: Write + Seek + OpenFile>(
     from: u64,
     bytes: &[u8],
 ) -> io::Result<()>
-    ensures whole { OnOk result ((begun : F) × Appends (F.contents begun) (F.contents file.new) bytes.now) }
+    ensures whole { OnOk result
+        ((begun : F) × Appends (F.contents begun) (F.contents file.new) bytes.now) }
 {
     if is_new && from == 0 {
         return write_whole(file, bytes);

@@ -343,7 +343,8 @@ impl<R: Files + AllocGlobal> Folder<'_, R> {
 
     /// Leaves the note that all was synced, where that is so, unless the cache is closed.
     pub(crate) fn leave_note(&mut self)
-        ensures honest { IsTrue self.new.has_sync_note → IsTrue self.old.has_sync_note ⊎ IsAllSynced self.old.files self.old.tree.folders self.old.earlier }
+        ensures honest { IsTrue self.new.has_sync_note → IsTrue self.old.has_sync_note
+            ⊎ IsAllSynced self.old.files self.old.tree.folders self.old.earlier }
         ensures files { self.new.files ≡ self.old.files }
         ensures folders { self.new.tree ≡ self.old.tree }
         ensures earlier { self.new.earlier ≡ self.old.earlier }

@@ -38,7 +38,8 @@ pub(super) fn grow<D: Disk>(
     third: &[u8],
 ) -> Result<NewEntry, DiskFault>
     requires { length first.now + (length second.now + length third.now) ≤ BODY_MAX }
-    ensures { IfOk result (λ entry. IsTrue D.tells → IsItsFile (held entry) (standing (D.state disk.new) place.now)) }
+    ensures { IfOk result (λ entry. IsTrue D.tells →
+        IsItsFile (held entry) (standing (D.state disk.new) place.now)) }
 {
     let mut entry = begin(alloc, disk, place)?;
     entry.append(disk, place, first)?;

@@ -58,7 +58,8 @@ pub(super) fn undamaged<D: Disk>(
     place: &Place,
     buf: &mut Buffer,
 ) -> Result<Meta, Fail>
-    ensures { IfOk result (λ meta. IsTrue D.tells → StoresBody (standing (D.state disk.new) place.now) (meta_of meta)) }
+    ensures { IfOk result (λ meta. IsTrue D.tells →
+        StoresBody (standing (D.state disk.new) place.now) (meta_of meta)) }
 {
     match find_undamaged(alloc, disk, place, buf)? {
         Some(meta) => Ok(meta),

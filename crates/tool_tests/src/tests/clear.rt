@@ -378,8 +378,16 @@ fn three_and(alloc: Global, made: &MemDisk, left: &[u8]) -> Result<MemDisk, Fail
     Ok(disk)
 }
 
+// The dump of both entries that are not of the origin or are pinned.
+const DUMP_OF_TWO: &[u8] = b"C2DUMP01\
+    \x01\0\0\0\x0c:https://x/3\0\0\0\0\0\0\0\x31\xff\x23\xb0\xf5\
+    \0\0\0\x03\0\0\0\x01\0\0\x03\xe8\0\0\x03\xe8\0\0\x03\xe8\xff\xff\xff\xff\0\0\0\x0c\0\0\0\0:https://x/3\0\
+    \x01\0\0\0\x10O^a,:https://x/2\0\0\0\0\0\0\0\x35\xdb\x01\x34\x98\
+    \0\0\0\x03\0\0\0\x01\0\0\x03\xe8\0\0\x03\xe8\0\0\x03\xe8\xff\xff\xff\xff\0\0\0\x10\0\0\0\x01O^a,:https://x/2\0\
+    \0";
+
 // Each verb, and scripts, of which the last two have a malformed command.
-const AFTER_A_STOP: [Row<'static>; 16] = [
+const AFTER_A_STOP: [Row<'static>; 18] = [
     ("1001 list", b"", Status::Done, LIST_OF_TWO),
     ("1001 put :new", b"hello", Status::Done, b"ok\n"),
     ("1001 get O^a,:https://x/1", b"", Status::No, ABSENT),
@@ -397,6 +405,8 @@ const AFTER_A_STOP: [Row<'static>; 16] = [
         Status::Done,
         b"made 1\nevicted 2\nfindings 0\nrecords 1\n",
     ),
+    ("1001 dump", b"", Status::Done, DUMP_OF_TWO),
+    ("1001 load", b"C2DUMP01\0", Status::Done, b"loaded 0\n"),
     ("1001 run", b"", Status::Done, b""),
     (
         "1001 run",

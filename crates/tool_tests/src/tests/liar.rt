@@ -1,5 +1,6 @@
 //! Every verb over disks that make their answers up.
 
+use super::dump::ONE;
 use super::*;
 use disk_model::LiarDisk;
 use entry_file::{EntryRead, read_meta};
@@ -11,7 +12,7 @@ const EVERY_COMMAND: &[u8] =
     doom :x\ncreate 2 :y\nclose 1\n";
 
 // Every verb, and what its source gives.
-const VERBS: [(&str, &[u8]); 10] = [
+const VERBS: [(&str, &[u8]); 12] = [
     ("1000 run", EVERY_COMMAND),
     ("1000 put :x", b"hello"),
     ("1000 get :x", b""),
@@ -22,6 +23,8 @@ const VERBS: [(&str, &[u8]); 10] = [
     ("1000 verify", b""),
     ("1000 rebuild", b""),
     ("1000 fill 1 1", b""),
+    ("1000 dump", b""),
+    ("1000 load", ONE),
 ];
 
 // At the limits of what is read: no tail, a tail, a block, and what a number holds.
@@ -57,10 +60,10 @@ fn answered(alloc: Global, size: u64, byte: u8) -> Result<(usize, usize), Fail> 
 // Whatever a disk makes up, no verb answers a fault of it, and none asks for memory that there is not.
 #[test]
 fn every_verb_is_answered(rt: HostRuntime) -> Result<(), Fail> {
-    assert!(rt; answered(rt.alloc(), 4096, 0)? == (10, 0));
+    assert!(rt; answered(rt.alloc(), 4096, 0)? == (12, 0));
     for size in SIZES {
         for byte in [0, 1, 255] {
-            let all = answered(rt.alloc(), size, byte)? == (10, 0);
+            let all = answered(rt.alloc(), size, byte)? == (12, 0);
             assert!(rt; all, "{size} bytes of {byte}");
         }
     }
@@ -71,7 +74,7 @@ fn every_verb_is_answered(rt: HostRuntime) -> Result<(), Fail> {
 #[test]
 fn a_size_that_no_memory_holds(rt: HostRuntime) -> Result<(), Fail> {
     for byte in [0, 1, 255] {
-        assert!(rt; answered(rt.alloc(), NO_MEMORY, byte)? == (10, 10));
+        assert!(rt; answered(rt.alloc(), NO_MEMORY, byte)? == (12, 12));
     }
     Ok(())
 }

@@ -1,17 +1,19 @@
 -- The words tell which part of the program answers them; and where nothing fails, a script that the source spells is performed.
 use Rattle.std.proofs.Common.{◌≡◌, ◌∙◌, IsTrue, Some, ap, subst, sym}
 use Rattle.std.specs.Option.{option_map}
+use Rattle.cache_tool.proofs.LoadEnds.{dump_is_not_bad}
 use Rattle.cache_tool.proofs.RunComplete.{nothing_failed, script_is_not_bad}
 use Rattle.cache_tool.proofs.program.run.Goals as goal
 use Rattle.cache_tool.specs.Asked.{asked}
+use Rattle.cache_tool.specs.Load.{IsDumpOf}
 use Rattle.cache_tool.specs.Script.{IsScript}
 use Rattle.cache_tool.specs.Verbs.{AnswersCommand}
 use Rattle.cache_tool.specs.World.{output}
-use Rattle.cache_tool.specs.Words.{Asked, WhenOne, WhenRun, asked_in}
+use Rattle.cache_tool.specs.Words.{Asked, WhenLoad, WhenOne, WhenRun, asked_in}
 use Rattle.cache_script.specs.Command.{command_of}
 
 pub returns-in-Some-Run-clause-complete : goal.returns-in-Some-Run-clause-complete
-returns-in-Some-Run-clause-complete g c = λ some script source sink disk.
+returns-in-Some-Run-clause-complete g c = λ some script dump source sink disk.
     let words : asked_in c.args.words.now ≡ Some (Asked.Run c.in-Some-Run.now) = sym c.read_words.ensures.asked ∙ ap (λ r. option_map asked r) (c.in-Some-Run.is ∙ ap (λ a. Some a) c.in-Some-Run.field-0-is) in
     let spelled : IsScript (g.S.Source.left c.args.source.now) = subst (λ words. WhenRun words (λ now. IsScript (g.S.Source.left c.args.source.now))) words script in
     nothing_failed c.run_script.result c.run_script.ensures.others.0
@@ -25,3 +27,10 @@ returns-in-Some-One-clause-answers g c =
     let before = output g.K.Sink g.D.Disk c.args.sink.now c.args.disk.now in
     let after = output g.K.Sink g.D.Disk c.perform_one.new.sink c.perform_one.new.disk in
     subst (λ asks. WhenOne asks (λ now d. IsTrue g.D.Disk.tells → AnswersCommand now d c.perform_one.result before after)) (sym words) c.perform_one.ensures.answers
+
+pub returns-in-Some-Load-clause-complete : goal.returns-in-Some-Load-clause-complete
+returns-in-Some-Load-clause-complete g c = λ some script dump source sink disk.
+    let words : asked_in c.args.words.now ≡ Some (Asked.Load c.in-Some-Load.now) = sym c.read_words.ensures.asked ∙ ap (λ r. option_map asked r) (c.in-Some-Load.is ∙ ap (λ a. Some a) c.in-Some-Load.field-0-is) in
+    let spelled : IsDumpOf (g.S.Source.left c.args.source.now) = subst (λ words. WhenLoad words (λ now. IsDumpOf (g.S.Source.left c.args.source.now))) words dump in
+    nothing_failed c.load.result c.load.ensures.others.0 (λ is. dump_is_not_bad (g.S.Source.left c.args.source.now) spelled (c.load.ensures.undumped is))
+    (λ is. source (c.load.ensures.source is)) (λ is. sink (c.load.ensures.sink is)) (λ is. disk (c.load.ensures.disk.rose is))

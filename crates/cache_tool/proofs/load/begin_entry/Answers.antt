@@ -1,0 +1,27 @@
+use Rattle.std.proofs.Common.{[], ◌∷◌, refl}
+use Rattle.cache_store.specs.Session.{session}
+use Rattle.cache_theory.specs.Command.Command.{Create}
+use Rattle.cache_tool.specs.HeldReply.{said_in}
+use Rattle.cache_tool.proofs.FillRuns.{run_handed, run_ok, run_one, run_same}
+use Rattle.cache_tool.proofs.Handed.{handed_open}
+use Rattle.cache_tool.proofs.load.begin_entry.Goals as goal
+
+pub returns-in_err-send-clause-runs : goal.returns-in_err-send-clause-runs
+returns-in_err-send-clause-runs g c = λ told.
+    let create = Create 0 c.as_slice-key.result.now in
+    let s0 = session g.D.Disk c.args.store.now c.args.disk.now in
+    let s1 = session g.D.Disk c.send.new.store c.send.new.disk in
+    run_same (create ∷ []) (Create 0 c.args.key.now ∷ []) c.from_residual.result s0 s1 (λ i. Create 0 (c.as_slice-key.ensures i) ∷ [])
+    (run_handed (create ∷ []) _ c.from_residual.result _ s0 s1 c.from_residual.ensures.1 (run_one create _ s0 s1 (said_in c.send.new.said) refl (c.in_err-send.ensures.sends told)))
+
+pub returns-in_err-send-clause-open : goal.returns-in_err-send-clause-open
+returns-in_err-send-clause-open g c = λ told.
+    handed_open c.from_residual.result c.in_err-send.field-0.0 (session g.D.Disk c.send.new.store c.send.new.disk) c.from_residual.ensures.1 (c.in_err-send.ensures.open told)
+
+pub returns-clause-runs : goal.returns-clause-runs
+returns-clause-runs g c = λ told.
+    let create = Create 0 c.as_slice-key.result.now in
+    let s0 = session g.D.Disk c.args.store.now c.args.disk.now in
+    let s1 = session g.D.Disk c.send.new.store c.send.new.disk in
+    run_ok (Create 0 c.args.key.now ∷ []) c.in_ok-send.field-0 tt s0 s1
+    (run_same (create ∷ []) (Create 0 c.args.key.now ∷ []) _ s0 s1 (λ i. Create 0 (c.as_slice-key.ensures i) ∷ []) (run_one create _ s0 s1 (said_in c.send.new.said) refl (c.in_ok-send.ensures.sends told)))

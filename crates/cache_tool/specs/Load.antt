@@ -1,0 +1,143 @@
+-- What a `load` comes to.
+use Rattle.std.specs.Io.KnownBytes.{Appends, Consumes, IsAtEnd, Keeps}
+use Rattle.std.specs.Prelude.{IfSome, IsSomeAnd, List, None, Option, Some, [], codes, decimal, flat_map, length, map, suc, ℕ, ◌++◌, ◌∷◌, ◌≡◌, ◌≢◌, ◌<◌, ◌≤◌, ◌+◌, ◌⊎◌}
+use Rattle.cache_base.specs.declared.status.Status.{Status}
+use Rattle.cache_base.specs.declared.status.Status.TheVariants as status
+use Rattle.cache_export.specs.Dump.{AreItems, IsDump}
+use Rattle.cache_export.specs.Joined.{parts_of}
+use Rattle.cache_export.specs.Parts.{NoPart, Part, Spells, Stage, after as due_after}
+use Rattle.cache_export.specs.declared.limits.TheConstants.{DUMP_MAX}
+use Rattle.cache_store.specs.Open.{StartsOn}
+use Rattle.cache_store.specs.Said.{IsCut}
+use Rattle.cache_store.specs.Saying.{IsPart}
+use Rattle.cache_theory.specs.Command.{Command}
+use Rattle.cache_theory.specs.Loading.{FindsStock, IsStocked, item_begun, items_written}
+use Rattle.cache_theory.specs.Machine.{Machine}
+use Rattle.cache_theory.specs.Step.{step}
+use Rattle.cache_theory.specs.Text.{line, with_number}
+use Rattle.cache_tool.specs.Beginning.{DoneAtOpening}
+use Rattle.cache_tool.specs.Verbs.{HasNotBegun, LeavesDisk, all_begun_none_acked}
+use Rattle.cache_tool.specs.World.{World, output_of}
+use Rattle.entry_file.specs.Version.{Version}
+
+-- ---- what was read of a dump
+
+-- the beginning of an item: its key, and pieces of its body
+pub record Begun : Type 0 where
+  pub key : List ℕ
+  pub pieces : List (List ℕ)
+
+-- whole items, and maybe the beginning of one more
+pub record Loaded : Type 0 where
+  pub items : List Version
+  pub begun : Option Begun
+
+-- its parts
+abbrev pub begun_parts : Option Begun → List Part
+begun_parts None = []
+begun_parts (Some b) = Part.KeyPart b.key ∷ map (λ piece. Part.PiecePart piece) b.pieces
+
+abbrev pub loaded_parts : Loaded → List Part
+loaded_parts l = flat_map parts_of l.items ++ begun_parts l.begun
+
+-- what is done for it: the entries of the items are written, and that of the last one is begun and not finished
+abbrev pub begun_commands : Option Begun → List Command
+begun_commands None = []
+begun_commands (Some b) = item_begun b.key b.pieces
+
+abbrev pub loaded_commands : Loaded → List Command
+loaded_commands l = items_written l.items ++ begun_commands l.begun
+
+-- the bytes are those of these parts, each due after the one before, and this is due then
+abbrev pub ArePartsTo : Stage → List Part → List ℕ → Stage → Type 0
+ArePartsTo stage [] bytes end = (bytes ≡ []) × (end ≡ stage)
+ArePartsTo stage (p ∷ ps) bytes end =
+    (own : List ℕ) × ((rest : List ℕ) × (Spells stage p own × ((bytes ≡ own ++ rest) × ArePartsTo (due_after stage p own) ps rest end)))
+
+-- so much of a dump these bytes begin with
+pub record BeginsLoaded (bytes : List ℕ) (l : Loaded) : Type 0 where
+  pub own : List ℕ
+  pub more : List ℕ
+  pub stage : Stage
+  pub items : AreItems None l.items
+  pub parts : ArePartsTo (Stage.AtItem None) (loaded_parts l) own stage
+  pub spelled : bytes ≡ own ++ more
+  pub short : length own ≤ DUMP_MAX
+
+-- the bytes are no dump
+abbrev pub IsNoDump : List ℕ → Type 0
+IsNoDump bytes = (vs : List Version) → IsDump bytes vs → ⊥
+
+-- where the source tells its bytes they are a dump, or they are none
+abbrev pub HasDump : Option (List ℕ) → Type 0
+HasDump left = IfSome left (λ bytes. (vs : List Version) × IsDump bytes vs)
+
+abbrev pub HasNoDump : Option (List ℕ) → Type 0
+HasNoDump left = IfSome left IsNoDump
+
+-- it tells them, and they are a dump
+abbrev pub IsDumpOf : Option (List ℕ) → Type 0
+IsDumpOf left = IsSomeAnd left (λ bytes. (vs : List Version) × IsDump bytes vs)
+
+-- they go on with no part that is due and keeps the dump within its length, and do not end it
+abbrev pub IsBadBehind : {bytes : List ℕ} {l : Loaded} → BeginsLoaded bytes l → Type 0
+IsBadBehind read = NoPart read.stage (length read.own) read.more
+
+-- what a source gave before it failed are these parts, and no whole part more
+pub record GaveLoaded (left now : Option (List ℕ)) (l : Loaded) : Type 0 where
+  pub given : List ℕ
+  pub taken : Consumes left now given
+  pub read : BeginsLoaded given l
+  pub no_more : (p : Part) (own rest : List ℕ) → Spells read.stage p own → read.more ≡ own ++ rest → DUMP_MAX < length read.own + length own
+
+-- ---- what is printed
+
+abbrev pub loaded_line : ℕ → List ℕ
+loaded_line n = with_number (codes "loaded") n
+
+abbrev pub bad_dump_line : ℕ → List ℕ
+bad_dump_line n = line (codes "bad" ∷ codes "dump" ∷ decimal n ∷ [])
+
+-- so many items were loaded, or the one behind so many is bad
+abbrev pub IsLoadLine : ℕ → List ℕ → Type 0
+IsLoadLine n text = (text ≡ loaded_line n) ⊎ (text ≡ bad_dump_line (suc n))
+
+-- the line is printed, or it is cut, or nothing is
+pub record PrintsLoadLine (n : ℕ) (ended : Status) (before now : Option (List ℕ)) : Type 0 where
+  pub text : List ℕ
+  pub is_line : IsLoadLine n text
+  pub part : IsPart before now text
+  pub done : ended ≡ status.Done → Appends before now (loaded_line n)
+  pub bad : ended ≡ status.Script → Appends before now (bad_dump_line (suc n))
+  pub cut : ended ≡ status.Sink → IsCut before now text
+  pub silent : (ended ≡ status.Source) ⊎ (ended ≡ status.Disk) → Keeps before now
+
+-- ---- the verb
+
+-- for a machine at an opening, and what was done for `Resume`: the entries of these items were written, and none of the
+-- commands behind it is acknowledged
+pub record PrintsLoaded (m : Machine) (d : Command) (bytes : List ℕ) (ended : Status) (before now : World) : Type 0 where
+  pub loaded : Loaded
+  -- the source's bytes begin with them
+  pub read : BeginsLoaded bytes loaded
+  -- with `Done` they are a dump of these items, and the source was read to its end
+  pub whole : ended ≡ status.Done → IsDump bytes loaded.items × ((loaded.begun ≡ None) × IsAtEnd now.source.left)
+  -- with `Script` they are no dump, and the item behind these is bad
+  pub bad : ended ≡ status.Script → IsNoDump bytes × IsBadBehind read
+  -- with `Source` it gave no whole part more
+  pub broken : ended ≡ status.Source → GaveLoaded before.source.left now.source.left loaded
+  -- no item is refused
+  pub accepted : ended ≢ status.No
+  -- each item's version is found then, and each key of another name as before, once the entries stand
+  pub stocked : IsStocked (step m d).next loaded.items
+  pub found : FindsStock (step m d).next.shelf loaded.items
+  pub prints : PrintsLoadLine (length loaded.items) ended before.taken now.taken
+  pub leaves : LeavesDisk m (all_begun_none_acked m d (loaded_commands loaded)) ended before.disk now.disk
+
+-- `load`, of a source that tells its bytes: the entries of a dump are written; or the run did not begin, and nothing of it was
+-- read
+abbrev pub LoadsDump : ℕ → Status → World → World → Type 0
+LoadsDump moment ended before now = IfSome before.source.left (λ bytes.
+    (m : Machine) → StartsOn moment before.disk m
+    → DoneAtOpening before.disk m (λ d. PrintsLoaded m d bytes ended before now)
+    ⊎ (HasNotBegun m ended (output_of before) (output_of now) × (now.source ≡ before.source)))
