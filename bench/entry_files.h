@@ -162,7 +162,7 @@ static void path_of_name(char *to, size_t room, const char *dir, const uint8_t *
 }
 
 /* The record of the file of this name, if it is that of an entry, and where `check` is given that what it says of the body. */
-static int read_entry_file(const char *dir, const uint8_t *name, struct record *r, int (*check)(int file, const uint8_t *block, uint32_t offset))
+static int read_entry_file(const char *dir, const uint8_t *name, struct record *r, int (*check)(int file, const uint8_t *block, uint32_t len, uint32_t offset))
 {
     char path[4096];
     struct stat found;
@@ -186,7 +186,7 @@ static int read_entry_file(const char *dir, const uint8_t *name, struct record *
                 exit(6);
             fits = read_block(name, block, len, offset, (uint64_t)found.st_size, r);
             if (fits && check != NULL)
-                fits = check(file, block, offset);
+                fits = check(file, block, len, offset);
             free(block);
         }
     }

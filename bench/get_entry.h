@@ -18,6 +18,16 @@ static uint32_t read_one_chunk(int file, uint32_t offset, uint32_t i)
     return n;
 }
 
+/* Whether each chunk of a body has the hash that the block, of so many bytes, says. */
+static int check_body(int file, const uint8_t *block, uint32_t len, uint32_t offset)
+{
+    (void)len;
+    for (uint32_t i = 0; i < (uint32_t)(((uint64_t)offset + CHUNK - 1) / CHUNK); i++)
+        if ((hash(one_chunk, read_one_chunk(file, offset, i)) & 0xffff) != ((uint32_t)block[4 + 2 * i] << 8 | block[5 + 2 * i]))
+            return 0;
+    return 1;
+}
+
 /* An entry whose body was found whole. The header stands in the block. */
 struct found_entry {
     int file;
@@ -55,11 +65,8 @@ static const char *open_entry(const char *dir, const char *key, struct found_ent
         return "absent";
     if (big(e->block) != hash(e->block + 4, len - 4) || e->size != key_len || memcmp(e->header + 32, key, e->size) != 0)
         return "absent";
-    for (uint32_t i = 0; i < e->chunks; i++) {
-        uint32_t wanted = (uint32_t)e->block[4 + 2 * i] << 8 | e->block[5 + 2 * i];
-        if ((hash(one_chunk, read_one_chunk(e->file, e->offset, i)) & 0xffff) != wanted)
-            return "damaged";
-    }
+    if (!check_body(e->file, e->block, len, e->offset))
+        return "damaged";
     e->elements = len - (head + 32 + e->size + 1);
     return NULL;
 }

@@ -4,11 +4,15 @@ import subprocess
 import sys
 
 
-def run(command, source="/dev/null", output=subprocess.DEVNULL):
-    """One run with the file `source` as its standard input: its processor seconds, and those of them that are not the system's."""
+def run(command, source="/dev/null", output=subprocess.DEVNULL, is_piped=False):
+    """One run with the file `source` as its standard input: its processor seconds, and those of them that are not the system's.
+    Where it is piped, what it prints goes into a pipe that is read as it comes."""
+    drain = subprocess.Popen(["cat"], stdin=subprocess.PIPE, stdout=output) if is_piped else None
     with open(source, "rb") as body:
-        child = subprocess.Popen(command, stdin=body, stdout=output)
+        child = subprocess.Popen(command, stdin=body, stdout=drain.stdin if drain else output)
         _, status, usage = os.wait4(child.pid, 0)
+    if drain:
+        drain.communicate()
     child.returncode = os.waitstatus_to_exitcode(status)
     if child.returncode != 0:
         sys.exit(f"{command}: status {child.returncode}")

@@ -20,15 +20,6 @@ static void rebuild(const char *dir, uint32_t now)
     printf("rebuilt %zu\n", count);
 }
 
-/* Whether each chunk of a body has the hash that the block says. */
-static int check_body(int file, const uint8_t *block, uint32_t offset)
-{
-    for (uint32_t i = 0; i < (uint32_t)(((uint64_t)offset + CHUNK - 1) / CHUNK); i++)
-        if ((hash(one_chunk, read_one_chunk(file, offset, i)) & 0xffff) != ((uint32_t)block[4 + 2 * i] << 8 | block[5 + 2 * i]))
-            return 0;
-    return 1;
-}
-
 static int is_same(const struct record *r, const struct record *s)
 {
     return r->frecency == s->frecency && r->origin == s->origin && r->on_start == s->on_start && r->on_stop == s->on_stop

@@ -29,6 +29,8 @@ class Work(NamedTuple):
     source: str = "/dev/null"
     # The run changes the folder, so each begins with a new copy of it.
     changes: bool = False
+    # What it prints goes into a pipe that is read as it comes.
+    is_piped: bool = False
 
 
 class Bench:
@@ -37,7 +39,7 @@ class Bench:
     def __init__(self, here, room, program):
         self.room = room
         self.cache2 = program
-        for name in ("session", "script", "putalt", "clear", "open_index", "peak"):
+        for name in ("session", "script", "putalt", "clear", "dump", "load", "open_index", "peak"):
             words = ["gcc", "-O2", "-Wall", "-Wno-unused-function", "-o", self.at(name), os.path.join(here, name + ".c")]
             subprocess.run(words, check=True)
 
@@ -102,6 +104,13 @@ class Bench:
             self.perform(folder, self.script(WITH_FILES, 5))
         return folder
 
+    def dump(self, folder):
+        """The dump of a closed cache, by the plain program."""
+        name = self.at(os.path.basename(folder) + ".dump")
+        with open(name, "wb") as file:
+            subprocess.run([self.at("dump"), folder, "1001", "dump"], stdout=file, check=True)
+        return name
+
     def limit(self, folder, count):
         """The KB to which all records have to be evicted so that so many of them go."""
         listed = subprocess.run([self.cache2, folder, "1001", "list"], stdout=subprocess.PIPE, check=True).stdout
@@ -130,6 +139,8 @@ def of_goals(bench):
         Work("script of new entries, flush", files, bench.records(0, "sorted"), ("1000", "run"), "script", 1.15, script, True),
         Work("rebuild", files, entries, ("1001", "rebuild"), "session", 1.2),
         Work("clear half", files, bench.origins(ENTRIES), ("1001", "clear", "^a"), "clear", 1.5, changes=True),
+        Work("dump", files, entries, ("1001", "dump"), "dump", 1.3, is_piped=True),
+        Work("load", files, bench.records(0, "sorted"), ("1000", "load"), "load", 1.5, bench.dump(entries), True),
         Work("putalt of 4 MiB", "after 1 MiB", bench.records(0, "sorted"), ("1000", "run"), "putalt", 1.3, bench.putalt(), True),
     ]
 
