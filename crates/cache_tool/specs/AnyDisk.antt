@@ -9,10 +9,11 @@ use Rattle.cache_theory.specs.declared.refusal.Refusal.TheVariants as refused
 abbrev pub TakesAtMost : ℕ → Option (List ℕ) → Option (List ℕ) → Type 0
 TakesAtMost n left now = (taken : List ℕ) × (Consumes left now taken × (length taken ≤ n))
 
--- the line `ok`, and the line of some refusal
+-- the line `ok`
 abbrev pub ok_line : List ℕ
 ok_line = line (codes "ok" ∷ [])
 
+-- the line of some refusal
 abbrev pub IsRefusalLine : List ℕ → Type 0
 IsRefusalLine text = (r : Refusal) × (text ≡ line (refusal_words r))
 

@@ -8,6 +8,7 @@ use Rattle.cache_tool.specs.Words.{Asked, IsCount, fill_limit}
 use Rattle.cache_tool.specs.declared.words.Asked.{Asked as Read}
 use Rattle.cache_tool.specs.declared.words.Asked.TheVariants as read
 
+-- what the program read from the words, in the terms of the contracts
 abbrev pub asked : Read → Asked
 asked (read.Run now) = Asked.Run now
 asked (read.Put now key) = Asked.Put now key.now

@@ -8,17 +8,20 @@ use Rattle.cache_theory.specs.Command.Command.{Append, At, Close, Create, Evict,
 abbrev pub next_number : ℕ → ℕ
 next_number x = (1103515245 * x + 12345) % 2 ^ 31
 
+-- the number of the entry behind so many others
 abbrev pub number_at : ℕ → ℕ → ℕ
 number_at first zero = first
 number_at first (suc i) = next_number (number_at first i)
 
--- the entry with a number: its moment, its key, and its body, whose length follows from x
+-- the moment of the entry with a number
 abbrev pub moment_of : ℕ → ℕ → ℕ
 moment_of now i = min (now + i) (2 ^ 32 - 1)
 
+-- its key
 abbrev pub key_of : ℕ → List ℕ
 key_of i = codes ":https://fill.example/" ++ decimal i
 
+-- its body, whose length follows from the number x
 abbrev pub body_of : ℕ → ℕ → List ℕ
 body_of i x = map (λ j. (i + j) % 256) (range_with_len 0 (x / 2 ^ 16))
 

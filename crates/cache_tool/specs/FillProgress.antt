@@ -40,6 +40,7 @@ pub record HalfIsEvicted {T : Type 0} (h : History) (answer : Result T StoreFaul
   pub stands : OnOk answer (LeadTo (done ∷ []) before h.machine now (all_unanswered (done ∷ []) h))
   pub replied : OnOk answer (said ≡ reply_text (step h.machine done).reply)
 
+-- the same for every history that the disk kept to
 pub record EvictsHalf {T : Type 0} (answer : Result T StoreFault) (before now : Session) (said : List ℕ)
     : Type 0 where
   pub each : (h : History) → KeepsTo before h → HalfIsEvicted h answer before now said

@@ -32,19 +32,21 @@ pub record Loaded : Type 0 where
   pub items : List Version
   pub begun : Option Begun
 
--- its parts
+-- the parts of the beginning of an item
 abbrev pub begun_parts : Option Begun → List Part
 begun_parts None = []
 begun_parts (Some b) = Part.KeyPart b.key ∷ map (λ piece. Part.PiecePart piece) b.pieces
 
+-- the parts of the items, and of the beginning behind them
 abbrev pub loaded_parts : Loaded → List Part
 loaded_parts l = flat_map parts_of l.items ++ begun_parts l.begun
 
--- what is done for it: the entries of the items are written, and that of the last one is begun and not finished
+-- what is done for the beginning of an item: its entry is begun and not finished
 abbrev pub begun_commands : Option Begun → List Command
 begun_commands None = []
 begun_commands (Some b) = item_begun b.key b.pieces
 
+-- what is done for all: the entries of the items are written, and that of the last one is begun
 abbrev pub loaded_commands : Loaded → List Command
 loaded_commands l = items_written l.items ++ begun_commands l.begun
 
@@ -52,7 +54,8 @@ loaded_commands l = items_written l.items ++ begun_commands l.begun
 abbrev pub ArePartsTo : Stage → List Part → List ℕ → Stage → Type 0
 ArePartsTo stage [] bytes end = (bytes ≡ []) × (end ≡ stage)
 ArePartsTo stage (p ∷ ps) bytes end =
-    (own : List ℕ) × ((rest : List ℕ) × (Spells stage p own × ((bytes ≡ own ++ rest) × ArePartsTo (due_after stage p own) ps rest end)))
+    (own : List ℕ) × ((rest : List ℕ) × (Spells stage p own × ((bytes ≡ own ++ rest)
+    × ArePartsTo (due_after stage p own) ps rest end)))
 
 -- so much of a dump these bytes begin with
 pub record BeginsLoaded (bytes : List ℕ) (l : Loaded) : Type 0 where
@@ -68,10 +71,11 @@ pub record BeginsLoaded (bytes : List ℕ) (l : Loaded) : Type 0 where
 abbrev pub IsNoDump : List ℕ → Type 0
 IsNoDump bytes = (vs : List Version) → IsDump bytes vs → ⊥
 
--- where the source tells its bytes they are a dump, or they are none
+-- where the source tells its bytes, they are a dump
 abbrev pub HasDump : Option (List ℕ) → Type 0
 HasDump left = IfSome left (λ bytes. (vs : List Version) × IsDump bytes vs)
 
+-- where it tells them, they are none
 abbrev pub HasNoDump : Option (List ℕ) → Type 0
 HasNoDump left = IfSome left IsNoDump
 
@@ -88,13 +92,16 @@ pub record GaveLoaded (left now : Option (List ℕ)) (l : Loaded) : Type 0 where
   pub given : List ℕ
   pub taken : Consumes left now given
   pub read : BeginsLoaded given l
-  pub no_more : (p : Part) (own rest : List ℕ) → Spells read.stage p own → read.more ≡ own ++ rest → DUMP_MAX < length read.own + length own
+  pub no_more : (p : Part) (own rest : List ℕ) → Spells read.stage p own → read.more ≡ own ++ rest
+      → DUMP_MAX < length read.own + length own
 
 -- ---- what is printed
 
+-- the line behind the last of so many items
 abbrev pub loaded_line : ℕ → List ℕ
 loaded_line n = with_number (codes "loaded") n
 
+-- the line that tells which item is bad, the first being 1
 abbrev pub bad_dump_line : ℕ → List ℕ
 bad_dump_line n = line (codes "bad" ∷ codes "dump" ∷ decimal n ∷ [])
 
@@ -116,12 +123,14 @@ pub record PrintsLoadLine (n : ℕ) (ended : Status) (before now : Option (List 
 
 -- for a machine at an opening, and what was done for `Resume`: the entries of these items were written, and none of the
 -- commands behind it is acknowledged
-pub record PrintsLoaded (m : Machine) (d : Command) (bytes : List ℕ) (ended : Status) (before now : World) : Type 0 where
+pub record PrintsLoaded (m : Machine) (d : Command) (bytes : List ℕ) (ended : Status) (before now : World)
+    : Type 0 where
   pub loaded : Loaded
   -- the source's bytes begin with them
   pub read : BeginsLoaded bytes loaded
   -- with `Done` they are a dump of these items, and the source was read to its end
-  pub whole : ended ≡ status.Done → IsDump bytes loaded.items × ((loaded.begun ≡ None) × IsAtEnd now.source.left)
+  pub whole : ended ≡ status.Done → IsDump bytes loaded.items
+      × ((loaded.begun ≡ None) × IsAtEnd now.source.left)
   -- with `Script` they are no dump, and the item behind these is bad
   pub bad : ended ≡ status.Script → IsNoDump bytes × IsBadBehind read
   -- with `Source` it gave no whole part more

@@ -28,6 +28,7 @@ use Rattle.entry_parts.specs.declared.header.Header.{Header}
 abbrev pub finish_commands : Header → List Element → List Command
 finish_commands header elements = FinishAs 0 header elements ∷ (Close 0 ∷ [])
 
+-- what is done for a part: an entry is made, gets a piece, or is finished
 abbrev pub part_commands : Part → List Command
 part_commands (Part.KeyPart key) = Create 0 key ∷ []
 part_commands (Part.PiecePart piece) = Append 0 piece ∷ []
@@ -46,7 +47,8 @@ pub record AreLoaded (l : Loaded) (own : List ℕ) (stage : Stage) : Type 0 wher
   pub tail : List ℕ
   pub both : own ≡ front ++ tail
   pub items : AreItems None l.items
-  pub whole : ArePartsTo (Stage.AtItem None) (flat_map parts_of l.items) front (Stage.AtItem (last_key None l.items))
+  pub whole : ArePartsTo (Stage.AtItem None) (flat_map parts_of l.items) front
+      (Stage.AtItem (last_key None l.items))
   pub begun : ArePartsTo (Stage.AtItem (last_key None l.items)) (begun_parts l.begun) tail stage
   -- with what stands before the next item they are the head of a dump and the items
   pub spelled : front ++ lead (last_key None l.items) ≡ head ++ flat_map item_bytes l.items
@@ -63,6 +65,7 @@ pub record Loading : Type 0 where
   pub left : Option (List ℕ)
   pub session : Session
 
+-- how far a reader, a source and a session are in a load
 abbrev pub loading : DumpReader → ℕ → Option (List ℕ) → Session → Loading
 loading r count left session = record {
   stage = stage_in r;
@@ -75,7 +78,8 @@ loading r count left session = record {
 }
 
 -- this was read of a source so far, and all of it was done
-pub record HasLoaded (tells : Type 0) (from : Option (List ℕ)) (before : Session) (now : Loading) : Type 0 where
+pub record HasLoaded (tells : Type 0) (from : Option (List ℕ)) (before : Session) (now : Loading)
+    : Type 0 where
   pub loaded : Loaded
   pub own : List ℕ
   pub are : AreLoaded loaded own now.stage
@@ -89,18 +93,20 @@ pub record HasLoaded (tells : Type 0) (from : Option (List ℕ)) (before : Sessi
   pub runs : tells → RunsAll {T = Unit {0}} (loaded_commands loaded) (Ok tt) before now.session
 
 -- what the bytes of a source are, by how a load of them ended: they begin with this
-pub record ReadsLoaded (ended : Status) (from left : Option (List ℕ)) (l : Loaded) (bytes : List ℕ) : Type 0 where
+pub record ReadsLoaded (ended : Status) (from left : Option (List ℕ)) (l : Loaded) (bytes : List ℕ)
+    : Type 0 where
   pub read : BeginsLoaded bytes l
   pub whole : ended ≡ status.Done → IsDump bytes l.items × ((l.begun ≡ None) × IsAtEnd left)
   pub bad : ended ≡ status.Script → IsNoDump bytes × IsBadBehind read
   pub broken : ended ≡ status.Source → GaveLoaded from left l
 
--- the status of an end, and of what the parts came to
+-- the status of an end
 abbrev pub status_of_end : Ended → Status
 status_of_end (ended.Whole count) = status.Done
 status_of_end (ended.Bad number) = status.Script
 status_of_end ended.Failed = status.Source
 
+-- the status of what the parts came to
 abbrev pub status_at_end : Result Ended StoreFault → Status
 status_at_end (Ok e) = status_of_end e
 status_at_end (Err f) = status_in (Err f)
@@ -117,7 +123,8 @@ TellsNumber (Ok ended.Failed) n = ⊤
 TellsNumber (Err f) n = ⊤
 
 -- this was read, and all of it was done as far as a fault let it
-pub record EndsLoaded (tells : Type 0) (answer : Result Ended StoreFault) (from left : Option (List ℕ)) (before now : Session) : Type 0 where
+pub record EndsLoaded (tells : Type 0) (answer : Result Ended StoreFault) (from left : Option (List ℕ))
+    (before now : Session) : Type 0 where
   pub loaded : Loaded
   pub reads : IfSome from (ReadsLoaded (status_at_end answer) from left loaded)
   pub over : status_at_end answer ≡ status.Done → IsAtEnd left
@@ -125,14 +132,17 @@ pub record EndsLoaded (tells : Type 0) (answer : Result Ended StoreFault) (from 
   pub runs : tells → RunsAll (loaded_commands loaded) answer before now
 
 -- the same after one turn, after which there may be more
-abbrev pub LoadsSoFar : Type 0 → Result (Option Ended) StoreFault → Option (List ℕ) → Session → Loading → Type 0
+abbrev pub LoadsSoFar :
+    Type 0 → Result (Option Ended) StoreFault → Option (List ℕ) → Session → Loading → Type 0
 LoadsSoFar tells (Ok None) from before now = HasLoaded tells from before now
 LoadsSoFar tells (Ok (Some e)) from before now = EndsLoaded tells (Ok e) from now.left before now.session
 LoadsSoFar tells (Err f) from before now = EndsLoaded tells (Err f) from now.left before now.session
 
 -- one turn, whatever the turns before it did
-pub record LoadsNext (tells : Type 0) (answer : Result (Option Ended) StoreFault) (mid now : Loading) : Type 0 where
-  pub on : (from : Option (List ℕ)) (before : Session) → HasLoaded tells from before mid → LoadsSoFar tells answer from before now
+pub record LoadsNext (tells : Type 0) (answer : Result (Option Ended) StoreFault) (mid now : Loading)
+    : Type 0 where
+  pub on : (from : Option (List ℕ)) (before : Session) → HasLoaded tells from before mid
+      → LoadsSoFar tells answer from before now
 
 -- ---- the whole
 
@@ -141,7 +151,9 @@ pub record HoldsLine (ended : Status) (n : ℕ) (text : List ℕ) : Type 0 where
   pub done : ended ≡ status.Done → text ≡ loaded_line n
   pub bad : ended ≡ status.Script → text ≡ bad_dump_line (suc n)
 
-pub record PerformsLoad (tells : Type 0) (came : Result Status StoreFault) (from left : Option (List ℕ)) (before now : Session) (text : List ℕ) : Type 0 where
+-- a load was performed: what was read, what is printed, and what it did to the session
+pub record PerformsLoad (tells : Type 0) (came : Result Status StoreFault) (from left : Option (List ℕ))
+    (before now : Session) (text : List ℕ) : Type 0 where
   pub loaded : Loaded
   pub reads : IfSome from (ReadsLoaded (status_in came) from left loaded)
   pub over : status_in came ≡ status.Done → IsAtEnd left

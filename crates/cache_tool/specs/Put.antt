@@ -16,10 +16,11 @@ use Rattle.cache_tool.specs.World.{Supply}
 abbrev pub appends : List ℕ → List Command
 appends body = map (λ piece. Append 0 piece) (pieces_of PIECE_MAX (length body) body)
 
--- an entry is made, gets the body and is closed, or is left where its source failed
+-- an entry is made, gets the body and is closed
 abbrev pub put_commands : Machine → List ℕ → List ℕ → List Command
 put_commands m key body = until_refused m (Create 0 key ∷ (appends body ++ Close 0 ∷ []))
 
+-- an entry is made and gets what came of the body, and is left open where its source failed
 abbrev pub broken_commands : Machine → List ℕ → List ℕ → List Command
 broken_commands m key body = until_refused m (Create 0 key ∷ appends body)
 

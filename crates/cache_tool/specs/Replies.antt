@@ -11,6 +11,7 @@ last_reply m [] = Done
 last_reply m (c ∷ []) = (step m c).reply
 last_reply m (c ∷ (d ∷ cs)) = last_reply (step m c).next (d ∷ cs)
 
+-- a reply is `ok`
 abbrev pub is_done : Reply → Bool
 is_done Done = true
 is_done _ = false

@@ -13,11 +13,12 @@ use Rattle.disk_model.specs.State.{State, standing}
 use Rattle.index_record.specs.declared.record.IndexRecord.{IndexRecord}
 use Rattle.index_theory.specs.Honest.{Honest}
 
--- one of the commands reads all entries anew
+-- a command reads all entries anew
 abbrev pub is_rebuild : Command → Bool
 is_rebuild Rebuild = true
 is_rebuild _ = false
 
+-- one of the commands does
 abbrev pub has_rebuild : List Command → Bool
 has_rebuild cs = list_any is_rebuild cs
 

@@ -29,10 +29,11 @@ performed status.Words acked all = acked
 abbrev pub IsScript : Option (List ℕ) → Type 0
 IsScript left = IsSomeAnd left (λ bytes. (cs : List Command) × ScriptSpells bytes cs)
 
--- where they are told, they spell these commands to their end, or after them is a command that is bad
+-- where the bytes are told, they spell commands to their end
 abbrev pub HasScript : Option (List ℕ) → Type 0
 HasScript left = IfSome left (λ bytes. (cs : List Command) × ScriptSpells bytes cs)
 
+-- where they are told, there is a bad command behind those that they spell
 abbrev pub HasBadCommand : Option (List ℕ) → Type 0
 HasBadCommand left =
     IfSome left (λ bytes. (cs : List Command) × (CommandsIn bytes cs × ¬ (ScriptSpells bytes cs)))

@@ -57,6 +57,7 @@ pub record DoneForKept (before : Session) (m : Machine) (cs done : List Command)
   pub spoken : AreSpoken cs → AreSpoken done
   pub are_done : AreDoneFor (Tells before m) m (unfaulted faults cs) (unfaulted faults done)
 
+-- For a history: what is done for these commands was performed.
 pub record SomePerformed (cs : List Command) (faults : List ℕ) (h : History) (before now : Progress)
     : Type 0 where
   pub done : List Command
@@ -80,6 +81,7 @@ pub record IsCutIn (cs : List Command) (faults : List ℕ) (c : Command) (m : Ma
   pub out : Appends before.taken now.taken (replies_but m cs faults
       ++ take cut (reply_text (step (after m (unfaulted faults cs)) c).reply))
 
+-- For a history: one command more was begun and failed, and this is what it left.
 pub record IsCutOff (cs : List Command) (faults : List ℕ) (c : Command) (f : StoreFault) (h : History)
     (before now : Progress) : Type 0 where
   pub safe : IsSafe now.session.disk (begun c (all_answered (unfaulted faults cs) h)).marks
@@ -111,6 +113,7 @@ pub record FailsAfter (cs : List Command) (faults : List ℕ) (c : Command) (f :
     : Type 0 where
   pub each : (h : History) → KeepsTo before.session h → SomeCutOff cs faults c f h before now
 
+-- the same of a line `fault` that was cut
 pub record FaultsAfter (cs : List Command) (faults : List ℕ) (before now : Progress) : Type 0 where
   pub each : (h : History) → KeepsTo before.session h → SomeFaultCut cs faults h before now
 
@@ -159,6 +162,7 @@ pub record FailsMidway (tells : Bool) (f : StoreFault) (before now : Progress) :
   pub fails : (IsTrue tells → FailsAfter commands faults last f before now)
       ⊎ (FailsInLine f faults before now × (IsTrue tells → FaultsAfter commands faults before now))
 
+-- how the loop over the commands ended: all were performed, or one failed
 abbrev pub PerformsCommands : Bool → Result Ended StoreFault → Progress → Progress → Type 0
 PerformsCommands tells (Ok e) before now = PerformsToEnd tells e before now
 PerformsCommands tells (Err f) before now = FailsMidway tells f before now
@@ -206,12 +210,14 @@ marks_on h cs faults a b =
     all_begun (after h.machine (take kept begun)) (drop kept (take (length begun) begun))
     (all_acked h.machine (take kept begun) h.marks)
 
+-- what was done for a script that ended so, and the marks of the commands that were acknowledged or begun
 abbrev pub one_begun_on : History → (acked : ℕ) (faults with_last : List ℕ) → Status → List Command → Reach
 one_begun_on h acked faults with_last ended cs = record {
   done = unfaulted with_last (take (performed ended acked (length cs)) cs);
   marks = marks_on h cs faults acked (min (acked + 1) (length cs));
 }
 
+-- For a history: these commands of the bytes were run, with these replies and this effect.
 pub record ScriptIsRun (h : History) (bytes : List ℕ) (cs : List Command) (ended : Status)
     (before now : Progress) : Type 0 where
   pub done : List Command

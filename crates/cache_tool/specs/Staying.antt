@@ -24,6 +24,7 @@ IsSpared m Flush = m.rest ≢ []
 IsSpared m Rebuild = ⊥
 IsSpared m _ = ⊤
 
+-- so for each of the commands, by the machine before it
 abbrev pub AreSpared : Machine → List Command → Type 0
 AreSpared m [] = ⊤
 AreSpared m (c ∷ cs) = IsSpared m c × AreSpared (step m c).next cs

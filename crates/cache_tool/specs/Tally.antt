@@ -16,6 +16,7 @@ use Rattle.disk_model.specs.declared.disk.Disk.{Ghosts as OfDisk}
 abbrev pub RoseBy : ℕ → ℕ → ℕ → Type 0
 RoseBy n before now = min (before + n) (2 ^ 64 - 1) ≤ now
 
+-- what failed, if anything did
 pub data Failure : Type 0 where
   NoFailure : Failure
   OfSourceCall : Failure
@@ -23,31 +24,35 @@ pub data Failure : Type 0 where
   OfDiskCall : Failure
   OfMemory : Failure
 
+-- what a fault of the store tells of
 abbrev pub fault_failure : StoreFault → Failure
 fault_failure fault.Disk = Failure.OfDiskCall
 fault_failure fault.Sink = Failure.OfSinkCall
 fault_failure fault.Memory = Failure.OfMemory
 
--- by how the commands of a script ended, and so after one turn
+-- by how the commands of a script ended
 abbrev pub ended_failure : Ended → Failure
 ended_failure ended.Whole = Failure.NoFailure
 ended_failure ended.Failed = Failure.OfSourceCall
 ended_failure (ended.Bad number) = Failure.NoFailure
 
+-- so where a fault of the store may have ended them
 abbrev pub failure : Result Ended StoreFault → Failure
 failure (Ok e) = ended_failure e
 failure (Err f) = fault_failure f
 
+-- so after one turn, behind which there may be more
 abbrev pub turn_failure : Result (Option Ended) StoreFault → Failure
 turn_failure (Ok None) = Failure.NoFailure
 turn_failure (Ok (Some e)) = ended_failure e
 turn_failure (Err f) = fault_failure f
 
--- and so after a script, whose status tells of a source that failed
+-- the status of a script tells of a source that failed
 abbrev pub status_failure : Status → Failure
 status_failure status.Source = Failure.OfSourceCall
 status_failure _ = Failure.NoFailure
 
+-- so where a fault of the store may have ended the script
 abbrev pub script_failure : Result Status StoreFault → Failure
 script_failure (Ok s) = status_failure s
 script_failure (Err f) = fault_failure f
@@ -60,6 +65,7 @@ pub record Tally : Type 0 where
   pub disk : ℕ
   pub calls : Counts
 
+-- what a source, a sink and a disk count now
 abbrev pub tally : {A B C : _} → OfSource A → OfSink B → OfDisk C → A → B → C → Tally
 tally S K D source sink disk = record {
   tells = D.tells;

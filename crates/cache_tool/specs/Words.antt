@@ -36,6 +36,7 @@ pub data Verb : Type 0 where
 abbrev pub fill_limit : ℕ
 fill_limit = 100000
 
+-- all verbs of the program
 abbrev pub verbs : List Verb
 verbs =
     Verb.Alone (codes "run") (λ now. Asked.Run now)
@@ -137,24 +138,27 @@ WordsAreOfTable =
 abbrev pub asked_in : List (String Global) → Option Asked
 asked_in words = asked_by (map (λ w. string_bytes w) words)
 
--- P of the moment of a `run` or a `load`, of the moment and the key of a `put`, of the moment and the two numbers of a `fill`, and of
--- the moment and the command of other words
+-- where the words ask for a `run`: P of its moment
 abbrev pub WhenRun : Option Asked → (ℕ → Type 0) → Type 0
 WhenRun (Some (Asked.Run now)) P = P now
 WhenRun _ P = Unit {0}
 
+-- for a `put`: P of its moment and its key
 abbrev pub WhenPut : Option Asked → (ℕ → List ℕ → Type 0) → Type 0
 WhenPut (Some (Asked.Put now key)) P = P now key
 WhenPut _ P = Unit {0}
 
+-- for one command: P of its moment and the command
 abbrev pub WhenOne : Option Asked → (ℕ → Command → Type 0) → Type 0
 WhenOne (Some (Asked.One now c)) P = P now c
 WhenOne _ P = Unit {0}
 
+-- for a `fill`: P of its moment, how many entries it makes, and its first number
 abbrev pub WhenFill : Option Asked → (ℕ → ℕ → ℕ → Type 0) → Type 0
 WhenFill (Some (Asked.Fill now count first)) P = P now count first
 WhenFill _ P = Unit {0}
 
+-- for a `load`: P of its moment
 abbrev pub WhenLoad : Option Asked → (ℕ → Type 0) → Type 0
 WhenLoad (Some (Asked.Load now)) P = P now
 WhenLoad _ P = Unit {0}

@@ -12,6 +12,7 @@ pub record Supply : Type 0 where
   pub left : Option (List ℕ)
   pub faults : ℕ
 
+-- that of a source as it is now
 abbrev pub supply : {A : _} → OfSource A → A → Supply
 supply S source = record { left = S.left source; faults = S.faults source }
 
@@ -21,6 +22,7 @@ pub record Output : Type 0 where
   pub disk : State
   pub disk_faults : ℕ
 
+-- that of a sink and a disk as they are now
 abbrev pub output : {A B : _} → OfSink A → OfDisk B → A → B → Output
 output K D sink disk = record { taken = K.taken sink; disk = D.state disk; disk_faults = D.faults disk }
 
@@ -31,6 +33,7 @@ pub record World : Type 0 where
   pub disk : State
   pub disk_faults : ℕ
 
+-- that of these three as they are now
 abbrev pub world : {A B C : _} → OfSource A → OfSink B → OfDisk C → A → B → C → World
 world S K D source sink disk = record {
   source = supply S source;
@@ -39,6 +42,7 @@ world S K D source sink disk = record {
   disk_faults = D.faults disk;
 }
 
+-- it without its source
 abbrev pub output_of : World → Output
 output_of w = record { taken = w.taken; disk = w.disk; disk_faults = w.disk_faults }
 
@@ -49,6 +53,7 @@ pub record Progress : Type 0 where
   pub session : Session
   pub disk_faults : ℕ
 
+-- that of a store over these three as they are now
 abbrev pub progress : {A B C : _} → OfSource A → OfSink B → OfDisk C → Store → A → B → C → Progress
 progress S K D store source sink disk = record {
   source = supply S source;
@@ -57,6 +62,7 @@ progress S K D store source sink disk = record {
   disk_faults = D.faults disk;
 }
 
+-- it without what the store is
 abbrev pub world_of : Progress → World
 world_of p = record {
   source = p.source;
@@ -71,12 +77,6 @@ pub record Sitting : Type 0 where
   pub session : Session
   pub disk_faults : ℕ
 
-abbrev pub sitting : {A B : _} → OfSink A → OfDisk B → Store → A → B → Sitting
-sitting K D store sink disk = record {
-  taken = K.taken sink;
-  session = record { open_store = open_of store; disk = D.state disk };
-  disk_faults = D.faults disk;
-}
-
+-- progress without its source
 abbrev pub sitting_of : Progress → Sitting
 sitting_of p = record { taken = p.taken; session = p.session; disk_faults = p.disk_faults }

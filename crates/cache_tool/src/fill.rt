@@ -155,7 +155,8 @@ fn make_entries<D: Disk>(
 ) -> Result<(), StoreFault>
     requires told { IsTrue D.tells → IsOpen (session D.Disk store.old disk.old) }
     ensures runs { let at = session D.Disk in IsTrue D.tells →
-        RunsAll (entries_commands now first count) result (at store.old disk.old) (at store.new disk.new) }
+        RunsAll (entries_commands now first count) result
+        (at store.old disk.old) (at store.new disk.new) }
     ensures open { IsTrue D.tells → LeavesOpen result (session D.Disk store.new disk.new) }
     ensures honest { IsTrue D.tells → LeavesHonest (D.state disk.new) }
     ensures no_sink { result ≢ Err StoreFault.Sink }
@@ -183,7 +184,8 @@ fn make_all<D: Disk>(
 ) -> Result<(), StoreFault>
     requires told { IsTrue D.tells → IsOpen (session D.Disk store.old disk.old) }
     ensures runs { let at = session D.Disk in IsTrue D.tells →
-        RunsAll (making_commands now count first) result (at store.old disk.old) (at store.new disk.new) }
+        RunsAll (making_commands now count first) result
+        (at store.old disk.old) (at store.new disk.new) }
     ensures open { IsTrue D.tells → LeavesOpen result (session D.Disk store.new disk.new) }
     ensures honest { IsTrue D.tells → LeavesHonest (D.state disk.new) }
     ensures no_sink { result ≢ Err StoreFault.Sink }

@@ -68,7 +68,8 @@ fn finish_entry<D: Disk>(
 ) -> Result<(), StoreFault>
     requires told { IsTrue D.tells → IsOpen (session D.Disk store.old disk.old) }
     ensures runs { let at = session D.Disk in IsTrue D.tells →
-        RunsAll (finish_commands meta.now.header meta.now.elements) result (at store.old disk.old) (at store.new disk.new) }
+        RunsAll (finish_commands meta.now.header meta.now.elements) result
+        (at store.old disk.old) (at store.new disk.new) }
     ensures open { IsTrue D.tells → LeavesOpen result (session D.Disk store.new disk.new) }
     ensures honest { IsTrue D.tells → LeavesHonest (D.state disk.new) }
     ensures no_sink { result ≢ Err StoreFault.Sink }
@@ -97,7 +98,8 @@ fn begin_entry<D: Disk>(
 ) -> Result<(), StoreFault>
     requires told { IsTrue D.tells → IsOpen (session D.Disk store.old disk.old) }
     ensures runs { let at = session D.Disk in IsTrue D.tells →
-        RunsAll (part_commands (Part.KeyPart key.now)) result (at store.old disk.old) (at store.new disk.new) }
+        RunsAll (part_commands (Part.KeyPart key.now)) result
+        (at store.old disk.old) (at store.new disk.new) }
     ensures open { IsTrue D.tells → LeavesOpen result (session D.Disk store.new disk.new) }
     ensures honest { IsTrue D.tells → LeavesHonest (D.state disk.new) }
     ensures no_sink { result ≢ Err StoreFault.Sink }
@@ -125,7 +127,8 @@ fn append_piece<D: Disk>(
 ) -> Result<(), StoreFault>
     requires told { IsTrue D.tells → IsOpen (session D.Disk store.old disk.old) }
     ensures runs { let at = session D.Disk in IsTrue D.tells →
-        RunsAll (part_commands (Part.PiecePart piece.now)) result (at store.old disk.old) (at store.new disk.new) }
+        RunsAll (part_commands (Part.PiecePart piece.now)) result
+        (at store.old disk.old) (at store.new disk.new) }
     ensures open { IsTrue D.tells → LeavesOpen result (session D.Disk store.new disk.new) }
     ensures honest { IsTrue D.tells → LeavesHonest (D.state disk.new) }
     ensures no_sink { result ≢ Err StoreFault.Sink }
@@ -161,7 +164,8 @@ fn load_next<D: Disk, S: Source>(
         LoadsNext (IsTrue D.tells) result mid now }
     ensures few { result ≡ Ok None → count.new ≤ used_in reader.new }
     ensures further { result ≡ Ok None → used_in reader.old < used_in reader.new }
-    ensures source { HasCause (result ≡ Ok (Some Ended.Failed)) (S.faults source.old) (S.faults source.new) }
+    ensures source { HasCause (result ≡ Ok (Some Ended.Failed))
+        (S.faults source.old) (S.faults source.new) }
     ensures open { IsTrue D.tells → LeavesOpen result (session D.Disk store.new disk.new) }
     ensures honest { IsTrue D.tells → LeavesHonest (D.state disk.new) }
     ensures no_sink { result ≢ Err StoreFault.Sink }
@@ -200,7 +204,8 @@ fn load_parts<D: Disk, S: Source>(
     ensures loads { let at = session D.Disk in let from = S.left source.old in
         let before = at store.old disk.old in let now = at store.new disk.new in
         EndsLoaded (IsTrue D.tells) result from (S.left source.new) before now }
-    ensures source { HasCause (result ≡ Ok Ended.Failed) (S.faults source.old) (S.faults source.new) }
+    ensures source { HasCause (result ≡ Ok Ended.Failed)
+        (S.faults source.old) (S.faults source.new) }
     ensures open { IsTrue D.tells → LeavesOpen result (session D.Disk store.new disk.new) }
     ensures honest { IsTrue D.tells → LeavesHonest (D.state disk.new) }
     ensures no_sink { result ≢ Err StoreFault.Sink }
@@ -247,7 +252,8 @@ fn perform_load<D: Disk, S: Source>(
         let before = at store.old disk.old in let now = at store.new disk.new in
         PerformsLoad (IsTrue D.tells) result from (S.left source.new) before now line.new }
     ensures only { IfOk result (λ s. IsLine s ⊎ (s ≡ Status.Source)) }
-    ensures source { HasCause (result ≡ Ok Status.Source) (S.faults source.old) (S.faults source.new) }
+    ensures source { HasCause (result ≡ Ok Status.Source)
+        (S.faults source.old) (S.faults source.new) }
     ensures open { IsTrue D.tells → LeavesOpen result (session D.Disk store.new disk.new) }
     ensures honest { IsTrue D.tells → LeavesHonest (D.state disk.new) }
     ensures no_sink { result ≢ Err StoreFault.Sink }

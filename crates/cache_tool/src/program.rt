@@ -127,8 +127,10 @@ pub fn run<D: Disk, S: Source, K: Sink>(
     // What is printed only grows. Where the index is trusted a `flush` looks at no entry, nor do a `list`, an `evict` and a
     // `clear`; and a `flush` does not either where the mark of no clearing stands.
     ensures grows { IsTrue D.tells → TakesMore (K.taken sink.old) (K.taken sink.new) }
-    ensures no_entry { let files = standing (D.state disk.old) in WhenOne (asked_in words.now) (λ now c.
-        LooksAtNone c (mark_of (files Clear)) (start_of files) → LooksAtNames D.Disk 0 disk.old disk.new) }
+    ensures no_entry { let files = standing (D.state disk.old) in
+        WhenOne (asked_in words.now) (λ now c.
+        LooksAtNone c (mark_of (files Clear)) (start_of files)
+        → LooksAtNames D.Disk 0 disk.old disk.new) }
 
     // Where the store was closed nothing is pending.
     ensures quiet { IsClosing result → IsTrue D.tells → IsQuiet (D.state disk.new) }
@@ -136,7 +138,8 @@ pub fn run<D: Disk, S: Source, K: Sink>(
     // A script and a dump alone are bad, and never refused; a source fails for them and a `put` alone.
     ensures script_alone { result ≡ Status.Script →
         WhenPut (asked_in words.now) (λ now key. ⊥) × WhenOne (asked_in words.now) (λ now c. ⊥) }
-    ensures fill_alone { result ≡ Status.Script → WhenFill (asked_in words.now) (λ now count first. ⊥) }
+    ensures fill_alone { result ≡ Status.Script
+        → WhenFill (asked_in words.now) (λ now count first. ⊥) }
     ensures never_no { WhenRun (asked_in words.now) (λ now. result ≢ Status.No)
         × WhenLoad (asked_in words.now) (λ now. result ≢ Status.No) }
     ensures never_source { WhenOne (asked_in words.now) (λ now c. result ≢ Status.Source) }
@@ -149,8 +152,10 @@ pub fn run<D: Disk, S: Source, K: Sink>(
     ensures sink { result ≡ Status.Sink → Rose (K.faults sink.old) (K.faults sink.new) }
     ensures disk { result ≡ Status.Disk → Rose (D.faults disk.old) (D.faults disk.new) }
     ensures disk_first { let same = D.faults disk.new ≡ D.faults disk.old in
-        result ≢ Status.Disk → result ≢ Status.Memory → WhenPut (asked_in words.now) (λ now key. same)
-        × WhenOne (asked_in words.now) (λ now c. same) × WhenFill (asked_in words.now) (λ now count first. same)
+        result ≢ Status.Disk → result ≢ Status.Memory →
+        WhenPut (asked_in words.now) (λ now key. same)
+        × WhenOne (asked_in words.now) (λ now c. same)
+        × WhenFill (asked_in words.now) (λ now count first. same)
         × WhenLoad (asked_in words.now) (λ now. same) }
     ensures went_on { let same = (D.counts disk.new).failed ≡ (D.counts disk.old).failed in
         result ≢ Status.Disk → result ≢ Status.Memory →

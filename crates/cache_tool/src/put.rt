@@ -62,7 +62,8 @@ pub(crate) fn send<D: Disk>(
     ensures looked { store.new.faulting ≡ true → Looks D.Disk Ending.OneFailed disk.old disk.new }
     ensures stays { let at = session D.Disk in store.new.faulting ≡ true → IsTrue D.tells →
         StaysAs (at store.old disk.old) (at store.new disk.new) }
-    ensures same_base { store.new.faulting ≡ true → SameBase store.old.index.map store.new.index.map }
+    ensures same_base { store.new.faulting ≡ true
+        → SameBase store.old.index.map store.new.index.map }
     ensures bare { LooksAtNothing (command_of c.now) → store.new.faulting ≡ false }
 {
     said.clear();
