@@ -554,106 +554,102 @@ fn commands_of(
     Ok(commands_given(&mut reader, &mut source, due))
 }
 
-const FIELDS: &[Option<Command<'static>>] = &[
-    Some(Command::Create {
-        slot: 63,
-        key: b":x ",
-    }),
-    Some(Command::Append {
-        slot: 7,
-        bytes: b"\n ",
-    }),
-    Some(Command::SetElement {
-        slot: 1,
-        name: b"na me",
-        value: b"v",
-    }),
-    Some(Command::ReadPart {
-        slot: 2,
-        from: 3,
-        len: 4,
-    }),
-    Some(Command::Element { slot: 5, name: b"" }),
-    Some(Command::Flush),
-    None,
-    None,
-];
-
 #[test]
 fn commands_have_their_fields(rt: HostRuntime) -> Result<(), Fail> {
+    let due = [
+        Some(Command::Create {
+            slot: 63,
+            key: b":x ",
+        }),
+        Some(Command::Append {
+            slot: 7,
+            bytes: b"\n ",
+        }),
+        Some(Command::SetElement {
+            slot: 1,
+            name: b"na me",
+            value: b"v",
+        }),
+        Some(Command::ReadPart {
+            slot: 2,
+            from: 3,
+            len: 4,
+        }),
+        Some(Command::Element { slot: 5, name: b"" }),
+        Some(Command::Flush),
+        None,
+        None,
+    ];
     let script =
         b"create 63 :x \nappend 7 2\n\n \nset 1 1 na me\nv\nread 2 3 4\nelement 5 \nflush\n";
-    assert!(rt; commands_of(rt.alloc(), script, FIELDS)? == FIELDS.len());
+    assert!(rt; commands_of(rt.alloc(), script, &due)? == due.len());
     Ok(())
 }
-
-const FIELDS_OF_THE_INDEX: &[Option<Command<'static>>] = &[
-    Some(Command::UseEntry { slot: 7 }),
-    Some(Command::Has { key: b"a key" }),
-    Some(Command::List),
-    Some(Command::Evict { kb: 9 }),
-    Some(Command::Step { n: 5 }),
-    Some(Command::State),
-    Some(Command::Verify),
-    Some(Command::Rebuild),
-];
 
 #[test]
 fn commands_of_the_index_have_their_fields(rt: HostRuntime) -> Result<(), Fail> {
+    let due = [
+        Some(Command::UseEntry { slot: 7 }),
+        Some(Command::Has { key: b"a key" }),
+        Some(Command::List),
+        Some(Command::Evict { kb: 9 }),
+        Some(Command::Step { n: 5 }),
+        Some(Command::State),
+        Some(Command::Verify),
+        Some(Command::Rebuild),
+    ];
     let script = b"use 7\nhas a key\nlist\nevict 9\nstep 5\nstate\nverify\nrebuild\n";
-    let given = commands_of(rt.alloc(), script, FIELDS_OF_THE_INDEX)?;
-    assert!(rt; given == FIELDS_OF_THE_INDEX.len());
+    let given = commands_of(rt.alloc(), script, &due)?;
+    assert!(rt; given == due.len());
     Ok(())
 }
-
-const FIELDS_OF_ALTERNATIVE_DATA: &[Option<Command<'static>>] = &[
-    Some(Command::PutAlt {
-        slot: 63,
-        kind: b"js byte code ",
-        alt: b"a\n",
-    }),
-    Some(Command::PutAlt {
-        slot: 0,
-        kind: b"",
-        alt: b"",
-    }),
-    Some(Command::GetAlt { key: b"a key" }),
-    Some(Command::MainBody { key: b":x " }),
-    None,
-];
 
 #[test]
 fn commands_of_alternative_data_have_their_fields(rt: HostRuntime) -> Result<(), Fail> {
+    let due = [
+        Some(Command::PutAlt {
+            slot: 63,
+            kind: b"js byte code ",
+            alt: b"a\n",
+        }),
+        Some(Command::PutAlt {
+            slot: 0,
+            kind: b"",
+            alt: b"",
+        }),
+        Some(Command::GetAlt { key: b"a key" }),
+        Some(Command::MainBody { key: b":x " }),
+        None,
+    ];
     let script = b"putalt 63 2 js byte code \na\n\nputalt 0 0 \n\ngetalt a key\nmain :x \n";
-    let given = commands_of(rt.alloc(), script, FIELDS_OF_ALTERNATIVE_DATA)?;
-    assert!(rt; given == FIELDS_OF_ALTERNATIVE_DATA.len());
+    let given = commands_of(rt.alloc(), script, &due)?;
+    assert!(rt; given == due.len());
     Ok(())
 }
 
-const FIELDS_OF_PINS_AND_CLEARINGS: &[Option<Command<'static>>] = &[
-    Some(Command::Pin { slot: 0 }),
-    Some(Command::Pin { slot: 63 }),
-    Some(Command::Unpin { slot: 7 }),
-    Some(Command::Clear {
-        origin: b"https://a.example",
-    }),
-    Some(Command::Clear { origin: b"" }),
-    Some(Command::Clear {
-        origin: b" a,,b , ",
-    }),
-    Some(Command::Clear {
-        origin: b"\x80\xC3\xBC\xFF",
-    }),
-    Some(Command::Flush),
-    None,
-];
-
 #[test]
 fn commands_of_pins_and_clearings_have_their_fields(rt: HostRuntime) -> Result<(), Fail> {
+    let due = [
+        Some(Command::Pin { slot: 0 }),
+        Some(Command::Pin { slot: 63 }),
+        Some(Command::Unpin { slot: 7 }),
+        Some(Command::Clear {
+            origin: b"https://a.example",
+        }),
+        Some(Command::Clear { origin: b"" }),
+        Some(Command::Clear {
+            origin: b" a,,b , ",
+        }),
+        Some(Command::Clear {
+            origin: b"\x80\xC3\xBC\xFF",
+        }),
+        Some(Command::Flush),
+        None,
+    ];
     let script = b"pin 0\npin 63\nunpin 7\nclear https://a.example\nclear \nclear  a,,b , \n\
         clear \x80\xC3\xBC\xFF\nflush\n";
-    let given = commands_of(rt.alloc(), script, FIELDS_OF_PINS_AND_CLEARINGS)?;
-    assert!(rt; given == FIELDS_OF_PINS_AND_CLEARINGS.len());
+    let given = commands_of(rt.alloc(), script, &due)?;
+    assert!(rt; given == due.len());
     Ok(())
 }
 
