@@ -1,38 +1,17 @@
 -- The chunk hashes of a body that is cut at whole chunks, and of one that grows.
 use Rattle.std.proofs.Common.{◌≡◌, ℕ, zero, suc, ◌+◌, ◌-◌, ◌*◌, ◌/◌, ◌<◌, ◌≤◌, List, [], ◌∷◌, ◌++◌, length, take, drop, refl, sym, ap, ◌∙◌, arith, take-append-drop}
-use Rattle.std.specs.Prelude.{map, min, Option, Some, None, Result, Ok, Err, IfSome, OnOk}
-use Rattle.std.specs.List.{range_with_len}
+use Rattle.std.specs.Prelude.{min, Option, Some, None, Result, Ok, Err, IfSome, OnOk}
 use Rattle.std.proofs.Math.Seq.{drop-append-add, take-append-add}
 use Rattle.std.proofs.lemmas.Grind.{common_steps}
-use Rattle.std.proofs.lemmas.List.{append_assoc, drop-append-le, drop-drop, drop_all, length-append, length-drop, length-take-le, take-append-le, take_all, take_at}
+use Rattle.std.proofs.lemmas.List.{append_assoc, drop-append-le, drop_all, length-append, length-drop, length-take-le, take-append-le, take_all, take_at}
 use Rattle.std.proofs.lemmas.List.FromFn.{length-map-range_with_len}
 use Rattle.cache_base.specs.Limits.{chunks}
 use Rattle.cache_base.specs.declared.items.NoMemory.{NoMemory}
 use Rattle.chunk_store.specs.Chunks.{chunk, chunk_hashes}
 use Rattle.chunk_store.specs.Stored.{chunk_len}
+use Rattle.chunk_store.proofs.EachChunk.{first_chunk}
 use Rattle.jenkins_hash.specs.Hash.{hash16_of}
 use Rattle.chunk_store.specs.Prefixes.{HasChunks, HasChunksWith}
-
--- a list over numbers that are one more
-shift_one : (f : ℕ → ℕ) (a n : ℕ) → map f (range_with_len (a + 1) n) ≡ map (λ i. f (i + 1)) (range_with_len a n)
-shift_one f a zero = refl
-shift_one f a (suc n) = ap (λ xs. f (a + 1) ∷ xs) (shift_one f (a + 1) n)
-
--- the next chunk is one of what stands after the first chunk
-next_chunk : (body : List ℕ) (i : ℕ) → chunk body (i + 1) ≡ chunk (drop 262144 body) i
-next_chunk body i = ap (λ (xs : List ℕ). take 262144 xs) (ap (λ (n : ℕ). drop n body) (omega arith) ∙ sym (drop-drop (i * 262144) 262144 body))
-
-one_more_chunk : (n m : ℕ) → 0 < n → m ≡ n - 262144 → chunks n ≡ suc (chunks m)
-one_more_chunk n m some rest = omega (arith, some, rest)
-
--- the hash of the first chunk, and those of the others
-pub first_chunk : (body : List ℕ) → 0 < length body → chunk_hashes body ≡ hash16_of (take 262144 body) ∷ chunk_hashes (drop 262144 body)
-first_chunk body some =
-    let count : chunks (length body) ≡ suc (chunks (length (drop 262144 body))) = one_more_chunk (length body) (length (drop 262144 body)) some (length-drop 262144 body) in
-    ap (λ (n : ℕ). map (λ i. hash16_of (chunk body i)) (range_with_len 0 n)) count
-    ∙ ap (λ (hashes : List ℕ). hash16_of (take 262144 body) ∷ hashes)
-    (shift_one (λ i. hash16_of (chunk body i)) 0 (chunks (length (drop 262144 body)))
-    ∙ (λ k. map (λ i. hash16_of (next_chunk body i k)) (range_with_len 0 (chunks (length (drop 262144 body))))))
 
 pub no_chunk : chunk_hashes [] ≡ []
 no_chunk = refl
@@ -79,7 +58,7 @@ count_hashes body = length-map-range_with_len (λ i. hash16_of (chunk body i)) 0
 -- the hashes of the whole chunks, and those of what follows them
 pub grown_at : (k : ℕ) (body more : List ℕ) → k * 262144 ≤ length body → take k (chunk_hashes body) ++ chunk_hashes (drop (k * 262144) body ++ more) ≡ chunk_hashes (body ++ more)
 grown_at k body more inside =
-    cut_at chunk_hashes no_chunk first_chunk k body more inside (count_whole k (take (k * 262144) body) (length-take-le (k * 262144) body inside))
+    cut_at chunk_hashes no_chunk (first_chunk hash16_of) k body more inside (count_whole k (take (k * 262144) body) (length-take-le (k * 262144) body inside))
 
 -- a prefix that ends past a list, and what stands after it
 front_joined : (size : ℕ) (part more : List ℕ) → length part ≤ size → take size (part ++ more) ≡ part ++ take (size - length part) more
@@ -100,7 +79,7 @@ pub joined_first : (part more : List ℕ) → 0 < length part → length part < 
     → chunk_hashes (part ++ more) ≡ hash16_of (part ++ take (262144 - length part) more) ∷ chunk_hashes (drop (262144 - length part) more)
 joined_first part more some short =
     let long : 0 < length (part ++ more) = omega (arith, some, length-append part more) in
-    first_chunk (part ++ more) long ∙ (λ i. hash16_of (front_joined 262144 part more (omega (arith, short)) i) ∷ chunk_hashes (back_joined 262144 part more (omega (arith, short)) i))
+    first_chunk hash16_of (part ++ more) long ∙ (λ i. hash16_of (front_joined 262144 part more (omega (arith, short)) i) ∷ chunk_hashes (back_joined 262144 part more (omega (arith, short)) i))
 
 -- the next chunk of a rest, taken off
 pub next_hash : (old new rest piece behind all : List ℕ) (n h : ℕ) → 0 < length rest → n ≡ min 262144 (length rest) → piece ≡ take n rest → behind ≡ drop n rest
@@ -111,7 +90,7 @@ next_hash old new rest piece behind all n h some least front back hash pushed be
     let first : h ≡ hash16_of (take 262144 rest) = hash ∙ ap hash16_of (front ∙ whole) in
     ap (λ (xs : List ℕ). xs ++ chunk_hashes behind) pushed
     ∙ append_assoc old (h ∷ []) (chunk_hashes behind)
-    ∙ ap (λ (xs : List ℕ). old ++ xs) ((λ i. first i ∷ chunk_hashes ((back ∙ others) i)) ∙ sym (first_chunk rest some))
+    ∙ ap (λ (xs : List ℕ). old ++ xs) ((λ i. first i ∷ chunk_hashes ((back ∙ others) i)) ∙ sym (first_chunk hash16_of rest some))
     ∙ before
 
 -- what is known of an answer that was done

@@ -68,8 +68,8 @@ fn stored_value(elements: &Elements) -> Option<&[u8]>
     elements.get(ALT_DATA)
 }
 
-/// The alternative data that the elements tell of in a body of `len` bytes: none where the first element `alt-data` does not
-/// have the form `1;OFFSET,TYPE`, or where its offset is past the body's end. It takes no memory.
+/// The alternative data that the elements tell of in a body of `len` bytes: none where the first element `alt-data`
+/// does not have the form `1;OFFSET,TYPE`, or where its offset is past the body's end. It takes no memory.
 pub fn info(elements: &Elements, len: u32) -> Option<AltInfo<'_>>
     ensures { option_map alt_told result ≡ alt_of elements.now len }
 {

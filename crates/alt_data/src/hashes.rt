@@ -47,9 +47,9 @@ fn push_joined(hashes: &mut Hashes, part: &mut Buffer, more: &[u8]) -> Result<()
     push_hashes(hashes, rest)
 }
 
-/// The chunk hashes of the body of `offset` bytes that the file begins with, followed by `alt`. Of the file only the last
-/// chunk of the body is read, by one call of the disk, and nothing where that chunk is a whole one. No more than one chunk is
-/// held.
+/// The chunk hashes of the body of `offset` bytes that the file begins with, followed by `alt`. Of the file only the
+/// last chunk of the body is read, by one call of the disk, and nothing where that chunk is a whole one. No more than
+/// one chunk is held.
 pub fn grown_hashes<D: Disk>(
     alloc: Global,
     disk: &mut D,

@@ -12,8 +12,8 @@ pub fn alt_is_spelled()
     ensures { AltIsSpelled }
 {}
 
-/// Where data are put after a body, and the element is set to tell of them, the main body is the body of before, and the
-/// alternative data are those that were put.
+/// Where data are put after a body, and the element is set to tell of them, the main body is the body of before, and
+/// the alternative data are those that were put.
 pub fn alt_is_put()
     ensures { AltIsPut }
 {}

@@ -63,6 +63,12 @@ small16 xs h =
     let a = byte_at xs h 0 in let b = byte_at xs h 1 in
     omega (arith, a, b)
 
+pub small64 : (xs : List ℕ) → AreBytes xs → from_be_bytes w64 xs < 2 ^ 64
+small64 xs h =
+    let a = byte_at xs h 0 in let b = byte_at xs h 1 in let c = byte_at xs h 2 in let d = byte_at xs h 3 in
+    let e = byte_at xs h 4 in let f = byte_at xs h 5 in let g = byte_at xs h 6 in let i = byte_at xs h 7 in
+    omega (arith, a, b, c, d, e, f, g, i)
+
 pub two : (xs : List ℕ) → AreBytes xs → 2 ≤ length xs → be16 (from_be_bytes w16 xs) ≡ take 2 xs
 two [] h l = absurd (omega (arith, l))
 two (a ∷ []) h l = absurd (omega (arith, l))

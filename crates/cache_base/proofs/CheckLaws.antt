@@ -1,6 +1,6 @@
 -- Rows of checks, none of which fails.
 use Rattle.std.proofs.Common.{◌≡◌, List, [], ◌∷◌, Bool, true, false, cond, refl, ap, ◌∙◌}
-use Rattle.std.specs.Prelude.{Option, None, Some}
+use Rattle.std.specs.Prelude.{Option, None, Some, option_map}
 use Rattle.std.specs.List.{AllByRecursion}
 use Rattle.cache_base.specs.Checks.{first_failing}
 
@@ -25,3 +25,8 @@ row_holds row rest h = go row.0 refl h
 pub all_hold : {F : Type 0} (rows : List (Bool × F)) → first_failing rows ≡ None → AllHold rows
 all_hold [] h = tt
 all_hold (row ∷ rows) h = let parts = row_holds row (first_failing rows) h in (parts.0, all_hold rows parts.1)
+
+-- what is none after it is mapped was none
+pub none_from_map : {E F : Type 0} (f : E → F) (o : Option E) → option_map f o ≡ None → o ≡ None
+none_from_map f None h = refl
+none_from_map f (Some e) h = absurd (cc)

@@ -1,3 +1,4 @@
 pub mod ByteLaws
 pub mod CheckLaws
+pub mod NameLaws
 pub mod NumberLaws

@@ -60,6 +60,13 @@ impl<T: Drop> Items<T> {
         Items { items }
     }
 
+    /// The items as a vector, in the same memory.
+    pub fn into_vec(self) -> Vec<T>
+        ensures { result.items ≡ self }
+    {
+        self.items
+    }
+
     /// Lends the items.
     pub fn as_slice(&self) -> &[T]
         ensures { result.now ≡ self.now }

@@ -8,6 +8,7 @@ mod items;
 mod laws;
 mod limits;
 mod name;
+mod names;
 mod numbers;
 mod status;
 
@@ -20,5 +21,6 @@ pub use limits::{
     LINE_MAX, PIECE_MAX, SCRIPT_MAX, SLOTS, chunks,
 };
 pub use name::{Moment, Name};
+pub use names::{has_name, listed, name_set};
 pub use numbers::number;
 pub use status::Status;

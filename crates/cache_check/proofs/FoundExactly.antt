@@ -13,7 +13,7 @@ use Rattle.std.proofs.lemmas.Bool.{not-true, or_cases}
 use Rattle.std.proofs.lemmas.Bool.Decides.{Decides-eqb}
 use Rattle.std.proofs.lemmas.Map.Text.{is_eq-slice_cmp}
 use Rattle.std.proofs.lemmas.Slice.Eq.{bytes_eq-Decides}
-use Rattle.cache_base.specs.Names.{AreRising, name_cmp}
+use Rattle.cache_base.specs.Names.{AreRising, has_name, name_cmp}
 use Rattle.cache_base.specs.declared.name.Name.{Name}
 use Rattle.cache_check.specs.Findings.{file_findings, findings, findings_at, names_alone, names_of_both, record_findings, with_names}
 use Rattle.cache_check.specs.Laws.{FindingsAreExact, ListedNamesRise, RightRecordsAreSilent}
@@ -24,7 +24,6 @@ use Rattle.cache_check.specs.declared.finding.What.{What}
 use Rattle.cache_check.specs.declared.finding.What.TheVariants as what
 use Rattle.cache_check.proofs.Agreement.{alone_is_table, with_is_table}
 use Rattle.cache_check.proofs.TableLaws.{get-insert}
-use Rattle.evictor.specs.Evict.{has_name}
 use Rattle.index_record.specs.declared.record.IndexRecord.{IndexRecord}
 use Rattle.record_list.specs.Change.{record_eq}
 use Rattle.record_list.specs.Lists.{record_at, same_name}

@@ -1,17 +1,17 @@
 -- The table of the entry files that stand, made from their names.
 use Rattle.std.proofs.Common.{◌≡◌, ℕ, suc, List, [], ◌∷◌, Bool, true, false, cond, ◌&&◌, ◌||◌, Option, Some, None, refl, sym, ap, subst, ◌∙◌, T, arith}
-use Rattle.std.proofs.lemmas.Cmp.{on_total, nat_list_cmp_total, eq_by_cmp_equiv}
+use Rattle.std.proofs.lemmas.Cmp.{eq_by_cmp_equiv}
 use Rattle.std.proofs.lemmas.Map.Text.{is_eq-slice_cmp}
 use Rattle.std.proofs.lemmas.Map.Views.{list_any-from_Contains}
 use Rattle.std.proofs.lemmas.Slice.Eq.{bytes_eq-Decides}
-use Rattle.std.specs.Cmp.{IsTotalOrder}
 use Rattle.std.specs.FinMap.Entries.{below_all, is_sorted}
 use Rattle.std.specs.List.Sorted.{IsStrictlySortedBy}
 use Rattle.std.specs.List.{AllByRecursion, Contains}
 use Rattle.std.specs.Ordering.{is_eq, is_lt}
 use Rattle.std.specs.Prelude.{IsSome, unwrap_or}
-use Rattle.cache_base.specs.Names.{AreRising, name_cmp}
+use Rattle.cache_base.specs.Names.{AreRising, has_name, name_cmp}
 use Rattle.cache_base.specs.declared.name.Name.{Name}
+use Rattle.cache_base.proofs.NameLaws.{name_cmp_total}
 use Rattle.cache_check.proofs.TableLaws.{same_table}
 use Rattle.cache_check.specs.Table.{Table, bytes_cmp, get, name_of}
 use Rattle.disk_model.specs.Image.{Files}
@@ -19,15 +19,11 @@ use Rattle.disk_model.specs.Listing.{AreEntries}
 use Rattle.disk_model.specs.State.{State, standing}
 use Rattle.disk_model.specs.declared.place.Place.TheVariants.{Entry}
 use Rattle.index_theory.specs.Ever.{entries_on}
-use Rattle.evictor.specs.Evict.{has_name}
 use Rattle.cache_check.specs.Checks.{table_of}
 use Rattle.cache_check.specs.Findings.{IsTableOf}
 use Rattle.cache_check.specs.Laws.{OnlyOneTable}
 use Rattle.cache_check.proofs.RowLaws.{Under, under_table}
 use Rattle.cache_check.proofs.RowSteps.{Stand, own}
-
-name_cmp_total : IsTotalOrder name_cmp
-name_cmp_total = on_total (λ (n : Name). n.0) nat_list_cmp_total
 
 all_of : (P : Name → Type 0) (names : List Name) → ((n : Name) → Contains names n → P n) → AllByRecursion P names
 all_of P [] each = tt

@@ -2,6 +2,7 @@
 use Rattle.std.specs.List.{AllByRecursion}
 use Rattle.std.specs.Prelude.{IsSome, List, None, Option, Some, [], if◌then◌else◌, map, option_and_then, sum_by, take, unwrap_or, ℕ, ◌++◌, ◌+◌, ◌≡◌}
 use Rattle.cache_base.specs.Limits.{chunks}
+use Rattle.cache_base.specs.Names.{has_name}
 use Rattle.cache_base.specs.declared.name.Name.{Name}
 use Rattle.cache_check.specs.Findings.{IsTableOf, file_findings, record_findings}
 use Rattle.cache_check.specs.Table.{Table, name_of}
@@ -17,7 +18,6 @@ use Rattle.disk_model.specs.declared.place.Place.TheVariants.{Entry}
 use Rattle.entry_file.specs.EntryFile.{file_meta, fits}
 use Rattle.entry_file.specs.Looks.{LooksAtMost}
 use Rattle.entry_metadata.specs.Metadata.{Meta}
-use Rattle.evictor.specs.Evict.{has_name}
 use Rattle.index_record.specs.declared.record.IndexRecord.{IndexRecord}
 use Rattle.index_theory.specs.Ever.{Entries}
 use Rattle.index_theory.specs.Scan.{record_of}
@@ -35,8 +35,8 @@ abbrev pub named : Name → List What → List Finding
 named name whats = map (λ w. record { name = name; what = w }) whats
 
 -- the list has grown by these findings under the name
-abbrev pub Adds : Name → List What → List Finding → List Finding → Type 0
-Adds name whats before now = now ≡ before ++ named name whats
+abbrev pub AddsFindings : Name → List What → List Finding → List Finding → Type 0
+AddsFindings name whats before now = now ≡ before ++ named name whats
 
 -- the damage of chunk i of the body before the offset of these metadata, if it differs
 abbrev pub chunk_damage : Meta → ℕ → List ℕ → Option Damage

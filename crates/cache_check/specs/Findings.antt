@@ -1,5 +1,6 @@
 -- What a check of all entries finds.
 use Rattle.std.specs.Prelude.{List, None, Option, Some, [], filter, flat_map, if◌then◌else◌, map, not, ℕ, ◌++◌, ◌∷◌, ◌≡◌}
+use Rattle.cache_base.specs.Names.{has_name}
 use Rattle.cache_base.specs.declared.name.Name.{Name}
 use Rattle.cache_check.specs.Table.{IsTable, Table, get, insert, keys, name_of}
 use Rattle.cache_check.specs.declared.finding.Finding.{Finding}
@@ -8,7 +9,6 @@ use Rattle.cache_check.specs.declared.finding.What.TheVariants as what
 use Rattle.chunk_store.specs.Chunks.{damages}
 use Rattle.entry_file.specs.EntryFile.{body_in, file_fault, file_meta}
 use Rattle.entry_file.specs.declared.entry_read.Unfit.{Unfit}
-use Rattle.evictor.specs.Evict.{has_name}
 use Rattle.index_record.specs.declared.record.IndexRecord.{IndexRecord}
 use Rattle.index_theory.specs.Ever.{Entries}
 use Rattle.index_theory.specs.Scan.{scanned}

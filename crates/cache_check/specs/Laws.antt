@@ -1,11 +1,10 @@
 -- What follows from the definition of findings.
 use Rattle.std.specs.Prelude.{Any, List, false, ℕ, ◌↔◌, ◌≡◌}
-use Rattle.cache_base.specs.Names.{AreRising}
+use Rattle.cache_base.specs.Names.{AreRising, has_name}
 use Rattle.cache_base.specs.declared.name.Name.{Name}
 use Rattle.cache_check.specs.Findings.{IsTableOf, file_findings, findings, findings_at, names_of_both}
 use Rattle.cache_check.specs.Table.{IsTable, Table, get}
 use Rattle.cache_check.specs.declared.finding.Finding.{Finding}
-use Rattle.evictor.specs.Evict.{has_name}
 use Rattle.index_record.specs.declared.record.IndexRecord.{IndexRecord}
 use Rattle.index_theory.specs.Ever.{Entries}
 use Rattle.index_theory.specs.Scan.{scanned}

@@ -11,10 +11,11 @@ use Rattle.index_record.specs.declared.record.IndexRecord.{IndexRecord}
 use Rattle.cache_check.specs.Checks.{findings_of, looks_at, named}
 use Rattle.cache_check.specs.declared.rows.Row.{Row}
 
--- the row of a file with this record, and that of a record without a file
+-- the row of a file, with this record or without one
 abbrev pub of_file : Name → Option IndexRecord → Row
 of_file name known = record { name = name; filed = true; known = known }
 
+-- the row of a record without a file
 abbrev pub of_record : IndexRecord → Row
 of_record r = record { name = r.name; filed = false; known = Some r }
 
@@ -27,8 +28,8 @@ first_row (name ∷ names) (r ∷ rs) =
     Some (by_order (name_cmp name r.name) (of_file name None) (of_file name (Some r)) (of_record r))
 
 -- a list without its first item, where that is taken
-abbrev pub rest_of : {X : Type 0} → List X → Bool → List X
-rest_of items taken = if taken then drop 1 items else items
+abbrev pub without_first : {X : Type 0} → List X → Bool → List X
+without_first items taken = if taken then drop 1 items else items
 
 -- what is wrong under the name of a row
 abbrev pub row_findings : Files → Row → List What
@@ -38,9 +39,10 @@ row_findings files row = findings_of row.name (if row.filed then files (Entry ro
 abbrev pub row_looks : Files → Row → ℕ
 row_looks files row = if row.filed then looks_at row.name (files (Entry row.name)) else 0
 
--- the findings and the looks of a row, unless its entry is being written
+-- the findings of a row, unless its entry is being written
 abbrev pub turn_findings : Files → Bool → Row → List Finding
 turn_findings files written row = if written then [] else named row.name (row_findings files row)
 
+-- its looks, unless its entry is being written
 abbrev pub turn_looks : Files → Bool → Row → ℕ
 turn_looks files written row = if written then 0 else row_looks files row

@@ -47,7 +47,7 @@ fn check_one<D: Disk>(
 // Adds a damage, if there is one.
 fn add_damage(name: &Name, damage: Option<Damage>, out: &mut FindingList) -> Result<(), NoMemory>
     ensures { OnOk result
-        (spec.Adds name.now (map What.Damaged (option_to_list damage)) out.old out.new) }
+        (spec.AddsFindings name.now (map What.Damaged (option_to_list damage)) out.old out.new) }
 {
     match damage {
         None => Ok(()),
@@ -70,7 +70,8 @@ pub(crate) fn add_damages<D: Disk>(
     requires { IsTrue D.tells →
         HasMeta (spec.file_at (D.state disk.old) name.now) (meta_of meta.now) }
     ensures adds { OnOk result (IsTrue D.tells → IfSome (spec.file_at (D.state disk.old) name.now)
-        (λ content. spec.Adds name.now (spec.damaged (meta_of meta.now) content) out.old out.new)) }
+        (λ content. spec.AddsFindings name.now
+        (spec.damaged (meta_of meta.now) content) out.old out.new)) }
     ensures state { IsTrue D.tells → D.state disk.new ≡ D.state disk.old }
     ensures looks { IsTrue D.tells →
         LooksAtMost (chunks_of meta.now.offset) (D.counts disk.old) (D.counts disk.new) }

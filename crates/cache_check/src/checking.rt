@@ -1,7 +1,7 @@
 //! All entries, held against all records.
 
 ghost use Rattle.std.specs.BTreeSet.{contains as contains_of};
-ghost use Rattle.std.specs.Prelude.{◌≡◌, ◌++◌, IfOk, OnOk, IsTrue, IsErrOf, true};
+ghost use Rattle.std.specs.Prelude.{◌≡◌, ◌++◌, IfOk, OnOk, IsTrue, IsErrOf};
 ghost use Rattle.cache_base.specs.Causes.{HasCause};
 ghost use Rattle.cache_base.specs.Names.{AreRising, name_cmp};
 ghost use Rattle.cache_check.specs.Findings.{AreFindings, findings as findings_in};
@@ -15,12 +15,11 @@ ghost use Rattle.cache_check.specs.Rows as rows;
 
 use crate::FindingList;
 use crate::entry::{add_compared, check_entry};
-use crate::rows::{Row, first_row, rest_of};
-use cache_base::{Buffer, Name, Names};
+use crate::rows::{Row, first_row, without_first};
+use cache_base::{Buffer, Name, Names, name_set};
 use disk_model::{Disk, DiskFault};
-use evictor::name_set;
 use index_record::{IndexRecord, Records};
-use record_list::by_name;
+use record_list::{by_name, rise};
 use std::alloc::Global;
 use std::collections::BTreeSet;
 
@@ -33,7 +32,7 @@ fn check_row<D: Disk>(
     out: &mut FindingList,
 ) -> Result<(), DiskFault>
     ensures adds { OnOk result (IsTrue D.tells →
-        spec.Adds row.now.name
+        spec.AddsFindings row.now.name
         (rows.row_findings (standing (D.state disk.old)) row.now) out.old out.new) }
     ensures state { IsTrue D.tells → D.state disk.new ≡ D.state disk.old }
     ensures looks { IsTrue D.tells →
@@ -103,17 +102,10 @@ fn check_all<D: Disk>(
     let mut known = records;
     'rows: while let Some(row) = first_row(filed, known) {
         check_turn(alloc, disk, &row, &set, &mut buf, &mut out)?;
-        filed = rest_of(filed, row.filed);
-        known = rest_of(known, row.known.is_some());
+        filed = without_first(filed, row.filed);
+        known = without_first(known, row.known.is_some());
     }
     Ok(out)
-}
-
-// Whether the names of the records rise, as those of a list that is sorted by name do.
-fn rise(records: &[IndexRecord]) -> bool
-    ensures { result ≡ true → AreByName records.now }
-{
-    records.is_sorted_by(|a, b| a.name.cmp(&b.name).is_lt())
 }
 
 /// What is wrong under each name that has a file or a record and is not among `writing`, in name order: a file
@@ -142,6 +134,6 @@ pub fn findings<D: Disk>(
     if rise(records.as_slice()) {
         return check_all(alloc, disk, listed, records.as_slice(), skipped);
     }
-    let sorted = by_name(alloc, Vec::from_slice(alloc, records.as_slice())?)?;
+    let sorted = by_name(Vec::from_slice(alloc, records.as_slice())?);
     check_all(alloc, disk, listed, sorted.as_slice(), skipped)
 }

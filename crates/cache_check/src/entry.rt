@@ -22,7 +22,8 @@ pub(crate) fn add_compared(
     known: Option<IndexRecord>,
     out: &mut FindingList,
 ) -> Result<(), NoMemory>
-    ensures { OnOk result (spec.Adds name.now (record_findings filed known) out.old out.new) }
+    ensures { OnOk result
+        (spec.AddsFindings name.now (record_findings filed known) out.old out.new) }
 {
     let what = match (filed, known) {
         (None, None) => return Ok(()),
@@ -48,7 +49,7 @@ fn check_file<D: Disk>(
 ) -> Result<Option<IndexRecord>, DiskFault>
     ensures adds { OnOk result (IsTrue D.tells →
         let file = spec.file_at (D.state disk.old) name.now in
-        spec.Adds name.now (file_findings name.now file) out.old out.new) }
+        spec.AddsFindings name.now (file_findings name.now file) out.old out.new) }
     ensures filed { IfOk result (λ filed. IsTrue D.tells →
         let file = spec.file_at (D.state disk.old) name.now in
         filed ≡ option_and_then (record_of name.now) file) }
@@ -85,7 +86,7 @@ pub(crate) fn check_entry<D: Disk>(
 ) -> Result<(), DiskFault>
     ensures adds { OnOk result (IsTrue D.tells →
         let file = spec.file_at (D.state disk.old) name.now in
-        spec.Adds name.now (spec.findings_of name.now file known) out.old out.new) }
+        spec.AddsFindings name.now (spec.findings_of name.now file known) out.old out.new) }
     ensures state { IsTrue D.tells → D.state disk.new ≡ D.state disk.old }
     ensures looks { IsTrue D.tells → let file = spec.file_at (D.state disk.old) name.now in
         LooksAtMost (spec.looks_at name.now file) (D.counts disk.old) (D.counts disk.new) }

@@ -22,15 +22,15 @@ use Rattle.cache_export.specs.Dumped.{DumpOfIsDump, dumped, may_dump, versions_i
 use Rattle.cache_export.proofs.FrontLaws.{head_size}
 use Rattle.cache_export.specs.declared.limits.TheConstants.{DUMP_MAX}
 
-first : (a b : Bool) → T (a && b) → T a
+pub first : (a b : Bool) → T (a && b) → T a
 first true b h = tt
 first false b h = absurd h
 
-second : (a b : Bool) → T (a && b) → T b
+pub second : (a b : Bool) → T (a && b) → T b
 second true b h = h
 second false b h = absurd h
 
-less : (o : Ordering) → T (is_lt o) → o ≡ Less
+pub less : (o : Ordering) → T (is_lt o) → o ≡ Less
 less Less h = refl
 less Equal h = absurd h
 less Greater h = absurd h

@@ -8,7 +8,7 @@ use Rattle.cache_base.proofs.ByteLaws.{be32_front}
 use Rattle.cache_base.specs.Bytes.{be32, be32_at}
 use Rattle.entry_file.specs.Version.{Version, version_meta}
 use Rattle.entry_key.specs.Walk.{read_key, reads}
-use Rattle.entry_key.specs.Writing.{is_plain, may_write}
+use Rattle.entry_key.specs.Writing.{is_plain_byte, may_write}
 use Rattle.entry_metadata.specs.Checks.{meta_in}
 use Rattle.entry_metadata.specs.Metadata.{Meta, Third, block_bytes}
 use Rattle.entry_metadata.proofs.SpelledLaws.{block_reads_back}
@@ -33,8 +33,8 @@ same_field a b c d low below h =
 pub key_sizes : (key : List ℕ) → may_write key ≡ true → (0 < length key) × (length key ≤ 16384)
 unfolding may_write
 key_sizes key h =
-    let outer = and_parts (nat_lt 0 (length key) && nat_le (length key) 16384 && list_all is_plain key) (reads (read_key key)) h in
-    let inner = and_parts (nat_lt 0 (length key) && nat_le (length key) 16384) (list_all is_plain key) outer.0 in
+    let outer = and_parts (nat_lt 0 (length key) && nat_le (length key) 16384 && list_all is_plain_byte key) (reads (read_key key)) h in
+    let inner = and_parts (nat_lt 0 (length key) && nat_le (length key) 16384) (list_all is_plain_byte key) outer.0 in
     let lengths = and_parts (nat_lt 0 (length key)) (nat_le (length key) 16384) inner.0 in
     (ltb-true 0 (length key) lengths.0, leb-true (length key) 16384 lengths.1)
 

@@ -6,6 +6,7 @@ use Rattle.cache_base.proofs.ByteLaws.{be32_front, bytes_drop, bytes_take}
 use Rattle.cache_base.specs.Bytes.{AreBytes, be32, be32_at}
 use Rattle.cache_base.specs.declared.limits.TheConstants.{BODY_MAX}
 use Rattle.chunk_store.specs.Chunks.{chunk_hashes}
+use Rattle.chunk_store.proofs.EachChunk.{first_chunk}
 use Rattle.entry_file.specs.Version.{IsVersion, Version, version_meta}
 use Rattle.entry_key.specs.Writing.{may_write}
 use Rattle.entry_metadata.specs.Metadata.{IsMeta, Meta, block_bytes}
@@ -14,7 +15,7 @@ use Rattle.cache_export.specs.Dump.{AreItems, IsAbove, back_bytes, item_bytes}
 use Rattle.cache_export.specs.Joined.{AreParts, DumpIsParts, parts_of, pieces}
 use Rattle.cache_export.specs.Parts.{Part, Spells, SpellsRest, Stage, after, key_bytes, lead, left_of}
 use Rattle.cache_export.proofs.FieldLaws.{item_cut}
-use Rattle.cache_export.proofs.ChunkLaws.{chunk_joined, first_chunk}
+use Rattle.cache_export.proofs.ChunkLaws.{chunk_joined}
 
 -- the bytes of items and of the end
 abbrev pub items_end : List Version → List ℕ

@@ -7,5 +7,4 @@ pub mod NextLaws
 pub mod PartLaws
 pub mod ReadingLaws
 pub mod WholeLaws
-pub mod WindowLaws
 pub mod WritingLaws

@@ -7,10 +7,11 @@ use Rattle.std.specs.Io.KnownBytes.{Consumes, IsAtEnd, prepend_known}
 use Rattle.cache_export.specs.Front.{front_at, head_front, item_front, lead_len}
 use Rattle.cache_export.specs.Parts.{NoPart, Part, Spells, SpellsEnd, Stage, after, left_of}
 use Rattle.cache_export.specs.Progress.{stage_of}
-use Rattle.cache_export.specs.Reader.{Ends, Gives, HoldsPart, Leaves, Refuses, RefusesPart, StandsWhole, Takes, WantsMore, given_in, held_in, rest_of, stage_in, used_in}
+use Rattle.cache_export.specs.Reader.{Ends, Gives, HoldsPart, LeavesReader, Refuses, RefusesPart, StandsWhole, Takes, WantsMore, given_in, held_in, rest_of, stage_in, used_in}
 use Rattle.cache_export.specs.Reading.{IsEnd, IsStuck, Shown, Cut}
 use Rattle.cache_export.specs.Stages.{stage_at}
-use Rattle.cache_export.specs.Window.{Grew}
+use Rattle.cache_io.specs.Window.{Grew}
+use Rattle.cache_io.proofs.WindowLaws.{of_rest}
 use Rattle.cache_export.specs.declared.front.Due.{Due}
 use Rattle.cache_export.specs.declared.front.Due.TheVariants as due
 use Rattle.cache_export.specs.declared.front.Front.{Front}
@@ -24,7 +25,7 @@ use Rattle.cache_export.specs.declared.reader.DumpReader.{DumpReader}
 use Rattle.entry_metadata.specs.Meta.{meta_of}
 use Rattle.cache_export.proofs.FrontLaws.{end_is_more, front_stays, head_found, item_some, part_found}
 
-past : (n : ℕ) → (n ≤ DUMP_MAX → ⊥) → DUMP_MAX < n
+pub past : (n : ℕ) → (n ≤ DUMP_MAX → ⊥) → DUMP_MAX < n
 past n h = go (ltb DUMP_MAX n) refl
   where
     go : (t : Bool) → ltb DUMP_MAX n ≡ t → DUMP_MAX < n
@@ -98,15 +99,6 @@ module _ (d : Due) (key : List ℕ) (len : ℕ) (hashes : List ℕ) (used : ℕ)
         ending = λ s. past (used + length (new ++ rest)) (λ fits. more_is_whole n (sym (end_is_more d key len hashes left used (new ++ rest) s fits) ∙ still));
       }
 
--- what holds of the bytes that are held after reads and of what is then left holds of the rest of the dump before them
-pub of_rest : (P : List ℕ → Type 0) (held new : List ℕ) (left now : Option (List ℕ)) → Grew held new left now → IfSome now (λ rest. P (new ++ rest)) → IfSome (prepend_known held left) P
-of_rest P held new left now g h = go left now g.read h
-  where
-    go : (left now : Option (List ℕ)) → Consumes left now g.piece → IfSome now (λ rest. P (new ++ rest)) → IfSome (prepend_known held left) P
-    go None now read h = tt
-    go (Some xs) None read h = absurd read
-    go (Some xs) (Some ys) read h = subst P (ap (λ l. l ++ ys) g.grown ∙ append_assoc held g.piece ys ∙ ap (λ l. held ++ l) (sym read)) h
-
 every : (P : List ℕ → Type 0) (now : Option (List ℕ)) → ((rest : List ℕ) → P rest) → IfSome now P
 every P None h = tt
 every P (Some rest) h = h rest
@@ -172,7 +164,7 @@ module _ (old mid : DumpReader) (left now : Option (List ℕ)) (same : mid.progr
         short = omega (arith, size, stands.fits);
       }
 
-  pub leaves_taken : (new : DumpReader) (end : ℕ) (r : Result Item DumpFault) → StandsWhole mid end → IfOk r (Takes mid new end) → Leaves old new left now r
+  pub leaves_taken : (new : DumpReader) (end : ℕ) (r : Result Item DumpFault) → StandsWhole mid end → IfOk r (Takes mid new end) → LeavesReader old new left now r
   leaves_taken new end (Ok (item.Key key)) stands t = gives new end 0 (Part.KeyPart key) stands t.part t.stage t.held t.given t.used
   leaves_taken new end (Ok (item.Piece bytes)) stands t = gives new end 0 (Part.PiecePart bytes) stands t.part t.stage t.held t.given t.used
   leaves_taken new end (Ok (item.Block meta)) stands t = gives new end 1 (Part.BlockPart (meta_of meta)) stands t.part t.stage t.held t.given t.used

@@ -2,32 +2,20 @@
 use Rattle.std.proofs.Common.{◌≡◌, ◌≢◌, ℕ, suc, ◌+◌, ◌<◌, ◌≤◌, Bool, true, false, cond, min, List, [], ◌∷◌, ◌++◌, length, take, drop, ltb, Option, refl, sym, ap, ◌∙◌, arith}
 use Rattle.std.specs.Prelude.{nat_eq, nat_lt, ◌==◌, ◌||◌}
 use Rattle.std.specs.Cmp.Lexicographic.{pointwise}
-use Rattle.std.proofs.KnownBytes.{Consumes-trans}
 use Rattle.std.proofs.lemmas.Bool.{ltb-true, ltb-false, eqb-true, or_parts}
-use Rattle.std.proofs.lemmas.List.{append_assoc, append-nil, length-append, length-drop, nil_from_length}
+use Rattle.std.proofs.lemmas.List.{length-drop}
 use Rattle.cache_base.specs.Bytes.{be32_at}
 use Rattle.cache_base.specs.Limits.{chunk_size}
 use Rattle.cache_base.specs.declared.limits.TheConstants.{BLOCK_MAX, BODY_MAX, KEY_MAX}
 use Rattle.cache_export.specs.Dump.{head}
 use Rattle.cache_export.specs.Front.{block_front, body_front, front_at, head_front, item_front, key_front, length_front, sized}
-use Rattle.cache_export.specs.Window.{Grew}
+use Rattle.cache_io.specs.Window.{Grew}
 use Rattle.cache_export.specs.declared.front.Due.{Due}
 use Rattle.cache_export.specs.declared.front.Due.TheVariants as due
 use Rattle.cache_export.specs.declared.front.Front.{Front}
 use Rattle.cache_export.specs.declared.front.Front.TheVariants.{Whole, More, Bad}
 use Rattle.cache_export.specs.declared.limits.TheConstants.{DUMP_MAX}
 use Rattle.cache_export.proofs.FrontLaws.{front_stays, item_some}
-
-pub grew_on : (a b c : List ℕ) (l m n : Option (List ℕ)) → Grew a b l m → Grew b c m n → Grew a c l n
-grew_on a b c l m n first second = record {
-  piece = first.piece ++ second.piece;
-  grown = second.grown ∙ ap (λ x. x ++ second.piece) first.grown ∙ append_assoc a first.piece second.piece;
-  read = Consumes-trans l m n first.piece second.piece first.read second.read;
-}
-
-pub same_grown : (old new : List ℕ) (left now : Option (List ℕ)) → Grew old new left now → length new ≡ length old + 0 → new ≡ old
-same_grown old new left now g len =
-    g.grown ∙ ap (λ l. old ++ l) (nil_from_length g.piece (omega (arith, len, ap length g.grown, length-append old g.piece))) ∙ append-nil old
 
 -- where more is wanted after a read, more was wanted before it
 pub more_before : (d : Due) (left used : ℕ) (xs ys : List ℕ) (l n : Option (List ℕ)) → Grew xs ys l n → front_at d left used ys ≡ More → front_at d left used xs ≡ More

@@ -25,7 +25,8 @@ may_dump v = may_write v.key && nat_le (length v.body) BODY_MAX
 abbrev pub versions_in : List (List ℕ × List ℕ) → List Version
 versions_in files = filter_map (λ file. whole_in (read file.0 file.1)) files
 
--- the versions up to the first whose item, with the byte after it, would pass the longest dump; so many bytes stand before
+-- the versions up to the first whose item, with the byte after it, would pass the longest dump; so many bytes stand
+-- before
 abbrev pub within : ℕ → List Version → List Version
 within used [] = []
 within used (v ∷ vs) =

@@ -1,5 +1,5 @@
--- What stands at the beginning of the rest of a dump, by the lengths that are written there. A length is judged as soon as its
--- four bytes are there, and what it announces once that is whole.
+-- What stands at the beginning of the rest of a dump, by the lengths that are written there. A length is judged as
+-- soon as its four bytes are there, and what it announces once that is whole.
 use Rattle.std.specs.Prelude.{◌==◌, ◌||◌, ℕ, ◌+◌, nat_lt, if◌then◌else◌, min, List, length, take, drop, slice_index, nat_eq}
 use Rattle.std.specs.Cmp.Lexicographic.{pointwise}
 use Rattle.cache_base.specs.Bytes.{be32_at}

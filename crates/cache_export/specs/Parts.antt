@@ -37,8 +37,9 @@ lead (Some key) = []
 unfoldable pub key_bytes : List ℕ → List ℕ
 key_bytes key = 1 ∷ (be32 (length key) ++ key)
 
--- the bytes are those of a part of a body of so many bytes, after pieces of these hashes. A piece has 262,144 bytes, or all that are
--- left; a block comes where none are left, and is in version 3 and of this key, this length and these hashes
+-- the bytes are those of a part of a body of so many bytes, after pieces of these hashes. A piece has 262,144 bytes,
+-- or all that are left; a block comes where none are left, and is in version 3 and of this key, this length and these
+-- hashes
 abbrev pub SpellsRest : List ℕ → ℕ → List ℕ → Part → List ℕ → Type 0
 SpellsRest key len hashes (Part.KeyPart k) bytes = ⊥
 SpellsRest key len hashes (Part.PiecePart piece) bytes =
@@ -70,7 +71,8 @@ SpellsEnd (Stage.AtItem before) bytes = bytes ≡ lead before ++ 0 ∷ []
 SpellsEnd (Stage.AtLength key) bytes = ⊥
 SpellsEnd (Stage.InBody key len hashes) bytes = ⊥
 
--- After so many bytes of a dump no part that is due begins these bytes and ends within the longest dump, and they do not end it there.
+-- After so many bytes of a dump no part that is due begins these bytes and ends within the longest dump, and they do
+-- not end it there.
 pub record NoPart (stage : Stage) (used : ℕ) (bytes : List ℕ) : Type 0 where
   pub part : (p : Part) (own more : List ℕ) → Spells stage p own → bytes ≡ own ++ more → DUMP_MAX < used + length own
   pub ending : SpellsEnd stage bytes → DUMP_MAX < used + length bytes

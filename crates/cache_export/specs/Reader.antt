@@ -69,8 +69,8 @@ RefusesPart old end (faults.Bad number) = (number ≡ given_in old + 1) × ((p :
 RefusesPart old end faults.Source = ⊥
 RefusesPart old end faults.Memory = Unit {0}
 
--- A part was given, and with it so many whole items. The bytes that were held and those that were read are the part's and those that
--- are held now.
+-- A part was given, and with it so many whole items. The bytes that were held and those that were read are the part's
+-- and those that are held now.
 pub record Gives (old new : DumpReader) (left now : Option (List ℕ)) (p : Part) (count : ℕ) : Type 0 where
   pub own : List ℕ
   pub part : Spells (stage_in old) p own
@@ -93,12 +93,12 @@ pub record Ends (old : DumpReader) (left now : Option (List ℕ)) : Type 0 where
   pub short : used_in old + length (held_in old ++ read) ≤ DUMP_MAX
 
 -- what a call leaves, by its answer
-abbrev pub Leaves : DumpReader → DumpReader → Option (List ℕ) → Option (List ℕ) → Result Item DumpFault → Type 0
-Leaves old new left now (Ok (item.Key key)) = Gives old new left now (Part.KeyPart key) 0
-Leaves old new left now (Ok (item.Piece bytes)) = Gives old new left now (Part.PiecePart bytes) 0
-Leaves old new left now (Ok (item.Block meta)) = Gives old new left now (Part.BlockPart (meta_of meta)) 1
-Leaves old new left now (Ok item.End) = Ends old left now
-Leaves old new left now (Err fault) = Unit {0}
+abbrev pub LeavesReader : DumpReader → DumpReader → Option (List ℕ) → Option (List ℕ) → Result Item DumpFault → Type 0
+LeavesReader old new left now (Ok (item.Key key)) = Gives old new left now (Part.KeyPart key) 0
+LeavesReader old new left now (Ok (item.Piece bytes)) = Gives old new left now (Part.PiecePart bytes) 0
+LeavesReader old new left now (Ok (item.Block meta)) = Gives old new left now (Part.BlockPart (meta_of meta)) 1
+LeavesReader old new left now (Ok item.End) = Ends old left now
+LeavesReader old new left now (Err fault) = Unit {0}
 
 -- the fault names the item that is bad
 abbrev pub Refuses : DumpReader → Option (List ℕ) → DumpFault → Type 0
@@ -110,7 +110,8 @@ Refuses old left faults.Memory = Unit {0}
 abbrev pub SourceFailed : Result Item DumpFault → Type 0
 SourceFailed result = IsErrOf result faults.Source
 
--- where the source failed, what was held and what was read have neither the whole part that is due nor show that it is bad
+-- where the source failed, what was held and what was read have neither the whole part that is due nor show that it
+-- is bad
 abbrev pub BreaksOff : DumpReader → Option (List ℕ) → Option (List ℕ) → DumpFault → Type 0
 BreaksOff old left now (faults.Bad number) = Unit {0}
 BreaksOff old left now faults.Source = (read : List ℕ) × (Consumes left now read × WantsMore old (held_in old ++ read))

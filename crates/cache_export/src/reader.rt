@@ -26,7 +26,7 @@ pub struct DumpReader {
 }
 
 impl DumpReader {
-    ghost use Rattle.cache_export.specs.Reader.{held_in, given_in, used_in, stage_in, rest_of, BreaksOff, HoldsPart, Leaves, Refuses, RefusesPart, SourceFailed, StandsWhole, Takes, WantsMore};
+    ghost use Rattle.cache_export.specs.Reader.{held_in, given_in, used_in, stage_in, rest_of, BreaksOff, HoldsPart, LeavesReader, Refuses, RefusesPart, SourceFailed, StandsWhole, Takes, WantsMore};
 
     /// A reader at the beginning of a dump, which takes no memory.
     pub fn new(alloc: Global) -> DumpReader
@@ -81,10 +81,11 @@ impl DumpReader {
         }
     }
 
-    /// The next part of an item, or the end. The source is read only while the bytes that are held have neither the whole
-    /// part that is due nor a bad one. After the end or a fault the reader is not used again.
+    /// The next part of an item, or the end. The source is read only while the bytes that are held have neither the
+    /// whole part that is due nor a bad one. After the end or a fault the reader is not used again.
     pub fn next<S: Source>(&mut self, source: &mut S) -> Result<Item, DumpFault>
-        ensures leaves { Leaves self.old self.new (S.left source.old) (S.left source.new) result }
+        ensures leaves { LeavesReader self.old self.new
+            (S.left source.old) (S.left source.new) result }
         ensures bad { IfErr result (Refuses self.old (S.left source.old)) }
         ensures failed { IfErr result (BreaksOff self.old (S.left source.old) (S.left source.new)) }
         ensures cause { HasCause (SourceFailed result) (S.faults source.old) (S.faults source.new) }

@@ -4,7 +4,8 @@ ghost use Rattle.std.specs.Prelude.{◌≡◌, ◌≤◌, ◌↔◌, IfOk, IsErr
 ghost use Rattle.cache_base.specs.Causes.{HasCause};
 ghost use Rattle.cache_export.specs.Front.{front_at};
 ghost use Rattle.cache_export.specs.Reading.{IsEnd, Reached};
-ghost use Rattle.cache_export.specs.Window.{items, Grew};
+ghost use Rattle.cache_export.specs.Window.{items};
+ghost use Rattle.cache_io.specs.Window.{Grew};
 ghost use Rattle.cache_export.specs.declared.front.Front.TheVariants.{More};
 ghost use Rattle.cache_export.specs.declared.limits.TheConstants.{DUMP_MAX};
 ghost use Rattle.cache_export.specs.declared.window.ReadFault.TheVariants as faults;

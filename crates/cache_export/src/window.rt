@@ -36,8 +36,8 @@ impl From<SourceFault> for ReadFault {
     }
 }
 
-/// A list of at most `HELD_MAX` bytes that grows at its end by reads, and is cut at its front. All its memory is taken by
-/// the first read. Its bytes are moved to the front of the room only where there is no room after them.
+/// A list of at most `HELD_MAX` bytes that grows at its end by reads, and is cut at its front. All its memory is
+/// taken by the first read. Its bytes are moved to the front of the room only where there is no room after them.
 #[derive(Drop)]
 pub(crate) struct Window {
     room: Vec<u8>,
@@ -60,7 +60,8 @@ fn fill_up(room: &mut Vec<u8>, n: usize) -> Result<(), NoMemory>
 }
 
 impl Window {
-    ghost use Rattle.cache_export.specs.Window.{items, Grew};
+    ghost use Rattle.cache_export.specs.Window.{items};
+    ghost use Rattle.cache_io.specs.Window.{Grew};
 
     /// No bytes, and no memory.
     pub(crate) fn new(alloc: Global) -> Window

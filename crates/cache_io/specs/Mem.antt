@@ -12,10 +12,11 @@ left_in s = drop s.at s.bytes
 abbrev pub taken_in : MemSink → List ℕ
 taken_in s = s.bytes
 
--- the numbers of the calls that are to fail
+-- the numbers of the reads that are to fail
 abbrev pub failing_reads : MemSource → List ℕ
 failing_reads s = s.planned
 
+-- the numbers of the writes that are to fail
 abbrev pub failing_writes : MemSink → List ℕ
 failing_writes s = s.planned
 
@@ -23,23 +24,26 @@ failing_writes s = s.planned
 abbrev pub piece_of : MemSource → ℕ
 piece_of s = s.piece
 
--- how many reads and writes were made
+-- how many reads were made
 abbrev pub reads_of : MemSource → ℕ
 reads_of s = s.calls
 
+-- how many writes were made
 abbrev pub writes_of : MemSink → ℕ
 writes_of s = s.calls
 
--- how many of these failed
+-- how many reads failed
 abbrev pub read_faults_of : MemSource → ℕ
 read_faults_of s = s.faults
 
+-- how many writes failed
 abbrev pub write_faults_of : MemSink → ℕ
 write_faults_of s = s.faults
 
--- the next call is to fail
+-- the next read is to fail
 abbrev pub FailsNextRead : MemSource → Type 0
 FailsNextRead s = Any (λ number. number ≡ one_more s.calls) s.planned
 
+-- the next write is to fail
 abbrev pub FailsNextWrite : MemSink → Type 0
 FailsNextWrite s = Any (λ number. number ≡ one_more s.calls) s.planned

@@ -7,7 +7,7 @@ use Rattle.cache_base.specs.declared.limits.TheConstants.{ALT_MAX, LINE_MAX, SCR
 use Rattle.cache_theory.specs.Command.{Command}
 use Rattle.cache_theory.specs.Command.Command.{Append, SetElement, PutAlt}
 use Rattle.cache_theory.specs.Text.{IsCommand, IsOneLine, NoMore, command_words, command_data, command_bytes, line, spaced}
-use Rattle.cache_script.specs.Front.{Begins, HasLine, HasLineOf, HasNoCommand, IsBadFront, IsPart, IsSearched}
+use Rattle.cache_script.specs.Front.{BeginsWithCommand, HasLine, HasLineOf, HasNoCommand, IsBadFront, IsPart, IsSearched}
 use Rattle.cache_script.specs.Front.IsBadFront.{BadLine, LongLine, NoNewline, TooLong, CutAtLimit}
 use Rattle.cache_script.specs.Lines.{Form, form_of, cut, data_len, form_in}
 use Rattle.cache_script.specs.Reading.{IsStuck}
@@ -127,7 +127,7 @@ bad_is_stuck used bytes None bad = tt
 bad_is_stuck used bytes (Some rest) bad = stuck used bytes rest bad
 
 -- so neither a command nor the end can be reached from one
-pub bad_has_none : (used n : ℕ) (bytes more : List ℕ) → IsBadFront used bytes → Begins (bytes ++ more) n → used + n ≤ SCRIPT_MAX → ⊥
+pub bad_has_none : (used n : ℕ) (bytes more : List ℕ) → IsBadFront used bytes → BeginsWithCommand (bytes ++ more) n → used + n ≤ SCRIPT_MAX → ⊥
 bad_has_none used n bytes more bad b fits = omega (arith, b.len, no_more used bytes more bad b.command (drop n (bytes ++ more)) b.is b.spelled)
 
 pub bad_is_some : (used : ℕ) (bytes more : List ℕ) → IsBadFront used bytes → bytes ++ more ≢ []
@@ -247,7 +247,7 @@ module _ (used : ℕ) (bytes : List ℕ) (end : ℕ) (form : Form) (are : AreByt
     record { within = omega (arith, has.within); none = (cut_parts 10 bytes (take end bytes) (drop (end + 1) bytes) has.cutting).1 },
   )
 
-  pub line_whole : n ≤ length bytes → get_or bytes (n - 1) 0 ≡ 10 → Begins bytes n
+  pub line_whole : n ≤ length bytes → get_or bytes (n - 1) 0 ≡ 10 → BeginsWithCommand bytes n
   line_whole enough newline =
       let rest = drop (end + 1) bytes in
       begins bytes (take end bytes) rest form n are has.cutting (omega (arith, len_text, has.short)) has.tells (omega (arith, counted, enough, length-drop (end + 1) bytes))

@@ -10,7 +10,7 @@ use Rattle.cache_base.specs.declared.limits.TheConstants.{ALT_MAX, LINE_MAX}
 use Rattle.cache_theory.specs.Command.{Command}
 use Rattle.cache_theory.specs.Command.Command.{Append, SetElement, PutAlt}
 use Rattle.cache_theory.specs.Text.{FieldsFit, IsCommand, command_words, command_data, command_bytes, spaced}
-use Rattle.cache_script.specs.Front.{Begins, HasNoCommand, cut_by}
+use Rattle.cache_script.specs.Front.{BeginsWithCommand, HasNoCommand, cut_by}
 use Rattle.cache_script.specs.Lines.{Form, FormFits, Tells, form_of, form_words, cut, data_len, form_in}
 use Rattle.cache_script.proofs.CutLaws.{Lacks, IsCut, cut_at, cut_is, cut_none, cut_first}
 use Rattle.cache_script.proofs.FormLaws.{IsLine, form_spelled}
@@ -94,14 +94,14 @@ no_newline_is_bad bytes text rest form cutting tells some enough other = λ more
 
 -- ---- the first line of bytes that begin with a command
 
-pub begun_line : (bytes : List ℕ) (n : ℕ) → Begins bytes n → cut 10 bytes ≡ None → ⊥
+pub begun_line : (bytes : List ℕ) (n : ℕ) → BeginsWithCommand bytes n → cut 10 bytes ≡ None → ⊥
 begun_line bytes n b none = no_command_line bytes none b.command (drop n bytes) b.is b.spelled
 
-pub begun_form : (bytes text rest : List ℕ) (n : ℕ) → Begins bytes n → cut 10 bytes ≡ Some (text, rest) → form_in text ≡ None → ⊥
+pub begun_form : (bytes text rest : List ℕ) (n : ℕ) → BeginsWithCommand bytes n → cut 10 bytes ≡ Some (text, rest) → form_in text ≡ None → ⊥
 begun_form bytes text rest n b cutting none = none_or_some none (line_of b.command bytes text rest (drop n bytes) b.is.fields b.spelled cutting).tells
 
 -- the bytes behind the line are whole
-pub begun_data : (bytes text rest : List ℕ) (form : Form) (n : ℕ) → Begins bytes n → cut 10 bytes ≡ Some (text, rest) → form_in text ≡ Some form → data_len form ≤ length rest
+pub begun_data : (bytes text rest : List ℕ) (form : Form) (n : ℕ) → BeginsWithCommand bytes n → cut 10 bytes ≡ Some (text, rest) → form_in text ≡ Some form → data_len form ≤ length rest
 begun_data bytes text rest form n b cutting tells =
     let of = line_of b.command bytes text rest (drop n bytes) b.is.fields b.spelled cutting in
     omega (arith, length_data b.command, ap data_len (form_same b.command form text rest (drop n bytes) of tells), ap length of.behind, length-append (command_data b.command) (drop n bytes))
@@ -168,7 +168,7 @@ makes text rest form line bytes short tells enough newline =
     }
 
 pub begins : (bytes text rest : List ℕ) (form : Form) (n : ℕ) → AreBytes bytes → cut 10 bytes ≡ Some (text, rest) → length text ≤ LINE_MAX → form_in text ≡ Some form → data_len form ≤ length rest
-    → (0 < data_len form → get_or rest (data_len form - 1) 0 ≡ 10) → n ≡ length text + 1 + data_len form → Begins bytes n
+    → (0 < data_len form → get_or rest (data_len form - 1) 0 ≡ 10) → n ≡ length text + 1 + data_len form → BeginsWithCommand bytes n
 begins bytes text rest form n are cutting short tells enough newline total =
     let parts = cut_parts 10 bytes text rest cutting in
     let both : AreBytes (text ++ 10 ∷ rest) = subst AreBytes parts.0 are in

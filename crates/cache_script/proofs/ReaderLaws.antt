@@ -7,21 +7,13 @@ use Rattle.cache_theory.specs.Command.{Command}
 use Rattle.cache_theory.specs.Command.Command.{At, Create, OpenKey, Append, Finish, SetElement, UnsetElement, ElementOf, PutAlt, UseEntry, Pin, Unpin, ReadPart, Close, Doom, Get, GetAlt, MainBody, HasEntry, Evict, EvictNames, ClearOrigin, ClearNames, StepUpdate, FinishAs}
 use Rattle.cache_theory.specs.Given.{IsGiven}
 use Rattle.cache_theory.specs.Text.{FieldsFit, command_bytes}
-use Rattle.cache_script.specs.Front.{Begins, HasNoCommand, IsBadFront, IsPart}
+use Rattle.cache_script.specs.Front.{BeginsWithCommand, HasNoCommand, IsBadFront, IsPart}
 use Rattle.cache_script.specs.Reader.{IsBadScript}
 use Rattle.cache_script.specs.Reading.{IsStuck}
-use Rattle.cache_script.specs.Window.{Grew}
+use Rattle.cache_io.specs.Window.{Grew}
+use Rattle.cache_io.proofs.WindowLaws.{of_rest}
 use Rattle.cache_script.proofs.BadFrontLaws.{bad_has_none, bad_is_some, some_bytes}
 use Rattle.cache_script.proofs.ReadingLaws.{part_before}
-
--- what holds of the bytes that are held after reads and of what is then left holds of the rest of the script before them
-pub of_rest : (P : List ℕ → Type 0) (held new : List ℕ) (left now : Option (List ℕ)) → Grew held new left now → IfSome now (λ rest. P (new ++ rest)) → IfSome (prepend_known held left) P
-of_rest P held new left now g h = go left now g.read h
-  where
-    go : (left now : Option (List ℕ)) → Consumes left now g.piece → IfSome now (λ rest. P (new ++ rest)) → IfSome (prepend_known held left) P
-    go None now read h = tt
-    go (Some xs) None read h = absurd read
-    go (Some xs) (Some ys) read h = subst P (ap (λ l. l ++ ys) g.grown ∙ append_assoc held g.piece ys ∙ ap (λ l. held ++ l) (sym read)) h
 
 pub stuck_is_bad : (used : ℕ) (held new : List ℕ) (left now : Option (List ℕ)) → Grew held new left now → IfSome now (λ rest. IsStuck used (new ++ rest)) → IsBadScript used (prepend_known held left)
 stuck_is_bad used held new left now g h = of_rest (IsStuck used) held new left now g h
@@ -67,8 +59,8 @@ bad_is_no_part used held there same bad = λ part. part.good (subst (IsBadFront 
 pub no_part : (used : ℕ) (held new : List ℕ) (left now : Option (List ℕ)) → Grew held new left now → IsBadFront used held → IsPart used new → ⊥
 no_part used held new left now g bad part = (part_before used held new left now g part).good bad
 
-pub no_command : (used n : ℕ) (held new : List ℕ) (left now : Option (List ℕ)) → Grew held new left now → IsBadFront used held → Begins new n → used + n ≤ SCRIPT_MAX → ⊥
-no_command used n held new left now g bad begins fits = bad_has_none used n held g.piece bad (subst (λ (l : List ℕ). Begins l n) g.grown begins) fits
+pub no_command : (used n : ℕ) (held new : List ℕ) (left now : Option (List ℕ)) → Grew held new left now → IsBadFront used held → BeginsWithCommand new n → used + n ≤ SCRIPT_MAX → ⊥
+no_command used n held new left now g bad begins fits = bad_has_none used n held g.piece bad (subst (λ (l : List ℕ). BeginsWithCommand l n) g.grown begins) fits
 
 pub no_end : (used : ℕ) (held new : List ℕ) (left now : Option (List ℕ)) → Grew held new left now → IsBadFront used held → new ≡ [] → ⊥
 no_end used held new left now g bad none = bad_is_some used held g.piece bad (sym g.grown ∙ none)
@@ -82,7 +74,7 @@ ended held new left now g none end = go left now g.read end
     go (Some xs) None read end = absurd read
     go (Some xs) (Some ys) read end = ap (λ l. held ++ l) read ∙ sym (append_assoc held g.piece ys) ∙ ap (λ l. l ++ ys) (sym g.grown ∙ none) ∙ end
 
-pub begun_is_some : (bytes : List ℕ) (n : ℕ) → Begins bytes n → (0 < n) × (n ≤ length bytes)
+pub begun_is_some : (bytes : List ℕ) (n : ℕ) → BeginsWithCommand bytes n → (0 < n) × (n ≤ length bytes)
 begun_is_some bytes n b = (
   omega (arith, some_bytes b.command, b.len),
   omega (arith, b.len, ap length b.spelled, length-append (command_bytes b.command) (drop n bytes)),

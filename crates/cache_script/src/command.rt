@@ -111,7 +111,8 @@ pub enum Command<'a> {
     Clear {
         origin: &'a [u8],
     },
-    /// The clearing is done that was stopped, if the mark of one stands. Each run begins with it, and no script spells it.
+    /// The clearing is done that was stopped, if the mark of one stands. Each run begins with it, and no script
+    /// spells it.
     Resume,
     /// All that was done is brought to the disk.
     Flush,

@@ -1,5 +1,5 @@
--- What the handles and the disk represent hangs neither on the moment, nor on the names that the update has still to read, nor
--- on what stands at `clear`.
+-- What the handles and the disk represent hangs neither on the moment, nor on the names that the update has still to
+-- read, nor on what stands at `clear`.
 use Rattle.std.proofs.Common.{Bool, ℕ, List, Option, refl}
 use Rattle.cache_theory.specs.Crash.{IsCrashKept}
 use Rattle.cache_theory.specs.History.{History}
@@ -9,7 +9,7 @@ use Rattle.cache_theory.specs.Proper.{IsProper}
 use Rattle.cache_theory.specs.Stands.{AsideStand, IsHeldAside}
 use Rattle.disk_model.specs.Image.{Files}
 use Rattle.disk_model.specs.State.{State, standing}
-use Rattle.file_handles.proofs.HeldChunkLaws.{chunks_on}
+use Rattle.file_handles.proofs.Reading.HeldChunkLaws.{chunks_on}
 use Rattle.file_handles.specs.Cache.{Cache}
 use Rattle.file_handles.specs.Kept.{Kept}
 use Rattle.file_handles.specs.Stands.{HandlesStand, IsAt, KeepsWhere}

@@ -1,12 +1,15 @@
 -- How a reply is said.
-use Rattle.std.specs.Prelude.{IfOk, List, OnErr, Option, Result, [], codes, ℕ, ◌++◌, ◌∷◌, ◌≡◌, ◌≢◌}
+use Rattle.std.specs.Prelude.{Err, IfOk, List, Ok, OnErr, Option, Result, [], codes, ℕ, ◌++◌, ◌∷◌, ◌≡◌, ◌≢◌}
 use Rattle.std.specs.Io.KnownBytes.{Appends}
+use Rattle.cache_store.specs.Printed.{is_check, lists_findings}
 use Rattle.cache_store.specs.Said.{IsCut, Said, Saying}
 use Rattle.cache_store.specs.declared.answered.Answered.{Answered}
 use Rattle.cache_store.specs.declared.answered.Answered.TheVariants as answered
 use Rattle.cache_store.specs.declared.fault.Verdict.{Verdict}
 use Rattle.cache_store.specs.declared.fault.Verdict.TheVariants as outcome
 use Rattle.cache_store.specs.declared.fault.StoreFault.{StoreFault}
+use Rattle.cache_store.specs.declared.fault.StoreFault.TheVariants as fault
+use Rattle.cache_store.specs.declared.pending.Pending.{Pending}
 use Rattle.cache_theory.specs.Command.{Command, Reply}
 use Rattle.cache_theory.specs.Command.Reply.{Findings, Refused, Resumed}
 use Rattle.cache_theory.specs.Machine.{Machine}
@@ -18,20 +21,20 @@ use Rattle.file_handles.specs.Kept.{Kept}
 use Rattle.file_handles.specs.Stands.{Represents}
 
 -- what is still to be said
-abbrev pub rest_of : Answered → List ℕ
-rest_of answered.Done = line (codes "ok" ∷ [])
-rest_of answered.All = []
-rest_of answered.NoneThere = line (codes "none" ∷ [])
-rest_of answered.Yes = line (codes "yes" ∷ [])
-rest_of answered.No = line (codes "no" ∷ [])
-rest_of answered.Unknown = line (codes "unknown" ∷ [])
-rest_of answered.Ready = line (codes "ready" ∷ [])
-rest_of (answered.Updating names) = with_number (codes "updating") names
-rest_of (answered.Rebuilt records) = with_number (codes "rebuilt") records
-rest_of (answered.Cleared names) = with_number (codes "cleared") names
-rest_of answered.Resumed = []
-rest_of (answered.Checked findings) = findings_text findings
-rest_of (answered.Refused r) = line (refusal_words r)
+abbrev pub left_to_say : Answered → List ℕ
+left_to_say answered.Done = line (codes "ok" ∷ [])
+left_to_say answered.All = []
+left_to_say answered.NoneThere = line (codes "none" ∷ [])
+left_to_say answered.Yes = line (codes "yes" ∷ [])
+left_to_say answered.No = line (codes "no" ∷ [])
+left_to_say answered.Unknown = line (codes "unknown" ∷ [])
+left_to_say answered.Ready = line (codes "ready" ∷ [])
+left_to_say (answered.Updating names) = with_number (codes "updating") names
+left_to_say (answered.Rebuilt records) = with_number (codes "rebuilt") records
+left_to_say (answered.Cleared names) = with_number (codes "cleared") names
+left_to_say answered.Resumed = []
+left_to_say (answered.Checked findings) = findings_text findings
+left_to_say (answered.Refused r) = line (refusal_words r)
 
 -- whether a reply is a refusal, or says that something is wrong
 abbrev pub outcome_of : Reply → Verdict
@@ -62,7 +65,7 @@ IsReplyCut r before now = r ≢ Resumed → IsCut before now (reply_text r)
 -- this is the reply, as far as it was said, or it was cut
 pub record AnswersTo (r : Reply) (answer : Result Answered StoreFault)
     (before : Option (List ℕ)) (now : Saying) : Type 0 where
-  pub says : IfOk answer (λ a. SaysOf (reply_text r) (rest_of a) before now)
+  pub says : IfOk answer (λ a. SaysOf (reply_text r) (left_to_say a) before now)
   pub outcome : IfOk answer (λ a. outcome_in a ≡ outcome_of r)
   pub cut : OnErr answer (IsReplyCut r before now.taken)
 
@@ -87,3 +90,19 @@ SendsRest rest was now =
 abbrev pub CutsRest : List ℕ → Saying → Option (List ℕ) → Type 0
 CutsRest rest was now =
     (text : List ℕ) (before : Option (List ℕ)) → SaysOf text rest before was → IsCut before now text
+
+-- what a command answers is still to be said, unless all of it is: nothing of it is out or held, and it lists findings
+-- just where the command asks for them
+pub record IsStillToSay {S : Type 0} (c : Command) (answer : Result Answered StoreFault)
+    (before now : S) (reply : Pending) : Type 0 where
+  pub lists : IfOk answer (λ a. lists_findings a ≡ is_check c)
+  pub out : IfOk answer (λ a. a ≢ answered.All → now ≡ before)
+  pub held : IfOk answer (λ a. a ≢ answered.All → reply.held ≡ [])
+
+-- so it always is where the command is given no sink: no answer is said, and nothing is held that was not before
+pub record SaysNothing (c : Command) (answer : Result Answered StoreFault) (was now : Pending)
+    : Type 0 where
+  pub lists : IfOk answer (λ a. lists_findings a ≡ is_check c)
+  pub not_said : answer ≢ Ok answered.All
+  pub no_sink : answer ≢ Err fault.Sink
+  pub held : now.held ≡ was.held

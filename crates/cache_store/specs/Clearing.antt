@@ -1,7 +1,7 @@
 -- How the entries of an origin are cleared by the records in memory.
-use Rattle.std.specs.List.{AllByRecursion, IsDistinct, list_any}
+use Rattle.std.specs.List.{AllByRecursion, IsDistinct}
 use Rattle.std.specs.Prelude.{Bool, IfOk, IsSome, IsTrue, List, None, OnOk, Option, Result, Some, [], false, length, not, ℕ, ⊤, ◌==◌, ◌||◌, ◌≡◌}
-use Rattle.cache_base.specs.Names.{AreRising}
+use Rattle.cache_base.specs.Names.{AreRising, has_name}
 use Rattle.cache_base.specs.declared.name.Name.{Name}
 use Rattle.cache_store.specs.Evicting.{AreOthers, has_file}
 use Rattle.cache_store.specs.Open.{KeepsWhere, Represents, Tells}
@@ -48,7 +48,7 @@ pub record AreCleared (map : Known) (k : Kept) (origin : ℕ) (names : List Name
 
 -- an undoomed entry of the name is in use, or the name is among these
 abbrev pub is_user_or_among : Kept → List Name → Name → Bool
-is_user_or_among k names name = not (users_of k name == 0) || list_any (same_name name) names
+is_user_or_among k names name = not (users_of k name == 0) || has_name names name
 
 -- an undoomed entry of the name is in use, or a file stands under it
 abbrev pub is_used_or_stands : Kept → State → Name → Bool
@@ -64,8 +64,8 @@ pub record HoldsNames (now : Cache) (names : List Name) : Type 0 where
   pub distinct : IsDistinct same_name names
   pub held : AllByRecursion (IsHeld now) names
 
--- the records in memory after a clearing of the origin with this hash: those once the update has ended, without the records
--- of all that were cleared, whether a file stood there or not
+-- the records in memory after a clearing of the origin with this hash: those once the update has ended, without the
+-- records of all that were cleared, whether a file stood there or not
 abbrev pub LeavesUncleared : Session → ℕ → Known → Type 0
 LeavesUncleared before origin map =
     (m : Machine) → Represents before m
@@ -103,7 +103,8 @@ ClearsByRecords origin answer before after =
     → (records : List IndexRecord) × (GoesBy before h.machine records
     × ClearsNames crash (covered_by records h.machine origin) h answer before after)
 
--- the index in memory after a clearing is resumed, where this is the origin of the mark that stood: as before where none did
+-- the index in memory after a clearing is resumed, where this is the origin of the mark that stood: as before where
+-- none did
 abbrev pub LeavesResumed : Option ℕ → Session → MemoryIndex → Type 0
 LeavesResumed None before index = index ≡ before.open_store.index
 LeavesResumed (Some origin) before index = LeavesUncleared before origin index.map

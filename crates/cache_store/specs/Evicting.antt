@@ -1,6 +1,7 @@
 -- How entries are evicted by the records in memory.
 use Rattle.std.specs.List.{AllByRecursion, IsDistinct}
 use Rattle.std.specs.Prelude.{Bool, IsSome, IsTrue, List, None, Result, false, filter, if◌then◌else◌, is_some, true, ℕ, ⊤, ◌≡◌, ◌⊎◌}
+use Rattle.cache_base.specs.Names.{has_name}
 use Rattle.cache_base.specs.declared.name.Name.{Name}
 use Rattle.cache_store.specs.Open.{Represents}
 use Rattle.cache_store.specs.Records.{AreAtEnd}
@@ -17,7 +18,7 @@ use Rattle.disk_model.specs.State.{State, standing}
 use Rattle.disk_model.specs.declared.disk.Disk.{Ghosts}
 use Rattle.disk_model.specs.declared.disk.DiskFault.{DiskFault}
 use Rattle.disk_model.specs.declared.place.Place.TheVariants.{Entry}
-use Rattle.evictor.specs.Evict.{has_name, victims}
+use Rattle.evictor.specs.Evict.{victims}
 use Rattle.file_handles.specs.Cache.{Cache}
 use Rattle.file_handles.specs.Kept.{Kept}
 use Rattle.file_handles.specs.Stands.{KeepsWhere, ReachesHistory, RepresentsSome}
@@ -87,8 +88,9 @@ abbrev pub IsEviction : Command → Type 0
 IsEviction (Evict kb) = ⊤
 IsEviction _ = ⊥
 
--- every look at the disk, the list of its files too, stands before the first change: where the disk failed, it holds the
--- same as before, or its last call was a change that failed. Memory may run out later, in a removal or with the reply
+-- every look at the disk, the list of its files too, stands before the first change: where the disk failed, it holds
+-- the same as before, or its last call was a change that failed. Memory may run out later, in a removal or with the
+-- reply
 abbrev pub LooksBeforeChanges : {Self : _} → Ghosts Self → Ending → Self → Self → Type 0
 LooksBeforeChanges D answer before now =
     answer ≡ Ending.OneFailed → IsTrue D.tells

@@ -11,6 +11,7 @@ use Rattle.cache_theory.specs.Machine.{Machine}
 use Rattle.disk_model.specs.Image.{Files}
 use Rattle.disk_model.specs.State.{State, standing}
 use Rattle.disk_model.specs.declared.place.Place.TheVariants.{Index, Log}
+use Rattle.index_file.specs.Index.{header_size}
 use Rattle.index_journal.specs.Journal.{JournalSpells}
 use Rattle.index_map.specs.Known.{IsKnown, Known, changed}
 use Rattle.index_record.specs.declared.record.IndexRecord.{IndexRecord}
@@ -23,9 +24,9 @@ use Rattle.record_list.specs.Change.{IsDiff}
 use Rattle.record_list.specs.Lists.{record_at}
 use Rattle.startup_read.specs.Closing.{ClosesIndex}
 
--- an index past its header of 16 bytes
+-- an index past its header
 abbrev pub past_header : Option (List ℕ) → Option (List ℕ)
-past_header file = option_map (drop 16) file
+past_header file = option_map (drop header_size) file
 
 -- an index stands, and few records differ from it, where the map is as all maps are
 pub record HasFewChanges (map : Known) : Type 0 where
@@ -80,8 +81,8 @@ pub record ClosesInUse (index : MemoryIndex) (s t : State) : Type 0 where
   pub in_use : index.update ≡ [] → HasFewChanges index.map
       → StaysInUse index.map.base index.map.records s t
 
--- once the update has ended: the index was written if that was due, with all records and this timestamp; then the journal
--- and the flag
+-- once the update has ended: the index was written if that was due, with all records and this timestamp; then the
+-- journal and the flag
 pub record ClosesWhole (index : MemoryIndex) (now : ℕ) (s t : State) : Type 0 where
   pub whole : index.update ≡ [] → (u : State) × (LeavesIndex s u × ClosesIndex index.map now u t)
 

@@ -68,8 +68,8 @@ OnlyLooks Verify = ⊤
 OnlyLooks Dump = ⊤
 OnlyLooks _ = ⊥
 
--- one that syncs nothing, by what the handles keep: each but a `finish`, the closing of a slot whose entry is not finished,
--- a `clear`, also one that is resumed, a `flush` and a `rebuild`
+-- one that syncs nothing, by what the handles keep: each but a `finish`, the closing of a slot whose entry is not
+-- finished, a `clear`, also one that is resumed, a `flush` and a `rebuild`
 abbrev pub NeverSyncs : Kept → Command → Type 0
 NeverSyncs k (Finish s) = ⊥
 NeverSyncs k (FinishAs s header elements) = ⊥

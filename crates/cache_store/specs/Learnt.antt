@@ -1,6 +1,6 @@
 -- What is learnt of a call of the handles.
 use Rattle.std.specs.Prelude.{Err, None, Ok, OnOk, Option, Result, Some, ◌≡◌, ◌≢◌}
-use Rattle.cache_store.specs.Records.{Learns}
+use Rattle.cache_store.specs.Records.{LearnsEffect}
 use Rattle.cache_store.specs.Replied.{replied}
 use Rattle.cache_store.specs.declared.answered.Answered.{Answered}
 use Rattle.cache_store.specs.declared.answered.Answered.TheVariants as answered
@@ -27,6 +27,6 @@ effect_of_some (Err f) = effect.Same
 pub record IsLearnt (reply : Option Reply) (e : Effect) (answer : Result Answered StoreFault)
     (old new : MemoryIndex) : Type 0 where
   pub is_reply : OnOk answer (replied answer ≡ reply)
-  pub learns : OnOk answer (Learns e old new)
+  pub learns : OnOk answer (LearnsEffect e old new)
   pub not_said : answer ≢ Ok answered.All
   pub no_sink : answer ≢ Err fault.Sink

@@ -3,7 +3,7 @@ use Rattle.std.specs.Io.KnownBytes.{Appends}
 use Rattle.std.specs.Prelude.{Err, IfOk, IsTrue, List, Ok, OnErr, OnOk, Option, Result, ℕ, ◌≡◌, ◌≢◌}
 use Rattle.cache_store.specs.Faulting.{StaysAs}
 use Rattle.cache_store.specs.Said.{IsCut}
-use Rattle.cache_store.specs.Session.{session}
+use Rattle.cache_store.specs.Session.{open_of, session}
 use Rattle.cache_store.specs.declared.fault.Outcome.{Outcome}
 use Rattle.cache_store.specs.declared.fault.Outcome.TheVariants as outcome
 use Rattle.cache_store.specs.declared.fault.StoreFault.{StoreFault}
@@ -35,6 +35,6 @@ pub record Faults {Self : _} (D : Ghosts Self) (answer : Result Outcome StoreFau
   pub no_disk : answer ≢ Err fault.Disk
   pub looked : Looks D Ending.OneFailed before now
   pub stays : IsTrue D.tells → StaysAs (session D old before) (session D new now)
-  pub base : SameBase old.index.map new.index.map
+  pub base : SameBase (open_of old).index.map (open_of new).index.map
   pub printed : OnOk answer (Appends taken later fault_line)
   pub cut : OnErr answer (IsCut taken later fault_line)

@@ -36,8 +36,8 @@ goes_by_records _ = false
 abbrev pub ComesToTell : Command → Session → Machine → Type 0
 ComesToTell c now m = Tells now m ⊎ (c ≡ Rebuild)
 
--- an eviction, a clearing, a check or a list goes by these records: those in memory once the update has ended, which are those of all
--- entries where they were right
+-- an eviction, a clearing, a check or a list goes by these records: those in memory once the update has ended, which
+-- are those of all entries where they were right
 pub record GoesBy (before : Session) (m : Machine) (records : List IndexRecord) : Type 0 where
   pub in_memory : AreAtEnd (entries_on before.disk) before.open_store.index records
   pub right : AreOfShelf (Tells before m) m records
@@ -70,10 +70,10 @@ pub record Performs (c : Command) (m : Machine) (answer : Result Verdict StoreFa
   pub tells : HadEffect answer → ComesToTell c before m → Tells after (step m c).next
 
 -- for a history: what the disk keeps
-pub record Keeps (c : Command) (h : History) (answer : Result Verdict StoreFault)
+pub record KeepsHistory (c : Command) (h : History) (answer : Result Verdict StoreFault)
     (after : Session) : Type 0 where
-  -- at every exit a crash loses no more than the marks of the begun command allow, and once it has had its effect no more
-  -- than those of the acknowledged one
+  -- at every exit a crash loses no more than the marks of the begun command allow, and once it has had its effect no
+  -- more than those of the acknowledged one
   pub crash : IsCrashSafe after.disk (begun c h).marks
   pub acked_crash : HadEffect answer → IsCrashSafe after.disk (acked c h).marks
   -- and so it stays, whatever the next commands change
@@ -88,7 +88,7 @@ pub record Keeps (c : Command) (h : History) (answer : Result Verdict StoreFault
 pub record PerformsAndKeeps (c : Command) (h : History) (answer : Result Verdict StoreFault)
     (before after : Session) (taken now : Option (List ℕ)) : Type 0 where
   pub performs : Performs c h.machine answer before after taken now
-  pub keeps : Keeps c h answer after
+  pub keeps : KeepsHistory c h answer after
 
 -- whatever machine the store stands for, and whatever history the disk keeps to
 pub record PerformsFor (c : Command) (answer : Result Verdict StoreFault) (before after : Session)
@@ -118,7 +118,7 @@ AchievesWhatIsDone c answer before after =
     → DoneInMemory before c h.machine (λ d. Achieves crash d h answer before after)
 
 -- for a history: what the command does before its reply is out whole, with and without a crash
-pub record Does (crash : Bool) (c : Command) (h : History) (answer : Result Answered StoreFault)
+pub record DoesCommand (crash : Bool) (c : Command) (h : History) (answer : Result Answered StoreFault)
     (before after : Session) (taken : Option (List ℕ)) (now : Saying) : Type 0 where
   pub safe : IsTrue crash → IsSafe after.disk (begun c h).marks
   pub answers : AnswersTo (step h.machine c).reply answer taken now
@@ -130,11 +130,11 @@ pub record Does (crash : Bool) (c : Command) (h : History) (answer : Result Answ
 abbrev pub DoesFor : Command → Result Answered StoreFault → Session → Session
     → Option (List ℕ) → Saying → Type 0
 DoesFor c answer before after taken now =
-    (crash : Bool) (h : History) → KeepsWhere crash before h → Does crash c h answer before after taken now
+    (crash : Bool) (h : History) → KeepsWhere crash before h → DoesCommand crash c h answer before after taken now
 
 -- the same of what is done for the command
 abbrev pub DoesWhatIsDone : Command → Result Answered StoreFault → Session → Session
     → Option (List ℕ) → Saying → Type 0
 DoesWhatIsDone c answer before after taken now =
     (crash : Bool) (h : History) → KeepsWhere crash before h
-    → DoneInMemory before c h.machine (λ d. Does crash d h answer before after taken now)
+    → DoneInMemory before c h.machine (λ d. DoesCommand crash d h answer before after taken now)

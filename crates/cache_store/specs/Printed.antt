@@ -55,11 +55,12 @@ abbrev pub PrintsFindings : Option (List ℕ) → Option (List ℕ) → Type 0
 PrintsFindings before now =
     (first : Finding) × ((more : List Finding) × Appends before now (findings_text (first ∷ more)))
 
--- whether an answer lists findings, and whether a command asks for them
+-- whether an answer lists findings
 abbrev pub lists_findings : Answered → Bool
 lists_findings (answered.Checked findings) = true
 lists_findings _ = false
 
+-- whether a command asks for findings
 abbrev pub is_check : Command → Bool
 is_check Verify = true
 is_check _ = false

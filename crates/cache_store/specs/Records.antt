@@ -47,7 +47,7 @@ pub record TakenOff (name : Name) (map : Known) (names : List Name) (new : Memor
       → TellsOf es new
 
 -- this is learnt: the name leaves the rest, and the records go on to tell of the entries
-pub record Learns (e : Effect) (old new : MemoryIndex) : Type 0 where
+pub record LearnsEffect (e : Effect) (old new : MemoryIndex) : Type 0 where
   pub rest : name_bytes new.update ≡ rest_once e (name_bytes old.update)
   pub base : SameBase old.map new.map
   pub tells : (before now : Entries) → ScanChanges e before now → TellsOf before old → TellsOf now new

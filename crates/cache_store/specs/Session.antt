@@ -1,5 +1,5 @@
 -- A store that is open, over its disk.
-use Rattle.std.specs.Prelude.{ℕ}
+use Rattle.std.specs.Prelude.{Bool, ℕ}
 use Rattle.cache_store.specs.declared.memory_index.MemoryIndex.{MemoryIndex}
 use Rattle.cache_store.specs.declared.store.Store.{Store}
 use Rattle.disk_model.specs.State.{State}
@@ -17,6 +17,10 @@ pub record Open : Type 0 where
 abbrev pub open_of : Store → Open
 open_of store =
     record { handles = kept store.handles; moment = store.moment; index = store.index }
+
+-- whether its last command ended in a look at the disk that failed before anything of the reply was out
+abbrev pub is_faulting : Store → Bool
+is_faulting store = store.faulting
 
 -- a store that is open, and the disk under it
 pub record Session : Type 0 where

@@ -47,8 +47,8 @@ pub data IsLeftByClearing (s : State) (origin : ℕ) (names : List Name) (image 
   Marked : image Clear ≡ Some (mark_bytes origin) → IsLeftByClearing s origin names image
   Whole : HasNoneOf s names image → IsLeftByClearing s origin names image
 
--- so it is in each image, for the names that are cleared by the records once the update has ended; the origin is given by
--- its hash
+-- so it is in each image, for the names that are cleared by the records once the update has ended; the origin is
+-- given by its hash
 abbrev pub ClearsUnderMark : ℕ → Session → State → Type 0
 ClearsUnderMark origin before t = (m : Machine) → Represents before m
     → (records : List IndexRecord)
@@ -72,8 +72,8 @@ StoppedClearingIsNoneOrAll = (origin : List ℕ) (before : Session) (t : State) 
     → KeepsTo before h → Tells before h.machine → ClearsUnderMark (value_hash origin) before t
     → (image : Files) → IsImage t image → IsNoneOrAll (value_hash origin) before.disk h.marks image
 
--- the machine finds under each key what a crash could leave before; or no version of the origin with this hash that is not
--- pinned
+-- the machine finds under each key what a crash could leave before; or no version of the origin with this hash that
+-- is not pinned
 pub data FindsNoneOrAll (origin : ℕ) (s : State) (w : Marks) (m : Machine) : Type 0 where
   AllAsBefore : (before : Files) → IsLeft s w before
       → ((key : List ℕ) → found (get m.shelf) key ≡ found (entries before) key)
@@ -85,8 +85,8 @@ pub data FindsNoneOrAll (origin : ℕ) (s : State) (w : Marks) (m : Machine) : T
 abbrev pub LeavesNoMark : State → Type 0
 LeavesNoMark s = (image : Files) → IsImage s image → mark_of (image Clear) ≡ None
 
--- so it is after an opening of what a stop in a clearing leaves, once the clearing is resumed, where no mark could stand
--- before
+-- so it is after an opening of what a stop in a clearing leaves, once the clearing is resumed, where no mark could
+-- stand before
 abbrev pub ResumedClearingIsNoneOrAll : Type 0
 ResumedClearingIsNoneOrAll = (origin : List ℕ) (before : Session) (t : State) (h : History)
     → KeepsTo before h → Tells before h.machine → ClearsUnderMark (value_hash origin) before t → LeavesNoMark before.disk

@@ -2,14 +2,14 @@
 
 ghost use Rattle.std.specs.BTreeSet.{contains};
 ghost use Rattle.std.specs.Prelude.{◌≡◌, ◌≢◌, ◌||◌, Err, false, true, IfOk, IsTrue, Ok, OnErr, OnOk, filter, length, map};
-ghost use Rattle.cache_base.specs.Names.{AreRising, name_cmp};
+ghost use Rattle.cache_base.specs.Names.{AreRising, has_name as has_name_of, name_cmp};
 ghost use Rattle.cache_base.specs.declared.name.Name.{Name as AName};
+ghost use Rattle.cache_store.specs.Answering.{SaysNothing};
 ghost use Rattle.cache_store.specs.Clearing.{AreCleared, ClearsByRecords, HasNoMark, HoldsNames, LeavesUncleared, is_used_or_stands, is_user_or_among};
 ghost use Rattle.cache_store.specs.Evicting.{DoomsAll};
 ghost use Rattle.cache_store.specs.Faulting.{is_refusal, of_handles};
 ghost use Rattle.cache_store.specs.Faults.{ending, of_disk};
 ghost use Rattle.cache_store.specs.IndexCalls.{LooksAtNames};
-ghost use Rattle.cache_store.specs.Printed.{lists_findings};
 ghost use Rattle.cache_store.specs.StoppedClearing.{ClearsUnderMark};
 ghost use Rattle.cache_theory.specs.Command.Command.{ClearOrigin};
 ghost use Rattle.cache_theory.specs.Covers.{joined_names};
@@ -18,7 +18,6 @@ ghost use Rattle.disk_model.specs.Account.{Accounts, Ending, FailsInChange, Look
 ghost use Rattle.disk_model.specs.Sound.{IsQuiet};
 ghost use Rattle.disk_model.specs.Told.{Told};
 ghost use Rattle.entry_key.specs.Tags.{value_hash};
-ghost use Rattle.evictor.specs.Evict.{has_name};
 ghost use Rattle.file_handles.specs.Cache.{cache};
 ghost use Rattle.file_handles.specs.Dooming.{LeavesMark, TakesEntries};
 ghost use Rattle.file_handles.specs.HeldChunks.{SameChunks};
@@ -28,14 +27,13 @@ ghost use Rattle.index_theory.specs.Leaves.{LeavesBeside, LeavesIndex};
 
 use crate::StoreFault;
 use crate::answered::Answered;
-use crate::evict::is_among;
 use crate::faulting::look_fault;
 use crate::store::Store;
-use cache_base::{Name, Names, NoMemory};
+use cache_base::{Name, Names, NoMemory, has_name, listed, name_set};
 use context_clear::{end as end_clearing, store as store_mark};
 use disk_model::{Disk, DiskFault};
 use entry_key::hash_of_origin;
-use file_handles::{HandleFault, Handles, listed};
+use file_handles::{HandleFault, Handles};
 use index_record::{IndexRecord, is_pinned};
 use std::alloc::Global;
 use std::collections::BTreeSet;
@@ -67,7 +65,7 @@ fn covered_names(alloc: Global, records: &[IndexRecord], origin: u64) -> Result<
 // Adds names to a set.
 fn add_all(set: &mut BTreeSet<Name>, names: &[Name]) -> Result<(), NoMemory>
     ensures { OnOk result ((q : AName) → contains name_cmp set.new q
-        ≡ (contains name_cmp set.old q || has_name names.now q)) }
+        ≡ (contains name_cmp set.old q || has_name_of names.now q)) }
 {
     for name in names {
         set.insert(*name)?;
@@ -81,8 +79,7 @@ fn joined(alloc: Global, first: &[Name], second: &[Name]) -> Result<Names, NoMem
         ≡ joined_names (map (λ n. n.0) first.now) (map (λ n. n.0) second.now)) }
     ensures rising { IfOk result AreRising }
 {
-    let mut set = BTreeSet::new(alloc);
-    add_all(&mut set, first)?;
+    let mut set = name_set(alloc, first)?;
     add_all(&mut set, second)?;
     listed(alloc, set)
 }
@@ -92,7 +89,7 @@ fn is_held(handles: &Handles, rising: &[Name], name: &Name) -> bool
     requires { AreRising rising.now }
     ensures { result ≡ is_user_or_among (kept handles.now) rising.now name.now }
 {
-    handles.users(name) != 0 || is_among(rising, name)
+    handles.users(name) != 0 || has_name(rising, name)
 }
 
 // Those of the names that an entry in use has, or that are among rising ones, in their order.
@@ -183,9 +180,10 @@ impl Store {
         joined(alloc, in_use.as_slice(), there.as_slice())
     }
 
-    /// Ends the update, and dooms the entries of the origin with this hash that are not pinned, those in use and those that
-    /// have a record; tells how many names they had. The names are gathered and the folder is listed before anything is
-    /// changed. From before the first entry goes until all are gone and synced the mark of the origin stands on the disk.
+    /// Ends the update, and dooms the entries of the origin with this hash that are not pinned, those in use and
+    /// those that have a record; tells how many names they had. The names are gathered and the folder is listed
+    /// before anything is changed. From before the first entry goes until all are gone and synced the mark of the
+    /// origin stands on the disk.
     pub(crate) fn clear_origin<D: Disk>(
         &mut self,
         alloc: Global,
@@ -260,10 +258,7 @@ impl Store {
         ensures quiet { OnOk result (IsTrue D.tells → IsQuiet (D.state disk.new)) }
         ensures unmarked { OnOk result (IsTrue D.tells → HasNoMark (D.state disk.new)) }
         ensures chunks { SameChunks (kept self.old.handles) (kept self.new.handles) }
-        ensures unlisted { IfOk result (λ a. lists_findings a ≡ false) }
-        ensures not_said { result ≢ Ok Answered.All }
-        ensures no_sink { result ≢ Err StoreFault.Sink }
-        ensures held { self.new.reply.held ≡ self.old.reply.held }
+        ensures unsaid { SaysNothing (ClearOrigin origin.now) result self.old.reply self.new.reply }
         ensures names { LooksAtNames D.Disk (length self.old.index.update) disk.old disk.new }
         ensures faulted { self.new.faulting ≡ true → result ≡ Err StoreFault.Disk }
         ensures looked { self.new.faulting ≡ true →

@@ -1,18 +1,17 @@
 //! Performs one command, and writes its reply.
 
-ghost use Rattle.std.specs.Prelude.{List, ℕ, ◌≡◌, ◌≢◌, ◌<◌, [], Err, Ok, true, false, IfOk, IfSome, IsErrOf, IsSome, IsTrue, None, OnErr, OnOk, codes};
+ghost use Rattle.std.specs.Prelude.{List, ℕ, ◌≡◌, ◌≢◌, ◌<◌, [], Err, Ok, true, false, IfOk, IfSome, IsSome, IsTrue, None, OnErr, OnOk, codes};
 ghost use Rattle.std.specs.Io.KnownBytes.{Appends};
-ghost use Rattle.cache_base.specs.Causes.{HasCause};
 ghost use Rattle.cache_base.specs.declared.limits.TheConstants.{SLOTS};
 ghost use Rattle.cache_script.specs.Command.{command_of};
-ghost use Rattle.cache_store.specs.Answering.{outcome_in, rest_of};
+ghost use Rattle.cache_store.specs.Answering.{outcome_in, left_to_say};
 ghost use Rattle.cache_store.specs.Clearing.{HasNoMark, IsClearing, LeavesResumed, LeavesUncleared, origin_cleared};
 ghost use Rattle.cache_store.specs.Evicting.{IsEviction, LeavesOthers, LooksBeforeChanges};
 ghost use Rattle.cache_store.specs.Faulting.{FailsForGood, LooksAtNothing, StaysAs};
-ghost use Rattle.cache_store.specs.Faults.{ending};
+ghost use Rattle.cache_store.specs.Faults.{AccountsForSink, OnlySinkFails, ending};
 ghost use Rattle.cache_store.specs.IndexCalls.{Flushes, IsFresh, IsWritten, LooksAtNames, LooksOnceAt, MakesNoCall, NeverSyncs, OnlyLooks, Rebuilds, SyncsAll, names_read};
 ghost use Rattle.cache_store.specs.InUse.{SparesIndex};
-ghost use Rattle.cache_store.specs.Printed.{HasBadKey, IsPlain, Prints, is_check, is_plain, lists_findings};
+ghost use Rattle.cache_store.specs.Printed.{HasBadKey, IsPlain, Prints, is_plain};
 ghost use Rattle.cache_store.specs.Reads.{AreHeld, LastIsFirst, LeavesChunks};
 ghost use Rattle.cache_store.specs.Said.{IsCut, saying};
 ghost use Rattle.cache_store.specs.Saying.{CutsIn, SaysMore, TakesMore};
@@ -56,9 +55,7 @@ fn say_value<K: Sink>(
         OnOk result (SaysMore (at reply.old sink.old) (at reply.new sink.new) text) }
     ensures cut { let at = saying K.Sink in let text = with_bytes (codes "value") value.now in
         OnErr result (CutsIn (at reply.old sink.old) (K.taken sink.new) text) }
-    ensures no_disk { result ≢ Err StoreFault.Disk }
-    ensures sink { let failed = IsErrOf result StoreFault.Sink in
-        HasCause failed (K.faults sink.old) (K.faults sink.new) }
+    ensures sink { OnlySinkFails K.Sink result sink.old sink.new }
 {
     let head = counted(alloc, b"value", value.len() as u64)?;
     reply.put(sink, head.as_slice())?;
@@ -74,9 +71,7 @@ fn say_ok<K: Sink>(reply: &mut Pending, sink: &mut K, line: &[u8]) -> Result<Ver
     ensures cut { let at = saying K.Sink in
         OnErr result (CutsIn (at reply.old sink.old) (K.taken sink.new) line.now) }
     ensures outcome { IfOk result (λ o. o ≡ Verdict.Ok) }
-    ensures no_disk { result ≢ Err StoreFault.Disk }
-    ensures sink { let failed = IsErrOf result StoreFault.Sink in
-        HasCause failed (K.faults sink.old) (K.faults sink.new) }
+    ensures sink { OnlySinkFails K.Sink result sink.old sink.new }
 {
     reply.put(sink, line)?;
     Ok(Verdict::Ok)
@@ -90,15 +85,14 @@ fn say_rest<K: Sink>(
     sink: &mut K,
 ) -> Result<Verdict, StoreFault>
     ensures says { let at = saying K.Sink in
-        OnOk result (SaysMore (at reply.old sink.old) (at reply.new sink.new) (rest_of answered)) }
+        OnOk result
+        (SaysMore (at reply.old sink.old) (at reply.new sink.new) (left_to_say answered)) }
     ensures cut { let at = saying K.Sink in
-        OnErr result (CutsIn (at reply.old sink.old) (K.taken sink.new) (rest_of answered)) }
+        OnErr result (CutsIn (at reply.old sink.old) (K.taken sink.new) (left_to_say answered)) }
     ensures outcome { IfOk result (λ o. o ≡ outcome_in answered) }
     ensures resumed { answered ≡ Answered.Resumed →
         (result ≡ Ok Verdict.Ok) × ((reply.new ≡ reply.old) × (sink.new ≡ sink.old)) }
-    ensures no_disk { result ≢ Err StoreFault.Disk }
-    ensures sink { let failed = IsErrOf result StoreFault.Sink in
-        HasCause failed (K.faults sink.old) (K.faults sink.new) }
+    ensures sink { OnlySinkFails K.Sink result sink.old sink.new }
 {
     match answered {
         Answered::All => Ok(Verdict::Ok),
@@ -132,11 +126,11 @@ fn say_rest<K: Sink>(
 }
 
 impl Store {
-    ghost use Rattle.cache_store.specs.Answering.{AnswersOver, CutsRest, SendsRest};
+    ghost use Rattle.cache_store.specs.Answering.{AnswersOver, CutsRest, IsStillToSay, SendsRest};
     ghost use Rattle.cache_store.specs.InMemory.{AnswersInMemory, CutsPlainLine, RepliesInMemory};
     ghost use Rattle.cache_store.specs.Open.{IsOpen, LeavesOpen};
     ghost use Rattle.cache_store.specs.Performing.{DoesWhatIsDone, HadEffect, PerformsFor};
-    ghost use Rattle.cache_store.specs.Session.{open_of, session};
+    ghost use Rattle.cache_store.specs.Session.{cache_of, is_faulting, open_of, session};
     ghost use Rattle.cache_store.specs.StoppedClearing.{ClearsUnderMark};
     ghost use Rattle.cache_store.specs.Verifying.{IsFoundIn, PrintsFound};
     ghost use Rattle.file_handles.specs.Cache.{cache};
@@ -154,15 +148,11 @@ impl Store {
         requires empty { self.old.reply.held ≡ [] }
         ensures answers { AnswersOver (kept self.old.handles) (ElementOf slot name.now) result
             (K.taken sink.old) (saying K.Sink self.new.reply sink.new) }
-        ensures unlisted { IfOk result (λ a. lists_findings a ≡ false) }
-        ensures unsaid { IfOk result (λ a. a ≢ Answered.All → sink.new ≡ sink.old) }
-        ensures still_empty { IfOk result (λ a.
-            a ≢ Answered.All → self.new.reply.held ≡ []) }
+        ensures unsaid { IsStillToSay (ElementOf slot name.now) result
+            sink.old sink.new self.new.reply }
         ensures open { open_of self.new ≡ open_of self.old }
         ensures calm { self.new.faulting ≡ self.old.faulting }
-        ensures no_disk { result ≢ Err StoreFault.Disk }
-        ensures sink { let failed = IsErrOf result StoreFault.Sink in
-            HasCause failed (K.faults sink.old) (K.faults sink.new) }
+        ensures sink { OnlySinkFails K.Sink result sink.old sink.new }
     {
         match self.handles.element(slot, name) {
             Ok(Some(value)) => {
@@ -190,7 +180,8 @@ impl Store {
             DoesWhatIsDone (command_of c.now) result (at self.old disk.old) (at self.new disk.new)
             (K.taken sink.old) (saying K.Sink self.new.reply sink.new) }
         ensures plain { IfOk result (λ a. is_plain (command_of c.now) ≡ true → IsPlain a) }
-        ensures lists { IfOk result (λ a. lists_findings a ≡ is_check (command_of c.now)) }
+        ensures unsaid { IsStillToSay (command_of c.now) result
+            sink.old sink.new self.new.reply }
         ensures found { command_of c.now ≡ Verify → IfOk result (λ a. IsTrue D.tells →
             IsFoundIn (session D.Disk self.old disk.old) self.new.index.map a) }
         ensures bad_key { HasBadKey (command_of c.now) → result ≢ Ok Answered.Done }
@@ -198,9 +189,6 @@ impl Store {
             AnswersInMemory (open_of self.old) (command_of c.now) result
             (K.taken sink.old) (saying K.Sink self.new.reply sink.new) }
         ensures plainly { is_plain (command_of c.now) ≡ true → sink.new ≡ sink.old }
-        ensures unsaid { IfOk result (λ a. a ≢ Answered.All → sink.new ≡ sink.old) }
-        ensures still_empty { IfOk result (λ a.
-            a ≢ Answered.All → self.new.reply.held ≡ []) }
         ensures wordless { command_of c.now ≡ Resume → (sink.new ≡ sink.old)
             × ((result ≢ Err StoreFault.Sink) × IfOk result (λ a. a ≡ Answered.Resumed)) }
         ensures grows { IsTrue D.tells → TakesMore (K.taken sink.old) (K.taken sink.new) }
@@ -246,8 +234,8 @@ impl Store {
             Told D.Disk (Flushes self.old.index self.old.moment) disk.old disk.new }
         ensures rebuilds { command_of c.now ≡ Rebuild → HadEffect result →
             Told D.Disk (Rebuilds self.new.index.map self.old.moment) disk.old disk.new }
-        // Where a look failed before anything was said, all is as before. Where the disk failed in another way, it was in a
-        // change or a sync, or the reply is out up to its first chunk.
+        // Where a look failed before anything was said, all is as before. Where the disk failed in another way, it
+        // was in a change or a sync, or the reply is out up to its first chunk.
         ensures faulted { self.new.faulting ≡ true → result ≡ Err StoreFault.Disk }
         ensures looked { self.new.faulting ≡ true →
             Looks D.Disk Ending.OneFailed disk.old disk.new }
@@ -273,8 +261,7 @@ impl Store {
         ensures chunks { LeavesChunks (command_of c.now)
             (kept self.old.handles) (kept self.new.handles) }
         ensures account { Accounts D.Disk (ending result) disk.old disk.new }
-        ensures sink { let failed = IsErrOf result StoreFault.Sink in
-            HasCause failed (K.faults sink.old) (K.faults sink.new) }
+        ensures sink { AccountsForSink K.Sink result sink.old sink.new }
     {
         match *c {
             Command::At { now } => {
@@ -366,26 +353,24 @@ impl Store {
         sink: &mut K,
     ) -> Result<Verdict, StoreFault>
         ensures printed { let was = saying K.Sink self.old.reply sink.old in
-            OnOk result (SendsRest (rest_of answered) was (K.taken sink.new)) }
+            OnOk result (SendsRest (left_to_say answered) was (K.taken sink.new)) }
         ensures cut { let was = saying K.Sink self.old.reply sink.old in
-            OnErr result (CutsRest (rest_of answered) was (K.taken sink.new)) }
+            OnErr result (CutsRest (left_to_say answered) was (K.taken sink.new)) }
         ensures outcome { IfOk result (λ o. o ≡ outcome_in answered) }
         ensures resumed { answered ≡ Answered.Resumed → self.old.reply.held ≡ [] →
             (result ≡ Ok Verdict.Ok) × (sink.new ≡ sink.old) }
         ensures open { open_of self.new ≡ open_of self.old }
         ensures calm { self.new.faulting ≡ self.old.faulting }
-        ensures no_disk { result ≢ Err StoreFault.Disk }
-        ensures sink { let failed = IsErrOf result StoreFault.Sink in
-            HasCause failed (K.faults sink.old) (K.faults sink.new) }
+        ensures sink { OnlySinkFails K.Sink result sink.old sink.new }
     {
         let outcome = say_rest(alloc, answered, &mut self.reply, sink)?;
         self.reply.send(sink)?;
         Ok(outcome)
     }
 
-    /// Performs a command and writes its reply, which is out when the call returns. This is `command`, but that nothing is
-    /// said where a look at the disk fails: then `faulting` tells it, the answer is `Disk`, and whoever prints the reply may
-    /// say the line.
+    /// Performs a command and writes its reply, which is out when the call returns. This is `command`, but that
+    /// nothing is said where a look at the disk fails: then `faulting` tells it, the answer is `Disk`, and whoever
+    /// prints the reply may say the line.
     ///
     /// The reply to `verify` is what is wrong with the files that stand and the records in memory, and the verdict is
     /// `Refused` where that is anything. The replies to `has` and `list` are the machine's where the records are right:
@@ -409,7 +394,8 @@ impl Store {
         ensures prints { IfOk result (λ o.
             Prints (command_of c.now) o (K.taken sink.old) (K.taken sink.new)) }
         ensures verifies { command_of c.now ≡ Verify → OnOk result (IsTrue D.tells →
-            PrintsFound (session D.Disk self.old disk.old) self.new.index.map
+            let map = (open_of self.new).index.map in
+            PrintsFound (session D.Disk self.old disk.old) map
             (K.taken sink.old) (K.taken sink.new)) }
         ensures in_memory { MakesNoCall (command_of c.now) →
             RepliesInMemory (open_of self.old) (command_of c.now) result
@@ -423,25 +409,27 @@ impl Store {
         ensures open { IsTrue D.tells → LeavesOpen result (session D.Disk self.new disk.new) }
         ensures honest { IsTrue D.tells → LeavesHonest (D.state disk.new) }
 
-        // The files of the index: they are left alone and the base in memory stays, but by a `rebuild`, and by a `flush`
-        // where the update has ended and not few records differ. Where it has ended, a `flush` leaves an index with all
-        // records but for few; and a `rebuild` leaves one with all. After both nothing is pending.
-        ensures index { SparesIndex (command_of c.now) self.old.index →
+        // The files of the index: they are left alone and the base in memory stays, but by a `rebuild`, and by a
+        // `flush` where the update has ended and not few records differ. Where it has ended, a `flush` leaves an
+        // index with all records but for few; and a `rebuild` leaves one with all. After both nothing is pending.
+        ensures index { SparesIndex (command_of c.now) (open_of self.old).index →
             Told D.Disk LeavesIndex disk.old disk.new }
-        ensures base { SparesIndex (command_of c.now) self.old.index → HadEffect result →
-            SameBase self.old.index.map self.new.index.map }
+        ensures base { let was = (open_of self.old).index in let now = (open_of self.new).index in
+            SparesIndex (command_of c.now) was → HadEffect result → SameBase was.map now.map }
         ensures quiet { SyncsAll (command_of c.now) → HadEffect result →
             IsTrue D.tells → IsQuiet (D.state disk.new) }
-        ensures flushed { command_of c.now ≡ Flush → OnOk result
-            (self.new.index.update ≡ [] → IsFresh self.new.index.map) }
-        ensures rebuilt { command_of c.now ≡ Rebuild → OnOk result (IsWritten self.new.index.map) }
+        ensures flushed { let now = (open_of self.new).index in
+            command_of c.now ≡ Flush → OnOk result (now.update ≡ [] → IsFresh now.map) }
+        ensures rebuilt { command_of c.now ≡ Rebuild →
+            OnOk result (IsWritten (open_of self.new).index.map) }
         ensures evicts { (kb : ℕ) → command_of c.now ≡ Evict kb →
             HadEffect result → IsTrue D.tells →
-            LeavesOthers (session D.Disk self.old disk.old) kb self.new.index.map }
+            LeavesOthers (session D.Disk self.old disk.old) kb (open_of self.new).index.map }
         ensures clears { IfSome
             (origin_cleared (command_of c.now) (standing (D.state disk.old) Clear)) (λ origin.
             HadEffect result → IsTrue D.tells →
-            LeavesUncleared (session D.Disk self.old disk.old) origin self.new.index.map) }
+            let map = (open_of self.new).index.map in
+            LeavesUncleared (session D.Disk self.old disk.old) origin map) }
         ensures unmarked { IsClearing (command_of c.now) → HadEffect result →
             IsTrue D.tells → HasNoMark (D.state disk.new) }
         ensures stopped { IfSome
@@ -450,60 +438,63 @@ impl Store {
             ClearsUnderMark origin (session D.Disk self.old disk.old) (D.state disk.new)) }
         ensures resumes { command_of c.now ≡ Resume → HadEffect result → IsTrue D.tells →
             let mark = mark_of (standing (D.state disk.old) Clear) in
-            LeavesResumed mark (session D.Disk self.old disk.old) self.new.index }
+            LeavesResumed mark (session D.Disk self.old disk.old) (open_of self.new).index }
         ensures synced { command_of c.now ≡ Resume → HadEffect result → IsTrue D.tells →
             IsSome (mark_of (standing (D.state disk.old) Clear)) → IsQuiet (D.state disk.new) }
         ensures flushes { command_of c.now ≡ Flush → HadEffect result →
-            Told D.Disk (Flushes self.old.index self.old.moment) disk.old disk.new }
+            let was = open_of self.old in
+            Told D.Disk (Flushes was.index was.moment) disk.old disk.new }
         ensures rebuilds { command_of c.now ≡ Rebuild → HadEffect result →
-            Told D.Disk (Rebuilds self.new.index.map self.old.moment) disk.old disk.new }
+            let map = (open_of self.new).index.map in
+            Told D.Disk (Rebuilds map (open_of self.old).moment) disk.old disk.new }
 
-        // A `read` makes no call of the disk where all its chunks are held. Afterwards its last one is the most recent. No
-        // other command drops a chunk, but a `close` those of its own entry.
+        // A `read` makes no call of the disk where all its chunks are held. Afterwards its last one is the most
+        // recent. No other command drops a chunk, but a `close` those of its own entry.
         ensures held { (slot from len : ℕ) → command_of c.now ≡ ReadPart slot from len →
-            AreHeld (kept self.old.handles) slot from len → disk.new ≡ disk.old }
+            AreHeld (open_of self.old).handles slot from len → disk.new ≡ disk.old }
         ensures recent { (slot from len : ℕ) → command_of c.now ≡ ReadPart slot from len →
             result ≡ Ok Verdict.Ok → IsTrue D.tells →
-            LastIsFirst (kept self.old.handles) slot from len (kept self.new.handles) }
-        ensures chunks { LeavesChunks (command_of c.now)
-            (kept self.old.handles) (kept self.new.handles) }
+            LastIsFirst (open_of self.old).handles slot from len (open_of self.new).handles }
+        ensures chunks { let was = open_of self.old in let now = open_of self.new in
+            LeavesChunks (command_of c.now) was.handles now.handles }
 
-        // Calls and faults. Some commands make no call of the disk, and some only look at it. A command that goes by the
-        // index looks at an entry for no name but those that it reads, and an eviction looks at the disk only before its
-        // first removal.
+        // Calls and faults. Some commands make no call of the disk, and some only look at it. A command that goes by
+        // the index looks at an entry for no name but those that it reads, and an eviction looks at the disk only
+        // before its first removal.
         ensures idle { MakesNoCall (command_of c.now) → disk.new ≡ disk.old }
         ensures looking { OnlyLooks (command_of c.now) →
             Looks D.Disk (ending result) disk.old disk.new }
-        ensures unsynced { NeverSyncs (kept self.old.handles) (command_of c.now) →
+        ensures unsynced { NeverSyncs (open_of self.old).handles (command_of c.now) →
             Told D.Disk SyncsNothing disk.old disk.new }
         ensures looks { let mark = mark_of (standing (D.state disk.old) Clear) in
-            IfSome (names_read (command_of c.now) mark self.old.index.update)
+            IfSome (names_read (command_of c.now) mark (open_of self.old).index.update)
             (λ names. LooksAtNames D.Disk names disk.old disk.new) }
         ensures looks_first { IsEviction (command_of c.now) →
             LooksBeforeChanges D.Disk (ending result) disk.old disk.new }
         ensures account { Accounts D.Disk (ending result) disk.old disk.new }
-        ensures sink { let failed = IsErrOf result StoreFault.Sink in
-            HasCause failed (K.faults sink.old) (K.faults sink.new) }
+        ensures sink { AccountsForSink K.Sink result sink.old sink.new }
 
-        // Where a look failed before anything of the reply was out, `faulting` tells it, and all is as it was. Where the disk
-        // failed in another way, it was in a change or a sync, as the last call, or the reply is out up to its first chunk.
-        // A command that makes no look never fails in one; and a clearing that is resumed ends the run, as an opening does.
-        ensures faulted { self.new.faulting ≡ true → result ≡ Err StoreFault.Disk }
-        ensures looked { self.new.faulting ≡ true →
+        // Where a look failed before anything of the reply was out, `faulting` tells it, and all is as it was. Where
+        // the disk failed in another way, it was in a change or a sync, as the last call, or the reply is out up to
+        // its first chunk. A command that makes no look never fails in one; and a clearing that is resumed ends the
+        // run, as an opening does.
+        ensures faulted { is_faulting self.new ≡ true → result ≡ Err StoreFault.Disk }
+        ensures looked { is_faulting self.new ≡ true →
             Looks D.Disk Ending.OneFailed disk.old disk.new }
-        ensures stays { let at = session D.Disk in self.new.faulting ≡ true → IsTrue D.tells →
+        ensures stays { let at = session D.Disk in is_faulting self.new ≡ true → IsTrue D.tells →
             StaysAs (at self.old disk.old) (at self.new disk.new) }
-        ensures same_base { self.new.faulting ≡ true →
-            SameBase self.old.index.map self.new.index.map }
-        ensures silent { self.new.faulting ≡ true → sink.new ≡ sink.old }
-        ensures fails { let at = cache D.Disk self.old.handles disk.old in
-            self.new.faulting ≡ false → command_of c.now ≢ Resume → result ≡ Err StoreFault.Disk →
-            IsTrue D.tells → FailsForGood (D.counts disk.new) (command_of c.now) at
+        ensures same_base { is_faulting self.new ≡ true →
+            SameBase (open_of self.old).index.map (open_of self.new).index.map }
+        ensures silent { is_faulting self.new ≡ true → sink.new ≡ sink.old }
+        ensures fails { let at = cache_of (session D.Disk self.old disk.old) in
+            is_faulting self.new ≡ false → command_of c.now ≢ Resume →
+            result ≡ Err StoreFault.Disk → IsTrue D.tells →
+            FailsForGood (D.counts disk.new) (command_of c.now) at
             (K.taken sink.old) (K.taken sink.new) }
-        ensures bare { LooksAtNothing (command_of c.now) → self.new.faulting ≡ false }
+        ensures bare { LooksAtNothing (command_of c.now) → is_faulting self.new ≡ false }
         ensures once { command_of c.now ≡ Resume → IsTrue D.tells →
             standing (D.state disk.old) Clear ≡ None → LooksOnceAt D.Disk Clear disk.old disk.new }
-        ensures ends { command_of c.now ≡ Resume → self.new.faulting ≡ false }
+        ensures ends { command_of c.now ≡ Resume → is_faulting self.new ≡ false }
     {
         self.reply.clear();
         self.faulting = false;
@@ -511,15 +502,14 @@ impl Store {
         self.finish_reply(alloc, answered, sink)
     }
 
-    /// Says the line `fault`, which is the reply to a command that ended in a failed look at the disk, as `faulting` tells.
+    /// Says the line `fault`, which is the reply to a command that ended in a failed look at the disk, as `faulting`
+    /// tells.
     pub fn say_fault<K: Sink>(&mut self, sink: &mut K) -> Result<(), StoreFault>
         ensures printed { OnOk result (Appends (K.taken sink.old) (K.taken sink.new) fault_line) }
         ensures cut { OnErr result (IsCut (K.taken sink.old) (K.taken sink.new) fault_line) }
         ensures open { open_of self.new ≡ open_of self.old }
-        ensures calm { self.new.faulting ≡ self.old.faulting }
-        ensures no_disk { result ≢ Err StoreFault.Disk }
-        ensures sink { let failed = IsErrOf result StoreFault.Sink in
-            HasCause failed (K.faults sink.old) (K.faults sink.new) }
+        ensures calm { is_faulting self.new ≡ is_faulting self.old }
+        ensures sink { OnlySinkFails K.Sink result sink.old sink.new }
     {
         self.reply.clear();
         self.reply.put(sink, b"fault\n")?;

@@ -1,17 +1,16 @@
 //! Says all entries as one stream, a dump.
 
-ghost use Rattle.std.specs.Prelude.{◌≡◌, ◌↔◌, ◌≢◌, ◌≤◌, ◌+◌, [], Err, false, true, IfOk, IfSome, IsErrOf, IsTrue, OnErr, OnOk};
-ghost use Rattle.cache_base.specs.Causes.{HasCause};
+ghost use Rattle.std.specs.Prelude.{◌≡◌, ◌↔◌, ◌≢◌, ◌≤◌, ◌+◌, [], Err, false, true, IfOk, IfSome, IsTrue, OnErr, OnOk};
 ghost use Rattle.cache_base.specs.Limits.{chunks as chunks_of};
 ghost use Rattle.cache_check.specs.Checks.{AllStand, files_of};
 ghost use Rattle.cache_export.specs.Dump.{back_bytes, front_bytes};
 ghost use Rattle.cache_export.specs.declared.limits.TheConstants.{DUMP_MAX};
 ghost use Rattle.cache_io.specs.Mem.{taken_in};
+ghost use Rattle.cache_store.specs.Answering.{IsStillToSay};
 ghost use Rattle.cache_store.specs.Dumping.{TakesTurn, item_length, item_with, items_from, may_dump_as, turn_at};
 ghost use Rattle.cache_store.specs.Faulting.{SendsFrontFor};
-ghost use Rattle.cache_store.specs.Faults.{ending};
+ghost use Rattle.cache_store.specs.Faults.{AccountsForSink, ending};
 ghost use Rattle.cache_store.specs.Prefix.{ForPrefix};
-ghost use Rattle.cache_store.specs.Printed.{lists_findings};
 ghost use Rattle.cache_store.specs.Said.{saying};
 ghost use Rattle.cache_store.specs.Saying.{SaysMore, StopsIn, TakesMore};
 ghost use Rattle.cache_theory.specs.Command.Command.{Dump};
@@ -28,7 +27,7 @@ ghost use Rattle.index_map.specs.Known.{SameBase};
 use crate::StoreFault;
 use crate::answered::Answered;
 use crate::faulting::look_fault;
-use crate::found_body::{Range, first_chunk, say_framed};
+use crate::found_body::{Frame, Range, first_chunk, say_framed};
 use crate::pending::Pending;
 use crate::store::Store;
 use cache_base::{BODY_MAX, Name, Names, NoMemory};
@@ -78,49 +77,62 @@ fn item_len(meta: &Meta) -> u64
     13 + meta.key.as_slice().len() as u64 + u64::from(meta.offset) + block_len(meta) as u64
 }
 
+// An entry that was found: its name, and its metadata.
+#[derive(Clone, Copy)]
+struct Found<'a> {
+    name: &'a Name,
+    meta: &'a Meta,
+}
+
+// A turn of a dump: the next name, and how long the dump is before it.
+#[derive(Clone, Copy)]
+struct Turn<'a> {
+    name: &'a Name,
+    used: u64,
+}
+
 // Says the item of an entry that was just found.
 fn say_item<D: Disk, K: Sink>(
     alloc: Global,
     disk: &mut D,
-    name: &Name,
-    meta: &Meta,
+    found: Found<'_>,
     handles: &mut Handles,
     reply: &mut Pending,
     sink: &mut K,
 ) -> Result<(), StoreFault>
-    requires key { may_write_in meta.now.key ≡ true }
-    requires held { IsTrue D.tells → IsLastOf (chunks_of meta.now.offset)
-        (standing (D.state disk.old) (Entry name.now)) meta.now.offset handles.old.chunk }
-    ensures said { let at = saying K.Sink in OnOk result (IsTrue D.tells →
-        ForPrefix (D.state disk.old) (Entry name.now) meta.now.offset (λ body.
-        SaysMore (at reply.old sink.old) (at reply.new sink.new) (item_with (meta_of meta.now) body))) }
-    ensures stops { let at = saying K.Sink in OnErr result (IsTrue D.tells →
-        ForPrefix (D.state disk.old) (Entry name.now) meta.now.offset (λ body.
-        StopsIn (at reply.old sink.old) (K.taken sink.new) (item_with (meta_of meta.now) body))) }
+    requires key { may_write_in found.meta.now.key ≡ true }
+    requires held { IsTrue D.tells → let len = found.meta.now.offset in
+        let file = standing (D.state disk.old) (Entry found.name.now) in
+        IsLastOf (chunks_of len) file len handles.old.chunk }
+    ensures said { let at = saying K.Sink in let meta = found.entry.meta.now in
+        OnOk result (IsTrue D.tells →
+        ForPrefix (D.state disk.old) (Entry found.entry.name.now) meta.offset (λ body.
+        let item = item_with (meta_of meta) body in
+        SaysMore (at reply.old sink.old) (at reply.new sink.new) item)) }
+    ensures stops { let at = saying K.Sink in let meta = found.entry.meta.now in
+        OnErr result (IsTrue D.tells →
+        ForPrefix (D.state disk.old) (Entry found.entry.name.now) meta.offset (λ body.
+        let item = item_with (meta_of meta) body in
+        StopsIn (at reply.old sink.old) (K.taken sink.new) item)) }
     ensures kept { kept handles.new ≡ kept handles.old }
     ensures looks { Looks D.Disk (ending result) disk.old disk.new }
-    ensures sink { let failed = IsErrOf result StoreFault.Sink in
-        HasCause failed (K.faults sink.old) (K.faults sink.new) }
+    ensures sink { AccountsForSink K.Sink result sink.old sink.new }
 {
-    let place = Place::Entry(*name);
+    let place = Place::Entry(*found.name);
     let range = Range {
         place: &place,
-        len: meta.offset,
+        len: found.meta.offset,
         from: 0,
-        to: meta.offset,
+        to: found.meta.offset,
     };
-    let head = front(alloc, meta)?;
-    let tail = back(alloc, meta)?;
+    let head = front(alloc, found.meta)?;
+    let tail = back(alloc, found.meta)?;
     first_chunk(disk, range, handles)?;
-    say_framed(
-        disk,
-        range,
-        head.bytes(),
-        tail.bytes(),
-        handles,
-        reply,
-        sink,
-    )
+    let frame = Frame {
+        head: head.bytes(),
+        tail: tail.bytes(),
+    };
+    say_framed(disk, range, frame, handles, reply, sink)
 }
 
 // Says the item of what is found under a name, where it may be dumped, and tells its length: 0 where there is none, and
@@ -128,36 +140,42 @@ fn say_item<D: Disk, K: Sink>(
 fn say_named<D: Disk, K: Sink>(
     alloc: Global,
     disk: &mut D,
-    name: &Name,
-    used: u64,
+    turn: Turn<'_>,
     handles: &mut Handles,
     reply: &mut Pending,
     sink: &mut K,
 ) -> Result<Option<u64>, StoreFault>
-    requires used { used ≤ DUMP_MAX }
+    requires used { turn.used ≤ DUMP_MAX }
     ensures turn { let at = saying K.Sink in IfOk result (λ len. IsTrue D.tells →
-        TakesTurn (turn_at used name.now.0 (standing (D.state disk.old) (Entry name.now))) len
+        let name = turn.entry.name.now in
+        let file = standing (D.state disk.old) (Entry name) in
+        TakesTurn (turn_at turn.entry.used name.0 file) len
         (at reply.old sink.old) (at reply.new sink.new)) }
-    ensures short { IfOk result (λ len. IfSome len (λ n. used + n ≤ DUMP_MAX)) }
+    ensures short { IfOk result (λ len. IfSome len (λ n. turn.entry.used + n ≤ DUMP_MAX)) }
     ensures stops { let at = saying K.Sink in OnErr result (IsTrue D.tells →
-        let turn = turn_at used name.now.0 (standing (D.state disk.old) (Entry name.now)) in
-        StopsIn (at reply.old sink.old) (K.taken sink.new) turn.text) }
+        let name = turn.entry.name.now in
+        let file = standing (D.state disk.old) (Entry name) in
+        let text = (turn_at turn.entry.used name.0 file).text in
+        StopsIn (at reply.old sink.old) (K.taken sink.new) text) }
     ensures kept { kept handles.new ≡ kept handles.old }
     ensures looks { Looks D.Disk (ending result) disk.old disk.new }
-    ensures sink { let failed = IsErrOf result StoreFault.Sink in
-        HasCause failed (K.faults sink.old) (K.faults sink.new) }
+    ensures sink { AccountsForSink K.Sink result sink.old sink.new }
 {
-    let Some(meta) = handles.find_named(alloc, disk, name)? else {
+    let Some(meta) = handles.find_named(alloc, disk, turn.name)? else {
         return Ok(Some(0));
     };
     if !may_dump(&meta) {
         return Ok(Some(0));
     }
     let len = item_len(&meta);
-    if used + len + 1 > DUMP_MAX {
+    if turn.used + len + 1 > DUMP_MAX {
         return Ok(None);
     }
-    say_item(alloc, disk, name, &meta, handles, reply, sink)?;
+    let found = Found {
+        name: turn.name,
+        meta: &meta,
+    };
+    say_item(alloc, disk, found, handles, reply, sink)?;
     Ok(Some(len))
 }
 
@@ -179,12 +197,12 @@ fn say_items<D: Disk, K: Sink>(
         (items_from 8 (files_of (D.state disk.old) names.now))) }
     ensures kept { kept handles.new ≡ kept handles.old }
     ensures looks { Looks D.Disk (ending result) disk.old disk.new }
-    ensures sink { let failed = IsErrOf result StoreFault.Sink in
-        HasCause failed (K.faults sink.old) (K.faults sink.new) }
+    ensures sink { AccountsForSink K.Sink result sink.old sink.new }
 {
     let mut used = HEAD.len() as u64;
     for name in names {
-        match say_named(alloc, disk, name, used, handles, reply, sink)? {
+        let turn = Turn { name, used };
+        match say_named(alloc, disk, turn, handles, reply, sink)? {
             Some(len) => used += len,
             None => return Ok(()),
         }
@@ -200,8 +218,8 @@ impl Store {
     ghost use Rattle.file_handles.specs.Cache.{cache};
     ghost use Rattle.file_handles.specs.HeldChunks.{SameChunks};
 
-    /// Ends the update, and says all entries that may be dumped, in the order of their names. A look that fails is answered
-    /// by `fault` only before the head is out.
+    /// Ends the update, and says all entries that may be dumped, in the order of their names. A look that fails is
+    /// answered by `fault` only before the head is out.
     pub(crate) fn dump<D: Disk, K: Sink>(
         &mut self,
         alloc: Global,
@@ -217,7 +235,7 @@ impl Store {
         ensures grows { IsTrue D.tells → TakesMore (K.taken sink.old) (K.taken sink.new) }
         ensures base { SameBase self.old.index.map self.new.index.map }
         ensures chunks { SameChunks (kept self.old.handles) (kept self.new.handles) }
-        ensures unlisted { IfOk result (λ a. lists_findings a ≡ false) }
+        ensures unsaid { IsStillToSay Dump result sink.old sink.new self.new.reply }
         ensures all { IfOk result (λ a. a ≡ Answered.All) }
         ensures faulted { self.new.faulting ≡ true → result ≡ Err StoreFault.Disk }
         ensures stays { let at = session D.Disk in self.new.faulting ≡ true → IsTrue D.tells →
@@ -228,8 +246,7 @@ impl Store {
             SendsFrontFor (cache D.Disk self.old.handles disk.old) Dump
             (K.taken sink.old) (K.taken sink.new) }
         ensures looks { Looks D.Disk (ending result) disk.old disk.new }
-        ensures sink { let failed = IsErrOf result StoreFault.Sink in
-            HasCause failed (K.faults sink.old) (K.faults sink.new) }
+        ensures sink { AccountsForSink K.Sink result sink.old sink.new }
     {
         let ended = match self.index.finish_apart(disk) {
             Ok(ended) => ended,

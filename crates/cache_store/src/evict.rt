@@ -1,13 +1,11 @@
 //! Evicts entries, so that all take at most so many KB.
 
-ghost use Rattle.std.specs.List.{list_any};
-ghost use Rattle.std.specs.Prelude.{◌≡◌, [], Err, false, true, IfOk, IsErrOf, IsTrue, filter, length};
-ghost use Rattle.cache_base.specs.Causes.{HasCause};
-ghost use Rattle.cache_base.specs.Names.{AreRising};
+ghost use Rattle.std.specs.Prelude.{◌≡◌, [], Err, false, true, IfOk, IsTrue, filter, length};
+ghost use Rattle.cache_base.specs.Names.{AreRising, has_name as has_name_of};
+ghost use Rattle.cache_store.specs.Answering.{IsStillToSay};
 ghost use Rattle.cache_store.specs.Evicting.{ArePicked, AreUnused, AreVictims, DoomsAll, HoldsFiles, LeavesOthers, LooksBeforeChanges, has_file};
-ghost use Rattle.cache_store.specs.Faults.{ending};
+ghost use Rattle.cache_store.specs.Faults.{AccountsForSink, ending};
 ghost use Rattle.cache_store.specs.IndexCalls.{LooksAtNames};
-ghost use Rattle.cache_store.specs.Printed.{lists_findings};
 ghost use Rattle.cache_store.specs.Said.{saying};
 ghost use Rattle.cache_store.specs.Saying.{TakesMore};
 ghost use Rattle.cache_theory.specs.Command.Command.{Evict};
@@ -20,37 +18,28 @@ ghost use Rattle.index_map.specs.Known.{SameBase};
 ghost use Rattle.file_handles.specs.HeldChunks.{SameChunks};
 ghost use Rattle.file_handles.specs.Unsynced.{SyncsNothing};
 ghost use Rattle.index_theory.specs.Leaves.{LeavesBeside, LeavesIndex};
-ghost use Rattle.record_list.specs.Lists.{same_name};
 
 use crate::StoreFault;
 use crate::answered::Answered;
 use crate::faulting::look_fault;
 use crate::listing::say_listing;
 use crate::store::Store;
-use cache_base::{Name, Names, NoMemory};
+use cache_base::{Name, Names, NoMemory, has_name};
 use cache_io::Sink;
 use disk_model::{Disk, DiskFault};
 use evictor::victims;
 use file_handles::Handles;
 use std::alloc::Global;
 
-/// Whether the name is among rising ones.
-pub(crate) fn is_among(rising: &[Name], name: &Name) -> bool
-    requires { AreRising rising.now }
-    ensures { result ≡ list_any (same_name name.now) rising.now }
-{
-    rising.binary_search(name).is_ok()
-}
-
 // Those of the names that are among rising ones, in their order.
 fn common(alloc: Global, names: &[Name], rising: &[Name]) -> Result<Names, NoMemory>
     requires { AreRising rising.now }
     ensures { IfOk result (λ list.
-        list ≡ filter (λ name. list_any (same_name name) rising.now) names.now) }
+        list ≡ filter (has_name_of rising.now) names.now) }
 {
     let mut list = Names::with_room(alloc, names.len())?;
     for name in names {
-        if is_among(rising, name) {
+        if has_name(rising, name) {
             list.push(*name)?;
         }
     }
@@ -108,12 +97,12 @@ impl Store {
     {
         let records = self.index.map.records()?;
         let in_use = self.handles.open_names(alloc)?;
-        victims(alloc, &records, &in_use, u64::from(kb))
+        victims(alloc, records, &in_use, u64::from(kb))
     }
 
-    /// Ends the update, removes the entries that have to go by their records, so that all take at most so many KB, and
-    /// says their names, in the order of eviction. A record whose file does not stand goes as well. The folder is listed,
-    /// and the names are gathered, before the first file is removed.
+    /// Ends the update, removes the entries that have to go by their records, so that all take at most so many KB,
+    /// and says their names, in the order of eviction. A record whose file does not stand goes as well. The folder is
+    /// listed, and the names are gathered, before the first file is removed.
     pub(crate) fn evict<D: Disk, K: Sink>(
         &mut self,
         alloc: Global,
@@ -134,7 +123,7 @@ impl Store {
         ensures index { Told D.Disk LeavesIndex disk.old disk.new }
         ensures unsynced { Told D.Disk SyncsNothing disk.old disk.new }
         ensures chunks { SameChunks (kept self.old.handles) (kept self.new.handles) }
-        ensures unlisted { IfOk result (λ a. lists_findings a ≡ false) }
+        ensures unsaid { IsStillToSay (Evict kb) result sink.old sink.new self.new.reply }
         ensures all { IfOk result (λ a. a ≡ Answered.All) }
         ensures names { LooksAtNames D.Disk (length self.old.index.update) disk.old disk.new }
         ensures looks_first { LooksBeforeChanges D.Disk (ending result) disk.old disk.new }
@@ -149,8 +138,7 @@ impl Store {
             (sink.new ≡ sink.old) × (self.new.reply.held ≡ []) }
         ensures change { self.new.faulting ≡ false → FailsInChange D.Disk (ending result) disk.new }
         ensures account { Accounts D.Disk (ending result) disk.old disk.new }
-        ensures sink { let failed = IsErrOf result StoreFault.Sink in
-            HasCause failed (K.faults sink.old) (K.faults sink.new) }
+        ensures sink { AccountsForSink K.Sink result sink.old sink.new }
     {
         let ended = match self.index.finish_apart(disk) {
             Ok(ended) => ended,

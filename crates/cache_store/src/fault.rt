@@ -13,8 +13,8 @@ use disk_model::DiskFault;
 pub enum StoreFault {
     /// Memory ran out. The store may only be dropped.
     Memory,
-    /// The disk failed. The store may only be dropped, unless it was in a look before anything of the reply was out: then
-    /// the store is as it was, and `Store::faulting` says so.
+    /// The disk failed. The store may only be dropped, unless it was in a look before anything of the reply was out:
+    /// then the store is as it was, and `Store::faulting` says so.
     Disk,
     /// The sink failed. The command has had its effect, and the store may only be closed.
     Sink,

@@ -1,10 +1,11 @@
 //! Finishes an entry with metadata that are given.
 
-ghost use Rattle.std.specs.Prelude.{◌≡◌, ◌≢◌, ◌<◌, Err, IfOk, IsTrue, Ok, false};
+ghost use Rattle.std.specs.Prelude.{◌≡◌, ◌<◌, Err, IfOk, IsTrue, Ok};
 ghost use Rattle.cache_base.specs.declared.limits.TheConstants.{SLOTS};
+ghost use Rattle.cache_store.specs.Answering.{SaysNothing};
 ghost use Rattle.cache_store.specs.Faults.{ending};
 ghost use Rattle.cache_store.specs.Performing.{HadEffect};
-ghost use Rattle.cache_store.specs.Printed.{IsPlain, lists_findings};
+ghost use Rattle.cache_store.specs.Printed.{IsPlain};
 ghost use Rattle.cache_theory.specs.Command.Command.{FinishAs};
 ghost use Rattle.disk_model.specs.Account.{Accounts, FailsInChange};
 ghost use Rattle.disk_model.specs.Told.{Told};
@@ -49,14 +50,13 @@ impl Store {
         requires slot { slot < SLOTS }
         requires told { IsTrue D.tells → IsOpen (session D.Disk self.old disk.old) }
         ensures does { let at = session D.Disk in IsTrue D.tells →
-            AchievesFor (FinishAs slot header elements.now) result (at self.old disk.old) (at self.new disk.new) }
+            AchievesFor (FinishAs slot header elements.now) result
+            (at self.old disk.old) (at self.new disk.new) }
         ensures plain { IfOk result IsPlain }
         ensures base { HadEffect result → SameBase self.old.index.map self.new.index.map }
         ensures chunks { SameChunks (kept self.old.handles) (kept self.new.handles) }
-        ensures unlisted { IfOk result (λ a. lists_findings a ≡ false) }
-        ensures not_said { result ≢ Ok Answered.All }
-        ensures no_sink { result ≢ Err StoreFault.Sink }
-        ensures held { self.new.reply.held ≡ self.old.reply.held }
+        ensures unsaid { SaysNothing (FinishAs slot header elements.now) result
+            self.old.reply self.new.reply }
         ensures calm { self.new.faulting ≡ self.old.faulting }
         ensures index { Told D.Disk LeavesBeside disk.old disk.new }
         ensures change { FailsInChange D.Disk (ending result) disk.new }

@@ -1,9 +1,8 @@
 //! Says bytes of the body of an entry that was just found.
 
-ghost use Rattle.std.specs.Prelude.{◌≡◌, ◌≢◌, ◌<◌, ◌≤◌, ◌-◌, ◌/◌, ◌++◌, ◌∷◌, [], ℕ, List, Err, false, true, drop, length, take, IsErrOf, IsTrue, OnErr, OnOk};
-ghost use Rattle.cache_base.specs.Causes.{HasCause};
+ghost use Rattle.std.specs.Prelude.{◌≡◌, ◌≢◌, ◌<◌, ◌≤◌, ◌-◌, ◌/◌, ◌++◌, ◌∷◌, [], ℕ, List, Err, false, true, drop, length, take, IsTrue, OnErr, OnOk};
 ghost use Rattle.cache_base.specs.Limits.{chunk_size, chunks as chunks_of};
-ghost use Rattle.cache_store.specs.Faults.{ending};
+ghost use Rattle.cache_store.specs.Faults.{AccountsForSink, ending};
 ghost use Rattle.cache_store.specs.Prefix.{ForPrefix, HasChunkAt, range_of};
 ghost use Rattle.cache_store.specs.Said.{saying};
 ghost use Rattle.cache_store.specs.Saying.{CutsIn, SaysMore, SendsFront};
@@ -21,6 +20,13 @@ use cache_base::CHUNK;
 use cache_io::Sink;
 use disk_model::{Disk, DiskFault, Place};
 use file_handles::Handles;
+
+/// What is said before bytes of a body, and after them.
+#[derive(Clone, Copy)]
+pub(crate) struct Frame<'a> {
+    pub(crate) head: &'a [u8],
+    pub(crate) tail: &'a [u8],
+}
 
 /// Bytes of a body at the beginning of a file, which has so many: those from a place on, up to another.
 #[derive(Clone, Copy)]
@@ -60,8 +66,8 @@ pub(crate) fn first_chunk<D: Disk>(
     handles.read_found(disk, range.place, range.len, range.from / CHUNK as u32)
 }
 
-// Makes the chunk of a byte the one to be printed. That of the first byte is so already. Before another is looked at, all
-// that was said goes out.
+// Makes the chunk of a byte the one to be printed. That of the first byte is so already. Before another is looked at,
+// all that was said goes out.
 fn turn_to<D: Disk, K: Sink>(
     disk: &mut D,
     range: Range<'_>,
@@ -87,8 +93,7 @@ fn turn_to<D: Disk, K: Sink>(
         SendsFront (at reply.old sink.old) (K.taken sink.new) [] }
     ensures kept { kept handles.new ≡ kept handles.old }
     ensures looks { Looks D.Disk (ending result) disk.old disk.new }
-    ensures sink { let failed = IsErrOf result StoreFault.Sink in
-        HasCause failed (K.faults sink.old) (K.faults sink.new) }
+    ensures sink { AccountsForSink K.Sink result sink.old sink.new }
 {
     if at == range.from {
         return Ok(());
@@ -125,8 +130,7 @@ fn say_range<D: Disk, K: Sink>(
         SendsFront (at reply.old sink.old) (K.taken sink.new) part) }
     ensures kept { kept handles.new ≡ kept handles.old }
     ensures looks { Looks D.Disk (ending result) disk.old disk.new }
-    ensures sink { let failed = IsErrOf result StoreFault.Sink in
-        HasCause failed (K.faults sink.old) (K.faults sink.new) }
+    ensures sink { AccountsForSink K.Sink result sink.old sink.new }
 {
     let mut at = range.from;
     while at < range.to {
@@ -142,12 +146,11 @@ fn say_range<D: Disk, K: Sink>(
     Ok(())
 }
 
-/// Says these bytes between a head and a tail. The chunk of the first is held.
+/// Says these bytes in their frame. The chunk of the first is held.
 pub(crate) fn say_framed<D: Disk, K: Sink>(
     disk: &mut D,
     range: Range<'_>,
-    head: &[u8],
-    tail: &[u8],
+    frame: Frame<'_>,
     handles: &mut Handles,
     reply: &mut Pending,
     sink: &mut K,
@@ -158,26 +161,27 @@ pub(crate) fn say_framed<D: Disk, K: Sink>(
         (range.from / chunk_size) handles.old.chunk }
     ensures said { let at = saying K.Sink in OnOk result (IsTrue D.tells →
         ForPrefix (D.state disk.old) range.entry.place.now range.entry.len (λ body.
-        let text = head.now ++ (range_of range.entry.from range.entry.to body ++ tail.now) in
+        let bytes = range_of range.entry.from range.entry.to body in
+        let text = frame.entry.head.now ++ (bytes ++ frame.entry.tail.now) in
         SaysMore (at reply.old sink.old) (at reply.new sink.new) text)) }
     ensures cut { let at = saying K.Sink in OnErr result (IsTrue D.tells →
         ForPrefix (D.state disk.old) range.entry.place.now range.entry.len (λ body.
-        let text = head.now ++ (range_of range.entry.from range.entry.to body ++ tail.now) in
+        let bytes = range_of range.entry.from range.entry.to body in
+        let text = frame.entry.head.now ++ (bytes ++ frame.entry.tail.now) in
         CutsIn (at reply.old sink.old) (K.taken sink.new) text)) }
     // Where the disk failed all up to the end of the first chunk is out.
     ensures front { let at = saying K.Sink in result ≡ Err StoreFault.Disk → IsTrue D.tells →
         ForPrefix (D.state disk.old) range.entry.place.now range.entry.len (λ body.
-        let front = head.now
+        let front = frame.entry.head.now
         ++ part_of_body body range.entry.from (range.entry.to - range.entry.from) in
         SendsFront (at reply.old sink.old) (K.taken sink.new) front) }
     ensures kept { kept handles.new ≡ kept handles.old }
     ensures looks { Looks D.Disk (ending result) disk.old disk.new }
-    ensures sink { let failed = IsErrOf result StoreFault.Sink in
-        HasCause failed (K.faults sink.old) (K.faults sink.new) }
+    ensures sink { AccountsForSink K.Sink result sink.old sink.new }
 {
-    reply.put(sink, head)?;
+    reply.put(sink, frame.head)?;
     say_range(disk, range, handles, reply, sink)?;
-    reply.put(sink, tail)?;
+    reply.put(sink, frame.tail)?;
     Ok(())
 }
 
@@ -216,21 +220,13 @@ impl Store {
             SendsFront (at self.old.reply sink.old) (K.taken sink.new) front) }
         ensures open { open_of self.new ≡ open_of self.old }
         ensures looks { Looks D.Disk (ending result) disk.old disk.new }
-        ensures sink { let failed = IsErrOf result StoreFault.Sink in
-            HasCause failed (K.faults sink.old) (K.faults sink.new) }
+        ensures sink { AccountsForSink K.Sink result sink.old sink.new }
     {
         match first_chunk(disk, range, &mut self.handles) {
             Ok(()) => {}
             Err(fault) => return Err(look_fault(fault, &mut self.faulting)),
         }
-        say_framed(
-            disk,
-            range,
-            head,
-            b"\n",
-            &mut self.handles,
-            &mut self.reply,
-            sink,
-        )
+        let frame = Frame { head, tail: b"\n" };
+        say_framed(disk, range, frame, &mut self.handles, &mut self.reply, sink)
     }
 }

@@ -1,13 +1,11 @@
 //! Performs the commands that go by the index.
 
-ghost use Rattle.std.specs.Prelude.{◌≡◌, ◌≢◌, ◌↔◌, [], Err, false, true, IfOk, IsErrOf, IsTrue, Ok, OnOk, length, take};
-ghost use Rattle.cache_base.specs.Causes.{HasCause};
-ghost use Rattle.cache_store.specs.Answering.{HasOutcome};
-ghost use Rattle.cache_store.specs.Faults.{ending};
+ghost use Rattle.std.specs.Prelude.{◌≡◌, ◌↔◌, [], Err, false, true, IfOk, IsTrue, Ok, OnOk, length, take};
+ghost use Rattle.cache_store.specs.Answering.{HasOutcome, IsStillToSay, SaysNothing};
+ghost use Rattle.cache_store.specs.Faults.{AccountsForSink, ending};
 ghost use Rattle.cache_store.specs.IndexCalls.{Flushes, IsFresh, IsWritten, LooksAtNames, Rebuilds};
 ghost use Rattle.cache_store.specs.InUse.{SparesIndex};
 ghost use Rattle.cache_store.specs.Kept.{HoldsIndex};
-ghost use Rattle.cache_store.specs.Printed.{lists_findings};
 ghost use Rattle.cache_store.specs.Said.{saying};
 ghost use Rattle.cache_store.specs.Saying.{TakesMore};
 ghost use Rattle.cache_theory.specs.Command.Command.{Flush, ListRecords, Rebuild, StepUpdate};
@@ -90,7 +88,7 @@ impl Store {
         ensures grows { TakesMore (K.taken sink.old) (K.taken sink.new) }
         ensures base { SameBase self.old.index.map self.new.index.map }
         ensures chunks { SameChunks (kept self.old.handles) (kept self.new.handles) }
-        ensures unlisted { IfOk result (λ a. lists_findings a ≡ false) }
+        ensures unsaid { IsStillToSay ListRecords result sink.old sink.new self.new.reply }
         ensures all { IfOk result (λ a. a ≡ Answered.All) }
         ensures faulted { (self.new.faulting ≡ true) ↔ (result ≡ Err StoreFault.Disk) }
         ensures stays { let at = session D.Disk in self.new.faulting ≡ true → IsTrue D.tells →
@@ -99,8 +97,7 @@ impl Store {
             (sink.new ≡ sink.old) × (self.new.reply.held ≡ []) }
         ensures looks { Looks D.Disk (ending result) disk.old disk.new }
         ensures names { LooksAtNames D.Disk (length self.old.index.update) disk.old disk.new }
-        ensures sink { let failed = IsErrOf result StoreFault.Sink in
-            HasCause failed (K.faults sink.old) (K.faults sink.new) }
+        ensures sink { AccountsForSink K.Sink result sink.old sink.new }
     {
         let ended = match self.index.finish_apart(disk) {
             Ok(ended) => ended,
@@ -120,10 +117,7 @@ impl Store {
             AchievesFor (StepUpdate n) result (at self.old disk.old) (at self.new disk.new) }
         ensures base { SameBase self.old.index.map self.new.index.map }
         ensures chunks { SameChunks (kept self.old.handles) (kept self.new.handles) }
-        ensures unlisted { IfOk result (λ a. lists_findings a ≡ false) }
-        ensures not_said { result ≢ Ok Answered.All }
-        ensures no_sink { result ≢ Err StoreFault.Sink }
-        ensures held { self.new.reply.held ≡ self.old.reply.held }
+        ensures unsaid { SaysNothing (StepUpdate n) result self.old.reply self.new.reply }
         ensures faulted { (self.new.faulting ≡ true) ↔ (result ≡ Err StoreFault.Disk) }
         ensures stays { let at = session D.Disk in self.new.faulting ≡ true → IsTrue D.tells →
             StaysAs (at self.old disk.old) (at self.new disk.new) }
@@ -148,10 +142,8 @@ impl Store {
         ensures does { let at = session D.Disk in IsTrue D.tells →
             AchievesFor Flush result (at self.old disk.old) (at self.new disk.new) }
         ensures chunks { SameChunks (kept self.old.handles) (kept self.new.handles) }
-        ensures unlisted { IfOk result (λ a. lists_findings a ≡ false) }
+        ensures unsaid { SaysNothing Flush result self.old.reply self.new.reply }
         ensures done { IfOk result (λ a. a ≡ Answered.Done) }
-        ensures no_sink { result ≢ Err StoreFault.Sink }
-        ensures held { self.new.reply.held ≡ self.old.reply.held }
         ensures fresh { OnOk result (self.new.index.update ≡ [] → IsFresh self.new.index.map) }
         ensures flushes { OnOk result
             (Told D.Disk (Flushes self.old.index self.old.moment) disk.old disk.new) }
@@ -182,10 +174,7 @@ impl Store {
             AchievesFor Rebuild result (at self.old disk.old) (at self.new disk.new) }
         ensures outcome { IfOk result (HasOutcome Rebuild) }
         ensures chunks { SameChunks (kept self.old.handles) (kept self.new.handles) }
-        ensures unlisted { IfOk result (λ a. lists_findings a ≡ false) }
-        ensures not_said { result ≢ Ok Answered.All }
-        ensures no_sink { result ≢ Err StoreFault.Sink }
-        ensures held { self.new.reply.held ≡ self.old.reply.held }
+        ensures unsaid { SaysNothing Rebuild result self.old.reply self.new.reply }
         ensures written { OnOk result (IsWritten self.new.index.map) }
         ensures rebuilds { OnOk result
             (Told D.Disk (Rebuilds self.new.index.map self.old.moment) disk.old disk.new) }

@@ -24,7 +24,7 @@ fn total_of(map: &RecordMap) -> u128
 impl Store {
     ghost use Rattle.cache_store.specs.EndsUpdate.{EndsUpdate, IsTotal};
     ghost use Rattle.cache_store.specs.Open.{IsOpen, LeavesOpen};
-    ghost use Rattle.cache_store.specs.Session.{session};
+    ghost use Rattle.cache_store.specs.Session.{open_of, session};
 
     /// Ends the update, and tells the sum of the sizes of all entries in KB. It is that of the records in memory, which
     /// are right where the directory was honest at the opening, or a `rebuild` has answered. Nothing is changed on the
@@ -38,16 +38,18 @@ impl Store {
         ensures honest { IsTrue D.tells → LeavesHonest (D.state disk.new) }
 
         // The sum, by the records in memory, and where they are right by the entries.
-        ensures sum { IfOk result (λ kb. kb ≡ total_kb self.new.index.map.records) }
+        ensures sum { IfOk result (λ kb. kb ≡ total_kb (open_of self.new).index.map.records) }
         ensures total { IfOk result (λ kb. IsTrue D.tells →
             IsTotal (session D.Disk self.old disk.old) kb) }
-        ensures ended { OnOk result (self.new.index.update ≡ []) }
-        ensures base { SameBase self.old.index.map self.new.index.map }
+        ensures ended { OnOk result ((open_of self.new).index.update ≡ []) }
+        ensures base { let was = open_of self.old in let now = open_of self.new in
+            SameBase was.index.map now.index.map }
 
         // Calls and faults. The disk is only looked at.
         ensures no_sink { result ≢ Err StoreFault.Sink }
         ensures looks { Looks D.Disk (ending result) disk.old disk.new }
-        ensures names { LooksAtNames D.Disk (length self.old.index.update) disk.old disk.new }
+        ensures names { let rest = (open_of self.old).index.update in
+            LooksAtNames D.Disk (length rest) disk.old disk.new }
     {
         self.index.finish(disk)?;
         Ok(total_of(&self.index.map))

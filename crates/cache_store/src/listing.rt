@@ -1,7 +1,7 @@
 //! Says a list: the number of its items, and a line of each.
 
-ghost use Rattle.std.specs.Prelude.{◌≡◌, ◌≢◌, ◌++◌, [], ◌∷◌, List, ℕ, Err, IfOk, IsErrOf, OnErr, OnOk, string_bytes};
-ghost use Rattle.cache_base.specs.Causes.{HasCause};
+ghost use Rattle.std.specs.Prelude.{◌≡◌, ◌++◌, [], ◌∷◌, List, ℕ, IfOk, OnErr, OnOk, string_bytes};
+ghost use Rattle.cache_store.specs.Faults.{OnlySinkFails};
 ghost use Rattle.cache_store.specs.Said.{saying};
 ghost use Rattle.cache_store.specs.Saying.{CutsIn, SaysMore};
 ghost use Rattle.cache_store.specs.Texts.{lines, listing};
@@ -85,9 +85,7 @@ fn say_lines<T: Listed, K: Sink>(
         OnOk result (SaysMore (at reply.old sink.old) (at reply.new sink.new) text) }
     ensures cut { let at = saying K.Sink in let text = lines T.words items.now in
         OnErr result (CutsIn (at reply.old sink.old) (K.taken sink.new) text) }
-    ensures no_disk { result ≢ Err StoreFault.Disk }
-    ensures sink { let failed = IsErrOf result StoreFault.Sink in
-        HasCause failed (K.faults sink.old) (K.faults sink.new) }
+    ensures sink { OnlySinkFails K.Sink result sink.old sink.new }
 {
     let mut left = items;
     while !left.is_empty() {
@@ -111,9 +109,7 @@ pub(crate) fn say_listing<T: Listed, K: Sink>(
         OnOk result (SaysMore (at reply.old sink.old) (at reply.new sink.new) text) }
     ensures cut { let at = saying K.Sink in let text = listing word.now T.words items.now in
         OnErr result (CutsIn (at reply.old sink.old) (K.taken sink.new) text) }
-    ensures no_disk { result ≢ Err StoreFault.Disk }
-    ensures sink { let failed = IsErrOf result StoreFault.Sink in
-        HasCause failed (K.faults sink.old) (K.faults sink.new) }
+    ensures sink { OnlySinkFails K.Sink result sink.old sink.new }
 {
     let head = counted(alloc, word, items.len() as u64)?;
     reply.put(sink, head.as_slice())?;

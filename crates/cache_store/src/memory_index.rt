@@ -3,7 +3,7 @@
 ghost use Rattle.std.specs.Prelude.{◌≡◌, ◌≢◌, [], IfOk, IsTrue, OnErr, OnOk, Some, drop, false, length, take};
 ghost use Rattle.cache_store.specs.Evicting.{Forgets};
 ghost use Rattle.cache_store.specs.Printed.{lists_findings};
-ghost use Rattle.cache_store.specs.Records.{AnswersHas, EndsWith, Learns, TakenOff, TellsAtEnd, TellsOf};
+ghost use Rattle.cache_store.specs.Records.{AnswersHas, EndsWith, LearnsEffect, TakenOff, TellsAtEnd, TellsOf};
 ghost use Rattle.cache_store.specs.Replied.{reply_of};
 ghost use Rattle.cache_theory.specs.Step.{state_reply};
 ghost use Rattle.disk_model.specs.Account.{Looks, ending};
@@ -36,7 +36,7 @@ impl MemoryIndex {
     /// Learns of a command on entries. The name that it changed need not be read any more.
     pub(crate) fn learn(&mut self, effect: Effect) -> Result<(), NoMemory>
         requires { IsPlainEffect effect }
-        ensures { OnOk result (Learns effect self.old self.new) }
+        ensures { OnOk result (LearnsEffect effect self.old self.new) }
     {
         match effect {
             Effect::Same => {}
@@ -59,12 +59,12 @@ impl MemoryIndex {
         let ended = self.update.ended();
         self.update.seen(name);
         if !ended {
-            self.settle();
+            self.drop_unseen_at_end();
         }
     }
 
     /// Where no name is left to read, takes the records out that were not seen.
-    pub(crate) fn settle(&mut self)
+    pub(crate) fn drop_unseen_at_end(&mut self)
         ensures rest { self.new.update ≡ self.old.update }
         ensures base { SameBase self.old.map self.new.map }
         ensures seen { self.new.map.seen ≡ self.old.map.seen }
@@ -86,8 +86,8 @@ impl MemoryIndex {
         }
     }
 
-    /// Reads the files of the first n names that are left. Where that fails the names are left as they were, and the records
-    /// that were read are right, and stay.
+    /// Reads the files of the first n names that are left. Where that fails the names are left as they were, and the
+    /// records that were read are right, and stay.
     pub(crate) fn step<D: Disk>(&mut self, disk: &mut D, n: u32) -> Result<(), DiskFault>
         ensures rest { OnOk result (self.new.update ≡ drop n self.old.update) }
         ensures base { SameBase self.old.map self.new.map }
@@ -121,9 +121,9 @@ impl MemoryIndex {
         self.update.finish(disk, &mut self.map)
     }
 
-    /// Reads the files of all names that are left, as `finish` does, and gives the update that has ended so. The names are
-    /// left as they were, so that the caller may look at more: where that fails, the records that were read are right, and
-    /// stay.
+    /// Reads the files of all names that are left, as `finish` does, and gives the update that has ended so. The
+    /// names are left as they were, so that the caller may look at more: where that fails, the records that were read
+    /// are right, and stay.
     pub(crate) fn finish_apart<D: Disk>(&mut self, disk: &mut D) -> Result<Update, DiskFault>
         ensures ended { IfOk result (λ update. update ≡ []) }
         ensures rest { self.new.update ≡ self.old.update }

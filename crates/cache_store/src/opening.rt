@@ -43,7 +43,7 @@ fn begin_update<D: Disk>(
         map,
         update: Update::begin(alloc, disk)?,
     };
-    index.settle();
+    index.drop_unseen_at_end();
     Ok(index)
 }
 

@@ -30,7 +30,8 @@ impl Pending {
         })
     }
 
-    /// Says bytes. They are held, and where they have no room what is held goes out first. Many at once go out as they are.
+    /// Says bytes. They are held, and where they have no room what is held goes out first. Many at once go out as
+    /// they are.
     pub(crate) fn put<K: Sink>(&mut self, sink: &mut K, b: &[u8]) -> Result<(), SinkFault>
         ensures said { let at = saying K.Sink in
             OnOk result (SaysMore (at self.old sink.old) (at self.new sink.new) b.now) }

@@ -1,6 +1,7 @@
 //! Does what is left of a clearing that was stopped.
 
-ghost use Rattle.std.specs.Prelude.{◌≡◌, ◌≢◌, Err, false, IfOk, IfSome, IsSome, IsTrue, None};
+ghost use Rattle.std.specs.Prelude.{◌≡◌, false, IfOk, IfSome, IsSome, IsTrue, None};
+ghost use Rattle.cache_store.specs.Answering.{SaysNothing};
 ghost use Rattle.cache_store.specs.Clearing.{HasNoMark, LeavesResumed};
 ghost use Rattle.cache_store.specs.Faults.{ending};
 ghost use Rattle.cache_store.specs.IndexCalls.{LooksAtNames, LooksOnceAt, names_resumed};
@@ -29,8 +30,8 @@ impl Store {
     ghost use Rattle.cache_store.specs.Performing.{AchievesWhatIsDone, HadEffect};
     ghost use Rattle.cache_store.specs.Session.{session};
 
-    /// Where the mark of an origin stands, its entries are cleared once more. Another file in its place is removed. Where
-    /// none stands, this is one look at the disk. No look is answered by `fault`.
+    /// Where the mark of an origin stands, its entries are cleared once more. Another file in its place is removed.
+    /// Where none stands, this is one look at the disk. No look is answered by `fault`.
     pub(crate) fn resume<D: Disk>(
         &mut self,
         alloc: Global,
@@ -52,9 +53,8 @@ impl Store {
         ensures index { Told D.Disk LeavesIndex disk.old disk.new }
         ensures unmarked { HadEffect result → IsTrue D.tells → HasNoMark (D.state disk.new) }
         ensures chunks { SameChunks (kept self.old.handles) (kept self.new.handles) }
+        ensures unsaid { SaysNothing Resume result self.old.reply self.new.reply }
         ensures answer { IfOk result (λ a. a ≡ Answered.Resumed) }
-        ensures no_sink { result ≢ Err StoreFault.Sink }
-        ensures held { self.new.reply.held ≡ self.old.reply.held }
         ensures names { let mark = mark_of (standing (D.state disk.old) Clear) in
             LooksAtNames D.Disk (names_resumed mark self.old.index.update) disk.old disk.new }
         ensures once { IsTrue D.tells → standing (D.state disk.old) Clear ≡ None →

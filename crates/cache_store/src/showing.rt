@@ -1,10 +1,8 @@
 //! Replies that show something of an entry that is found: all of it, its main body, or its alternative data.
 
-ghost use Rattle.std.specs.Prelude.{◌≡◌, ◌≢◌, ◌≤◌, [], Err, false, true, option_map, IfOk, IfSome, IsErrOf, IsTrue};
-ghost use Rattle.cache_base.specs.Causes.{HasCause};
+ghost use Rattle.std.specs.Prelude.{◌≡◌, ◌≤◌, [], Err, false, true, option_map, IfOk, IfSome, IsTrue};
 ghost use Rattle.cache_store.specs.Faulting.{SendsFrontFor};
-ghost use Rattle.cache_store.specs.Faults.{ending};
-ghost use Rattle.cache_store.specs.Printed.{lists_findings};
+ghost use Rattle.cache_store.specs.Faults.{AccountsForSink, ending};
 ghost use Rattle.cache_store.specs.Said.{saying};
 ghost use Rattle.cache_store.specs.Showing.{alt_shown, main_length, main_shown, part_said, part_shown, showing};
 ghost use Rattle.disk_model.specs.Account.{Looks};
@@ -100,7 +98,7 @@ fn part_of(alloc: Global, shown: Shown, meta: &Meta) -> Result<Option<Part>, NoM
 }
 
 impl Store {
-    ghost use Rattle.cache_store.specs.Answering.{AnswersFor};
+    ghost use Rattle.cache_store.specs.Answering.{AnswersFor, IsStillToSay};
     ghost use Rattle.cache_store.specs.Session.{open_of};
     ghost use Rattle.file_handles.specs.Cache.{cache};
     ghost use Rattle.file_handles.specs.Stands.{RepresentsSome};
@@ -120,13 +118,11 @@ impl Store {
         ensures answers { IsTrue D.tells →
             AnswersFor (cache D.Disk self.old.handles disk.old) (showing shown key.now) result
             (K.taken sink.old) (saying K.Sink self.new.reply sink.new) }
-        ensures unlisted { IfOk result (λ a. lists_findings a ≡ false) }
-        ensures unsaid { IfOk result (λ a. a ≢ Answered.All → sink.new ≡ sink.old) }
-        ensures still_empty { IfOk result (λ a.
-            a ≢ Answered.All → self.new.reply.held ≡ []) }
+        ensures unsaid { IsStillToSay (showing shown key.now) result
+            sink.old sink.new self.new.reply }
         ensures open { open_of self.new ≡ open_of self.old }
-        // Where a look failed before anything was said, all is as before; and else where the disk failed the reply is out up
-        // to the end of its first chunk.
+        // Where a look failed before anything was said, all is as before; and else where the disk failed the reply is
+        // out up to the end of its first chunk.
         ensures faulted { self.new.faulting ≡ true → result ≡ Err StoreFault.Disk }
         ensures silent { self.new.faulting ≡ true →
             (sink.new ≡ sink.old) × (self.new.reply.held ≡ []) }
@@ -134,8 +130,7 @@ impl Store {
             SendsFrontFor (cache D.Disk self.old.handles disk.old) (showing shown key.now)
             (K.taken sink.old) (K.taken sink.new) }
         ensures looks { Looks D.Disk (ending result) disk.old disk.new }
-        ensures sink { let failed = IsErrOf result StoreFault.Sink in
-            HasCause failed (K.faults sink.old) (K.faults sink.new) }
+        ensures sink { AccountsForSink K.Sink result sink.old sink.new }
     {
         let meta = match self.handles.find(alloc, disk, key) {
             Ok(meta) => meta,

@@ -36,7 +36,7 @@ impl Store {
     ghost use Rattle.cache_store.specs.Faults.{ending};
     ghost use Rattle.cache_store.specs.InUse.{ClosesInUse, ClosesWhole, OpensInUse};
     ghost use Rattle.cache_store.specs.Open.{BeginsOn, Closes, ClosesHonestly, ClosesSafely, HasShelf, IsOpen, KeepsFound, Opens, OpensHonestly, OpensSafely};
-    ghost use Rattle.cache_store.specs.Session.{session};
+    ghost use Rattle.cache_store.specs.Session.{is_faulting, open_of, session};
 
     /// Opens the cache at this moment: the files of doomed entries that an earlier run left are removed, the index is
     /// opened, and what stands is synced. That counts as a flush. Where the index is not trusted, the names of all
@@ -49,9 +49,9 @@ impl Store {
             IsOpen (session D.Disk store disk.new)) }
         ensures shelf { IsTrue D.tells → HasShelf (D.state disk.old) }
         ensures based { IfOk result (λ store. IsTrue D.tells →
-            OpensInUse (D.state disk.old) store.index.map (D.state disk.new)) }
+            OpensInUse (D.state disk.old) (open_of store).index.map (D.state disk.new)) }
         ensures begins { IfOk result (λ store. IsTrue D.tells →
-            BeginsOn (standing (D.state disk.old)) store.index.map) }
+            BeginsOn (standing (D.state disk.old)) (open_of store).index.map) }
 
         // What a crash leaves, at every exit.
         ensures safe { Told D.Disk (OpensSafely now) disk.old disk.new }
@@ -77,29 +77,32 @@ impl Store {
         })
     }
 
-    /// Whether the last command ended in a look at the disk that failed before anything of its reply was out. It has had no
-    /// effect then, and the store is as it was.
+    /// Whether the last command ended in a look at the disk that failed before anything of its reply was out. It has
+    /// had no effect then, and the store is as it was.
     pub fn faulting(&self) -> bool
-        ensures { result ≡ self.now.faulting }
+        ensures { result ≡ is_faulting self.now }
     {
         self.faulting
     }
 
-    /// Closes the cache: all slots are given up, what is not finished and what is doomed leaves no file, and the index is
-    /// closed. Nothing is pending on the disk then, and where the update has ended the next opening trusts the index.
+    /// Closes the cache: all slots are given up, what is not finished and what is doomed leaves no file, and the
+    /// index is closed. Nothing is pending on the disk then, and where the update has ended the next opening trusts
+    /// the index.
     pub fn close<D: Disk>(self, disk: &mut D) -> Result<(), StoreFault>
         requires told { IsTrue D.tells → IsOpen (session D.Disk self disk.old) }
         // What stands then.
         ensures closes { IsTrue D.tells →
             Closes result (session D.Disk self disk.old) (D.state disk.new) }
         ensures quiet { OnOk result (IsTrue D.tells → IsQuiet (D.state disk.new)) }
-        ensures journal { OnOk result (Told D.Disk (ClosesInUse self.index) disk.old disk.new) }
+        ensures journal { OnOk result
+            (Told D.Disk (ClosesInUse (open_of self).index) disk.old disk.new) }
 
-        // The files of the index: before the update has ended they are left alone, at every exit. Afterwards the index that
-        // is written, if any, has all records and the moment of this store.
-        ensures spares { self.index.update ≢ [] → Told D.Disk LeavesIndex disk.old disk.new }
-        ensures whole { OnOk result
-            (Told D.Disk (ClosesWhole self.index self.moment) disk.old disk.new) }
+        // The files of the index: before the update has ended they are left alone, at every exit. Afterwards the
+        // index that is written, if any, has all records and the moment of this store.
+        ensures spares { (open_of self).index.update ≢ [] →
+            Told D.Disk LeavesIndex disk.old disk.new }
+        ensures whole { let was = open_of self in
+            OnOk result (Told D.Disk (ClosesWhole was.index was.moment) disk.old disk.new) }
 
         // What a crash leaves, at every exit.
         ensures crash { IsTrue D.tells →

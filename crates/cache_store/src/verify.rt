@@ -1,10 +1,8 @@
 //! Checks all entries, and holds them against their records.
 
-ghost use Rattle.std.specs.Prelude.{◌≡◌, ◌≢◌, ◌↔◌, [], Err, IfOk, IsErrOf, IsTrue, Ok, OnErr, OnOk, false, true};
-ghost use Rattle.cache_base.specs.Causes.{HasCause};
-ghost use Rattle.cache_store.specs.Answering.{outcome_of};
-ghost use Rattle.cache_store.specs.Faults.{ending};
-ghost use Rattle.cache_store.specs.Printed.{lists_findings};
+ghost use Rattle.std.specs.Prelude.{◌≡◌, ◌↔◌, [], Err, IfOk, IsTrue, Ok, OnErr, OnOk, false, true};
+ghost use Rattle.cache_store.specs.Answering.{SaysNothing, outcome_of};
+ghost use Rattle.cache_store.specs.Faults.{OnlySinkFails, ending};
 ghost use Rattle.cache_store.specs.Said.{saying};
 ghost use Rattle.cache_store.specs.Saying.{CutsIn, SaysMore};
 ghost use Rattle.cache_theory.specs.Command.Reply.{Findings};
@@ -35,9 +33,7 @@ pub(crate) fn say_found<K: Sink>(
     ensures cut { let at = saying K.Sink in
         OnErr result (CutsIn (at reply.old sink.old) (K.taken sink.new) (findings_text found.now)) }
     ensures outcome { IfOk result (λ o. o ≡ outcome_of (Findings found.now)) }
-    ensures no_disk { result ≢ Err StoreFault.Disk }
-    ensures sink { let failed = IsErrOf result StoreFault.Sink in
-        HasCause failed (K.faults sink.old) (K.faults sink.new) }
+    ensures sink { OnlySinkFails K.Sink result sink.old sink.new }
 {
     say_listing(alloc, b"findings", found, reply, sink)?;
     match found {
@@ -69,15 +65,12 @@ impl Store {
             AchievesWhatIsDone Verify result (at self.old disk.old) (at self.new disk.new) }
         ensures found { IfOk result (λ a. IsTrue D.tells →
             IsFoundIn (session D.Disk self.old disk.old) self.new.index.map a) }
-        ensures lists { IfOk result (λ a. lists_findings a ≡ true) }
         ensures base { SameBase self.old.index.map self.new.index.map }
         ensures faulted { (self.new.faulting ≡ true) ↔ (result ≡ Err StoreFault.Disk) }
         ensures stays { let at = session D.Disk in self.new.faulting ≡ true → IsTrue D.tells →
             StaysAs (at self.old disk.old) (at self.new disk.new) }
         ensures chunks { SameChunks (kept self.old.handles) (kept self.new.handles) }
-        ensures not_said { result ≢ Ok Answered.All }
-        ensures no_sink { result ≢ Err StoreFault.Sink }
-        ensures held { self.new.reply.held ≡ self.old.reply.held }
+        ensures unsaid { SaysNothing Verify result self.old.reply self.new.reply }
         ensures looks { Looks D.Disk (ending result) disk.old disk.new }
     {
         let ended = match self.index.finish_apart(disk) {

@@ -14,7 +14,7 @@ use Rattle.cache_theory.specs.Checks.{small_parts, with_alt_data}
 use Rattle.cache_theory.specs.Machine.{Object}
 use Rattle.cache_theory.specs.Proper.{IsObject}
 use Rattle.cache_theory.proofs.Elements.{bytes_with, elements_with}
-use Rattle.cache_theory.proofs.FileBytes.{bytes-append}
+use Rattle.cache_theory.proofs.CrashImages.FileBytes.{bytes-append}
 use Rattle.cache_theory.proofs.Versions.{hash_words, length_hashes_of}
 use Rattle.entry_file.specs.Version.{IsVersion, Version, version_meta}
 use Rattle.entry_metadata.specs.Metadata.{block_length}

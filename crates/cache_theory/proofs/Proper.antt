@@ -16,9 +16,9 @@ use Rattle.cache_theory.specs.Step.{answer, changed, effect, evicted, stepped, u
 use Rattle.cache_theory.specs.declared.refusal.Refusal.{Refusal}
 use Rattle.cache_theory.proofs.AltData.{object_with_alt}
 use Rattle.cache_theory.proofs.Changes.{object_is, proper_changed, proper_closed, proper_created, proper_finished, proper_finished_as, proper_joined}
-use Rattle.cache_theory.proofs.Dooming.{proper_doomed_under}
+use Rattle.cache_theory.proofs.ObjectLaws.Dooming.{proper_doomed_under}
 use Rattle.cache_theory.proofs.Rested.{proper_all_doomed, proper_rested, proper_cleared, proper_unmarked}
-use Rattle.cache_theory.proofs.Slotted.{proper_slotted, same_slots}
+use Rattle.cache_theory.proofs.ObjectLaws.Slotted.{proper_slotted, same_slots}
 use Rattle.cache_theory.proofs.Versions.{object_appended, object_finished_as, object_pinned, object_used, object_with, object_without}
 use Rattle.entry_name.specs.EntryName.{file_name}
 use Rattle.entry_parts.specs.Elements.{element}

@@ -17,9 +17,9 @@ use Rattle.cache_theory.specs.Refiled.{EntriesAreRefiled, IsOfEntries, IsRefiled
 use Rattle.cache_theory.specs.Step.{answer, changed, effect, finished_by, fits_there, joined, released, stepped, stored, used, with_pin, with_slot, without, finished_as}
 use Rattle.cache_theory.specs.Table.{Table, get, insert, remove}
 use Rattle.cache_theory.proofs.Names.{get-remove_other, get-remove_same, same_bytes}
-use Rattle.cache_theory.proofs.Objects.{nth, nth-set_same}
+use Rattle.cache_theory.proofs.ObjectLaws.Objects.{nth, nth-set_same}
 use Rattle.cache_theory.proofs.TableLaws.{get-insert}
-use Rattle.cache_theory.proofs.Users.{slot_in_use}
+use Rattle.cache_theory.proofs.ObjectLaws.Users.{slot_in_use}
 use Rattle.entry_file.specs.EntryFile.{Reading, file_meta, fits}
 use Rattle.entry_file.specs.EntryFile.Reading.{Whole, Damaged, Nothing}
 use Rattle.entry_file.specs.Version.{Version, file_of}

@@ -4,8 +4,8 @@ use Rattle.cache_base.specs.declared.name.Name.{Name}
 use Rattle.cache_theory.specs.Machine.{Machine}
 use Rattle.cache_theory.specs.Proper.{IsInUse, IsProper}
 use Rattle.cache_theory.specs.Step.{all_doomed, cleared_of, doomed_under, unmarked, update_ended}
-use Rattle.cache_theory.proofs.Dooming.{proper_doomed_under}
-use Rattle.cache_theory.proofs.Users.{in_use_along, user_along}
+use Rattle.cache_theory.proofs.ObjectLaws.Dooming.{proper_doomed_under}
+use Rattle.cache_theory.proofs.ObjectLaws.Users.{in_use_along, user_along}
 
 abbrev pub with_rest : Machine → List (List ℕ) → Machine
 with_rest m rest = record m { rest = rest }

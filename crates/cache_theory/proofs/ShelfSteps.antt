@@ -17,10 +17,10 @@ use Rattle.cache_theory.specs.Refiled.{IsOfEntries, IsRefiled, refiled, refiled_
 use Rattle.cache_theory.specs.Step.{cleared_of, effect, evicted, step, stepped, unmarked}
 use Rattle.cache_theory.specs.Table.{get}
 use Rattle.cache_theory.specs.declared.refusal.Refusal.{Refusal}
-use Rattle.cache_theory.proofs.Evicting.{cleared_are_lost, doomed_are_lost}
+use Rattle.cache_theory.proofs.Evictions.Evicting.{cleared_are_lost, doomed_are_lost}
 use Rattle.cache_theory.proofs.Names.{same_bytes}
 use Rattle.cache_theory.proofs.Refiling.{entries_are_refiled}
-use Rattle.cache_theory.proofs.WrittenObjects.{rewritten_finished}
+use Rattle.cache_theory.proofs.ObjectLaws.WrittenObjects.{rewritten_finished}
 use Rattle.context_clear.specs.Mark.{mark_of}
 use Rattle.entry_file.specs.Version.{file_of}
 use Rattle.entry_name.specs.EntryName.{file_name}

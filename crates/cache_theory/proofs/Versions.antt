@@ -12,11 +12,11 @@ use Rattle.cache_theory.specs.Machine.{Object}
 use Rattle.cache_theory.specs.Proper.{IsDraft, IsObject}
 use Rattle.cache_theory.specs.Step.{finished_as, fresh, used, with_pin}
 use Rattle.cache_theory.proofs.Elements.{bytes_with, bytes_without, elements_with, elements_without, without_no_longer}
-use Rattle.cache_theory.proofs.FileBytes.{bytes-append}
+use Rattle.cache_theory.proofs.CrashImages.FileBytes.{bytes-append}
 use Rattle.chunk_store.specs.Chunks.{chunk, chunk_hashes}
 use Rattle.entry_file.specs.Version.{Version, version_meta, IsVersion}
 use Rattle.entry_key.specs.Walk.{read_key, reads}
-use Rattle.entry_key.specs.Writing.{is_plain, may_write}
+use Rattle.entry_key.specs.Writing.{is_plain_byte, may_write}
 use Rattle.entry_metadata.specs.Metadata.{block_length}
 use Rattle.entry_metadata.proofs.PrintedBlock.{is_meta, length-block}
 use Rattle.entry_parts.specs.Elements.{AreElements, Element, elements_bytes}
@@ -36,8 +36,8 @@ pub record IsKey (key : List ℕ) : Type 0 where
 pub is_key : (key : List ℕ) → may_write key ≡ true → IsKey key
 unfolding may_write
 is_key key h =
-    let outer = and_parts (nat_lt 0 (length key) && nat_le (length key) 16384 && list_all is_plain key) (reads (read_key key)) h in
-    let inner = and_parts (nat_lt 0 (length key) && nat_le (length key) 16384) (list_all is_plain key) outer.0 in
+    let outer = and_parts (nat_lt 0 (length key) && nat_le (length key) 16384 && list_all is_plain_byte key) (reads (read_key key)) h in
+    let inner = and_parts (nat_lt 0 (length key) && nat_le (length key) 16384) (list_all is_plain_byte key) outer.0 in
     let lengths = and_parts (nat_lt 0 (length key)) (nat_le (length key) 16384) inner.0 in
     record { short = leb-true (length key) 16384 lengths.1; grammar = outer.1 }
 

@@ -27,18 +27,18 @@ use Rattle.entry_parts.specs.Setting.{without_element}
 use Rattle.context_clear.specs.Mark.{mark_of}
 
 -- from one machine to the next
-abbrev Keeps : Machine → Machine → List ℕ → Type 0
-Keeps m next name = waits_for next name ≡ true → IsUnread m next name
+abbrev KeepsWaiting : Machine → Machine → List ℕ → Type 0
+KeepsWaiting m next name = waits_for next name ≡ true → IsUnread m next name
 
 keeps_same : (m next : Machine) (name : List ℕ) → next.shelf ≡ m.shelf → next.rest ≡ m.rest
-    → Keeps m next name
+    → KeepsWaiting m next name
 keeps_same m next name shelf rest waits = record {
   waited = ap (list_any (bytes_eq name)) (sym rest) ∙ waits;
   shelved = ap (λ t. get t name) shelf;
 }
 
-keeps_then : (m mid next : Machine) (name : List ℕ) → Keeps m mid name → Keeps mid next name
-    → Keeps m next name
+keeps_then : (m mid next : Machine) (name : List ℕ) → KeepsWaiting m mid name → KeepsWaiting mid next name
+    → KeepsWaiting m next name
 keeps_then m mid next name first second waits =
     let late = second waits in
     let early = first late.waited in
@@ -85,7 +85,7 @@ waits_drop name (suc n) (x ∷ names) any =
 
 -- What the steps of the commands keep.
 
-keeps_stored : (m : Machine) (i : ℕ) (o : Object) (name : List ℕ) → Keeps m (stored m i o) name
+keeps_stored : (m : Machine) (i : ℕ) (o : Object) (name : List ℕ) → KeepsWaiting m (stored m i o) name
 keeps_stored m i o name waits =
     let both = go (o.finished && not o.doomed) waits in
     record { waited = both.0; shelved = both.1 }
@@ -101,12 +101,12 @@ keeps_stored m i o name waits =
         (left.was, get-insert_other m.shelf at (file_of o.version) name (λ e. left.other (sym e)))
     go false any = (any, refl)
 
-keeps_doomed : (m : Machine) (gone name : List ℕ) → Keeps m (doomed_under m gone) name
+keeps_doomed : (m : Machine) (gone name : List ℕ) → KeepsWaiting m (doomed_under m gone) name
 keeps_doomed m gone name any =
     let left = left_without name gone m.rest any in
     record { waited = left.was; shelved = get-remove_other m.shelf gone name left.other }
 
-keeps_all_doomed : (m : Machine) (names : List Name) (name : List ℕ) → Keeps m (all_doomed m names) name
+keeps_all_doomed : (m : Machine) (names : List Name) (name : List ℕ) → KeepsWaiting m (all_doomed m names) name
 keeps_all_doomed m [] name = keeps_same m m name refl refl
 keeps_all_doomed m (n ∷ names) name =
     let gone : Machine = doomed_under m n.0 in
@@ -114,39 +114,39 @@ keeps_all_doomed m (n ∷ names) name =
     (keeps_all_doomed gone names name)
 
 keeps_evicted : (m : Machine) (names : List Name) (name : List ℕ)
-    → Keeps m (all_doomed (update_ended m) names) name
+    → KeepsWaiting m (all_doomed (update_ended m) names) name
 keeps_evicted m names name =
     let ended : Machine = update_ended m in
     keeps_then m ended (all_doomed ended names) name (λ waits. absurd (cc))
     (keeps_all_doomed ended names name)
 
-keeps_cleared : (m : Machine) (names : List Name) (name : List ℕ) → Keeps m (cleared_of m names) name
+keeps_cleared : (m : Machine) (names : List Name) (name : List ℕ) → KeepsWaiting m (cleared_of m names) name
 keeps_cleared m names name =
     keeps_then m (unmarked m) (cleared_of m names) name (keeps_same m (unmarked m) name refl refl) (keeps_evicted (unmarked m) names name)
 
 keeps_changed : (m : Machine) (s : ℕ) (f : Version → Version) (name : List ℕ)
-    → Keeps m (changed m s f) name
+    → KeepsWaiting m (changed m s f) name
 keeps_changed m s f name =
     keeps_stored m (number_of m s) (record (object_of m s) { version = f (object_of m s).version })
     name
 
-keeps_finished : (m : Machine) (s : ℕ) (name : List ℕ) → Keeps m (finished_by m s) name
+keeps_finished : (m : Machine) (s : ℕ) (name : List ℕ) → KeepsWaiting m (finished_by m s) name
 keeps_finished m s name =
     let done : Machine = stored m (number_of m s) (record (object_of m s) { finished = true }) in
-    cond_both (is_writer m s && not (object_of m s).finished) done m (λ t. Keeps m t name)
+    cond_both (is_writer m s && not (object_of m s).finished) done m (λ t. KeepsWaiting m t name)
     (λ goes. keeps_stored m (number_of m s) (record (object_of m s) { finished = true }) name)
     (λ stays. keeps_same m m name refl refl)
 
-keeps_released : (m : Machine) (s : ℕ) (name : List ℕ) → Keeps m (released m s) name
+keeps_released : (m : Machine) (s : ℕ) (name : List ℕ) → KeepsWaiting m (released m s) name
 keeps_released m s name =
     let o : Object = object_of m s in
     let after : Machine = record m { slots = with_slot s None m.slots } in
     let unused : Machine = record after { in_use = remove m.in_use (file_name o.version.key) } in
-    cond_both (has_slots after (number_of m s) || o.doomed) after unused (λ t. Keeps m t name)
+    cond_both (has_slots after (number_of m s) || o.doomed) after unused (λ t. KeepsWaiting m t name)
     (λ used. keeps_same m _ name refl refl) (λ gone. keeps_same m _ name refl refl)
 
 keeps_joined : (m : Machine) (s : ℕ) (user : Option ℕ) (r : Reading) (name : List ℕ)
-    → Keeps m (joined m s user r) name
+    → KeepsWaiting m (joined m s user r) name
 keeps_joined m s (Some i) r name = keeps_same m _ name refl refl
 keeps_joined m s None (Whole v) name = keeps_same m _ name refl refl
 keeps_joined m s None (Damaged d) name = keeps_same m m name refl refl
@@ -154,12 +154,12 @@ keeps_joined m s None Nothing name = keeps_same m m name refl refl
 
 keeps_unset : (m : Machine) (s : ℕ) (key name : List ℕ)
     → let unset : Version → Version = λ v. record v { elements = without_element key v.elements } in
-    (b : Bool) → Keeps m (cond b (answer m NoneThere) (answer (changed m s unset) Done)).next name
+    (b : Bool) → KeepsWaiting m (cond b (answer m NoneThere) (answer (changed m s unset) Done)).next name
 keeps_unset m s key name true = keeps_same m m name refl refl
 keeps_unset m s key name false =
     keeps_changed m s (λ v. record v { elements = without_element key v.elements }) name
 
-effect_keeps : (m : Machine) (c : Command) (name : List ℕ) → Keeps m (effect m c).next name
+effect_keeps : (m : Machine) (c : Command) (name : List ℕ) → KeepsWaiting m (effect m c).next name
 unfolding effect
 effect_keeps m (Create s key) name =
     let gone : Machine = doomed_under m (file_name key) in
@@ -189,7 +189,7 @@ effect_keeps m (EvictNames names) name = keeps_evicted m names name
 effect_keeps m (ClearOrigin origin) name = keeps_cleared m (cleared m origin) name
 effect_keeps m (ClearNames names) name = keeps_cleared m names name
 effect_keeps m Resume name =
-    cond_both (is_some (mark_of m.mark)) (cleared_of m (resumed m)) (unmarked m) (λ next. Keeps m next name)
+    cond_both (is_some (mark_of m.mark)) (cleared_of m (resumed m)) (unmarked m) (λ next. KeepsWaiting m next name)
     (λ some. keeps_cleared m (resumed m) name) (λ none. keeps_same m (unmarked m) name refl refl)
 effect_keeps m (ResumeNames names) name = keeps_cleared m names name
 effect_keeps m (StepUpdate n) name = λ waits. record {
@@ -205,6 +205,6 @@ effect_keeps m c name = keeps_same m _ name refl refl
 pub changes_leave_rest : ChangesLeaveRest
 changes_leave_rest m c name = go (first_failing (checks m c))
   where
-    go : (r : Option Refusal) → Keeps m (stepped m c r).next name
+    go : (r : Option Refusal) → KeepsWaiting m (stepped m c r).next name
     go None = effect_keeps m c name
     go (Some r) = keeps_same m m name refl refl

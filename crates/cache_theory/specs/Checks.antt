@@ -102,7 +102,8 @@ has_alt (Whole v) = (is_some (alt_in_version v), refused.NoAlt)
 has_alt (Damaged d) = (true, refused.NoAlt)
 has_alt Nothing = (true, refused.NoAlt)
 
--- the version with this header and these elements, as one that is written: in version 3 of the format, and with its key's length
+-- the version with this header and these elements, as one that is written: in version 3 of the format, and with its
+-- key's length
 abbrev pub with_parts : Header → List Element → Version → Version
 with_parts header elements v = record v { header = record header { version = 3; key_size = length v.key }; elements = elements }
 

@@ -46,7 +46,8 @@ pub data Command : Type 0 where
   ClearOrigin : (origin : List ℕ) → Command
   -- a clearing of these names, whatever the files say; no script spells it
   ClearNames : (names : List Name) → Command
-  -- a clearing that was stopped is done, if the mark of one stands; the first command of every run, and no script spells it
+  -- a clearing that was stopped is done, if the mark of one stands; the first command of every run, and no script
+  -- spells it
   Resume : Command
   -- the same of these names, where a mark stands, whatever the files say
   ResumeNames : (names : List Name) → Command

@@ -1,5 +1,5 @@
--- Commands that are answered `fault`: a look at the disk failed, and the machine is as before. Commands are counted from
--- 1 here.
+-- Commands that are answered `fault`: a look at the disk failed, and the machine is as before. Commands are counted
+-- from 1 here.
 use Rattle.std.specs.List.{list_any}
 use Rattle.std.specs.Prelude.{Bool, List, [], codes, drop, false, if◌then◌else◌, length, slice_get, Some, suc, take, ℕ, ⊤, ◌+◌, ◌++◌, ◌==◌, ◌<◌, ◌≡◌, ◌≢◌, ◌≤◌, ◌⊎◌, ◌∷◌}
 use Rattle.std.specs.Str.{bytes_eq}
@@ -62,10 +62,11 @@ pub record Faulted : Type 0 where
 abbrev pub none_answered : Faulted
 none_answered = record { answered = 0; faults = [] }
 
--- one command more is, before the others: by `fault`, or by its reply
+-- one command more is, before the others, by `fault`
 abbrev pub fault_before : ℕ → Faulted → Faulted
 fault_before n more = record { answered = suc more.answered; faults = n ∷ more.faults }
 
+-- one command more is, before the others, by its reply
 abbrev pub reply_before : Faulted → Faulted
 reply_before more = record { answered = suc more.answered; faults = more.faults }
 
@@ -102,8 +103,8 @@ IsCutOf text x = (n : ℕ) × ((n < length text) × (x ≡ take n text))
 abbrev pub reply_behind : Machine → List Command → ℕ → List ℕ → Command → List ℕ
 reply_behind m cs p faults c = reply_text (step (after m (unfaulted faults (take p cs))) c).reply
 
--- what may have gone out of the answer to the next command, if there is one, behind the answers to the first p: nothing, or
--- a cut of the line or of its reply. Behind the last command anything may follow
+-- what may have gone out of the answer to the next command, if there is one, behind the answers to the first p:
+-- nothing, or a cut of the line or of its reply. Behind the last command anything may follow
 abbrev pub MayFollow : Machine → List Command → ℕ → List ℕ → List ℕ → Type 0
 MayFollow m cs p faults x = (c : Command) → slice_get cs p ≡ Some c
     → (x ≡ []) ⊎ (IsCutOf fault_line x ⊎ IsCutOf (reply_behind m cs p faults c) x)
@@ -139,8 +140,8 @@ FaultCutIsTold = (m : Machine) (cs more : List Command) (c : Command) (faults : 
     → n < length fault_line
     → faulted m (cs ++ c ∷ more) (replies_but m cs faults ++ take n fault_line) ≡ record { answered = length cs; faults = faults }
 
--- And whatever went out, it begins with the answers to as many commands as are read, which are no more than there are, and
--- goes on with no answer to the next one.
+-- And whatever went out, it begins with the answers to as many commands as are read, which are no more than there
+-- are, and goes on with no answer to the next one.
 pub record IsRead (m : Machine) (cs : List Command) (bytes : List ℕ) (r : Faulted) : Type 0 where
   pub within : r.answered ≤ length cs
   pub numbers : AreFaults r.answered r.faults

@@ -96,22 +96,25 @@ abbrev pub EvictIsOfNames : Type 0
 EvictIsOfNames = (m : Machine) (kb : ℕ) → (step m (Evict kb) ≡ step m (EvictNames (evicted m kb)))
     × (touches m (Evict kb) ≡ touches m (EvictNames (evicted m kb)))
 
--- the machine's own check is that against the scan, its list is that of the scan, and an entry is there where one fits
+-- the machine's own check is that against the scan
 abbrev pub VerifyIsOfRecords : Type 0
 VerifyIsOfRecords = (m : Machine) → step m Verify ≡ step m (VerifyRecords (scan m.shelf))
 
+-- its list is that of the scan
 abbrev pub ListIsOfRecords : Type 0
 ListIsOfRecords = (m : Machine) → step m ListRecords ≡ step m (ListGiven (scan m.shelf))
 
+-- an entry is there where a file fits
 abbrev pub HasIsOfShelf : Type 0
 HasIsOfShelf = (m : Machine) (key : List ℕ)
     → step m (HasEntry key) ≡ step m (HasGiven key (fits_there (file_name key) (get m.shelf (file_name key))))
 
--- the replies to a `getalt` and to a `main`, by that to a `get`
+-- the reply to a `getalt`, by that to a `get`
 abbrev pub alt_reply_by : Reply → Reply
 alt_reply_by (Found v) = alt_reply_of v (alt_in_version v)
 alt_reply_by r = r
 
+-- the reply to a `main`, by that to a `get`
 abbrev pub main_reply_by : Reply → Reply
 main_reply_by (Found v) = main_reply_of v
 main_reply_by r = r
@@ -127,11 +130,12 @@ abbrev pub AltStays : Type 0
 AltStays = (m : Machine) (key : List ℕ)
     → ((step m (GetAlt key)).next ≡ m) × ((step m (MainBody key)).next ≡ m)
 
--- the machine's own clearing is that of its names, and these are those that the records of a scan tell
+-- the machine's own clearing is that of its names
 abbrev pub ClearIsOfNames : Type 0
 ClearIsOfNames = (m : Machine) (origin : List ℕ) → (step m (ClearOrigin origin) ≡ step m (ClearNames (cleared m origin)))
     × (touches m (ClearOrigin origin) ≡ touches m (ClearNames (cleared m origin)))
 
+-- these names are those that the records of a scan tell
 abbrev pub ClearGoesByScan : Type 0
 ClearGoesByScan = (m : Machine) (origin : List ℕ) → cleared m origin ≡ cleared_by (scan m.shelf) m origin
 

@@ -57,6 +57,7 @@ pub record FindsStock (shelf : Table (List ℕ)) (vs : List Version) : Type 0 wh
   pub items : (v : Version) → Any (λ w. w ≡ v) vs → found (get (stocked shelf vs)) v.key ≡ Some v
   pub others : (key : List ℕ) → IsNoneNamed key vs → found (get (stocked shelf vs)) key ≡ found (get shelf) key
 
+-- so it is on each shelf, of the items of each dump
 abbrev pub StockIsFound : Type 0
 StockIsFound = (shelf : Table (List ℕ)) (vs : List Version) → IsTable shelf → AreItems None vs → FindsStock shelf vs
 
@@ -70,6 +71,7 @@ pub record LoadsBack (shelf : Table (List ℕ)) : Type 0 where
       → found (get (stocked [] (dumped shelf))) key ≡ Some v
   pub nothing_else : (key : List ℕ) (v : Version) → found (get (stocked [] (dumped shelf))) key ≡ Some v → found (get shelf) key ≡ Some v
 
+-- so it is of each shelf whose dump leaves nothing out
 abbrev pub DumpLoadsBack : Type 0
 DumpLoadsBack = (shelf : Table (List ℕ)) → IsTable shelf → ((name c : List ℕ) → get shelf name ≡ Some c → AreBytes c)
     → DumpsAll shelf → LoadsBack shelf

@@ -1,5 +1,5 @@
--- What a stop may lose: the state of the last acknowledged flush or clearing, the names that were touched since, what was written
--- since, and where metadata were rewritten in place since.
+-- What a stop may lose: the state of the last acknowledged flush or clearing, the names that were touched since, what
+-- was written since, and where metadata were rewritten in place since.
 use Rattle.std.specs.List.{list_any}
 use Rattle.std.specs.Prelude.{Any, Bool, List, None, Option, Some, [], false, if◌then◌else◌, is_some, map, not, option_map, slice_get, unwrap_or, ℕ, ◌&&◌, ◌++◌, ◌∷◌, ◌≡◌, ◌⊎◌}
 use Rattle.std.specs.Str.{bytes_eq}
@@ -131,11 +131,12 @@ acked m (ClearOrigin origin) w = marks_of (effect m (ClearOrigin origin)).next
 acked m (ClearNames names) w = marks_of (effect m (ClearNames names)).next
 acked m c w = begun m c w
 
--- the marks where these commands are acknowledged, and where they have begun
+-- the marks where these commands are acknowledged
 abbrev pub all_acked : Machine → List Command → Marks → Marks
 all_acked m [] w = w
 all_acked m (c ∷ cs) w = all_acked (step m c).next cs (acked m c w)
 
+-- the marks where these commands have begun
 abbrev pub all_begun : Machine → List Command → Marks → Marks
 all_begun m [] w = w
 all_begun m (c ∷ cs) w = all_begun (step m c).next cs (begun m c w)

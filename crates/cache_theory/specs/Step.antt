@@ -247,11 +247,12 @@ stepped m c (Some r) = answer m (Refused r)
 abbrev pub step : Machine → Command → Answer
 step m c = stepped m c (first_failing (checks m c))
 
--- the machine after commands, and the replies to them
+-- the machine after commands
 abbrev pub after : Machine → List Command → Machine
 after m [] = m
 after m (c ∷ cs) = after (step m c).next cs
 
+-- the replies to commands
 abbrev pub replies : Machine → List Command → List Reply
 replies m [] = []
 replies m (c ∷ cs) = (step m c).reply ∷ replies (step m c).next cs

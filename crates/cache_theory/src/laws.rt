@@ -43,9 +43,9 @@ pub fn evict_is_of_names()
     ensures more { BegunTouchesMore }
 {}
 
-/// The machine's own clearing of an origin is that of its names, and the records of a scan tell which these are: the record
-/// of an entry says whether it is of the origin and not pinned. What stands under them is off the shelf then, and the
-/// update has ended.
+/// The machine's own clearing of an origin is that of its names, and the records of a scan tell which these are: the
+/// record of an entry says whether it is of the origin and not pinned. What stands under them is off the shelf then,
+/// and the update has ended.
 pub fn clear_goes_by_scan()
     ensures same { ClearIsOfNames }
     ensures scan { ClearGoesByScan }
@@ -171,8 +171,9 @@ pub fn marks_are_worded()
     ensures { MarksAreWorded }
 {}
 
-/// Once a clearing of an origin is acknowledged, no crash brings back a version that it took: what is found of the origin
-/// and is not pinned was written after the clearing, through an object that came after it or that it did not cover.
+/// Once a clearing of an origin is acknowledged, no crash brings back a version that it took: what is found of the
+/// origin and is not pinned was written after the clearing, through an object that came after it or that it did not
+/// cover.
 pub fn cleared_stay_gone()
     ensures gone { ClearedStayGone }
     ensures spared { WrittenAreSpared }

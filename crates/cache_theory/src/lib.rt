@@ -1,6 +1,6 @@
-//! What the cache is to do, as definitions and laws: a machine of whole entries, of the objects that are in use and of the
-//! slots that use them, with one step for each command. No body here does anything; the crates above are to be proved to
-//! do this.
+//! What the cache is to do, as definitions and laws: a machine of whole entries, of the objects that are in use and
+//! of the slots that use them, with one step for each command. No body here does anything; the crates above are to be
+//! proved to do this.
 #![tactic(auto)]
 
 mod laws;

@@ -6,7 +6,7 @@ use Rattle.cache_theory.specs.Command.{Command}
 use Rattle.cache_theory.specs.Faulted.{AreFaults, unfaulted, with_next}
 use Rattle.cache_theory.specs.Machine.{Machine}
 use Rattle.cache_theory.specs.Step.{after}
-use Rattle.cache_theory.proofs.FaultedOn.{faults_are_in_front, next_may_fault}
+use Rattle.cache_theory.proofs.Faults.FaultedOn.{faults_are_in_front, next_may_fault}
 use Rattle.cache_tool.specs.DoneFor.{AreDoneFor}
 use Rattle.cache_tool.specs.Right.{has_rebuild}
 use Rattle.cache_tool.specs.ScriptProgress.{DoneForKept}

@@ -11,7 +11,7 @@ use Rattle.cache_store.specs.Performing.{GoesBy, SaysThere, goes_by_records}
 use Rattle.cache_store.specs.Records.{AreAtEnd}
 use Rattle.cache_store.specs.Session.{Session}
 use Rattle.cache_store.specs.declared.memory_index.MemoryIndex.{MemoryIndex}
-use Rattle.cache_store.proofs.RecordsAtEnd.{at_end_is_one}
+use Rattle.cache_store.proofs.Records.RecordsAtEnd.{at_end_is_one}
 use Rattle.cache_theory.specs.Command.{Command}
 use Rattle.cache_theory.specs.Command.Command.{ClearNames, ClearOrigin, Evict, EvictNames, HasEntry, HasGiven, ListGiven, ListRecords, Resume, ResumeNames, Verify, VerifyRecords}
 use Rattle.cache_theory.specs.Checks.{checks}

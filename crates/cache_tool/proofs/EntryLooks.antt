@@ -5,11 +5,11 @@ use Rattle.cache_base.specs.declared.name.Name.{Name}
 use Rattle.cache_store.specs.IndexCalls.{names_read, names_resumed}
 use Rattle.cache_store.specs.Open.{Opens, StartsOn}
 use Rattle.cache_store.specs.Session.{Session}
-use Rattle.cache_store.proofs.Opened.{starts_on}
+use Rattle.cache_store.proofs.Sessions.Opened.{starts_on}
 use Rattle.cache_theory.specs.Command.{Command}
 use Rattle.cache_theory.specs.Command.Command.{ClearOrigin, Evict, Flush, ListRecords}
 use Rattle.cache_theory.specs.Machine.{Machine}
-use Rattle.cache_tool.specs.Beginning.{Begins, ReadsNoEntry}
+use Rattle.cache_tool.specs.Beginning.{BeginsRun, ReadsNoEntry}
 use Rattle.cache_tool.specs.Verbs.{LooksAtNone}
 use Rattle.cache_tool.proofs.StayingLaws.{step_ended}
 use Rattle.context_clear.specs.Mark.{mark_of}
@@ -56,7 +56,7 @@ opened_to_read moment s first finite opens ready =
     (bytes_end first.open_store.index.update).0 (sym (opens.keeps m is).matches.rest ∙ nothing_left moment s m is ready)
 
 -- nor has it behind what is done for `Resume`
-pub nothing_to_read : (moment : ℕ) (s : State) (mid : Session) → IsFinite s → Begins moment s mid → start_of (standing s) ≡ Ready → mid.open_store.index.update ≡ []
+pub nothing_to_read : (moment : ℕ) (s : State) (mid : Session) → IsFinite s → BeginsRun moment s mid → start_of (standing s) ≡ Ready → mid.open_store.index.update ≡ []
 nothing_to_read moment s mid finite begins ready =
     let (m, is) = starts_on moment s finite in
     let resumed = begins.resumed m is in

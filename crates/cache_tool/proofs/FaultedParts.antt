@@ -5,7 +5,7 @@ use Rattle.cache_theory.specs.Faulted.{AreFaults, fault_line, replies_but, unfau
 use Rattle.cache_theory.specs.Machine.{Machine}
 use Rattle.cache_theory.specs.Step.{after}
 use Rattle.cache_theory.specs.Text.{replies_text}
-use Rattle.cache_theory.proofs.FaultedOn.{faults_are_in_front, next_is_numbered, next_may_fault}
+use Rattle.cache_theory.proofs.Faults.FaultedOn.{faults_are_in_front, next_is_numbered, next_may_fault}
 
 pub one_longer : {X : Type 0} (ds : List X) (d : X) → suc (length ds) ≡ length (ds ++ d ∷ [])
 one_longer [] d = refl

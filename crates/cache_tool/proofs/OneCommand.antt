@@ -11,7 +11,7 @@ use Rattle.cache_store.specs.Answering.{outcome_of}
 use Rattle.cache_store.specs.Faulting.{StaysAs}
 use Rattle.cache_store.specs.Faults.{ending, fault_ending}
 use Rattle.cache_store.specs.Open.{LeavesOpen, StartsOn}
-use Rattle.cache_store.specs.Performing.{HadEffect, Keeps, Performs}
+use Rattle.cache_store.specs.Performing.{HadEffect, KeepsHistory, Performs}
 use Rattle.cache_store.specs.Said.{IsCut}
 use Rattle.cache_store.specs.Saying.{IsPart}
 use Rattle.cache_store.specs.Session.{Session}
@@ -26,8 +26,8 @@ use Rattle.cache_theory.specs.History.{History, acked, begun, settled_at, unansw
 use Rattle.cache_theory.specs.Machine.{Machine}
 use Rattle.cache_theory.specs.Step.{step}
 use Rattle.cache_theory.specs.Text.{IsSpoken, reply_text}
-use Rattle.cache_theory.proofs.RepliesApart.{step_spoken}
-use Rattle.cache_tool.specs.Beginning.{Begins, FailsToBegin}
+use Rattle.cache_theory.proofs.Faults.RepliesApart.{step_spoken}
+use Rattle.cache_tool.specs.Beginning.{BeginsRun, FailsToBegin}
 use Rattle.cache_tool.specs.Ending.{EndsSession}
 use Rattle.cache_tool.specs.Right.{LeadTo}
 use Rattle.cache_tool.specs.Statuses.{IsAnswer, IsClosing, status_in, status_of}
@@ -144,7 +144,7 @@ came_ok : (o : Verdict) (came : Result Status StoreFault) → IsOkAnd came (λ s
 came_ok o (Ok s) is = is
 came_ok o (Err f) is = absurd is
 
-module _ {moment : ℕ} (before now : Output) (mid last : Session) (begins : Begins moment before.disk mid) (m : Machine) (is : StartsOn moment before.disk m) (ended : Status) where
+module _ {moment : ℕ} (before now : Output) (mid last : Session) (begins : BeginsRun moment before.disk mid) (m : Machine) (is : StartsOn moment before.disk m) (ended : Status) where
   -- this was done for `Resume`
   abbrev d : Command
   d = (begins.resumed m is).done
@@ -193,7 +193,7 @@ module _ {moment : ℕ} (before now : Output) (mid last : Session) (begins : Beg
 
     -- it was performed, and the session was ended by what it came to
     pub performed_prints : (answer : Result Verdict StoreFault) (came : Result Status StoreFault) → IsSpoken c
-        → Performs c (step m (begins.resumed m is).done).next answer mid last before.taken now.taken → Keeps c (acked (begins.resumed m is).done (settled_at m)) answer last
+        → Performs c (step m (begins.resumed m is).done).next answer mid last before.taken now.taken → KeepsHistory c (acked (begins.resumed m is).done (settled_at m)) answer last
         → (HadEffect answer → StaysOnce c mid (step m (begins.resumed m is).done).next last) → LeavesHonest last.disk
         → CameBy answer came → (ended ≡ status_in came) ⊎ IsStop ended → ((IsClosing (status_in came) → ⊥) → (ended ≡ status_in came) × (now.disk ≡ last.disk))
         → PrintsLast m (begins.resumed m is).done (c ∷ []) ended before now

@@ -7,8 +7,8 @@ use Rattle.cache_store.specs.InUse.{HoldsBase, past_header}
 use Rattle.cache_store.specs.Open.{IsOpen, KeepsTo, Opens, StartsOn, Tells}
 use Rattle.cache_store.specs.Performing.{ComesToTell}
 use Rattle.cache_store.specs.Session.{Session}
-use Rattle.cache_store.proofs.PerformWhole.{begun_stands}
-use Rattle.cache_store.proofs.Represented.{keeps_marked, keeps_to, represents}
+use Rattle.cache_store.proofs.Performing.PerformWhole.{begun_stands}
+use Rattle.cache_store.proofs.Performing.Represented.{keeps_marked, keeps_to, represents}
 use Rattle.cache_theory.specs.Command.{Command}
 use Rattle.cache_theory.specs.Command.Command.{Rebuild}
 use Rattle.cache_theory.specs.Crash.{IsSafe}

@@ -9,14 +9,14 @@ use Rattle.cache_store.specs.Performing.{GoesBy, PerformsFor}
 use Rattle.cache_store.specs.Session.{Session}
 use Rattle.cache_store.specs.declared.fault.StoreFault.{StoreFault}
 use Rattle.cache_store.specs.declared.fault.Verdict.{Verdict}
-use Rattle.cache_store.proofs.Represented.{represents}
+use Rattle.cache_store.proofs.Performing.Represented.{represents}
 use Rattle.cache_theory.specs.Command.{Command}
 use Rattle.cache_theory.specs.Command.Command.{Resume}
 use Rattle.cache_theory.specs.Crash.{IsSafe}
 use Rattle.cache_theory.specs.History.{History, acked, begun, settled_at}
 use Rattle.cache_theory.specs.Machine.{Machine}
 use Rattle.cache_theory.specs.Marks.{marks_of}
-use Rattle.cache_tool.specs.Beginning.{Begins, FailsToBegin}
+use Rattle.cache_tool.specs.Beginning.{BeginsRun, FailsToBegin}
 use Rattle.cache_tool.specs.Staying.{StaysFor}
 use Rattle.cache_tool.proofs.DoneLaws.{done_right, resumed_at_opening}
 use Rattle.cache_tool.proofs.EntryLooks.{mark_opened, opened_to_read}
@@ -63,7 +63,7 @@ module _ (moment : ℕ) (s : State) (first now : Session) (finite : IsFinite s) 
 
   -- it was done
   pub resume_done : (o : Verdict) → OpensInUse s first.open_store.index.map first.disk → PerformsFor Resume (Ok o) first now taken later → StaysFor {T = Verdict} Resume (Ok o) first now
-      → LeavesResumed (mark_of (standing first.disk Clear)) first now.open_store.index → Begins moment s now
+      → LeavesResumed (mark_of (standing first.disk Clear)) first now.open_store.index → BeginsRun moment s now
   resume_done o based performs stays left = record {
     first = first;
     opens = opens;

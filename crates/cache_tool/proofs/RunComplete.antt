@@ -6,7 +6,7 @@ use Rattle.cache_script.proofs.ListLaws.{commands_are_one}
 use Rattle.cache_theory.specs.Text.{ScriptSpells}
 use Rattle.cache_tool.specs.Script.{HasBadCommand, IsScript}
 use Rattle.cache_tool.specs.Statuses.{IsAnswer}
-use Rattle.cache_tool.proofs.ScriptWhole.{whole_is_longest}
+use Rattle.cache_tool.proofs.Scripts.ScriptWhole.{whole_is_longest}
 
 pub script_is_not_bad : (left : Option (List ℕ)) → IsScript left → HasBadCommand left → ⊥
 script_is_not_bad None script bad = script

@@ -6,15 +6,15 @@ use Rattle.cache_store.specs.DoneFor.{IsDoneBy, IsOfShelf, IsResumedBy}
 use Rattle.cache_store.specs.Open.{IsHonest, IsShut, OpensHonestly, StartsOn, Tells}
 use Rattle.cache_store.specs.Performing.{GoesBy, SaysThere}
 use Rattle.cache_store.specs.Session.{Session}
-use Rattle.cache_store.proofs.Represented.{represents}
+use Rattle.cache_store.proofs.Performing.Represented.{represents}
 use Rattle.cache_theory.specs.Command.{Command}
 use Rattle.cache_theory.specs.Crash.{IsSafe}
 use Rattle.cache_theory.specs.History.{History, acked, settled_at}
 use Rattle.cache_theory.specs.Machine.{Machine}
 use Rattle.cache_theory.specs.Marks.{Marks, all_begun}
 use Rattle.cache_theory.specs.Step.{after, step}
-use Rattle.cache_theory.proofs.Crashes.{safe_is_crash_safe}
-use Rattle.cache_tool.specs.Beginning.{AreAtOpening, AreOnResumed, Begins}
+use Rattle.cache_theory.proofs.CrashImages.Crashes.{safe_is_crash_safe}
+use Rattle.cache_tool.specs.Beginning.{AreAtOpening, AreOnResumed, BeginsRun}
 use Rattle.cache_tool.specs.Ending.{EndsSession}
 use Rattle.cache_tool.specs.PutProgress.{all_unanswered}
 use Rattle.cache_tool.specs.Right.{LeadTo}
@@ -53,7 +53,7 @@ leaves_at m r ended final s t closes leaves = record {
   index = λ closing. leaves.index (closes closing);
 }
 
-module _ {moment : ℕ} (s : State) (mid : Session) (begins : Begins moment s mid) (m : Machine) (is : StartsOn moment s m) where
+module _ {moment : ℕ} (s : State) (mid : Session) (begins : BeginsRun moment s mid) (m : Machine) (is : StartsOn moment s m) where
   -- this was done for `Resume`, and here the session goes on
   abbrev pub first_done : Command
   first_done = (begins.resumed m is).done

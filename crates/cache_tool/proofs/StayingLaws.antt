@@ -12,8 +12,8 @@ use Rattle.cache_store.specs.Open.{KeepsTo, Opens, Represents, StartsOn, Tells}
 use Rattle.cache_store.specs.Performing.{HadEffect}
 use Rattle.cache_store.specs.Session.{Session}
 use Rattle.cache_store.specs.declared.fault.StoreFault.{StoreFault}
-use Rattle.cache_store.proofs.InUseLaws.{few_are_spared, few_stay_in_use}
-use Rattle.cache_store.proofs.Represented.{represents}
+use Rattle.cache_store.proofs.Records.InUseLaws.{few_are_spared, few_stay_in_use}
+use Rattle.cache_store.proofs.Performing.Represented.{represents}
 use Rattle.cache_theory.specs.Command.{Command}
 use Rattle.cache_theory.specs.Command.Command.{ClearOrigin, Evict, Flush, HasEntry, ListRecords, Rebuild, Resume, Verify}
 use Rattle.cache_theory.specs.History.{History}

@@ -50,8 +50,8 @@ abbrev pub names_cleared : Command → List Name
 names_cleared (ResumeNames names) = names
 names_cleared _ = []
 
--- the records by which it goes, where this was done before: those of all entries in an honest directory; and where the index
--- is trusted those of it with its journal applied, but for those of the names that were cleared
+-- the records by which it goes, where this was done before: those of all entries in an honest directory; and where
+-- the index is trusted those of it with its journal applied, but for those of the names that were cleared
 pub record AreOnResumed (s : State) (m : Machine) (d : Command) (records : List IndexRecord) : Type 0 where
   pub honest : AreOfShelf (Honest (standing s)) (step m d).next records
   pub trusted : start_of (standing s) ≡ Ready
@@ -74,7 +74,7 @@ pub record IsResumed (first : Session) (m : Machine) (now : Session) : Type 0 wh
   pub records : LeavesResumed (mark_of m.mark) first now.open_store.index
 
 -- the store was opened, and so it is for each machine at the opening
-pub record Begins (moment : ℕ) (s : State) (now : Session) : Type 0 where
+pub record BeginsRun (moment : ℕ) (s : State) (now : Session) : Type 0 where
   pub first : Session
   pub opens : Opens moment s first
   pub based : OpensInUse s first.open_store.index.map first.disk

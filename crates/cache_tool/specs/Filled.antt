@@ -25,9 +25,9 @@ fill_lines count evicted found listed =
     with_number (codes "made") count
     ++ (first_line (reply_text evicted) ++ (first_line (reply_text found) ++ first_line (reply_text listed)))
 
--- what is done for a machine: the entries are made and synced, half of all is evicted, and all is checked and listed. The
--- limit of the eviction goes by records, which are those of all entries where they are right; and so do the eviction, the
--- check and the list
+-- what is done for a machine: the entries are made and synced, half of all is evicted, and all is checked and listed.
+-- The limit of the eviction goes by records, which are those of all entries where they are right; and so do the
+-- eviction, the check and the list
 pub record AreFilled (right : Type 0) (now count first : ℕ) (m : Machine) : Type 0 where
   pub kb : ℕ
   pub summed : right → kb ≡ total_kb (scan (after m (making_commands now count first)).shelf)
@@ -51,8 +51,8 @@ module _ {right : Type 0} {now count first : ℕ} {m : Machine} (filled : AreFil
   status_in_check = let made = after m (making_commands now count first) in
       status_of (outcome_of (step (step made filled.evicts).next filled.checks).reply)
 
--- for a machine at an opening, and what was done for `Resume`: none of the commands behind it is acknowledged, and all may
--- have begun
+-- for a machine at an opening, and what was done for `Resume`: none of the commands behind it is acknowledged, and
+-- all may have begun
 pub record PrintsFill (now count first : ℕ) (m : Machine) (d : Command) (ended : Status) (before after : Output)
     : Type 0 where
   pub filled : AreFilled (Honest (standing before.disk)) now count first (step m d).next

@@ -1,6 +1,7 @@
 pub mod AnyDisk
 pub mod Asked
 pub mod Beginning
+pub mod ByVerb
 pub mod DoneFor
 pub mod Ending
 pub mod Fill

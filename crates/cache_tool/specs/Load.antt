@@ -143,8 +143,8 @@ pub record PrintsLoaded (m : Machine) (d : Command) (bytes : List ℕ) (ended : 
   pub prints : PrintsLoadLine (length loaded.items) ended before.taken now.taken
   pub leaves : LeavesDisk m (all_begun_none_acked m d (loaded_commands loaded)) ended before.disk now.disk
 
--- `load`, of a source that tells its bytes: the entries of a dump are written; or the run did not begin, and nothing of it was
--- read
+-- `load`, of a source that tells its bytes: the entries of a dump are written; or the run did not begin, and nothing
+-- of it was read
 abbrev pub LoadsDump : ℕ → Status → World → World → Type 0
 LoadsDump moment ended before now = IfSome before.source.left (λ bytes.
     (m : Machine) → StartsOn moment before.disk m

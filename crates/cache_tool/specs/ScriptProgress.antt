@@ -201,8 +201,8 @@ pub record LeavesScript (m : Machine) (r : Reach) (ended : Status) (before now :
   pub safe : IsSafe now.disk r.marks
   pub stands : IsClosing ended → LeadsWithin r m before now
 
--- One by one after a history: of these commands so many are acknowledged, and one more may have begun, but for those that
--- are answered `fault`.
+-- One by one after a history: of these commands so many are acknowledged, and one more may have begun, but for those
+-- that are answered `fault`.
 abbrev pub marks_on : History → List Command → List ℕ → ℕ → ℕ → Marks
 marks_on h cs faults a b =
     let begun = unfaulted faults (take b cs) in

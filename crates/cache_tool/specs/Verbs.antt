@@ -127,8 +127,8 @@ pub record PrintsLast (m : Machine) (d : Command) (cs : List Command) (ended : S
   pub silent : ended ≡ status.Source → Keeps before.taken now.taken
   pub leaves : LeavesDisk m (all_begun_none_acked m d cs) ended before.disk now.disk
 
--- It began so, and then a look at the disk failed before anything of the reply was said: the line that tells it is printed,
--- or a part of it, and no command was performed.
+-- It began so, and then a look at the disk failed before anything of the reply was said: the line that tells it is
+-- printed, or a part of it, and no command was performed.
 pub record PrintsFault (m : Machine) (d : Command) (ended : Status) (before now : Output) : Type 0 where
   pub failed : (ended ≡ status.Disk) ⊎ (ended ≡ status.Memory)
   pub rose : Rose before.disk_faults now.disk_faults
@@ -138,8 +138,8 @@ pub record PrintsFault (m : Machine) (d : Command) (ended : Status) (before now 
   pub closed : ended ≡ status.Disk
       → LeavesDisk m (none_performed m d) status.No before.disk now.disk ⊎ RoseBy 2 before.disk_faults now.disk_faults
 
--- words other than `run` and `put`: the command is performed, and its reply is printed; or the line `fault` is, or the run
--- did not begin
+-- words other than `run` and `put`: the command is performed, and its reply is printed; or the line `fault` is, or
+-- the run did not begin
 abbrev pub AnswersCommand : ℕ → Command → Status → Output → Output → Type 0
 AnswersCommand moment c ended before now = (m : Machine) → StartsOn moment before.disk m
     → DoneAtOpening before.disk m (λ d.
@@ -147,8 +147,8 @@ AnswersCommand moment c ended before now = (m : Machine) → StartsOn moment bef
     ⊎ PrintsFault m d ended before now)
     ⊎ HasNotBegun m ended before now
 
--- the words look at no entry: `list`, `evict` and `clear` do not where the index is trusted, and `flush` does not either
--- where no mark of an origin stands
+-- the words look at no entry: `list`, `evict` and `clear` do not where the index is trusted, and `flush` does not
+-- either where no mark of an origin stands
 abbrev pub LooksAtNone : Command → Option ℕ → Start → Type 0
 LooksAtNone Flush mark start = ReadsNoEntry mark start
 LooksAtNone ListRecords mark start = start ≡ Ready
@@ -194,8 +194,9 @@ pub record CountsFaults (ended : Status) (acked : ℕ) (faults with_last : List 
       ⊎ ((with_last ≡ with_next acked faults) × RoseBy (suc (length faults)) before now)
   pub disk : ended ≡ status.Disk → RoseBy (suc (length faults)) before now
 
--- These are the commands of a script, and what was done for them behind what was done for `Resume`: some are acknowledged,
--- and one more may have begun. A command that is answered `fault` is left out, as if it had not been there.
+-- These are the commands of a script, and what was done for them behind what was done for `Resume`: some are
+-- acknowledged, and one more may have begun. A command that is answered `fault` is left out, as if it had not been
+-- there.
 pub record PrintsReplies (m : Machine) (d : Command) (bytes : List ℕ) (cs : List Command) (ended : Status)
     (before now : World) : Type 0 where
   pub done : List Command

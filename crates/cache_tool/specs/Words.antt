@@ -17,15 +17,16 @@ pub data Asked : Type 0 where
   Put : (now : ℕ) (key : List ℕ) → Asked
   -- one command
   One : (now : ℕ) (command : Command) → Asked
-  -- so many entries are made, the sizes of whose bodies follow from a first number; half of all is evicted, and all checked
+  -- so many entries are made, the sizes of whose bodies follow from a first number; half of all is evicted, and all
+  -- checked
   Fill : (now count first : ℕ) → Asked
   -- the entries of the dump that the source has
   Load : (now : ℕ) → Asked
 
 -- The table of the verbs, and which words are those of the table.
 
--- a verb that stands alone, one with a key, an origin or a number after it, or one with two numbers, of which the first is from 1 up
--- to a limit; and what it asks for at a moment
+-- a verb that stands alone, one with a key, an origin or a number after it, or one with two numbers, of which the
+-- first is from 1 up to a limit; and what it asks for at a moment
 pub data Verb : Type 0 where
   Alone : (name : List ℕ) (asks : ℕ → Asked) → Verb
   WithKey : (name : List ℕ) (asks : ℕ → List ℕ → Asked) → Verb
@@ -138,27 +139,7 @@ WordsAreOfTable =
 abbrev pub asked_in : List (String Global) → Option Asked
 asked_in words = asked_by (map (λ w. string_bytes w) words)
 
--- where the words ask for a `run`: P of its moment
-abbrev pub WhenRun : Option Asked → (ℕ → Type 0) → Type 0
-WhenRun (Some (Asked.Run now)) P = P now
-WhenRun _ P = Unit {0}
-
--- for a `put`: P of its moment and its key
-abbrev pub WhenPut : Option Asked → (ℕ → List ℕ → Type 0) → Type 0
-WhenPut (Some (Asked.Put now key)) P = P now key
-WhenPut _ P = Unit {0}
-
--- for one command: P of its moment and the command
+-- where the words ask for one command: P of its moment and the command
 abbrev pub WhenOne : Option Asked → (ℕ → Command → Type 0) → Type 0
 WhenOne (Some (Asked.One now c)) P = P now c
 WhenOne _ P = Unit {0}
-
--- for a `fill`: P of its moment, how many entries it makes, and its first number
-abbrev pub WhenFill : Option Asked → (ℕ → ℕ → ℕ → Type 0) → Type 0
-WhenFill (Some (Asked.Fill now count first)) P = P now count first
-WhenFill _ P = Unit {0}
-
--- for a `load`: P of its moment
-abbrev pub WhenLoad : Option Asked → (ℕ → Type 0) → Type 0
-WhenLoad (Some (Asked.Load now)) P = P now
-WhenLoad _ P = Unit {0}

@@ -1,5 +1,5 @@
-//! Which words of a command line are asked for by the program, and that a disk which makes its answers up is no reason to
-//! answer that it failed.
+//! Which words of a command line are asked for by the program, and that a disk which makes its answers up is no
+//! reason to answer that it failed.
 
 ghost use Rattle.std.specs.Prelude.{◌≢◌};
 ghost use Rattle.cache_tool.specs.Words.{WordsAreOfTable};

@@ -273,8 +273,9 @@ fn perform_load<D: Disk, S: Source>(
     }
 }
 
-/// Loads a dump: the entry of each item is written, one after the other, in the order in which they come. Then the store is
-/// closed, and one line tells how many there were, or which item is bad: those before it stand, and nothing is left of it.
+/// Loads a dump: the entry of each item is written, one after the other, in the order in which they come. Then the
+/// store is closed, and one line tells how many there were, or which item is bad: those before it stand, and nothing
+/// is left of it.
 pub(crate) fn load<D: Disk, S: Source, K: Sink>(
     alloc: Global,
     now: Moment,

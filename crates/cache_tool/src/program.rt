@@ -1,26 +1,19 @@
 //! What the program does, over any disk, source and sink.
 
-ghost use Rattle.std.specs.Prelude.{◌≡◌, ◌≢◌, ◌↔◌, ◌⊎◌, ◌+◌, ℕ, false, suc, true, None, IsTrue, IsSome, IsNone};
-ghost use Rattle.std.specs.Io.KnownBytes.{Appends, IsAtEnd};
+ghost use Rattle.std.specs.Prelude.{◌≡◌, ◌≢◌, ◌↔◌, ◌⊎◌, IsTrue, IsSome, IsNone};
 ghost use Rattle.cache_base.specs.Causes.{Rose};
-ghost use Rattle.cache_base.specs.declared.limits.TheConstants.{BODY_MAX, PIECE_MAX};
 ghost use Rattle.cache_store.specs.IndexCalls.{LooksAtNames};
-ghost use Rattle.cache_store.specs.Printed.{PrintsNo, PrintsOk, PrintsRefusal, is_plain};
 ghost use Rattle.cache_store.specs.Saying.{TakesMore};
-ghost use Rattle.cache_tool.specs.AnyDisk.{TakesAtMost};
-ghost use Rattle.cache_tool.specs.Filled.{FillsCache};
-ghost use Rattle.cache_tool.specs.Load.{HasDump, HasNoDump, IsDumpOf, LoadsDump, bad_dump_line, loaded_line};
-ghost use Rattle.cache_tool.specs.Script.{HasBadCommand, HasScript, IsScript};
+ghost use Rattle.cache_tool.specs.ByVerb.{IsStatusOf, IsWhole, Performs, PrintsBy, ReadsSource, WentOn};
 ghost use Rattle.cache_tool.specs.Statuses.{IsAnswer, IsClosing};
-ghost use Rattle.cache_tool.specs.Verbs.{AnswersCommand, LooksAtNone, RunsScript, StoresEntry};
-ghost use Rattle.cache_tool.specs.Words.{WhenFill, WhenLoad, WhenOne, WhenPut, WhenRun, asked_in};
-ghost use Rattle.cache_tool.specs.World.{output, world};
+ghost use Rattle.cache_tool.specs.Verbs.{LooksAtNone};
+ghost use Rattle.cache_tool.specs.Words.{WhenOne, asked_in};
+ghost use Rattle.cache_tool.specs.World.{world};
 ghost use Rattle.context_clear.specs.Mark.{mark_of};
 ghost use Rattle.disk_model.specs.Calls.{StopsAtFault};
 ghost use Rattle.disk_model.specs.Sound.{IsQuiet};
 ghost use Rattle.disk_model.specs.State.{standing};
 ghost use Rattle.disk_model.specs.declared.place.Place.TheVariants.{Clear};
-ghost use Rattle.entry_key.specs.Writing.{may_write};
 ghost use Rattle.index_theory.specs.Start.{start_of};
 
 use crate::fill::fill;
@@ -34,27 +27,28 @@ use cache_io::{Sink, Source};
 use disk_model::Disk;
 use std::alloc::Global;
 
-/// Does what the words say. These are the words after the directory: `NOW run` performs the script that the source has,
-/// `NOW put KEY` makes an entry of the key whose body the source has, `NOW get KEY` prints an entry, `NOW doom KEY`
-/// removes one, `NOW evict KB` removes the least valuable ones until all take at most so many KB, `NOW flush` syncs
-/// what was written, `NOW list` prints the records of all entries, `NOW verify` checks all entries and prints what is
-/// wrong, and `NOW rebuild` reads all entries anew and writes the index. `NOW fill N FIRST` makes N entries, evicts
-/// half of all by their sizes, checks and lists the rest, and prints how many there were of each. `NOW dump` prints a dump
-/// of the entries, and `NOW load` writes the entries of the dump that the source has and prints how many there were, or
-/// which item is bad. Each opens the store at the moment NOW, does what is left of a clearing that an earlier run did not end, and closes the store.
+/// Does what the words say. These are the words after the directory: `NOW run` performs the script that the source
+/// has, `NOW put KEY` makes an entry of the key whose body the source has, `NOW get KEY` prints an entry, `NOW doom
+/// KEY` removes one, `NOW evict KB` removes the least valuable ones until all take at most so many KB, `NOW flush`
+/// syncs what was written, `NOW list` prints the records of all entries, `NOW verify` checks all entries and prints
+/// what is wrong, and `NOW rebuild` reads all entries anew and writes the index. `NOW fill N FIRST` makes N entries,
+/// evicts half of all by their sizes, checks and lists the rest, and prints how many there were of each. `NOW dump`
+/// prints a dump of the entries, and `NOW load` writes the entries of the dump that the source has and prints how
+/// many there were, or which item is bad. Each opens the store at the moment NOW, does what is left of a clearing
+/// that an earlier run did not end, and closes the store.
 ///
-/// A command that ends in a failed look at the disk before anything of its reply is out is answered by the line `fault`,
-/// and leaves all as it was. A `run` goes on with the next command; for other words the status is that of a disk that
-/// failed. Looks in the opening, in the clearing that is left, in the closing, in `fill` and in `load` end the run, as does one
-/// behind a part of a reply.
+/// A command that ends in a failed look at the disk before anything of its reply is out is answered by the line
+/// `fault`, and leaves all as it was. A `run` goes on with the next command; for other words the status is that of a
+/// disk that failed. Looks in the opening, in the clearing that is left, in the closing, in `fill` and in `load` end
+/// the run, as does one behind a part of a reply.
 ///
 /// The clauses on contents hold where the disk and the source tell theirs. Those on a crash hold where nothing was
 /// pending at the call, and speak of every exit, whatever the status.
 ///
-/// `list`, `has`, `evict`, `clear` and `verify` go by the records in memory. Where the directory was honest these are right, and the
-/// commands come to what the machine's do. Elsewhere they print, remove and find what the records that there are tell: right
-/// after an opening with a trusted index these are its records with the journal applied, but for those of entries that were
-/// cleared then.
+/// `list`, `has`, `evict`, `clear` and `verify` go by the records in memory. Where the directory was honest these are
+/// right, and the commands come to what the machine's do. Elsewhere they print, remove and find what the records that
+/// there are tell: right after an opening with a trusted index these are its records with the journal applied, but
+/// for those of entries that were cleared then.
 pub fn run<D: Disk, S: Source, K: Sink>(
     alloc: Global,
     words: &[String],
@@ -68,64 +62,19 @@ pub fn run<D: Disk, S: Source, K: Sink>(
         (disk.new ≡ disk.old) × (source.new ≡ source.old) × (sink.new ≡ sink.old) }
 
     // What is printed, what stands afterwards and what a crash may leave, by the machine.
-    ensures runs { let at = world S.Source K.Sink D.Disk in
-        let before = at source.old sink.old disk.old in
-        WhenRun (asked_in words.now) (λ now. IsTrue D.tells →
-        RunsScript now result before (at source.new sink.new disk.new)) }
-    ensures stores { let at = world S.Source K.Sink D.Disk in
-        let before = at source.old sink.old disk.old in
-        WhenPut (asked_in words.now) (λ now key. IsTrue D.tells →
-        StoresEntry now key result before (at source.new sink.new disk.new)) }
-    ensures answers { let at = output K.Sink D.Disk in
-        WhenOne (asked_in words.now) (λ now c. IsTrue D.tells →
-        AnswersCommand now c result (at sink.old disk.old) (at sink.new disk.new)) }
+    ensures performs { let at = world S.Source K.Sink D.Disk in IsTrue D.tells →
+        Performs (asked_in words.now) result
+        (at source.old sink.old disk.old) (at source.new sink.new disk.new) }
 
-    ensures fills { let at = output K.Sink D.Disk in
-        WhenFill (asked_in words.now) (λ now count first. IsTrue D.tells →
-        FillsCache now count first result (at sink.old disk.old) (at sink.new disk.new)) }
-    ensures loads { let at = world S.Source K.Sink D.Disk in
-        let before = at source.old sink.old disk.old in
-        WhenLoad (asked_in words.now) (λ now. IsTrue D.tells →
-        LoadsDump now result before (at source.new sink.new disk.new)) }
+    // On any disk, also on one that tells nothing: what was read of the source, what the status tells of it and of
+    // what was printed, and which statuses a verb may have.
+    ensures reads { ReadsSource (asked_in words.now) (source.new ≡ source.old) result
+        (S.left source.old) (S.left source.new) }
+    ensures prints { PrintsBy (asked_in words.now) result (K.taken sink.old) (K.taken sink.new) }
+    ensures status { IsStatusOf (asked_in words.now) result }
 
-    // With `Done` a `run`, a `put` and a `load` have read the source to its end, and for a `run` its bytes spell a script, for
-    // a `load` they are a dump; with `Script` they are none. A `put` under a key that cannot be written reads nothing, and other
-    // verbs never do.
-    ensures read { result ≡ Status.Done →
-        WhenRun (asked_in words.now) (λ now. IsAtEnd (S.left source.new))
-        × (WhenPut (asked_in words.now) (λ now key. IsAtEnd (S.left source.new))
-        × WhenLoad (asked_in words.now) (λ now. IsAtEnd (S.left source.new))) }
-    ensures spelled { result ≡ Status.Done →
-        WhenRun (asked_in words.now) (λ now. HasScript (S.left source.old))
-        × WhenLoad (asked_in words.now) (λ now. HasDump (S.left source.old)) }
-    ensures bad { result ≡ Status.Script →
-        WhenRun (asked_in words.now) (λ now. HasBadCommand (S.left source.old))
-        × WhenLoad (asked_in words.now) (λ now. HasNoDump (S.left source.old)) }
-    ensures unread { WhenPut (asked_in words.now) (λ now key.
-        may_write key ≡ false → source.new ≡ source.old) }
-    ensures taken { WhenPut (asked_in words.now) (λ now key.
-        TakesAtMost (BODY_MAX + PIECE_MAX) (S.left source.old) (S.left source.new)) }
-    ensures ignored { WhenOne (asked_in words.now) (λ now c. source.new ≡ source.old) }
-    ensures fill_ignored { WhenFill (asked_in words.now) (λ now count first. source.new ≡ source.old) }
-
-    // On any disk, also on one that tells nothing, the status is that of the printed reply: `ok` with `Done`, for a `put`
-    // and for a command whose reply is `ok` or a refusal; and with `No` a refusal, or for `verify` what was found. A `load`
-    // prints with `Done` how many items there were, and with `Script` which one is bad.
-    ensures put_done { result ≡ Status.Done →
-        WhenPut (asked_in words.now) (λ now key. PrintsOk (K.taken sink.old) (K.taken sink.new)) }
-    ensures put_no { result ≡ Status.No →
-        WhenPut (asked_in words.now) (λ now key. PrintsRefusal (K.taken sink.old) (K.taken sink.new)) }
-    ensures one_done { result ≡ Status.Done → WhenOne (asked_in words.now) (λ now c.
-        is_plain c ≡ true → PrintsOk (K.taken sink.old) (K.taken sink.new)) }
-    ensures one_no { result ≡ Status.No → WhenOne (asked_in words.now) (λ now c.
-        PrintsNo c (K.taken sink.old) (K.taken sink.new)) }
-    ensures load_done { result ≡ Status.Done → WhenLoad (asked_in words.now) (λ now.
-        (n : ℕ) × Appends (K.taken sink.old) (K.taken sink.new) (loaded_line n)) }
-    ensures load_bad { result ≡ Status.Script → WhenLoad (asked_in words.now) (λ now.
-        (n : ℕ) × Appends (K.taken sink.old) (K.taken sink.new) (bad_dump_line (suc n))) }
-
-    // What is printed only grows. Where the index is trusted a `flush` looks at no entry, nor do a `list`, an `evict` and a
-    // `clear`; and a `flush` does not either where the mark of no clearing stands.
+    // What is printed only grows. Where the index is trusted a `flush` looks at no entry, nor do a `list`, an `evict`
+    // and a `clear`; and a `flush` does not either where the mark of no clearing stands.
     ensures grows { IsTrue D.tells → TakesMore (K.taken sink.old) (K.taken sink.new) }
     ensures no_entry { let files = standing (D.state disk.old) in
         WhenOne (asked_in words.now) (λ now c.
@@ -135,39 +84,23 @@ pub fn run<D: Disk, S: Source, K: Sink>(
     // Where the store was closed nothing is pending.
     ensures quiet { IsClosing result → IsTrue D.tells → IsQuiet (D.state disk.new) }
 
-    // A script and a dump alone are bad, and never refused; a source fails for them and a `put` alone.
-    ensures script_alone { result ≡ Status.Script →
-        WhenPut (asked_in words.now) (λ now key. ⊥) × WhenOne (asked_in words.now) (λ now c. ⊥) }
-    ensures fill_alone { result ≡ Status.Script
-        → WhenFill (asked_in words.now) (λ now count first. ⊥) }
-    ensures never_no { WhenRun (asked_in words.now) (λ now. result ≢ Status.No)
-        × WhenLoad (asked_in words.now) (λ now. result ≢ Status.No) }
-    ensures never_source { WhenOne (asked_in words.now) (λ now c. result ≢ Status.Source) }
-    ensures fill_source { WhenFill (asked_in words.now) (λ now count first. result ≢ Status.Source) }
-
-    // A fault is answered only where its count rose, and for words other than `run` that of the disk before the others:
-    // where its count rose there is no other answer, unless memory ran out. In a `run` looks may fail and be answered by
-    // the line `fault`, but a change or a sync that fails is answered by the status. After it no call follows.
+    // A fault is answered only where its count rose, and for words other than `run` that of the disk before the
+    // others: where its count rose there is no other answer, unless memory ran out. In a `run` looks may fail and be
+    // answered by the line `fault`, but a change or a sync that fails is answered by the status. After it no call
+    // follows.
     ensures source { result ≡ Status.Source → Rose (S.faults source.old) (S.faults source.new) }
     ensures sink { result ≡ Status.Sink → Rose (K.faults sink.old) (K.faults sink.new) }
     ensures disk { result ≡ Status.Disk → Rose (D.faults disk.old) (D.faults disk.new) }
-    ensures disk_first { let same = D.faults disk.new ≡ D.faults disk.old in
-        result ≢ Status.Disk → result ≢ Status.Memory →
-        WhenPut (asked_in words.now) (λ now key. same)
-        × WhenOne (asked_in words.now) (λ now c. same)
-        × WhenFill (asked_in words.now) (λ now count first. same)
-        × WhenLoad (asked_in words.now) (λ now. same) }
-    ensures went_on { let same = (D.counts disk.new).failed ≡ (D.counts disk.old).failed in
-        result ≢ Status.Disk → result ≢ Status.Memory →
-        IsTrue D.tells → WhenRun (asked_in words.now) (λ now. same) }
+    ensures went_on { result ≢ Status.Disk → result ≢ Status.Memory →
+        WentOn (asked_in words.now) (D.faults disk.new ≡ D.faults disk.old)
+        (IsTrue D.tells → (D.counts disk.new).failed ≡ (D.counts disk.old).failed) }
     ensures calm { IsAnswer result ⊎ (result ≡ Status.Script) →
         (S.faults source.new ≡ S.faults source.old) × (K.faults sink.new ≡ K.faults sink.old) }
     ensures stops { IsTrue D.tells → StopsAtFault (D.counts disk.old) (D.counts disk.new) }
 
     // Where nothing fails, and a script or a dump is one, there is no other answer, unless memory ran out.
     ensures complete { IsSome (asked_in words.now)
-        → WhenRun (asked_in words.now) (λ now. IsScript (S.left source.old))
-        → WhenLoad (asked_in words.now) (λ now. IsDumpOf (S.left source.old))
+        → IsWhole (asked_in words.now) (S.left source.old)
         → ¬ (Rose (S.faults source.old) (S.faults source.new))
         → ¬ (Rose (K.faults sink.old) (K.faults sink.new))
         → ¬ (Rose (D.faults disk.old) (D.faults disk.new))

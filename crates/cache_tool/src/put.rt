@@ -10,7 +10,7 @@ ghost use Rattle.cache_store.specs.Faults.{ending};
 ghost use Rattle.cache_store.specs.Open.{IsOpen, LeavesOpen};
 ghost use Rattle.cache_store.specs.Printed.{HasBadKey, Prints, PrintsOk, PrintsRefusal};
 ghost use Rattle.cache_store.specs.Saying.{TakesMore};
-ghost use Rattle.cache_store.specs.Session.{session};
+ghost use Rattle.cache_store.specs.Session.{is_faulting, open_of, session};
 ghost use Rattle.cache_theory.specs.Given.{IsGiven};
 ghost use Rattle.cache_tool.specs.AnyDisk.{IsRefusalLine, TakesAtMost, ok_line};
 ghost use Rattle.cache_tool.specs.HeldReply.{said_in};
@@ -58,13 +58,14 @@ pub(crate) fn send<D: Disk>(
     ensures honest { IsTrue D.tells → LeavesHonest (D.state disk.new) }
     ensures no_sink { result ≢ Err StoreFault.Sink }
     ensures account { Accounts D.Disk (ending result) disk.old disk.new }
-    ensures faulted { store.new.faulting ≡ true → result ≡ Err StoreFault.Disk }
-    ensures looked { store.new.faulting ≡ true → Looks D.Disk Ending.OneFailed disk.old disk.new }
-    ensures stays { let at = session D.Disk in store.new.faulting ≡ true → IsTrue D.tells →
+    ensures faulted { is_faulting store.new ≡ true → result ≡ Err StoreFault.Disk }
+    ensures looked { is_faulting store.new ≡ true →
+        Looks D.Disk Ending.OneFailed disk.old disk.new }
+    ensures stays { let at = session D.Disk in is_faulting store.new ≡ true → IsTrue D.tells →
         StaysAs (at store.old disk.old) (at store.new disk.new) }
-    ensures same_base { store.new.faulting ≡ true
-        → SameBase store.old.index.map store.new.index.map }
-    ensures bare { LooksAtNothing (command_of c.now) → store.new.faulting ≡ false }
+    ensures same_base { is_faulting store.new ≡ true
+        → SameBase (open_of store.old).index.map (open_of store.new).index.map }
+    ensures bare { LooksAtNothing (command_of c.now) → is_faulting store.new ≡ false }
 {
     said.clear();
     store.attempt(alloc, disk, c, said)
@@ -90,7 +91,7 @@ fn append_piece<D: Disk>(
     ensures honest { IsTrue D.tells → LeavesHonest (D.state disk.new) }
     ensures no_sink { result ≢ Err StoreFault.Sink }
     ensures account { Accounts D.Disk (ending result) disk.old disk.new }
-    ensures bare { store.old.faulting ≡ false → store.new.faulting ≡ false }
+    ensures bare { is_faulting store.old ≡ false → is_faulting store.new ≡ false }
 {
     if piece.is_empty() {
         return Ok(Verdict::Ok);
@@ -138,7 +139,7 @@ fn append_all<D: Disk, S: Source>(
     ensures honest { IsTrue D.tells → LeavesHonest (D.state disk.new) }
     ensures no_sink { result ≢ Err StoreFault.Sink }
     ensures account { Accounts D.Disk (ending result) disk.old disk.new }
-    ensures bare { store.old.faulting ≡ false → store.new.faulting ≡ false }
+    ensures bare { is_faulting store.old ≡ false → is_faulting store.new ≡ false }
 {
     let mut room = BODY_MAX;
     'pieces: loop {
@@ -183,14 +184,14 @@ fn perform_put<D: Disk, S: Source>(
     ensures no_sink { result ≢ Err StoreFault.Sink }
     ensures account { Accounts D.Disk (ending result) disk.old disk.new }
     // A look at the disk fails in the first command alone.
-    ensures looked { result ≡ Err StoreFault.Disk → store.new.faulting ≡ true →
+    ensures looked { result ≡ Err StoreFault.Disk → is_faulting store.new ≡ true →
         Looks D.Disk Ending.OneFailed disk.old disk.new }
     ensures stays { let at = session D.Disk in
-        result ≡ Err StoreFault.Disk → store.new.faulting ≡ true → IsTrue D.tells →
+        result ≡ Err StoreFault.Disk → is_faulting store.new ≡ true → IsTrue D.tells →
         StaysAs (at store.old disk.old) (at store.new disk.new) }
-    ensures same_base { result ≡ Err StoreFault.Disk → store.new.faulting ≡ true →
-        SameBase store.old.index.map store.new.index.map }
-    ensures unread_fault { result ≡ Err StoreFault.Disk → store.new.faulting ≡ true →
+    ensures same_base { result ≡ Err StoreFault.Disk → is_faulting store.new ≡ true →
+        SameBase (open_of store.old).index.map (open_of store.new).index.map }
+    ensures unread_fault { result ≡ Err StoreFault.Disk → is_faulting store.new ≡ true →
         source.new ≡ source.old }
 {
     let mut piece = new_piece(alloc)?;
@@ -207,8 +208,8 @@ fn perform_put<D: Disk, S: Source>(
     Ok(appended)
 }
 
-/// Makes an entry of the key and of the source's bytes, closes the store, and prints the last reply. Where a look at the disk
-/// failed before anything was changed, the line `fault` is printed.
+/// Makes an entry of the key and of the source's bytes, closes the store, and prints the last reply. Where a look at
+/// the disk failed before anything was changed, the line `fault` is printed.
 pub(crate) fn put<D: Disk, S: Source, K: Sink>(
     alloc: Global,
     now: Moment,

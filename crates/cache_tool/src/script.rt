@@ -37,8 +37,8 @@ pub(crate) enum Ended {
     Bad(u64),
 }
 
-/// Performs the commands of the script that the source has, each with its reply before the next one is read. A command that
-/// ends in a failed look at the disk is answered by the line `fault`, and the session goes on.
+/// Performs the commands of the script that the source has, each with its reply before the next one is read. A
+/// command that ends in a failed look at the disk is answered by the line `fault`, and the session goes on.
 pub(crate) fn run_script<D: Disk, S: Source, K: Sink>(
     alloc: Global,
     now: Moment,

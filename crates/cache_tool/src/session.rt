@@ -10,7 +10,7 @@ ghost use Rattle.cache_store.specs.Said.{IsCut};
 ghost use Rattle.cache_store.specs.Saying.{IsPart};
 ghost use Rattle.cache_store.specs.Session.{session};
 ghost use Rattle.cache_theory.specs.Faulted.{fault_line};
-ghost use Rattle.cache_tool.specs.Beginning.{Begins, FailsToBegin, ReadsNoEntry};
+ghost use Rattle.cache_tool.specs.Beginning.{BeginsRun, FailsToBegin, ReadsNoEntry};
 ghost use Rattle.cache_tool.specs.Ending.{EndsSession};
 ghost use Rattle.cache_tool.specs.Statuses.{IsAnswer, IsClosing, IsSaid, status_in, status_of as status_of_outcome};
 ghost use Rattle.context_clear.specs.Mark.{mark_of};
@@ -30,11 +30,11 @@ use cache_store::{Store, StoreFault, Verdict};
 use disk_model::Disk;
 use std::alloc::Global;
 
-/// Begins a run: the store is opened at this moment, and the clearing is done that an earlier run left undone, if the mark of
-/// one stands. Nothing is printed, since the reply to that is empty.
+/// Begins a run: the store is opened at this moment, and the clearing is done that an earlier run left undone, if the
+/// mark of one stands. Nothing is printed, since the reply to that is empty.
 pub(crate) fn begin<D: Disk>(alloc: Global, now: Moment, disk: &mut D) -> Result<Store, StoreFault>
     ensures begins { IfOk result (λ store. IsTrue D.tells →
-        Begins now (D.state disk.old) (session D.Disk store disk.new)) }
+        BeginsRun now (D.state disk.old) (session D.Disk store disk.new)) }
     ensures open { IfOk result (λ store. IsTrue D.tells →
         IsOpen (session D.Disk store disk.new)) }
     ensures fails { OnErr result (Told D.Disk (FailsToBegin now) disk.old disk.new) }
@@ -71,8 +71,8 @@ pub(crate) fn status_of_fault(fault: StoreFault) -> Status
     }
 }
 
-/// Ends a session by what its commands came to: the store is closed, unless the disk failed or memory ran out. A fault of
-/// the closing comes before what they came to.
+/// Ends a session by what its commands came to: the store is closed, unless the disk failed or memory ran out. A
+/// fault of the closing comes before what they came to.
 pub(crate) fn end<D: Disk>(store: Store, came: Result<Status, StoreFault>, disk: &mut D) -> Status
     requires closing { IfOk came IsClosing }
     requires told { IsTrue D.tells → LeavesOpen came (session D.Disk store disk.old) }
@@ -102,7 +102,8 @@ pub(crate) fn end<D: Disk>(store: Store, came: Result<Status, StoreFault>, disk:
     }
 }
 
-// What a session comes to whose last line was said, or whose sink failed in it: its store is closed, unless memory ran out.
+// What a session comes to whose last line was said, or whose sink failed in it: its store is closed, unless memory
+// ran out.
 fn after_line(said: Result<(), StoreFault>) -> Result<Status, StoreFault>
     ensures { (result ≡ Ok Status.No) ⊎ (result ≡ Err StoreFault.Memory) }
 {
@@ -112,8 +113,9 @@ fn after_line(said: Result<(), StoreFault>) -> Result<Status, StoreFault>
     }
 }
 
-/// Ends a session whose command ended in a failed look at the disk, with all as it was: the line that tells it is printed,
-/// and the store is closed unless memory ran out. The status is that of a disk that failed, whatever else did.
+/// Ends a session whose command ended in a failed look at the disk, with all as it was: the line that tells it is
+/// printed, and the store is closed unless memory ran out. The status is that of a disk that failed, whatever else
+/// did.
 pub(crate) fn end_faulted<D: Disk, K: Sink>(mut store: Store, sink: &mut K, disk: &mut D) -> Status
     requires told { IsTrue D.tells → IsOpen (session D.Disk store disk.old) }
     ensures failed { (result ≡ Status.Disk) ⊎ (result ≡ Status.Memory) }

@@ -43,8 +43,8 @@ fn zero_from(buf: &mut [u8], at: usize)
     buf[at..].fill(0);
 }
 
-/// Reads the chunk `index` of a body of `offset` bytes into a slice of its length, by one call of the disk, whatever the
-/// slice held. Where the file is shorter, or no file stands there, the bytes that it does not have are zeros.
+/// Reads the chunk `index` of a body of `offset` bytes into a slice of its length, by one call of the disk, whatever
+/// the slice held. Where the file is shorter, or no file stands there, the bytes that it does not have are zeros.
 #[tactic(auto, using(crate::proofs::Filled::read_over_any))]
 pub fn read_chunk_into<D: Disk>(
     disk: &mut D,

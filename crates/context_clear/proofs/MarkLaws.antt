@@ -6,7 +6,7 @@ use Rattle.std.proofs.lemmas.Bool.{cases_lt, eq-eqb, eqb-true, ne_eqb}
 use Rattle.std.proofs.lemmas.List.{length-drop, length-take-le, take_all, take_at}
 use Rattle.std.proofs.lemmas.Nat.{from_be_bytes-to_be_bytes_4, from_be_bytes-to_be_bytes_8}
 use Rattle.cache_base.specs.Bytes.{AreBytes, be32, be32_at}
-use Rattle.cache_base.proofs.ByteLaws.{byte_at, bytes_drop, bytes_take, eight, four}
+use Rattle.cache_base.proofs.ByteLaws.{bytes_drop, bytes_take, eight, four, small64}
 use Rattle.disk_model.specs.State.{part_of}
 use Rattle.jenkins_hash.specs.Hash.{hash_of}
 use Rattle.jenkins_hash.proofs.HashLaws.{hash_of-lt}
@@ -26,12 +26,6 @@ mark_read origin small =
       both_hold true (be32_at (mark_bytes origin) 8 == hash_of (origin_bytes origin)) (Some (from_be_bytes w64 (mark_bytes origin))) refl (eq-eqb _ _ hash)
           ∙ ap Some (from_be_bytes-to_be_bytes_8 origin small),
     )
-
-small64 : (xs : List ℕ) → AreBytes xs → from_be_bytes w64 xs < 2 ^ 64
-small64 xs h =
-    let a = byte_at xs h 0 in let b = byte_at xs h 1 in let c = byte_at xs h 2 in let d = byte_at xs h 3 in
-    let e = byte_at xs h 4 in let f = byte_at xs h 5 in let g = byte_at xs h 6 in let i = byte_at xs h 7 in
-    omega (arith, a, b, c, d, e, f, g, i)
 
 both_true : (a b : Bool) → (a && b) ≡ true → (a ≡ true) × (b ≡ true)
 both_true true b h = (refl, h)

@@ -8,7 +8,7 @@ use Rattle.disk_model.specs.declared.disk.DiskFault.{DiskFault}
 use Rattle.disk_model.specs.Image.{Files, IsImage, MayHold, MayStand}
 use Rattle.disk_model.specs.Place.{is_same}
 use Rattle.disk_model.specs.Sound.{IsQuiet, IsSound, names_before, room}
-use Rattle.disk_model.specs.Standing.{Moves, Puts}
+use Rattle.disk_model.specs.Standing.{Moves, PutsContent}
 use Rattle.disk_model.specs.State.{File, State, Write, content, content_of, created, empty_file, names_now, removed, renamed, settled, standing, write_to, wrote}
 use Rattle.disk_model.specs.State.Write.{End}
 use Rattle.disk_model.proofs.Files.{with_file-apart, with_file-below}
@@ -39,7 +39,7 @@ image_with s c sound (left, (within, may)) = (before, ((length s.steps - left, (
     each place false e = now_may_stand s.files (names_before s left place) sound.inside
 
 -- the same files, where they stand
-may_same : (files new : ℕ → File) (at : Option ℕ) (c : Option (List ℕ)) → ((f : ℕ) → at ≡ Some f → new f ≡ files f) → MayStand new at c → MayStand files at c
+pub may_same : (files new : ℕ → File) (at : Option ℕ) (c : Option (List ℕ)) → ((f : ℕ) → at ≡ Some f → new f ≡ files f) → MayStand new at c → MayStand files at c
 may_same files new None None same may = may
 may_same files new None (Some c) same may = may
 may_same files new (Some f) None same may = may
@@ -134,7 +134,7 @@ module _ (s : State) (number : ℕ) (bytes : List ℕ) (sound : IsSound s) where
   left_at Placed (suc (suc k)) c within may = absurd (omega (arith, within))
 
 -- a mark that was stored stands, where nothing stood under the number, and else all is as before
-pub mark_puts : (s : State) (number : ℕ) (bytes : List ℕ) → IsSound s → standing s (Doomed number) ≡ None → Puts Clear (Some bytes) s (storing_at Placed number bytes s)
+pub mark_puts : (s : State) (number : ℕ) (bytes : List ℕ) → IsSound s → standing s (Doomed number) ≡ None → PutsContent Clear (Some bytes) s (storing_at Placed number bytes s)
 mark_puts s number bytes sound free = record { here = moves.moved ∙ settled_same (filled s number bytes sound) (Doomed number) ∙ filled_stands s number bytes sound; others = others }
   where
     synced : State
@@ -159,7 +159,7 @@ mark_puts s number bytes sound free = record { here = moves.moved ∙ settled_sa
     others other not_clear = at_number other (is_same other (Doomed number)) refl not_clear
 
 -- a mark that was taken away is gone, and no crash brings it back
-pub end_puts : (s : State) → Puts Clear None s (settled (removed Clear s))
+pub end_puts : (s : State) → PutsContent Clear None s (settled (removed Clear s))
 end_puts s = puts_kept Clear None s (removed Clear s) (settled (removed Clear s)) (removed_puts Clear s) (settled_same (removed Clear s))
 
 pub end_leaves_none : (s : State) (image : Files) → IsImage (settled (removed Clear s)) image → image Clear ≡ None
@@ -179,14 +179,14 @@ pub on_placed : (tells : Type 0) (s t : State) (number origin : ℕ) (bytes : Li
     → OnOk answer (tells → StoresMark number bytes s t) → OnOk answer (tells → PutsMark origin s t)
 on_placed tells s t number origin bytes (Ok value) sound is free placed = λ told.
     subst (λ (u : State). PutsMark origin s u) (sym (placed told))
-    (subst (λ (xs : List ℕ). Puts Clear (Some xs) s (storing_at Placed number bytes s)) is (mark_puts s number bytes (sound told) (free told)))
+    (subst (λ (xs : List ℕ). PutsContent Clear (Some xs) s (storing_at Placed number bytes s)) is (mark_puts s number bytes (sound told) (free told)))
 on_placed tells s t number origin bytes (Err fault) sound is free placed = tt
 
 -- the same of one that ended
 pub on_ended : (tells : Type 0) (s t u : State) (answer : Result Unit DiskFault) → (tells → t ≡ removed Clear s) → (tells → u ≡ if_ok answer (settled t) t)
-    → OnOk answer (tells → Puts Clear None s u) × OnOk answer (tells → LeavesNoFile s u)
+    → OnOk answer (tells → PutsContent Clear None s u) × OnOk answer (tells → LeavesNoFile s u)
 on_ended tells s t u (Ok value) gone synced = (
-  (λ told. subst (λ (v : State). Puts Clear None s v) (sym (synced told ∙ ap settled (gone told))) (end_puts s)),
+  (λ told. subst (λ (v : State). PutsContent Clear None s v) (sym (synced told ∙ ap settled (gone told))) (end_puts s)),
   (λ told image is. end_leaves_none s image (subst (λ (v : State). IsImage v image) (synced told ∙ ap settled (gone told)) is)),
 )
 on_ended tells s t u (Err fault) gone synced = (tt, tt)

@@ -1,7 +1,7 @@
 -- A mark is stored and removed: the changes in their order, and what a crash leaves at `clear`.
 use Rattle.std.specs.Prelude.{ℕ, ◌≡◌, ◌⊎◌, List, Some, None}
 use Rattle.disk_model.specs.Image.{Files, IsImage}
-use Rattle.disk_model.specs.Standing.{Puts}
+use Rattle.disk_model.specs.Standing.{PutsContent}
 use Rattle.disk_model.specs.State.{State, created, removed, renamed, settled, wrote}
 use Rattle.disk_model.specs.State.Write.{End}
 use Rattle.disk_model.specs.declared.place.Place.TheVariants.{Clear, Doomed}
@@ -33,7 +33,7 @@ StoresMark number bytes s t = t ≡ storing_at Placed number bytes s
 
 -- the mark of the origin stands at `clear`, and what stands elsewhere is as before
 abbrev pub PutsMark : ℕ → State → State → Type 0
-PutsMark origin s t = Puts Clear (Some (mark_bytes origin)) s t
+PutsMark origin s t = PutsContent Clear (Some (mark_bytes origin)) s t
 
 -- what a crash leaves at `clear` is the whole mark of the origin, or what a crash could leave there before
 abbrev pub LeavesWholeMark : ℕ → State → State → Type 0

@@ -1,6 +1,6 @@
-//! What a clearing of one origin needs: which records of the index it takes, and its mark. The mark is the file `clear`,
-//! which is to stand from before the first entry goes until the last one is gone. A stop leaves it whole or not at all, so
-//! an opening that finds it knows which origin is left to clear.
+//! What a clearing of one origin needs: which records of the index it takes, and its mark. The mark is the file
+//! `clear`, which is to stand from before the first entry goes until the last one is gone. A stop leaves it whole or
+//! not at all, so an opening that finds it knows which origin is left to clear.
 #![tactic(auto)]
 
 mod laws;

@@ -3,7 +3,7 @@
 ghost use Rattle.std.specs.Prelude.{◌≡◌, IfOk, IsSome, IsTrue, None, OnOk};
 ghost use Rattle.disk_model.specs.Account.{Accounts, FailsInChange, Looks, LooksAtNoEntry, ending};
 ghost use Rattle.disk_model.specs.Calls.{counted};
-ghost use Rattle.disk_model.specs.Standing.{Puts};
+ghost use Rattle.disk_model.specs.Standing.{PutsContent};
 ghost use Rattle.disk_model.specs.State.{standing};
 ghost use Rattle.disk_model.specs.Told.{Told};
 ghost use Rattle.disk_model.specs.declared.place.Place.TheVariants.{Clear, Doomed};
@@ -51,8 +51,8 @@ pub fn store<D: Disk>(disk: &mut D, origin: u64, number: u32) -> Result<(), Disk
     place_mark(disk, number, &write_mark(origin))
 }
 
-/// The hash of the origin whose mark stands at `clear`, or none where no mark does: where no file stands there, or another
-/// one. It makes one call of the disk.
+/// The hash of the origin whose mark stands at `clear`, or none where no mark does: where no file stands there, or
+/// another one. It makes one call of the disk.
 pub fn stored<D: Disk>(disk: &mut D) -> Result<Option<u64>, DiskFault>
     // What is found.
     ensures origin { IfOk result (λ found.
@@ -79,7 +79,7 @@ pub fn end<D: Disk>(disk: &mut D) -> Result<(), DiskFault>
     // The changes, in their order, and what then stands.
     ensures ended { OnOk result (Told D.Disk spec.RemovesFile disk.old disk.new) }
     ensures amid { Told D.Disk spec.IsAmidEnding disk.old disk.new }
-    ensures stands { OnOk result (Told D.Disk (Puts Clear None) disk.old disk.new) }
+    ensures stands { OnOk result (Told D.Disk (PutsContent Clear None) disk.old disk.new) }
 
     // What a crash leaves after an Ok.
     ensures gone { OnOk result (Told D.Disk spec.LeavesNoFile disk.old disk.new) }

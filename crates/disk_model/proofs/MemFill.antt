@@ -6,7 +6,7 @@ use Rattle.disk_model.specs.declared.place.Place.{Place}
 use Rattle.disk_model.specs.Place.{is_same}
 use Rattle.disk_model.specs.State.{File, Names, State, with_name, standing}
 use Rattle.disk_model.specs.Image.{MayStand}
-use Rattle.disk_model.specs.Standing.{Puts}
+use Rattle.disk_model.specs.Standing.{PutsContent}
 use Rattle.disk_model.specs.MemFile.{nth_file}
 use Rattle.disk_model.specs.MemImage.{Given, image_of, ArePlacesApart}
 use Rattle.disk_model.specs.MemFill.{IsAnywhere, IsNowhere, AreMade, MayStandAll, IsTaken, AreTaken}
@@ -94,7 +94,7 @@ module _ (files : List MemFile) (before now : Names) (given : Given) (taken : Ar
       go (Some c) gone may = none_stands (now anywhere.0) gone.0 anywhere.1
 
 -- the table with one more
-pub stands_more : (old new : State) (done : Given) (place : Place) (content : List ℕ) → image_of done place ≡ None → Puts place (Some content) old new
+pub stands_more : (old new : State) (done : Given) (place : Place) (content : List ℕ) → image_of done place ≡ None → PutsContent place (Some content) old new
     → ((q : Place) → standing old q ≡ image_of done q) → (q : Place) → standing new q ≡ image_of (done ++ (place, content) ∷ []) q
 stands_more old new done place content none puts stands q = elim (cases_Bool (is_same q place)) [ inl same ↦ here same | inr other ↦ elsewhere other ]
   where
@@ -134,5 +134,5 @@ module _ (files : List MemFile) (before now : Names) (given : Given) (i : ℕ) (
     pub loop_taken : (next : Names) → next ≡ with_name e.0 None now → AreTaken files before next (take (i + 1) given)
     loop_taken next set = subst (AreTaken files before next) (sym grown) (taken_more files before now done taken next e.0 e.1 set may)
 
-    pub loop_stands : (old new : State) → Puts e.0 (Some e.1) old new → ((q : Place) → standing old q ≡ image_of done q) → (q : Place) → standing new q ≡ image_of (take (i + 1) given) q
+    pub loop_stands : (old new : State) → PutsContent e.0 (Some e.1) old new → ((q : Place) → standing old q ≡ image_of done q) → (q : Place) → standing new q ≡ image_of (take (i + 1) given) q
     loop_stands old new puts stands = subst (λ (g : Given). (q : Place) → standing new q ≡ image_of g q) (sym grown) (stands_more old new done e.0 e.1 none_yet puts stands)

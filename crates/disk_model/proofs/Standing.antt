@@ -3,13 +3,13 @@ use Rattle.std.proofs.Common.{◌≡◌, ◌≢◌, ℕ, List, Option, Some, Non
 use Rattle.disk_model.specs.declared.place.Place.{Place}
 use Rattle.disk_model.specs.State.{Write, File, Names, State, with_name, content, content_of, written, add_write, write_to, names_now, standing, added, wrote, renamed, removed, settled}
 use Rattle.disk_model.specs.Sound.{IsSound}
-use Rattle.disk_model.specs.Standing.{Puts, Moves, SameStanding}
+use Rattle.disk_model.specs.Standing.{PutsContent, Moves, SameStanding}
 use Rattle.disk_model.proofs.Places.{is_same-refl, is_same-apart}
 use Rattle.disk_model.proofs.Sound.{names_settled}
 use Rattle.disk_model.proofs.Files.{with_file-same, with_file-apart, with_file-below, content_of-same}
 
 -- a new file
-pub added_puts : (place : Place) (new : File) (s : State) → IsSound s → Puts place (Some (content new)) s (added place new s)
+pub added_puts : (place : Place) (new : File) (s : State) → IsSound s → PutsContent place (Some (content new)) s (added place new s)
 added_puts place new s sound = record { here = here; others = others }
   where
     here : standing (added place new s) place ≡ Some (content new)
@@ -23,13 +23,13 @@ added_puts place new s sound = record { here = here; others = others }
         ∙ content_of-same s.files (added place new s).files (names_now s other) (λ f at. with_file-below s.made f new s.files (sound.made 0 other f at))
 
 -- the same where the names are then settled
-pub put_puts : (place : Place) (new : File) (s t : State) (bytes : List ℕ) → t ≡ names_settled (added place new s) → content new ≡ bytes → IsSound s → Puts place (Some bytes) s t
+pub put_puts : (place : Place) (new : File) (s t : State) (bytes : List ℕ) → t ≡ names_settled (added place new s) → content new ≡ bytes → IsSound s → PutsContent place (Some bytes) s t
 put_puts place new s t bytes is holds sound =
-    subst (λ (u : State). Puts place (Some bytes) s u) (sym is)
-    (subst (λ (c : List ℕ). Puts place (Some c) s (names_settled (added place new s))) holds (let one = added_puts place new s sound in record { here = one.here; others = one.others }))
+    subst (λ (u : State). PutsContent place (Some bytes) s u) (sym is)
+    (subst (λ (c : List ℕ). PutsContent place (Some c) s (names_settled (added place new s))) holds (let one = added_puts place new s sound in record { here = one.here; others = one.others }))
 
 -- a write into the file that stands there
-pub wrote_puts : (place : Place) (write : Write) (s : State) (c : List ℕ) → IsSound s → standing s place ≡ Some c → Puts place (Some (written write c)) s (wrote place write s)
+pub wrote_puts : (place : Place) (write : Write) (s : State) (c : List ℕ) → IsSound s → standing s place ≡ Some c → PutsContent place (Some (written write c)) s (wrote place write s)
 wrote_puts place write s c sound stands = record { here = here (names_now s place) stands; others = others }
   where
     here : (at : Option ℕ) → content_of s.files at ≡ Some c → content_of (write_to at write s.files) at ≡ Some (written write c)
@@ -46,7 +46,7 @@ wrote_puts place write s c sound stands = record { here = here (names_now s plac
     others other apart =
         content_of-same s.files (wrote place write s).files (names_now s other) (λ f at. untouched f (names_now s place) (λ there. apart (sound.one_place 0 other place f at there)))
 
-pub removed_puts : (place : Place) (s : State) → Puts place None s (removed place s)
+pub removed_puts : (place : Place) (s : State) → PutsContent place None s (removed place s)
 removed_puts place s = record { here = here; others = others }
   where
     here : standing (removed place s) place ≡ None
@@ -83,8 +83,8 @@ settled_same s place = there (names_now s place)
 
 -- Two changes in a row.
 
-pub puts_again : (place : Place) (first second : Option (List ℕ)) (s t u : State) → Puts place first s t → Puts place second t u → Puts place second s u
+pub puts_again : (place : Place) (first second : Option (List ℕ)) (s t u : State) → PutsContent place first s t → PutsContent place second t u → PutsContent place second s u
 puts_again place first second s t u one two = record { here = two.here; others = λ other apart. two.others other apart ∙ one.others other apart }
 
-pub puts_kept : (place : Place) (c : Option (List ℕ)) (s t u : State) → Puts place c s t → SameStanding t u → Puts place c s u
+pub puts_kept : (place : Place) (c : Option (List ℕ)) (s t u : State) → PutsContent place c s t → SameStanding t u → PutsContent place c s u
 puts_kept place c s t u puts same = record { here = same place ∙ puts.here; others = λ other apart. same other ∙ puts.others other apart }

@@ -3,7 +3,7 @@ use Rattle.std.proofs.Common.{◌≡◌, ◌≢◌, ℕ, List, Option, Some, Non
 use Rattle.disk_model.specs.declared.place.Place.{Place}
 use Rattle.disk_model.specs.State.{State, Names, names_after, names_now, content_of, standing}
 use Rattle.disk_model.specs.Sound.{IsSound}
-use Rattle.disk_model.specs.Standing.{Puts}
+use Rattle.disk_model.specs.Standing.{PutsContent}
 use Rattle.disk_model.specs.Writes.{WritesTo, WritesAt}
 use Rattle.disk_model.proofs.Files.{content_of-same}
 
@@ -11,10 +11,10 @@ same_names : (file : ℕ) (P : List ℕ → Type 0) (s t : State) → WritesTo f
 same_names file P s t writes = λ i. names_after (writes.names i) (writes.steps i)
 
 pub writes_puts : (place : Place) (P : List ℕ → Type 0) (s t : State) (c d : List ℕ) → IsSound s → standing s place ≡ Some c → WritesAt place P s t → standing t place ≡ Some d
-    → Puts place (Some d) s t
+    → PutsContent place (Some d) s t
 writes_puts place P s t c d sound stands writes now = go (names_now s place) refl
   where
-    go : (at : Option ℕ) → names_now s place ≡ at → Puts place (Some d) s t
+    go : (at : Option ℕ) → names_now s place ≡ at → PutsContent place (Some d) s t
     go None is = let none : standing s place ≡ None = ap (content_of s.files) is in cc
     go (Some file) is = record { here = now; others = others }
       where

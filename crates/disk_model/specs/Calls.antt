@@ -73,6 +73,6 @@ MayWriteAt None from = ⊥
 MayWriteAt (Some content) from = from ≤ length content
 
 -- a file stands there, and has so many bytes from the offset on
-abbrev pub Holds : Option (List ℕ) → ℕ → ℕ → Type 0
-Holds None from len = ⊥
-Holds (Some content) from len = from + len ≤ length content
+abbrev pub HoldsPart : Option (List ℕ) → ℕ → ℕ → Type 0
+HoldsPart None from len = ⊥
+HoldsPart (Some content) from len = from + len ≤ length content

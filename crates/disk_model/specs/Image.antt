@@ -23,11 +23,12 @@ IsReached i (write ∷ earlier) = Reaches i write ⊎ IsReached i earlier
 abbrev pub moment : File → ℕ → List ℕ
 moment file left = content_after file.synced (drop left file.writes)
 
--- the least and the greatest length of its moments
+-- the least length of its moments
 abbrev pub shortest : List ℕ → List Write → ℕ
 shortest synced [] = length synced
 shortest synced (write ∷ earlier) = min (length (content_after synced (write ∷ earlier))) (shortest synced earlier)
 
+-- the greatest length of its moments
 abbrev pub longest : List ℕ → List Write → ℕ
 longest synced [] = length synced
 longest synced (write ∷ earlier) = max (length (content_after synced (write ∷ earlier))) (longest synced earlier)

@@ -4,7 +4,7 @@ use Rattle.disk_model.specs.declared.place.Place.{Place}
 use Rattle.disk_model.specs.State.{State, standing}
 
 -- the content stands at the place, or no file where it is none, and what stands elsewhere is as before
-pub record Puts (place : Place) (content : Option (List ℕ)) (before now : State) : Type 0 where
+pub record PutsContent (place : Place) (content : Option (List ℕ)) (before now : State) : Type 0 where
   pub here : standing now place ≡ content
   pub others : (other : Place) → other ≢ place → standing now other ≡ standing before other
 

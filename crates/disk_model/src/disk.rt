@@ -8,7 +8,7 @@ ghost use Rattle.disk_model.specs.State.{State, standing, part_of, created, rena
 ghost use Rattle.disk_model.specs.State.Write.{End, Patch};
 ghost use Rattle.disk_model.specs.Sound.{IsSound};
 ghost use Rattle.disk_model.specs.Listing.{AreEntries, AreDoomed, AreRisingNumbers, IsFinite};
-ghost use Rattle.disk_model.specs.Calls.{Counts, counted, counted_change, counted_read, counted_sync, if_ok, if_done, MayWriteAt, Holds};
+ghost use Rattle.disk_model.specs.Calls.{Counts, counted, counted_change, counted_read, counted_sync, if_ok, if_done, MayWriteAt, HoldsPart};
 ghost use Rattle.disk_model.specs.declared.disk.DiskFault.TheVariants.{Memory};
 
 use crate::Place;
@@ -111,7 +111,7 @@ pub trait Disk {
     fn patch(&mut self, place: &Place, from: u64, bytes: &[u8]) -> Result<(), DiskFault>
         requires limit { from ≤ 2 ^ 40 }
         requires told { IsTrue tells →
-            Holds (standing (state self.old) place.now) from (length bytes.now) }
+            HoldsPart (standing (state self.old) place.now) from (length bytes.now) }
         ensures state { IsTrue tells → state self.new ≡ if_done result
             (wrote place.now (Patch from bytes.now) (state self.old)) (state self.old) }
         ensures counts { IsTrue tells → counts self.new ≡ counted_change result (counts self.old) }

@@ -17,8 +17,8 @@ pub fn reads_as_image<D: Disk>(_disk: &D)
         image place ≡ standing (D.state _disk.now) place }
 {}
 
-/// The first bytes of a file are the same in each image where no write reached them since the last sync, wherever the file
-/// stands there.
+/// The first bytes of a file are the same in each image where no write reached them since the last sync, wherever the
+/// file stands there.
 pub fn unreached_is_kept<D: Disk>(_disk: &D)
     ensures { IsTrue D.tells → UnreachedIsKept (D.state _disk.now) }
 {}

@@ -10,8 +10,9 @@ ghost use Rattle.disk_model.specs.declared.disk.DiskFault.TheVariants.{Memory};
 use crate::{Disk, DiskFault, Place};
 use cache_base::{Name, Names, Numbers};
 
-/// A disk whose answers have nothing to do with what was written: what stands in a folder that someone made to harm may
-/// be anything, and this may be all of it. It tells contracts nothing of what it holds, takes no memory, and never fails.
+/// A disk whose answers have nothing to do with what was written: what stands in a folder that someone made to harm
+/// may be anything, and this may be all of it. It tells contracts nothing of what it holds, takes no memory, and
+/// never fails.
 #[derive(Clone, Copy, Debug, PartialEq, Eq)]
 pub struct LiarDisk {
     size: u64,

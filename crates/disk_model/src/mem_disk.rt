@@ -33,7 +33,7 @@ impl MemDisk {
     ghost use Rattle.std.specs.Prelude.{None, [], MatchOption};
     ghost use Rattle.disk_model.specs.State.{standing, synced_at};
     ghost use Rattle.disk_model.specs.Sound.{IsQuiet};
-    ghost use Rattle.disk_model.specs.Standing.{Puts};
+    ghost use Rattle.disk_model.specs.Standing.{PutsContent};
     ghost use Rattle.disk_model.specs.MemImage.{image_of, MayLeave};
     ghost use Rattle.disk_model.specs.declared.place.Place.{Place as Where};
     ghost use Rattle.disk_model.specs.MemDisk.{state_in, counts_in, faults_in, stop_in, planned_in, FailsNext};
@@ -54,7 +54,8 @@ impl MemDisk {
     pub fn put_file(&mut self, place: Place, bytes: Bytes) -> Result<(), NoMemory>
         requires { IsQuiet (state_in self.old) }
         ensures quiet { IsQuiet (state_in self.new) }
-        ensures ok { OnOk result (Puts place (Some bytes) (state_in self.old) (state_in self.new)) }
+        ensures ok { OnOk result
+            (PutsContent place (Some bytes) (state_in self.old) (state_in self.new)) }
         ensures err { OnErr result (state_in self.new ≡ state_in self.old) }
         ensures counts { counts_in self.new ≡ counts_in self.old }
         ensures faults { faults_in self.new ≡ faults_in self.old }

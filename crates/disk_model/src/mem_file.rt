@@ -31,10 +31,14 @@ pub(crate) struct MemFile {
     // The least offset of a write at the end, or the greatest number where there is none.
     pub least_from: u64,
     ghost are_bytes: { AreBytes current.items } by { Prim.hlevel props },
-    ghost is_current: { current.items ≡ content (history (synced_in current.items synced) writes.items) },
-    ghost is_shortest: { shortest ≡ shortest_of (synced_in current.items synced) (history (synced_in current.items synced) writes.items).writes },
-    ghost is_longest: { longest ≡ longest_of (synced_in current.items synced) (history (synced_in current.items synced) writes.items).writes },
-    ghost is_least: { least_from ≡ least_end (history (synced_in current.items synced) writes.items).writes },
+    ghost is_current: { current.items
+        ≡ content (history (synced_in current.items synced) writes.items) },
+    ghost is_shortest: { shortest ≡ shortest_of (synced_in current.items synced)
+        (history (synced_in current.items synced) writes.items).writes },
+    ghost is_longest: { longest ≡ longest_of (synced_in current.items synced)
+        (history (synced_in current.items synced) writes.items).writes },
+    ghost is_least: { least_from
+        ≡ least_end (history (synced_in current.items synced) writes.items).writes },
 }
 
 impl MemWrite {

@@ -57,7 +57,7 @@ impl Table {
     ghost use Rattle.disk_model.specs.State.{names_now, content, standing, created, renamed, removed, settled};
     ghost use Rattle.cache_base.specs.Names.{AreRising};
     ghost use Rattle.disk_model.specs.Listing.{AreEntries, AreDoomed, AreRisingNumbers};
-    ghost use Rattle.disk_model.specs.Standing.{Puts};
+    ghost use Rattle.disk_model.specs.Standing.{PutsContent};
     ghost use Rattle.disk_model.specs.State.Write.{End, Patch};
     ghost use Rattle.disk_model.specs.Sound.{IsQuiet};
     ghost use Rattle.disk_model.specs.declared.place.Place.{Place as Where};
@@ -142,7 +142,7 @@ impl Table {
         requires { IsQuiet (state_of self.old) }
         ensures quiet { IsQuiet (state_of self.new) }
         ensures ok { OnOk result
-            (Puts place (Some bytes.now) (state_of self.old) (state_of self.new)) }
+            (PutsContent place (Some bytes.now) (state_of self.old) (state_of self.new)) }
         ensures err { OnErr result (state_of self.new ≡ state_of self.old) }
     {
         let file = MemFile::synced(self.alloc, bytes)?;

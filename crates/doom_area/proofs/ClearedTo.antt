@@ -8,7 +8,7 @@ use Rattle.disk_model.specs.declared.place.Place.{Place}
 use Rattle.disk_model.specs.declared.place.Place.TheVariants.{Doomed}
 use Rattle.disk_model.specs.State.{State, standing, removed}
 use Rattle.disk_model.specs.Listing.{AreDoomed, AreRisingNumbers}
-use Rattle.disk_model.specs.Standing.{Puts}
+use Rattle.disk_model.specs.Standing.{PutsContent}
 use Rattle.disk_model.proofs.Standing.{removed_puts}
 use Rattle.disk_model.specs.Calls.{if_done}
 use Rattle.disk_model.specs.declared.disk.DiskFault.{DiskFault}
@@ -61,7 +61,7 @@ cleared_more n rest before now rising to = record {
   others = λ place other. (removed_puts (Doomed n) now).others place (other n) ∙ to.others place other;
 }
   where
-    puts : Puts (Doomed n) None now (removed (Doomed n) now)
+    puts : PutsContent (Doomed n) None now (removed (Doomed n) now)
     puts = removed_puts (Doomed n) now
 
     still : (number : ℕ) → Contains rest number → IsSome (standing (removed (Doomed n) now) (Doomed number))

@@ -13,13 +13,15 @@ use Rattle.entry_file.specs.Version.{Version, IsFileOf, IsVersion}
 use Rattle.entry_file.specs.declared.entry_read.Unfit.{Unfit}
 use Rattle.entry_file.specs.declared.entry_read.Unfit.TheVariants as unfit
 
--- the offset that a file ends in, the block from there up to it, and the body before
+-- the offset that a file ends in
 abbrev pub offset_in : List ℕ → ℕ
 offset_in c = be32_at c (length c - 4)
 
+-- the block from the offset up to these last bytes
 abbrev pub block_in : List ℕ → List ℕ
 block_in c = slice_range c (offset_in c) (length c - 4)
 
+-- the body before the offset
 abbrev pub body_in : List ℕ → List ℕ
 body_in c = take (offset_in c) c
 

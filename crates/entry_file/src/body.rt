@@ -46,8 +46,8 @@ fn check_one<D: Disk>(
 }
 
 /// The first chunk that differs of the body that stands at the place with these metadata, or none. Each chunk up to
-/// that one is read into the buffer, by one call of the disk. Where none differs the file stores the body, and the buffer
-/// holds its last chunk.
+/// that one is read into the buffer, by one call of the disk. Where none differs the file stores the body, and the
+/// buffer holds its last chunk.
 pub fn check_body<D: Disk>(
     disk: &mut D,
     place: &Place,

@@ -40,8 +40,8 @@ pub fn rewrites_to_version()
     ensures { RewritesToVersion }
 {}
 
-/// A content that ends in the stop tail is too short for an entry's file, whatever stands before it, and so is the file of
-/// any body that is not finished.
+/// A content that ends in the stop tail is too short for an entry's file, whatever stands before it, and so is the
+/// file of any body that is not finished.
 pub fn unfinished_is_short()
     ensures tail { StopTailIsShort }
     ensures file { UnfinishedIsShort }

@@ -17,9 +17,10 @@ use disk_model::{Disk, DiskFault, Place};
 use entry_metadata::Meta;
 use std::alloc::Global;
 
-/// Adds bytes at the end of a finished entry's body, and makes the file that of a version with these metadata, which are
-/// those of the longer body: the bytes, the block and its offset are written by one call of the disk. The write begins at
-/// the end of the body that the file has, and reaches nothing before it. What stood after that body before is gone.
+/// Adds bytes at the end of a finished entry's body, and makes the file that of a version with these metadata, which
+/// are those of the longer body: the bytes, the block and its offset are written by one call of the disk. The write
+/// begins at the end of the body that the file has, and reaches nothing before it. What stood after that body before
+/// is gone.
 pub fn grow_body<D: Disk>(
     alloc: Global,
     disk: &mut D,

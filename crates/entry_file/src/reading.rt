@@ -10,7 +10,7 @@ ghost use Rattle.entry_file.specs.EntryFile.{offset_in, unfit_of};
 ghost use Rattle.entry_file.specs.Damages.{HasMeta};
 ghost use Rattle.entry_file.specs.EntryRead.{IfFits, Joins, ReadsAs};
 ghost use Rattle.entry_file.specs.BlockRead.{BlockReadsAs};
-ghost use Rattle.disk_model.specs.Calls.{Holds};
+ghost use Rattle.disk_model.specs.Calls.{HoldsPart};
 ghost use Rattle.entry_file.specs.Looks.{LooksAtMost};
 ghost use Rattle.entry_metadata.specs.Metadata.{Spells};
 
@@ -92,7 +92,7 @@ fn part_at<D: Disk>(
     from: u64,
     len: usize,
 ) -> Result<Vec<u8>, DiskFault>
-    requires { IsTrue D.tells → Holds (standing (D.state disk.old) place.now) from len }
+    requires { IsTrue D.tells → HoldsPart (standing (D.state disk.old) place.now) from len }
     ensures bytes { IfOk result (λ part. IsTrue D.tells →
         IfSome (standing (D.state disk.old) place.now) (λ content.
         part.items ≡ slice_range content from (from + len))) }

@@ -7,7 +7,7 @@ use Rattle.entry_key.specs.declared.key_fault.KeyFault.{KeyFault}
 use Rattle.entry_key.specs.declared.key_fault.KeyFault.TheVariants.{NoAddress, Order}
 use Rattle.entry_key.specs.declared.tags.KeyTags.{KeyTags}
 use Rattle.entry_key.specs.Key.{Tag, doubled, KeyReads}
-use Rattle.entry_key.specs.KeyTags.{Says}
+use Rattle.entry_key.specs.KeyTags.{KeySays}
 use Rattle.entry_key.specs.Tags.{has_tag, tag_value, tags_in, tags_of}
 use Rattle.entry_key.specs.ValueEnds.{put_value, ValueEnds}
 use Rattle.entry_key.specs.Walk.{Letter, Parts, behind_letter, read_from, read_key, with_tag}
@@ -105,7 +105,7 @@ all_behind : (key : List ℕ) (n : ℕ) → slice_range key n (length key) ≡ d
 all_behind key n = ap (λ k. take k (drop n key)) (sym (length-drop n key)) ∙ take-length (drop n key)
 
 pub says : (key : List ℕ) (last at : ℕ) (tags : List Tag) (t : KeyTags) → Seen key last at tags → Tells t.anonymous t.origin.now t.extra.now tags
-    → at < length key → slice_index key at ≡ 58 → t.address.now ≡ slice_range key (at + 1) (length key) → Says key t
+    → at < length key → slice_index key at ≡ 58 → t.address.now ≡ slice_range key (at + 1) (length key) → KeySays key t
 unfolding read_from
 says key last at tags t s told lt colon address =
     let found : read_key key ≡ Ok (record { value = []; tags = tags; address = drop (at + 1) key }) =

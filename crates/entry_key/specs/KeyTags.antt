@@ -5,7 +5,7 @@ use Rattle.entry_key.specs.Key.{KeyReads, doubled}
 use Rattle.entry_key.specs.Tags.{has_tag, tag_value, tags_of}
 
 -- the key reads as its tags and this address, and these are what its tags say, with values as they are spelled
-pub record Says (key : List ℕ) (t : KeyTags) : Type 0 where
+pub record KeySays (key : List ℕ) (t : KeyTags) : Type 0 where
   pub reads : KeyReads key (tags_of key) t.address.now
   pub anonymous : t.anonymous ≡ has_tag 97 (tags_of key)
   pub origin : t.origin.now ≡ doubled (tag_value 79 (tags_of key))

@@ -11,7 +11,7 @@ ghost use Rattle.std.specs.Prelude.{
   if◌then◌else◌,
   length,
 };
-ghost use Rattle.entry_key.specs.KeyTags.{Says};
+ghost use Rattle.entry_key.specs.KeyTags.{KeySays};
 ghost use Rattle.entry_key.specs.Walk.{read_key};
 
 use crate::KeyFault;
@@ -56,7 +56,7 @@ fn with_tag<'a>(tags: KeyTags<'a>, letter: u8, value: &'a [u8]) -> KeyTags<'a>
 
 /// What the tags of a key say, and its address, or the key's first fault from the left.
 pub fn parse(key: &[u8]) -> Result<KeyTags<'_>, KeyFault>
-    ensures tags { IfOk result (Says key.now) }
+    ensures tags { IfOk result (KeySays key.now) }
     ensures fault { IfErr result (λ f. read_key key.now ≡ Err f) }
 {
     let mut tags = KeyTags {

@@ -2,14 +2,14 @@
 
 ghost use Rattle.std.specs.Prelude.{◌≡◌};
 ghost use Rattle.std.specs.List.{list_all};
-ghost use Rattle.entry_key.specs.Writing.{is_plain, may_write as may_write_of};
+ghost use Rattle.entry_key.specs.Writing.{is_plain_byte, may_write as may_write_of};
 
 use crate::parse;
 use cache_base::KEY_MAX;
 
 // Whether no byte ends a text or a line.
 fn all_plain(key: &[u8]) -> bool
-    ensures { result ≡ list_all is_plain key.now }
+    ensures { result ≡ list_all is_plain_byte key.now }
 {
     key.iter().all(|&x| x != 0 && x != b'\n')
 }

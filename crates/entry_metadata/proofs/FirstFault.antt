@@ -10,7 +10,7 @@ use Rattle.cache_base.specs.declared.limits.TheConstants.{BLOCK_MAX}
 use Rattle.jenkins_hash.specs.Hash.{hash_of}
 use Rattle.entry_key.specs.declared.key_fault.KeyFault.{KeyFault}
 use Rattle.entry_key.specs.declared.tags.KeyTags.{KeyTags}
-use Rattle.entry_key.specs.KeyTags.{Says}
+use Rattle.entry_key.specs.KeyTags.{KeySays}
 use Rattle.entry_key.specs.Tags.{tags_of}
 use Rattle.entry_key.specs.Walk.{read_key, reads}
 use Rattle.entry_key.proofs.KeyLaws.{reads_exactly}
@@ -166,6 +166,6 @@ pub larger : (block : List ℕ) (o n : ℕ) → n ≡ chunks o → 4 + 2 * n + 2
 larger block o n e a lt = too_big block o n e _ refl a (let most = block_max_less (be32_at block (4 + 2 * n)) in omega (arith, most, lt))
 
 -- a key reads exactly where it is parsed
-pub is_err-reads : (key : List ℕ) (r : Result KeyTags KeyFault) (b : Bool) → b ≡ is_err r → IfOk r (Says key) → IfErr r (λ f. read_key key ≡ Err f) → reads (read_key key) ≡ not b
+pub is_err-reads : (key : List ℕ) (r : Result KeyTags KeyFault) (b : Bool) → b ≡ is_err r → IfOk r (KeySays key) → IfErr r (λ f. read_key key ≡ Err f) → reads (read_key key) ≡ not b
 is_err-reads key (Ok t) b e says fault = ap reads ((reads_exactly key (tags_of key) t.address.now).1 says.reads) ∙ ap not (sym e)
 is_err-reads key (Err f) b e says fault = ap reads fault ∙ ap not (sym e)

@@ -44,10 +44,11 @@ block_rest_as format m = flat_map be16 m.hashes ++ (header_as format m.header ++
 abbrev pub block_as : Format → Meta → List ℕ
 block_as format m = be32 (hash_of (block_rest_as format m)) ++ block_rest_as format m
 
--- the same as they are written
+-- the block without its hash, as it is written
 abbrev pub block_rest : Meta → List ℕ
 block_rest m = block_rest_as Third m
 
+-- the block as it is written
 abbrev pub block_bytes : Meta → List ℕ
 block_bytes m = block_as Third m
 
@@ -55,8 +56,8 @@ block_bytes m = block_as Third m
 abbrev pub block_length : ℕ → ℕ → ℕ → ℕ
 block_length hashes key elements = 4 + 2 * hashes + 32 + key + 1 + elements
 
--- what may stand in a block. Its header has version 3, whichever version the block has, and the block as it is written is not too
--- big: one of version 1 is four bytes shorter
+-- what may stand in a block. Its header has version 3, whichever version the block has, and the block as it is
+-- written is not too big: one of version 1 is four bytes shorter
 pub record IsMeta (m : Meta) : Type 0 where
   pub header : IsHeader m.header
   pub version : m.header.version ≡ 3

@@ -85,8 +85,8 @@ fn header_at(b: &[u8], at: usize, version: u32) -> Header
     }
 }
 
-/// The header of a block that passes all checks before that of its elements, or the first of them that fails. It has the
-/// version that it has in the block.
+/// The header of a block that passes all checks before that of its elements, or the first of them that fails. It has
+/// the version that it has in the block.
 pub(crate) fn check(block: &[u8], offset: u32) -> Result<Header, MetaFault>
     requires { offset < 2 ^ 32 - 1 }
     ensures passed { IfOk result (Passed block.now offset) }

@@ -28,5 +28,6 @@ pub struct Meta {
     pub ghost grammar: { reads (read_key key) ≡ true },
     pub ghost hash_count: { length hashes ≡ chunks offset },
     pub ghost finished: { offset < 2 ^ 32 - 1 },
-    pub ghost small: { block_length (length hashes) (length key) (length (elements_bytes elements)) ≤ BLOCK_MAX },
+    pub ghost small: { block_length (length hashes) (length key) (length (elements_bytes elements))
+        ≤ BLOCK_MAX },
 }

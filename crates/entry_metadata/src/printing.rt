@@ -45,7 +45,7 @@ fn joined(
 }
 
 // The block past its hash.
-fn rest_of(alloc: Global, meta: &Meta) -> Result<Bytes, NoMemory>
+fn past_hash(alloc: Global, meta: &Meta) -> Result<Bytes, NoMemory>
     ensures meta { IsMeta (meta_of meta.now) }
     ensures bytes { IfOk result (λ rest. rest ≡ block_rest (meta_of meta.now)) }
 {
@@ -73,7 +73,7 @@ pub fn print(alloc: Global, meta: &Meta) -> Result<Bytes, NoMemory>
     ensures bytes { IfOk result (λ out.
         out ≡ block_bytes (meta_of meta.now) ++ be32 meta.now.offset) }
 {
-    let rest = rest_of(alloc, meta)?;
+    let rest = past_hash(alloc, meta)?;
     with_ends(alloc, rest.as_slice(), meta.offset)
 }
 

@@ -68,8 +68,8 @@ fn read_all(alloc: Global, block: &[u8], offset: u32) -> Result<Meta, MetaFault>
 }
 
 /// What the metadata block of a body of `offset` bytes says, or the first failing check of the block. The block has
-/// version 1, 2 or 3, and what it says has version 3. An offset of 2^32 - 1 stands in the file of an unfinished entry, which
-/// has no block.
+/// version 1, 2 or 3, and what it says has version 3. An offset of 2^32 - 1 stands in the file of an unfinished
+/// entry, which has no block.
 pub fn parse(alloc: Global, block: &[u8], offset: u32) -> Result<Meta, MetaFault>
     requires { offset < 2 ^ 32 - 1 }
     // What is read is what the block spells.

@@ -77,9 +77,10 @@ HeaderReadsBack = (h : Header) (rest : List ℕ) → IsHeader h → header_in (h
 abbrev pub HeaderSpells : Type 0
 HeaderSpells = (xs : List ℕ) → AreBytes xs → 32 ≤ length xs → IsHeader (header_in xs) × (header_bytes (header_in xs) ≡ take 32 xs)
 
--- the same of a header without flags
+-- a header without flags reads back
 abbrev pub ShortHeaderReadsBack : Type 0
 ShortHeaderReadsBack = (h : Header) (rest : List ℕ) → IsHeader h → h.flags ≡ 0 → short_header_in (short_header_bytes h ++ rest) ≡ h
 
+-- a header without flags spells what it was read from
 abbrev pub ShortHeaderSpells : Type 0
 ShortHeaderSpells = (xs : List ℕ) → AreBytes xs → 28 ≤ length xs → IsHeader (short_header_in xs) × (short_header_bytes (short_header_in xs) ≡ take 28 xs)

@@ -22,8 +22,8 @@ without_element name (e ∷ es) = if bytes_eq e.name name then es else e ∷ wit
 abbrev pub has_zero : List ℕ → Bool
 has_zero xs = list_any (λ x. x == 0) xs
 
--- the first failing check of a name and a value that are to be set: the name is not empty and has no zero byte, the value
--- has none, and the elements are not too large afterwards
+-- the first failing check of a name and a value that are to be set: the name is not empty and has no zero byte, the
+-- value has none, and the elements are not too large afterwards
 abbrev pub set_fault : List ℕ → List ℕ → List Element → Option PartsFault
 set_fault name value es = first_failing (
     (nat_lt 0 (length name) && not (has_zero name), bad.BadName)

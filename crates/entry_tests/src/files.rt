@@ -58,7 +58,12 @@ fn seen_of(read: EntryRead) -> Seen {
     }
 }
 
-fn look<D: Disk>(alloc: Global, disk: &mut D, place: &Place, name: &Name) -> Result<Seen, DiskFault>
+fn seen_at<D: Disk>(
+    alloc: Global,
+    disk: &mut D,
+    place: &Place,
+    name: &Name,
+) -> Result<Seen, DiskFault>
     ensures { Looks D.Disk (ending result) disk.old disk.new }
 {
     Ok(seen_of(read_meta(alloc, disk, place, name)?))

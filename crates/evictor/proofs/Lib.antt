@@ -1,4 +1,3 @@
 pub mod Prefix
-pub mod Sets
 pub mod Sorting
 pub mod Stable

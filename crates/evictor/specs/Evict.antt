@@ -1,10 +1,9 @@
 -- The order of eviction, and the victims.
-use Rattle.std.specs.List.{list_any}
 use Rattle.std.specs.List.Sorted.{IsPermutation, IsSorted}
-use Rattle.std.specs.Ordering.{is_eq, is_lt, nat_cmp, ordering_then}
+use Rattle.std.specs.Ordering.{is_lt, nat_cmp, ordering_then}
 use Rattle.std.specs.Prelude.{Bool, List, [], filter, if◌then◌else◌, length, map, nat_le, not, sum_by, take, ℕ, ◌&&◌, ◌++◌, ◌+◌, ◌-◌, ◌<◌, ◌==◌, ◌^◌, ◌∷◌, ◌≡◌, ◌≤◌}
 use Rattle.std.specs.declared.cmp.Ordering.{Ordering}
-use Rattle.cache_base.specs.Names.{name_cmp}
+use Rattle.cache_base.specs.Names.{has_name, name_cmp}
 use Rattle.cache_base.specs.declared.name.Name.{Name}
 use Rattle.index_record.specs.Record.{is_pinned, size_kb}
 use Rattle.index_record.specs.declared.record.IndexRecord.{IndexRecord}
@@ -30,10 +29,6 @@ in_order (r ∷ rs) = put_in_order r (in_order rs)
 -- the sizes of records in KB
 abbrev pub total_kb : List IndexRecord → ℕ
 total_kb records = sum_by size_kb records
-
--- whether a name is in a list
-abbrev pub has_name : List Name → Name → Bool
-has_name names name = list_any (λ one. is_eq (name_cmp name one)) names
 
 -- whether a record may be evicted, where entries of these names are in use
 abbrev pub may_evict : List Name → IndexRecord → Bool

@@ -7,6 +7,6 @@ mod choosing;
 mod laws;
 mod ordering;
 
-pub use choosing::{name_set, victims};
+pub use choosing::victims;
 pub use laws::{order_sorts, victims_suffice};
 pub use ordering::order;

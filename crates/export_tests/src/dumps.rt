@@ -12,8 +12,8 @@ pub(crate) const ONE: [u8; 108] =
     \0\0\0\x03\0\0\0\x01\0\0\x03\xe8\0\0\x03\xe8\0\0\x03\xe8\xff\xff\xff\xff\0\0\0\x15\0\0\0\0\
     :https://example.com/\0\0";
 
-/// What a reader gave of a dump: k for a key, P for a piece of 262,144 bytes and p for a shorter one, b for a block. And how
-/// it ended: 0 at the end, the number of a bad item, 1000 for a failed source, 1001 without memory.
+/// What a reader gave of a dump: k for a key, P for a piece of 262,144 bytes and p for a shorter one, b for a block.
+/// And how it ended: 0 at the end, the number of a bad item, 1000 for a failed source, 1001 without memory.
 #[derive(Drop)]
 pub(crate) struct Answers {
     pub(crate) parts: Bytes,

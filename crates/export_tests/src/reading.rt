@@ -5,7 +5,8 @@ use cache_base::{Bytes, NoMemory, Numbers};
 use cache_export::{dump_is_parts, dump_of_is_dump, dumps_are_one};
 use std::alloc::Global;
 
-// The items of the keys `:https://a.example/` and `:https://b.example/`, in the order of their names, with empty bodies.
+// The items of the keys `:https://a.example/` and `:https://b.example/`, in the order of their names, with empty
+// bodies.
 const A: &[u8] = b"\x01\0\0\0\x13:https://a.example/\0\0\0\0\0\0\0\x38es6W\
     \0\0\0\x03\0\0\0\x01\0\0\x03\xe8\0\0\x03\xe8\0\0\x03\xe8\xff\xff\xff\xff\0\0\0\x13\0\0\0\0:https://a.example/\0";
 

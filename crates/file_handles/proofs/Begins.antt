@@ -10,8 +10,8 @@ use Rattle.cache_theory.specs.Machine.{opened}
 use Rattle.cache_theory.specs.Proper.{OpensProper}
 use Rattle.cache_theory.specs.Stands.{IsHeldAside}
 use Rattle.cache_theory.specs.Table.{Table}
-use Rattle.cache_theory.proofs.Slots.{slot_of as slot_with}
-use Rattle.file_handles.specs.Carries.{Begins}
+use Rattle.cache_theory.proofs.ObjectLaws.Slots.{slot_of as slot_with}
+use Rattle.file_handles.specs.Carries.{StandsForOpening}
 use Rattle.file_handles.specs.HeldChunks.{IsChunkInUse}
 use Rattle.file_handles.specs.Kept.{Kept, object_at, use_at}
 use Rattle.file_handles.specs.Stands.{HandlesStand, IsAt, Stands}
@@ -58,7 +58,7 @@ module _ (k : Kept) (objects : (p : ℕ) → object_at k p ≡ None) (uses : (t 
     chunks = record { numbered = λ p x at. absurd (no_object p x at); made = none_made; held = subst (All (IsChunkInUse k (opened now shelf mark rest))) (sym no_chunks) (All-nil (IsChunkInUse k (opened now shelf mark rest))) };
   }
 
-  pub begins : Begins k
+  pub begins : StandsForOpening k
   begins s now shelf mark rest small is no_doomed = record { stands = (λ p. 0, stands); crash = λ once safe. record { number = λ p. 0; stands = stands; crash_kept = crash_kept once safe } }
     where
       stands : Stands (standing s) k (opened now shelf mark rest) (λ p. 0)

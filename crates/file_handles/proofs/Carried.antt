@@ -11,7 +11,7 @@ use Rattle.cache_theory.specs.Machine.{Machine, Object as MachineObject, number_
 use Rattle.cache_theory.specs.Marks.{Marks, acked, begun}
 use Rattle.cache_theory.specs.Proper.{IsObject, IsProper}
 use Rattle.cache_theory.specs.Step.{Answer, answer, effect, step, stepped, stored}
-use Rattle.cache_theory.proofs.Storing.{MayStand, stored_here}
+use Rattle.cache_theory.proofs.ObjectLaws.Storing.{MayStand, stored_here}
 use Rattle.disk_model.specs.Sound.{IsSound}
 use Rattle.disk_model.specs.State.{State}
 use Rattle.file_handles.specs.Answers.{OnRefused, done_or}
@@ -27,12 +27,12 @@ use Rattle.file_handles.specs.declared.fault.HandleFault.TheVariants as fault
 use Rattle.file_handles.specs.declared.object.Object.{Object}
 use Rattle.file_handles.proofs.Begun.{begun_in}
 use Rattle.file_handles.proofs.Changed.{MayGoOut, changed_in_safe, changed_safe}
-use Rattle.file_handles.proofs.ElementSlots.{there_number}
+use Rattle.file_handles.proofs.Setting.ElementSlots.{there_number}
 use Rattle.file_handles.proofs.Histories.{history_of}
 use Rattle.file_handles.proofs.Where.{LeavesWhere, carries_out, carries_out_at}
 
--- a command that passes its checks and makes this change of the slot's object in the machines that are `At`, and writes to
--- its file only where `Writes` holds of the object, which may then go `Out`
+-- a command that passes its checks and makes this change of the slot's object in the machines that are `At`, and
+-- writes to its file only where `Writes` holds of the object, which may then go `Out`
 pub record MakesChangeAt (At : Machine → Type 0) (Out : Marks → ℕ → MachineObject → Type 0) (k : Kept) (c : Command) (slot : ℕ) (change : MachineObject → MachineObject) (Writes : MachineObject → Type 0) : Type 0 where
   pub passes : (m : Machine) (number : ℕ → ℕ) → IsProper m → HandlesStand k m number → At m → first_failing (checks m c) ≡ None
   pub acks : (m : Machine) (w : Marks) → acked m c w ≡ begun m c w

@@ -10,18 +10,18 @@ use Rattle.cache_theory.specs.Marks.{IsSince, Marks, is_buried, is_in_place, is_
 use Rattle.cache_theory.specs.Stands.{AsideStand, EntriesStand, HasObjectFile, IsHeldAside, IsObjectFile, is_aside, object_file}
 use Rattle.cache_theory.specs.Step.{stored}
 use Rattle.cache_theory.specs.Table.{get}
-use Rattle.cache_theory.proofs.DiskChanges.{whole_is_fine, write_keeps}
+use Rattle.cache_theory.proofs.CrashImages.DiskChanges.{whole_is_fine, write_keeps}
 use Rattle.cache_theory.proofs.EntryFiles.{entry_stored, entry_stored_aside, entry_stored_other, no_file_there, other_name, written_is_file}
-use Rattle.cache_theory.proofs.EverSteps.{ever_wrote, wrote_names}
-use Rattle.cache_theory.proofs.FiledOnce.{one_name as one_place_name, write_files_once}
-use Rattle.cache_theory.proofs.HeldAside.{held_before_stored, held_stored}
+use Rattle.cache_theory.proofs.CrashImages.EverSteps.{ever_wrote, wrote_names}
+use Rattle.cache_theory.proofs.CrashImages.FiledOnce.{one_name as one_place_name, write_files_once}
+use Rattle.cache_theory.proofs.ObjectLaws.HeldAside.{held_before_stored, held_stored}
 use Rattle.cache_theory.proofs.Names.{one_name}
-use Rattle.cache_theory.proofs.Objects.{nth_there, object_at as machine_object_at}
-use Rattle.cache_theory.proofs.Reading.{some_of}
-use Rattle.cache_theory.proofs.Readings.{reads_whole}
-use Rattle.cache_theory.proofs.Storing.{MayStand, proper_stored, stored_here, stored_there}
+use Rattle.cache_theory.proofs.ObjectLaws.Objects.{nth_there, object_at as machine_object_at}
+use Rattle.cache_theory.proofs.CrashImages.Reading.{some_of}
+use Rattle.cache_theory.proofs.CrashImages.Readings.{reads_whole}
+use Rattle.cache_theory.proofs.ObjectLaws.Storing.{MayStand, proper_stored, stored_here, stored_there}
 use Rattle.disk_model.specs.Sound.{IsSound}
-use Rattle.disk_model.specs.Standing.{Puts}
+use Rattle.disk_model.specs.Standing.{PutsContent}
 use Rattle.disk_model.specs.State.{State, content, content_of, names_now, standing}
 use Rattle.disk_model.specs.Writes.{WritesAt, WritesTo}
 use Rattle.disk_model.specs.declared.place.Place.TheVariants.{Doomed}
@@ -40,8 +40,9 @@ use Rattle.file_handles.proofs.ChangedHandles.{IsChangedTo, handles_on, new_at, 
 use Rattle.file_handles.proofs.Histories.{history_of}
 use Rattle.file_handles.proofs.Places.{aside_at, aside_is, file_stands, is_filed, published_place, published_there}
 
--- the object of this number may become `o`, and its file be written to. Where it is finished, its metadata are rewritten
--- in place since the mark, unless it was doomed then, and that version is written; and the name of an undoomed one is touched
+-- the object of this number may become `o`, and its file be written to. Where it is finished, its metadata are
+-- rewritten in place since the mark, unless it was doomed then, and that version is written; and the name of an
+-- undoomed one is touched
 pub record MayGoOut (w : Marks) (i : ℕ) (o : MachineObject) : Type 0 where
   pub touched : o.doomed ≡ false → is_touched w (file_name o.version.key) ≡ true
   pub since : o.finished ≡ true → is_buried w i ≡ false → IsSince w (file_name o.version.key) o.version
@@ -142,7 +143,7 @@ module _ {b : Bool} (s : State) (k : Kept) (m : Machine) (w : Marks) (is : Keeps
       same_aside : is_aside o ≡ is_aside (object m (is.number p))
       same_aside = sym becomes.as_held.aside ∙ ap is_some becomes.same_number ∙ (is.stands.handles.objects p x at).as_held.aside
 
-      puts : Puts (object_place x) (Some (object_file o)) s t
+      puts : PutsContent (object_place x) (Some (object_file o)) s t
       puts =
           let there = some_of (standing s (object_place x)) (file_stands s k m is.number is.stands p x at) in
           writes_puts (object_place x) (IsMomentOf o) s t there.0 (object_file o) sound there.1.0 writes becomes.file

@@ -9,9 +9,9 @@ use Rattle.cache_theory.specs.Machine.{Machine, Object as MachineObject, object}
 use Rattle.cache_theory.specs.Marks.{Marks, is_buried}
 use Rattle.cache_theory.specs.Proper.{IsInUse, IsProper}
 use Rattle.cache_theory.specs.Step.{stored}
-use Rattle.cache_theory.proofs.Objects.{nth_is, nth_there}
-use Rattle.cache_theory.proofs.Storing.{MayStand, stored_here, stored_like, stored_there}
-use Rattle.cache_theory.proofs.Users.{in_use_along}
+use Rattle.cache_theory.proofs.ObjectLaws.Objects.{nth_is, nth_there}
+use Rattle.cache_theory.proofs.ObjectLaws.Storing.{MayStand, stored_here, stored_like, stored_there}
+use Rattle.cache_theory.proofs.ObjectLaws.Users.{in_use_along}
 use Rattle.chunk_cache.specs.Cached.{CachedChunk}
 use Rattle.disk_model.specs.State.{State}
 use Rattle.entry_name.specs.EntryName.{file_name}
@@ -20,7 +20,7 @@ use Rattle.file_handles.specs.HeldChunks.{ChunksStand, HasNoneOf, IsChunkInUse, 
 use Rattle.file_handles.specs.Kept.{Kept, object_at, with_object}
 use Rattle.file_handles.specs.Stands.{HandlesStand, IsAt, IsObjectOf}
 use Rattle.file_handles.specs.declared.object.Object.{Object}
-use Rattle.file_handles.proofs.HeldChunkLaws.{chunk_on, keeps_own}
+use Rattle.file_handles.proofs.Reading.HeldChunkLaws.{chunk_on, keeps_own}
 use Rattle.file_handles.proofs.KeptLaws.{object_set_here, object_set_other, place_within}
 
 -- the object x becomes y, which is the machine's object changed to o, where these chunks are held

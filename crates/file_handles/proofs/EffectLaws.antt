@@ -12,7 +12,7 @@ use Rattle.cache_theory.specs.Marks.{Marks, rewritten}
 use Rattle.cache_theory.specs.Proper.{IsObject, IsProper}
 use Rattle.cache_theory.specs.Step.{Answer, finished_by, step, stepped, stored}
 use Rattle.cache_theory.proofs.Changes.{object_is}
-use Rattle.cache_theory.proofs.Objects.{nth, nth-set_same}
+use Rattle.cache_theory.proofs.ObjectLaws.Objects.{nth, nth-set_same}
 use Rattle.cache_theory.proofs.Versions.{object_finished}
 use Rattle.entry_file.specs.EntryFile.{Fits, file_meta}
 use Rattle.entry_file.specs.Version.{IsVersion, Version, file_of, version_meta}
@@ -36,11 +36,11 @@ use Rattle.file_handles.specs.declared.object.Entry.TheVariants as entry
 use Rattle.file_handles.specs.declared.object.Object.{Object}
 use Rattle.file_handles.specs.declared.object.Use.{Use}
 use Rattle.file_handles.proofs.Carried.{MakesChangeAt}
-use Rattle.file_handles.proofs.ClosedSlot.{close_step, finishes, has_slot, numbered, object_there}
-use Rattle.file_handles.proofs.ElementChecks.{if_object}
-use Rattle.file_handles.proofs.ElementReads.{there_elements}
-use Rattle.file_handles.proofs.ElementSlots.{there_held, there_number, there_object}
-use Rattle.file_handles.proofs.Released.{released_objects}
+use Rattle.file_handles.proofs.Closing.ClosedSlot.{close_step, finishes, has_slot, numbered, object_there}
+use Rattle.file_handles.proofs.Setting.ElementChecks.{if_object}
+use Rattle.file_handles.proofs.Setting.ElementReads.{there_elements}
+use Rattle.file_handles.proofs.Setting.ElementSlots.{there_held, there_number, there_object}
+use Rattle.file_handles.proofs.Closing.Released.{released_objects}
 
 -- The record of the file of a version.
 

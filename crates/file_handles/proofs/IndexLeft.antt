@@ -2,7 +2,7 @@
 use Rattle.std.proofs.Common.{◌≡◌, ⊎_elim, inl, inr, ℕ, List, [], ◌∷◌, Bool, true, false, Option, Some, None, Result, Ok, Err, refl, sym, subst}
 use Rattle.cache_base.specs.declared.name.Name.{Name}
 use Rattle.cache_theory.specs.Machine.{Object as MachineObject}
-use Rattle.cache_theory.proofs.Reading.{some_of}
+use Rattle.cache_theory.proofs.CrashImages.Reading.{some_of}
 use Rattle.disk_model.specs.Calls.{if_done, if_ok}
 use Rattle.disk_model.specs.Sound.{IsSound}
 use Rattle.disk_model.specs.State.{File, State, content_of, created, names_now, removed, renamed, settled}
@@ -25,8 +25,8 @@ use Rattle.file_handles.specs.Publishing.IsAmidPublishing.{Published, Synced, Un
 use Rattle.file_handles.specs.declared.fault.HandleFault.{HandleFault}
 use Rattle.file_handles.specs.declared.object.Object.{Object}
 use Rattle.file_handles.proofs.Changed.{writes_weaker}
-use Rattle.file_handles.proofs.DoomedUser.{least_free}
-use Rattle.file_handles.proofs.IndexPublished.{published_leaves_beside}
+use Rattle.file_handles.proofs.Dooming.DoomedUser.{least_free}
+use Rattle.file_handles.proofs.Finishing.IndexPublished.{published_leaves_beside}
 
 -- where nothing changed
 pub same_left : {s t : State} → t ≡ s → LeavesBeside s t

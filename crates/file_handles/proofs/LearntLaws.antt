@@ -17,8 +17,8 @@ use Rattle.cache_theory.specs.Proper.{IsProper}
 use Rattle.cache_theory.specs.Step.{Answer, answer, changed, effect, finished_as, finished_by, joined, released, step, stepped, stored, used, with_pin}
 use Rattle.cache_theory.specs.Table.{Table, get, insert, remove}
 use Rattle.cache_theory.proofs.Names.{get-insert_other, get-insert_same, get-remove_other, get-remove_same, same_bytes}
-use Rattle.cache_theory.proofs.Objects.{nth, nth-set_same}
-use Rattle.cache_theory.proofs.Users.{slot_in_use}
+use Rattle.cache_theory.proofs.ObjectLaws.Objects.{nth, nth-set_same}
+use Rattle.cache_theory.proofs.ObjectLaws.Users.{slot_in_use}
 use Rattle.entry_file.specs.EntryFile.{Reading, file_meta, fits}
 use Rattle.entry_file.specs.EntryFile.Reading.{Whole, Damaged, Nothing}
 use Rattle.entry_file.specs.Version.{file_of}
@@ -36,7 +36,7 @@ use Rattle.file_handles.specs.Effects.{LearntIsScanned, learnt_at, learnt_of, le
 use Rattle.file_handles.specs.declared.fault.Effect.{Effect}
 use Rattle.file_handles.specs.declared.fault.Effect.TheVariants as effects
 use Rattle.file_handles.proofs.EffectLaws.{and_false, and_true, at_finished, learnt_unfinished}
-use Rattle.file_handles.proofs.Released.{released_objects, released_shelf}
+use Rattle.file_handles.proofs.Closing.Released.{released_objects, released_shelf}
 
 -- What a scan says under each name of a table in which one name is removed, or has another content.
 

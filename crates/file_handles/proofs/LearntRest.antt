@@ -14,9 +14,9 @@ use Rattle.cache_theory.specs.Marks.{rewritten}
 use Rattle.cache_theory.specs.Proper.{IsProper}
 use Rattle.cache_theory.specs.Refiled.{IsRefiled, Refiled, refiled, refiled_by}
 use Rattle.cache_theory.specs.Step.{Answer, answer, changed, effect, finished_as, finished_by, released, step, stepped, stored, used, with_pin, without}
-use Rattle.cache_theory.proofs.Objects.{nth, nth-set_same}
+use Rattle.cache_theory.proofs.ObjectLaws.Objects.{nth, nth-set_same}
 use Rattle.cache_theory.proofs.Refiling.{entries_are_refiled}
-use Rattle.cache_theory.proofs.Users.{slot_in_use}
+use Rattle.cache_theory.proofs.ObjectLaws.Users.{slot_in_use}
 use Rattle.entry_file.specs.EntryFile.{file_meta, fits}
 use Rattle.entry_file.specs.Version.{Version, file_of}
 use Rattle.entry_metadata.specs.Metadata.{Meta as Said}
@@ -27,7 +27,7 @@ use Rattle.index_record.specs.Filling.{record_of_meta}
 use Rattle.file_handles.specs.Changes.{completed, with_version}
 use Rattle.file_handles.specs.Effects.{LearntLeavesRest, learnt, learnt_at, learnt_of, learnt_under, object_name, rest_once}
 use Rattle.file_handles.specs.declared.fault.Effect.TheVariants as effects
-use Rattle.file_handles.proofs.Released.{released_objects}
+use Rattle.file_handles.proofs.Closing.Released.{released_objects}
 
 -- The object that a command writes is finished afterwards.
 

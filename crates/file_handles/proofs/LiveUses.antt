@@ -9,8 +9,8 @@ use Rattle.file_handles.specs.Refuses.{HasNoObject, Refuses}
 use Rattle.file_handles.specs.Stands.{HandlesStand}
 use Rattle.file_handles.specs.declared.object.Object.{Object}
 use Rattle.file_handles.specs.declared.object.Use.{Use}
-use Rattle.file_handles.proofs.ElementSlots.{no_use_found, use_found}
-use Rattle.file_handles.proofs.Writers.{writer_found}
+use Rattle.file_handles.proofs.Setting.ElementSlots.{no_use_found, use_found}
+use Rattle.file_handles.proofs.Finishing.Writers.{writer_found}
 
 module _ (k : Kept) where
   live_of : (o : Option Use) (u : Use) → option_and_then (if_there k) o ≡ Some u → o ≡ Some u

@@ -4,9 +4,9 @@ use Rattle.cache_theory.specs.Ever.{entry_place}
 use Rattle.cache_theory.specs.Machine.{Machine, object}
 use Rattle.cache_theory.specs.Stands.{HasObjectFile, IsHeldAside, is_aside}
 use Rattle.cache_theory.proofs.EntryFiles.{entry_used}
-use Rattle.cache_theory.proofs.HeldAside.{published_is}
-use Rattle.cache_theory.proofs.Objects.{object_at as machine_object_at}
-use Rattle.cache_theory.proofs.Users.{undoomed_user}
+use Rattle.cache_theory.proofs.ObjectLaws.HeldAside.{published_is}
+use Rattle.cache_theory.proofs.ObjectLaws.Objects.{object_at as machine_object_at}
+use Rattle.cache_theory.proofs.ObjectLaws.Users.{undoomed_user}
 use Rattle.disk_model.specs.State.{State, standing}
 use Rattle.disk_model.specs.declared.place.Place.TheVariants.{Doomed}
 use Rattle.entry_name.specs.EntryName.{file_name}

@@ -11,8 +11,8 @@ use Rattle.cache_theory.specs.Machine.{Machine}
 use Rattle.cache_theory.specs.Marks.{Marks, acked, begun, begun_by}
 use Rattle.cache_theory.specs.Step.{step, stepped}
 use Rattle.cache_theory.specs.declared.refusal.Refusal.{Refusal}
-use Rattle.cache_theory.proofs.EverSteps.{ever_created, ever_made}
-use Rattle.cache_theory.proofs.Kept.{kept_created}
+use Rattle.cache_theory.proofs.CrashImages.EverSteps.{ever_created, ever_made}
+use Rattle.cache_theory.proofs.CrashImages.Kept.{kept_created}
 use Rattle.disk_model.specs.Sound.{IsSound}
 use Rattle.disk_model.specs.State.{File, State, created, empty_file}
 use Rattle.disk_model.specs.declared.place.Place.TheVariants.{Index}

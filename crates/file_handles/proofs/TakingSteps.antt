@@ -11,7 +11,7 @@ use Rattle.disk_model.specs.declared.place.NameStep.TheVariants.{Remove, Rename}
 use Rattle.disk_model.specs.declared.place.Place.TheVariants.{Doomed, Entry}
 use Rattle.doom_area.specs.DoomArea.{IsLeastFree}
 use Rattle.file_handles.specs.Dooming.{IsTaking, TakesEntries}
-use Rattle.file_handles.proofs.DoomedUser.{least_free}
+use Rattle.file_handles.proofs.Dooming.DoomedUser.{least_free}
 
 -- nothing done takes no entry
 pub takes_none : (s : State) → TakesEntries s s

@@ -4,7 +4,7 @@ use Rattle.std.specs.Prelude.{option_map, unwrap_or, ◌&&◌}
 use Rattle.std.proofs.lemmas.Bool.{cases_eq}
 use Rattle.cache_base.specs.declared.name.Name.{Name}
 use Rattle.cache_theory.specs.Machine.{Object as MachineObject}
-use Rattle.cache_theory.proofs.Reading.{some_of}
+use Rattle.cache_theory.proofs.CrashImages.Reading.{some_of}
 use Rattle.disk_model.specs.Calls.{if_done}
 use Rattle.disk_model.specs.State.{File, State, Write, add_write, content_of, created, empty_file, names_now, removed, renamed, write_to, wrote}
 use Rattle.disk_model.specs.Writes.{WritesTo}
@@ -24,7 +24,7 @@ use Rattle.file_handles.specs.Unsynced.{SyncsNothing}
 use Rattle.file_handles.specs.declared.fault.HandleFault.{HandleFault}
 use Rattle.file_handles.specs.declared.object.Object.{Object}
 use Rattle.file_handles.specs.declared.object.Use.{Use}
-use Rattle.file_handles.proofs.DoomedUser.{least_free}
+use Rattle.file_handles.proofs.Dooming.DoomedUser.{least_free}
 use Rattle.file_handles.proofs.IndexLeft.{named_file}
 
 -- where nothing changed

@@ -8,7 +8,7 @@ use Rattle.cache_theory.specs.Machine.{Machine}
 use Rattle.cache_theory.specs.Marks.{Marks, marks_of}
 use Rattle.cache_theory.specs.Step.{step}
 use Rattle.file_handles.specs.Cache.{Cache}
-use Rattle.file_handles.specs.Carries.{CarriesOut, CarriesOutAt, Leaves, Replies}
+use Rattle.file_handles.specs.Carries.{CarriesOut, CarriesOutAt, LeavesHistory, Replies}
 use Rattle.file_handles.specs.Stands.{KeepsTo, KeepsWhere, Represents}
 use Rattle.file_handles.proofs.Histories.{history_of}
 
@@ -51,14 +51,14 @@ module _ {c : Command} {replied : Option Reply} {after : Cache} {h : History} wh
   replies_of : LeavesWhere false c h replied after → Replies c h.machine replied after
   replies_of left = record { reply = left.replies; next = if_some replied stand_for left.next }
 
-  leaves_of : LeavesWhere true c h replied after → Leaves c h replied after
+  leaves_of : LeavesWhere true c h replied after → LeavesHistory c h replied after
   leaves_of left = record { safe = left.safe refl; next = if_some replied is_in left.next }
 
   -- and is made up of it
   bare_leaves : Replies c h.machine replied after → LeavesWhere false c h replied after
   bare_leaves said = record { safe = λ on. never_on on; replies = said.reply; next = if_some replied bare_in said.next }
 
-  marked_leaves : Replies c h.machine replied after → Leaves c h replied after → LeavesWhere true c h replied after
+  marked_leaves : Replies c h.machine replied after → LeavesHistory c h replied after → LeavesWhere true c h replied after
   marked_leaves said left = record { safe = λ on. left.safe; replies = said.reply; next = if_some replied marked_in left.next }
 
 module _ {c : Command} {replied : Option Reply} {before after : Cache} where

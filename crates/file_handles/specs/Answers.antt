@@ -45,13 +45,14 @@ OnRefused r P = IfErr r (λ f. (refusal : Refusal) → f ≡ fault.Refused refus
 abbrev pub OnRead : {T : Type 0} → Result T HandleFault → Type 0 → Type 0
 OnRead r P = IfErr r (λ f. f ≡ fault.Read → P)
 
--- what a fault, and an answer, say of the calls of the disk: a refusal comes where none failed
+-- what a fault says of the calls of the disk: a refusal comes where none failed
 abbrev pub fault_ending : HandleFault → Ending
 fault_ending (fault.Refused r) = Ending.NoneFailed
 fault_ending fault.Read = Ending.OneFailed
 fault_ending fault.Disk = Ending.OneFailed
 fault_ending fault.Memory = Ending.OutOfMemory
 
+-- what an answer says of them
 abbrev pub ending : {T : Type 0} → Result T HandleFault → Ending
 ending (Ok value) = Ending.NoneFailed
 ending (Err f) = fault_ending f

@@ -24,7 +24,7 @@ pub record Replies (c : Command) (m : Machine) (replied : Option Reply) (after :
 
 -- what it leaves of a history on the disk: at every exit a crash may lose no more than the marks
 -- allow, and with a reply the disk keeps what the next marks ask for
-pub record Leaves (c : Command) (h : History) (replied : Option Reply) (after : Cache)
+pub record LeavesHistory (c : Command) (h : History) (replied : Option Reply) (after : Cache)
     : Type 0 where
   pub safe : IsSafe after.disk (begun c h).marks
   pub next : IfSome replied (λ r. KeepsTo after (acked c h))
@@ -33,13 +33,13 @@ pub record Leaves (c : Command) (h : History) (replied : Option Reply) (after : 
 pub record CarriesOut (c : Command) (replied : Option Reply) (before after : Cache) : Type 0 where
   pub answers : (m : Machine) → Represents before m → Replies c m replied after
   -- and whatever history the disk keeps to as well
-  pub crash : (h : History) → KeepsTo before h → Leaves c h replied after
+  pub crash : (h : History) → KeepsTo before h → LeavesHistory c h replied after
 
 -- the same for the machines whose moment is this
 pub record CarriesOutAt (now : ℕ) (c : Command) (replied : Option Reply) (before after : Cache)
     : Type 0 where
   pub answers : (m : Machine) → m.moment ≡ now → Represents before m → Replies c m replied after
-  pub crash : (h : History) → h.machine.moment ≡ now → KeepsTo before h → Leaves c h replied after
+  pub crash : (h : History) → h.machine.moment ≡ now → KeepsTo before h → LeavesHistory c h replied after
 
 -- the command, which asks nothing of the disk, is carried out with this reply and changes nothing
 abbrev pub Answers : Kept → Command → Reply → Type 0
@@ -57,7 +57,7 @@ pub record StartsAs (now : Cache) (m : Machine) : Type 0 where
   pub crash : IsFiledOnce now.disk → IsSafe now.disk (marks_of m) → KeepsTo now (settled_at m)
 
 -- on a disk with no doomed file the handles represent the machine at any opening
-abbrev pub Begins : Kept → Type 0
-Begins k = (s : State) (now : ℕ) (shelf : Table (List ℕ)) (mark : Option (List ℕ)) (rest : List (List ℕ))
+abbrev pub StandsForOpening : Kept → Type 0
+StandsForOpening k = (s : State) (now : ℕ) (shelf : Table (List ℕ)) (mark : Option (List ℕ)) (rest : List (List ℕ))
     → now < 2 ^ 32 → IsShelf s shelf → ((number : ℕ) → standing s (Doomed number) ≡ None)
     → StartsAs (cache_at k s) (opened now shelf mark rest)

@@ -27,8 +27,8 @@ pub record IsFiledAs (x : Object) (o : MachineObject) (s : State) : Type 0 where
   pub object : IsObject o
   pub file : HasObjectFile o (standing s (object_place x))
 
--- the object that x becomes is that of a change of the machine's object from `o` to `next`. Its chunks that are on the disk
--- stay as they are, unless none of them is held
+-- the object that x becomes is that of a change of the machine's object from `o` to `next`. Its chunks that are on
+-- the disk stay as they are, unless none of them is held
 pub record Becomes (held : List CachedChunk) (x y : Object) (o next : MachineObject) (t : State)
     : Type 0 where
   pub same_object : y.number ≡ x.number

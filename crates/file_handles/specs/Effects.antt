@@ -30,10 +30,11 @@ use Rattle.file_handles.specs.declared.object.Entry.{Entry}
 use Rattle.file_handles.specs.declared.object.Entry.TheVariants as entry
 use Rattle.file_handles.specs.declared.object.Object.{Object}
 
--- the name of a key, and of an object
+-- the name of a key
 abbrev pub name_of : List ℕ → Name
 name_of key = record { 0 = file_name key }
 
+-- the name of an object
 abbrev pub object_name : MachineObject → Name
 object_name o = name_of o.version.key
 

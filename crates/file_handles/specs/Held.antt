@@ -35,15 +35,17 @@ abbrev pub is_draft : Entry → Bool
 is_draft (entry.Draft d) = true
 is_draft (entry.Finished meta) = false
 
--- the key, the elements and the header of an entry
+-- the key of an entry
 abbrev pub key_in : Entry → List ℕ
 key_in (entry.Draft d) = d.key
 key_in (entry.Finished meta) = meta.key
 
+-- its elements
 abbrev pub elements_in : Entry → List Element
 elements_in (entry.Draft d) = d.elements
 elements_in (entry.Finished meta) = meta.elements
 
+-- its header
 abbrev pub header_in : Entry → Header
 header_in (entry.Draft d) = d.header
 header_in (entry.Finished meta) = meta.header

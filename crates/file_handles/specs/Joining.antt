@@ -16,7 +16,7 @@ pub record JoinsAt (slot place : ℕ) (writes : Bool) (before after : Kept) : Ty
   pub same : after ≡ with_use before slot (Some use_)
 
 -- the object is at a place that was free, and the slot uses it
-pub record Adds (slot : ℕ) (object : Object) (writes : Bool) (before after : Kept) : Type 0 where
+pub record AddsObject (slot : ℕ) (object : Object) (writes : Bool) (before after : Kept) : Type 0 where
   pub place : ℕ
   pub ranged : place < SLOTS
   pub free : object_at before place ≡ None
@@ -26,7 +26,7 @@ pub record Adds (slot : ℕ) (object : Object) (writes : Bool) (before after : K
 -- so it is after an Ok, and the only fault is that so many objects were made that there is no number for one more
 pub record AddsTo (slot : ℕ) (object : Object) (writes : Bool)
     (answer : Result (Unit {0}) HandleFault) (before after : Kept) : Type 0 where
-  pub added : OnOk answer (Adds slot object writes before after)
+  pub added : OnOk answer (AddsObject slot object writes before after)
   pub refused : OnRefused answer (λ r. ⊥)
   pub memory : IfErr answer (λ f. f ≡ fault.Memory)
   pub all_made : OnErr answer (before.made ≡ 2 ^ 64 - 1)

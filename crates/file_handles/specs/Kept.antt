@@ -20,13 +20,15 @@ pub record Kept : Type 0 where
 abbrev pub kept : Handles → Kept
 kept h = record { objects = h.table.objects; slots = h.table.slots; made = h.made; chunks = h.chunks }
 
--- the object at a place, the use of a slot, and the object of a slot
+-- the object at a place
 abbrev pub object_at : Kept → ℕ → Option Object
 object_at k p = unwrap_or (slice_get k.objects p) None
 
+-- the use of a slot
 abbrev pub use_at : Kept → ℕ → Option Use
 use_at k s = unwrap_or (slice_get k.slots s) None
 
+-- the object of a slot
 abbrev pub object_in : Kept → ℕ → Option Object
 object_in k s = option_and_then (λ u. object_at k u.place) (use_at k s)
 
@@ -58,11 +60,12 @@ without_chunks k number = record k { chunks = without_entry number k.chunks }
 abbrev pub with_use : Kept → ℕ → Option Use → Kept
 with_use k s u = record k { slots = slice_set k.slots s u }
 
--- the use of a slot that has one, and that of one that writes
+-- the use of a slot that has one
 abbrev pub used : Option Use → Result Use Refusal
 used None = Err refused.NoSlot
 used (Some u) = Ok u
 
+-- the use of a slot that writes
 abbrev pub writing : Option Use → Result Use Refusal
 writing None = Err refused.NoSlot
 writing (Some u) = if u.writes then Ok u else Err refused.NotWriter

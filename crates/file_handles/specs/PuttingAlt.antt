@@ -35,15 +35,15 @@ pub record IsPutBehind (kind alt : List ℕ) (t : State) (x : Object) (v : Versi
   pub stands : HasVersion t x (with_alt_data kind alt v)
   pub told : IsPut v.elements v.body kind alt
 
--- so it is of the entry of the slot, whose file is that of a version which may have one: other parts, as a key with zero
--- bytes, may spell the same file
+-- so it is of the entry of the slot, whose file is that of a version which may have one: other parts, as a key with
+-- zero bytes, may spell the same file
 abbrev pub PutsAlt : Kept → ℕ → List ℕ → List ℕ → State → State → Type 0
 PutsAlt k slot kind alt s t =
     IfSome (object_in k slot)
     (λ x. (v : Version) → IsVersion v → HasVersion s x v → IsPutBehind kind alt t x v)
 
--- in every image, wherever the file of the slot's entry stands, it begins with the body of before, where no write reached
--- into that body since the last sync
+-- in every image, wherever the file of the slot's entry stands, it begins with the body of before, where no write
+-- reached into that body since the last sync
 abbrev pub KeepsMainBody : Kept → ℕ → State → State → Type 0
 KeepsMainBody k slot s t =
     IfSome (object_in k slot) (λ x. (v : Version) (file : ℕ) → HasVersion s x v

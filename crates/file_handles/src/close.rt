@@ -142,8 +142,8 @@ impl Handles {
         }
     }
 
-    /// Closes a slot. If it writes an entry that is not finished, the entry is finished first. The file of a doomed entry
-    /// is removed with its last slot.
+    /// Closes a slot. If it writes an entry that is not finished, the entry is finished first. The file of a doomed
+    /// entry is removed with its last slot.
     pub fn close<D: Disk>(
         &mut self,
         alloc: Global,
@@ -172,7 +172,8 @@ impl Handles {
         Ok(effect)
     }
 
-    /// Closes all slots. The files that stand aside, those of doomed entries and of such that are not finished, are removed.
+    /// Closes all slots. The files that stand aside, those of doomed entries and of such that are not finished, are
+    /// removed.
     pub fn close_all<D: Disk>(self, disk: &mut D) -> Result<(), DiskFault>
         requires told { IsTrue D.tells → RepresentsSome (cache D.Disk self disk.old) }
         ensures closes { IsTrue D.tells →

@@ -16,7 +16,7 @@ ghost use Rattle.file_handles.specs.Seats.{IsLow};
 ghost use Rattle.file_handles.specs.Unsynced.{SyncsNothing};
 ghost use Rattle.index_theory.specs.Leaves.{LeavesBeside};
 
-use crate::find::look;
+use crate::find::read_metadata;
 use crate::object::Object;
 use crate::{Effect, HandleFault, Handles};
 use cache_base::{Name, SLOTS};
@@ -86,8 +86,8 @@ impl Handles {
     ghost use Rattle.file_handles.specs.Stands.{Represents, RepresentsSome};
     ghost use Rattle.file_handles.specs.Users.{users_of};
 
-    // Dooms the undoomed object in use of a name, which is at this place. Its file moves among the doomed, where it does
-    // not stand there.
+    // Dooms the undoomed object in use of a name, which is at this place. Its file moves among the doomed, where it
+    // does not stand there.
     fn doom_at<D: Disk>(
         &mut self,
         disk: &mut D,
@@ -219,7 +219,7 @@ impl Handles {
         if self.used_by(&name, key).is_some() {
             return Ok(name);
         }
-        look(alloc, disk, key, &name)?;
+        read_metadata(alloc, disk, key, &name)?;
         Ok(name)
     }
 

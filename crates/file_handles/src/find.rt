@@ -47,7 +47,7 @@ fn read_under<D: Disk>(alloc: Global, disk: &mut D, name: &Name) -> Result<Entry
 }
 
 /// The metadata of the file of a key, even if its body is damaged.
-pub(crate) fn look<D: Disk>(
+pub(crate) fn read_metadata<D: Disk>(
     alloc: Global,
     disk: &mut D,
     key: &[u8],
@@ -114,7 +114,7 @@ pub(crate) fn load<D: Disk>(
     ensures no_change { result ≢ Err HandleFault.Disk }
     ensures looks { Looks D.Disk (ending result) disk.old disk.new }
 {
-    let meta = look(alloc, disk, key, name)?;
+    let meta = read_metadata(alloc, disk, key, name)?;
     match check_under(disk, name, &meta, chunk)? {
         None => Ok(meta),
         Some(damage) => Err(HandleFault::Refused(Refusal::Damaged(damage))),
@@ -178,8 +178,9 @@ impl Handles {
         load(alloc, disk, key, &name, &mut self.chunk)
     }
 
-    /// The metadata of the entry that is found under a name, whatever its key: each chunk is checked against its hash, and
-    /// the last one is held for `read_found`. None where nothing stands there, or what does is unfit or damaged.
+    /// The metadata of the entry that is found under a name, whatever its key: each chunk is checked against its
+    /// hash, and the last one is held for `read_found`. None where nothing stands there, or what does is unfit or
+    /// damaged.
     pub fn find_named<D: Disk>(
         &mut self,
         alloc: Global,

@@ -84,7 +84,8 @@ fn parts_fit(header: Header, elements: &Elements)
     bytes_fit(elements.print());
 }
 
-// The first reason why an entry may not be finished with the parts that are given, or else with its own, if there is one.
+// The first reason why an entry may not be finished with the parts that are given, or else with its own, if there is
+// one.
 fn finish_fault(entry: &Entry, given: &Option<Parts>) -> Option<Refusal>
     ensures { result ≡ finish_fault_of entry.now given.now }
 {

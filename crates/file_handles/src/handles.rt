@@ -36,15 +36,15 @@ pub struct Handles {
 }
 
 impl Handles {
-    ghost use Rattle.file_handles.specs.Carries.{Begins};
+    ghost use Rattle.file_handles.specs.Carries.{StandsForOpening};
     ghost use Rattle.file_handles.specs.Held.{object_with};
     ghost use Rattle.file_handles.specs.Kept.{kept, live_use as live_use_of, object_at as object_kept_at, use_at, used as used_or, with_object, writing as writing_or};
     ghost use Rattle.file_handles.specs.Loading.{user_place};
 
-    /// Handles with no entry in use. The memory for the chunk that is checked is taken here; that for chunks that are read
-    /// is taken as they come.
+    /// Handles with no entry in use. The memory for the chunk that is checked is taken here; that for chunks that are
+    /// read is taken as they come.
     pub fn new(alloc: Global) -> Result<Handles, NoMemory>
-        ensures { IfOk result (λ handles. Begins (kept handles)) }
+        ensures { IfOk result (λ handles. StandsForOpening (kept handles)) }
     {
         opens_proper();
         Ok(Handles {

@@ -27,4 +27,3 @@ pub use cache_theory::Refusal;
 pub use fault::{Effect, HandleFault};
 pub use handles::Handles;
 pub use laws::{learnt_is_scanned, learnt_leaves_rest};
-pub use users::listed;

@@ -60,8 +60,8 @@ impl Handles {
         Ok(())
     }
 
-    /// Opens the entry of a key, which the slot reads. An entry that is in use is shared as it is; otherwise every chunk
-    /// of its file is checked against its hash.
+    /// Opens the entry of a key, which the slot reads. An entry that is in use is shared as it is; otherwise every
+    /// chunk of its file is checked against its hash.
     pub fn open<D: Disk>(
         &mut self,
         alloc: Global,

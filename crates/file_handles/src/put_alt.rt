@@ -291,11 +291,11 @@ impl Handles {
     }
 
     /// Puts alternative data of a kind behind the body of a finished entry, such as compiled code for a script
-    /// (`CacheFile::OpenAlternativeOutputStream` of Firefox). The element `alt-data` then says where they begin. The data
-    /// and the new metadata are written by one call of the disk, at the end of the body: it reaches nothing before that.
-    /// The last chunk of the body is read first, for its new hash, unless it is a whole one. The slot must be a writer's.
-    /// The command is refused where an element `alt-data` is there already, where the kind is empty or has a zero byte,
-    /// and where the body, the elements or the metadata block would be too large.
+    /// (`CacheFile::OpenAlternativeOutputStream` of Firefox). The element `alt-data` then says where they begin. The
+    /// data and the new metadata are written by one call of the disk, at the end of the body: it reaches nothing
+    /// before that. The last chunk of the body is read first, for its new hash, unless it is a whole one. The slot
+    /// must be a writer's. The command is refused where an element `alt-data` is there already, where the kind is
+    /// empty or has a zero byte, and where the body, the elements or the metadata block would be too large.
     pub fn put_alt<D: Disk>(
         &mut self,
         alloc: Global,

@@ -68,7 +68,7 @@ fn part(b: &[u8], from: usize, len: u64) -> &[u8]
 }
 
 // A part of what of an object's body is not on the disk.
-fn rest_of(object: &Object, from: u64, len: u64) -> &[u8]
+fn unwritten_part(object: &Object, from: u64, len: u64) -> &[u8]
     ensures { result.now ≡ rest_part object.now.entry from len }
 {
     if len == 0 || from >= u64::from(object.body_len()) {
@@ -132,9 +132,10 @@ impl Handles {
         Ok(self.object_at(user.place).body_len())
     }
 
-    /// At most `len` bytes of the body of the entry in a slot, from an offset up to the end of its chunk or of the body.
-    /// There are none exactly where `len` is 0 or the offset is at or after the end of the body. The chunks that were read
-    /// last are held, and a chunk that is held is not read again; what a writer has not written yet is lent as it is.
+    /// At most `len` bytes of the body of the entry in a slot, from an offset up to the end of its chunk or of the
+    /// body. There are none exactly where `len` is 0 or the offset is at or after the end of the body. The chunks
+    /// that were read last are held, and a chunk that is held is not read again; what a writer has not written yet is
+    /// lent as it is.
     pub fn read_part<D: Disk>(
         &mut self,
         alloc: Global,
@@ -215,7 +216,7 @@ impl Handles {
         ensures no_change { result ≢ Err HandleFault.Disk }
         ensures looks { Looks D.Disk (ending result) disk.old disk.new }
     {
-        if self.chunks.look(chunk.number, chunk.index).is_some() {
+        if self.chunks.get(chunk.number, chunk.index).is_some() {
             return Ok(());
         }
         // A chunk goes only once the new one is there, and its memory is used again for the next.
@@ -235,9 +236,11 @@ impl Handles {
         ensures part { IfSome (bytes_of chunk.now.number chunk.now.index (kept self.old).chunks)
             (λ bytes. result.now ≡ take len (drop (from % chunk_size) bytes)) }
         ensures* looked { sem 𝓛 (RestsWith self.entry (λ k.
-            k ≡ record (kept self.old) { chunks = looked_at chunk.now.number chunk.now.index (kept self.old).chunks })) }
+            k ≡ record (kept self.old) {
+              chunks = looked_at chunk.now.number chunk.now.index (kept self.old).chunks;
+            })) }
     {
-        match self.chunks.look(chunk.number, chunk.index) {
+        match self.chunks.get(chunk.number, chunk.index) {
             Some(bytes) => part(bytes, (from % CHUNK as u64) as usize, len),
             None => unreachable!(),
         }
@@ -250,6 +253,6 @@ impl Handles {
         ensures { IfSome (object_kept_at (kept self.now) place)
             (λ x. result.now ≡ rest_part x.entry from len) }
     {
-        rest_of(self.object_at(place), from, len)
+        unwritten_part(self.object_at(place), from, len)
     }
 }

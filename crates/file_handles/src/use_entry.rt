@@ -38,8 +38,8 @@ impl Handles {
         Ok(used.place)
     }
 
-    /// Counts one more use of the entry of a slot at this moment, and gives it the frecency that follows. The metadata of
-    /// a finished entry are rewritten.
+    /// Counts one more use of the entry of a slot at this moment, and gives it the frecency that follows. The
+    /// metadata of a finished entry are rewritten.
     pub fn use_entry<D: Disk>(
         &mut self,
         alloc: Global,

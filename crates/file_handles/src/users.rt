@@ -1,14 +1,12 @@
 //! How many slots use the entry of a name, and the names of the entries in use.
 
 ghost use Rattle.std.specs.Prelude.{◌≡◌, IfOk, false, filter, length, true};
-ghost use Rattle.std.specs.BTreeSet.{contains};
 ghost use Rattle.std.specs.List.{list_any};
-ghost use Rattle.cache_base.specs.Names.{AreRising, name_cmp};
+ghost use Rattle.cache_base.specs.Names.{AreRising, has_name};
 ghost use Rattle.cache_base.specs.declared.name.Name.{Name as AName};
 ghost use Rattle.cache_theory.specs.Covers.{covers};
 ghost use Rattle.entry_key.specs.Tags.{origin_hash as origin_hash_of, tags_of};
 ghost use Rattle.entry_key.specs.Walk.{read_key, reads};
-ghost use Rattle.evictor.specs.Evict.{has_name};
 ghost use Rattle.file_handles.specs.Held.{header_in, key_in};
 ghost use Rattle.file_handles.specs.Seats.{is_use_of};
 ghost use Rattle.file_handles.specs.Users.{counts, is_counted};
@@ -17,11 +15,10 @@ ghost use Rattle.index_record.specs.Record.{has_bit};
 use crate::Handles;
 use crate::close::uses;
 use crate::object::{Entry, Object, Use};
-use cache_base::{Name, Names, NoMemory};
+use cache_base::{Name, Names, NoMemory, listed, name_set};
 use entry_key::{origin_hash, parse};
 use entry_parts::Header;
 use std::alloc::Global;
-use std::collections::BTreeSet;
 
 /// Which undoomed entries in use are asked for.
 #[derive(Clone, Copy)]
@@ -87,21 +84,17 @@ fn is_asked(asked: Asked, object: &Object) -> bool
     }
 }
 
-// The names of the undoomed objects that are asked for, as a set.
-fn name_set(
-    alloc: Global,
-    objects: &[Option<Object>],
-    asked: Asked,
-) -> Result<BTreeSet<Name>, NoMemory>
-    ensures { IfOk result (λ set. (q : AName) →
-        contains name_cmp set q ≡ list_any (is_counted asked q) objects.now) }
+// The names of the undoomed objects that are asked for.
+fn asked_names(alloc: Global, objects: &[Option<Object>], asked: Asked) -> Result<Names, NoMemory>
+    ensures { IfOk result (λ names. (q : AName) →
+        has_name names q ≡ list_any (is_counted asked q) objects.now) }
 {
-    let mut names = BTreeSet::new(alloc);
+    let mut names = Names::new(alloc);
     for object in objects {
         match object {
             Some(object) => {
                 if is_asked(asked, object) {
-                    names.insert(object.name)?;
+                    names.push(object.name)?;
                 }
             }
             None => {}
@@ -110,16 +103,18 @@ fn name_set(
     Ok(names)
 }
 
-/// The names of a set, in their order.
-pub fn listed(alloc: Global, mut set: BTreeSet<Name>) -> Result<Names, NoMemory>
-    ensures names { IfOk result (λ names. names ≡ set.keys) }
+// The same in name order, each once.
+fn asked_in_order(
+    alloc: Global,
+    objects: &[Option<Object>],
+    asked: Asked,
+) -> Result<Names, NoMemory>
+    ensures names { IfOk result (λ names. (q : AName) →
+        has_name names q ≡ list_any (is_counted asked q) objects.now) }
     ensures rising { IfOk result AreRising }
 {
-    let mut names = Names::with_room(alloc, set.len())?;
-    while let Some(name) = set.pop_first() {
-        names.push(name)?;
-    }
-    Ok(names)
+    let names = asked_names(alloc, objects, asked)?;
+    listed(alloc, name_set(alloc, names.as_slice())?)
 }
 
 impl Handles {
@@ -142,16 +137,14 @@ impl Handles {
         ensures unused { IfOk result (λ names. (name : AName) →
             has_name names name ≡ false → users_of (kept self.now) name ≡ 0) }
     {
-        let set = name_set(alloc, &self.table.objects, Asked::All)?;
-        listed(alloc, set)
+        asked_in_order(alloc, &self.table.objects, Asked::All)
     }
 
     /// The names of undoomed entries that are still being written, in name order.
     pub fn writing_names(&self, alloc: Global) -> Result<Names, NoMemory>
         ensures { IfOk result (AreWritingNames (kept self.now)) }
     {
-        let set = name_set(alloc, &self.table.objects, Asked::Drafts)?;
-        listed(alloc, set)
+        asked_in_order(alloc, &self.table.objects, Asked::Drafts)
     }
 
     /// The names of undoomed entries in use that are of the origin with this hash and not pinned, in name order.
@@ -159,7 +152,6 @@ impl Handles {
         ensures names { IfOk result (AreCoveredNames (kept self.now) origin) }
         ensures rising { IfOk result AreRising }
     {
-        let set = name_set(alloc, &self.table.objects, Asked::Of { origin })?;
-        listed(alloc, set)
+        asked_in_order(alloc, &self.table.objects, Asked::Of { origin })
     }
 }

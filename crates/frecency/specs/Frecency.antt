@@ -13,7 +13,8 @@ reach = 172800
 abbrev pub points : List ℕ
 points = 121 ∷ 243 ∷ 483 ∷ 959 ∷ 1889 ∷ 3670 ∷ 6954 ∷ 12635 ∷ 21600 ∷ 34235 ∷ 50154 ∷ 68470 ∷ 88289 ∷ 108959 ∷ 130083 ∷ 151443 ∷ 172921 ∷ []
 
--- the points at `e` seconds from the table's start, by proportion between two places; at the last place the difference is 0
+-- the points at `e` seconds from the table's start, by proportion between two places; at the last place the
+-- difference is 0
 abbrev pub points_at : ℕ → ℕ
 points_at e =
     let i = e / step in

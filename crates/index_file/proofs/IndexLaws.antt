@@ -1,13 +1,13 @@
 -- An index that is spelled is read back, and bytes that pass its checks spell one.
 use Rattle.std.proofs.Common.{◌≡◌, ℕ, ◌+◌, ◌<◌, ◌≤◌, ◌^◌, List, ◌++◌, length, take, drop, not, refl, sym, ap, ◌∙◌, arith, length-append, length-drop}
 use Rattle.std.specs.Option.{option_or}
-use Rattle.std.specs.Prelude.{◌==◌, Option, Some, None, option_map}
+use Rattle.std.specs.Prelude.{◌==◌, Option, Some, None}
 use Rattle.std.proofs.lemmas.Bool.{eqb-true, leb-true}
 use Rattle.std.proofs.lemmas.List.{drop_at, drop-drop, take-append-drop}
 use Rattle.std.proofs.lemmas.Nat.{from_be_bytes-to_be_bytes_4}
 use Rattle.cache_base.specs.Bytes.{AreBytes, be32, be32_at}
 use Rattle.cache_base.proofs.ByteLaws.{bytes_drop, four, small32, take_more}
-use Rattle.cache_base.proofs.CheckLaws.{all_hold}
+use Rattle.cache_base.proofs.CheckLaws.{all_hold, none_from_map}
 use Rattle.jenkins_hash.specs.Hash.{hash_of}
 use Rattle.index_record.specs.declared.record.IndexRecord.{IndexRecord}
 use Rattle.record_list.specs.Lists.{records_bytes}
@@ -57,10 +57,6 @@ index_reads_back bytes t dirty rs s = (
   ap is_dirty_in s.spelled ∙ ap (λ n. not (n == 0)) (flag_is t s.flag s.kilobytes s.stored s.small.1) ∙ sym s.is_dirty,
   ap index_in s.spelled ∙ index_same t s.flag s.kilobytes s.stored s.are_stored ∙ sym s.same,
 )
-
-none_from_map : {E F : Type 0} (f : E → F) (o : Option E) → option_map f o ≡ None → o ≡ None
-none_from_map f None h = refl
-none_from_map f (Some e) h = absurd (cc)
 
 none_from_or : {F : Type 0} (o p : Option F) → option_or o p ≡ None → o ≡ None
 none_from_or None p h = refl

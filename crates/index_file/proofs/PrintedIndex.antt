@@ -3,13 +3,14 @@ use Rattle.std.proofs.Common.{◌≡◌, ℕ, ◌<◌, ◌^◌, List, [], ◌∷
 use Rattle.std.specs.Prelude.{◌==◌, IfOk, Ok, Err, Result}
 use Rattle.std.proofs.lemmas.List.Elements.{All-from_recursion, recursion_from_All}
 use Rattle.std.proofs.lemmas.List.Sorted.{All-permutation}
+use Rattle.cache_base.specs.Numbers.{one_if}
 use Rattle.index_record.specs.Record.{is_removed}
 use Rattle.index_record.specs.declared.record.IndexRecord.{IndexRecord}
 use Rattle.record_list.specs.Change.{HasNoRemoved}
 use Rattle.record_list.specs.Lists.{IsByName}
 use Rattle.record_list.specs.Stored as records
 use Rattle.record_list.proofs.ReadingLaws.{clean_reads_same}
-use Rattle.index_file.specs.Index.{flag_of, header_bytes}
+use Rattle.index_file.specs.Index.{header_bytes}
 use Rattle.index_file.specs.Printed.{IsPrinted}
 
 -- where no record is removed, none is left out
@@ -21,16 +22,16 @@ none_removed : (rs sorted : List IndexRecord) → IsByName rs sorted → HasNoRe
 none_removed rs sorted by h =
     recursion_from_All (λ r. is_removed r ≡ false) sorted (All-permutation (λ r. is_removed r ≡ false) rs sorted by.same (All-from_recursion (λ r. is_removed r ≡ false) rs h))
 
-flag_read : (dirty : Bool) → dirty ≡ not (flag_of dirty == 0)
+flag_read : (dirty : Bool) → dirty ≡ not (one_if dirty == 0)
 flag_read true = refl
 flag_read false = refl
 
-flag_small : (dirty : Bool) → flag_of dirty < 2 ^ 32
+flag_small : (dirty : Bool) → one_if dirty < 2 ^ 32
 flag_small true = omega arith
 flag_small false = omega arith
 
 pub printed : (rs : List IndexRecord) (t : ℕ) (dirty : Bool) (bytes : List ℕ) → HasNoRemoved rs → t < 2 ^ 32
-    → records.IsPrinted (header_bytes t (flag_of dirty) 0) rs bytes → IsPrinted rs t dirty bytes
+    → records.IsPrinted (header_bytes t (one_if dirty) 0) rs bytes → IsPrinted rs t dirty bytes
 printed rs t dirty bytes present small h =
     let same : records.read_as (records.present h.sorted) ≡ h.sorted =
     ap records.read_as (all_present h.sorted (none_removed rs h.sorted h.by_name present)) ∙ clean_reads_same h.sorted h.clean in
@@ -40,7 +41,7 @@ printed rs t dirty bytes present small h =
       printed = h.spelled;
       spelled = record {
         stored = h.sorted;
-        flag = flag_of dirty;
+        flag = one_if dirty;
         kilobytes = 0;
         are_stored = h.stored;
         same = sym same;
@@ -52,6 +53,6 @@ printed rs t dirty bytes present small h =
 
 -- the same of an answer
 pub printed_answer : {F : Type 0} (rs : List IndexRecord) (t : ℕ) (dirty : Bool) (answer : Result (List ℕ) F) → HasNoRemoved rs → t < 2 ^ 32
-    → IfOk answer (records.IsPrinted (header_bytes t (flag_of dirty) 0) rs) → IfOk answer (IsPrinted rs t dirty)
+    → IfOk answer (records.IsPrinted (header_bytes t (one_if dirty) 0) rs) → IfOk answer (IsPrinted rs t dirty)
 printed_answer rs t dirty (Ok bytes) present small h = printed rs t dirty bytes present small h
 printed_answer rs t dirty (Err f) present small h = tt

@@ -3,6 +3,7 @@ use Rattle.std.specs.Option.{option_or}
 use Rattle.std.specs.Prelude.{Bool, List, Option, Some, [], drop, length, nat_le, not, option_map, ℕ, ◌==◌, ◌∷◌, ◌≡◌}
 use Rattle.cache_base.specs.Bytes.{be32_at}
 use Rattle.cache_base.specs.Checks.{first_failing}
+use Rattle.index_file.specs.Index.{flag_at, header_size}
 use Rattle.index_file.specs.RecordsFault.{fault_of}
 use Rattle.index_file.specs.declared.fault.IndexFault.{IndexFault}
 use Rattle.index_file.specs.declared.fault.IndexFault.TheVariants as faults
@@ -13,21 +14,24 @@ use Rattle.record_list.specs.Stored.{present, read_as, records_fault, stored_in}
 unfoldable pub header_checks : List ℕ → List (Bool × IndexFault)
 header_checks xs = (nat_le 20 (length xs), faults.Short) ∷ (be32_at xs 0 == 0xA, faults.Version) ∷ []
 
--- the fault of the first failing check of the header, or else of the records behind its 16 bytes
+-- the fault of the first failing check of the header, or else of the records after it
 abbrev pub index_fault : List ℕ → Option IndexFault
-index_fault xs = option_or (first_failing (header_checks xs)) (option_map fault_of (records_fault (drop 16 xs)))
+index_fault xs =
+    option_or (first_failing (header_checks xs)) (option_map fault_of (records_fault (drop header_size xs)))
 
 -- the fault is that of the first failing check, or want of memory
 abbrev pub IsFirstFault : List ℕ → IndexFault → Type 0
 IsFirstFault xs faults.Memory = Unit {0}
 IsFirstFault xs f = index_fault xs ≡ Some f
 
--- the moment, whether the index is dirty, and its records
+-- the moment of an index
 abbrev pub timestamp_in : List ℕ → ℕ
 timestamp_in xs = be32_at xs 4
 
+-- whether it is dirty
 abbrev pub is_dirty_in : List ℕ → Bool
-is_dirty_in xs = not (be32_at xs 8 == 0)
+is_dirty_in xs = not (be32_at xs flag_at == 0)
 
+-- its records
 abbrev pub index_in : List ℕ → List IndexRecord
-index_in xs = read_as (present (stored_in (drop 16 xs)))
+index_in xs = read_as (present (stored_in (drop header_size xs)))

@@ -1,5 +1,5 @@
 -- The file `index`: a header of four numbers, the records, and the hash of the records' bytes.
-use Rattle.std.specs.Prelude.{Bool, List, if◌then◌else◌, not, ℕ, ◌++◌, ◌<◌, ◌==◌, ◌^◌, ◌≡◌}
+use Rattle.std.specs.Prelude.{Bool, List, not, ℕ, ◌++◌, ◌<◌, ◌==◌, ◌^◌, ◌≡◌}
 use Rattle.cache_base.specs.Bytes.{be32}
 use Rattle.index_record.specs.declared.record.IndexRecord.{IndexRecord}
 use Rattle.record_list.specs.Stored.{AreStored, present, read_as, stored_bytes}
@@ -7,6 +7,14 @@ use Rattle.record_list.specs.Stored.{AreStored, present, read_as, stored_bytes}
 -- the header: the version, a moment, whether the index is dirty, and kilobytes that are not read
 unfoldable pub header_bytes : ℕ → ℕ → ℕ → List ℕ
 header_bytes timestamp flag kilobytes = be32 0xA ++ (be32 timestamp ++ (be32 flag ++ be32 kilobytes))
+
+-- how many bytes it has
+abbrev pub header_size : ℕ
+header_size = 16
+
+-- where the flag stands in it
+abbrev pub flag_at : ℕ
+flag_at = 8
 
 -- the bytes of an index with these numbers and records
 abbrev pub index_bytes : ℕ → ℕ → ℕ → List IndexRecord → List ℕ
@@ -22,7 +30,3 @@ pub record IndexSpells (bytes : List ℕ) (timestamp : ℕ) (dirty : Bool) (rs :
   pub is_dirty : dirty ≡ not (flag == 0)
   pub small : (timestamp < 2 ^ 32) × (flag < 2 ^ 32) × (kilobytes < 2 ^ 32)
   pub spelled : bytes ≡ index_bytes timestamp flag kilobytes stored
-
--- the flag as it is written
-abbrev pub flag_of : Bool → ℕ
-flag_of dirty = if dirty then 1 else 0

@@ -1,6 +1,7 @@
 -- An index as it is printed.
 use Rattle.std.specs.Prelude.{Bool, List, ℕ, ◌≡◌}
-use Rattle.index_file.specs.Index.{IndexSpells, flag_of, index_bytes}
+use Rattle.cache_base.specs.Numbers.{one_if}
+use Rattle.index_file.specs.Index.{IndexSpells, index_bytes}
 use Rattle.index_record.specs.declared.record.IndexRecord.{IndexRecord}
 use Rattle.record_list.specs.Lists.{IsByName}
 
@@ -8,5 +9,5 @@ use Rattle.record_list.specs.Lists.{IsByName}
 pub record IsPrinted (rs : List IndexRecord) (timestamp : ℕ) (dirty : Bool) (bytes : List ℕ) : Type 0 where
   pub sorted : List IndexRecord
   pub by_name : IsByName rs sorted
-  pub printed : bytes ≡ index_bytes timestamp (flag_of dirty) 0 sorted
+  pub printed : bytes ≡ index_bytes timestamp (one_if dirty) 0 sorted
   pub spelled : IndexSpells bytes timestamp dirty sorted

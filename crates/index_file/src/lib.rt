@@ -21,3 +21,9 @@ pub const VERSION: u32 = 0xA;
 
 /// The bytes of an index's header.
 pub const HEADER: usize = 16;
+
+/// Where the flag stands in the header: four bytes that are 0 where the index is up to date.
+pub const FLAG_AT: usize = 8;
+
+/// The fewest bytes of an index: its header and the hash of no records.
+pub const LEAST: usize = HEADER + 4;

@@ -1,7 +1,8 @@
 //! Printing an index.
 
 ghost use Rattle.std.specs.Prelude.{◌≡◌, IfOk};
-ghost use Rattle.index_file.specs.Index.{flag_of, header_bytes};
+ghost use Rattle.cache_base.specs.Numbers.{one_if};
+ghost use Rattle.index_file.specs.Index.{header_bytes};
 ghost use Rattle.index_file.specs.Printed.{IsPrinted};
 ghost use Rattle.record_list.specs.Change.{HasNoRemoved};
 ghost use Rattle.record_list.specs.Lists.{HasNames};
@@ -15,7 +16,7 @@ use std::alloc::Global;
 
 #[tactic(auto, unfolding(crate::specs::Index::header_bytes))]
 fn header(timestamp: u32, dirty: bool) -> [u8; HEADER]
-    ensures { result ≡ header_bytes timestamp (flag_of dirty) 0 }
+    ensures { result ≡ header_bytes timestamp (one_if dirty) 0 }
 {
     let mut out = [0; HEADER];
     BigEndian::write_u32(&mut out[0..4], VERSION);

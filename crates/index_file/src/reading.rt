@@ -10,13 +10,10 @@ ghost use Rattle.record_list.specs.Change.{HasNoRemoved};
 ghost use Rattle.record_list.specs.Lists.{HasNames};
 ghost use Rattle.record_list.specs.Stored.{AreClean};
 
-use crate::{HEADER, IndexFault, IndexImage, VERSION};
+use crate::{FLAG_AT, HEADER, IndexFault, IndexImage, LEAST, VERSION};
 use byteorder::{BigEndian, ByteOrder};
 use record_list::parse_present;
 use std::alloc::Global;
-
-// The fewest bytes of an index: its header and the hash of no records.
-const LEAST: usize = HEADER + 4;
 
 fn number_at(b: &[u8], at: usize) -> u32
     requires { at + 4 ≤ length b.now }
@@ -45,7 +42,7 @@ fn read_all(alloc: Global, b: &[u8]) -> Result<IndexImage, IndexFault>
     let records = parse_present(alloc, part)?;
     Ok(IndexImage {
         timestamp: number_at(b, 4),
-        dirty: number_at(b, 8) != 0,
+        dirty: number_at(b, FLAG_AT) != 0,
         records,
     })
 }

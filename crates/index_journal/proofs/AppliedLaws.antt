@@ -1,16 +1,17 @@
 -- The list of an index and its journal, by rising names, is the journal applied to the index.
 use Rattle.std.proofs.Common.{◌≡◌, List, [], ◌∷◌, ◌++◌, Bool, true, false, not, cond, refl, sym, subst, ◌∙◌}
-use Rattle.std.specs.Prelude.{IfOk, Ok, Err, Result, filter}
+use Rattle.std.specs.Prelude.{filter}
 use Rattle.std.specs.List.{AllByRecursion}
 use Rattle.std.proofs.lemmas.List.Elements.{All-from_recursion, recursion_from_All}
 use Rattle.std.proofs.lemmas.List.Sorted.{All-permutation}
+use Rattle.cache_base.specs.Names.{has_name}
 use Rattle.index_record.specs.declared.record.IndexRecord.{IndexRecord}
 use Rattle.index_record.specs.Record.{is_removed}
 use Rattle.record_list.specs.Change.{HasNoRemoved, IsApplied}
 use Rattle.record_list.specs.Lists.{HasNames, IsByName, names_of}
 use Rattle.record_list.specs.Stored.{AreClean, IsClean, present}
 use Rattle.record_list.proofs.SortedLaws.{by_name_keeps}
-use Rattle.index_journal.specs.Merged.{is_among, merged}
+use Rattle.index_journal.specs.Merged.{merged}
 use Rattle.index_journal.proofs.MergedLaws.{merged_at, merged_distinct}
 
 all_filter : (P : IndexRecord → Type 0) (p : IndexRecord → Bool) (rs : List IndexRecord) → AllByRecursion P rs → AllByRecursion P (filter p rs)
@@ -43,7 +44,7 @@ module _ (rs js sorted : List IndexRecord) (hr : HasNames rs) (hj : HasNames js)
   each : (P : IndexRecord → Type 0) → AllByRecursion P rs → AllByRecursion P (present js) → AllByRecursion P sorted
   each P h k =
       recursion_from_All P sorted (All-permutation P (merged rs js) sorted by.same
-      (All-from_recursion P (merged rs js) (all_append P _ (present js) (all_filter P (λ r. not (is_among (names_of js) r.name)) rs h) k)))
+      (All-from_recursion P (merged rs js) (all_append P _ (present js) (all_filter P (λ r. not (has_name (names_of js) r.name)) rs h) k)))
 
 -- the list that was merged from what stands in two slices
 pub merged_is : (items : List IndexRecord) {rs js xs ys : List IndexRecord} → items ≡ merged xs ys → xs ≡ rs → ys ≡ js → items ≡ merged rs js
@@ -56,14 +57,11 @@ module _ (rs js : List IndexRecord) (hr : HasNames rs) (hj : HasNames js) (items
   by_merged : (sorted : List IndexRecord) → IsByName items sorted → IsByName (merged rs js) sorted
   by_merged sorted by = subst (λ xs. IsByName xs sorted) is by
 
-  pub applied_answer : {F : Type 0} (answer : Result (List IndexRecord) F) → IfOk answer (IsByName items) → IfOk answer (IsApplied rs js)
-  applied_answer (Ok sorted) by = is_applied rs js sorted hr hj (by_merged sorted by)
-  applied_answer (Err f) by = tt
+  pub applied_answer : (sorted : List IndexRecord) → IsByName items sorted → IsApplied rs js sorted
+  applied_answer sorted by = is_applied rs js sorted hr hj (by_merged sorted by)
 
-  pub clean_answer : {F : Type 0} (answer : Result (List IndexRecord) F) → IfOk answer (IsByName items) → AreClean rs → AreClean js → IfOk answer AreClean
-  clean_answer (Ok sorted) by h k = each rs js sorted hr hj (by_merged sorted by) IsClean h (all_filter IsClean (λ r. not (is_removed r)) js k)
-  clean_answer (Err f) by h k = tt
+  pub clean_answer : (sorted : List IndexRecord) → IsByName items sorted → AreClean rs → AreClean js → AreClean sorted
+  clean_answer sorted by h k = each rs js sorted hr hj (by_merged sorted by) IsClean h (all_filter IsClean (λ r. not (is_removed r)) js k)
 
-  pub present_answer : {F : Type 0} (answer : Result (List IndexRecord) F) → IfOk answer (IsByName items) → HasNoRemoved rs → IfOk answer HasNoRemoved
-  present_answer (Ok sorted) by h = each rs js sorted hr hj (by_merged sorted by) (λ r. is_removed r ≡ false) h (none_removed js)
-  present_answer (Err f) by h = tt
+  pub present_answer : (sorted : List IndexRecord) → IsByName items sorted → HasNoRemoved rs → HasNoRemoved sorted
+  present_answer sorted by h = each rs js sorted hr hj (by_merged sorted by) (λ r. is_removed r ≡ false) h (none_removed js)

@@ -1,8 +1,9 @@
 -- A journal that is spelled is read back, and bytes that pass its checks spell one.
 use Rattle.std.proofs.Common.{◌≡◌, ℕ, ◌<◌, ◌≤◌, List, [], length, Bool, true, false, cond, refl, sym, ap, subst, ◌∙◌, arith, length-append}
-use Rattle.std.specs.Prelude.{IfErr, IfOk, None, OnOk, Ok, Err, Option, Result, Some, nat_le, option_map}
+use Rattle.std.specs.Prelude.{IfErr, IfOk, None, OnOk, Ok, Err, Result, Some, nat_le, option_map}
 use Rattle.std.proofs.lemmas.Bool.{le-leb, leb-true, lt-leb}
 use Rattle.cache_base.specs.Bytes.{AreBytes, be32}
+use Rattle.cache_base.proofs.CheckLaws.{none_from_map}
 use Rattle.jenkins_hash.specs.Hash.{hash_of}
 use Rattle.index_record.specs.declared.record.IndexRecord.{IndexRecord}
 use Rattle.record_list.specs.Lists.{records_bytes}
@@ -44,10 +45,6 @@ journal_reads_back bytes rs s = (
   ap journal_fault s.spelled ∙ fits (records.stored_bytes s.stored) (long_enough s.stored) (stored_reads_back s.stored s.are_stored).0,
   ap journal_in s.spelled ∙ ap records.read_as (stored_reads_back s.stored s.are_stored).1 ∙ sym s.same,
 )
-
-none_from_map : {E F : Type 0} (f : E → F) (o : Option E) → option_map f o ≡ None → o ≡ None
-none_from_map f None h = refl
-none_from_map f (Some e) h = absurd (cc)
 
 passes_long : (xs : List ℕ) → journal_fault xs ≡ None → 4 ≤ length xs
 passes_long xs passes = leb-true _ _ (go (nat_le 4 (length xs)) refl passes)

@@ -1,4 +1,3 @@
 pub mod JournalLaws
 pub mod MergedLaws
 pub mod AppliedLaws
-pub mod Searched

@@ -4,16 +4,17 @@ use Rattle.std.specs.Prelude.{Option, None, Some, filter, is_some}
 use Rattle.std.specs.Option.{option_or}
 use Rattle.std.specs.List.{AllByRecursion, IsDistinct}
 use Rattle.std.proofs.lemmas.List.Folds.{find-append}
+use Rattle.cache_base.specs.Names.{has_name}
 use Rattle.cache_base.specs.declared.name.Name.{Name}
 use Rattle.index_record.specs.declared.record.IndexRecord.{IndexRecord}
 use Rattle.index_record.specs.Record.{is_removed}
 use Rattle.record_list.specs.Change.{applied, journal_or}
 use Rattle.record_list.specs.Lists.{HasNames, names_of, record_at, same_name}
 use Rattle.record_list.specs.Stored.{present}
-use Rattle.record_list.proofs.NameLaws.{same_back, same_is}
+use Rattle.record_list.proofs.NameLaws.{equal_same, found_same, same_back, same_is}
 use Rattle.record_list.proofs.OrderLaws.{all_unlike}
 use Rattle.record_list.proofs.ReadingLaws.{all_left, filter_distinct}
-use Rattle.index_journal.specs.Merged.{is_among, merged}
+use Rattle.index_journal.specs.Merged.{merged}
 
 -- the record under a name of a list with one more in front
 at_front : (r : IndexRecord) (rs : List IndexRecord) (name : Name) (s : Bool) → same_name r.name name ≡ s → record_at (r ∷ rs) name ≡ cond s (Some r) (record_at rs name)
@@ -66,11 +67,11 @@ or_some j o x true e = refl
 or_some j o x false e = e
 
 -- a name is among those of a journal exactly where the journal has a record of it
-among_is : (js : List IndexRecord) (name : Name) → is_among (names_of js) name ≡ is_some (record_at js name)
+among_is : (js : List IndexRecord) (name : Name) → has_name (names_of js) name ≡ is_some (record_at js name)
 among_is [] name = refl
 among_is (j ∷ js) name =
-    ap (λ b. b || is_among (names_of js) name) (same_back name j.name)
-    ∙ or_some j (record_at js name) (is_among (names_of js) name) (same_name j.name name) (among_is js name)
+    ap (λ b. b || has_name (names_of js) name) (equal_same name j.name ∙ same_back name j.name)
+    ∙ or_some j (record_at js name) (has_name (names_of js) name) (same_name j.name name) (among_is js name)
 
 either_of : (o q : Option IndexRecord) → option_or (cond (not (is_some o)) q None) (journal_or o None) ≡ journal_or o q
 either_of None None = refl
@@ -80,9 +81,9 @@ either_of (Some j) q = refl
 -- each name has its record in the list
 pub merged_at : (rs js : List IndexRecord) → HasNames js → (name : Name) → record_at (merged rs js) name ≡ applied rs js name
 merged_at rs js distinct name =
-    let p : IndexRecord → Bool = λ r. not (is_among (names_of js) r.name) in
+    let p : IndexRecord → Bool = λ r. not (has_name (names_of js) r.name) in
     let alike : (r : IndexRecord) → same_name r.name name ≡ true → p r ≡ not (is_some (record_at js name)) =
-    λ r e. ap (λ n. not (is_among (names_of js) n)) (same_is r.name name e) ∙ ap not (among_is js name) in
+    λ r e. ap (λ n. not (has_name (names_of js) n)) (same_is r.name name e) ∙ ap not (among_is js name) in
     find-append (λ r. same_name r.name name) (filter p rs) (present js)
     ∙ (λ i. option_or (filter_at p name (not (is_some (record_at js name))) alike rs i) (present_at js name distinct i))
     ∙ either_of (record_at js name) (record_at rs name)
@@ -115,8 +116,8 @@ not_true false h = refl
 -- no name stands twice in the list
 pub merged_distinct : (rs js : List IndexRecord) → HasNames rs → HasNames js → HasNames (merged rs js)
 merged_distinct rs js hr hj =
-    distinct_append (filter (λ r. not (is_among (names_of js) r.name)) rs) (present js)
-    (filter_distinct (λ r. not (is_among (names_of js) r.name)) rs hr)
+    distinct_append (filter (λ r. not (has_name (names_of js) r.name)) rs) (present js)
+    (filter_distinct (λ r. not (has_name (names_of js) r.name)) rs hr)
     (filter_distinct (λ r. not (is_removed r)) js hj)
-    (passed (λ n. not (is_among (names_of js) n)) (λ n. AllByRecursion (λ m. same_name n m ≡ false) (names_of (present js)))
-    (λ n e. all_left (λ m. same_name n m ≡ false) (λ r. not (is_removed r)) js (all_unlike n (names_of js) (not_true _ e))) rs)
+    (passed (λ n. not (has_name (names_of js) n)) (λ n. AllByRecursion (λ m. same_name n m ≡ false) (names_of (present js)))
+    (λ n e. all_left (λ m. same_name n m ≡ false) (λ r. not (is_removed r)) js (all_unlike n (names_of js) (sym (found_same n (names_of js)) ∙ not_true _ e))) rs)

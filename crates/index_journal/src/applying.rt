@@ -1,16 +1,15 @@
 //! A journal that is applied to an index.
 
-ghost use Rattle.std.specs.List.{list_any};
 ghost use Rattle.std.specs.List.Sorted.{IsPermutation, IsSorted};
 ghost use Rattle.std.specs.Prelude.{◌≡◌, ◌++◌, IfOk, OnOk, filter, not};
-ghost use Rattle.cache_base.specs.Names.{name_cmp};
-ghost use Rattle.index_journal.specs.Merged.{is_among, merged as merged_of};
+ghost use Rattle.cache_base.specs.Names.{has_name as has_name_of, name_cmp};
+ghost use Rattle.index_journal.specs.Merged.{merged as merged_of};
 ghost use Rattle.index_record.specs.Record.{is_removed as is_removed_of};
 ghost use Rattle.record_list.specs.Change.{HasNoRemoved, IsApplied};
 ghost use Rattle.record_list.specs.Lists.{HasNames, names_of};
 ghost use Rattle.record_list.specs.Stored.{AreClean, present};
 
-use cache_base::{Name, NoMemory};
+use cache_base::{Name, NoMemory, has_name};
 use index_record::{IndexRecord, Records, is_removed};
 use record_list::by_name;
 use std::alloc::Global;
@@ -28,13 +27,6 @@ fn sorted_names(alloc: Global, records: &[IndexRecord]) -> Result<Vec<Name>, NoM
     Ok(names)
 }
 
-fn has_name(sorted: &[Name], name: &Name) -> bool
-    requires { IsSorted name_cmp sorted.now }
-    ensures { result ≡ is_among sorted.now name.now }
-{
-    sorted.binary_search(name).is_ok()
-}
-
 // Adds the records with none of these names.
 fn push_others(
     out: &mut Vec<IndexRecord>,
@@ -43,7 +35,7 @@ fn push_others(
 ) -> Result<(), NoMemory>
     requires { IsSorted name_cmp sorted.now }
     ensures { OnOk result (out.new.items ≡ out.old.items
-        ++ filter (λ r. not (is_among sorted.now r.name)) records.now) }
+        ++ filter (λ r. not (has_name_of sorted.now r.name)) records.now) }
 {
     for record in records {
         if !has_name(sorted, &record.name) {
@@ -90,5 +82,6 @@ pub fn apply(alloc: Global, index: &Records, journal: &Records) -> Result<Record
     ensures clean { AreClean index.now → AreClean journal.now → IfOk result AreClean }
     ensures present { HasNoRemoved index.now → IfOk result HasNoRemoved }
 {
-    by_name(alloc, merged(alloc, index.as_slice(), journal.as_slice())?)
+    let records = merged(alloc, index.as_slice(), journal.as_slice())?;
+    Ok(by_name(records))
 }

@@ -15,3 +15,6 @@ pub use fault::JournalFault;
 pub use laws::{journal_fits_exactly, journal_reads_back};
 pub use printing::print;
 pub use reading::parse;
+
+/// The fewest bytes of a journal: the hash of no records.
+pub const LEAST: usize = 4;

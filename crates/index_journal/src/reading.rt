@@ -8,12 +8,9 @@ ghost use Rattle.index_record.specs.declared.record.IndexRecord.{IndexRecord};
 ghost use Rattle.record_list.specs.Lists.{HasNames};
 ghost use Rattle.record_list.specs.Stored.{AreClean};
 
-use crate::JournalFault;
+use crate::{JournalFault, LEAST};
 use index_record::Records;
 use std::alloc::Global;
-
-// The fewest bytes of a journal: the hash of no records.
-const LEAST: usize = 4;
 
 fn read_all(alloc: Global, b: &[u8]) -> Result<Records, JournalFault>
     ensures passes { OnOk result (journal_fault b.now ≡ None) }

@@ -8,9 +8,9 @@ use Rattle.disk_model.specs.State.{File, State, settled}
 use Rattle.index_keeps.specs.Keeps.{LeftIsFiledOnce, LeftIsSafe, SparedIsFiledOnce, SparedIsSafe}
 use Rattle.index_theory.specs.Leaves.{LeavesEntries}
 use Rattle.startup_read.specs.Spares.{LeavesOverSyncs, SparesEntries}
-use Rattle.cache_theory.proofs.DiskChanges.{sync_keeps}
-use Rattle.cache_theory.proofs.EverSteps.{ever_settled}
-use Rattle.cache_theory.proofs.FiledOnce.{sync_files_once}
+use Rattle.cache_theory.proofs.CrashImages.DiskChanges.{sync_keeps}
+use Rattle.cache_theory.proofs.CrashImages.EverSteps.{ever_settled}
+use Rattle.cache_theory.proofs.CrashImages.FiledOnce.{sync_files_once}
 
 -- what is kept at the place of an entry
 left_kept : (s t : State) (name : List ℕ) (P : Option (List ℕ) → Type 0) → LeavesEntries s t → IsKept s (entry_place name) P → IsKept t (entry_place name) P

@@ -22,10 +22,11 @@ LeftIsSafe = (s t : State) (w : Marks) → LeavesEntries s t → IsSafe s w → 
 abbrev pub LeftIsFiledOnce : Type 0
 LeftIsFiledOnce = (s t : State) → LeavesEntries s t → IsFiledOnce s → IsFiledOnce t
 
--- the same with syncs between the changes, as the calls on the files of the index make them
+-- what is safe stays so with syncs between the changes, as the calls on the files of the index make them
 abbrev pub SparedIsSafe : Type 0
 SparedIsSafe = (s t : State) (w : Marks) → SparesEntries s t → IsSafe s w → IsSafe t w
 
+-- what is filed once stays so, too
 abbrev pub SparedIsFiledOnce : Type 0
 SparedIsFiledOnce = (s t : State) → SparesEntries s t → IsFiledOnce s → IsFiledOnce t
 

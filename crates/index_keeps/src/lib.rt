@@ -1,5 +1,6 @@
-//! What the changes at the places of the index keep of the entries: a crash may leave of them what it might leave before,
-//! and a scan of them is one of the machine's shelf. No function here does anything: their contracts are the laws.
+//! What the changes at the places of the index keep of the entries: a crash may leave of them what it might leave
+//! before, and a scan of them is one of the machine's shelf. No function here does anything: their contracts are the
+//! laws.
 #![tactic(auto)]
 
 mod laws;

@@ -8,13 +8,14 @@ use Rattle.std.proofs.lemmas.List.Elements.{All-head, All-tail}
 use Rattle.std.proofs.lemmas.List.Sums.{sum_by-cons}
 use Rattle.std.proofs.lemmas.Map.Entries.{lookup_from_place}
 use Rattle.std.proofs.lemmas.Option.{slice_get-get_or}
+use Rattle.cache_base.specs.Numbers.{one_if}
 use Rattle.cache_base.specs.declared.name.Name.{Name}
 use Rattle.index_record.specs.Record.{size_kb}
 use Rattle.index_record.specs.declared.record.IndexRecord.{IndexRecord}
 use Rattle.record_list.specs.Change.{change, record_eq}
 use Rattle.record_list.specs.Lists.{record_at, same_name}
 use Rattle.index_map.specs.Known.{changed}
-use Rattle.index_map.specs.Slots.{IsTable, base_in, change_in, change_of, changed_of, current_in, kilobytes_of, one_if, records_of, Slot}
+use Rattle.index_map.specs.Slots.{IsTable, base_in, change_in, change_of, changed_of, current_in, kilobytes_of, records_of, Slot}
 use Rattle.index_map.proofs.Lookups.{same_name_equiv}
 use Rattle.index_map.proofs.Shown.{base_at, base_of, current_at, current_of, own_base, own_current}
 use Rattle.index_map.proofs.Tables.{sum_values}

@@ -11,13 +11,14 @@ use Rattle.std.specs.Prelude.{Err, None, Ok, OnErr, Option, Result, Some, is_som
 use Rattle.std.proofs.lemmas.List.{append-nil, append_assoc, length-map}
 use Rattle.std.proofs.lemmas.List.Sums.{sum_by-cons}
 use Rattle.cache_base.specs.Names.{AreRising, name_cmp}
+use Rattle.cache_base.specs.Numbers.{one_if}
 use Rattle.cache_base.specs.declared.name.Name.{Name}
 use Rattle.index_record.specs.Record.{size_kb}
 use Rattle.index_record.specs.declared.record.IndexRecord.{IndexRecord}
 use Rattle.record_list.specs.Change.{record_eq}
 use Rattle.record_list.specs.Lists.{same_name}
 use Rattle.record_list.proofs.NameLaws.{rising_distinct, same_is, same_itself, tied_same}
-use Rattle.index_map.specs.Slots.{AreSmall, Slot, bare, changed_of, counts_of, is_held, is_used, kilobytes_of, one_if, record_of, records_of, seen_held, seen_only, slot_of, slots_of}
+use Rattle.index_map.specs.Slots.{AreSmall, Slot, bare, changed_of, counts_of, is_held, is_used, kilobytes_of, record_of, records_of, seen_held, seen_only, slot_of, slots_of}
 use Rattle.index_map.specs.declared.slot.Facts.{Facts}
 use Rattle.index_map.specs.declared.counts.Counts.{Counts}
 use Rattle.index_map.specs.declared.slot.Held.{Held}

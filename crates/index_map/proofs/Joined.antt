@@ -13,7 +13,7 @@ use Rattle.index_record.specs.declared.record.IndexRecord.{IndexRecord}
 use Rattle.record_list.specs.Change.{record_eq}
 use Rattle.record_list.specs.Lists.{same_name}
 use Rattle.record_list.proofs.NameLaws.{same_is, same_itself}
-use Rattle.index_map.specs.Slots.{AreApart, IsSlotOf, IsTable, Puts, Slot, changed_of, counts_of, facts_of, gone_slot, kept_slot, kilobytes_of, marked, record_of, record_slot, records_of, remarked, rewritten, slot_of}
+use Rattle.index_map.specs.Slots.{AreApart, IsSlotOf, IsTable, PutsSlot, Slot, changed_of, counts_of, facts_of, gone_slot, kept_slot, kilobytes_of, marked, record_of, record_slot, records_of, remarked, rewritten, slot_of}
 use Rattle.index_map.specs.declared.counts.Counts.{Counts}
 use Rattle.index_map.specs.declared.mark.Mark.TheVariants.{Away, Gone, Seen}
 use Rattle.index_map.specs.declared.slot.Facts.{Facts}
@@ -113,8 +113,8 @@ module _ (o b : List (Name × Slot)) (apart : AreApart o b) (name : Name) where
   from_table is = lookup_join (same_name name) o b ∙ ap (first_of (lookup (same_name name) o)) is ∙ first_none (lookup (same_name name) o)
 
   -- in the table, where the list has none of the name
-  module _ (p : List (Name × Slot)) (slot : Option Slot) (none : lookup (same_name name) b ≡ None) (puts : Puts o p name slot) where
-    pub puts_other : Puts (o ++ b) (p ++ b) name slot
+  module _ (p : List (Name × Slot)) (slot : Option Slot) (none : lookup (same_name name) b ≡ None) (puts : PutsSlot o p name slot) where
+    pub puts_other : PutsSlot (o ++ b) (p ++ b) name slot
     puts_other q =
         lookup_join (same_name q) p b ∙ ap (λ x. first_of x (lookup (same_name q) b)) (puts q)
         ∙ go (same_name name q) refl ∙ ap (cond (same_name name q) slot) (sym (lookup_join (same_name q) o b))
@@ -135,8 +135,8 @@ module _ (o b : List (Name × Slot)) (apart : AreApart o b) (name : Name) where
         go false is = apart q
 
   -- in the list
-  module _ (c : List (Name × Slot)) (slot : Option Slot) (none : lookup (same_name name) o ≡ None) (puts : Puts b c name slot) where
-    pub puts_list : Puts (o ++ b) (o ++ c) name slot
+  module _ (c : List (Name × Slot)) (slot : Option Slot) (none : lookup (same_name name) o ≡ None) (puts : PutsSlot b c name slot) where
+    pub puts_list : PutsSlot (o ++ b) (o ++ c) name slot
     puts_list q =
         lookup_join (same_name q) o c ∙ ap (first_of (lookup (same_name q) o)) (puts q)
         ∙ go (same_name name q) refl ∙ ap (cond (same_name name q) slot) (sym (lookup_join (same_name q) o b))
@@ -153,8 +153,8 @@ module _ (o b : List (Name × Slot)) (apart : AreApart o b) (name : Name) where
         go false is = apart q
 
   -- from the list into the table
-  module _ (p c : List (Name × Slot)) (s : Slot) (puts : Puts o p name (Some s)) (takes : Puts b c name None) where
-    pub puts_over : Puts (o ++ b) (p ++ c) name (Some s)
+  module _ (p c : List (Name × Slot)) (s : Slot) (puts : PutsSlot o p name (Some s)) (takes : PutsSlot b c name None) where
+    pub puts_over : PutsSlot (o ++ b) (p ++ c) name (Some s)
     puts_over q =
         lookup_join (same_name q) p c ∙ (λ i. first_of (puts q i) (takes q i))
         ∙ go (same_name name q) ∙ ap (cond (same_name name q) (Some s)) (sym (lookup_join (same_name q) o b))
@@ -275,6 +275,6 @@ found_second o b name kept none h = h ∙ ap (λ x. first_of x (lookup (same_nam
 
 -- a slot is put into the table, or the table is as it was
 pub apart_none : {T E : Type 0} (o b : List (Name × Slot)) → AreApart o b → (name : Name) (p : List (Name × Slot)) (slot : Option Slot) → lookup (same_name name) b ≡ None
-    → (r : Result T E) → OnOk r (Puts o p name slot) → OnErr r (p ≡ o) → AreApart p b
+    → (r : Result T E) → OnOk r (PutsSlot o p name slot) → OnErr r (p ≡ o) → AreApart p b
 apart_none o b apart name p slot none (Ok x) ok err = apart_other o b apart name p slot none ok
 apart_none o b apart name p slot none (Err x) ok err = subst (λ l. AreApart l b) (sym err) apart

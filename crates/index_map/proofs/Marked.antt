@@ -14,7 +14,7 @@ use Rattle.std.specs.List.Sorted.{IsStrictlySortedBy}
 use Rattle.record_list.specs.Lists.{AreRising, HasNames, names_of, record_at, same_name}
 use Rattle.record_list.proofs.NameLaws.{rising_distinct, same_back, same_is, same_itself}
 use Rattle.index_map.specs.Known.{ArePlain, IsPlain}
-use Rattle.index_map.specs.Slots.{AreSmall, IsBase, IsSlotOf, IsTable, Puts, Slot, base_slot, changed_of, counts_of, first_mark, gone_slot, kept_slot, kilobytes_of, marked, marked_in, records_of, remarked, rewritten, seen_mark, seen_of, seen_only, slot_of, weigh, written, written_mark}
+use Rattle.index_map.specs.Slots.{AreSmall, IsBase, IsSlotOf, IsTable, PutsSlot, Slot, base_slot, changed_of, counts_of, first_mark, gone_slot, kept_slot, kilobytes_of, marked, marked_in, records_of, remarked, rewritten, seen_mark, seen_of, seen_only, slot_of, weigh, written, written_mark}
 use Rattle.index_map.specs.declared.counts.Counts.{Counts}
 use Rattle.index_map.specs.declared.slot.Held.{Held}
 use Rattle.index_map.proofs.Sums.{small}
@@ -344,7 +344,7 @@ module _ (rs : List IndexRecord) (ms : List Mark) (counts : Counts) (is : IsBase
 
     -- another mark at the place of a name
     pub marked_at : (m : Mark) → IsSome (lookup (same_name name) (marked_in rs ms))
-        → Puts (marked_in rs ms) (marked_in rs (set ms i m)) name (option_and_then (remarked m) (lookup (same_name name) (marked_in rs ms)))
+        → PutsSlot (marked_in rs ms) (marked_in rs (set ms i m)) name (option_and_then (remarked m) (lookup (same_name name) (marked_in rs ms)))
     marked_at m some q =
         remark_at rs ms i m d q base_names is.long low
         ∙ (λ k. cond (same_name (own k) q) (same k) (lookup (same_name q) (marked_in rs ms)))

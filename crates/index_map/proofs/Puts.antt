@@ -9,9 +9,9 @@ use Rattle.std.proofs.lemmas.List.Elements.{All-nil}
 use Rattle.std.proofs.lemmas.Map.Entries.{sum_by-insert_entry, sum_by-remove_entry}
 use Rattle.cache_base.specs.Names.{AreRising, name_cmp}
 use Rattle.cache_base.specs.declared.name.Name.{Name}
+use Rattle.cache_base.proofs.NameLaws.{name_cmp_total}
 use Rattle.index_record.specs.declared.record.IndexRecord.{IndexRecord}
 use Rattle.record_list.specs.Lists.{same_name}
-use Rattle.record_list.proofs.OrderLaws.{name_cmp_total}
 use Rattle.index_map.specs.Known.{IsPlain}
 use Rattle.index_map.specs.Slots.{IsSlotOf, IsTable, changed_of, counts_of, kilobytes_of, records_of, rewritten, seen_only, written, Slot}
 use Rattle.index_map.specs.declared.counts.Counts.{Counts}

@@ -1,21 +1,20 @@
 -- The place of a name among records in name order.
-use Rattle.std.proofs.Common.{◌≡◌, ℕ, ◌+◌, ◌<◌, ◌≤◌, Bool, true, false, List, [], length, get_or, nat_lt, refl, sym, ap, ◌∙◌, subst, arith}
-use Rattle.std.specs.List.{AllByRecursion, IsAllAdjacentAnswer}
+use Rattle.std.proofs.Common.{◌≡◌, ℕ, ◌<◌, ◌≤◌, Bool, true, false, List, [], length, get_or, nat_lt, refl, sym, ap, ◌∙◌, subst, arith}
+use Rattle.std.specs.List.{AllByRecursion}
 use Rattle.std.specs.List.Sorted.{IsNonDecreasingBy, IsPartitionPoint}
-use Rattle.std.specs.Ordering.{is_lt, ordering_index}
+use Rattle.std.specs.Ordering.{ordering_index}
 use Rattle.std.specs.declared.cmp.Ordering.{Ordering}
 use Rattle.std.specs.declared.cmp.Ordering.TheVariants.{Less, Equal, Greater}
 use Rattle.std.proofs.lemmas.Bool.{ltb-false, ltb-true}
 use Rattle.std.proofs.lemmas.List.{get_or-map, length-map}
 use Rattle.std.proofs.lemmas.List.Elements.{recursion_from_All}
-use Rattle.std.proofs.lemmas.Map.Keys.{Less-from_sorted, sorted_from_all_adjacent}
+use Rattle.std.proofs.lemmas.Map.Keys.{Less-from_sorted}
 use Rattle.cache_base.specs.Names.{name_cmp}
 use Rattle.cache_base.specs.declared.name.Name.{Name}
 use Rattle.index_record.specs.Record.{removed_record}
 use Rattle.index_record.specs.declared.record.IndexRecord.{IndexRecord}
 use Rattle.record_list.specs.Lists.{AreRising, names_of, same_name}
 use Rattle.record_list.proofs.NameLaws.{above_below, below_apart, below_apart_back, below_trans, tied_same}
-use Rattle.record_list.proofs.OrderLaws.{name_cmp_total}
 
 abbrev no_name : Name
 no_name = record { 0 = [] }
@@ -67,17 +66,3 @@ none_there rs q p parts = recursion_from_All (λ n. same_name q n ≡ false) (na
 
     at : (k : ℕ) (d : Name) → k < length (names_of rs) → same_name q (get_or (names_of rs) k d) ≡ false
     at k d low = ap (same_name q) (name_at rs k no_record d (omega (arith, long))) ∙ at_record k (omega (arith, long))
-
-from_test : (o : Ordering) → true ≡ is_lt o → o ≡ Less
-from_test Less h = refl
-from_test Equal h = absurd (cc)
-from_test Greater h = absurd (cc)
-
--- records rise where the name of each is below that of the next
-pub rise_from_test : (rs : List IndexRecord) (r : Bool) → IsAllAdjacentAnswer (λ (a b : IndexRecord) t. t ≡ is_lt (name_cmp a.name b.name)) rs r → r ≡ true → AreRising rs
-rise_from_test rs true answer is =
-    let long : length (names_of rs) ≡ length rs = length-map rs (λ (r : IndexRecord). r.name) in
-    sorted_from_all_adjacent name_cmp_total (names_of rs) no_name
-    (λ k h. (λ i. name_cmp (name_at rs k no_record no_name (omega (arith, long, h)) i) (name_at rs (k + 1) no_record no_name (omega (arith, long, h)) i))
-    ∙ from_test _ (answer k no_record (omega (arith, long, h))))
-rise_from_test rs false answer is = absurd (cc)

@@ -13,8 +13,8 @@ use Rattle.record_list.specs.Change.{record_eq}
 use Rattle.record_list.specs.Lists.{record_at, same_name}
 use Rattle.record_list.specs.Stored.{AreClean}
 use Rattle.record_list.proofs.NameLaws.{same_is}
-use Rattle.index_map.specs.Known.{Begins, IsKnown, IsPlain, Sets}
-use Rattle.index_map.specs.Slots.{IsSlotOf, IsTable, Puts, base_slot, change_in, change_of, is_used, rewritten, seen_of, seen_only, shown, written, Slot}
+use Rattle.index_map.specs.Known.{BeginsOver, IsKnown, IsPlain, Sets}
+use Rattle.index_map.specs.Slots.{IsSlotOf, IsTable, PutsSlot, base_slot, change_in, change_of, is_used, rewritten, seen_of, seen_only, shown, written, Slot}
 use Rattle.index_map.proofs.Lookups.{Own, all-part, names-part, record_at-part}
 
 -- ---- the parts of a slot
@@ -119,7 +119,7 @@ kept_under true x y h = h refl
 kept_under false x y h = refl
 
 pub puts_sets : (old new : List (Name × Slot)) (has_base : Bool) (name : Name) (slot : Option Slot) (r : Option IndexRecord) → IsTable old → IsTable new
-    → Puts old new name slot → option_and_then current_of slot ≡ r → option_and_then seen_of slot ≡ r
+    → PutsSlot old new name slot → option_and_then current_of slot ≡ r → option_and_then seen_of slot ≡ r
     → option_and_then base_of slot ≡ option_and_then base_of (lookup (same_name name) old) → Sets (shown old has_base) (shown new has_base) name r
 puts_sets old new has_base name slot r was is puts current seen base = record {
   records = λ q. current_at new is q ∙ ap (option_and_then current_of) (puts q) ∙ then_under current_of (same_name name q) slot (lookup (same_name q) old)
@@ -151,7 +151,7 @@ begun_base seen None = refl
 begun_base seen (Some b) = refl
 
 pub begins : (base : List IndexRecord) (seen : Bool) (table : List (Name × Slot)) → IsTable table
-    → ((q : Name) → lookup (same_name q) table ≡ option_map (base_slot seen) (record_at base q)) → Begins base base seen (shown table true)
+    → ((q : Name) → lookup (same_name q) table ≡ option_map (base_slot seen) (record_at base q)) → BeginsOver base base seen (shown table true)
 begins base seen table is slots = record {
   records = λ q. current_at table is q ∙ ap (option_and_then current_of) (slots q) ∙ begun_current seen (record_at base q);
   seen = λ q. seen_at table is q ∙ ap (option_and_then seen_of) (slots q) ∙ begun_seen seen (record_at base q);

@@ -11,7 +11,7 @@ use Rattle.index_record.specs.declared.record.IndexRecord.{IndexRecord}
 use Rattle.record_list.specs.Change.{applied, journal_or}
 use Rattle.record_list.specs.Lists.{AreRising, names_of, record_at, same_name}
 use Rattle.record_list.proofs.NameLaws.{above_below, below_apart, below_trans, tied_same}
-use Rattle.index_map.specs.Known.{Applies, Begins, BeginsAfter, Known}
+use Rattle.index_map.specs.Known.{Applies, BeginsOver, BeginsAfter, Known}
 use Rattle.index_map.proofs.Steps.{crossed, not_both}
 
 -- r before x, in its place, or behind it
@@ -89,7 +89,7 @@ sorted_at (x ∷ xs) q = put_at x (sorted xs) q ∙ ap (λ o. cond (same_name x.
 
 -- ---- a map that begins with a journal
 
-pub begins_after : (base changes : List IndexRecord) (first now : Known) → Begins base base true first → Applies changes first now → BeginsAfter base changes now
+pub begins_after : (base changes : List IndexRecord) (first now : Known) → BeginsOver base base true first → Applies changes first now → BeginsAfter base changes now
 begins_after base changes first now begins applies = (
   sorted now.records,
   (

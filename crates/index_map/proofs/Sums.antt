@@ -6,7 +6,8 @@ use Rattle.std.specs.Prelude.{Option, None, Some}
 use Rattle.std.proofs.lemmas.List.Sums.{sum_by-le}
 use Rattle.index_record.specs.Record.{size_kb}
 use Rattle.index_record.specs.declared.record.IndexRecord.{IndexRecord}
-use Rattle.index_map.specs.Slots.{AreSmall, changed_of, counts_of, kilobytes_of, one_if, records_of, Slot}
+use Rattle.cache_base.specs.Numbers.{one_if}
+use Rattle.index_map.specs.Slots.{AreSmall, changed_of, counts_of, kilobytes_of, records_of, Slot}
 use Rattle.index_map.specs.declared.counts.Counts.{Counts}
 
 one_if-le : (b : Bool) → one_if b ≤ 1

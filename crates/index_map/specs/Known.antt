@@ -25,7 +25,8 @@ pub record IsPlain (r : IndexRecord) : Type 0 where
 abbrev pub ArePlain : List IndexRecord → Type 0
 ArePlain rs = AllByRecursion IsPlain rs
 
--- what is true of every map: no name stands twice, no record is removed, dirty or fresh, and what was seen is a record now
+-- what is true of every map: no name stands twice, no record is removed, dirty or fresh, and what was seen is a
+-- record now
 pub record IsKnown (m : Known) : Type 0 where
   pub names : HasNames m.records
   pub base_names : HasNames m.base
@@ -51,7 +52,7 @@ pub record Sets (old new : Known) (name : Name) (r : Option IndexRecord) : Type 
   pub base : SameBase old new
 
 -- the map begins with these records, all of them seen or none, over this base
-pub record Begins (old_base now : List IndexRecord) (all_seen : Bool) (m : Known) : Type 0 where
+pub record BeginsOver (old_base now : List IndexRecord) (all_seen : Bool) (m : Known) : Type 0 where
   pub records : (name : Name) → record_at m.records name ≡ record_at now name
   pub seen : (name : Name) → record_at m.seen name ≡ (if all_seen then record_at now name else None)
   pub base : (name : Name) → record_at m.base name ≡ record_at old_base name
@@ -59,7 +60,7 @@ pub record Begins (old_base now : List IndexRecord) (all_seen : Bool) (m : Known
 
 -- the map begins with a journal applied to the base, all of its records seen
 abbrev pub BeginsAfter : List IndexRecord → List IndexRecord → Known → Type 0
-BeginsAfter base changes m = (now : List IndexRecord) × (IsApplied base changes now × Begins base now true m)
+BeginsAfter base changes m = (now : List IndexRecord) × (IsApplied base changes now × BeginsOver base now true m)
 
 -- the changes of a journal are made to the records now, and these names are seen; the base stays
 pub record Applies (changes : List IndexRecord) (old new : Known) : Type 0 where

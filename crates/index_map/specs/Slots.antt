@@ -3,6 +3,7 @@ use Rattle.std.specs.List.{IsDistinct, cons_option, filter_map}
 use Rattle.std.specs.Map.{keys_of, lookup, values_of}
 use Rattle.std.specs.Option.{option_eq, option_map, option_map_or}
 use Rattle.std.specs.Prelude.{All, Bool, IfSome, List, None, Option, Some, [], false, if◌then◌else◌, is_some, length, map, not, option_and_then, sum_by, true, ℕ, ◌<◌, ◌∷◌, ◌^◌, ◌||◌, ◌≡◌}
+use Rattle.cache_base.specs.Numbers.{one_if}
 use Rattle.cache_base.specs.declared.name.Name.{Name}
 use Rattle.index_record.specs.Record.{removed_record, size_kb}
 use Rattle.index_record.specs.declared.record.IndexRecord.{IndexRecord}
@@ -81,10 +82,6 @@ change_of (Some b) (Some r) = if record_eq b r then None else Some r
 abbrev pub change_in : Slot → Option IndexRecord
 change_in slot = change_of slot.base slot.current
 
--- one where a test holds
-abbrev pub one_if : Bool → ℕ
-one_if test = if test then 1 else 0
-
 -- what a slot adds to the number of records
 abbrev pub records_of : Slot → ℕ
 records_of slot = one_if (is_some slot.current)
@@ -122,8 +119,8 @@ pub record IsTable (table : List (Name × Slot)) : Type 0 where
   pub own : All (λ e. IsSlotOf e.0 e.1) table
 
 -- under this name stands this slot, or none; all else is as before
-abbrev pub Puts : List (Name × Slot) → List (Name × Slot) → Name → Option Slot → Type 0
-Puts old new name slot = (q : Name) → lookup (same_name q) new ≡ (if same_name name q then slot else lookup (same_name q) old)
+abbrev pub PutsSlot : List (Name × Slot) → List (Name × Slot) → Name → Option Slot → Type 0
+PutsSlot old new name slot = (q : Name) → lookup (same_name q) new ≡ (if same_name name q then slot else lookup (same_name q) old)
 
 -- a slot without its record now where that was not seen
 abbrev pub seen_only : Slot → Slot
@@ -167,7 +164,8 @@ base_slot seen r = record { current = Some r; seen = seen; base = Some r }
 
 -- ---- the list of the base
 
--- the slot of a record of the base with this mark: the record now is the base's, or there is none, or its slot stands in the table
+-- the slot of a record of the base with this mark: the record now is the base's, or there is none, or its slot stands
+-- in the table
 abbrev pub marked : IndexRecord → Mark → Option Slot
 marked r Unseen = Some (base_slot false r)
 marked r Seen = Some (base_slot true r)
@@ -188,7 +186,8 @@ first_mark seen = if seen then Seen else Unseen
 abbrev pub weigh : (Slot → ℕ) → Option Slot → ℕ
 weigh f slot = option_map_or f slot 0
 
--- the list of the base: records in name order, none of which is removed, dirty or fresh, each with a mark, and the counts
+-- the list of the base: records in name order, none of which is removed, dirty or fresh, each with a mark, and the
+-- counts
 pub record IsBase (rs : List IndexRecord) (marks : List Mark) (counts : Counts) : Type 0 where
   pub rising : AreRising rs
   pub plain : ArePlain rs

@@ -18,8 +18,8 @@ use index_record::{IndexRecord, Records};
 use std::alloc::Global;
 use std::marker::Model;
 
-/// The records of the base in name order, a mark for each, and the counts of their slots. They stay in the memory in which
-/// they were read, and a mark takes a byte.
+/// The records of the base in name order, a mark for each, and the counts of their slots. They stay in the memory in
+/// which they were read, and a mark takes a byte.
 #[derive(Drop)]
 pub(crate) struct Base {
     records: Records,
@@ -53,7 +53,8 @@ impl Base {
         }
     }
 
-    /// The base of these records, all of them seen or none. Records in name order stay where they are, and are not copied.
+    /// The base of these records, all of them seen or none. Records in name order stay where they are, and are not
+    /// copied.
     pub fn over(alloc: Global, records: Records, seen: bool) -> Result<Base, NoMemory>
         requires names { HasNames records }
         requires plain { ArePlain records }
@@ -96,7 +97,7 @@ impl Base {
     /// Gives the slot of a name another mark.
     pub fn mark(&mut self, name: &Name, mark: Mark)
         requires { IsSome (lookup (same_name name.now) self.old) }
-        ensures marked { spec.Puts self.old self.new name.now
+        ensures marked { spec.PutsSlot self.old self.new name.now
             (option_and_then (spec.remarked mark) (lookup (same_name name.now) self.old)) }
         ensures table { spec.IsTable self.new }
     {

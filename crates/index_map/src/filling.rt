@@ -15,7 +15,7 @@ use index_record::IndexRecord;
 /// Puts a record, or leaves the table as it was.
 pub(crate) fn put_record(table: &mut Table, r: &IndexRecord, seen: bool) -> Result<(), NoMemory>
     requires { IsPlain r.now }
-    ensures ok { OnOk result (spec.Puts table.old table.new r.now.name
+    ensures ok { OnOk result (spec.PutsSlot table.old table.new r.now.name
         (Some (spec.record_slot r.now seen (lookup (same_name r.now.name) table.old)))) }
     ensures err { OnErr result (table.new ≡ table.old) }
     ensures was_table { spec.IsTable table.old }

@@ -19,8 +19,8 @@ use index_record::{IndexRecord, Records};
 use std::alloc::Global;
 use std::marker::Model;
 
-/// A slot for each name that has a record now or in the base. It stands in the list of the base where the record now is the
-/// base's, or where there is none now, and else in the table.
+/// A slot for each name that has a record now or in the base. It stands in the list of the base where the record now
+/// is the base's, or where there is none now, and else in the table.
 #[derive(Drop)]
 pub(crate) struct Layers {
     others: Table,
@@ -82,7 +82,7 @@ impl Layers {
     /// Puts a record, and marks it as seen, or leaves the slots as they were.
     pub fn put(&mut self, r: &IndexRecord) -> Result<(), NoMemory>
         requires { IsPlain r.now }
-        ensures ok { OnOk result (spec.Puts self.old self.new r.now.name
+        ensures ok { OnOk result (spec.PutsSlot self.old self.new r.now.name
             (Some (spec.record_slot r.now true (lookup (same_name r.now.name) self.old)))) }
         ensures err { OnErr result (self.new ≡ self.old) }
         ensures was_table { spec.IsTable self.old }
@@ -112,7 +112,7 @@ impl Layers {
 
     /// Takes the record of a name out.
     pub fn remove(&mut self, name: &Name)
-        ensures removes { spec.Puts self.old self.new name.now
+        ensures removes { spec.PutsSlot self.old self.new name.now
             (spec.gone_slot (lookup (same_name name.now) self.old)) }
         ensures was_table { spec.IsTable self.old }
         ensures table { spec.IsTable self.new }

@@ -3,13 +3,12 @@
 ghost use Rattle.std.specs.Prelude.{◌≡◌, ◌++◌, IfOk, OnOk, length, option_and_then, option_to_list};
 ghost use Rattle.std.specs.List.{filter_map};
 ghost use Rattle.std.specs.Map.{values_of};
-ghost use Rattle.record_list.specs.Lists.{HasNames, IsByName};
 ghost use Rattle.index_map.specs.Slots as spec;
 
 use crate::mark::{Mark, change_of, current_of};
 use crate::slot::{Held, change, named};
 use cache_base::{Name, NoMemory};
-use index_record::{IndexRecord, Records};
+use index_record::IndexRecord;
 use std::alloc::Global;
 use std::collections::BTreeMap;
 
@@ -84,13 +83,4 @@ pub(crate) fn push_changes(
         push_if(list, change_of(&records[i], marks[i]))?;
     }
     Ok(())
-}
-
-/// The records in name order, in the memory that holds them.
-pub(crate) fn by_name(mut records: Vec<IndexRecord>) -> Records
-    requires { HasNames records.items }
-    ensures { IsByName records.items result }
-{
-    records.sort_unstable_by_key(|record| record.name);
-    Records::from_vec(records)
 }

@@ -8,10 +8,10 @@ ghost use Rattle.record_list.specs.Stored.{AreClean, IsClean};
 
 use crate::counts::Totals;
 use crate::layers::Layers;
-use crate::listing::by_name;
 use crate::reading::seen_at;
 use cache_base::{Name, NoMemory};
 use index_record::{IndexRecord, Records, is_removed};
+use record_list::by_name;
 use std::alloc::Global;
 use std::marker::Model;
 
@@ -47,12 +47,12 @@ impl RecordMap {
         }
     }
 
-    /// The map of the records of a base, all of them seen or none. Records in name order stay where they are, and are not
-    /// copied.
+    /// The map of the records of a base, all of them seen or none. Records in name order stay where they are, and are
+    /// not copied.
     pub fn with_base(alloc: Global, base: Records, seen: bool) -> Result<RecordMap, NoMemory>
         requires names { HasNames base }
         requires plain { spec.ArePlain base }
-        ensures { IfOk result (spec.Begins base base seen) }
+        ensures { IfOk result (spec.BeginsOver base base seen) }
     {
         Ok(RecordMap {
             slots: Layers::over(alloc, base, seen)?,
@@ -102,8 +102,8 @@ impl RecordMap {
         self.set(*change)
     }
 
-    /// Puts a record, in place of the one of its name if there is one, and marks it as seen. After `NoMemory` the map is
-    /// as before.
+    /// Puts a record, in place of the one of its name if there is one, and marks it as seen. After `NoMemory` the map
+    /// is as before.
     pub fn set(&mut self, r: IndexRecord) -> Result<(), NoMemory>
         requires { spec.IsPlain r }
         ensures ok { OnOk result (spec.Sets self.old self.new r.name (Some r)) }
@@ -179,8 +179,8 @@ impl RecordMap {
         Ok(by_name(self.slots.records(self.alloc)?))
     }
 
-    /// What a journal has to say: in name order, for each name whose record now differs from the base's, the record now,
-    /// or a removed record where there is none.
+    /// What a journal has to say: in name order, for each name whose record now differs from the base's, the record
+    /// now, or a removed record where there is none.
     pub fn diff(&self) -> Result<Records, NoMemory>
         ensures diff { IfOk result (IsDiff self.now.base self.now.records) }
         ensures clean { IfOk result AreClean }

@@ -1,20 +1,13 @@
 //! Records in name order, and the place of a name among them.
 
 ghost use Rattle.std.specs.List.{AllByRecursion, HoldsAt};
-ghost use Rattle.std.specs.Prelude.{◌≡◌, ◌<◌, IfNone, IfOk, IfSome, false, length, true};
+ghost use Rattle.std.specs.Prelude.{◌≡◌, ◌<◌, IfNone, IfOk, IfSome, false, length};
 ghost use Rattle.record_list.specs.Lists.{AreRising, HasNames, IsByName, names_of, same_name};
 
-use crate::listing::by_name;
 use cache_base::{Name, NoMemory};
 use index_record::{IndexRecord, Records};
+use record_list::{by_name, rise};
 use std::alloc::Global;
-
-/// Whether the names rise.
-fn rise(records: &[IndexRecord]) -> bool
-    ensures { result ≡ true → AreRising records.now }
-{
-    records.is_sorted_by(|a, b| a.name.cmp(&b.name).is_lt())
-}
 
 /// The records in name order. Where they are in this order already, nothing is copied.
 pub(crate) fn in_order(alloc: Global, records: Records) -> Result<Records, NoMemory>

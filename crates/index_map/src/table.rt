@@ -16,8 +16,8 @@ use std::alloc::Global;
 use std::collections::BTreeMap;
 use std::marker::Model;
 
-/// The slots of some names, each of which has a record now or in the base. They stand in an ordered map: names come from
-/// files that anyone may have written, and no choice of names may make a search long.
+/// The slots of some names, each of which has a record now or in the base. They stand in an ordered map: names come
+/// from files that anyone may have written, and no choice of names may make a search long.
 #[derive(Drop)]
 pub(crate) struct Table {
     slots: BTreeMap<Name, Held>,
@@ -94,7 +94,7 @@ impl Table {
     pub fn put(&mut self, name: Name, slot: Held) -> Result<(), NoMemory>
         requires { spec.IsSlotOf name (spec.slot_of name slot) }
         ensures ok { OnOk result
-            (spec.Puts self.old self.new name (Some (spec.slot_of name slot))) }
+            (spec.PutsSlot self.old self.new name (Some (spec.slot_of name slot))) }
         ensures err { OnErr result (self.new ≡ self.old) }
         ensures absent { OnErr result (lookup (same_name name) self.old ≡ None) }
         ensures was_table { spec.IsTable self.old }
@@ -110,7 +110,7 @@ impl Table {
 
     /// Takes the slot of a name out.
     pub fn take(&mut self, name: &Name)
-        ensures taken { spec.Puts self.old self.new name.now None }
+        ensures taken { spec.PutsSlot self.old self.new name.now None }
         ensures was_table { spec.IsTable self.old }
         ensures table { spec.IsTable self.new }
     {
@@ -121,7 +121,7 @@ impl Table {
 
     /// Takes the record of a name out, and its slot where the base has no record of the name.
     pub fn remove(&mut self, name: &Name)
-        ensures removes { spec.Puts self.old self.new name.now
+        ensures removes { spec.PutsSlot self.old self.new name.now
             (spec.gone_slot (lookup (same_name name.now) self.old)) }
         ensures was_table { spec.IsTable self.old }
         ensures table { spec.IsTable self.new }

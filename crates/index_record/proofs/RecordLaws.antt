@@ -1,11 +1,11 @@
 -- A record and its bytes.
-use Rattle.std.proofs.Common.{◌≡◌, ℕ, ◌+◌, ◌^◌, ◌<◌, ◌≤◌, List, ◌∷◌, ◌++◌, length, take, drop, sym, ap, ◌∙◌, arith, length-append, length-drop, drop-cons, take_all}
+use Rattle.std.proofs.Common.{◌≡◌, ℕ, ◌+◌, ◌≤◌, List, ◌∷◌, ◌++◌, length, take, drop, sym, ap, ◌∙◌, arith, length-append, length-drop, drop-cons, take_all}
 use Rattle.std.specs.Prelude.{slice_index}
 use Rattle.std.specs.Int.{w16, w32, w64, from_be_bytes, to_be_bytes}
 use Rattle.std.proofs.lemmas.List.{drop-drop, drop_at, get_or-append_right, length-take-le, take-append-drop, take_at}
 use Rattle.std.proofs.lemmas.Nat.{from_be_bytes-to_be_bytes_2, from_be_bytes-to_be_bytes_4, from_be_bytes-to_be_bytes_8}
 use Rattle.cache_base.specs.Bytes.{AreBytes, be16, be16_at, be32, be32_at}
-use Rattle.cache_base.proofs.ByteLaws.{byte_at, bytes_drop, bytes_take, cut, eight, four, small16, small32, two}
+use Rattle.cache_base.proofs.ByteLaws.{byte_at, bytes_drop, bytes_take, cut, eight, four, small16, small32, small64, two}
 use Rattle.index_record.specs.declared.record.IndexRecord.{IndexRecord}
 use Rattle.index_record.specs.Record.{IsRecord, RecordReadsBack, RecordSpells, record_bytes, record_in}
 
@@ -37,12 +37,6 @@ module _ (r : IndexRecord) (is : IsRecord r) where
   record_long : length (record_bytes r) ≡ 41
   unfolding tail
   record_long = length-append r.name.0 tail ∙ (let h = is.name.0 in omega (arith, h))
-
-small64 : (xs : List ℕ) → AreBytes xs → from_be_bytes w64 xs < 2 ^ 64
-small64 xs h =
-    let a = byte_at xs h 0 in let b = byte_at xs h 1 in let c = byte_at xs h 2 in let d = byte_at xs h 3 in
-    let e = byte_at xs h 4 in let f = byte_at xs h 5 in let g = byte_at xs h 6 in let i = byte_at xs h 7 in
-    omega (arith, a, b, c, d, e, f, g, i)
 
 module _ (xs : List ℕ) (bytes : AreBytes xs) (long : length xs ≡ 41) where
   -- what stands in the k bytes from the place n on, in front of what follows them

@@ -9,13 +9,15 @@ use Rattle.index_record.specs.declared.record.IndexRecord.{IndexRecord}
 abbrev pub has_bit : ℕ → ℕ → Bool
 has_bit k n = n / 2 ^ k % 2 == 1
 
--- whether a record says that its name is gone, whether its entry is pinned, and its file's size in KB
+-- whether a record says that its name is gone
 abbrev pub is_removed : IndexRecord → Bool
 is_removed r = has_bit 29 r.flags
 
+-- whether its entry is pinned
 abbrev pub is_pinned : IndexRecord → Bool
 is_pinned r = has_bit 26 r.flags
 
+-- its file's size in KB
 abbrev pub size_kb : IndexRecord → ℕ
 size_kb r = r.flags % 2 ^ 24
 
@@ -23,12 +25,16 @@ size_kb r = r.flags % 2 ^ 24
 abbrev pub cleared : IndexRecord → IndexRecord
 cleared r = record r { flags = r.flags / 2 ^ 29 * 2 ^ 29 + r.flags % 2 ^ 27 }
 
--- the 41 bytes of a record
+-- how many bytes a record has
+abbrev pub record_size : ℕ
+record_size = 41
+
+-- the bytes of a record
 abbrev pub record_bytes : IndexRecord → List ℕ
 record_bytes r =
     r.name.0 ++ (be32 r.frecency ++ (to_be_bytes w64 r.origin ++ (be16 r.on_start ++ (be16 r.on_stop ++ r.content ∷ be32 r.flags))))
 
--- the record in 41 bytes
+-- the record in so many bytes
 abbrev pub record_in : List ℕ → IndexRecord
 record_in xs = record {
   name = record { 0 = take 20 xs };
@@ -64,8 +70,10 @@ pub record IsRecord (r : IndexRecord) : Type 0 where
 
 -- a record that is written is read back
 abbrev pub RecordReadsBack : Type 0
-RecordReadsBack = (r : IndexRecord) → IsRecord r → (length (record_bytes r) ≡ 41) × (record_in (record_bytes r) ≡ r)
+RecordReadsBack = (r : IndexRecord) → IsRecord r
+    → (length (record_bytes r) ≡ record_size) × (record_in (record_bytes r) ≡ r)
 
--- 41 bytes are those of the record in them
+-- so many bytes are those of the record in them
 abbrev pub RecordSpells : Type 0
-RecordSpells = (xs : List ℕ) → AreBytes xs → length xs ≡ 41 → IsRecord (record_in xs) × (record_bytes (record_in xs) ≡ xs)
+RecordSpells = (xs : List ℕ) → AreBytes xs → length xs ≡ record_size
+    → IsRecord (record_in xs) × (record_bytes (record_in xs) ≡ xs)

@@ -5,6 +5,7 @@ ghost use Rattle.std.specs.Prelude.{◌≡◌, ◌<◌, ◌≤◌, ◌+◌, ◌*
 ghost use Rattle.cache_base.specs.Bytes.{AreBytes, be16, be16_at, be32, be32_at};
 ghost use Rattle.index_record.specs.Record.{IsRecord, cleared, record_bytes, record_in};
 
+use crate::RECORD;
 use crate::record::{DIRTY, FRESH, IndexRecord};
 use byteorder::{BigEndian, ByteOrder};
 use cache_base::{Name, bytes_fit};
@@ -40,7 +41,7 @@ fn u64_at(b: &[u8], at: usize) -> u64
 }
 
 /// The record in its 41 bytes. The dirty and the fresh bit are cleared, if a file has them.
-pub fn read(b: &[u8; 41]) -> IndexRecord
+pub fn read(b: &[u8; RECORD]) -> IndexRecord
     ensures { result ≡ cleared (record_in b.now) }
 {
     let mut name = [0; 20];
@@ -71,10 +72,10 @@ fn numbers(r: &IndexRecord, flags: u32) -> [u8; 21]
     out
 }
 
-fn joined(name: &[u8; 20], numbers: &[u8; 21]) -> [u8; 41]
+fn joined(name: &[u8; 20], numbers: &[u8; 21]) -> [u8; RECORD]
     ensures { result ≡ name.now ++ numbers.now }
 {
-    let mut out = [0; 41];
+    let mut out = [0; RECORD];
     out[20..].copy_from_slice(numbers);
     out[..20].copy_from_slice(name);
     out
@@ -99,7 +100,7 @@ fn numbers_fit(frecency: u32, origin: u64, on_start: u16, on_stop: u16, content:
 {}
 
 /// The 41 bytes of the record, without the dirty and the fresh bit.
-pub fn write(r: &IndexRecord) -> [u8; 41]
+pub fn write(r: &IndexRecord) -> [u8; RECORD]
     ensures bytes { result ≡ record_bytes (cleared r.now) }
     ensures widths { IsRecord r.now }
 {

@@ -17,3 +17,6 @@ pub use record::{
     SIZE_MAX, is_pinned, is_removed, removed, size_kb,
 };
 pub use records::Records;
+
+/// The bytes of a record.
+pub const RECORD: usize = 41;

@@ -1,5 +1,5 @@
-//! Which records a clearing of an origin takes, and its mark: told from other files, stored and removed with a stop at each
-//! call.
+//! Which records a clearing of an origin takes, and its mark: told from other files, stored and removed with a stop
+//! at each call.
 
 ghost use Rattle.index_map.specs.Known.{IsPlain};
 
@@ -93,7 +93,8 @@ fn record(byte: u8, origin: u64, pinned: bool) -> IndexRecord
     }
 }
 
-// The records 1 and 2 of the origin 5, seen or not; then the record 4 of it, and 3, which is pinned, and 6 of the origin 7.
+// The records 1 and 2 of the origin 5, seen or not; then the record 4 of it, and 3, which is pinned, and 6 of the
+// origin 7.
 fn records(alloc: Global, seen: bool) -> Result<RecordMap, NoMemory> {
     let mut map = over_base(alloc, seen)?;
     map.set(record(4, 5, false))?;

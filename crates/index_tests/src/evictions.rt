@@ -69,7 +69,7 @@ fn chooses(
     let records = list(alloc, all)?;
     let in_use = names(alloc, in_use)?;
     let due = names(alloc, due)?;
-    Ok(victims(alloc, &records, &in_use, limit)?.as_slice() == due.as_slice())
+    Ok(victims(alloc, records, &in_use, limit)?.as_slice() == due.as_slice())
 }
 
 #[test]

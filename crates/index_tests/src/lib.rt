@@ -1,4 +1,5 @@
-//! Tests of records, of the index's files, of what reads and writes them, of the check of all entries, and of what a clearing needs.
+//! Tests of records, of the index's files, of what reads and writes them, of the check of all entries, and of what a
+//! clearing needs.
 #![tactic(auto)]
 
 #[cfg(test)]

@@ -111,7 +111,7 @@ fn parts_are_read(rt: HostRuntime) {
 fn rising(alloc: Global, records: &Records) -> Result<Records, NoMemory>
     requires { HasNames records.now }
 {
-    by_name(alloc, Vec::from_slice(alloc, records.as_slice())?)
+    Ok(by_name(Vec::from_slice(alloc, records.as_slice())?))
 }
 
 // Whether a part's records, by rising name, are these.

@@ -6,6 +6,7 @@ use Rattle.disk_model.specs.Sound.{IsQuiet, IsSound}
 use Rattle.disk_model.specs.State.{State, created, settled, standing, wrote}
 use Rattle.disk_model.specs.State.Write.{End, Patch}
 use Rattle.disk_model.specs.declared.place.Place.TheVariants.{Index, Log, Tmp}
+use Rattle.index_file.specs.Index.{flag_at}
 use Rattle.index_record.specs.declared.record.IndexRecord.{IndexRecord}
 use Rattle.index_theory.specs.Apart.{IsApart}
 use Rattle.index_theory.specs.Ever.{entries_on}
@@ -17,10 +18,11 @@ use Rattle.index_theory.specs.Unclean.{IsUnclean}
 use Rattle.record_list.specs.Change.{HasNoRemoved, IsApplied, IsDiff, applied}
 use Rattle.record_list.specs.Lists.{IsByName, record_at}
 
--- a new journal is made, and its bytes are written
+-- a new journal is made
 abbrev pub log_begun : State → State
 log_begun s = created Log s
 
+-- its bytes are written
 abbrev pub log_filled : List ℕ → State → State
 log_filled bytes s = wrote Log (End 0 bytes) (log_begun s)
 
@@ -34,12 +36,13 @@ log_synced bytes s = settled (log_filled bytes s)
 
 -- the flag is written
 abbrev pub flagged : List ℕ → State → State
-flagged flag s = wrote Index (Patch 8 flag) s
+flagged flag s = wrote Index (Patch flag_at flag) s
 
--- the flag is cleared once the journal is synced, and then that is synced
+-- the flag is cleared once the journal is synced
 abbrev pub flag_cleared : List ℕ → State → State
 flag_cleared bytes s = flagged (be32 0) (log_synced bytes s)
 
+-- and then that is synced
 abbrev pub closed : List ℕ → State → State
 closed bytes s = settled (flag_cleared bytes s)
 
@@ -73,9 +76,10 @@ ClosingLeavesHonest = (s : State) (dirty : Bool) (flag : List ℕ) → IsQuiet s
 abbrev pub ClosedSaysScan : Type 0
 ClosedSaysScan = (s : State) (dirty : Bool) → IsSound s → SaysScan s dirty → SaysScan (settled (flagged (be32 0) s)) false
 
--- what stands is honest, and where nothing stands at `index.tmp` the start is Ready
+-- what stands is honest then
 abbrev pub ScanIsHonest : Type 0
 ScanIsHonest = (s : State) (dirty : Bool) → SaysScan s dirty → Honest (standing s)
 
+-- where nothing stands at `index.tmp` the start is Ready
 abbrev pub ScanIsReady : Type 0
 ScanIsReady = (s : State) → SaysScan s false → standing s Tmp ≡ None → start_of (standing s) ≡ Ready

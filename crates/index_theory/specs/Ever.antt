@@ -10,13 +10,15 @@ use Rattle.disk_model.specs.declared.place.Place.TheVariants.{Entry}
 abbrev pub entry_place : List ℕ → Place
 entry_place name = Entry (record { 0 = name })
 
--- what stands under each name: in a directory, and on a disk now
+-- what stands under each name
 abbrev pub Entries : Type 0
 Entries = List ℕ → Option (List ℕ)
 
+-- that of a directory
 abbrev pub entries : Files → Entries
 entries files name = files (entry_place name)
 
+-- that of a disk now
 abbrev pub entries_on : State → Entries
 entries_on s = entries (standing s)
 

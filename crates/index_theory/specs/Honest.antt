@@ -22,11 +22,12 @@ use Rattle.index_theory.specs.Start.{start_of}
 use Rattle.index_theory.specs.declared.kinds.Start.TheVariants.{Ready}
 use Rattle.record_list.specs.Change.{IsApplied, applied}
 
--- the records of an index and of a journal, where they stand
+-- the records of an index, where one stands
 abbrev pub index_records : Option (List ℕ) → List IndexRecord
 index_records None = []
 index_records (Some c) = index_in c
 
+-- the records of a journal, where one stands
 abbrev pub journal_records : Option (List ℕ) → List IndexRecord
 journal_records None = []
 journal_records (Some c) = journal_in c
@@ -56,10 +57,11 @@ SpelledIndexIs = (c : List ℕ) (timestamp : ℕ) (dirty : Bool) (rs : List Inde
 abbrev pub SpelledJournalIs : Type 0
 SpelledJournalIs = (c : List ℕ) (rs : List IndexRecord) → JournalSpells c rs → (log_kind (Some c) ≡ Valid) × (journal_records (Some c) ≡ rs)
 
--- what fails a check is invalid
+-- an index that fails a check is invalid
 abbrev pub FaultyIndexIs : Type 0
 FaultyIndexIs = (c : List ℕ) (f : IndexFault) → index_fault c ≡ Some f → index_kind (Some c) ≡ BadIndex
 
+-- so is a journal
 abbrev pub FaultyJournalIs : Type 0
 FaultyJournalIs = (c : List ℕ) (f : JournalFault) → journal_fault c ≡ Some f → log_kind (Some c) ≡ BadLog
 

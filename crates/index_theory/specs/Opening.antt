@@ -6,7 +6,7 @@ use Rattle.disk_model.specs.Sound.{IsQuiet, IsSound, names_before}
 use Rattle.disk_model.specs.State.{File, State, Write, names_now, removed, renamed, settled, standing, written, wrote}
 use Rattle.disk_model.specs.State.Write.{End, Patch}
 use Rattle.disk_model.specs.declared.place.Place.TheVariants.{Doomed, Index, Log, Tmp}
-use Rattle.index_file.specs.Index.{IndexSpells}
+use Rattle.index_file.specs.Index.{IndexSpells, flag_at}
 use Rattle.index_record.specs.declared.record.IndexRecord.{IndexRecord}
 use Rattle.index_theory.specs.Ever.{entry_place}
 use Rattle.index_theory.specs.Honest.{Honest, LeavesHonest}
@@ -17,7 +17,7 @@ use Rattle.index_theory.specs.Unclean.{IsNotClean, IsUnclean}
 -- a write of the four bytes of an index's flag alone
 abbrev pub IsFlagWrite : Write → Type 0
 IsFlagWrite (End from bytes) = ⊥
-IsFlagWrite (Patch from bytes) = (from ≡ 8) × (length bytes ≡ 4)
+IsFlagWrite (Patch from bytes) = (from ≡ flag_at) × (length bytes ≡ 4)
 
 -- a clean index, of which the flag alone was written
 pub record IsFlagged (before now : File) : Type 0 where
@@ -53,12 +53,12 @@ OpeningSetsAside = (s t : State) → IsOpening s t → IsOpening s (renamed Log 
 -- the flag of a clean index is written
 abbrev pub OpeningFlags : Type 0
 OpeningFlags = (s t : State) (flag : List ℕ) → IsQuiet s → index_kind (standing t Index) ≡ Clean → length flag ≡ 4 → IsOpening s t
-    → IsOpening s (wrote Index (Patch 8 flag) t)
+    → IsOpening s (wrote Index (Patch flag_at flag) t)
 
 -- an index whose flag is written spells the same with that flag
 abbrev pub FlaggedSpells : Type 0
 FlaggedSpells = (c : List ℕ) (timestamp flag : ℕ) (dirty : Bool) (rs : List IndexRecord) → flag < 2 ^ 32 → IndexSpells c timestamp dirty rs
-    → IndexSpells (written (Patch 8 (be32 flag)) c) timestamp (not (flag == 0)) rs
+    → IndexSpells (written (Patch flag_at (be32 flag)) c) timestamp (not (flag == 0)) rs
 
 -- at each of these moments a crash leaves an honest directory, where it was one
 abbrev pub OpeningLeavesHonest : Type 0
@@ -66,8 +66,10 @@ OpeningLeavesHonest = (s t : State) → IsQuiet s → IsSound s → Honest (stan
 
 -- with the flag set, a clean index is clean no more
 abbrev pub FlaggedIsNotClean : Type 0
-FlaggedIsNotClean = (t : State) → IsSound t → index_kind (standing t Index) ≡ Clean → IsNotClean (standing (wrote Index (Patch 8 (be32 1)) t) Index)
+FlaggedIsNotClean = (t : State) → IsSound t → index_kind (standing t Index) ≡ Clean
+    → IsNotClean (standing (wrote Index (Patch flag_at (be32 1)) t) Index)
 
 -- and so after the sync no crash leaves a trusted index
 abbrev pub FlaggedIsUnclean : Type 0
-FlaggedIsUnclean = (t : State) → IsSound t → index_kind (standing t Index) ≡ Clean → IsUnclean (settled (wrote Index (Patch 8 (be32 1)) t))
+FlaggedIsUnclean = (t : State) → IsSound t → index_kind (standing t Index) ≡ Clean
+    → IsUnclean (settled (wrote Index (Patch flag_at (be32 1)) t))

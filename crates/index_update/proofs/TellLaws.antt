@@ -10,7 +10,7 @@ use Rattle.index_map.specs.Known.{Known, Sets}
 use Rattle.index_record.specs.declared.record.IndexRecord.{IndexRecord}
 use Rattle.index_theory.specs.Scan.{record_of, scanned}
 use Rattle.record_list.specs.Lists.{record_at, same_name}
-use Rattle.record_list.proofs.NameLaws.{same_is, same_itself}
+use Rattle.record_list.proofs.NameLaws.{equal_same, same_is, same_itself}
 use Rattle.record_list.proofs.SortedLaws.{by_name_keeps}
 use Rattle.index_theory.specs.Ever.{Entries}
 use Rattle.index_update.specs.Rest.{BytesDrop, BytesEnd, BytesWait, BytesWithout, name_bytes, without}
@@ -85,7 +85,7 @@ told_is_scan es k sorted tells names by = record {
 
 pub bytes_wait : BytesWait
 bytes_wait name [] = refl
-bytes_wait name (n ∷ rest) = ap (λ b. bytes_eq name.0 n.0 || b) (bytes_wait name rest)
+bytes_wait name (n ∷ rest) = λ i. sym (equal_same name n) i || bytes_wait name rest i
 
 first_bytes : (b : Bool) (n : Name) (kept : List Name) (bytes : List (List ℕ)) → name_bytes kept ≡ bytes → name_bytes (cond b (n ∷ kept) kept) ≡ cond b (n.0 ∷ bytes) bytes
 first_bytes true n kept bytes same = ap (λ ns. n.0 ∷ ns) same

@@ -18,10 +18,11 @@ TellsSeen es k rest = (name : Name) → (Contains rest name.0 → ⊥) → recor
 abbrev pub TellsAll : Entries → Known → Type 0
 TellsAll es k = TellsScan es k.records
 
--- where that is so with the one rest it is so with the other one after, or of all records
+-- where that is so with the one rest it is so with the other one after
 abbrev pub GoesOnTelling : Entries → Known → List Name → Known → List Name → Type 0
 GoesOnTelling es old rest new left = TellsSeen es old (name_bytes rest) → TellsSeen es new (name_bytes left)
 
+-- or it is so of all records then
 abbrev pub ComesToTell : Entries → Known → List Name → Known → Type 0
 ComesToTell es old rest new = TellsSeen es old (name_bytes rest) → TellsAll es new
 

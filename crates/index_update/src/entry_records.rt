@@ -29,7 +29,11 @@ fn record_of(name: &Name, meta: &Meta, size: u64) -> IndexRecord
 }
 
 // What stands at the place of an entry, as a record.
-fn look<D: Disk>(alloc: Global, disk: &mut D, name: &Name) -> Result<Option<IndexRecord>, DiskFault>
+fn read_record<D: Disk>(
+    alloc: Global,
+    disk: &mut D,
+    name: &Name,
+) -> Result<Option<IndexRecord>, DiskFault>
     ensures record { IfOk result (λ found. IsTrue D.tells →
         found ≡ scanned (entries_on (D.state disk.old)) name.now) }
     ensures named { IfOk result (λ found. IfSome found (λ r. r.name ≡ name.now)) }
@@ -62,15 +66,15 @@ fn read_one<D: Disk>(
     ensures cause { HasCause (IsErrOf result DiskFault.Failed)
         (D.faults disk.old) (D.faults disk.new) }
 {
-    match look(alloc, disk, name)? {
+    match read_record(alloc, disk, name)? {
         Some(record) => map.set(record)?,
         None => map.remove(name),
     }
     Ok(())
 }
 
-/// Sets the records of these names to those of what stands there, in their order, and removes those of names under which
-/// no file stands that fits. Where a call fails, the records of the names before it are set.
+/// Sets the records of these names to those of what stands there, in their order, and removes those of names under
+/// which no file stands that fits. Where a call fails, the records of the names before it are set.
 pub(crate) fn read_each<D: Disk>(
     alloc: Global,
     disk: &mut D,

@@ -1,13 +1,11 @@
 //! The names that an update has still to read.
 
-ghost use Rattle.std.specs.List.{list_any};
 ghost use Rattle.std.specs.Prelude.{◌≡◌, ◌≢◌, ◌↔◌, [], IfOk, IsTrue, OnErr, OnOk, drop, length, take};
-ghost use Rattle.cache_base.specs.Names.{AreRising};
+ghost use Rattle.cache_base.specs.Names.{AreRising, has_name};
 ghost use Rattle.disk_model.specs.Account.{Looks, ending};
 ghost use Rattle.disk_model.specs.Calls.{counted};
 ghost use Rattle.disk_model.specs.Listing.{AreEntries};
 ghost use Rattle.index_map.specs.Known.{SameBase};
-ghost use Rattle.record_list.specs.Lists.{same_name};
 ghost use Rattle.index_theory.specs.Ever.{entries_on};
 ghost use Rattle.index_update.specs.Reads.{ReadsSome};
 ghost use Rattle.index_update.specs.Rest.{without};
@@ -15,8 +13,8 @@ ghost use Rattle.index_update.specs.Slices.{LooksAtNames, ReadsSlice};
 ghost use Rattle.index_update.specs.Tells.{GoesOnTelling};
 
 use crate::entry_records::read_each;
-use crate::names::{first_of, set_of, take_off};
-use cache_base::{Name, Names, NoMemory};
+use crate::names::{first_of, take_off};
+use cache_base::{Name, Names, NoMemory, name_set};
 use disk_model::{Disk, DiskFault};
 use index_map::RecordMap;
 use std::alloc::Global;
@@ -75,7 +73,7 @@ impl Update {
         let mut listed = Names::new(alloc);
         disk.entries(&mut listed)?;
         Ok(Update {
-            names: set_of(alloc, listed.as_slice())?,
+            names: name_set(alloc, listed.as_slice())?,
             alloc,
         })
     }
@@ -108,8 +106,9 @@ impl Update {
     }
 
     /// Reads the files of the first n names of the rest, or of all, in their order, sets their records to what stands
-    /// there, or removes them where no file fits, and takes the names off. With an empty rest then, it takes the records
-    /// out that were not seen. After a fault the rest is unchanged, and the records of some first names are set.
+    /// there, or removes them where no file fits, and takes the names off. With an empty rest then, it takes the
+    /// records out that were not seen. After a fault the rest is unchanged, and the records of some first names are
+    /// set.
     pub fn step<D: Disk>(
         &mut self,
         disk: &mut D,
@@ -169,7 +168,7 @@ impl Update {
 
     /// Whether the name is in the rest.
     pub fn waits_for(&self, name: &Name) -> bool
-        ensures waits { result ≡ list_any (same_name name.now) self.now }
+        ensures waits { result ≡ has_name self.now name.now }
         ensures rising { AreRising self.now }
     {
         // The names are in order.

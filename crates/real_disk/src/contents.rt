@@ -31,8 +31,8 @@ fn read_front<F: Read + Seek>(file: &mut F, from: u64, buf: &mut [u8]) -> io::Re
     Ok(len)
 }
 
-/// Reads what stands at a place, and tells how many bytes that is. What stands at `clear` is read as far as it goes, since a
-/// mark may be shorter than the buffer; another file has all these bytes.
+/// Reads what stands at a place, and tells how many bytes that is. What stands at `clear` is read as far as it goes,
+/// since a mark may be shorter than the buffer; another file has all these bytes.
 pub(crate) fn read_at<F: Read + Seek>(
     place: &Place,
     file: &mut F,
@@ -65,8 +65,8 @@ fn write_whole<F: Write>(file: &mut F, bytes: &[u8]) -> io::Result<()>
     after_change(file.write_all(bytes))
 }
 
-/// Writes all the bytes from the offset on. The length is set only where older bytes are left after the new ones. A file
-/// that is new has none, and stands at its beginning.
+/// Writes all the bytes from the offset on. The length is set only where older bytes are left after the new ones. A
+/// file that is new has none, and stands at its beginning.
 pub(crate) fn write_end<F: Write + Seek + OpenFile>(
     file: &mut F,
     is_new: bool,

@@ -1,8 +1,8 @@
 //! What an earlier process has left in the system's memory.
 //!
 //! A process that was killed may have changed files and names that the system has not put on the medium yet. So the
-//! first sync goes over all that stands, unless the cache was closed, since a closing syncs it all, or an earlier process
-//! left the note that all was synced.
+//! first sync goes over all that stands, unless the cache was closed, since a closing syncs it all, or an earlier
+//! process left the note that all was synced.
 
 ghost use Rattle.std.specs.Prelude.{◌≡◌, ◌↔◌, IsTrue};
 ghost use Rattle.real_disk.specs.Earlier.{IsKnown, IsSynced};

@@ -81,7 +81,8 @@ impl<R: Files + AllocGlobal> Folder<'_, R> {
         Ok(Some(len))
     }
 
-    // Opens a file that was listed, and answers its length. None where it has gone since, or is no regular file any more.
+    // Opens a file that was listed, and answers its length. None where it has gone since, or is no regular file any
+    // more.
     fn open_listed(&mut self, place: &Place, path: &str) -> Option<u64>
         ensures files { self.new.files ≡ self.old.files }
         ensures folders { self.new.tree ≡ self.old.tree }
@@ -111,8 +112,8 @@ impl<R: Files + AllocGlobal> Folder<'_, R> {
         }
     }
 
-    /// Fills the buffer from the offset on, and tells how many bytes that are. It fails where the file does not have them all;
-    /// but what stands at `clear` is read as far as it goes.
+    /// Fills the buffer from the offset on, and tells how many bytes that are. It fails where the file does not have
+    /// them all; but what stands at `clear` is read as far as it goes.
     pub(crate) fn read(&mut self, place: &Place, from: u64, buf: &mut [u8]) -> io::Result<usize>
         ensures len { IfOk result (λ n. n ≤ length buf.old) }
         ensures whole { place.now ≢ Clear → IfOk result (λ n. n ≡ length buf.old) }
@@ -321,7 +322,7 @@ impl<R: Files + AllocGlobal> Folder<'_, R> {
         ensures files { self.new.files ≡ self.old.files }
         ensures folders { self.new.tree ≡ self.old.tree }
     {
-        self.look();
+        self.look_for_earlier();
         self.listed.forget();
         if self.has_sync_note {
             sync_note::take_away(self.tree.rt, self.tree.dir.as_str())?;
@@ -331,7 +332,7 @@ impl<R: Files + AllocGlobal> Folder<'_, R> {
     }
 
     // Looks what an earlier process has left, unless that was done.
-    fn look(&mut self)
+    fn look_for_earlier(&mut self)
         ensures looked { HasLooked self.old.earlier self.new.earlier }
         ensures files { self.new.files ≡ self.old.files }
         ensures folders { self.new.tree ≡ self.old.tree }
@@ -386,7 +387,7 @@ impl<R: Files + AllocGlobal + Clone + Drop> Folder<'_, R> {
         ensures earlier { OnOk result (IsSynced self.new.earlier) }
         ensures owed { OnErr result (HasLooked self.old.earlier self.new.earlier) }
     {
-        self.look();
+        self.look_for_earlier();
         let tree = &self.tree;
         let kept = &self.kept;
         sync_each(&mut self.files, |place| sync_file(tree, kept, place))?;

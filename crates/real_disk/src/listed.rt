@@ -4,8 +4,8 @@ use cache_base::Name;
 use disk_model::Place;
 use std::alloc::{AllocError, Global};
 
-/// The names of the regular files that the last listing of entries found, in name order, until something changes. Such a
-/// file is opened without another look at what stands there.
+/// The names of the regular files that the last listing of entries found, in name order, until something changes.
+/// Such a file is opened without another look at what stands there.
 #[derive(Drop)]
 pub(crate) struct Listed {
     names: Vec<Name, Global>,

@@ -1,7 +1,7 @@
 //! The numbers of doomed files, and those in their names.
 //!
-//! A folder may stand under a number, put there by another program, and no file can be made in its place. So the names of
-//! files pass over the numbers of folders.
+//! A folder may stand under a number, put there by another program, and no file can be made in its place. So the
+//! names of files pass over the numbers of folders.
 
 use std::alloc::Global;
 use std::collections::BTreeSet;

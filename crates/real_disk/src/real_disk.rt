@@ -45,8 +45,8 @@ impl<'a, R: Files + AllocGlobal + Clone + Drop> RealDisk<'a, R> {
         }
     }
 
-    /// The last call. Where all that stands is synced and the cache was not closed, it leaves a note of that, so that the
-    /// next process does not sync it all again. Nothing is told of whether it could.
+    /// The last call. Where all that stands is synced and the cache was not closed, it leaves a note of that, so that
+    /// the next process does not sync it all again. Nothing is told of whether it could.
     pub fn leave(&mut self)
         ensures faults { let f = ⟦<RealDisk<'a, R> as Disk>⟧.faults in f self.new ≡ f self.old }
     {

@@ -1,8 +1,8 @@
 //! The note that everything was synced, which a run leaves to the next one.
 //!
-//! It is a file beside `index` that names itself, by its device and inode, and the folder of entries, by these two and the
-//! time of its last change. So it is not believed in a copy, nor where another program has changed a name among the
-//! entries. Neither its making nor its removal is synced (docs/CRASH.md).
+//! It is a file beside `index` that names itself, by its device and inode, and the folder of entries, by these two
+//! and the time of its last change. So it is not believed in a copy, nor where another program has changed a name
+//! among the entries. Neither its making nor its removal is synced (docs/CRASH.md).
 
 use crate::contents::read_whole;
 use crate::paths::{Area, path_in, path_of_area};

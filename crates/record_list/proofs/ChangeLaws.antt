@@ -65,8 +65,8 @@ change_then_apply name (Some r) (Some s) h = go (record_eq r s) refl
     go false e = kept_same s h
 
 -- the same for whole lists, name by name
-applied-diff : (base now js : List IndexRecord) → HasNoRemoved now → IsDiff base now js → (name : Name) → applied base js name ≡ record_at now name
-applied-diff base now js h d name =
+pub applied_diff : (base now js : List IndexRecord) → HasNoRemoved now → IsDiff base now js → (name : Name) → applied base js name ≡ record_at now name
+applied_diff base now js h d name =
     ap (λ o. journal_or o (record_at base name)) (d.same name)
     ∙ change_then_apply name (record_at base name) (record_at now name) (at_not_removed now name h)
 
@@ -135,4 +135,4 @@ same_records (x ∷ xs) (y ∷ ys) ra rb same =
 
 pub diff_then_apply : DiffThenApply
 diff_then_apply base now js out clean rising d a =
-    same_records out now a.rising rising (λ name. a.same name ∙ applied-diff base now js clean d name)
+    same_records out now a.rising rising (λ name. a.same name ∙ applied_diff base now js clean d name)

@@ -1,14 +1,15 @@
 -- Names that are the same, and names that rise.
 use Rattle.std.proofs.Common.{◌≡◌, List, [], ◌∷◌, Bool, true, false, refl, sym, ap, subst, ◌∙◌}
-use Rattle.std.specs.List.{AllByRecursion, IsDistinct}
+use Rattle.std.specs.List.{AllByRecursion, IsDistinct, list_any}
 use Rattle.std.specs.List.Sorted.{IsStrictlySortedBy}
 use Rattle.std.specs.Cmp.Lexicographic.{nat_list_cmp_total}
 use Rattle.std.specs.Cmp.{tied_itself}
 use Rattle.std.specs.FinMap.{slice_cmp-IsAntisymmetric, nat_cmp-IsAntisymmetric}
-use Rattle.std.specs.Ordering.{ordering_reverse}
+use Rattle.std.specs.Ordering.{is_eq, ordering_reverse}
 use Rattle.std.specs.declared.cmp.Ordering.TheVariants.{Less, Equal, Greater}
+use Rattle.std.proofs.lemmas.Map.Text.{is_eq-slice_cmp}
 use Rattle.std.proofs.lemmas.Slice.Eq.{bytes_eq-Decides}
-use Rattle.cache_base.specs.Names.{AreRising, name_cmp}
+use Rattle.cache_base.specs.Names.{AreRising, has_name, name_cmp}
 use Rattle.cache_base.specs.declared.name.Name.{Name}
 use Rattle.record_list.specs.Lists.{same_name}
 
@@ -48,6 +49,14 @@ same_back a b = go (same_name a b) (same_name b a) refl refl
     go false false e f = refl
     go true false e f = let both : same_name b a ≡ true = (bytes_eq-Decides b.0 a.0).1 (sym ((bytes_eq-Decides a.0 b.0).0 e)) in absurd (cc)
     go false true e f = let both : same_name a b ≡ true = (bytes_eq-Decides a.0 b.0).1 (sym ((bytes_eq-Decides b.0 a.0).0 f)) in absurd (cc)
+
+-- names that are compared as equal have the same bytes
+pub equal_same : (a b : Name) → is_eq (name_cmp a b) ≡ same_name a b
+equal_same a b = is_eq-slice_cmp a.0 b.0
+
+-- so a name is looked for alike by its order and by its bytes
+pub found_same : (name : Name) (names : List Name) → has_name names name ≡ list_any (same_name name) names
+found_same name names = λ i. list_any (λ one. equal_same name one i) names
 
 pub below_apart_back : (a b : Name) → name_cmp a b ≡ Less → same_name b a ≡ false
 below_apart_back a b less = sym (same_back a b) ∙ below_apart a b less

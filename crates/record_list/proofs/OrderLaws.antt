@@ -1,7 +1,6 @@
 -- Lists that are sorted by name, and names none of which stands twice.
 use Rattle.std.proofs.Common.{◌≡◌, ℕ, ◌+◌, ◌<◌, List, [], ◌∷◌, length, get_or, take, Bool, true, false, not, ◌&&◌, ◌||◌, refl, sym, ap, ◌∙◌, arith}
 use Rattle.std.specs.Prelude.{map}
-use Rattle.std.specs.Cmp.{IsTotalOrder}
 use Rattle.std.specs.Cmp.Lexicographic.{slice_cmp}
 use Rattle.std.specs.List.{AllByRecursion, IsAllAdjacentAnswer, IsDistinct, list_any}
 use Rattle.std.specs.List.Sorted.{IsPermutation, IsSorted, IsSortedByKey}
@@ -9,20 +8,17 @@ use Rattle.std.specs.Ordering.{is_lt, nat_cmp}
 use Rattle.std.specs.declared.cmp.Ordering.{Ordering}
 use Rattle.std.specs.declared.cmp.Ordering.TheVariants.{Less, Equal, Greater}
 use Rattle.std.proofs.lemmas.Bool.{and_parts}
-use Rattle.std.proofs.lemmas.Cmp.{nat_list_cmp_total, on_total}
 use Rattle.std.proofs.lemmas.List.{get_or-map, length-map}
 use Rattle.std.proofs.lemmas.List.Sorted.{IsPermutation-sym}
 use Rattle.std.proofs.lemmas.Map.Keys.{IsDistinct-IsPermutation, apart_from_distinct, sorted_from_all_adjacent}
 use Rattle.cache_base.specs.Names.{AreRising, name_cmp}
 use Rattle.cache_base.specs.declared.name.Name.{Name}
-use Rattle.index_record.specs.Record.{record_in}
+use Rattle.cache_base.proofs.NameLaws.{name_cmp_total}
+use Rattle.index_record.specs.Record.{record_in, removed_record}
 use Rattle.index_record.specs.declared.record.IndexRecord.{IndexRecord}
 use Rattle.record_list.specs.Lists.{names_of, same_name}
 use Rattle.record_list.specs.Stored.{are_distinct}
 use Rattle.record_list.proofs.NameLaws.{above_below, rising_distinct, same_back, same_itself, tied_same}
-
-pub name_cmp_total : IsTotalOrder name_cmp
-name_cmp_total = on_total (λ (n : Name). n.0) nat_list_cmp_total
 
 -- a name that is not above another, nor the same, is below it
 neighbours : (a b : Name) → is_lt (name_cmp b a) ≡ false → same_name a b ≡ false → name_cmp a b ≡ Less
@@ -106,6 +102,24 @@ distinct_answer names sorted moved up false answer = go (are_distinct names) ref
         let test : is_lt (name_cmp a b) ≡ true = ap is_lt less in
         let failed : false ≡ is_lt (name_cmp a b) = answer.2 no_name in
         absurd (cc)
+
+no_record : IndexRecord
+no_record = removed_record no_name
+
+named_at : (rs : List IndexRecord) (k : ℕ) → k < length rs
+    → get_or (names_of rs) k no_name ≡ (get_or rs k no_record).name
+named_at rs k lt = get_or-map (λ (r : IndexRecord). r.name) rs k no_record no_name lt
+
+-- records rise where the name of each is below that of the next
+pub records_rise : (rs : List IndexRecord) (answer : Bool)
+    → IsAllAdjacentAnswer (λ (a b : IndexRecord) t. t ≡ is_lt (name_cmp a.name b.name)) rs answer
+    → answer ≡ true → AreRising (names_of rs)
+records_rise rs true each is =
+    let len : length (names_of rs) ≡ length rs = length-map rs (λ (r : IndexRecord). r.name) in
+    sorted_from_all_adjacent name_cmp_total (names_of rs) no_name
+    (λ k h. rw (named_at rs k (omega (arith, len, h)), named_at rs (k + 1) (omega (arith, len, h)))
+    (below_from_test _ (each k no_record (omega (arith, len, h)))))
+records_rise rs false each is = absurd (cc)
 
 -- the records of groups rise where the first 20 bytes of each are below those of the next
 module _ (groups : List (List ℕ)) where

@@ -6,7 +6,7 @@ use Rattle.std.specs.Simd.{first_chunks}
 use Rattle.std.specs.Str.{bytes_eq}
 use Rattle.cache_base.specs.Names as names
 use Rattle.cache_base.specs.declared.name.Name.{Name}
-use Rattle.index_record.specs.Record.{record_bytes, record_in}
+use Rattle.index_record.specs.Record.{record_bytes, record_in, record_size}
 use Rattle.index_record.specs.declared.record.IndexRecord.{IndexRecord}
 
 -- whether two names have the same bytes
@@ -38,6 +38,6 @@ pub record IsByName (rs out : List IndexRecord) : Type 0 where
 abbrev pub records_bytes : List IndexRecord → List ℕ
 records_bytes rs = flat_map record_bytes rs
 
--- the records in whole groups of 41 bytes
+-- the records in whole groups of their bytes
 abbrev pub records_in : List ℕ → List IndexRecord
-records_in xs = map record_in (first_chunks 41 (length xs / 41) xs)
+records_in xs = map record_in (first_chunks record_size (length xs / record_size) xs)

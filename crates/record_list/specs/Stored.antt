@@ -4,7 +4,7 @@ use Rattle.std.specs.Prelude.{Bool, List, Option, Some, [], false, filter, lengt
 use Rattle.cache_base.specs.Bytes.{be32, be32_at}
 use Rattle.cache_base.specs.Checks.{first_failing}
 use Rattle.cache_base.specs.declared.name.Name.{Name}
-use Rattle.index_record.specs.Record.{IsRecord, cleared, has_bit, is_removed}
+use Rattle.index_record.specs.Record.{IsRecord, cleared, has_bit, is_removed, record_size}
 use Rattle.index_record.specs.declared.record.IndexRecord.{IndexRecord}
 use Rattle.jenkins_hash.specs.Hash.{hash_of}
 use Rattle.record_list.specs.Lists.{HasNames, IsByName, names_of, records_bytes, records_in, same_name}
@@ -36,7 +36,7 @@ are_distinct (name ∷ names) = not (list_any (same_name name) names) && are_dis
 -- the checks of a part of at least four bytes, each with its fault
 unfoldable pub records_checks : List ℕ → List (Bool × RecordsFault)
 records_checks part =
-    (length (body_of part) % 41 == 0, faults.Length)
+    (length (body_of part) % record_size == 0, faults.Length)
     ∷ (be32_at part (length part - 4) == hash_of (body_of part), faults.Hash)
     ∷ (are_distinct (names_of (stored_in part)), faults.Repeated)
     ∷ []

@@ -5,6 +5,7 @@
 
 mod fault;
 mod laws;
+mod name_order;
 mod printing;
 mod reading;
 
@@ -13,5 +14,6 @@ pub use laws::{
     by_name_keeps, clean_reads_same, diff_then_apply, rising_has_names, stored_fits_exactly,
     stored_reads_back,
 };
-pub use printing::{by_name, print};
+pub use name_order::{by_name, rise};
+pub use printing::print;
 pub use reading::{parse, parse_present};

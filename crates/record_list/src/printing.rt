@@ -1,36 +1,17 @@
-//! Records in name order, and their bytes.
+//! The bytes of records in name order.
 
 ghost use Rattle.std.specs.List.{AllByRecursion};
 ghost use Rattle.std.specs.Prelude.{◌≡◌, ◌≤◌, ◌++◌, IfOk, OnOk, List, drop, length};
 ghost use Rattle.cache_base.specs.Bytes.{be32};
 ghost use Rattle.index_record.specs.Record.{IsRecord};
 ghost use Rattle.jenkins_hash.specs.Hash.{hash_of};
-ghost use Rattle.record_list.specs.Lists.{HasNames, IsByName, records_bytes};
+ghost use Rattle.record_list.specs.Lists.{HasNames, records_bytes};
 ghost use Rattle.record_list.specs.Stored.{AreClean, IsPrinted, read_as};
 
+use crate::name_order::sort;
 use cache_base::{Bytes, NoMemory};
-use index_record::{IndexRecord, Records};
+use index_record::{IndexRecord, RECORD, Records};
 use std::alloc::Global;
-
-fn sort(records: &mut Vec<IndexRecord>)
-    requires { HasNames records.old.items }
-    ensures { IsByName records.old.items records.new.items }
-{
-    records.sort_unstable_by_key(|record| record.name);
-}
-
-/// The records in name order.
-pub fn by_name(alloc: Global, mut records: Vec<IndexRecord>) -> Result<Records, NoMemory>
-    requires { HasNames records.items }
-    ensures { IfOk result (IsByName records.items) }
-{
-    sort(&mut records);
-    let mut list = Records::with_room(alloc, records.len())?;
-    for record in &records {
-        list.push(*record)?;
-    }
-    Ok(list)
-}
 
 fn push_records(out: &mut Bytes, records: &[IndexRecord]) -> Result<(), NoMemory>
     ensures bytes { OnOk result (out.new ≡ out.old ++ records_bytes (read_as records.now)) }
@@ -50,15 +31,15 @@ fn push_hash(out: &mut Bytes, front: usize) -> Result<(), NoMemory>
     out.extend(&hash.to_be_bytes())
 }
 
-// So many records, with a front before them and a hash behind them, have at least so many bytes.
+// So many records, with a front before them and a hash after them, have at least so many bytes.
 fn room(front: usize, records: usize) -> usize {
     records
-        .saturating_mul(41)
+        .saturating_mul(RECORD)
         .saturating_add(front)
         .saturating_add(4)
 }
 
-/// The beginning of a file, and behind it the records in name order and their hash.
+/// The beginning of a file, and after it the records in name order and their hash.
 pub fn print(alloc: Global, front: &[u8], records: &Records) -> Result<Bytes, NoMemory>
     requires distinct { HasNames records.now }
     requires clean { AreClean records.now }

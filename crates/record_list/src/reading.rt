@@ -10,7 +10,7 @@ ghost use Rattle.record_list.specs.Stored.{AreClean, IsFirstFault, are_distinct,
 use crate::RecordsFault;
 use byteorder::{BigEndian, ByteOrder};
 use cache_base::{Name, NoMemory};
-use index_record::{Records, is_removed};
+use index_record::{RECORD, Records, is_removed};
 use std::alloc::Global;
 
 fn number_at_front(b: &[u8]) -> u32
@@ -20,7 +20,7 @@ fn number_at_front(b: &[u8]) -> u32
     BigEndian::read_u32(b)
 }
 
-fn names_in(alloc: Global, groups: &[[u8; 41]]) -> Result<Vec<Name>, NoMemory>
+fn names_in(alloc: Global, groups: &[[u8; RECORD]]) -> Result<Vec<Name>, NoMemory>
     ensures { IfOk result (λ names. names.items ≡ names_of (map record_in groups.now)) }
 {
     let mut names = Vec::with_capacity(alloc, groups.len())?;
@@ -30,8 +30,9 @@ fn names_in(alloc: Global, groups: &[[u8; 41]]) -> Result<Vec<Name>, NoMemory>
     Ok(names)
 }
 
-// Whether the names rise from each group to the next, as they do in a file that this crate printed. Then none stands twice.
-fn rise(groups: &[[u8; 41]]) -> bool
+// Whether the names rise from each group to the next, as they do in a file that this crate printed. Then none stands
+// twice.
+fn rise(groups: &[[u8; RECORD]]) -> bool
     ensures { result ≡ true → AreRising (map record_in groups.now) }
 {
     groups.is_sorted_by(|a, b| a[..20].cmp(&b[..20]).is_lt())
@@ -46,7 +47,7 @@ fn all_distinct(mut names: Vec<Name>) -> bool
 }
 
 // Whether no name stands twice in the groups. Where the names rise nothing is copied and sorted.
-fn has_distinct_names(alloc: Global, groups: &[[u8; 41]]) -> Result<bool, NoMemory>
+fn has_distinct_names(alloc: Global, groups: &[[u8; RECORD]]) -> Result<bool, NoMemory>
     ensures { IfOk result (λ answer. answer ≡ are_distinct (names_of (map record_in groups.now))) }
 {
     if rise(groups) {
@@ -56,7 +57,7 @@ fn has_distinct_names(alloc: Global, groups: &[[u8; 41]]) -> Result<bool, NoMemo
 }
 
 // The records in these groups, or those that are not removed.
-fn records_of(alloc: Global, groups: &[[u8; 41]], removed: bool) -> Result<Records, NoMemory>
+fn records_of(alloc: Global, groups: &[[u8; RECORD]], removed: bool) -> Result<Records, NoMemory>
     ensures { IfOk result (λ records.
         records ≡ map cleared
         (filter (λ r. removed || not (is_removed_of r)) (map record_in groups.now))) }
@@ -71,15 +72,15 @@ fn records_of(alloc: Global, groups: &[[u8; 41]], removed: bool) -> Result<Recor
     Ok(records)
 }
 
-// The groups of 41 bytes of a part that passes all checks.
-fn check(alloc: Global, part: &[u8]) -> Result<&[[u8; 41]], RecordsFault>
+// The bytes of each record of a part that passes all checks.
+fn check(alloc: Global, part: &[u8]) -> Result<&[[u8; RECORD]], RecordsFault>
     requires { 4 ≤ length part.now }
     ensures passes { OnOk result (records_fault part.now ≡ None) }
     ensures groups { IfOk result (λ groups. map record_in groups.now ≡ stored_in part.now) }
     ensures fault { IfErr result (IsFirstFault part.now) }
 {
     let (body, hash) = part.split_at(part.len() - 4);
-    let (groups, rest) = body.as_chunks::<41>();
+    let (groups, rest) = body.as_chunks::<RECORD>();
     if !rest.is_empty() {
         return Err(RecordsFault::Length);
     }

@@ -2,7 +2,7 @@
 use Rattle.std.proofs.Common.{◌≡◌, ◌≢◌, inl, inr, ◌≤◌, ◌+◌, ℕ, List, [], length, Bool, true, false, cond, Option, None, Some, OnOk, Result, Ok, Err, refl, sym, ap, subst, ◌∙◌, arith}
 use Rattle.std.specs.Prelude.{not, ◌||◌}
 use Rattle.cache_base.specs.Bytes.{be32}
-use Rattle.disk_model.specs.Calls.{Holds, if_ok}
+use Rattle.disk_model.specs.Calls.{HoldsPart, if_ok}
 use Rattle.disk_model.specs.Sound.{IsQuiet, IsSound}
 use Rattle.disk_model.specs.State.{State, empty_file, settled, standing}
 use Rattle.disk_model.specs.State.Write.{End, Patch}
@@ -45,11 +45,11 @@ pub diff_names : (base now changes : List IndexRecord) → IsDiff base now chang
 diff_names base now changes is = rising_distinct (names_of changes) is.rising
 
 -- an index that stands has room for its flag
-pub base_holds : (file : Option (List ℕ)) (dirty : Bool) (base : List IndexRecord) → BaseStands file dirty base → Holds file 8 4
+pub base_holds : (file : Option (List ℕ)) (dirty : Bool) (base : List IndexRecord) → BaseStands file dirty base → HoldsPart file 8 4
 base_holds file dirty base b =
     let long = long_index b.content (index_reads_back b.content b.timestamp dirty b.spelled b.spells).0 in
     let room : 8 + 4 ≤ length b.content = omega (arith, long) in
-    subst (λ f. Holds f 8 4) (sym b.stands) room
+    subst (λ f. HoldsPart f 8 4) (sym b.stands) room
 
 -- ---- the journal and the flag
 
@@ -257,9 +257,9 @@ amid_refreshed map now s u refreshes = inl (record {
 })
 
 -- after the journal the flag can be written
-pub log_has_room : (s t : State) (bytes : List ℕ) → IsSound s → t ≡ log_synced bytes s → Holds (standing s Index) 8 4 → Holds (standing t Index) 8 4
+pub log_has_room : (s t : State) (bytes : List ℕ) → IsSound s → t ≡ log_synced bytes s → HoldsPart (standing s Index) 8 4 → HoldsPart (standing t Index) 8 4
 log_has_room s t bytes sound is holds =
-    subst (λ f. Holds f 8 4) (sym (ap (λ (u : State). standing u Index) is ∙ elsewhere s bytes sound Index (λ e. cc))) holds
+    subst (λ f. HoldsPart f 8 4) (sym (ap (λ (u : State). standing u Index) is ∙ elsewhere s bytes sound Index (λ e. cc))) holds
 
 pub closed_end : {T : Type 0} (r : Result T DiskFault) (A : Type 0) (s u t : State) (bytes : List ℕ) → (A → u ≡ log_synced bytes s)
     → OnOk r (A → t ≡ settled (flagged (be32 0) u)) → OnOk r (A → t ≡ closed bytes s)

@@ -1,6 +1,6 @@
 -- The changes of an opening, one after the other.
 use Rattle.std.proofs.Common.{◌≡◌, ℕ, List, true, Option, None, Some, Result, Ok, Err, refl, ap, ◌∙◌, arith}
-use Rattle.disk_model.specs.Calls.{Holds, if_done}
+use Rattle.disk_model.specs.Calls.{HoldsPart, if_done}
 use Rattle.disk_model.specs.State.{State, settled}
 use Rattle.disk_model.specs.declared.disk.DiskFault.{DiskFault}
 use Rattle.disk_model.specs.declared.disk.DiskFault.TheVariants.{Failed, Memory}
@@ -20,7 +20,7 @@ clean_is Dirty e = absurd (cc)
 clean_is Clean e = refl
 
 -- a clean index has room for its flag
-pub clean_holds : (file : Option (List ℕ)) (n : ℕ) → n ≡ 4 → is_clean (index_kind file) ≡ true → Holds file 8 n
+pub clean_holds : (file : Option (List ℕ)) (n : ℕ) → n ≡ 4 → is_clean (index_kind file) ≡ true → HoldsPart file 8 n
 clean_holds None n four e = absurd (cc)
 clean_holds (Some c) n four e =
     let long = long_index c (clean_parts c (clean_is (index_kind (Some c)) e)).0 in

@@ -3,7 +3,7 @@ use Rattle.std.proofs.Common.{◌≡◌, ℕ, List, [], ◌∷◌, Option, Bool,
 use Rattle.std.specs.Prelude.{is_some}
 use Rattle.disk_model.specs.Image.{Files}
 use Rattle.disk_model.specs.declared.place.Place.TheVariants.{Index, Log, Tmp}
-use Rattle.index_map.specs.Known.{ArePlain, Begins, Known, no_records}
+use Rattle.index_map.specs.Known.{ArePlain, BeginsOver, Known, no_records}
 use Rattle.index_record.specs.declared.record.IndexRecord.{IndexRecord}
 use Rattle.index_theory.specs.Honest.{index_records, journal_records}
 use Rattle.index_theory.specs.declared.kinds.IndexKind.{IndexKind}
@@ -33,12 +33,12 @@ with_read : (k : IndexKind) (j : LogKind) (t : Bool) (rs ir js jr : List IndexRe
     → StartsWith (decide k j t) rs js map → StartsWith (decide k j t) ir jr map
 with_read NoIndex j t rs ir js jr map index journal starts = starts
 with_read BadIndex j t rs ir js jr map index journal starts = starts
-with_read Dirty j t rs ir js jr map index journal starts = subst (λ r. Begins r r false map) (index tt) starts
-with_read Clean NoLog t rs ir js jr map index journal starts = subst (λ r. Begins r r false map) (index tt) starts
-with_read Clean BadLog t rs ir js jr map index journal starts = subst (λ r. Begins r r false map) (index tt) starts
-with_read Clean Valid true rs ir js jr map index journal starts = subst (λ r. Begins r r false map) (index tt) starts
+with_read Dirty j t rs ir js jr map index journal starts = subst (λ r. BeginsOver r r false map) (index tt) starts
+with_read Clean NoLog t rs ir js jr map index journal starts = subst (λ r. BeginsOver r r false map) (index tt) starts
+with_read Clean BadLog t rs ir js jr map index journal starts = subst (λ r. BeginsOver r r false map) (index tt) starts
+with_read Clean Valid true rs ir js jr map index journal starts = subst (λ r. BeginsOver r r false map) (index tt) starts
 with_read Clean Valid false rs ir js jr map index journal (now, (applied, begins)) =
-    (now, (subst (λ j. IsApplied ir j now) (journal tt) (subst (λ r. IsApplied r js now) (index tt) applied), subst (λ r. Begins r now true map) (index tt) begins))
+    (now, (subst (λ j. IsApplied ir j now) (journal tt) (subst (λ r. IsApplied r js now) (index tt) applied), subst (λ r. BeginsOver r now true map) (index tt) begins))
 
 pub start_is : (files : Files) (start : Start) (k : IndexKind) (j : LogKind) (t : Bool) (rs js : List IndexRecord)
     → ReadsIndex (files Index) k rs → ReadsJournal (files Log) j js → t ≡ is_some (files Tmp) → start ≡ decide k j t → start ≡ start_of files
@@ -52,7 +52,7 @@ starts_from files start k j t rs js map index journal tmp is starts =
     subst (λ x. StartsWith x (index_records (files Index)) (journal_records (files Log)) map) (λ i. decide (index.is i) (journal.is i) (tmp i)) from
 
 -- the base of the map is what the index spells
-based : (file : Option (List ℕ)) (dirty all_seen : Bool) (rs now : List IndexRecord) (map : Known) → BaseStands file dirty rs → Begins rs now all_seen map → BaseStands file dirty map.base
+based : (file : Option (List ℕ)) (dirty all_seen : Bool) (rs now : List IndexRecord) (map : Known) → BaseStands file dirty rs → BeginsOver rs now all_seen map → BaseStands file dirty map.base
 based file dirty all_seen rs now map b begins =
     record { content = b.content; timestamp = b.timestamp; spelled = b.spelled; stands = b.stands; spells = b.spells; same = λ name. b.same name ∙ sym (begins.base name) }
 

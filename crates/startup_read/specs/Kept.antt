@@ -14,7 +14,8 @@ written_map map = record map { base = map.records; has_base = true }
 abbrev pub HasBase : Option (List ℕ) → Known → Type 0
 HasBase file map = map.has_base ≡ true → (dirty : Bool) × BaseStands file dirty map.base
 
--- neither a journal nor a half-written index stands; and where the map has a base, the index stands, dirty, and spells it
+-- neither a journal nor a half-written index stands; and where the map has a base, the index stands, dirty, and
+-- spells it
 pub record KeepsIndex (s : State) (map : Known) : Type 0 where
   pub no_log : standing s Log ≡ None
   pub no_tmp : standing s Tmp ≡ None

@@ -4,7 +4,7 @@ use Rattle.cache_base.specs.declared.name.Name.{Name}
 use Rattle.disk_model.specs.Image.{Files}
 use Rattle.disk_model.specs.State.{State, standing}
 use Rattle.disk_model.specs.declared.place.Place.TheVariants.{Index, Log, Tmp}
-use Rattle.index_map.specs.Known.{Begins, BeginsAfter, Known, no_records}
+use Rattle.index_map.specs.Known.{BeginsOver, BeginsAfter, Known, no_records}
 use Rattle.index_record.specs.declared.record.IndexRecord.{IndexRecord}
 use Rattle.index_theory.specs.Ever.{entries}
 use Rattle.index_theory.specs.Honest.{Honest, index_records, journal_records}
@@ -21,7 +21,7 @@ use Rattle.record_list.specs.Lists.{record_at}
 -- seen; or those of the index, unseen; or none, without a base
 abbrev pub StartsWith : Start → List IndexRecord → List IndexRecord → Known → Type 0
 StartsWith Ready base changes map = BeginsAfter base changes map
-StartsWith Update base changes map = Begins base base false map
+StartsWith Update base changes map = BeginsOver base base false map
 StartsWith Build base changes map = map ≡ no_records
 
 -- so it is made of the files that stand

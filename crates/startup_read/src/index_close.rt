@@ -2,10 +2,11 @@
 
 ghost use Rattle.std.specs.Prelude.{◌≡◌, IfOk, IsTrue, OnOk, false, if◌then◌else◌, true};
 ghost use Rattle.cache_base.specs.Bytes.{be32};
-ghost use Rattle.disk_model.specs.Calls.{Holds, if_ok};
+ghost use Rattle.disk_model.specs.Calls.{HoldsPart, if_ok};
 ghost use Rattle.disk_model.specs.Sound.{IsQuiet};
 ghost use Rattle.disk_model.specs.State.{settled, standing};
 ghost use Rattle.disk_model.specs.declared.place.Place.TheVariants.{Index};
+ghost use Rattle.index_file.specs.Index.{flag_at};
 ghost use Rattle.index_map.specs.Known.{IsKnown};
 ghost use Rattle.index_theory.specs.Apart.{IsApart};
 ghost use Rattle.index_theory.specs.Closing.{closed, flagged, log_synced};
@@ -16,10 +17,10 @@ ghost use Rattle.startup_read.specs.Closing as spec;
 ghost use Rattle.startup_read.specs.Kept.{KeepsIndex};
 ghost use Rattle.startup_read.specs.Spares.{SparesEntries};
 
-use crate::FLAG_AT;
 use crate::index_refresh::refresh_index;
 use cache_base::{Bytes, Moment, NoMemory};
 use disk_model::{Disk, DiskFault, Place};
+use index_file::FLAG_AT;
 use index_map::RecordMap;
 use std::alloc::Global;
 
@@ -50,7 +51,7 @@ fn write_log<D: Disk>(disk: &mut D, bytes: &[u8]) -> Result<(), DiskFault>
 
 // Clears the flag of the index, and syncs that.
 fn clear_flag<D: Disk>(disk: &mut D) -> Result<(), DiskFault>
-    requires { IsTrue D.tells → Holds (standing (D.state disk.old) Index) 8 4 }
+    requires { IsTrue D.tells → HoldsPart (standing (D.state disk.old) Index) flag_at 4 }
     ensures cleared { OnOk result
         (Told D.Disk (λ s t. t ≡ settled (flagged (be32 0) s)) disk.old disk.new) }
     ensures amid { Told D.Disk spec.IsAmidClearing disk.old disk.new }
@@ -58,13 +59,13 @@ fn clear_flag<D: Disk>(disk: &mut D) -> Result<(), DiskFault>
     ensures change { FailsInChange D.Disk (ending result) disk.new }
     ensures no_entry { LooksAtNoEntry D.Disk disk.old disk.new }
 {
-    disk.patch(&Place::Index, FLAG_AT, &UP_TO_DATE.to_be_bytes())?;
+    disk.patch(&Place::Index, FLAG_AT as u64, &UP_TO_DATE.to_be_bytes())?;
     disk.sync()
 }
 
 // Writes the journal, and then clears the flag of the index.
 fn log_and_clear<D: Disk>(disk: &mut D, bytes: &[u8]) -> Result<(), DiskFault>
-    requires { IsTrue D.tells → Holds (standing (D.state disk.old) Index) 8 4 }
+    requires { IsTrue D.tells → HoldsPart (standing (D.state disk.old) Index) flag_at 4 }
     ensures closed { OnOk result (Told D.Disk (λ s t. t ≡ closed bytes.now s) disk.old disk.new) }
     ensures amid { Told D.Disk (spec.IsAmidLogging bytes.now) disk.old disk.new }
     ensures account { Accounts D.Disk (ending result) disk.old disk.new }
@@ -96,10 +97,10 @@ fn close_ended<D: Disk>(
     log_and_clear(disk, bytes.as_slice())
 }
 
-/// Closes the index. Where the update has `ended`, so that the records now are those of all entries, the whole index is
-/// written if there is no base or if at least `CHANGED_MAX` records differ from it; then the journal with what differs,
-/// which is synced; and then the flag of the index is cleared and the disk synced, so that the next opening trusts both.
-/// Where it has not ended the disk is synced, and the index stays dirty.
+/// Closes the index. Where the update has `ended`, so that the records now are those of all entries, the whole index
+/// is written if there is no base or if at least `CHANGED_MAX` records differ from it; then the journal with what
+/// differs, which is synced; and then the flag of the index is cleared and the disk synced, so that the next opening
+/// trusts both. Where it has not ended the disk is synced, and the index stays dirty.
 pub fn close_index<D: Disk>(
     alloc: Global,
     disk: &mut D,

@@ -20,9 +20,10 @@ ghost use Rattle.startup_read.specs.Spares.{SparesEntries};
 ghost use Rattle.startup_read.specs.Starts.{IsSeen, StartsFrom, StartsWith, is_clean as is_clean_kind};
 
 use crate::records::{IndexRead, LogRead, read_index, read_log};
-use crate::{FLAG_AT, IndexKind, LogKind, Start, decide};
+use crate::{IndexKind, LogKind, Start, decide};
 use cache_base::NoMemory;
 use disk_model::{Disk, DiskFault, Place};
+use index_file::FLAG_AT;
 use index_map::RecordMap;
 use std::alloc::Global;
 
@@ -90,7 +91,7 @@ fn has_log(kind: LogKind) -> bool
 }
 
 // Reads the files of the index.
-fn look<D: Disk>(alloc: Global, disk: &mut D) -> Result<Found, DiskFault>
+fn read_files<D: Disk>(alloc: Global, disk: &mut D) -> Result<Found, DiskFault>
     ensures start { IfOk result (λ found. IsTrue D.tells →
         found.opened.start ≡ start_of (standing (D.state disk.old))) }
     ensures map { IfOk result (λ found. IsTrue D.tells →
@@ -139,7 +140,7 @@ fn mark_in_use<D: Disk>(disk: &mut D, clean: bool) -> Result<(), DiskFault>
     ensures no_entry { LooksAtNoEntry D.Disk disk.old disk.new }
 {
     if clean {
-        disk.patch(&Place::Index, FLAG_AT, &IN_USE.to_be_bytes())
+        disk.patch(&Place::Index, FLAG_AT as u64, &IN_USE.to_be_bytes())
     } else {
         Ok(())
     }
@@ -200,7 +201,7 @@ pub fn open_index<D: Disk>(alloc: Global, disk: &mut D) -> Result<Opened, DiskFa
     ensures account { Accounts D.Disk (ending result) disk.old disk.new }
     ensures no_entry { LooksAtNoEntry D.Disk disk.old disk.new }
 {
-    let found = look(alloc, disk)?;
+    let found = read_files(alloc, disk)?;
     change(disk, found.clean, found.log, found.tmp)?;
     Ok(found.opened)
 }

@@ -43,8 +43,8 @@ fn place_index<D: Disk>(disk: &mut D, bytes: &[u8]) -> Result<(), DiskFault>
     disk.rename(&Place::Tmp, &Place::Index)
 }
 
-/// Writes an index of the records now, dirty and with the timestamp `now`, and makes these records the base. The file is
-/// whole and synced before it takes the place `index`. After a fault the map is unchanged.
+/// Writes an index of the records now, dirty and with the timestamp `now`, and makes these records the base. The file
+/// is whole and synced before it takes the place `index`. After a fault the map is unchanged.
 pub fn write_index<D: Disk>(
     alloc: Global,
     disk: &mut D,

@@ -18,6 +18,3 @@ pub use index_refresh::refresh_index;
 pub use index_write::write_index;
 pub use laws::{changes_keep_index, opening_ends_trust, records_at_start, spared_entries_stand};
 pub use start_table::{IndexKind, LogKind, Start, decide};
-
-// Where the flag stands in an index.
-const FLAG_AT: u64 = 8;

@@ -19,12 +19,6 @@ use index_journal::JournalFault;
 use index_record::Records;
 use std::alloc::Global;
 
-// What an index has beside its records: four numbers before them, and their hash.
-const INDEX_REST: u64 = 20;
-
-// A journal has their hash alone.
-const LOG_REST: u64 = 4;
-
 /// What stands at `index`, with the records of an index, or none.
 #[derive(Drop)]
 pub(crate) struct IndexRead {
@@ -134,7 +128,7 @@ pub(crate) fn read_index<D: Disk>(alloc: Global, disk: &mut D) -> Result<IndexRe
     let Some(size) = disk.size(&Place::Index)? else {
         return Ok(no_index(alloc, IndexKind::Missing));
     };
-    if !has_whole_records(size, INDEX_REST) {
+    if !has_whole_records(size, index_file::LEAST as u64) {
         return Ok(no_index(alloc, IndexKind::Invalid));
     }
     let file = read_sized(alloc, disk, &Place::Index, size)?;
@@ -153,7 +147,7 @@ pub(crate) fn read_log<D: Disk>(alloc: Global, disk: &mut D) -> Result<LogRead, 
     let Some(size) = disk.size(&Place::Log)? else {
         return Ok(no_log(alloc, LogKind::Missing));
     };
-    if !has_whole_records(size, LOG_REST) {
+    if !has_whole_records(size, index_journal::LEAST as u64) {
         return Ok(no_log(alloc, LogKind::Invalid));
     }
     let file = read_sized(alloc, disk, &Place::Log, size)?;

@@ -4,7 +4,7 @@ ghost use Rattle.std.specs.Prelude.{◌≡◌, ◌≢◌, ◌≤◌, ◌^◌, �
 ghost use Rattle.std.specs.Option.{option_map};
 ghost use Rattle.cache_base.specs.Causes.{HasCause};
 ghost use Rattle.cache_base.specs.Names.{AreRising};
-ghost use Rattle.disk_model.specs.Calls.{counted, counted_change, counted_read, counted_sync, if_ok, if_done, MayWriteAt, Holds};
+ghost use Rattle.disk_model.specs.Calls.{counted, counted_change, counted_read, counted_sync, if_ok, if_done, MayWriteAt, HoldsPart};
 
 use super::MemDisk;
 use crate::{Disk, DiskFault, Place};
@@ -119,7 +119,7 @@ impl Disk for MemDisk {
 
     fn patch(&mut self, place: &Place, from: u64, bytes: &[u8]) -> Result<(), DiskFault>
         requires limit { from ≤ 2 ^ 40 }
-        requires told { Holds (standing (state_in self.old) place.now) from (length bytes.now) }
+        requires told { HoldsPart (standing (state_in self.old) place.now) from (length bytes.now) }
         ensures state { state_in self.new ≡ if_done result
             (wrote place.now (Patch from bytes.now) (state_in self.old)) (state_in self.old) }
         ensures counts { counts_in self.new ≡ counted_change result (counts_in self.old) }

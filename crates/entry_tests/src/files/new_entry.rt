@@ -63,9 +63,9 @@ pub(super) fn finish<D: Disk>(
         elements,
         ..
     } = hello_meta(alloc)?;
-    let before = look(alloc, disk, place, &NAME)?;
+    let before = seen_at(alloc, disk, place, &NAME)?;
     entry.finish(alloc, disk, place, header, key, elements)?;
-    Ok((before, look(alloc, disk, place, &NAME)?))
+    Ok((before, seen_at(alloc, disk, place, &NAME)?))
 }
 
 // An entry before it is finished: how long its body is, which bytes it holds, and how many bytes

@@ -28,7 +28,8 @@ const NO_KEY: &[u8] = b"\x88\x00\x03\xe0\
     \0\0\0\x03\0\0\0\0\0\0\0\0\0\0\0\0\0\0\0\0\0\0\0\0\0\0\0\0\0\0\0\0\0\
     \0\0\0\0";
 
-// A file of version 4, one of version 1 with another byte behind its key, and one of version 3 whose block ends before its key.
+// A file of version 4, one of version 1 with another byte behind its key, and one of version 3 whose block ends
+// before its key.
 const FOURTH: &[u8] = b"hello\xb2\xab\x53\xb4\x39\x9e\
     \0\0\0\x04\0\0\0\x01\0\0\x03\xe8\0\0\x03\xe8\0\0\x03\xe8\xff\xff\xff\xff\0\0\0\x15\0\0\0\0\
     :https://example.com/\0\0\0\0\x05";
@@ -44,7 +45,7 @@ const THIRD_CUT: &[u8] = b"\0\0\0\0\
 // What is read under a name where these bytes stand.
 fn read_of(alloc: Global, bytes: &[u8], name: &Name) -> Result<Seen, DiskFault> {
     let mut disk = disk_with(alloc, bytes)?;
-    look(alloc, &mut disk, &PLACE, name)
+    seen_at(alloc, &mut disk, &PLACE, name)
 }
 
 // What is read of `hello` where the call of this number fails.
@@ -53,7 +54,7 @@ fn failing_at(alloc: Global, call: u32) -> Result<Seen, DiskFault> {
     calls.push(call)?;
     let mut disk = disk_with(alloc, HELLO)?;
     disk.fail_at(calls);
-    look(alloc, &mut disk, &PLACE, &NAME)
+    seen_at(alloc, &mut disk, &PLACE, &NAME)
 }
 
 // Whether `hello` is read by three calls, with its lengths and its key.
@@ -101,7 +102,7 @@ fn a_file_of_version_1_has_a_smaller_block(rt: HostRuntime) {
 #[test]
 fn no_file_is_absent(rt: HostRuntime) {
     let mut disk = MemDisk::new(rt.alloc());
-    assert!(rt; look(rt.alloc(), &mut disk, &PLACE, &NAME) == Ok(Seen::Absent));
+    assert!(rt; seen_at(rt.alloc(), &mut disk, &PLACE, &NAME) == Ok(Seen::Absent));
 }
 
 #[test]

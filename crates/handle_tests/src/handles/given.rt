@@ -30,8 +30,8 @@ const AS_GIVEN: &[Row<'static>] = &[
     (Call::Find(X), Answer::Found(8, 400, 21_900, 3)),
 ];
 
-// Header and elements are those that are given, and not the entry's own. The file has version 3 and its key, whatever the
-// header says of them.
+// Header and elements are those that are given, and not the entry's own. The file has version 3 and its key, whatever
+// the header says of them.
 #[test]
 fn an_entry_is_finished_as_given(rt: HostRuntime) -> Result<(), Fail> {
     assert!(rt; rows_answered(&rt, AS_GIVEN)? == AS_GIVEN.len());

@@ -3,8 +3,8 @@ use disk_model::Disk;
 use entry_name::text_of;
 use std::alloc::Global;
 
-// By its number a slot has a new entry, one that stands, or one of both that is doomed then. In these tables its number is 0,
-// and its key X.
+// By its number a slot has a new entry, one that stands, or one of both that is doomed then. In these tables its
+// number is 0, and its key X.
 const FILLED: [&[Row<'static>]; 4] = [
     &[(Call::Create(0, X, 5), Answer::Gone(X))],
     &[(Call::Open(0, X), Answer::Done)],

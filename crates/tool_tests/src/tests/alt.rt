@@ -870,7 +870,8 @@ fn leaves_one_out(alloc: Global, text: &[u8]) -> Result<bool, Fail> {
     Ok(false)
 }
 
-// Where the disk's call of this number fails alone: one command is left out, or the run ended there. Whether it went on.
+// Where the disk's call of this number fails alone: one command is left out, or the run ended there. Whether it went
+// on.
 fn is_told(alloc: Global, clean: &[u8], number: u32) -> Result<(bool, bool), Fail> {
     let mut disk = MemDisk::new(alloc);
     disk.fail_at(one_number(alloc, number)?);

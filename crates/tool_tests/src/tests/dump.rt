@@ -191,8 +191,8 @@ fn a_failing_sink_cuts_the_dump(rt: HostRuntime) -> Result<(), Fail> {
     Ok(())
 }
 
-// How a run ends whose call of the disk fails: with nothing printed, with the line `fault` and the closing after it, with
-// a dump that is cut, or with a whole one, which is out before the closing. Or no call of this number is made.
+// How a run ends whose call of the disk fails: with nothing printed, with the line `fault` and the closing after it,
+// with a dump that is cut, or with a whole one, which is out before the closing. Or no call of this number is made.
 #[derive(Clone, Copy, PartialEq, Eq)]
 enum Ending {
     Silent,
@@ -269,8 +269,8 @@ fn endings(alloc: Global, file: &[u8], dump: &[u8]) -> Result<[u32; 4], Fail> {
     Err(Fail::from("no end"))
 }
 
-// Before the command no line is printed. Then come the looks of the update and the one at the folder, which are told; and
-// then those at each entry, which cut the dump.
+// Before the command no line is printed. Then come the looks of the update and the one at the folder, which are told;
+// and then those at each entry, which cut the dump.
 #[test]
 fn each_failing_call_ends_the_dump(rt: HostRuntime) -> Result<(), Fail> {
     let file = file_of_two_chunks(rt.alloc())?;

@@ -186,8 +186,8 @@ const TWO_CHUNKS: [Printing<'static>; 2] = [
     ),
 ];
 
-// The look at the second chunk that is printed, by its number among the calls: the size, the last four bytes, the block and
-// both chunks come before, and the first chunk once more.
+// The look at the second chunk that is printed, by its number among the calls: the size, the last four bytes, the
+// block and both chunks come before, and the first chunk once more.
 const SECOND_CHUNK: u32 = OPENING + 7;
 
 // Whether the run ends there, with all out up to the first chunk.

@@ -5,7 +5,8 @@ const ONE: &[u8] = b"made 1\nevicted 1\nfindings 0\nrecords 0\n";
 
 const TWO: &[u8] = b"made 2\nevicted 1\nfindings 0\nrecords 1\n";
 
-// By the sizes of the files, of which those of the lowest numbers go: a later one is used later. So it is in a real folder.
+// By the sizes of the files, of which those of the lowest numbers go: a later one is used later. So it is in a real
+// folder.
 const MANY: &[u8] = b"made 200\nevicted 99\nfindings 0\nrecords 101\n";
 
 const THOUSANDS: &[u8] = b"made 2000\nevicted 1011\nfindings 0\nrecords 989\n";

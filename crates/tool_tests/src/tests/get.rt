@@ -288,8 +288,9 @@ fn look_fails(alloc: Global, number: u32, text: &[u8]) -> Result<bool, Fail> {
     Ok(status == Status::Disk && printed.as_slice() == text)
 }
 
-// After the opening the calls look for the size, the last four bytes and the block; the body is read once, to be checked,
-// and printed from there. A short reply goes out as one. So each look of the command is answered by the line.
+// After the opening the calls look for the size, the last four bytes and the block; the body is read once, to be
+// checked, and printed from there. A short reply goes out as one. So each look of the command is answered by the
+// line.
 #[test]
 fn each_failing_look_ends_the_run(rt: HostRuntime) -> Result<(), Fail> {
     for number in 1..OPENING + 1 {

@@ -55,8 +55,8 @@ const CREATE_EACH: &[u8] =
 const EACH_IS_SOUND: &[u8] =
     b"ok\nok\nok\nok\nok\nok\nok\nok\nok\nok\nok\nok\nok\nok\nok\nok\nok\nok\nok\nok\nok\nok\nok\nok\nfindings 0\n";
 
-// Keys, and what stands at their places: files that end in no offset of a block, files with a block that is none, and one
-// whose key has another name.
+// Keys, and what stands at their places: files that end in no offset of a block, files with a block that is none, and
+// one whose key has another name.
 const FILES: [(&str, &[u8]); 11] = [
     (":none", b""),
     (":stop", b"\xff\xff\xff\xff"),

@@ -116,8 +116,8 @@ fn changed(alloc: Global, all: &[u8], place: usize, byte: u8) -> Result<Bytes, F
     Ok(list)
 }
 
-// Items whose keys may not be written: with a newline, without a colon after a tag, with a zero byte, without a colon, and
-// without a byte. Their hashes are right.
+// Items whose keys may not be written: with a newline, without a colon after a tag, with a zero byte, without a
+// colon, and without a byte. Their hashes are right.
 const BAD_KEYS: [&[u8]; 5] = [
     b"\x01\0\0\0\x04:x\ny\0\0\0\0\0\0\0\x29\x37\x6b\xa7\xb4\
     \0\0\0\x03\0\0\0\x01\0\0\x03\xe8\0\0\x03\xe8\0\0\x03\xe8\xff\xff\xff\xff\0\0\0\x04\0\0\0\0:x\ny\0",
@@ -148,8 +148,8 @@ const OLD_OTHER: &[u8] = b"found 1 1500 1500 1500 4294967295 0 0 3\n\nold\n";
 
 const NEW_OTHER: &[u8] = b"found 1 1000 1000 1000 4294967295 0 0 5\n\nhello\n";
 
-// Whether these bytes are loaded so, and then this stands under the first key, and this is printed of the second. Nothing
-// stands under another name.
+// Whether these bytes are loaded so, and then this stands under the first key, and this is printed of the second.
+// Nothing stands under another name.
 fn leaves(
     alloc: Global,
     input: &[u8],
@@ -382,7 +382,8 @@ fn is_whole(
     Ok(text == old || text == new || text == ABSENT)
 }
 
-// Whether the run ends at the call of this number, which fails, and prints nothing, and each entry is whole or gone then.
+// Whether the run ends at the call of this number, which fails, and prints nothing, and each entry is whole or gone
+// then.
 fn ends_there(alloc: Global, dump: &[u8], number: u32) -> Result<bool, Fail> {
     let mut disk = two_others(alloc)?;
     disk.fail_at(one_number(alloc, number)?);

@@ -41,8 +41,8 @@ fn unfit_stays_and_doomed_go(alloc: Global, disk: &mut MemDisk) -> Result<bool, 
     )
 }
 
-// A file that fits under no name is no entry: it is neither found nor doomed, and it stays. Files of doomed entries that
-// an earlier run left are removed.
+// A file that fits under no name is no entry: it is neither found nor doomed, and it stays. Files of doomed entries
+// that an earlier run left are removed.
 #[test]
 fn unfit_files_stay_and_doomed_files_go(rt: HostRuntime) -> Result<(), Fail> {
     let mut disk = MemDisk::new(rt.alloc());

@@ -178,8 +178,8 @@ fn calls_of_put(alloc: Global) -> Result<u64, Fail> {
     Ok(disk.calls())
 }
 
-// Each call of the disk ends the run: those of the opening, those that make and write the entry, and those of the closing.
-// The reply goes out after that.
+// Each call of the disk ends the run: those of the opening, those that make and write the entry, and those of the
+// closing. The reply goes out after that.
 #[test]
 fn each_failing_disk_call_ends_the_run(rt: HostRuntime) -> Result<(), Fail> {
     let calls = calls_of_put(rt.alloc())?;

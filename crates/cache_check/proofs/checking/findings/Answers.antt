@@ -44,14 +44,14 @@ returns-clause-findings g c =
     let rs = c.args.records.now in
     let v = c.as_slice-skipped.result.now in
     let copy = c.in_ok-from_slice.field-0.items in
-    let sorted = c.in_ok-sorted.sorted in
+    let sorted = c.by_name-sorted.result in
     let qs = c.as_slice-3.result.now in
     let listed : IsTrue g.D.Disk.tells → Listed s t names es = λ told. listed_by s t names es (c.in_ok-entries.ensures.state told) c.as_slice-listed.ensures c.in_ok-entries.ensures.rising (c.in_ok-entries.ensures.names told) in
     let rising : AreRising es = subst AreRising (sym c.as_slice-listed.ensures) c.in_ok-entries.ensures.rising in
     let sorts : Sorts rs copy sorted qs = record {
       distinct = c.requires;
       copied = c.in_ok-from_slice.ensures.items ∙ c.as_slice-2.ensures;
-      by_name = c.in_ok-sorted.ensures;
+      by_name = c.by_name-sorted.ensures;
       given = c.as_slice-3.ensures;
     } in
     found_all (IsTrue g.D.Disk.tells) s t names es rs rs c.args.writing.now v c.check_all-2.result

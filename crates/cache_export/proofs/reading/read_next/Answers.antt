@@ -1,7 +1,8 @@
 use Rattle.std.proofs.Common.{sym, ap, ◌∙◌}
 use Rattle.cache_export.specs.Front.{front_at}
 use Rattle.cache_export.specs.Window.{items}
-use Rattle.cache_export.proofs.ReadingLaws.{grew_on, more_before, more_is_short}
+use Rattle.cache_io.proofs.WindowLaws.{grew_on}
+use Rattle.cache_export.proofs.ReadingLaws.{more_before, more_is_short}
 use Rattle.cache_export.proofs.reading.read_next.Goals as goal
 
 pub fill-requires : goal.fill-requires

@@ -1,6 +1,7 @@
 use Rattle.std.proofs.Common.{◌≡◌, ◌-◌, length}
 use Rattle.cache_export.specs.Front.{front_at}
-use Rattle.cache_export.specs.Window.{items, Grew}
+use Rattle.cache_export.specs.Window.{items}
+use Rattle.cache_io.specs.Window.{Grew}
 use Rattle.cache_export.specs.declared.front.Front.TheVariants.{More}
 use Rattle.cache_export.specs.declared.limits.TheConstants.{HELD_MAX}
 use Rattle.cache_export.proofs.reading.read_next.Given as goal

@@ -3,7 +3,7 @@ use Rattle.std.specs.BTreeSet.{contains}
 use Rattle.std.specs.Ordering.{is_eq}
 use Rattle.cache_base.specs.Names.{name_cmp}
 use Rattle.cache_base.specs.declared.name.Name.{Name}
-use Rattle.cache_store.proofs.JoinedNames.{one_more}
+use Rattle.cache_store.proofs.Clearing.JoinedNames.{one_more}
 use Rattle.cache_store.proofs.clear.add_all.Goals as goal
 
 pub loop-name-preserved : goal.loop-name-preserved

@@ -1,8 +1,7 @@
 use Rattle.std.proofs.Common.{◌≡◌, ◌||◌, take}
 use Rattle.std.specs.BTreeSet.{contains}
-use Rattle.cache_base.specs.Names.{name_cmp}
+use Rattle.cache_base.specs.Names.{has_name, name_cmp}
 use Rattle.cache_base.specs.declared.name.Name.{Name}
-use Rattle.evictor.specs.Evict.{has_name}
 use Rattle.cache_store.proofs.clear.add_all.Given as goal
 
 abbrev pub invariant-loop-name : goal.invariant-loop-name

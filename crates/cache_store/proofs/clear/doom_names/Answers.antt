@@ -2,10 +2,10 @@ use Rattle.std.proofs.Common.{◌+◌, ◌∙◌, Err, List, arith, drop, drop_o
 use Rattle.std.proofs.lemmas.List.{drop_more}
 use Rattle.cache_base.specs.declared.name.Name.{Name}
 use Rattle.cache_store.specs.Clearing.{HoldsNames}
-use Rattle.cache_store.proofs.HeldDoomed.{dooms_done, dooms_failed, handed_account, handed_change, rest_held}
-use Rattle.cache_store.proofs.NamesDoomed.{Completes, next_done, next_fails, none_left}
+use Rattle.cache_store.proofs.Clearing.HeldDoomed.{dooms_done, dooms_failed, handed_account, handed_change, rest_held}
+use Rattle.cache_store.proofs.Clearing.NamesDoomed.{Completes, next_done, next_fails, none_left}
 use Rattle.file_handles.specs.Cache.{cache}
-use Rattle.file_handles.proofs.MarkLeft.{then_marked}
+use Rattle.file_handles.proofs.Dooming.MarkLeft.{then_marked}
 use Rattle.file_handles.proofs.TakingSteps.{takes_then}
 use Rattle.index_theory.proofs.LeavesLaws.{both_leave_beside}
 use Rattle.cache_store.proofs.clear.doom_names.Goals as goal

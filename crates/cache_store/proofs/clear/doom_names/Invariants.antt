@@ -1,6 +1,6 @@
 use Rattle.std.proofs.Common.{IsTrue, drop}
 use Rattle.cache_store.specs.Clearing.{HoldsNames}
-use Rattle.cache_store.proofs.NamesDoomed.{Completes}
+use Rattle.cache_store.proofs.Clearing.NamesDoomed.{Completes}
 use Rattle.disk_model.specs.Account.{IsCalm, LooksAtNoEntry}
 use Rattle.disk_model.specs.Told.{Told}
 use Rattle.file_handles.specs.Cache.{cache}

@@ -2,7 +2,7 @@ use Rattle.std.proofs.Common.{List, ap, filter, ◌∙◌}
 use Rattle.cache_base.specs.declared.name.Name.{Name}
 use Rattle.cache_store.specs.Clearing.{is_user_or_among}
 use Rattle.file_handles.specs.Kept.{kept}
-use Rattle.cache_store.proofs.FilesAmong.{those_held}
+use Rattle.cache_store.proofs.Clearing.FilesAmong.{those_held}
 use Rattle.cache_store.proofs.clear.held.Goals as goal
 
 pub returns-clause-held : goal.returns-clause-held

@@ -1,20 +1,20 @@
 use Rattle.std.proofs.Common.{[], ◌≡◌, ◌∷◌, ◌∙◌, List, Option, Result, ℕ, codes, decimal, subst, sym}
 use Rattle.std.specs.Prelude.{OnErr}
 use Rattle.cache_check.specs.declared.finding.Finding.{Finding}
-use Rattle.cache_store.specs.Answering.{rest_of}
+use Rattle.cache_store.specs.Answering.{left_to_say}
 use Rattle.cache_store.specs.Said.{Saying, saying}
 use Rattle.cache_store.specs.Saying.{CutsIn, SaysMore}
 use Rattle.cache_store.specs.declared.answered.Answered.{Answered}
 use Rattle.cache_store.specs.declared.fault.Verdict.{Verdict}
 use Rattle.cache_store.specs.declared.fault.StoreFault.{StoreFault}
 use Rattle.cache_theory.specs.Text.{findings_text, refusal_words, spaced}
-use Rattle.cache_store.proofs.SaidMore.{when_err}
-use Rattle.cache_store.proofs.SayingLaws.{cuts_front, cuts_line, cuts_then}
+use Rattle.cache_store.proofs.Saying.SaidMore.{when_err}
+use Rattle.cache_store.proofs.Saying.SayingLaws.{cuts_front, cuts_line, cuts_then}
 use Rattle.cache_store.proofs.command.say_rest.Goals as goal
 
 -- of an answer by another name the same is cut
-answer_cut : {a b : Answered} (r : Result Verdict StoreFault) (was : Saying) (now : Option (List ℕ)) → a ≡ b → OnErr r (CutsIn was now (rest_of b)) → OnErr r (CutsIn was now (rest_of a))
-answer_cut r was now same cut = subst (λ (x : Answered). OnErr r (CutsIn was now (rest_of x))) (sym same) cut
+answer_cut : {a b : Answered} (r : Result Verdict StoreFault) (was : Saying) (now : Option (List ℕ)) → a ≡ b → OnErr r (CutsIn was now (left_to_say b)) → OnErr r (CutsIn was now (left_to_say a))
+answer_cut r was now same cut = subst (λ (x : Answered). OnErr r (CutsIn was now (left_to_say x))) (sym same) cut
 
 pub returns-in-Done-clause-cut : goal.returns-in-Done-clause-cut
 returns-in-Done-clause-cut g c = answer_cut c.say_ok.result (saying g.K.Sink c.args.reply.now c.args.sink.now) (g.K.Sink.taken c.say_ok.new.sink) c.in-Done.is c.say_ok.ensures.cut

@@ -3,8 +3,8 @@ use Rattle.std.specs.Prelude.{codes}
 use Rattle.cache_store.specs.Said.{saying}
 use Rattle.cache_store.specs.Saying.{CutsIn, SaysMore}
 use Rattle.cache_theory.specs.Text.{with_number}
-use Rattle.cache_store.proofs.SaidMore.{when_err}
-use Rattle.cache_store.proofs.SayingLaws.{cuts_first, cuts_front, cuts_then}
+use Rattle.cache_store.proofs.Saying.SaidMore.{when_err}
+use Rattle.cache_store.proofs.Saying.SayingLaws.{cuts_first, cuts_front, cuts_then}
 use Rattle.cache_store.proofs.command.say_value.Goals as goal
 
 pub returns-in_err-head-clause-cut : goal.returns-in_err-head-clause-cut

@@ -4,7 +4,7 @@ use Rattle.entry_metadata.specs.Meta.{meta_of}
 use Rattle.entry_metadata.specs.Metadata.{block_bytes}
 use Rattle.entry_metadata.proofs.PrintedBlock.{length-block}
 use Rattle.cache_theory.proofs.Versions.{is_key}
-use Rattle.cache_store.proofs.DumpedItems.{back_long, front_long}
+use Rattle.cache_store.proofs.Dumping.DumpedItems.{back_long, front_long}
 use Rattle.cache_store.proofs.dump.item_len.Goals as goal
 
 pub overflow_add-result-3 : goal.overflow_add-result-3

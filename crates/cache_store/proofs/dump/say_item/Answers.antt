@@ -6,9 +6,9 @@ use Rattle.entry_metadata.specs.Meta.{meta_of}
 use Rattle.cache_store.specs.Dumping.{item_with}
 use Rattle.cache_store.specs.Said.{saying}
 use Rattle.cache_store.specs.Saying.{SaysMore, StopsIn}
-use Rattle.cache_store.proofs.DumpedItems.{item_text}
-use Rattle.cache_store.proofs.SaidMore.{of_err, of_ok, when_err}
-use Rattle.cache_store.proofs.SayingLaws.{cuts_stop, stops_here}
+use Rattle.cache_store.proofs.Dumping.DumpedItems.{item_text}
+use Rattle.cache_store.proofs.Saying.SaidMore.{of_err, of_ok, when_err}
+use Rattle.cache_store.proofs.Saying.SayingLaws.{cuts_stop, stops_here}
 use Rattle.cache_store.proofs.dump.say_item.Goals as goal
 
 pub returns-in_err-head-clause-stops : goal.returns-in_err-head-clause-stops
@@ -25,22 +25,22 @@ returns-in_err-first_chunk-clause-stops g c =
 
 pub returns-clause-said : goal.returns-clause-said
 returns-clause-said g c =
-    let m = meta_of c.args.meta.now in
+    let m = meta_of c.args.found.meta.now in
     let was = saying g.K.Sink c.args.reply.now c.args.sink.now in
     let now = saying g.K.Sink c.say_framed.new.reply c.say_framed.new.sink in
     of_ok c.say_framed.result _ _
     (λ says told content is fits. subst (λ (text : List ℕ). SaysMore was now text)
     (item_text m c.bytes.result.now c.bytes-2.result.now content (c.bytes.ensures ∙ c.in_ok-head.ensures) (c.bytes-2.ensures ∙ c.in_ok-tail.ensures))
-    (says told content (ap (λ s. standing s (Entry c.args.name.now)) (c.in_ok-first_chunk.ensures.looks.state told) ∙ is) fits))
+    (says told content (ap (λ s. standing s (Entry c.args.found.name.now)) (c.in_ok-first_chunk.ensures.looks.state told) ∙ is) fits))
     c.say_framed.ensures.said
 
 pub returns-clause-stops : goal.returns-clause-stops
 returns-clause-stops g c =
-    let m = meta_of c.args.meta.now in
+    let m = meta_of c.args.found.meta.now in
     let was = saying g.K.Sink c.args.reply.now c.args.sink.now in
     let out = g.K.Sink.taken c.say_framed.new.sink in
     of_err c.say_framed.result _ _
     (λ cuts told content is fits. subst (λ (text : List ℕ). StopsIn was out text)
     (item_text m c.bytes.result.now c.bytes-2.result.now content (c.bytes.ensures ∙ c.in_ok-head.ensures) (c.bytes-2.ensures ∙ c.in_ok-tail.ensures))
-    (cuts_stop was out _ (cuts told content (ap (λ s. standing s (Entry c.args.name.now)) (c.in_ok-first_chunk.ensures.looks.state told) ∙ is) fits)))
+    (cuts_stop was out _ (cuts told content (ap (λ s. standing s (Entry c.args.found.name.now)) (c.in_ok-first_chunk.ensures.looks.state told) ∙ is) fits)))
     c.say_framed.ensures.cut

@@ -8,8 +8,8 @@ use Rattle.disk_model.specs.State.{State}
 use Rattle.cache_store.specs.Dumping.{TakesTurn, items_from, turn_at}
 use Rattle.cache_store.specs.Said.{saying}
 use Rattle.cache_store.specs.Saying.{StopsIn}
-use Rattle.cache_store.proofs.DumpedItems.{IsLeft, after_turn, cut_turn, none_left, stops_on, takes_on, took_turn}
-use Rattle.cache_store.proofs.SaidMore.{when_err}
+use Rattle.cache_store.proofs.Dumping.DumpedItems.{IsLeft, after_turn, cut_turn, none_left, stops_on, takes_on, took_turn}
+use Rattle.cache_store.proofs.Saying.SaidMore.{when_err}
 use Rattle.cache_store.proofs.dump.say_items.Goals as goal
 
 pub returns-in_err-len-clause-stops : goal.returns-in_err-len-clause-stops

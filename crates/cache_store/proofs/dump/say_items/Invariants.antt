@@ -5,7 +5,7 @@ use Rattle.disk_model.specs.Account.{IsCalm}
 use Rattle.file_handles.specs.Kept.{kept}
 use Rattle.cache_store.specs.Dumping.{items_from}
 use Rattle.cache_store.specs.Said.{saying}
-use Rattle.cache_store.proofs.DumpedItems.{IsLeft}
+use Rattle.cache_store.proofs.Dumping.DumpedItems.{IsLeft}
 use Rattle.cache_store.proofs.dump.say_items.Given as goal
 
 -- the items of the files so far were said, and those of the others complete the whole

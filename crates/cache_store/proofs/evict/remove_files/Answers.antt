@@ -2,8 +2,8 @@ use Rattle.std.proofs.Common.{◌+◌, List, arith, drop, drop_of_length-le, rul
 use Rattle.std.proofs.lemmas.List.{drop_more}
 use Rattle.cache_base.specs.declared.name.Name.{Name}
 use Rattle.cache_store.specs.Evicting.{AreUnused, HoldsFiles}
-use Rattle.cache_store.proofs.CalmAccounts.{fault_handed_on}
-use Rattle.cache_store.proofs.NamesDoomed.{Completes, next_done, next_fails, none_left, rest_holds, rest_unused}
+use Rattle.cache_store.proofs.Performing.CalmAccounts.{fault_handed_on}
+use Rattle.cache_store.proofs.Clearing.NamesDoomed.{Completes, next_done, next_fails, none_left, rest_holds, rest_unused}
 use Rattle.file_handles.specs.Cache.{cache}
 use Rattle.file_handles.specs.Kept.{Kept, kept}
 use Rattle.file_handles.proofs.UnsyncedLaws.{then_unsynced}

@@ -1,8 +1,7 @@
 use Rattle.std.proofs.Common.{◌≡◌, ◌∙◌, ◌∷◌, [], List, ap, false, filter, refl}
-use Rattle.std.specs.List.{list_any}
+use Rattle.cache_base.specs.Names.{has_name}
 use Rattle.cache_base.specs.declared.name.Name.{Name}
-use Rattle.record_list.specs.Lists.{same_name}
-use Rattle.cache_store.proofs.FilesAmong.{those_with_files}
+use Rattle.cache_store.proofs.Clearing.FilesAmong.{those_with_files}
 use Rattle.cache_store.proofs.evict.standing.Goals as goal
 
 -- none of some names
@@ -14,9 +13,9 @@ pub returns-then-is_empty-clause-picked : goal.returns-then-is_empty-clause-pick
 returns-then-is_empty-clause-picked g c = (λ name. false, c.new-entries.ensures ∙ none_picked c.args.names.now)
 
 pub returns-clause-picked : goal.returns-clause-picked
-returns-clause-picked g c = (λ name. list_any (same_name name) c.as_slice.result.now, c.in_ok-common.ensures)
+returns-clause-picked g c = (has_name c.as_slice.result.now, c.in_ok-common.ensures)
 
 pub returns-clause-stand : goal.returns-clause-stand
 returns-clause-stand g c = λ told.
-    c.in_ok-common.ensures ∙ ap (λ (es : List Name). filter (λ name. list_any (same_name name) es) c.args.names.now) c.as_slice.ensures
+    c.in_ok-common.ensures ∙ ap (λ (es : List Name). filter (has_name es) c.args.names.now) c.as_slice.ensures
     ∙ those_with_files (g.D.Disk.state c.args.disk.now) c.entries.new.out (c.in_ok-entries.ensures.names told) c.args.names.now

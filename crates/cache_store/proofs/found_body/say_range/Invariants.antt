@@ -7,7 +7,7 @@ use Rattle.file_handles.specs.Kept.{kept}
 use Rattle.cache_store.specs.Prefix.{ForPrefix, HasChunkAt, range_of}
 use Rattle.cache_store.specs.Said.{saying}
 use Rattle.cache_store.specs.Saying.{SaysMore}
-use Rattle.cache_store.proofs.BodyRanges.{next_at}
+use Rattle.cache_store.proofs.Reading.BodyRanges.{next_at}
 use Rattle.cache_store.proofs.found_body.say_range.Given as goal
 
 -- the bytes so far were said, the chunk of the first is held until then, and nothing else was done

@@ -1,8 +1,8 @@
 use Rattle.std.proofs.Common.{◌∙◌, ◌++◌, [], append-nil, length, length-append, subst, sym, arith}
 use Rattle.std.specs.Io.KnownBytes.{Appends}
 use Rattle.std.proofs.Math.Seq.{take-append_seam}
-use Rattle.cache_store.proofs.HandedFaults.{sink_not_disk}
-use Rattle.cache_store.proofs.SaidMore.{cut_more, when_err}
+use Rattle.cache_store.proofs.Performing.HandedFaults.{sink_not_disk}
+use Rattle.cache_store.proofs.Saying.SaidMore.{cut_more, when_err}
 use Rattle.cache_store.proofs.found_body.turn_to.Goals as goal
 
 pub returns-in_err-send-clause-cut : goal.returns-in_err-send-clause-cut

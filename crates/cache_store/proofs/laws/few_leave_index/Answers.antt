@@ -1,4 +1,4 @@
-use Rattle.cache_store.proofs.InUseLaws as laws
+use Rattle.cache_store.proofs.Records.InUseLaws as laws
 use Rattle.cache_store.proofs.laws.few_leave_index.Goals as goal
 
 pub returns-clause-spared : goal.returns-clause-spared

@@ -1,4 +1,4 @@
-use Rattle.cache_store.proofs.RecordsAtEnd as laws
+use Rattle.cache_store.proofs.Records.RecordsAtEnd as laws
 use Rattle.cache_store.proofs.laws.records_at_end_are_one.Goals as goal
 
 pub returns : goal.returns

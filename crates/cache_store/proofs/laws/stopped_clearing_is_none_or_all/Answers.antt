@@ -1,4 +1,4 @@
-use Rattle.cache_store.proofs.ClearedLaws as laws
+use Rattle.cache_store.proofs.Clearing.ClearedLaws as laws
 use Rattle.cache_store.proofs.laws.stopped_clearing_is_none_or_all.Goals as goal
 
 pub returns-clause-stopped : goal.returns-clause-stopped

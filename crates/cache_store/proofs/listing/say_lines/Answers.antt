@@ -4,8 +4,8 @@ use Rattle.std.proofs.lemmas.List.{take-append-drop}
 use Rattle.cache_theory.specs.Text.{line, spaced}
 use Rattle.cache_store.specs.Said.{saying}
 use Rattle.cache_store.specs.Saying.{CutsIn, SaysMore}
-use Rattle.cache_store.proofs.SaidFront.{cuts_before, cuts_part, says_part}
-use Rattle.cache_store.proofs.SaidMore.{when_err}
+use Rattle.cache_store.proofs.Saying.SaidFront.{cuts_before, cuts_part, says_part}
+use Rattle.cache_store.proofs.Saying.SaidMore.{when_err}
 use Rattle.cache_store.proofs.listing.say_lines.Goals as goal
 
 -- a list in two parts

@@ -1,6 +1,6 @@
 use Rattle.std.proofs.Common.{◌≡◌, length}
 use Rattle.cache_store.specs.Said.{saying}
-use Rattle.cache_store.proofs.SaidFront.{SaysFront}
+use Rattle.cache_store.proofs.Saying.SaidFront.{SaysFront}
 use Rattle.cache_theory.specs.Text.{line}
 use Rattle.cache_store.proofs.listing.say_lines.Given as goal
 

@@ -4,8 +4,8 @@ use Rattle.cache_theory.specs.Text.{spaced, with_number}
 use Rattle.cache_store.specs.Said.{saying}
 use Rattle.cache_store.specs.Saying.{CutsIn, SaysMore}
 use Rattle.cache_store.specs.Texts.{lines}
-use Rattle.cache_store.proofs.SaidMore.{of_err, when_err}
-use Rattle.cache_store.proofs.SayingLaws.{cuts_front, cuts_line, cuts_then}
+use Rattle.cache_store.proofs.Saying.SaidMore.{of_err, when_err}
+use Rattle.cache_store.proofs.Saying.SayingLaws.{cuts_front, cuts_line, cuts_then}
 use Rattle.cache_store.proofs.listing.say_listing.Goals as goal
 
 pub returns-in_err-head-clause-cut : goal.returns-in_err-head-clause-cut

@@ -1,4 +1,4 @@
-use Rattle.cache_store.proofs.ScanBegins.{scan_tells}
+use Rattle.cache_store.proofs.Sessions.ScanBegins.{scan_tells}
 use Rattle.cache_store.proofs.memory_index.scan.Goals as goal
 
 pub returns-clause-tells : goal.returns-clause-tells

@@ -2,9 +2,9 @@ use Rattle.std.proofs.Common.{◌∙◌, sym, IsTrue}
 use Rattle.disk_model.specs.State.{standing}
 use Rattle.index_theory.specs.Start.{start_of}
 use Rattle.startup_read.proofs.KeptLaws.{unready_sees_none}
-use Rattle.cache_store.proofs.BasedIndex.{begins_on, begun_based, begun_on, opens_based}
-use Rattle.cache_store.proofs.BegunIndex.{begun_holds, begun_rest, begun_tells, build_unready, ready_rest, same_opens_honest, update_unready}
-use Rattle.cache_store.proofs.OpenedIndex.{opened_entries}
+use Rattle.cache_store.proofs.Sessions.BasedIndex.{begins_on, begun_based, begun_on, opens_based}
+use Rattle.cache_store.proofs.Sessions.BegunIndex.{begun_holds, begun_rest, begun_tells, build_unready, ready_rest, same_opens_honest, update_unready}
+use Rattle.cache_store.proofs.Sessions.OpenedIndex.{opened_entries}
 use Rattle.cache_store.proofs.opening.begin_index.Goals as goal
 
 pub returns-in-Ready-clause-rest : goal.returns-in-Ready-clause-rest

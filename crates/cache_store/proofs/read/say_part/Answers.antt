@@ -3,9 +3,9 @@ use Rattle.cache_theory.specs.Machine.{object_of}
 use Rattle.file_handles.specs.Reading.{part_of_body}
 use Rattle.cache_store.specs.Said.{saying}
 use Rattle.cache_store.specs.Saying.{CutsIn, SaysMore}
-use Rattle.cache_store.proofs.PartWhole.{part_short}
-use Rattle.cache_store.proofs.SaidMore.{when_err}
-use Rattle.cache_store.proofs.SayingLaws.{cut_part, cuts_stop, says_then, stops_here}
+use Rattle.cache_store.proofs.Reading.PartWhole.{part_short}
+use Rattle.cache_store.proofs.Saying.SaidMore.{when_err}
+use Rattle.cache_store.proofs.Saying.SayingLaws.{cut_part, cuts_stop, says_then, stops_here}
 use Rattle.cache_store.proofs.read.say_part.Goals as goal
 
 pub returns-in_err-put-in-Ok-clause-stops : goal.returns-in_err-put-in-Ok-clause-stops
@@ -13,7 +13,7 @@ returns-in_err-put-in-Ok-clause-stops g c =
     let was = saying g.K.Sink c.args.reply.now c.args.sink.now in
     let out = g.K.Sink.taken c.put.new.sink in
     when_err c.from_residual.result _ (λ told m represents.
-    let part = part_of_body (object_of m c.args.slot).version.body c.args.from c.args.len in
+    let part = part_of_body (object_of m c.args.span.slot).version.body c.args.span.from c.args.span.len in
     cuts_stop was out part (subst (λ (t : List ℕ). CutsIn was out t) (c.in-Ok.ensures.part told m represents) c.in_err-put-in-Ok.ensures.cut))
 
 pub returns-in_err-send_before-in-Ok-clause-stops : goal.returns-in_err-send_before-in-Ok-clause-stops
@@ -22,7 +22,7 @@ returns-in_err-send_before-in-Ok-clause-stops g c =
     let mid = saying g.K.Sink c.put.new.self c.put.new.sink in
     let out = g.K.Sink.taken c.send_before.new.sink in
     when_err c.from_residual-in_err-send_before-in-Ok.result _ (λ told m represents before text said.
-    let part = part_of_body (object_of m c.args.slot).version.body c.args.from c.args.len in
+    let part = part_of_body (object_of m c.args.span.slot).version.body c.args.span.from c.args.span.len in
     let says : SaysMore was mid part = subst (λ (t : List ℕ). SaysMore was mid t) (c.in-Ok.ensures.part told m represents) c.in_ok-put-in-Ok.ensures.said in
     cut_part before out (text ++ part) (c.in_err-send_before-in-Ok.ensures.cut before (text ++ part) (says before text said)))
 
@@ -31,11 +31,11 @@ returns-in_ok-send_before-in-Ok-clause-says g c told m represents =
     let was = saying g.K.Sink c.args.reply.now c.args.sink.now in
     let mid = saying g.K.Sink c.put.new.self c.put.new.sink in
     let now = saying g.K.Sink c.send_before.new.self c.send_before.new.sink in
-    let body : List ℕ = (object_of m c.args.slot).version.body in
-    let part = part_of_body body c.args.from c.args.len in
+    let body : List ℕ = (object_of m c.args.span.slot).version.body in
+    let part = part_of_body body c.args.span.from c.args.span.len in
     let is = c.in-Ok.ensures.part told m represents in
     let long = ap length is in
-    let short = part_short body c.args.from c.args.len in
+    let short = part_short body c.args.span.from c.args.span.len in
     let least = c.min-n.ensures in
     let says : SaysMore was mid part = subst (λ (t : List ℕ). SaysMore was mid t) is c.in_ok-put-in-Ok.ensures.said in
     record {
@@ -44,4 +44,4 @@ returns-in_ok-send_before-in-Ok-clause-says g c told m represents =
     }
 
 pub returns-in-Err-clause-stops : goal.returns-in-Err-clause-stops
-returns-in-Err-clause-stops g c told m represents = stops_here (saying g.K.Sink c.args.reply.now c.args.sink.now) (part_of_body (object_of m c.args.slot).version.body c.args.from c.args.len)
+returns-in-Err-clause-stops g c told m represents = stops_here (saying g.K.Sink c.args.reply.now c.args.sink.now) (part_of_body (object_of m c.args.span.slot).version.body c.args.span.from c.args.span.len)

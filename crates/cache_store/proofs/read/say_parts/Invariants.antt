@@ -8,23 +8,24 @@ use Rattle.cache_store.specs.Said.{saying}
 use Rattle.cache_store.specs.Saying.{SaysMore}
 use Rattle.cache_store.proofs.read.say_parts.Given as goal
 
--- the bytes so far were said, of them the first part at least, and nothing else was done; before more is said all is out
+-- the bytes so far were said, of them the first part at least, and nothing else was done; before more is said all is
+-- out
 abbrev pub invariant-loop-done : goal.invariant-loop-done
 invariant-loop-done g l = record {
-  bound : l.done ≤ l.len;
-  says : IsTrue g.D.Disk.tells → ForBody (cache g.D.Disk l.fn.handles l.fn.disk) l.slot (λ body.
-      SaysMore (saying g.K.Sink l.fn.reply l.fn.sink) (saying g.K.Sink l.reply l.sink) (take l.done (drop l.from body)));
+  bound : l.done ≤ l.span.len;
+  says : IsTrue g.D.Disk.tells → ForBody (cache g.D.Disk l.fn.handles l.fn.disk) l.span.slot (λ body.
+      SaysMore (saying g.K.Sink l.fn.reply l.fn.sink) (saying g.K.Sink l.reply l.sink) (take l.done (drop l.span.from body)));
   start : l.done ≡ 0 → kept l.handles ≡ kept l.fn.handles;
-  out : 0 < l.done → l.done < l.len → l.reply.held ≡ [];
-  long : IsTrue g.D.Disk.tells → ForBody (cache g.D.Disk l.fn.handles l.fn.disk) l.slot (λ body. 0 < l.done → length (part_of_body body l.from l.len) ≤ l.done);
+  out : 0 < l.done → l.done < l.span.len → l.reply.held ≡ [];
+  long : IsTrue g.D.Disk.tells → ForBody (cache g.D.Disk l.fn.handles l.fn.disk) l.span.slot (λ body. 0 < l.done → length (part_of_body body l.span.from l.span.len) ≤ l.done);
   same : SameButChunks (kept l.fn.handles) (kept l.handles);
   holds : IsTrue g.D.Disk.tells → HoldsAsBefore (cache g.D.Disk l.fn.handles l.fn.disk) (kept l.handles);
-  held : AreHeld (kept l.fn.handles) l.slot l.from l.len → (l.disk ≡ l.fn.disk) × LosesNone (kept l.fn.handles) (kept l.handles);
-  recent : IsTrue g.D.Disk.tells → LastIsFirst (kept l.fn.handles) l.slot l.from l.done (kept l.handles);
+  held : AreHeld (kept l.fn.handles) l.span.slot l.span.from l.span.len → (l.disk ≡ l.fn.disk) × LosesNone (kept l.fn.handles) (kept l.handles);
+  recent : IsTrue g.D.Disk.tells → LastIsFirst (kept l.fn.handles) l.span.slot l.span.from l.done (kept l.handles);
   state : IsTrue g.D.Disk.tells → g.D.Disk.state l.disk ≡ g.D.Disk.state l.fn.disk;
   calm : IsCalm g.D.Disk l.fn.disk l.disk;
   sink : g.K.Sink.faults l.sink ≡ g.K.Sink.faults l.fn.sink;
 }
 
 abbrev pub decreases-loop-done : goal.decreases-loop-done
-decreases-loop-done g l = l.len - l.done
+decreases-loop-done g l = l.span.len - l.done

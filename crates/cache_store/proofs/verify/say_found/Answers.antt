@@ -1,4 +1,4 @@
-use Rattle.cache_store.proofs.SaidMore.{when_err}
+use Rattle.cache_store.proofs.Saying.SaidMore.{when_err}
 use Rattle.cache_store.proofs.verify.say_found.Goals as goal
 
 pub returns-in_err-say_listing-clause-cut : goal.returns-in_err-say_listing-clause-cut

@@ -1,4 +1,4 @@
-use Rattle.cache_theory.proofs.Unpublished as laws
+use Rattle.cache_theory.proofs.CrashImages.Unpublished as laws
 use Rattle.cache_theory.proofs.laws.changes_leave_unpublished.Goals as goal
 
 pub returns-clause-new : goal.returns-clause-new

@@ -1,7 +1,7 @@
-use Rattle.cache_theory.proofs.Clearing as laws
-use Rattle.cache_theory.proofs.MarkStays as marks
-use Rattle.cache_theory.proofs.Covering.{record_tells_covered}
-use Rattle.cache_theory.proofs.Evicting.{doomed_are_lost}
+use Rattle.cache_theory.proofs.Clears.Clearing as laws
+use Rattle.cache_theory.proofs.Clears.MarkStays as marks
+use Rattle.cache_theory.proofs.Clears.Covering.{record_tells_covered}
+use Rattle.cache_theory.proofs.Evictions.Evicting.{doomed_are_lost}
 use Rattle.cache_theory.proofs.laws.clear_goes_by_scan.Goals as goal
 
 pub returns-clause-same : goal.returns-clause-same

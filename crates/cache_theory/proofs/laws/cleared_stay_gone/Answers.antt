@@ -1,6 +1,6 @@
-use Rattle.cache_theory.proofs.ClearedNames as names
-use Rattle.cache_theory.proofs.ClearedGone as gone
-use Rattle.cache_theory.proofs.SparedObjects as spared
+use Rattle.cache_theory.proofs.Clears.ClearedNames as names
+use Rattle.cache_theory.proofs.Clears.ClearedGone as gone
+use Rattle.cache_theory.proofs.Clears.SparedObjects as spared
 use Rattle.cache_theory.proofs.laws.cleared_stay_gone.Goals as goal
 
 pub returns : goal.returns

@@ -1,4 +1,4 @@
-use Rattle.cache_theory.proofs.EvictNames as laws
+use Rattle.cache_theory.proofs.Evictions.EvictNames as laws
 use Rattle.cache_theory.proofs.laws.evict_is_of_names.Goals as goal
 
 pub returns-clause-same : goal.returns-clause-same

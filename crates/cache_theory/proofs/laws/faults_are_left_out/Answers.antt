@@ -1,5 +1,5 @@
-use Rattle.cache_theory.proofs.FaultedMarks as marks
-use Rattle.cache_theory.proofs.FaultedOn as on
+use Rattle.cache_theory.proofs.Faults.FaultedMarks as marks
+use Rattle.cache_theory.proofs.Faults.FaultedOn as on
 use Rattle.cache_theory.proofs.laws.faults_are_left_out.Goals as goal
 
 pub returns-clause-front : goal.returns-clause-front

@@ -1,7 +1,7 @@
-use Rattle.cache_theory.proofs.FaultedCuts as cuts
-use Rattle.cache_theory.proofs.FaultedRead as read
-use Rattle.cache_theory.proofs.FaultedTold as told
-use Rattle.cache_theory.proofs.RepliesApart as apart
+use Rattle.cache_theory.proofs.Faults.FaultedCuts as cuts
+use Rattle.cache_theory.proofs.Faults.FaultedRead as read
+use Rattle.cache_theory.proofs.Faults.FaultedTold as told
+use Rattle.cache_theory.proofs.Faults.RepliesApart as apart
 use Rattle.cache_theory.proofs.laws.faults_are_told.Goals as goal
 
 pub returns-clause-reply : goal.returns-clause-reply

@@ -1,6 +1,6 @@
-use Rattle.cache_theory.proofs.LoadedBack as back
-use Rattle.cache_theory.proofs.StockedShelf as shelf
-use Rattle.cache_theory.proofs.WrittenItems as written
+use Rattle.cache_theory.proofs.Loading.LoadedBack as back
+use Rattle.cache_theory.proofs.Loading.StockedShelf as shelf
+use Rattle.cache_theory.proofs.Loading.WrittenItems as written
 use Rattle.cache_theory.proofs.laws.items_are_stocked.Goals as goal
 
 pub returns-clause-stocked : goal.returns-clause-stocked

@@ -1,5 +1,5 @@
 use Rattle.std.proofs.Common.{◌∙◌, ◌/◌, ap, arith, take}
-use Rattle.cache_tool.proofs.FillTexts.{part_of}
+use Rattle.cache_tool.proofs.Fills.FillTexts.{part_of}
 use Rattle.cache_tool.proofs.fill.body.Goals as goal
 
 pub returns : goal.returns

@@ -1,6 +1,6 @@
 use Rattle.cache_store.specs.Session.{session}
 use Rattle.cache_tool.specs.HeldReply.{said_in}
-use Rattle.cache_tool.proofs.FillHalf.{half_evicted, half_fails, half_handed, half_ok}
+use Rattle.cache_tool.proofs.Fills.FillHalf.{half_evicted, half_fails, half_handed, half_ok}
 use Rattle.cache_tool.proofs.Handed.{handed_open}
 use Rattle.cache_tool.proofs.fill.evict_half.Goals as goal
 

@@ -4,10 +4,10 @@ use Rattle.cache_store.specs.Session.{session}
 use Rattle.cache_theory.specs.History.{acked, settled_at}
 use Rattle.cache_tool.specs.Statuses.{status_in}
 use Rattle.cache_tool.specs.World.{output}
-use Rattle.cache_tool.proofs.FillEnds.{answered, answers_only, ends_so, not_answered, prints_so}
+use Rattle.cache_tool.proofs.Fills.FillEnds.{answered, answers_only, ends_so, not_answered, prints_so}
 use Rattle.cache_tool.proofs.Growing.{takes_none, takes_part}
 use Rattle.cache_tool.proofs.OneCommand.{not_begun}
-use Rattle.cache_tool.proofs.PutEnds.{Printed, disk_cause, ended_no_sink, never_sink, put_stops}
+use Rattle.cache_tool.proofs.Puts.PutEnds.{Printed, disk_cause, ended_no_sink, never_sink, put_stops}
 use Rattle.cache_tool.proofs.SessionEnds.{resumed_done}
 use Rattle.cache_tool.proofs.StatusLaws.{no_answer}
 use Rattle.cache_tool.proofs.fill.fill.Goals as goal

@@ -3,7 +3,7 @@ use Rattle.cache_store.specs.Session.{session}
 use Rattle.cache_theory.specs.Command.Command.{Flush}
 use Rattle.cache_tool.specs.Fill.{entries_commands, making_commands}
 use Rattle.cache_tool.specs.HeldReply.{said_in}
-use Rattle.cache_tool.proofs.FillRuns.{run_fails, run_handed, run_ok, run_one, run_then}
+use Rattle.cache_tool.proofs.Fills.FillRuns.{run_fails, run_handed, run_ok, run_one, run_then}
 use Rattle.cache_tool.proofs.Handed.{handed_open}
 use Rattle.cache_tool.proofs.fill.make_all.Goals as goal
 

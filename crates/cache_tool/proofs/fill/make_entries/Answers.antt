@@ -2,7 +2,7 @@ use Rattle.std.proofs.Common.{◌∙◌, ◌+◌, ap, arith, refl, sym}
 use Rattle.cache_store.specs.Session.{session}
 use Rattle.cache_tool.specs.Fill.{entries_commands, next_number}
 use Rattle.file_handles.proofs.Accounting.{calm_then}
-use Rattle.cache_tool.proofs.FillRuns.{entries_fail, entries_then, number_next, run_never, run_none}
+use Rattle.cache_tool.proofs.Fills.FillRuns.{entries_fail, entries_then, number_next, run_never, run_none}
 use Rattle.cache_tool.proofs.RightLaws.{open_leaves_honest}
 use Rattle.cache_tool.proofs.fill.make_entries.Goals as goal
 

@@ -5,7 +5,7 @@ use Rattle.cache_store.specs.Faults.{ending, fault_ending}
 use Rattle.cache_store.specs.Session.{session}
 use Rattle.cache_tool.specs.Fill.{entry_commands, key_of}
 use Rattle.cache_tool.specs.HeldReply.{said_in}
-use Rattle.cache_tool.proofs.FillRuns.{appending_fails, closing_fails, creating_fails, entry_made, run_never, timing_fails}
+use Rattle.cache_tool.proofs.Fills.FillRuns.{appending_fails, closing_fails, creating_fails, entry_made, run_never, timing_fails}
 use Rattle.cache_tool.proofs.Handed.{handed_on}
 use Rattle.cache_tool.proofs.RightLaws.{open_leaves_honest}
 use Rattle.disk_model.specs.Account.{Accounts, Ending}

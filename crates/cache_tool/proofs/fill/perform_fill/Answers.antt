@@ -4,7 +4,7 @@ use Rattle.cache_store.specs.Session.{session}
 use Rattle.cache_theory.specs.Text.{with_number}
 use Rattle.cache_tool.specs.FirstLine.{first_line}
 use Rattle.cache_tool.specs.HeldReply.{said_in}
-use Rattle.cache_tool.proofs.FillWhole.{checked_fails, checked_keeps, evicted_fails, fill_performed, listed_fails, nothing_fails, unevicted_fails}
+use Rattle.cache_tool.proofs.Fills.FillWhole.{checked_fails, checked_keeps, evicted_fails, fill_performed, listed_fails, nothing_fails, unevicted_fails}
 use Rattle.cache_tool.proofs.RightLaws.{open_leaves_honest}
 use Rattle.cache_tool.proofs.fill.perform_fill.Goals as goal
 

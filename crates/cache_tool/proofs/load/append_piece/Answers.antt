@@ -2,7 +2,7 @@ use Rattle.std.proofs.Common.{[], ◌∷◌, refl}
 use Rattle.cache_store.specs.Session.{session}
 use Rattle.cache_theory.specs.Command.Command.{Append}
 use Rattle.cache_tool.specs.HeldReply.{said_in}
-use Rattle.cache_tool.proofs.FillRuns.{run_handed, run_ok, run_one, run_same}
+use Rattle.cache_tool.proofs.Fills.FillRuns.{run_handed, run_ok, run_one, run_same}
 use Rattle.cache_tool.proofs.Handed.{handed_open}
 use Rattle.cache_tool.proofs.load.append_piece.Goals as goal
 

@@ -3,7 +3,7 @@ use Rattle.cache_store.specs.Session.{session}
 use Rattle.cache_theory.specs.Command.Command.{Close, FinishAs}
 use Rattle.cache_tool.specs.HeldReply.{said_in}
 use Rattle.cache_tool.specs.LoadProgress.{finish_commands}
-use Rattle.cache_tool.proofs.FillRuns.{run_fails, run_handed, run_ok, run_one, run_then}
+use Rattle.cache_tool.proofs.Fills.FillRuns.{run_fails, run_handed, run_ok, run_one, run_then}
 use Rattle.cache_tool.proofs.Handed.{handed_open}
 use Rattle.cache_tool.proofs.load.finish_entry.Goals as goal
 

@@ -6,9 +6,9 @@ use Rattle.cache_store.specs.Session.{session}
 use Rattle.cache_tool.specs.Statuses.{status_in}
 use Rattle.cache_tool.specs.World.{output, world}
 use Rattle.cache_tool.proofs.Growing.{takes_none}
-use Rattle.cache_tool.proofs.LoadEnds.{SaysLine, came_end, line_or_source_closes, line_said, load_ends, loads_told, never_ends, no_line, none_said, none_told, says_bad, says_loaded}
+use Rattle.cache_tool.proofs.Loads.LoadEnds.{SaysLine, came_end, line_or_source_closes, line_said, load_ends, loads_told, never_ends, no_line, none_said, none_told, says_bad, says_loaded}
 use Rattle.cache_tool.proofs.OneCommand.{not_begun}
-use Rattle.cache_tool.proofs.PutEnds.{closing_cause, put_stops, source_came}
+use Rattle.cache_tool.proofs.Puts.PutEnds.{closing_cause, put_stops, source_came}
 use Rattle.cache_tool.proofs.SessionEnds.{resumed_done}
 use Rattle.cache_tool.proofs.load.load.Goals as goal
 

@@ -2,18 +2,18 @@
 use Rattle.std.proofs.Common.{◌∙◌, IsTrue, ap, arith, refl, subst}
 use Rattle.std.specs.Prelude.{Err, IfErr, Ok}
 use Rattle.cache_export.specs.Parts.{Part}
-use Rattle.cache_export.specs.Reader.{BreaksOff, Leaves, Refuses}
+use Rattle.cache_export.specs.Reader.{BreaksOff, LeavesReader, Refuses}
 use Rattle.cache_store.specs.Session.{session}
 use Rattle.cache_store.specs.declared.fault.StoreFault.TheVariants as fault
 use Rattle.cache_tool.proofs.Handed.{handed_open}
-use Rattle.cache_tool.proofs.LoadTurns.{part_further, turn_bad, turn_ends, turn_failed, turn_fails, turn_on, turn_stops}
+use Rattle.cache_tool.proofs.Loads.LoadTurns.{part_further, turn_bad, turn_ends, turn_failed, turn_fails, turn_on, turn_stops}
 use Rattle.cache_tool.proofs.RightLaws.{open_leaves_honest}
 use Rattle.entry_metadata.specs.Meta.{meta_of}
 use Rattle.cache_tool.proofs.load.load_next.Goals as goal
 
 pub returns-in_err-begin_entry-in-Ok-Key-clause-loads : goal.returns-in_err-begin_entry-in-Ok-Key-clause-loads
 returns-in_err-begin_entry-in-Ok-Key-clause-loads g c =
-    let gives = subst (Leaves c.args.reader.now c.next.new.self (g.S.Source.left c.args.source.now) (g.S.Source.left c.next.new.source)) (c.in-Ok-Key.is ∙ ap (λ x. Ok x) c.in-Ok-Key.field-0-is) c.next.ensures.leaves in
+    let gives = subst (LeavesReader c.args.reader.now c.next.new.self (g.S.Source.left c.args.source.now) (g.S.Source.left c.next.new.source)) (c.in-Ok-Key.is ∙ ap (λ x. Ok x) c.in-Ok-Key.field-0-is) c.next.ensures.leaves in
     turn_fails (IsTrue g.D.Disk.tells) c.args.reader.now c.next.new.self c.args.count.now (g.S.Source.left c.args.source.now) (g.S.Source.left c.next.new.source) (session g.D.Disk c.args.store.now c.args.disk.now) (session g.D.Disk c.begin_entry.new.store c.begin_entry.new.disk) (Part.KeyPart c.in-Ok-Key.key) 0 refl gives c.in_err-begin_entry-in-Ok-Key.field-0.0 c.from_residual.result _ c.from_residual.ensures.1 c.in_err-begin_entry-in-Ok-Key.ensures.runs
 
 pub returns-in_err-begin_entry-in-Ok-Key-clause-open : goal.returns-in_err-begin_entry-in-Ok-Key-clause-open
@@ -21,23 +21,23 @@ returns-in_err-begin_entry-in-Ok-Key-clause-open g c = λ told. handed_open c.fr
 
 pub returns-in_ok-begin_entry-in-Ok-Key-clause-loads : goal.returns-in_ok-begin_entry-in-Ok-Key-clause-loads
 returns-in_ok-begin_entry-in-Ok-Key-clause-loads g c =
-    let gives = subst (Leaves c.args.reader.now c.next.new.self (g.S.Source.left c.args.source.now) (g.S.Source.left c.next.new.source)) (c.in-Ok-Key.is ∙ ap (λ x. Ok x) c.in-Ok-Key.field-0-is) c.next.ensures.leaves in
+    let gives = subst (LeavesReader c.args.reader.now c.next.new.self (g.S.Source.left c.args.source.now) (g.S.Source.left c.next.new.source)) (c.in-Ok-Key.is ∙ ap (λ x. Ok x) c.in-Ok-Key.field-0-is) c.next.ensures.leaves in
     turn_on (IsTrue g.D.Disk.tells) c.args.reader.now c.next.new.self c.args.count.now (g.S.Source.left c.args.source.now) (g.S.Source.left c.next.new.source) (session g.D.Disk c.args.store.now c.args.disk.now) (session g.D.Disk c.begin_entry.new.store c.begin_entry.new.disk) (Part.KeyPart c.in-Ok-Key.key) 0 refl gives _ (omega arith) c.in_ok-begin_entry-in-Ok-Key.ensures.runs
 
 pub returns-in_ok-begin_entry-in-Ok-Key-clause-few : goal.returns-in_ok-begin_entry-in-Ok-Key-clause-few
 returns-in_ok-begin_entry-in-Ok-Key-clause-few g c = λ is.
-    let gives = subst (Leaves c.args.reader.now c.next.new.self (g.S.Source.left c.args.source.now) (g.S.Source.left c.next.new.source)) (c.in-Ok-Key.is ∙ ap (λ x. Ok x) c.in-Ok-Key.field-0-is) c.next.ensures.leaves in
+    let gives = subst (LeavesReader c.args.reader.now c.next.new.self (g.S.Source.left c.args.source.now) (g.S.Source.left c.next.new.source)) (c.in-Ok-Key.is ∙ ap (λ x. Ok x) c.in-Ok-Key.field-0-is) c.next.ensures.leaves in
     let more = (part_further c.args.reader.now c.next.new.self (g.S.Source.left c.args.source.now) (g.S.Source.left c.next.new.source) (Part.KeyPart c.in-Ok-Key.key) 0 c.args.count.now gives (omega arith) c.requires.few).1 in
     omega (arith, more)
 
 pub returns-in_ok-begin_entry-in-Ok-Key-clause-further : goal.returns-in_ok-begin_entry-in-Ok-Key-clause-further
 returns-in_ok-begin_entry-in-Ok-Key-clause-further g c = λ is.
-    let gives = subst (Leaves c.args.reader.now c.next.new.self (g.S.Source.left c.args.source.now) (g.S.Source.left c.next.new.source)) (c.in-Ok-Key.is ∙ ap (λ x. Ok x) c.in-Ok-Key.field-0-is) c.next.ensures.leaves in
+    let gives = subst (LeavesReader c.args.reader.now c.next.new.self (g.S.Source.left c.args.source.now) (g.S.Source.left c.next.new.source)) (c.in-Ok-Key.is ∙ ap (λ x. Ok x) c.in-Ok-Key.field-0-is) c.next.ensures.leaves in
     (part_further c.args.reader.now c.next.new.self (g.S.Source.left c.args.source.now) (g.S.Source.left c.next.new.source) (Part.KeyPart c.in-Ok-Key.key) 0 c.args.count.now gives (omega arith) c.requires.few).0
 
 pub returns-in_err-append_piece-in-Ok-Piece-clause-loads : goal.returns-in_err-append_piece-in-Ok-Piece-clause-loads
 returns-in_err-append_piece-in-Ok-Piece-clause-loads g c =
-    let gives = subst (Leaves c.args.reader.now c.next.new.self (g.S.Source.left c.args.source.now) (g.S.Source.left c.next.new.source)) (c.in-Ok-Piece.is ∙ ap (λ x. Ok x) c.in-Ok-Piece.field-0-is) c.next.ensures.leaves in
+    let gives = subst (LeavesReader c.args.reader.now c.next.new.self (g.S.Source.left c.args.source.now) (g.S.Source.left c.next.new.source)) (c.in-Ok-Piece.is ∙ ap (λ x. Ok x) c.in-Ok-Piece.field-0-is) c.next.ensures.leaves in
     turn_fails (IsTrue g.D.Disk.tells) c.args.reader.now c.next.new.self c.args.count.now (g.S.Source.left c.args.source.now) (g.S.Source.left c.next.new.source) (session g.D.Disk c.args.store.now c.args.disk.now) (session g.D.Disk c.append_piece.new.store c.append_piece.new.disk) (Part.PiecePart c.in-Ok-Piece.piece) 0 refl gives c.in_err-append_piece-in-Ok-Piece.field-0.0 c.from_residual-in_err-append_piece-in-Ok-Piece.result _ c.from_residual-in_err-append_piece-in-Ok-Piece.ensures.1 c.in_err-append_piece-in-Ok-Piece.ensures.runs
 
 pub returns-in_err-append_piece-in-Ok-Piece-clause-open : goal.returns-in_err-append_piece-in-Ok-Piece-clause-open
@@ -45,23 +45,23 @@ returns-in_err-append_piece-in-Ok-Piece-clause-open g c = λ told. handed_open c
 
 pub returns-in_ok-append_piece-in-Ok-Piece-clause-loads : goal.returns-in_ok-append_piece-in-Ok-Piece-clause-loads
 returns-in_ok-append_piece-in-Ok-Piece-clause-loads g c =
-    let gives = subst (Leaves c.args.reader.now c.next.new.self (g.S.Source.left c.args.source.now) (g.S.Source.left c.next.new.source)) (c.in-Ok-Piece.is ∙ ap (λ x. Ok x) c.in-Ok-Piece.field-0-is) c.next.ensures.leaves in
+    let gives = subst (LeavesReader c.args.reader.now c.next.new.self (g.S.Source.left c.args.source.now) (g.S.Source.left c.next.new.source)) (c.in-Ok-Piece.is ∙ ap (λ x. Ok x) c.in-Ok-Piece.field-0-is) c.next.ensures.leaves in
     turn_on (IsTrue g.D.Disk.tells) c.args.reader.now c.next.new.self c.args.count.now (g.S.Source.left c.args.source.now) (g.S.Source.left c.next.new.source) (session g.D.Disk c.args.store.now c.args.disk.now) (session g.D.Disk c.append_piece.new.store c.append_piece.new.disk) (Part.PiecePart c.in-Ok-Piece.piece) 0 refl gives _ (omega arith) c.in_ok-append_piece-in-Ok-Piece.ensures.runs
 
 pub returns-in_ok-append_piece-in-Ok-Piece-clause-few : goal.returns-in_ok-append_piece-in-Ok-Piece-clause-few
 returns-in_ok-append_piece-in-Ok-Piece-clause-few g c = λ is.
-    let gives = subst (Leaves c.args.reader.now c.next.new.self (g.S.Source.left c.args.source.now) (g.S.Source.left c.next.new.source)) (c.in-Ok-Piece.is ∙ ap (λ x. Ok x) c.in-Ok-Piece.field-0-is) c.next.ensures.leaves in
+    let gives = subst (LeavesReader c.args.reader.now c.next.new.self (g.S.Source.left c.args.source.now) (g.S.Source.left c.next.new.source)) (c.in-Ok-Piece.is ∙ ap (λ x. Ok x) c.in-Ok-Piece.field-0-is) c.next.ensures.leaves in
     let more = (part_further c.args.reader.now c.next.new.self (g.S.Source.left c.args.source.now) (g.S.Source.left c.next.new.source) (Part.PiecePart c.in-Ok-Piece.piece) 0 c.args.count.now gives (omega arith) c.requires.few).1 in
     omega (arith, more)
 
 pub returns-in_ok-append_piece-in-Ok-Piece-clause-further : goal.returns-in_ok-append_piece-in-Ok-Piece-clause-further
 returns-in_ok-append_piece-in-Ok-Piece-clause-further g c = λ is.
-    let gives = subst (Leaves c.args.reader.now c.next.new.self (g.S.Source.left c.args.source.now) (g.S.Source.left c.next.new.source)) (c.in-Ok-Piece.is ∙ ap (λ x. Ok x) c.in-Ok-Piece.field-0-is) c.next.ensures.leaves in
+    let gives = subst (LeavesReader c.args.reader.now c.next.new.self (g.S.Source.left c.args.source.now) (g.S.Source.left c.next.new.source)) (c.in-Ok-Piece.is ∙ ap (λ x. Ok x) c.in-Ok-Piece.field-0-is) c.next.ensures.leaves in
     (part_further c.args.reader.now c.next.new.self (g.S.Source.left c.args.source.now) (g.S.Source.left c.next.new.source) (Part.PiecePart c.in-Ok-Piece.piece) 0 c.args.count.now gives (omega arith) c.requires.few).0
 
 pub returns-in_err-finish_entry-in-Ok-Block-clause-loads : goal.returns-in_err-finish_entry-in-Ok-Block-clause-loads
 returns-in_err-finish_entry-in-Ok-Block-clause-loads g c =
-    let gives = subst (Leaves c.args.reader.now c.next.new.self (g.S.Source.left c.args.source.now) (g.S.Source.left c.next.new.source)) (c.in-Ok-Block.is ∙ ap (λ x. Ok x) c.in-Ok-Block.field-0-is) c.next.ensures.leaves in
+    let gives = subst (LeavesReader c.args.reader.now c.next.new.self (g.S.Source.left c.args.source.now) (g.S.Source.left c.next.new.source)) (c.in-Ok-Block.is ∙ ap (λ x. Ok x) c.in-Ok-Block.field-0-is) c.next.ensures.leaves in
     turn_fails (IsTrue g.D.Disk.tells) c.args.reader.now c.next.new.self c.args.count.now (g.S.Source.left c.args.source.now) (g.S.Source.left c.next.new.source) (session g.D.Disk c.args.store.now c.args.disk.now) (session g.D.Disk c.finish_entry.new.store c.finish_entry.new.disk) (Part.BlockPart (meta_of c.in-Ok-Block.meta)) 1 refl gives c.in_err-finish_entry-in-Ok-Block.field-0.0 c.from_residual-in_err-finish_entry-in-Ok-Block.result _ c.from_residual-in_err-finish_entry-in-Ok-Block.ensures.1 c.in_err-finish_entry-in-Ok-Block.ensures.runs
 
 pub returns-in_err-finish_entry-in-Ok-Block-clause-open : goal.returns-in_err-finish_entry-in-Ok-Block-clause-open
@@ -69,24 +69,24 @@ returns-in_err-finish_entry-in-Ok-Block-clause-open g c = λ told. handed_open c
 
 pub returns-in_ok-finish_entry-in-Ok-Block-clause-loads : goal.returns-in_ok-finish_entry-in-Ok-Block-clause-loads
 returns-in_ok-finish_entry-in-Ok-Block-clause-loads g c =
-    let gives = subst (Leaves c.args.reader.now c.next.new.self (g.S.Source.left c.args.source.now) (g.S.Source.left c.next.new.source)) (c.in-Ok-Block.is ∙ ap (λ x. Ok x) c.in-Ok-Block.field-0-is) c.next.ensures.leaves in
+    let gives = subst (LeavesReader c.args.reader.now c.next.new.self (g.S.Source.left c.args.source.now) (g.S.Source.left c.next.new.source)) (c.in-Ok-Block.is ∙ ap (λ x. Ok x) c.in-Ok-Block.field-0-is) c.next.ensures.leaves in
     turn_on (IsTrue g.D.Disk.tells) c.args.reader.now c.next.new.self c.args.count.now (g.S.Source.left c.args.source.now) (g.S.Source.left c.next.new.source) (session g.D.Disk c.args.store.now c.args.disk.now) (session g.D.Disk c.finish_entry.new.store c.finish_entry.new.disk) (Part.BlockPart (meta_of c.in-Ok-Block.meta)) 1 refl gives _ (omega arith) c.in_ok-finish_entry-in-Ok-Block.ensures.runs
 
 pub returns-in_ok-finish_entry-in-Ok-Block-clause-few : goal.returns-in_ok-finish_entry-in-Ok-Block-clause-few
 returns-in_ok-finish_entry-in-Ok-Block-clause-few g c = λ is.
-    let gives = subst (Leaves c.args.reader.now c.next.new.self (g.S.Source.left c.args.source.now) (g.S.Source.left c.next.new.source)) (c.in-Ok-Block.is ∙ ap (λ x. Ok x) c.in-Ok-Block.field-0-is) c.next.ensures.leaves in
+    let gives = subst (LeavesReader c.args.reader.now c.next.new.self (g.S.Source.left c.args.source.now) (g.S.Source.left c.next.new.source)) (c.in-Ok-Block.is ∙ ap (λ x. Ok x) c.in-Ok-Block.field-0-is) c.next.ensures.leaves in
     let more = (part_further c.args.reader.now c.next.new.self (g.S.Source.left c.args.source.now) (g.S.Source.left c.next.new.source) (Part.BlockPart (meta_of c.in-Ok-Block.meta)) 1 c.args.count.now gives (omega arith) c.requires.few).1 in
     omega (arith, more)
 
 pub returns-in_ok-finish_entry-in-Ok-Block-clause-further : goal.returns-in_ok-finish_entry-in-Ok-Block-clause-further
 returns-in_ok-finish_entry-in-Ok-Block-clause-further g c = λ is.
-    let gives = subst (Leaves c.args.reader.now c.next.new.self (g.S.Source.left c.args.source.now) (g.S.Source.left c.next.new.source)) (c.in-Ok-Block.is ∙ ap (λ x. Ok x) c.in-Ok-Block.field-0-is) c.next.ensures.leaves in
+    let gives = subst (LeavesReader c.args.reader.now c.next.new.self (g.S.Source.left c.args.source.now) (g.S.Source.left c.next.new.source)) (c.in-Ok-Block.is ∙ ap (λ x. Ok x) c.in-Ok-Block.field-0-is) c.next.ensures.leaves in
     (part_further c.args.reader.now c.next.new.self (g.S.Source.left c.args.source.now) (g.S.Source.left c.next.new.source) (Part.BlockPart (meta_of c.in-Ok-Block.meta)) 1 c.args.count.now gives (omega arith) c.requires.few).0
 
 pub returns-in-Ok-End-clause-loads : goal.returns-in-Ok-End-clause-loads
 returns-in-Ok-End-clause-loads g c =
     turn_ends (IsTrue g.D.Disk.tells) c.args.reader.now c.next.new.self c.args.count.now (g.S.Source.left c.args.source.now) (g.S.Source.left c.next.new.source) (session g.D.Disk c.args.store.now c.args.disk.now)
-    (subst (Leaves c.args.reader.now c.next.new.self (g.S.Source.left c.args.source.now) (g.S.Source.left c.next.new.source)) (c.in-Ok-End.is ∙ ap (λ x. Ok x) c.in-Ok-End.field-0-is) c.next.ensures.leaves)
+    (subst (LeavesReader c.args.reader.now c.next.new.self (g.S.Source.left c.args.source.now) (g.S.Source.left c.next.new.source)) (c.in-Ok-End.is ∙ ap (λ x. Ok x) c.in-Ok-End.field-0-is) c.next.ensures.leaves)
 
 pub returns-in-Err-Bad-clause-loads : goal.returns-in-Err-Bad-clause-loads
 returns-in-Err-Bad-clause-loads g c =

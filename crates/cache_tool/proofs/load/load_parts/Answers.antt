@@ -1,7 +1,7 @@
 use Rattle.std.proofs.Common.{IsTrue, arith, refl}
 use Rattle.cache_store.specs.Session.{session}
 use Rattle.cache_tool.proofs.Handed.{handed_open}
-use Rattle.cache_tool.proofs.LoadTurns.{starts}
+use Rattle.cache_tool.proofs.Loads.LoadTurns.{starts}
 use Rattle.cache_tool.proofs.load.load_parts.Goals as goal
 
 pub parts-init : goal.parts-init

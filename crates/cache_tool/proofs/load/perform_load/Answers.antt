@@ -2,7 +2,7 @@ use Rattle.std.proofs.Common.{IsTrue, Ok}
 use Rattle.cache_store.specs.Session.{session}
 use Rattle.cache_store.specs.declared.fault.StoreFault.TheVariants as fault
 use Rattle.cache_tool.proofs.Handed.{handed_on}
-use Rattle.cache_tool.proofs.LoadEnds.{load_fails}
+use Rattle.cache_tool.proofs.Loads.LoadEnds.{load_fails}
 use Rattle.cache_tool.proofs.load.perform_load.Goals as goal
 
 pub returns-in_err-say_loaded-in-Whole-clause-performs : goal.returns-in_err-say_loaded-in-Whole-clause-performs

@@ -5,7 +5,7 @@ use Rattle.cache_store.specs.IndexCalls.{LooksAtNames}
 use Rattle.cache_store.specs.Open.{Tells}
 use Rattle.cache_store.specs.Saying.{IsPart}
 use Rattle.cache_store.specs.Session.{session}
-use Rattle.cache_store.proofs.Represented.{represents}
+use Rattle.cache_store.proofs.Performing.Represented.{represents}
 use Rattle.cache_theory.specs.Faulted.{fault_line}
 use Rattle.cache_theory.specs.History.{acked, settled_at}
 use Rattle.cache_theory.specs.Step.{step}
@@ -13,7 +13,7 @@ use Rattle.cache_tool.specs.World.{output}
 use Rattle.cache_tool.proofs.DoneLaws.{done_right, done_spoken}
 use Rattle.cache_tool.proofs.EntryLooks.{looks_none, nothing_to_read, reads_none}
 use Rattle.cache_tool.proofs.OneCommand.{came_ending, came_open, faulted_prints, not_begun, performed_prints, rose_twice}
-use Rattle.cache_tool.proofs.PutEnds.{put_stops}
+use Rattle.cache_tool.proofs.Puts.PutEnds.{put_stops}
 use Rattle.cache_tool.proofs.SessionEnds.{next_done, resumed_done}
 use Rattle.cache_tool.proofs.StayingLaws.{stays_done, stays_for}
 use Rattle.context_clear.specs.Mark.{mark_of}

@@ -1,36 +1,45 @@
--- The words tell which part of the program answers them; and where nothing fails, a script that the source spells is performed.
+-- The words tell which part of the program answers them; and where nothing fails, a script that the source spells is
+-- performed.
 use Rattle.std.proofs.Common.{◌≡◌, ◌∙◌, IsTrue, Some, ap, subst, sym}
 use Rattle.std.specs.Option.{option_map}
-use Rattle.cache_tool.proofs.LoadEnds.{dump_is_not_bad}
+use Rattle.cache_tool.proofs.Loads.LoadEnds.{dump_is_not_bad}
 use Rattle.cache_tool.proofs.RunComplete.{nothing_failed, script_is_not_bad}
 use Rattle.cache_tool.proofs.program.run.Goals as goal
 use Rattle.cache_tool.specs.Asked.{asked}
+use Rattle.cache_tool.specs.ByVerb.{IsWhole, Performs}
 use Rattle.cache_tool.specs.Load.{IsDumpOf}
 use Rattle.cache_tool.specs.Script.{IsScript}
-use Rattle.cache_tool.specs.Verbs.{AnswersCommand}
-use Rattle.cache_tool.specs.World.{output}
-use Rattle.cache_tool.specs.Words.{Asked, WhenLoad, WhenOne, WhenRun, asked_in}
+use Rattle.cache_tool.specs.World.{world}
+use Rattle.cache_tool.specs.Words.{Asked, asked_in}
 use Rattle.cache_script.specs.Command.{command_of}
 
 pub returns-in-Some-Run-clause-complete : goal.returns-in-Some-Run-clause-complete
-returns-in-Some-Run-clause-complete g c = λ some script dump source sink disk.
+returns-in-Some-Run-clause-complete g c = λ some whole source sink disk.
     let words : asked_in c.args.words.now ≡ Some (Asked.Run c.in-Some-Run.now) = sym c.read_words.ensures.asked ∙ ap (λ r. option_map asked r) (c.in-Some-Run.is ∙ ap (λ a. Some a) c.in-Some-Run.field-0-is) in
-    let spelled : IsScript (g.S.Source.left c.args.source.now) = subst (λ words. WhenRun words (λ now. IsScript (g.S.Source.left c.args.source.now))) words script in
+    let spelled : IsScript (g.S.Source.left c.args.source.now) = subst (λ words. IsWhole words (g.S.Source.left c.args.source.now)) words whole in
     nothing_failed c.run_script.result c.run_script.ensures.others.0
     (λ is. script_is_not_bad (g.S.Source.left c.args.source.now) spelled (c.run_script.ensures.bad is))
     (λ is. source (c.run_script.ensures.source is)) (λ is. sink (c.run_script.ensures.sink is)) (λ is. disk (c.run_script.ensures.disk is))
 
-pub returns-in-Some-One-clause-answers : goal.returns-in-Some-One-clause-answers
-returns-in-Some-One-clause-answers g c =
+pub returns-in-Some-One-clause-performs : goal.returns-in-Some-One-clause-performs
+returns-in-Some-One-clause-performs g c =
     let words : asked_in c.args.words.now ≡ Some (Asked.One c.in-Some-One.now (command_of c.in-Some-One.command)) =
     sym c.read_words.ensures.asked ∙ ap (λ r. option_map asked r) (c.in-Some-One.is ∙ ap (λ a. Some a) c.in-Some-One.field-0-is) in
-    let before = output g.K.Sink g.D.Disk c.args.sink.now c.args.disk.now in
-    let after = output g.K.Sink g.D.Disk c.perform_one.new.sink c.perform_one.new.disk in
-    subst (λ asks. WhenOne asks (λ now d. IsTrue g.D.Disk.tells → AnswersCommand now d c.perform_one.result before after)) (sym words) c.perform_one.ensures.answers
+    let before = world g.S.Source g.K.Sink g.D.Disk c.args.source.now c.args.sink.now c.args.disk.now in
+    let after = world g.S.Source g.K.Sink g.D.Disk c.args.source.now c.perform_one.new.sink c.perform_one.new.disk in
+    λ tells. subst (λ asks. Performs asks c.perform_one.result before after) (sym words) (c.perform_one.ensures.answers tells)
+
+pub returns-in-Some-Put-clause-performs : goal.returns-in-Some-Put-clause-performs
+returns-in-Some-Put-clause-performs g c =
+    let words : asked_in c.args.words.now ≡ Some (Asked.Put c.in-Some-Put.now c.in-Some-Put.key.now) =
+    sym c.read_words.ensures.asked ∙ ap (λ r. option_map asked r) (c.in-Some-Put.is ∙ ap (λ a. Some a) c.in-Some-Put.field-0-is) in
+    let before = world g.S.Source g.K.Sink g.D.Disk c.args.source.now c.args.sink.now c.args.disk.now in
+    let after = world g.S.Source g.K.Sink g.D.Disk c.put.new.source c.put.new.sink c.put.new.disk in
+    λ tells. subst (λ asks. Performs asks c.put.result before after) (sym words) (c.put.ensures.stores tells)
 
 pub returns-in-Some-Load-clause-complete : goal.returns-in-Some-Load-clause-complete
-returns-in-Some-Load-clause-complete g c = λ some script dump source sink disk.
+returns-in-Some-Load-clause-complete g c = λ some whole source sink disk.
     let words : asked_in c.args.words.now ≡ Some (Asked.Load c.in-Some-Load.now) = sym c.read_words.ensures.asked ∙ ap (λ r. option_map asked r) (c.in-Some-Load.is ∙ ap (λ a. Some a) c.in-Some-Load.field-0-is) in
-    let spelled : IsDumpOf (g.S.Source.left c.args.source.now) = subst (λ words. WhenLoad words (λ now. IsDumpOf (g.S.Source.left c.args.source.now))) words dump in
+    let spelled : IsDumpOf (g.S.Source.left c.args.source.now) = subst (λ words. IsWhole words (g.S.Source.left c.args.source.now)) words whole in
     nothing_failed c.load.result c.load.ensures.others.0 (λ is. dump_is_not_bad (g.S.Source.left c.args.source.now) spelled (c.load.ensures.undumped is))
     (λ is. source (c.load.ensures.source is)) (λ is. sink (c.load.ensures.sink is)) (λ is. disk (c.load.ensures.disk.rose is))

@@ -6,7 +6,7 @@ use Rattle.cache_store.specs.Session.{session}
 use Rattle.cache_tool.specs.HeldReply.{said_in}
 use Rattle.cache_tool.specs.World.{supply}
 use Rattle.cache_tool.proofs.Handed.{handed_on, handed_open}
-use Rattle.cache_tool.proofs.PutBody.{filled_ahead, filled_fits, filled_full, filled_length, last_broken, last_ended, last_failed, last_refused, no_is_refused, so_far_more, so_far_none, takes_at_most}
+use Rattle.cache_tool.proofs.Puts.PutBody.{filled_ahead, filled_fits, filled_full, filled_length, last_broken, last_ended, last_failed, last_refused, no_is_refused, so_far_more, so_far_none, takes_at_most}
 use Rattle.cache_tool.proofs.put.append_all.Goals as goal
 
 pub pieces-init : goal.pieces-init

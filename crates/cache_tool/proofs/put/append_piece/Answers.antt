@@ -5,7 +5,7 @@ use Rattle.cache_store.specs.declared.fault.StoreFault.TheVariants as fault
 use Rattle.cache_theory.specs.Command.Command.{Append}
 use Rattle.cache_tool.proofs.Handed.{handed_on, handed_open}
 use Rattle.cache_tool.proofs.RightLaws.{open_leaves_honest}
-use Rattle.cache_tool.proofs.PutReplies.{empty_went, is_empty_of, not_empty_of, over_went, piece_went, sent_itself, unsaid_went}
+use Rattle.cache_tool.proofs.Puts.PutReplies.{empty_went, is_empty_of, not_empty_of, over_went, piece_went, sent_itself, unsaid_went}
 use Rattle.cache_tool.proofs.put.append_piece.Goals as goal
 
 pub returns-then-is_empty-clause-appends : goal.returns-then-is_empty-clause-appends

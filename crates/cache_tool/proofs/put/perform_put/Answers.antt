@@ -13,9 +13,9 @@ use Rattle.cache_tool.specs.HeldReply.{said_in}
 use Rattle.cache_tool.specs.World.{supply}
 use Rattle.cache_tool.proofs.Faulting.{is_false}
 use Rattle.cache_tool.proofs.Handed.{handed_on, handed_open}
-use Rattle.cache_tool.proofs.PutReplies.{sent_itself}
+use Rattle.cache_tool.proofs.Puts.PutReplies.{sent_itself}
 use Rattle.cache_tool.proofs.RightLaws.{open_leaves_honest}
-use Rattle.cache_tool.proofs.PutWhole.{appended_failed, appended_other, close_failed, close_went, create_failed, create_refused, created, nothing_went, other_outcome}
+use Rattle.cache_tool.proofs.Puts.PutWhole.{appended_failed, appended_other, close_failed, close_went, create_failed, create_refused, created, nothing_went, other_outcome}
 use Rattle.cache_tool.proofs.put.perform_put.Goals as goal
 
 pub returns-in_err-piece-clause-performs : goal.returns-in_err-piece-clause-performs

@@ -9,7 +9,7 @@ use Rattle.cache_tool.specs.Statuses.{status_in}
 use Rattle.cache_tool.specs.World.{output, supply}
 use Rattle.cache_tool.proofs.Growing.{takes_none, takes_part}
 use Rattle.cache_tool.proofs.OneCommand.{faulted_prints, not_begun, rose_twice}
-use Rattle.cache_tool.proofs.PutEnds.{Printed, answered, disk_cause, ended_no_sink, never_others, never_sink, not_answered, put_refuses, put_stops, source_came, stops_after}
+use Rattle.cache_tool.proofs.Puts.PutEnds.{Printed, answered, disk_cause, ended_no_sink, never_others, never_sink, not_answered, put_refuses, put_stops, source_came, stops_after}
 use Rattle.cache_tool.proofs.SessionEnds.{resumed_done}
 use Rattle.cache_tool.proofs.StatusLaws.{no_answer}
 use Rattle.cache_tool.proofs.put.put.Goals as goal

@@ -1,10 +1,10 @@
 use Rattle.cache_script.specs.Command.{command_of}
 use Rattle.cache_store.specs.Open.{Tells}
 use Rattle.cache_store.specs.Session.{session}
-use Rattle.cache_store.proofs.Represented.{represents}
+use Rattle.cache_store.proofs.Performing.Represented.{represents}
 use Rattle.cache_tool.specs.HeldReply.{said_in}
 use Rattle.cache_tool.proofs.DoneLaws.{done_right}
-use Rattle.cache_tool.proofs.PutReplies.{sends_of}
+use Rattle.cache_tool.proofs.Puts.PutReplies.{sends_of}
 use Rattle.cache_tool.proofs.StayingLaws.{stays_done, stays_for}
 use Rattle.cache_tool.proofs.put.send.Goals as goal
 

@@ -3,7 +3,7 @@ use Rattle.cache_store.specs.Session.{session}
 use Rattle.cache_tool.specs.World.{progress}
 use Rattle.cache_tool.proofs.Growing.{takes_none, takes_on}
 use Rattle.cache_tool.proofs.Handed.{handed_open}
-use Rattle.cache_tool.proofs.ScriptTurns.{starts}
+use Rattle.cache_tool.proofs.Scripts.ScriptTurns.{starts}
 use Rattle.cache_tool.proofs.script.perform_commands.Goals as goal
 
 pub turns-init : goal.turns-init

@@ -9,7 +9,7 @@ use Rattle.cache_tool.proofs.Accounted.{answer_accounted, command_accounted}
 use Rattle.cache_tool.proofs.Answering.{answer_later, answer_rose, answer_stops, answer_went_on, answers_next}
 use Rattle.cache_tool.proofs.Handed.{handed_open}
 use Rattle.cache_tool.proofs.RightLaws.{open_leaves_honest}
-use Rattle.cache_tool.proofs.ScriptTurns.{gives_none, gives_one, turn_bad, turn_err, turn_failed, turn_on, turn_whole}
+use Rattle.cache_tool.proofs.Scripts.ScriptTurns.{gives_none, gives_one, turn_bad, turn_err, turn_failed, turn_on, turn_whole}
 use Rattle.cache_tool.proofs.StayingLaws.{stays_for}
 use Rattle.cache_tool.proofs.script.perform_next.Goals as goal
 

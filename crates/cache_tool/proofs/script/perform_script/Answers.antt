@@ -5,7 +5,7 @@ use Rattle.cache_tool.specs.World.{progress}
 use Rattle.cache_tool.proofs.Growing.{takes_cut, takes_on, takes_text}
 use Rattle.cache_tool.proofs.Handed.{handed_open}
 use Rattle.cache_tool.proofs.RightLaws.{open_leaves_honest}
-use Rattle.cache_tool.proofs.ScriptWhole.{ran_bad, ran_bad_cut, ran_broke, ran_failed, ran_nothing, ran_whole}
+use Rattle.cache_tool.proofs.Scripts.ScriptWhole.{ran_bad, ran_bad_cut, ran_broke, ran_failed, ran_nothing, ran_whole}
 use Rattle.cache_tool.proofs.script.perform_script.Goals as goal
 
 pub returns-in_err-reader-clause-performs : goal.returns-in_err-reader-clause-performs

@@ -1,7 +1,7 @@
 use Rattle.std.proofs.Common.{ap, inl, inr, sym, ◌∙◌}
 use Rattle.cache_tool.specs.Statuses.{status_in}
 use Rattle.cache_tool.specs.World.{progress, world}
-use Rattle.cache_tool.proofs.ScriptEnds.{runs_ended, runs_not_begun}
+use Rattle.cache_tool.proofs.Scripts.ScriptEnds.{runs_ended, runs_not_begun}
 use Rattle.cache_tool.proofs.StatusLaws.{closes_or_not}
 use Rattle.cache_tool.proofs.script.run_script.Goals as goal
 

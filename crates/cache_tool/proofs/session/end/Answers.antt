@@ -6,7 +6,7 @@ use Rattle.cache_store.specs.Open.{KeepsTo}
 use Rattle.cache_store.specs.Session.{Session}
 use Rattle.cache_store.specs.declared.fault.StoreFault.{StoreFault}
 use Rattle.cache_store.specs.declared.fault.StoreFault.TheVariants as fault
-use Rattle.cache_store.proofs.Represented.{represents}
+use Rattle.cache_store.proofs.Performing.Represented.{represents}
 use Rattle.cache_theory.specs.History.{History}
 use Rattle.cache_tool.specs.Ending.{IsEnded}
 use Rattle.cache_tool.specs.Statuses.{IsClosing, status_in}

@@ -2,7 +2,7 @@ use Rattle.std.proofs.Common.{◌≡◌, List, ℕ, Some, take, sym, ◌∙◌, 
 use Rattle.std.proofs.lemmas.List.{take_all}
 use Rattle.std.proofs.lemmas.Bool.{true≢false}
 use Rattle.disk_model.specs.Image.{MayStand}
-use Rattle.disk_model.specs.Standing.{Puts}
+use Rattle.disk_model.specs.Standing.{PutsContent}
 use Rattle.disk_model.specs.MemFile.{nth_file}
 use Rattle.disk_model.specs.MemSlots.{names_in}
 use Rattle.disk_model.specs.MemTable.{state_of}
@@ -29,8 +29,8 @@ loop-place-preserved c =
     let taken = c.loop-place.invariant.1 in
     let may : MayStand (nth_file c.args.files.now) (now e.0) (Some e.1) =
     subst (λ (bytes : List ℕ). MayStand (nth_file c.args.files.now) (now e.0) (Some bytes)) c.as_slice.ensures (c.may_stand.ensures.0 c.if-not-may_stand.false) in
-    let puts : Puts e.0 (Some e.1) (state_of c.loop-place.table) (state_of c.put.new.self) =
-    subst (λ (bytes : List ℕ). Puts e.0 (Some bytes) (state_of c.loop-place.table) (state_of c.put.new.self)) c.as_slice-in-loop-place.ensures c.in_ok-put.ensures.ok in (
+    let puts : PutsContent e.0 (Some e.1) (state_of c.loop-place.table) (state_of c.put.new.self) =
+    subst (λ (bytes : List ℕ). PutsContent e.0 (Some bytes) (state_of c.loop-place.table) (state_of c.put.new.self)) c.as_slice-in-loop-place.ensures c.in_ok-put.ensures.ok in (
       loop_apart c.args.files.now (names_in c.args.stands.now) now c.args.contents.now c.loop-place.place-index e c.loop-place-test.true c.loop-place-item.is taken may c.loop-place.invariant.0,
       loop_taken c.args.files.now (names_in c.args.stands.now) now c.args.contents.now c.loop-place.place-index e c.loop-place-test.true c.loop-place-item.is taken may (names_in c.set_file.new.slots) c.set_file.ensures.now,
       c.put.ensures.quiet,

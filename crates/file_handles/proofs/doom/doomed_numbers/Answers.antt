@@ -1,7 +1,7 @@
 use Rattle.std.proofs.Common.{◌≡◌, ◌+◌, ◌<◌, ℕ, List, [], ◌∷◌, ◌++◌, None, Some, arith, ap, sym, ◌∙◌, length, length-set, take}
 use Rattle.std.proofs.lemmas.List.{take_more_set}
 use Rattle.file_handles.specs.Dooming.{number_in}
-use Rattle.file_handles.proofs.DoomedNumbers.{numbers_more, numbers_same}
+use Rattle.file_handles.proofs.Dooming.DoomedNumbers.{numbers_more, numbers_same}
 use Rattle.file_handles.proofs.doom.doomed_numbers.Goals as goal
 use Rattle.file_handles.proofs.doom.doomed_numbers.Goals.{in-Some+in-Some-aside, in-Some+in_default-aside, in_default}
 

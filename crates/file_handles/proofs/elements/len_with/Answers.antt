@@ -1,5 +1,5 @@
 use Rattle.std.proofs.Common.{arith, sym}
-use Rattle.file_handles.proofs.ElementLengths.{large_is, small_is}
+use Rattle.file_handles.proofs.Setting.ElementLengths.{large_is, small_is}
 use Rattle.file_handles.proofs.elements.len_with.Goals as goal
 
 pub returns-then-kept-gt-ELEMENTS_MAX : goal.returns-then-kept-gt-ELEMENTS_MAX

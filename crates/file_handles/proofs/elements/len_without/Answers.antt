@@ -1,5 +1,5 @@
 use Rattle.std.proofs.Common.{arith, sym}
-use Rattle.file_handles.proofs.ElementLengths.{added_length, set_length}
+use Rattle.file_handles.proofs.Setting.ElementLengths.{added_length, set_length}
 use Rattle.file_handles.proofs.elements.len_without.Goals as goal
 
 pub overflow_sub-result : goal.overflow_sub-result

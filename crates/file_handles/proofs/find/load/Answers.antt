@@ -8,7 +8,7 @@ use Rattle.entry_file.proofs.Damaged.{held_along}
 use Rattle.entry_file.specs.Damages.{HasMeta, first_damage}
 use Rattle.entry_file.specs.Rewriting.{StoresBody}
 use Rattle.entry_metadata.specs.Meta.{meta_of}
-use Rattle.file_handles.proofs.FoundLoad.{loads_damaged, loads_whole, meta_has}
+use Rattle.file_handles.proofs.Finding.FoundLoad.{loads_damaged, loads_whole, meta_has}
 use Rattle.file_handles.proofs.find.load.Goals as goal
 
 pub check_under-requires : goal.check_under-requires

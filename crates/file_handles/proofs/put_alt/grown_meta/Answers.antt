@@ -3,7 +3,7 @@ use Rattle.cache_base.specs.declared.limits.TheConstants.{BLOCK_MAX}
 use Rattle.entry_metadata.specs.Metadata.{block_length}
 use Rattle.entry_parts.specs.Elements.{elements_bytes}
 use Rattle.entry_parts.specs.Setting.{with_element}
-use Rattle.file_handles.proofs.AltChecks.{block_small, may_put_of, told_settable}
+use Rattle.file_handles.proofs.PuttingAlt.AltChecks.{block_small, may_put_of, told_settable}
 use Rattle.file_handles.proofs.put_alt.grown_meta.Goals as goal
 
 pub changed_elements-requires : goal.changed_elements-requires

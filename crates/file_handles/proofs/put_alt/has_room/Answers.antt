@@ -1,5 +1,5 @@
 use Rattle.std.proofs.Common.{◌+◌, sym}
-use Rattle.file_handles.proofs.AltChecks.{long_kind}
+use Rattle.file_handles.proofs.PuttingAlt.AltChecks.{long_kind}
 use Rattle.file_handles.proofs.put_alt.has_room.Goals as goal
 
 pub returns-then-kind-gt-ELEMENTS_MAX : goal.returns-then-kind-gt-ELEMENTS_MAX

@@ -1,6 +1,6 @@
 use Rattle.std.proofs.Common.{◌-◌, ◌<◌, ◌^◌, ◌≡◌, ℕ, decimal, length, arith}
 use Rattle.std.proofs.lemmas.Fmt.{length-decimal-le_succ}
-use Rattle.file_handles.proofs.AltChecks.{small_elements, told_length}
+use Rattle.file_handles.proofs.PuttingAlt.AltChecks.{small_elements, told_length}
 use Rattle.file_handles.proofs.put_alt.len_with.Goals as goal
 
 digits_few : (n d : ℕ) → n < 2 ^ 32 - 1 → d ≡ length (decimal n) → d < 2 ^ 32

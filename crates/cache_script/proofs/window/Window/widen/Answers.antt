@@ -1,6 +1,6 @@
 use Rattle.std.proofs.Common.{◌-◌, replicate, vec_len, arith}
 use Rattle.cache_script.specs.declared.window.TheConstants.{ROOM}
-use Rattle.cache_script.proofs.WindowLaws.{widened}
+use Rattle.cache_io.proofs.WindowLaws.{widened}
 use Rattle.cache_script.proofs.window.Window.widen.Goals as goal
 
 pub returns-clause-items : goal.returns-clause-items

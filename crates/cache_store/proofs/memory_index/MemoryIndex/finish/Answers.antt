@@ -1,6 +1,6 @@
 use Rattle.std.proofs.Common.{IsTrue, refl}
 use Rattle.index_theory.specs.Ever.{entries_on}
-use Rattle.cache_store.proofs.RecordsAtEnd.{finish_ends}
+use Rattle.cache_store.proofs.Records.RecordsAtEnd.{finish_ends}
 use Rattle.cache_store.proofs.memory_index.MemoryIndex.finish.Goals as goal
 
 pub returns-then-ended-clause-records : goal.returns-then-ended-clause-records

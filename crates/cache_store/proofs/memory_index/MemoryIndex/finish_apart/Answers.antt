@@ -2,7 +2,7 @@ use Rattle.std.proofs.Common.{◌≡◌, ◌≢◌, ◌∙◌, [], refl, subst, 
 use Rattle.index_theory.specs.Ever.{entries_on}
 use Rattle.index_update.specs.Rest.{name_bytes}
 use Rattle.index_update.specs.Tells.{TellsSeen}
-use Rattle.cache_store.proofs.RecordsAtEnd.{apart_ends, broken_stays, ended_stays}
+use Rattle.cache_store.proofs.Records.RecordsAtEnd.{apart_ends, broken_stays, ended_stays}
 use Rattle.cache_store.proofs.memory_index.MemoryIndex.finish_apart.Goals as goal
 
 pub returns-in_err-finish-clause-stays : goal.returns-in_err-finish-clause-stays

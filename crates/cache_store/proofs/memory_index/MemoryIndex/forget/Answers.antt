@@ -1,6 +1,6 @@
 use Rattle.std.proofs.Common.{arith, drop, drop_of_length-le, rules}
 use Rattle.std.proofs.lemmas.List.{drop_more}
-use Rattle.cache_store.proofs.Forgotten.{forgets_next, forgets_whole}
+use Rattle.cache_store.proofs.Evicting.Forgotten.{forgets_next, forgets_whole}
 use Rattle.cache_store.proofs.memory_index.MemoryIndex.forget.Goals as goal
 
 pub loop-name-preserved : goal.loop-name-preserved

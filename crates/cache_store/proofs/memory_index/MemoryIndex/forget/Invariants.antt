@@ -1,5 +1,5 @@
 use Rattle.std.proofs.Common.{◌≡◌, drop}
-use Rattle.cache_store.proofs.Forgotten.{ForgetsRest}
+use Rattle.cache_store.proofs.Evicting.Forgotten.{ForgetsRest}
 use Rattle.cache_store.proofs.memory_index.MemoryIndex.forget.Given as goal
 
 -- the names that are left complete the whole

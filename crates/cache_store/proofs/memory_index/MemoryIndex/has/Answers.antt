@@ -1,6 +1,6 @@
 use Rattle.std.proofs.Common.{◌∙◌, sym, ap}
 use Rattle.std.specs.Prelude.{is_some}
-use Rattle.cache_store.proofs.HasEntry.{has_bad, has_no, has_unknown, has_yes}
+use Rattle.cache_store.proofs.Records.HasEntry.{has_bad, has_no, has_unknown, has_yes}
 use Rattle.cache_store.proofs.memory_index.MemoryIndex.has.Goals as goal
 
 pub returns-then-not-may_write-clause-answers : goal.returns-then-not-may_write-clause-answers

@@ -1,7 +1,7 @@
 use Rattle.std.proofs.Common.{◌++◌, subst, sym}
 use Rattle.std.specs.Prelude.{List, ℕ}
 use Rattle.cache_store.specs.Said.{Said}
-use Rattle.cache_store.proofs.SaidMore.{cut_after, cut_more, of_err, of_ok, said_after, when_err}
+use Rattle.cache_store.proofs.Saying.SaidMore.{cut_after, cut_more, of_err, of_ok, said_after, when_err}
 use Rattle.cache_store.proofs.pending.Pending.put.Goals as goal
 
 pub returns-in_err-send-clause-cut : goal.returns-in_err-send-clause-cut

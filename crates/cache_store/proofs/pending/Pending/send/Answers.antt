@@ -1,7 +1,7 @@
 use Rattle.std.proofs.Common.{subst}
 use Rattle.std.specs.Prelude.{List, ℕ}
 use Rattle.cache_store.specs.Said.{IsCut, saying}
-use Rattle.cache_store.proofs.SaidMore.{said_cut, when_err}
+use Rattle.cache_store.proofs.Saying.SaidMore.{said_cut, when_err}
 use Rattle.cache_store.proofs.pending.Pending.send.Goals as goal
 
 pub returns-in_err-write_whole-clause-cut : goal.returns-in_err-write_whole-clause-cut

@@ -1,7 +1,7 @@
 use Rattle.std.proofs.Common.{◌≡◌, ◌∙◌, [], Err, IsTrue, Ok, Result, ap, subst, sym}
 use Rattle.cache_script.specs.Command.{command_of}
 use Rattle.index_theory.proofs.UncleanLaws.{unclean_leaves_honest}
-use Rattle.cache_store.specs.Answering.{rest_of}
+use Rattle.cache_store.specs.Answering.{left_to_say}
 use Rattle.std.proofs.lemmas.Option.{IfSome_then}
 use Rattle.cache_store.specs.Clearing.{LeavesResumed, LeavesUncleared, origin_cleared}
 use Rattle.cache_store.specs.Performing.{HadEffect}
@@ -22,16 +22,16 @@ use Rattle.context_clear.specs.Mark.{mark_of}
 use Rattle.disk_model.specs.State.{standing}
 use Rattle.disk_model.specs.declared.place.Place.TheVariants.{Clear}
 use Rattle.cache_store.specs.Verifying.{PrintsFound}
-use Rattle.cache_store.proofs.EvictDoes.{had_handed}
-use Rattle.cache_store.proofs.HandedFaults.{handed_disk}
-use Rattle.cache_store.proofs.Stays.{handed_fault}
-use Rattle.cache_store.proofs.PerformOpen.{performs_open}
-use Rattle.cache_store.proofs.PerformWhole.{does_performs, fails_performs}
-use Rattle.cache_store.proofs.PrintedLaws.{prints_found, prints_outcome}
-use Rattle.cache_store.proofs.RepliedInMemory.{cut_in_memory, cut_of, none_of_line, out_in_memory, part_of_line, plain_unsaid, when_err}
-use Rattle.cache_store.proofs.SaidMore.{of_ok, when_ok}
-use Rattle.cache_store.proofs.TakenMore.{rest_takes}
-use Rattle.cache_store.proofs.ReadsHeld.{outcome_ok}
+use Rattle.cache_store.proofs.Evicting.EvictDoes.{had_handed}
+use Rattle.cache_store.proofs.Performing.HandedFaults.{handed_disk}
+use Rattle.cache_store.proofs.Performing.Stays.{handed_fault}
+use Rattle.cache_store.proofs.Performing.PerformOpen.{performs_open}
+use Rattle.cache_store.proofs.Performing.PerformWhole.{does_performs, fails_performs}
+use Rattle.cache_store.proofs.Saying.PrintedLaws.{prints_found, prints_outcome}
+use Rattle.cache_store.proofs.Performing.RepliedInMemory.{cut_in_memory, cut_of, none_of_line, out_in_memory, part_of_line, plain_unsaid, when_err}
+use Rattle.cache_store.proofs.Saying.SaidMore.{of_ok, when_ok}
+use Rattle.cache_store.proofs.Saying.TakenMore.{rest_takes}
+use Rattle.cache_store.proofs.Reading.ReadsHeld.{outcome_ok}
 use Rattle.cache_store.proofs.store.Store.attempt.Goals as goal
 
 pub returns-in_err-answered-clause-performs : goal.returns-in_err-answered-clause-performs
@@ -52,8 +52,8 @@ returns-clause-open g c = λ told. performs_open (command_of c.args.c.now) _ _ _
 
 pub returns-clause-prints : goal.returns-clause-prints
 returns-clause-prints g c =
-    prints_outcome (command_of c.args.c.now) c.in_ok-answered.answered c.finish_reply.result _ _ _ (λ n. ap g.K.Sink.taken (c.in_ok-answered.ensures.unsaid n)) c.in_ok-answered.ensures.still_empty
-    c.in_ok-answered.ensures.plain c.in_ok-answered.ensures.lists c.finish_reply.ensures.printed c.finish_reply.ensures.outcome
+    prints_outcome (command_of c.args.c.now) c.in_ok-answered.answered c.finish_reply.result _ _ _ (λ n. ap g.K.Sink.taken (c.in_ok-answered.ensures.unsaid.out n)) c.in_ok-answered.ensures.unsaid.held
+    c.in_ok-answered.ensures.plain c.in_ok-answered.ensures.unsaid.lists c.finish_reply.ensures.printed c.finish_reply.ensures.outcome
 
 pub returns-clause-verifies : goal.returns-clause-verifies
 returns-clause-verifies g c = λ verify.
@@ -63,7 +63,7 @@ returns-clause-verifies g c = λ verify.
     of_ok c.finish_reply.result _ _ (λ sends told.
     subst (λ (o : Open). PrintsFound before o.index.map taken now) (sym c.finish_reply.ensures.open)
     (prints_found before (open_of c.perform.new.self).index.map c.in_ok-answered.answered (c.in_ok-answered.ensures.found verify told) taken (saying g.K.Sink c.perform.new.self.reply c.perform.new.sink) now
-    (λ n. ap g.K.Sink.taken (c.in_ok-answered.ensures.unsaid n)) c.in_ok-answered.ensures.still_empty sends))
+    (λ n. ap g.K.Sink.taken (c.in_ok-answered.ensures.unsaid.out n)) c.in_ok-answered.ensures.unsaid.held sends))
     c.finish_reply.ensures.printed
 
 pub returns-in_err-answered-clause-honest : goal.returns-in_err-answered-clause-honest
@@ -74,7 +74,7 @@ returns-clause-honest g c = λ told. unclean_leaves_honest (g.D.Disk.state c.per
 
 pub returns-clause-grows : goal.returns-clause-grows
 returns-clause-grows g c = λ told.
-    rest_takes (rest_of c.in_ok-answered.answered) (g.K.Sink.taken c.args.sink.now) (saying g.K.Sink c.perform.new.self.reply c.perform.new.sink) (g.K.Sink.taken c.finish_reply.new.sink) c.finish_reply.result
+    rest_takes (left_to_say c.in_ok-answered.answered) (g.K.Sink.taken c.args.sink.now) (saying g.K.Sink c.perform.new.self.reply c.perform.new.sink) (g.K.Sink.taken c.finish_reply.new.sink) c.finish_reply.result
     (c.in_ok-answered.ensures.grows told) c.finish_reply.ensures.printed c.finish_reply.ensures.cut
 
 pub returns-clause-flushed : goal.returns-clause-flushed
@@ -111,7 +111,7 @@ returns-in_err-answered-clause-cut g c plain =
 pub returns-clause-cut : goal.returns-clause-cut
 returns-clause-cut g c plain =
     cut_of c.finish_reply.result (part_of_line c.in_ok-answered.answered (g.K.Sink.taken c.args.sink.now) (saying g.K.Sink c.perform.new.self.reply c.perform.new.sink) (g.K.Sink.taken c.finish_reply.new.sink)
-    (c.in_ok-answered.ensures.plain plain) (ap g.K.Sink.taken (c.in_ok-answered.ensures.plainly plain)) (c.in_ok-answered.ensures.still_empty (plain_unsaid c.in_ok-answered.answered (c.in_ok-answered.ensures.plain plain))))
+    (c.in_ok-answered.ensures.plain plain) (ap g.K.Sink.taken (c.in_ok-answered.ensures.plainly plain)) (c.in_ok-answered.ensures.unsaid.held (plain_unsaid c.in_ok-answered.answered (c.in_ok-answered.ensures.plain plain))))
     c.finish_reply.ensures.cut
 
 pub returns-in_err-answered-clause-evicts : goal.returns-in_err-answered-clause-evicts
@@ -157,6 +157,6 @@ pub returns-clause-wordless : goal.returns-clause-wordless
 returns-clause-wordless g c is =
     let words = c.in_ok-answered.ensures.wordless is in
     let resumed : c.in_ok-answered.answered ≡ answered.Resumed = words.1.1 in
-    let held = c.in_ok-answered.ensures.still_empty (λ all. let no : answered.Resumed ≡ answered.All = sym resumed ∙ all in cc) in
+    let held = c.in_ok-answered.ensures.unsaid.held (λ all. let no : answered.Resumed ≡ answered.All = sym resumed ∙ all in cc) in
     let done = c.finish_reply.ensures.resumed resumed held in
     (done.1 ∙ words.0, λ failed. let no : ◌≡◌ {A = Result Verdict StoreFault} (Ok outcome.Ok) (Err fault.Sink) = sym done.0 ∙ failed in cc)

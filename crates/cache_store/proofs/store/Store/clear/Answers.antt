@@ -2,7 +2,7 @@ use Rattle.std.proofs.Common.{subst}
 use Rattle.cache_store.specs.Clearing.{LeavesUncleared}
 use Rattle.cache_store.specs.Session.{session}
 use Rattle.cache_store.specs.StoppedClearing.{ClearsUnderMark}
-use Rattle.cache_store.proofs.ClearCommands.{origin_cleared, origin_not_cleared}
+use Rattle.cache_store.proofs.Clearing.ClearCommands.{origin_cleared, origin_not_cleared}
 use Rattle.cache_store.proofs.store.Store.clear.Goals as goal
 
 pub returns-in_err-names-clause-does : goal.returns-in_err-names-clause-does

@@ -4,8 +4,8 @@ use Rattle.cache_store.specs.Evicting.{Forgets}
 use Rattle.cache_store.specs.Faults.{of_disk}
 use Rattle.context_clear.specs.Mark.{mark_bytes}
 use Rattle.file_handles.specs.Kept.{kept}
-use Rattle.cache_store.proofs.ClearDoes.{clear_does, clear_leaves, clear_looks, doom_fails, end_fails, files_from, index_ended, index_stored, names_held, number_free, store_fails, doom_stopped, end_stopped, looks_stopped, store_stopped}
-use Rattle.cache_store.proofs.Stays.{ended_apart, look_stays, noted_disk}
+use Rattle.cache_store.proofs.Clearing.ClearDoes.{clear_does, clear_leaves, clear_looks, doom_fails, end_fails, files_from, index_ended, index_stored, names_held, number_free, store_fails, doom_stopped, end_stopped, looks_stopped, store_stopped}
+use Rattle.cache_store.proofs.Performing.Stays.{ended_apart, look_stays, noted_disk}
 use Rattle.index_theory.proofs.LeavesLaws.{both_leave_index}
 use Rattle.cache_store.proofs.store.Store.clear_origin.Goals as goal
 

@@ -1,7 +1,7 @@
-use Rattle.cache_theory.proofs.Crashes.{safe_is_crash_safe}
+use Rattle.cache_theory.proofs.CrashImages.Crashes.{safe_is_crash_safe}
 use Rattle.cache_store.specs.Session.{session}
-use Rattle.cache_store.proofs.Closed.{closes_failed, failed_honestly, images_honest, is_honest, left_honest, shut, spared_crash}
-use Rattle.cache_store.proofs.ClosedInUse.{closed_in_use, not_ended, synced_left}
+use Rattle.cache_store.proofs.Sessions.Closed.{closes_failed, failed_honestly, images_honest, is_honest, left_honest, shut, spared_crash}
+use Rattle.cache_store.proofs.Sessions.ClosedInUse.{closed_in_use, not_ended, synced_left}
 use Rattle.cache_store.proofs.store.Store.close.Goals as goal
 
 pub returns-in_err-closed-clause-crash : goal.returns-in_err-closed-clause-crash

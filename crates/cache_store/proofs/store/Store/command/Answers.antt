@@ -8,8 +8,8 @@ use Rattle.cache_store.specs.declared.fault.Outcome.{Outcome}
 use Rattle.cache_store.specs.declared.fault.Verdict.{Verdict}
 use Rattle.disk_model.specs.State.{standing}
 use Rattle.disk_model.specs.declared.place.Place.TheVariants.{Clear}
-use Rattle.cache_store.proofs.RepliedInMemory.{makes_no_look}
-use Rattle.cache_store.proofs.Stays.{open_still}
+use Rattle.cache_store.proofs.Performing.RepliedInMemory.{makes_no_look}
+use Rattle.cache_store.proofs.Performing.Stays.{open_still}
 use Rattle.cache_store.proofs.store.Store.command.Goals as goal
 
 pub returns-in_err-say_fault-clause-open : goal.returns-in_err-say_fault-clause-open

@@ -12,12 +12,12 @@ use Rattle.cache_store.specs.Faults.{of_disk}
 use Rattle.cache_store.specs.Said.{saying}
 use Rattle.cache_store.specs.Saying.{SaysMore, StopsIn}
 use Rattle.cache_store.specs.declared.memory_index.MemoryIndex.{MemoryIndex}
-use Rattle.cache_store.proofs.DumpDoes.{all_said, cuts_sent, does_keeping, dump_does, dump_fails, dump_stops, end_cut, front_sent, items_cut, sent_says}
-use Rattle.cache_store.proofs.HandedFaults.{handed_disk, sink_not_disk}
-use Rattle.cache_store.proofs.ListDoes.{no_sink}
-use Rattle.cache_store.proofs.SayingLaws.{cuts_front}
-use Rattle.cache_store.proofs.Stays.{ended_apart, look_stays, noted_disk}
-use Rattle.cache_store.proofs.TakenMore.{cuts_takes, says_takes}
+use Rattle.cache_store.proofs.Dumping.DumpDoes.{all_said, cuts_sent, does_keeping, dump_does, dump_fails, dump_stops, end_cut, front_sent, items_cut, sent_says}
+use Rattle.cache_store.proofs.Performing.HandedFaults.{handed_disk, sink_not_disk}
+use Rattle.cache_store.proofs.Records.ListDoes.{no_sink}
+use Rattle.cache_store.proofs.Saying.SayingLaws.{cuts_front}
+use Rattle.cache_store.proofs.Performing.Stays.{ended_apart, look_stays, noted_disk}
+use Rattle.cache_store.proofs.Saying.TakenMore.{cuts_takes, says_takes}
 use Rattle.cache_store.proofs.store.Store.dump.Goals as goal
 
 pub returns-in-Err-clause-does : goal.returns-in-Err-clause-does

@@ -6,11 +6,11 @@ use Rattle.file_handles.specs.Kept.{kept}
 use Rattle.cache_store.specs.Evicting.{ArePicked, AreUnused, Forgets}
 use Rattle.cache_store.specs.Said.{saying}
 use Rattle.cache_store.specs.Saying.{CutsIn, SaysMore}
-use Rattle.cache_store.proofs.EvictDoes.{evict_leaves, evict_does, evict_fails, evict_looks, evict_stops, removes}
-use Rattle.cache_store.proofs.ListDoes.{no_sink}
-use Rattle.cache_store.proofs.Stays.{ended_apart, look_stays, noted_disk}
-use Rattle.cache_store.proofs.TakenMore.{cuts_takes, says_takes}
-use Rattle.cache_store.proofs.VictimsApart.{files_hold, picked_unused}
+use Rattle.cache_store.proofs.Evicting.EvictDoes.{evict_leaves, evict_does, evict_fails, evict_looks, evict_stops, removes}
+use Rattle.cache_store.proofs.Records.ListDoes.{no_sink}
+use Rattle.cache_store.proofs.Performing.Stays.{ended_apart, look_stays, noted_disk}
+use Rattle.cache_store.proofs.Saying.TakenMore.{cuts_takes, says_takes}
+use Rattle.cache_store.proofs.Evicting.VictimsApart.{files_hold, picked_unused}
 use Rattle.file_handles.proofs.UnsyncedLaws.{same_unsynced, then_unsynced}
 use Rattle.cache_store.proofs.store.Store.evict.Goals as goal
 

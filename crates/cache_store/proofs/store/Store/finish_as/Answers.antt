@@ -3,8 +3,8 @@ use Rattle.cache_theory.specs.Command.Command.{FinishAs}
 use Rattle.entry_parts.specs.Elements.{Element}
 use Rattle.cache_store.specs.Performing.{AchievesFor}
 use Rattle.cache_store.specs.Session.{session}
-use Rattle.cache_store.proofs.IndexAchieves.{fails_sparing, spares_same}
-use Rattle.cache_store.proofs.LearntAchieves.{finish_as_achieves}
+use Rattle.cache_store.proofs.Records.IndexAchieves.{fails_sparing, spares_same}
+use Rattle.cache_store.proofs.Records.LearntAchieves.{finish_as_achieves}
 use Rattle.cache_store.proofs.store.Store.finish_as.Goals as goal
 
 pub returns-in_err-elements-clause-does : goal.returns-in_err-elements-clause-does

@@ -4,10 +4,10 @@ use Rattle.index_theory.specs.Leaves.{LeavesIndex}
 use Rattle.index_theory.proofs.LeavesLaws.{sync_leaves_index}
 use Rattle.file_handles.specs.Kept.{kept}
 use Rattle.cache_store.specs.Session.{session}
-use Rattle.cache_store.proofs.IndexAchieves.{fails_sparing, spared_in_same}
-use Rattle.cache_store.proofs.IndexWrites.{flush_achieves, synced_unclean}
-use Rattle.cache_store.proofs.CalmAccounts.{sync_stops}
-use Rattle.cache_store.proofs.Stays.{change_handed}
+use Rattle.cache_store.proofs.Records.IndexAchieves.{fails_sparing, spared_in_same}
+use Rattle.cache_store.proofs.Records.IndexWrites.{flush_achieves, synced_unclean}
+use Rattle.cache_store.proofs.Performing.CalmAccounts.{sync_stops}
+use Rattle.cache_store.proofs.Performing.Stays.{change_handed}
 use Rattle.cache_store.proofs.store.Store.flush.Goals as goal
 
 pub returns-in_err-refresh-clause-does : goal.returns-in_err-refresh-clause-does

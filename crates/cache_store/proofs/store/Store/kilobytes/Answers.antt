@@ -1,6 +1,6 @@
 use Rattle.std.proofs.Common.{ℕ}
 use Rattle.file_handles.specs.Kept.{kept}
-use Rattle.cache_store.proofs.UpdateOver.{ends_update, is_total, look_leaves_honest, stays_open, update_fails}
+use Rattle.cache_store.proofs.Records.UpdateOver.{ends_update, is_total, look_leaves_honest, stays_open, update_fails}
 use Rattle.cache_store.proofs.store.Store.kilobytes.Goals as goal
 
 pub returns-in_err-finish-clause-ends : goal.returns-in_err-finish-clause-ends

@@ -1,5 +1,5 @@
 use Rattle.file_handles.specs.Kept.{kept}
-use Rattle.cache_store.proofs.ClearNames.{clears_those}
+use Rattle.cache_store.proofs.Clearing.ClearNames.{clears_those}
 use Rattle.cache_store.proofs.store.Store.names_to_clear.Goals as goal
 
 pub returns : goal.returns

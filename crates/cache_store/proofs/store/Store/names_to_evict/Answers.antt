@@ -2,7 +2,7 @@ use Rattle.std.proofs.Common.{◌≡◌, ℕ, List, IfOk, subst}
 use Rattle.cache_base.specs.declared.name.Name.{Name}
 use Rattle.evictor.specs.Evict.{victims}
 use Rattle.file_handles.specs.Kept.{kept}
-use Rattle.cache_store.proofs.VictimsApart.{chooses}
+use Rattle.cache_store.proofs.Evicting.VictimsApart.{chooses}
 use Rattle.cache_store.proofs.store.Store.names_to_evict.Goals as goal
 
 pub returns : goal.returns

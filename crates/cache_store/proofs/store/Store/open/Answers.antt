@@ -1,7 +1,7 @@
 use Rattle.std.proofs.Common.{false, refl, arith}
 use Rattle.cache_store.specs.Session.{open_of}
-use Rattle.cache_store.proofs.Opened.{begun_honest, begun_safe, cleared_honest, cleared_safe, keeps_found, nothing_removed, opened_safe, opens, opens_open}
-use Rattle.cache_store.proofs.StartAlong.{begins_along, in_use_along}
+use Rattle.cache_store.proofs.Sessions.Opened.{begun_honest, begun_safe, cleared_honest, cleared_safe, keeps_found, nothing_removed, opened_safe, opens, opens_open}
+use Rattle.cache_store.proofs.Sessions.StartAlong.{begins_along, in_use_along}
 use Rattle.file_handles.proofs.IndexLeft.{cleared_left}
 use Rattle.cache_store.proofs.Shelves.{shelf_exists}
 use Rattle.cache_store.proofs.store.Store.open.Goals as goal

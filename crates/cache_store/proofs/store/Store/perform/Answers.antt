@@ -1,7 +1,7 @@
 use Rattle.std.proofs.Common.{◌≡◌, ℕ, List, IfOk, IsTrue, true, refl, sym, ap, subst, ◌∙◌}
 use Rattle.std.specs.Prelude.{IfSome}
 use Rattle.cache_store.specs.Faulting.{has_failed_look}
-use Rattle.cache_store.proofs.Stays.{err_failed_look, on_failed_look, parts_stay}
+use Rattle.cache_store.proofs.Performing.Stays.{err_failed_look, on_failed_look, parts_stay}
 use Rattle.cache_script.specs.Command.{command_of}
 use Rattle.cache_theory.specs.Command.Command.{At, Append, ClearOrigin, Close, Create, Doom, ElementOf, Evict, Finish, Flush, Get, GetAlt, HasEntry, ListRecords, MainBody, OpenKey, Pin, PutAlt, ReadPart, Rebuild, Resume, SetElement, StepUpdate, Unpin, UnsetElement, UpdateState, UseEntry, Verify, FinishAs, Dump}
 use Rattle.cache_theory.specs.Given.{IsGiven}
@@ -18,16 +18,16 @@ use Rattle.cache_store.specs.Said.{saying}
 use Rattle.cache_store.specs.StoppedClearing.{ClearsUnderMark}
 use Rattle.cache_store.specs.Session.{open_of, session}
 use Rattle.cache_store.specs.declared.fault.Verdict.TheVariants as outcome
-use Rattle.file_handles.proofs.ReadKept.{read_keeps}
+use Rattle.file_handles.proofs.Reading.ReadKept.{read_keeps}
 use Rattle.file_handles.specs.Kept.{kept}
-use Rattle.cache_store.proofs.ClearCommands.{resumed_clears, resumed_unsaid}
-use Rattle.cache_store.proofs.EvictDoes.{kb_of}
-use Rattle.cache_store.proofs.LearntAchieves.{append_achieves, close_achieves, create_achieves, doom_achieves, finish_achieves, open_achieves, pin_achieves, put_achieves, set_achieves, unpin_achieves, unset_achieves, use_achieves}
-use Rattle.cache_store.proofs.PerformDoes.{as_command, at_does, by_name, done_unsaid, has_does, reading_does, reading_does_with, state_does, unsaid_does, unsaid_done}
-use Rattle.cache_store.proofs.TakenMore.{open_takes}
+use Rattle.cache_store.proofs.Clearing.ClearCommands.{resumed_clears}
+use Rattle.cache_store.proofs.Evicting.EvictDoes.{kb_of}
+use Rattle.cache_store.proofs.Records.LearntAchieves.{append_achieves, close_achieves, create_achieves, doom_achieves, finish_achieves, open_achieves, pin_achieves, put_achieves, set_achieves, unpin_achieves, unset_achieves, use_achieves}
+use Rattle.cache_store.proofs.Performing.PerformDoes.{as_command, at_does, by_name, has_does, reading_does, reading_does_with, state_does, unsaid_does, unsaid_done}
+use Rattle.cache_store.proofs.Saying.TakenMore.{open_takes}
 use Rattle.file_handles.proofs.IndexLeft.{same_left}
-use Rattle.cache_store.proofs.ReadsHeld.{same_read}
-use Rattle.cache_store.proofs.RepliedInMemory.{at_in_memory, element_in_memory, has_in_memory, state_in_memory}
+use Rattle.cache_store.proofs.Reading.ReadsHeld.{same_read}
+use Rattle.cache_store.proofs.Performing.RepliedInMemory.{at_in_memory, element_in_memory, has_in_memory, state_in_memory}
 use Rattle.cache_store.proofs.store.Store.perform.Goals as goal
 
 pub returns-in-At-clause-does : goal.returns-in-At-clause-does
@@ -156,27 +156,27 @@ returns-in-Evict-clause-does g c = λ told.
 pub returns-in-Clear-clause-does : goal.returns-in-Clear-clause-does
 returns-in-Clear-clause-does g c = λ told.
     by_name _ (ClearOrigin c.in-Clear.origin.now) _ _ _ _ _ (ap command_of c.in-Clear.is)
-    (unsaid_done (ClearOrigin c.in-Clear.origin.now) c.clear.result _ _ (saying g.K.Sink c.clear.new.self.reply c.args.sink.now) c.clear.ensures.not_said c.clear.ensures.no_sink (c.clear.ensures.held ∙ c.requires.empty) (c.clear.ensures.does told))
+    (unsaid_done (ClearOrigin c.in-Clear.origin.now) c.clear.result _ _ (saying g.K.Sink c.clear.new.self.reply c.args.sink.now) c.clear.ensures.unsaid.not_said c.clear.ensures.unsaid.no_sink (c.clear.ensures.unsaid.held ∙ c.requires.empty) (c.clear.ensures.does told))
 
 pub returns-in-Flush-clause-does : goal.returns-in-Flush-clause-does
 returns-in-Flush-clause-does g c = λ told.
     as_command _ Flush _ _ _ _ _ (ap command_of c.in-Flush.is) (λ m. refl)
-    (unsaid_does Flush c.flush.result _ _ (saying g.K.Sink c.flush.new.self.reply c.args.sink.now) (done_unsaid c.flush.result c.flush.ensures.done) c.flush.ensures.no_sink (c.flush.ensures.held ∙ c.requires.empty) (c.flush.ensures.does told))
+    (unsaid_does Flush c.flush.result _ _ (saying g.K.Sink c.flush.new.self.reply c.args.sink.now) c.flush.ensures.unsaid.not_said c.flush.ensures.unsaid.no_sink (c.flush.ensures.unsaid.held ∙ c.requires.empty) (c.flush.ensures.does told))
 
 pub returns-in-Step-clause-does : goal.returns-in-Step-clause-does
 returns-in-Step-clause-does g c = λ told.
     as_command _ (StepUpdate c.in-Step.n) _ _ _ _ _ (ap command_of c.in-Step.is) (λ m. refl)
-    (unsaid_does (StepUpdate c.in-Step.n) c.step.result _ _ (saying g.K.Sink c.step.new.self.reply c.args.sink.now) c.step.ensures.not_said c.step.ensures.no_sink (c.step.ensures.held ∙ c.requires.empty) (c.step.ensures.does told))
+    (unsaid_does (StepUpdate c.in-Step.n) c.step.result _ _ (saying g.K.Sink c.step.new.self.reply c.args.sink.now) c.step.ensures.unsaid.not_said c.step.ensures.unsaid.no_sink (c.step.ensures.unsaid.held ∙ c.requires.empty) (c.step.ensures.does told))
 
 pub returns-in-Verify-clause-does : goal.returns-in-Verify-clause-does
 returns-in-Verify-clause-does g c = λ told.
     by_name _ Verify _ _ _ _ _ (ap command_of c.in-Verify.is)
-    (unsaid_done Verify c.verify.result _ _ (saying g.K.Sink c.verify.new.self.reply c.args.sink.now) c.verify.ensures.not_said c.verify.ensures.no_sink (c.verify.ensures.held ∙ c.requires.empty) (c.verify.ensures.does told))
+    (unsaid_done Verify c.verify.result _ _ (saying g.K.Sink c.verify.new.self.reply c.args.sink.now) c.verify.ensures.unsaid.not_said c.verify.ensures.unsaid.no_sink (c.verify.ensures.unsaid.held ∙ c.requires.empty) (c.verify.ensures.does told))
 
 pub returns-in-Rebuild-clause-does : goal.returns-in-Rebuild-clause-does
 returns-in-Rebuild-clause-does g c = λ told.
     as_command _ Rebuild _ _ _ _ _ (ap command_of c.in-Rebuild.is) (λ m. refl)
-    (unsaid_does Rebuild c.rebuild.result _ _ (saying g.K.Sink c.rebuild.new.self.reply c.args.sink.now) c.rebuild.ensures.not_said c.rebuild.ensures.no_sink (c.rebuild.ensures.held ∙ c.requires.empty) (c.rebuild.ensures.does told))
+    (unsaid_does Rebuild c.rebuild.result _ _ (saying g.K.Sink c.rebuild.new.self.reply c.args.sink.now) c.rebuild.ensures.unsaid.not_said c.rebuild.ensures.unsaid.no_sink (c.rebuild.ensures.unsaid.held ∙ c.requires.empty) (c.rebuild.ensures.does told))
 
 pub returns-in-Element-clause-grows : goal.returns-in-Element-clause-grows
 returns-in-Element-clause-grows g c = λ told.
@@ -258,7 +258,7 @@ returns-in-Clear-clause-stopped g c =
 pub returns-in-Resume-clause-does : goal.returns-in-Resume-clause-does
 returns-in-Resume-clause-does g c = λ told.
     by_name _ Resume _ _ _ _ _ (ap command_of c.in-Resume.is)
-    (unsaid_done Resume c.resume.result _ _ (saying g.K.Sink c.resume.new.self.reply c.args.sink.now) (resumed_unsaid c.resume.result c.resume.ensures.answer) c.resume.ensures.no_sink (c.resume.ensures.held ∙ c.requires.empty) (c.resume.ensures.does told))
+    (unsaid_done Resume c.resume.result _ _ (saying g.K.Sink c.resume.new.self.reply c.args.sink.now) c.resume.ensures.unsaid.not_said c.resume.ensures.unsaid.no_sink (c.resume.ensures.unsaid.held ∙ c.requires.empty) (c.resume.ensures.does told))
 
 pub returns-in-Resume-clause-clears : goal.returns-in-Resume-clause-clears
 returns-in-Resume-clause-clears g c =
@@ -311,7 +311,7 @@ pub returns-in-FinishAs-clause-does : goal.returns-in-FinishAs-clause-does
 returns-in-FinishAs-clause-does g c = λ told.
     let command : Command = FinishAs c.in-FinishAs.slot c.in-FinishAs.header c.in-FinishAs.elements.now in
     as_command _ command _ _ _ _ _ (ap command_of c.in-FinishAs.is) (λ m. refl)
-    (unsaid_does command c.finish_as.result _ _ (saying g.K.Sink c.finish_as.new.self.reply c.args.sink.now) c.finish_as.ensures.not_said c.finish_as.ensures.no_sink (c.finish_as.ensures.held ∙ c.requires.empty)
+    (unsaid_does command c.finish_as.result _ _ (saying g.K.Sink c.finish_as.new.self.reply c.args.sink.now) c.finish_as.ensures.unsaid.not_said c.finish_as.ensures.unsaid.no_sink (c.finish_as.ensures.unsaid.held ∙ c.requires.empty)
     (c.finish_as.ensures.does told))
 
 pub returns-in-Dump-clause-does : goal.returns-in-Dump-clause-does

@@ -8,9 +8,9 @@ use Rattle.index_theory.specs.Ever.{entries_on}
 use Rattle.file_handles.specs.Kept.{kept}
 use Rattle.cache_store.specs.Records.{TellsOf}
 use Rattle.cache_store.specs.Session.{session}
-use Rattle.cache_store.proofs.IndexAchieves.{fails_sparing, spared_in_same, spares_from, spares_same}
-use Rattle.cache_store.proofs.IndexWrites.{rebuild_achieves, rebuild_outcome, rebuilds, synced_unclean, unclean_from, written_records}
-use Rattle.cache_store.proofs.Stays.{noted_disk}
+use Rattle.cache_store.proofs.Records.IndexAchieves.{fails_sparing, spared_in_same, spares_from, spares_same}
+use Rattle.cache_store.proofs.Records.IndexWrites.{rebuild_achieves, rebuild_outcome, rebuilds, synced_unclean, unclean_from, written_records}
+use Rattle.cache_store.proofs.Performing.Stays.{noted_disk}
 use Rattle.cache_store.proofs.store.Store.rebuild.Goals as goal
 
 pub returns-in-Err-clause-does : goal.returns-in-Err-clause-does

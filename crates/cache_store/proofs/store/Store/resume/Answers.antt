@@ -2,8 +2,8 @@ use Rattle.std.proofs.Common.{◌≡◌, ◌∙◌, ap, not, subst, sym}
 use Rattle.cache_store.specs.Clearing.{LeavesResumed}
 use Rattle.cache_store.specs.Session.{session}
 use Rattle.cache_store.specs.StoppedClearing.{ClearsUnderMark}
-use Rattle.cache_store.proofs.ClearCommands.{cleared_from, ended_index, found_mark, mark_not_resumed, mark_resumed, no_size, none_told, nothing_resumed, of_each, of_marked, other_removed, other_stays, resume_looks, stopped_from, uncleared_from}
-use Rattle.cache_store.proofs.ClearDoes.{looks_stopped}
+use Rattle.cache_store.proofs.Clearing.ClearCommands.{cleared_from, ended_index, found_mark, mark_not_resumed, mark_resumed, no_size, none_told, nothing_resumed, of_each, of_marked, other_removed, other_stays, resume_looks, stopped_from, uncleared_from}
+use Rattle.cache_store.proofs.Clearing.ClearDoes.{looks_stopped}
 use Rattle.context_clear.specs.Mark.{mark_of}
 use Rattle.disk_model.specs.State.{standing}
 use Rattle.disk_model.specs.declared.place.Place.TheVariants.{Clear}

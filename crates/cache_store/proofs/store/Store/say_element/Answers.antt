@@ -8,8 +8,8 @@ use Rattle.file_handles.specs.Carries.{Answers}
 use Rattle.file_handles.specs.Kept.{kept}
 use Rattle.cache_store.specs.Said.{saying}
 use Rattle.cache_store.specs.declared.answered.Answered.TheVariants as answered
-use Rattle.cache_store.proofs.ReplyLaws.{as_carried, value_cut, value_said}
-use Rattle.cache_store.proofs.Unsaid.{unsaid_answers}
+use Rattle.cache_store.proofs.Saying.ReplyLaws.{as_carried, value_cut, value_said}
+use Rattle.cache_store.proofs.Saying.Unsaid.{unsaid_answers}
 use Rattle.cache_store.proofs.store.Store.say_element.Goals as goal
 
 pub returns-in_err-say_value-in-Ok-Some-clause-answers : goal.returns-in_err-say_value-in-Ok-Some-clause-answers

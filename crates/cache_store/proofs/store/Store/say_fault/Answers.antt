@@ -1,5 +1,5 @@
 use Rattle.cache_store.specs.Said.{saying}
-use Rattle.cache_store.proofs.FaultLine.{fault_cut, fault_cut_all, fault_sent}
+use Rattle.cache_store.proofs.Saying.FaultLine.{fault_cut, fault_cut_all, fault_sent}
 use Rattle.cache_store.proofs.store.Store.say_fault.Goals as goal
 
 pub returns-in_err-put-clause-cut : goal.returns-in_err-put-clause-cut

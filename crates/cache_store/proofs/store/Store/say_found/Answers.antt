@@ -3,9 +3,9 @@ use Rattle.std.specs.Prelude.{take}
 use Rattle.disk_model.specs.State.{State, standing}
 use Rattle.cache_store.specs.Prefix.{HasChunkAt, range_of}
 use Rattle.cache_store.specs.Said.{saying}
-use Rattle.cache_store.proofs.SaidMore.{of_err, of_ok}
-use Rattle.cache_store.proofs.Stays.{noted_calm, noted_disk}
-use Rattle.cache_store.proofs.SayingLaws.{cuts_here}
+use Rattle.cache_store.proofs.Saying.SaidMore.{of_err, of_ok}
+use Rattle.cache_store.proofs.Performing.Stays.{noted_calm, noted_disk}
+use Rattle.cache_store.proofs.Saying.SayingLaws.{cuts_here}
 use Rattle.cache_store.proofs.store.Store.say_found.Goals as goal
 
 pub returns-in-Err-clause-cut : goal.returns-in-Err-clause-cut

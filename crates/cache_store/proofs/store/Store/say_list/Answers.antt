@@ -5,9 +5,9 @@ use Rattle.file_handles.specs.Kept.{kept}
 use Rattle.index_record.specs.declared.record.IndexRecord.{IndexRecord}
 use Rattle.cache_store.specs.Said.{saying}
 use Rattle.cache_store.specs.Saying.{CutsIn, SaysMore}
-use Rattle.cache_store.proofs.ListDoes.{list_does, list_fails, list_stops, list_unsaid, no_sink}
-use Rattle.cache_store.proofs.Stays.{ended_apart, look_stays, noted_exactly}
-use Rattle.cache_store.proofs.TakenMore.{cuts_takes, says_takes}
+use Rattle.cache_store.proofs.Records.ListDoes.{list_does, list_fails, list_stops, list_unsaid, no_sink}
+use Rattle.cache_store.proofs.Performing.Stays.{ended_apart, look_stays, noted_exactly}
+use Rattle.cache_store.proofs.Saying.TakenMore.{cuts_takes, says_takes}
 use Rattle.cache_store.proofs.store.Store.say_list.Goals as goal
 
 pub returns-in-Err-clause-does : goal.returns-in-Err-clause-does

@@ -12,12 +12,12 @@ use Rattle.cache_store.specs.Answering.{AnswersTo}
 use Rattle.cache_store.specs.Said.{saying}
 use Rattle.cache_store.specs.Saying.{CutsIn, SaysMore}
 use Rattle.cache_store.specs.declared.answered.Answered.TheVariants as answered
-use Rattle.cache_store.proofs.ReplyLaws.{bytes_cut, bytes_said}
-use Rattle.cache_store.proofs.HandedFaults.{handed_disk}
-use Rattle.cache_store.proofs.PartRead.{all_of, count_is, read_front, read_reply, refused_reply}
-use Rattle.cache_store.proofs.ReadsHeld.{fewer_held, goes_on, held_after, held_first, holds_then, len_of, recent_along, recent_count}
-use Rattle.cache_store.proofs.SaidWhole.{not_said}
-use Rattle.cache_store.proofs.Unsaid.{unsaid_answers}
+use Rattle.cache_store.proofs.Saying.ReplyLaws.{bytes_cut, bytes_said}
+use Rattle.cache_store.proofs.Performing.HandedFaults.{handed_disk}
+use Rattle.cache_store.proofs.Reading.PartRead.{all_of, count_is, read_front, read_reply, refused_reply}
+use Rattle.cache_store.proofs.Reading.ReadsHeld.{fewer_held, goes_on, held_after, held_first, holds_then, len_of, recent_along, recent_count}
+use Rattle.cache_store.proofs.Saying.SaidWhole.{not_said}
+use Rattle.cache_store.proofs.Saying.Unsaid.{unsaid_answers}
 use Rattle.cache_store.proofs.store.Store.say_read.Goals as goal
 
 pub returns-in-Err-clause-answers : goal.returns-in-Err-clause-answers

@@ -1,4 +1,4 @@
-use Rattle.std.proofs.Common.{◌-◌, ◌++◌, ◌∷◌, [], List, ℕ, Ok, Result, subst, sym}
+use Rattle.std.proofs.Common.{◌-◌, ◌++◌, ◌∷◌, [], List, ℕ, Ok, Result, refl, rules, subst, sym}
 use Rattle.cache_base.specs.Limits.{chunks}
 use Rattle.disk_model.specs.State.{State, standing}
 use Rattle.disk_model.specs.declared.place.Place.TheVariants.{Entry}
@@ -15,10 +15,10 @@ use Rattle.cache_theory.specs.Step.{step}
 use Rattle.cache_theory.specs.declared.refusal.Refusal.TheVariants.{NoAlt}
 use Rattle.entry_metadata.specs.Meta.{meta_of}
 use Rattle.file_handles.specs.Reading.{part_of_body}
-use Rattle.cache_store.proofs.ShownParts.{finds_reply, part_none, part_shows, part_within}
-use Rattle.cache_store.proofs.Unsaid.{none_cut, unsaid_answers, unsaid_by}
-use Rattle.cache_store.proofs.FoundAnswers.{answers_cut, answers_shown, by_fault, front_shown, of_body}
-use Rattle.cache_store.proofs.HandedFaults.{handed_disk}
+use Rattle.cache_store.proofs.Reading.ShownParts.{finds_reply, no_findings, part_none, part_shows, part_within}
+use Rattle.cache_store.proofs.Saying.Unsaid.{none_cut, unsaid_answers, unsaid_by}
+use Rattle.cache_store.proofs.Reading.FoundAnswers.{answers_cut, answers_shown, by_fault, front_shown, of_body}
+use Rattle.cache_store.proofs.Performing.HandedFaults.{handed_disk}
 use Rattle.cache_store.proofs.store.Store.say_shown.Goals as goal
 
 pub say_found-requires-clause-held : goal.say_found-requires-clause-held
@@ -90,3 +90,24 @@ returns-clause-answers g c told m represents =
     (λ body. SaysMore was now (c.as_slice.result.now ++ (range_of p.from p.to body ++ 10 ∷ []))) (c.in_ok-say_found.ensures.said told) in
     answers_shown command m found.version.body (part_said p) shows was c.requires.empty now
     (subst (λ (h : List ℕ). SaysMore was now (h ++ (range_of p.from p.to found.version.body ++ 10 ∷ []))) c.as_slice.ensures says)
+
+pub returns-in-Err-clause-unsaid : goal.returns-in-Err-clause-unsaid
+returns-in-Err-clause-unsaid g c = record {
+  lists = no_findings c.args.shown c.args.key.now c.fault_answer.result c.fault_answer.ensures.unlisted;
+  out = search rules;
+  held = search rules;
+}
+
+pub returns-in_default-clause-unsaid : goal.returns-in_default-clause-unsaid
+returns-in_default-clause-unsaid g c = record {
+  lists = no_findings c.args.shown c.args.key.now (Ok (answered.Refused NoAlt)) refl;
+  out = λ a. refl;
+  held = λ a. c.requires.empty;
+}
+
+pub returns-clause-unsaid : goal.returns-clause-unsaid
+returns-clause-unsaid g c = record {
+  lists = no_findings c.args.shown c.args.key.now (Ok answered.All) refl;
+  out = λ more. absurd (more refl);
+  held = λ more. absurd (more refl);
+}

@@ -1,6 +1,6 @@
 use Rattle.file_handles.specs.Kept.{kept}
-use Rattle.cache_store.proofs.IndexAchieves.{fails_sparing, spares_same, step_achieves}
-use Rattle.cache_store.proofs.Stays.{look_stays, noted_exactly}
+use Rattle.cache_store.proofs.Records.IndexAchieves.{fails_sparing, spares_same, step_achieves}
+use Rattle.cache_store.proofs.Performing.Stays.{look_stays, noted_exactly}
 use Rattle.cache_store.specs.Faults.{of_disk}
 use Rattle.cache_store.specs.Session.{session}
 use Rattle.cache_theory.specs.Command.Command.{StepUpdate}

@@ -9,9 +9,9 @@ use Rattle.index_theory.specs.Ever.{entries_on}
 use Rattle.record_list.proofs.NameLaws.{rising_distinct}
 use Rattle.record_list.specs.Lists.{names_of}
 use Rattle.cache_store.specs.declared.memory_index.MemoryIndex.{MemoryIndex}
-use Rattle.cache_store.proofs.RecordsAtEnd.{ended_stays}
-use Rattle.cache_store.proofs.Stays.{look_stays, noted_exactly}
-use Rattle.cache_store.proofs.VerifyDoes.{verify_does, verify_fails, verify_finds}
+use Rattle.cache_store.proofs.Records.RecordsAtEnd.{ended_stays}
+use Rattle.cache_store.proofs.Performing.Stays.{look_stays, noted_exactly}
+use Rattle.cache_store.proofs.Verifying.VerifyDoes.{verify_does, verify_fails, verify_finds}
 use Rattle.cache_store.proofs.store.Store.verify.Goals as goal
 
 pub returns-in-Err-clause-does : goal.returns-in-Err-clause-does

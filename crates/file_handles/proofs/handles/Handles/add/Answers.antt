@@ -1,8 +1,8 @@
 use Rattle.std.proofs.Common.{◌≡◌, ◌+◌, ap, arith, ◌∙◌}
 use Rattle.file_handles.specs.Finding.{is_free}
 use Rattle.file_handles.specs.Kept.{Kept, kept}
-use Rattle.file_handles.proofs.FoundUser.{found_within}
-use Rattle.file_handles.proofs.Joined.{added}
+use Rattle.file_handles.proofs.Finding.FoundUser.{found_within}
+use Rattle.file_handles.proofs.Joining.Joined.{added}
 use Rattle.file_handles.proofs.handles.Handles.add.Goals as goal
 
 pub returns-clause-adds : goal.returns-clause-adds

@@ -7,15 +7,15 @@ use Rattle.file_handles.specs.Kept.{kept}
 use Rattle.file_handles.specs.declared.object.Object.{Object}
 use Rattle.file_handles.proofs.Carried.{change_carried}
 use Rattle.file_handles.specs.Answers.{done_or}
-use Rattle.file_handles.proofs.ElementChecks.{both_right, if_object, the_object}
-use Rattle.file_handles.proofs.InChunk.{appends_done, fits_held}
+use Rattle.file_handles.proofs.Setting.ElementChecks.{both_right, if_object, the_object}
+use Rattle.file_handles.proofs.Finishing.InChunk.{appends_done, fits_held}
 use Rattle.file_handles.proofs.Places.{filed_somehow}
-use Rattle.file_handles.proofs.WriterCommands.{append_makes}
+use Rattle.file_handles.proofs.Finishing.WriterCommands.{append_makes}
 use Rattle.file_handles.proofs.Refused.{refused_answer}
 use Rattle.file_handles.proofs.IndexLeft.{change_left}
 use Rattle.cache_theory.specs.Step.{stepped}
 use Rattle.file_handles.specs.declared.fault.HandleFault.TheVariants as fault
-use Rattle.file_handles.proofs.PartsSlots.{err_is}
+use Rattle.file_handles.proofs.Reading.PartsSlots.{err_is}
 use Rattle.file_handles.proofs.UnsyncedLaws.{change_unsynced}
 use Rattle.file_handles.proofs.NoSlots.{call_handed_on, call_passed}
 use Rattle.file_handles.proofs.handles.Handles.append.Goals as goal

@@ -1,8 +1,8 @@
 use Rattle.std.proofs.Common.{Ok, Some, refl}
 use Rattle.file_handles.specs.Changes.{appended}
 use Rattle.file_handles.specs.Kept.{kept}
-use Rattle.file_handles.proofs.ElementChecks.{is_there}
-use Rattle.file_handles.proofs.Grown.{grown_becomes, grown_writes}
+use Rattle.file_handles.proofs.Setting.ElementChecks.{is_there}
+use Rattle.file_handles.proofs.Finishing.Grown.{grown_becomes, grown_writes}
 use Rattle.file_handles.proofs.PutBack.{changes_done, changes_failed, put_back}
 use Rattle.file_handles.proofs.handles.Handles.append_at.Goals as goal
 

@@ -11,8 +11,8 @@ use Rattle.file_handles.specs.declared.object.Entry.TheVariants.{Draft, Finished
 use Rattle.file_handles.specs.declared.object.Object.{Object}
 use Rattle.file_handles.proofs.Accounting.{account_handed_on}
 use Rattle.file_handles.proofs.EffectLaws.{held_is_learnt}
-use Rattle.file_handles.proofs.ElementChecks.{is_there}
-use Rattle.file_handles.proofs.EntryChanged.{IsDraftWith, IsMetaWith, draft_becomes, draft_held, meta_becomes, meta_held, meta_writes, stores}
+use Rattle.file_handles.proofs.Setting.ElementChecks.{is_there}
+use Rattle.file_handles.proofs.Setting.EntryChanged.{IsDraftWith, IsMetaWith, draft_becomes, draft_held, meta_becomes, meta_held, meta_writes, stores}
 use Rattle.file_handles.proofs.PutBack.{changes_done, changes_failed, put_back}
 use Rattle.file_handles.proofs.handles.Handles.change_at.Goals as goal
 use Rattle.file_handles.proofs.handles.Handles.change_at.Goals.{in-Draft+in_ok-changed_draft-in-Draft, in-Finished+in_ok-meta-in-Finished+in_ok-rewrite_meta-in-Finished}

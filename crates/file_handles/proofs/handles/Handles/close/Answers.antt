@@ -2,12 +2,12 @@ use Rattle.std.proofs.Common.{ap, refl, sym, ◌∙◌}
 use Rattle.file_handles.specs.Answers.{fault_of}
 use Rattle.file_handles.specs.Kept.{kept, used}
 use Rattle.file_handles.specs.declared.fault.HandleFault.TheVariants as fault
-use Rattle.file_handles.proofs.ClosedChunks.{closed, unclosed}
-use Rattle.file_handles.proofs.PartsSlots.{err_is, on_err}
+use Rattle.file_handles.proofs.Reading.ClosedChunks.{closed, unclosed}
+use Rattle.file_handles.proofs.Reading.PartsSlots.{err_is, on_err}
 use Rattle.file_handles.proofs.Accounting.{account_then_handed_on}
-use Rattle.file_handles.proofs.ClosedSlot.{closed_leaves, closed_safe, faulted_leaves, unused_leaves}
-use Rattle.file_handles.proofs.DoomedCommand.{no_refusal}
-use Rattle.file_handles.proofs.ElementSlots.{use_found}
+use Rattle.file_handles.proofs.Closing.ClosedSlot.{closed_leaves, closed_safe, faulted_leaves, unused_leaves}
+use Rattle.file_handles.proofs.Dooming.DoomedCommand.{no_refusal}
+use Rattle.file_handles.proofs.Setting.ElementSlots.{use_found}
 use Rattle.file_handles.proofs.LiveUses.{live_same, used_at}
 use Rattle.file_handles.proofs.Histories.{history_of}
 use Rattle.file_handles.proofs.Where.{carries_out}

@@ -4,7 +4,7 @@ use Rattle.disk_model.specs.Account.{IsCalm}
 use Rattle.index_theory.specs.Leaves.{LeavesBeside}
 use Rattle.file_handles.specs.Kept.{kept}
 use Rattle.file_handles.proofs.Accounting.{calm_then, calm_then_handed_on, fault_handed_on}
-use Rattle.file_handles.proofs.ClosedAll.{IsDroppedTo, all_closed, all_failed, item_at, next_somehow, none_dropped, one_dropped}
+use Rattle.file_handles.proofs.Closing.ClosedAll.{IsDroppedTo, all_closed, all_failed, item_at, next_somehow, none_dropped, one_dropped}
 use Rattle.file_handles.proofs.IndexLeft.{let_go_left, then_left}
 use Rattle.file_handles.proofs.handles.Handles.close_all.Goals.{in-Some+in_ok-let_go, in_default}
 use Rattle.file_handles.proofs.handles.Handles.close_all.Goals as goal

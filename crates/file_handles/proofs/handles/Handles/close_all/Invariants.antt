@@ -2,7 +2,7 @@ use Rattle.std.proofs.Common.{◌≡◌, IsTrue, length}
 use Rattle.disk_model.specs.Account.{IsCalm, LooksAtNoEntry}
 use Rattle.index_theory.specs.Leaves.{LeavesBeside}
 use Rattle.file_handles.specs.Kept.{kept}
-use Rattle.file_handles.proofs.ClosedAll.{IsDroppedTo}
+use Rattle.file_handles.proofs.Closing.ClosedAll.{IsDroppedTo}
 use Rattle.file_handles.proofs.handles.Handles.close_all.Given as goal
 
 abbrev pub invariant-loop-object : goal.invariant-loop-object

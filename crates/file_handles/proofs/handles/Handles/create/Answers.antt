@@ -6,10 +6,10 @@ use Rattle.cache_theory.specs.Step.{fresh}
 use Rattle.file_handles.specs.Held.{IsHeldAs}
 use Rattle.file_handles.specs.Kept.{kept, use_at}
 use Rattle.file_handles.specs.declared.fault.Effect.TheVariants.{Gone}
-use Rattle.file_handles.proofs.CreatedCommand.{added_leaves, bad_key_leaves, doom_done, doom_fails, doom_numbered, draft_safe, may_create_by, taken_leaves}
-use Rattle.file_handles.proofs.DoomedCommand.{failed_on_leaves}
-use Rattle.file_handles.proofs.FirstFree.{may_take}
-use Rattle.file_handles.proofs.JoinedOpen.{used_none}
+use Rattle.file_handles.proofs.Joining.CreatedCommand.{added_leaves, bad_key_leaves, doom_done, doom_fails, doom_numbered, draft_safe, may_create_by, taken_leaves}
+use Rattle.file_handles.proofs.Dooming.DoomedCommand.{failed_on_leaves}
+use Rattle.file_handles.proofs.Dooming.FirstFree.{may_take}
+use Rattle.file_handles.proofs.Joining.JoinedOpen.{used_none}
 use Rattle.file_handles.proofs.Where.{carries_out_at}
 use Rattle.file_handles.proofs.IndexLeft.{made_left, then_left}
 use Rattle.file_handles.proofs.UnsyncedLaws.{made_unsynced, then_unsynced}

@@ -4,7 +4,7 @@ use Rattle.cache_theory.specs.Command.Command.{Doom}
 use Rattle.file_handles.specs.Effects.{HasEffect}
 use Rattle.file_handles.specs.Kept.{kept}
 use Rattle.file_handles.specs.declared.fault.Effect.TheVariants.{Gone}
-use Rattle.file_handles.proofs.DoomedCommand.{dooming_leaves, refused_on_leaves, still_represents, unused_stands}
+use Rattle.file_handles.proofs.Dooming.DoomedCommand.{dooming_leaves, refused_on_leaves, still_represents, unused_stands}
 use Rattle.file_handles.proofs.Where.{carries_out}
 use Rattle.file_handles.proofs.IndexLeft.{same_left, then_left}
 use Rattle.file_handles.proofs.UnsyncedLaws.{same_unsynced, then_unsynced}

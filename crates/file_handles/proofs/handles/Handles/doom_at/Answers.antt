@@ -3,13 +3,13 @@ use Rattle.cache_theory.specs.Step.{doomed_under}
 use Rattle.file_handles.specs.Cache.{cache_at}
 use Rattle.file_handles.specs.Kept.{kept}
 use Rattle.file_handles.specs.Stands.{KeepsWhere}
-use Rattle.file_handles.proofs.DoomedNumbers.{few_left, numbers_left}
-use Rattle.file_handles.proofs.DoomedUser.{not_set_aside, set_aside_there, user_there_or_aside}
-use Rattle.file_handles.proofs.FirstFree.{takes_aside}
+use Rattle.file_handles.proofs.Dooming.DoomedNumbers.{few_left, numbers_left}
+use Rattle.file_handles.proofs.Dooming.DoomedUser.{not_set_aside, set_aside_there, user_there_or_aside}
+use Rattle.file_handles.proofs.Dooming.FirstFree.{takes_aside}
 use Rattle.file_handles.proofs.Histories.{history_of}
-use Rattle.file_handles.proofs.User.{user_is_there}
+use Rattle.file_handles.proofs.Finding.User.{user_is_there}
 use Rattle.file_handles.proofs.IndexLeft.{doomed_left}
-use Rattle.file_handles.proofs.MarkLeft.{doomed_marked}
+use Rattle.file_handles.proofs.Dooming.MarkLeft.{doomed_marked}
 use Rattle.file_handles.proofs.UnsyncedLaws.{doomed_unsynced}
 use Rattle.file_handles.proofs.handles.Handles.doom_at.Goals as goal
 

@@ -9,11 +9,11 @@ use Rattle.file_handles.specs.Stands.{KeepsWhere}
 use Rattle.file_handles.specs.Users.{users_at}
 use Rattle.file_handles.specs.declared.fault.Effect.TheVariants.{Gone}
 use Rattle.file_handles.proofs.Accounting.{change_handed_on}
-use Rattle.file_handles.proofs.DoomedCommand.{none_if, some_if}
-use Rattle.file_handles.proofs.GoneUnder.{gone_done_by, gone_fails_by, gone_or_not}
+use Rattle.file_handles.proofs.Dooming.DoomedCommand.{none_if, some_if}
+use Rattle.file_handles.proofs.Dooming.GoneUnder.{gone_done_by, gone_fails_by, gone_or_not}
 use Rattle.file_handles.proofs.Histories.{history_of}
 use Rattle.file_handles.proofs.IndexLeft.{removed_left, then_left}
-use Rattle.file_handles.proofs.MarkLeft.{removed_marked, then_marked}
+use Rattle.file_handles.proofs.Dooming.MarkLeft.{removed_marked, then_marked}
 use Rattle.file_handles.proofs.TakingSteps.{removed_takes, takes_then}
 use Rattle.file_handles.proofs.handles.Handles.doom_name.Goals as goal
 

@@ -1,7 +1,7 @@
 use Rattle.std.proofs.lemmas.Result.{IfOk-from_err}
 use Rattle.file_handles.specs.Kept.{kept}
-use Rattle.file_handles.proofs.DoomedCommand.{none_if, some_if}
-use Rattle.file_handles.proofs.GoneUnder.{gone_done_by, gone_fails_by}
+use Rattle.file_handles.proofs.Dooming.DoomedCommand.{none_if, some_if}
+use Rattle.file_handles.proofs.Dooming.GoneUnder.{gone_done_by, gone_fails_by}
 use Rattle.file_handles.proofs.IndexLeft.{gone_left, then_left}
 use Rattle.file_handles.proofs.UnsyncedLaws.{gone_unsynced, then_unsynced}
 use Rattle.file_handles.proofs.handles.Handles.doom_there.Goals as goal

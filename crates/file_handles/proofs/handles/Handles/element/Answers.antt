@@ -4,9 +4,9 @@ use Rattle.cache_theory.specs.Command.Command.{ElementOf}
 use Rattle.entry_parts.specs.Elements.{element}
 use Rattle.file_handles.specs.Kept.{kept, use_at, used}
 use Rattle.file_handles.specs.declared.object.Use.{Use}
-use Rattle.file_handles.proofs.ElementChecks.{element_no_slot, handed_on}
-use Rattle.file_handles.proofs.ElementReads.{element_leaves}
-use Rattle.file_handles.proofs.ElementSlots.{use_found}
+use Rattle.file_handles.proofs.Setting.ElementChecks.{element_no_slot, handed_on}
+use Rattle.file_handles.proofs.Setting.ElementReads.{element_leaves}
+use Rattle.file_handles.proofs.Setting.ElementSlots.{use_found}
 use Rattle.file_handles.proofs.LiveUses.{live_refuses, none_live, some_live, used_at}
 use Rattle.file_handles.proofs.Refused.{refused_leaves}
 use Rattle.file_handles.proofs.handles.Handles.element.Goals as goal

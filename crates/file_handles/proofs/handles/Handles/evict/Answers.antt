@@ -1,5 +1,5 @@
 use Rattle.file_handles.specs.Kept.{kept}
-use Rattle.file_handles.proofs.Evicted.{evicted}
+use Rattle.file_handles.proofs.Dooming.Evicted.{evicted}
 use Rattle.file_handles.proofs.IndexLeft.{removed_left}
 use Rattle.file_handles.proofs.UnsyncedLaws.{removed_unsynced}
 use Rattle.file_handles.proofs.handles.Handles.evict.Goals as goal

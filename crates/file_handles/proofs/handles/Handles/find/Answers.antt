@@ -1,8 +1,8 @@
 use Rattle.std.proofs.Common.{◌∙◌, sym}
 use Rattle.std.specs.Bool.{IsTrue}
 use Rattle.file_handles.specs.Kept.{kept}
-use Rattle.file_handles.proofs.Found.{finds_bad_key, finds_loaded, finds_unfinished}
-use Rattle.file_handles.proofs.FoundLoad.{held_for}
+use Rattle.file_handles.proofs.Finding.Found.{finds_bad_key, finds_loaded, finds_unfinished}
+use Rattle.file_handles.proofs.Finding.FoundLoad.{held_for}
 use Rattle.file_handles.proofs.handles.Handles.find.Goals as goal
 
 pub returns-then-not-may_write-clause-finds : goal.returns-then-not-may_write-clause-finds

@@ -8,7 +8,7 @@ use Rattle.entry_file.specs.EntryRead.{ReadsAs}
 use Rattle.entry_file.specs.Rewriting.{StoresBody}
 use Rattle.entry_file.specs.declared.entry_read.EntryRead.{EntryRead}
 use Rattle.entry_metadata.specs.Meta.{meta_of}
-use Rattle.file_handles.proofs.FoundNamed.{damaged_found, unfit_found, whole_found}
+use Rattle.file_handles.proofs.Finding.FoundNamed.{damaged_found, unfit_found, whole_found}
 use Rattle.file_handles.proofs.handles.Handles.find_named.Goals as goal
 
 pub returns-in_default : goal.returns-in_default

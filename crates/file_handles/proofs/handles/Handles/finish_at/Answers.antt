@@ -6,11 +6,11 @@ use Rattle.file_handles.specs.Kept.{kept, with_object}
 use Rattle.file_handles.specs.Publishing.IsAmidPublishing.{Published}
 use Rattle.file_handles.specs.declared.object.Entry.TheVariants.{Finished}
 use Rattle.file_handles.specs.declared.object.Object.{Object}
-use Rattle.file_handles.proofs.ClosedChunks.{same_number}
-use Rattle.file_handles.proofs.Completed.{completed_becomes, completed_held, completed_stands, completed_writes}
-use Rattle.file_handles.proofs.Completions.{completion, version_made}
+use Rattle.file_handles.proofs.Reading.ClosedChunks.{same_number}
+use Rattle.file_handles.proofs.Finishing.Completed.{completed_becomes, completed_held, completed_stands, completed_writes}
+use Rattle.file_handles.proofs.Finishing.Completions.{completion, version_made}
 use Rattle.file_handles.proofs.EffectLaws.{held_is_learnt}
-use Rattle.file_handles.proofs.ElementChecks.{is_there}
+use Rattle.file_handles.proofs.Setting.ElementChecks.{is_there}
 use Rattle.file_handles.proofs.PutBack.{completes_done, completes_failed, put_back}
 use Rattle.file_handles.proofs.handles.Handles.finish_at.Goals as goal
 

@@ -4,12 +4,12 @@ use Rattle.file_handles.specs.Finishing.{completed_by, finish_command, finish_fa
 use Rattle.file_handles.specs.Kept.{kept, object_at}
 use Rattle.file_handles.specs.Refuses.{HasAt}
 use Rattle.std.proofs.Common.{◌≡◌, None}
-use Rattle.file_handles.proofs.Completions.{completion}
-use Rattle.file_handles.proofs.FinishCarried.{finish_carried}
-use Rattle.file_handles.proofs.ElementChecks.{both_right, the_object}
+use Rattle.file_handles.proofs.Finishing.Completions.{completion}
+use Rattle.file_handles.proofs.Finishing.FinishCarried.{finish_carried}
+use Rattle.file_handles.proofs.Setting.ElementChecks.{both_right, the_object}
 use Rattle.file_handles.proofs.Places.{filed_somehow}
-use Rattle.file_handles.proofs.WriterCommands.{finish_effect, finish_makes}
-use Rattle.file_handles.proofs.Writers.{may_is_draft}
+use Rattle.file_handles.proofs.Finishing.WriterCommands.{finish_effect, finish_makes}
+use Rattle.file_handles.proofs.Finishing.Writers.{may_is_draft}
 use Rattle.file_handles.proofs.Refused.{refused_answer}
 use Rattle.file_handles.proofs.IndexLeft.{completed_left}
 use Rattle.file_handles.proofs.NoSlots.{call_handed_on, call_passed}

@@ -4,14 +4,14 @@ use Rattle.cache_theory.specs.Command.Command.{Close}
 use Rattle.file_handles.specs.Effects.{HasEffect, IsLearntOf}
 use Rattle.file_handles.specs.Kept.{kept, object_at}
 use Rattle.file_handles.proofs.Begun.{begun_in}
-use Rattle.file_handles.proofs.ClosedSlot.{draft_there, finished_in, finished_may, finished_safe, may_give_up, told_then, unchanged_in}
+use Rattle.file_handles.proofs.Closing.ClosedSlot.{draft_there, finished_in, finished_may, finished_safe, may_give_up, told_then, unchanged_in}
 use Rattle.file_handles.proofs.EffectLaws.{finished_effect, kept_effect}
-use Rattle.file_handles.proofs.ElementChecks.{the_object}
+use Rattle.file_handles.proofs.Setting.ElementChecks.{the_object}
 use Rattle.file_handles.proofs.Places.{filed_somehow}
 use Rattle.file_handles.proofs.IndexLeft.{completed_left}
 use Rattle.file_handles.specs.Changes.{completed}
 use Rattle.file_handles.proofs.UnsyncedLaws.{writes_or_not}
-use Rattle.file_handles.proofs.Writers.{draft_may}
+use Rattle.file_handles.proofs.Finishing.Writers.{draft_may}
 use Rattle.file_handles.proofs.handles.Handles.finish_first.Goals as goal
 
 pub finish_at-requires-clause-draft : goal.finish_at-requires-clause-draft

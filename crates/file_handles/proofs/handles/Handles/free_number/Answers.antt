@@ -1,8 +1,8 @@
 use Rattle.std.proofs.Common.{sym, subst, length, ◌<◌}
 use Rattle.cache_base.specs.declared.limits.TheConstants.{SLOTS}
 use Rattle.file_handles.specs.Kept.{kept}
-use Rattle.file_handles.proofs.LowNumbers.{least_low}
-use Rattle.file_handles.proofs.SeatLaws.{few_aside}
+use Rattle.file_handles.proofs.Dooming.LowNumbers.{least_low}
+use Rattle.file_handles.proofs.Joining.SeatLaws.{few_aside}
 use Rattle.file_handles.proofs.handles.Handles.free_number.Goals as goal
 
 pub least-requires : goal.least-requires

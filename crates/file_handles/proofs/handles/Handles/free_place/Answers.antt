@@ -1,6 +1,6 @@
 use Rattle.std.proofs.Common.{sym, ◌∙◌}
 use Rattle.file_handles.specs.Kept.{kept}
-use Rattle.file_handles.proofs.SeatLaws.{some_free}
+use Rattle.file_handles.proofs.Joining.SeatLaws.{some_free}
 use Rattle.file_handles.proofs.handles.Handles.free_place.Goals as goal
 
 pub unreachable-requires : goal.unreachable-requires

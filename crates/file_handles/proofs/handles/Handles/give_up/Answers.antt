@@ -3,11 +3,11 @@ use Rattle.std.specs.Prelude.{option_map, slice_set}
 use Rattle.file_handles.specs.Kept.{Kept, kept, use_at}
 use Rattle.file_handles.specs.Seats.{AreLow, AreUsed}
 use Rattle.file_handles.specs.declared.object.Use.{Use}
-use Rattle.file_handles.proofs.ClosedChunks.{given_up, left_last, left_shared, slot_there}
-use Rattle.file_handles.proofs.ReleasedSlot.{last_given_or, safe_may_go, shared_given}
+use Rattle.file_handles.proofs.Reading.ClosedChunks.{given_up, left_last, left_shared, slot_there}
+use Rattle.file_handles.proofs.Closing.ReleasedSlot.{last_given_or, safe_may_go, shared_given}
 use Rattle.file_handles.proofs.IndexLeft.{let_go_left}
-use Rattle.file_handles.proofs.LowNumbers.{low_without}
-use Rattle.file_handles.proofs.SeatLaws.{used_last, used_shared}
+use Rattle.file_handles.proofs.Dooming.LowNumbers.{low_without}
+use Rattle.file_handles.proofs.Joining.SeatLaws.{used_last, used_shared}
 use Rattle.file_handles.proofs.UnsyncedLaws.{let_go_unsynced}
 use Rattle.file_handles.proofs.handles.Handles.give_up.Goals as goal
 

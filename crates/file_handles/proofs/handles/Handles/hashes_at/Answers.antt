@@ -1,6 +1,6 @@
 use Rattle.std.proofs.Common.{refl}
-use Rattle.file_handles.proofs.ElementChecks.{is_there}
-use Rattle.file_handles.proofs.EntryChanged.{IsMetaWith, stores}
+use Rattle.file_handles.proofs.Setting.ElementChecks.{is_there}
+use Rattle.file_handles.proofs.Setting.EntryChanged.{IsMetaWith, stores}
 use Rattle.file_handles.proofs.handles.Handles.hashes_at.Goals as goal
 
 pub hashes_with-requires-clause-told : goal.hashes_with-requires-clause-told

@@ -1,7 +1,7 @@
 use Rattle.std.proofs.Common.{refl, ap, ◌∙◌, arith}
 use Rattle.file_handles.specs.Kept.{kept, use_at}
-use Rattle.file_handles.proofs.Joined.{joins_at}
-use Rattle.file_handles.proofs.SeatLaws.{joined_used, used_joined}
+use Rattle.file_handles.proofs.Joining.Joined.{joins_at}
+use Rattle.file_handles.proofs.Joining.SeatLaws.{joined_used, used_joined}
 use Rattle.file_handles.proofs.handles.Handles.join.Goals as goal
 
 pub returns-clause-joins : goal.returns-clause-joins

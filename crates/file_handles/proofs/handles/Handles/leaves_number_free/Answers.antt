@@ -1,6 +1,6 @@
 use Rattle.std.proofs.Common.{arith}
 use Rattle.file_handles.specs.Kept.{kept}
-use Rattle.file_handles.proofs.LowNumbers.{high_is_free}
+use Rattle.file_handles.proofs.Dooming.LowNumbers.{high_is_free}
 use Rattle.file_handles.proofs.handles.Handles.leaves_number_free.Goals as goal
 
 pub returns : goal.returns

@@ -1,9 +1,9 @@
 use Rattle.std.proofs.Common.{sym, ap, ◌∙◌}
 use Rattle.cache_theory.specs.Command.Command.{Append}
 use Rattle.file_handles.specs.Kept.{kept, writing}
-use Rattle.file_handles.proofs.ElementChecks.{handed_on}
+use Rattle.file_handles.proofs.Setting.ElementChecks.{handed_on}
 use Rattle.file_handles.proofs.LiveUses.{live_refuses, writes_at}
-use Rattle.file_handles.proofs.Writers.{append_ends, append_no_writer, ending}
+use Rattle.file_handles.proofs.Finishing.Writers.{append_ends, append_no_writer, ending}
 use Rattle.file_handles.proofs.NoSlots.{check_handed_on, check_passed, grows_otherwise, writer_checks}
 use Rattle.file_handles.proofs.handles.Handles.may_append.Goals as goal
 

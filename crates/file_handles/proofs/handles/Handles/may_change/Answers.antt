@@ -4,8 +4,8 @@ use Rattle.std.proofs.lemmas.Bool.{not-false, not-true, or_right}
 use Rattle.cache_theory.specs.Command.Command.{SetElement, UnsetElement}
 use Rattle.file_handles.specs.Held.{is_draft}
 use Rattle.file_handles.specs.Kept.{kept, use_at, used}
-use Rattle.file_handles.proofs.ElementChecks.{handed_on, set_ends, set_no_slot, unset_ends, unset_no_slot}
-use Rattle.file_handles.proofs.ElementSlots.{use_found}
+use Rattle.file_handles.proofs.Setting.ElementChecks.{handed_on, set_ends, set_no_slot, unset_ends, unset_no_slot}
+use Rattle.file_handles.proofs.Setting.ElementSlots.{use_found}
 use Rattle.file_handles.proofs.LiveUses.{live_refuses, used_at}
 use Rattle.file_handles.proofs.NoSlots.{check_handed_on, check_passed, use_checks}
 use Rattle.file_handles.proofs.handles.Handles.may_change.Goals as goal

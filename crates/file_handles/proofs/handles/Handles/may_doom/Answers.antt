@@ -3,7 +3,7 @@ use Rattle.cache_theory.specs.declared.refusal.Refusal.TheVariants as refused
 use Rattle.entry_key.specs.Writing.{may_write}
 use Rattle.file_handles.specs.Kept.{kept}
 use Rattle.file_handles.specs.Loading.{used_place}
-use Rattle.file_handles.proofs.DoomedChecks.{doom_absent, doom_bad_key, doom_read, doom_used, refused_on}
+use Rattle.file_handles.proofs.Dooming.DoomedChecks.{doom_absent, doom_bad_key, doom_read, doom_used, refused_on}
 use Rattle.file_handles.proofs.handles.Handles.may_doom.Goals as goal
 
 pub returns-then-not-may_write-clause-refuses : goal.returns-then-not-may_write-clause-refuses
@@ -18,16 +18,16 @@ returns-then-is_some-clause-passes g c = λ tells.
     let used : is_some (used_place (kept c.args.self.now) c.name_of-name.result c.args.key.now) ≡ true = ap is_some (sym c.used_by.ensures.found) ∙ sym c.is_some.ensures ∙ c.if-is_some.true in
     doom_used (g.D.Disk.state c.args.disk.now) (kept c.args.self.now) c.args.key.now c.name_of-name.result c.name_of-name.ensures good used
 
-pub returns-in_err-look-clause-refuses : goal.returns-in_err-look-clause-refuses
-returns-in_err-look-clause-refuses g c =
+pub returns-in_err-read_metadata-clause-refuses : goal.returns-in_err-read_metadata-clause-refuses
+returns-in_err-read_metadata-clause-refuses g c =
     let good : may_write c.args.key.now ≡ true = sym c.may_write.ensures ∙ c.if-not-may_write.false in
     let unused : is_some (used_place (kept c.args.self.now) c.name_of-name.result c.args.key.now) ≡ false = ap is_some (sym c.used_by.ensures.found) ∙ sym c.is_some.ensures ∙ c.if-is_some.false in
-    refused_on c.from_residual.result c.in_err-look.field-0.0 _ c.from_residual.ensures.1
+    refused_on c.from_residual.result c.in_err-read_metadata.field-0.0 _ c.from_residual.ensures.1
     (λ refusal same tells m stand.
-    let absent = c.in_err-look.ensures.refused refusal same in
+    let absent = c.in_err-read_metadata.ensures.refused refusal same in
     doom_absent (g.D.Disk.state c.args.disk.now) (kept c.args.self.now) c.args.key.now c.name_of-name.result c.name_of-name.ensures good unused (absent.1 tells) m stand ∙ ap Some (sym absent.0))
 
 pub returns-clause-passes : goal.returns-clause-passes
 returns-clause-passes g c = λ tells.
     let good : may_write c.args.key.now ≡ true = sym c.may_write.ensures ∙ c.if-not-may_write.false in
-    doom_read (g.D.Disk.state c.args.disk.now) (kept c.args.self.now) c.args.key.now c.name_of-name.result c.name_of-name.ensures good c.in_ok-look.field-0 (c.in_ok-look.ensures.found tells)
+    doom_read (g.D.Disk.state c.args.disk.now) (kept c.args.self.now) c.args.key.now c.name_of-name.result c.name_of-name.ensures good c.in_ok-read_metadata.field-0 (c.in_ok-read_metadata.ensures.found tells)

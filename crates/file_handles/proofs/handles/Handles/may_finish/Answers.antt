@@ -1,9 +1,9 @@
 use Rattle.std.proofs.Common.{sym, ◌∙◌}
 use Rattle.file_handles.specs.Finishing.{finish_command}
 use Rattle.file_handles.specs.Kept.{kept, writing}
-use Rattle.file_handles.proofs.ElementChecks.{handed_on}
+use Rattle.file_handles.proofs.Setting.ElementChecks.{handed_on}
 use Rattle.file_handles.proofs.LiveUses.{live_refuses, writes_at}
-use Rattle.file_handles.proofs.Writers.{finish_ends, finish_no_writer}
+use Rattle.file_handles.proofs.Finishing.Writers.{finish_ends, finish_no_writer}
 use Rattle.file_handles.proofs.NoSlots.{check_handed_on, writer_checks}
 use Rattle.file_handles.proofs.handles.Handles.may_finish.Goals as goal
 

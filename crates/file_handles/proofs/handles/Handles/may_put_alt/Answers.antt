@@ -2,8 +2,8 @@ use Rattle.std.proofs.Common.{◌≡◌, length, sym, ◌∙◌}
 use Rattle.cache_theory.specs.declared.refusal.Refusal.TheVariants.{NoSlot}
 use Rattle.cache_theory.specs.Command.Command.{PutAlt}
 use Rattle.file_handles.specs.Kept.{kept, writing}
-use Rattle.file_handles.proofs.AltChecks.{put_ends, put_no_writer}
-use Rattle.file_handles.proofs.ElementChecks.{handed_on}
+use Rattle.file_handles.proofs.PuttingAlt.AltChecks.{put_ends, put_no_writer}
+use Rattle.file_handles.proofs.Setting.ElementChecks.{handed_on}
 use Rattle.file_handles.proofs.LiveUses.{live_refuses, writes_at}
 use Rattle.file_handles.proofs.NoSlots.{check_handed_on, check_passed, puts_otherwise, writer_checks}
 use Rattle.file_handles.proofs.handles.Handles.may_put_alt.Goals as goal

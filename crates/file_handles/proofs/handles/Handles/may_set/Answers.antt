@@ -6,9 +6,9 @@ use Rattle.file_handles.specs.Kept.{kept}
 use Rattle.file_handles.specs.Refuses.{HasAt}
 use Rattle.file_handles.specs.Setting.{are_small}
 use Rattle.file_handles.specs.declared.object.Object.{Object}
-use Rattle.file_handles.proofs.ElementChecks.{at_object, bad_name, bad_value, empty_name, set_bad, set_ends_by, settable, some_object}
-use Rattle.file_handles.proofs.ElementEntries.{small_has_room}
-use Rattle.file_handles.proofs.PartsSlots.{refused_on}
+use Rattle.file_handles.proofs.Setting.ElementChecks.{at_object, bad_name, bad_value, empty_name, set_bad, set_ends_by, settable, some_object}
+use Rattle.file_handles.proofs.Setting.ElementEntries.{small_has_room}
+use Rattle.file_handles.proofs.Reading.PartsSlots.{refused_on}
 use Rattle.file_handles.proofs.NoSlots.{check_handed_on, check_passed}
 use Rattle.file_handles.proofs.handles.Handles.may_set.Goals as goal
 use Rattle.file_handles.proofs.handles.Handles.may_set.Goals.{then-is_empty-via-then-is_empty, then-is_empty-via-else-is_empty+then-has_zero, then-is_empty-via-else-is_empty+else-has_zero+then-has_zero-2}

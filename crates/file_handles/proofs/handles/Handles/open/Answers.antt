@@ -10,8 +10,8 @@ use Rattle.file_handles.specs.Carries.{CarriesOut}
 use Rattle.file_handles.specs.Kept.{kept, use_at}
 use Rattle.file_handles.specs.Loading.{LoadsAs}
 use Rattle.file_handles.specs.declared.fault.HandleFault.{HandleFault}
-use Rattle.file_handles.proofs.FoundUser.{unused_same}
-use Rattle.file_handles.proofs.JoinedOpen.{added_leaves, bad_key_leaves, joins_leaves, taken_leaves, unread_answer, used_none}
+use Rattle.file_handles.proofs.Finding.FoundUser.{unused_same}
+use Rattle.file_handles.proofs.Joining.JoinedOpen.{added_leaves, bad_key_leaves, joins_leaves, taken_leaves, unread_answer, used_none}
 use Rattle.file_handles.proofs.handles.Handles.open.Goals as goal
 
 pub returns-then-is_ok-clause-carried : goal.returns-then-is_ok-clause-carried

@@ -1,10 +1,10 @@
 use Rattle.std.proofs.Common.{sym, ◌∙◌}
 use Rattle.cache_theory.specs.Command.Command.{UseEntry}
 use Rattle.file_handles.specs.Kept.{kept, use_at, used}
-use Rattle.file_handles.proofs.ElementChecks.{handed_on}
-use Rattle.file_handles.proofs.ElementSlots.{use_found}
+use Rattle.file_handles.proofs.Setting.ElementChecks.{handed_on}
+use Rattle.file_handles.proofs.Setting.ElementSlots.{use_found}
 use Rattle.file_handles.proofs.LiveUses.{live_refuses, used_at}
-use Rattle.file_handles.proofs.UseCommand.{use_no_slot, use_passes}
+use Rattle.file_handles.proofs.Setting.UseCommand.{use_no_slot, use_passes}
 use Rattle.file_handles.proofs.NoSlots.{check_handed_on, check_passed, use_checks}
 use Rattle.file_handles.proofs.handles.Handles.place_of.Goals as goal
 

@@ -12,9 +12,9 @@ use Rattle.file_handles.specs.Held.{body_len_in, object_place}
 use Rattle.file_handles.specs.Kept.{kept, object_at}
 use Rattle.file_handles.specs.PuttingAlt.{MayPut, PutsThere}
 use Rattle.file_handles.specs.Refuses.{HasAt}
-use Rattle.file_handles.proofs.AltCommand.{told_if, faulted_answer, kept_main, put_effect, put_leaves, put_left, put_main, put_told, put_unsynced}
-use Rattle.file_handles.proofs.ElementChecks.{if_object, the_object}
-use Rattle.file_handles.proofs.LongerEntry.{behind}
+use Rattle.file_handles.proofs.PuttingAlt.AltCommand.{told_if, faulted_answer, kept_main, put_effect, put_leaves, put_left, put_main, put_told, put_unsynced}
+use Rattle.file_handles.proofs.Setting.ElementChecks.{if_object, the_object}
+use Rattle.file_handles.proofs.PuttingAlt.LongerEntry.{behind}
 use Rattle.file_handles.proofs.Places.{filed_somehow}
 use Rattle.file_handles.proofs.Refused.{refused_answer}
 use Rattle.file_handles.proofs.NoSlots.{call_handed_on, call_passed, never_refused}

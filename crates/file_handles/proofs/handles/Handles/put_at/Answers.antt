@@ -12,8 +12,8 @@ use Rattle.file_handles.specs.Kept.{Kept, kept, object_at, with_object, without_
 use Rattle.file_handles.specs.PuttingAlt.{AreHashesWith}
 use Rattle.file_handles.specs.declared.object.Entry.TheVariants.{Finished}
 use Rattle.file_handles.specs.declared.object.Object.{Object}
-use Rattle.file_handles.proofs.ElementChecks.{if_object}
-use Rattle.file_handles.proofs.LongerEntry.{IsMetaBehind, behind, behind_becomes, behind_learnt, behind_writes, prefix_kept, prefix_same, stores_shorter}
+use Rattle.file_handles.proofs.Setting.ElementChecks.{if_object}
+use Rattle.file_handles.proofs.PuttingAlt.LongerEntry.{IsMetaBehind, behind, behind_becomes, behind_learnt, behind_writes, prefix_kept, prefix_same, stores_shorter}
 use Rattle.file_handles.proofs.PutBack.{changes_done, changes_failed, put_back}
 use Rattle.file_handles.proofs.handles.Handles.put_at.Goals as goal
 

@@ -1,7 +1,7 @@
 use Rattle.std.proofs.Common.{rules, ◌≡◌, ◌<◌, arith}
 use Rattle.cache_base.specs.Limits.{chunks}
 use Rattle.disk_model.specs.State.{standing}
-use Rattle.file_handles.proofs.FoundLoad.{only_chunk}
+use Rattle.file_handles.proofs.Finding.FoundLoad.{only_chunk}
 use Rattle.file_handles.proofs.handles.Handles.read_found.Goals as goal
 
 pub returns-else-chunks-ne1-clause-chunk : goal.returns-else-chunks-ne1-clause-chunk

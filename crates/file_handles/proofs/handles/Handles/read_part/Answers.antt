@@ -16,11 +16,11 @@ use Rattle.file_handles.specs.declared.fault.HandleFault.{HandleFault}
 use Rattle.file_handles.specs.declared.fault.HandleFault.TheVariants as fault
 use Rattle.file_handles.specs.declared.read.StoredChunk.{StoredChunk}
 use Rattle.file_handles.proofs.Accounting.{looks_nowhere}
-use Rattle.file_handles.proofs.ChunkLists.{put_again}
-use Rattle.file_handles.proofs.ElementSlots.{use_found}
+use Rattle.file_handles.proofs.Reading.ChunkLists.{put_again}
+use Rattle.file_handles.proofs.Setting.ElementSlots.{use_found}
 use Rattle.file_handles.proofs.LiveUses.{live_refuses, none_live, some_live, used_at}
-use Rattle.file_handles.proofs.PartsSlots.{err_is, error_changes, error_reads, error_says, error_unread, never_both, on_err, on_error, part_no_slot, part_passes}
-use Rattle.file_handles.proofs.ReadChunks.{chunk_held, chunk_lent, for_chunk, for_none, in_slot, looked_loses_none, looked_stands, one_there, rest_lent, same_looked}
+use Rattle.file_handles.proofs.Reading.PartsSlots.{err_is, error_changes, error_reads, error_says, error_unread, never_both, on_err, on_error, part_no_slot, part_passes}
+use Rattle.file_handles.proofs.Reading.ReadChunks.{chunk_held, chunk_lent, for_chunk, for_none, in_slot, looked_loses_none, looked_stands, one_there, rest_lent, same_looked}
 use Rattle.file_handles.proofs.handles.Handles.read_part.Goals as goal
 
 pub returns-in_err-used : goal.returns-in_err-used

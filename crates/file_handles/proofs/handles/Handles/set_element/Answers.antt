@@ -11,9 +11,9 @@ use Rattle.file_handles.specs.Held.{elements_in}
 use Rattle.file_handles.specs.Refuses.{HasAt}
 use Rattle.file_handles.specs.Setting.{HasRoom}
 use Rattle.file_handles.proofs.EffectLaws.{change_effect}
-use Rattle.file_handles.proofs.EntryChanged.{with_elements}
-use Rattle.file_handles.proofs.ElementChecks.{both_right, the_object}
-use Rattle.file_handles.proofs.ElementCommands.{IsFinished, set_leaves, set_makes}
+use Rattle.file_handles.proofs.Setting.EntryChanged.{with_elements}
+use Rattle.file_handles.proofs.Setting.ElementChecks.{both_right, the_object}
+use Rattle.file_handles.proofs.Setting.ElementCommands.{IsFinished, set_leaves, set_makes}
 use Rattle.file_handles.proofs.Places.{filed_somehow}
 use Rattle.file_handles.proofs.Refused.{refused_answer}
 use Rattle.file_handles.proofs.IndexLeft.{change_left}

@@ -9,12 +9,12 @@ use Rattle.file_handles.specs.Refuses.{HasAt}
 use Rattle.file_handles.specs.Setting.{pin_command}
 use Rattle.file_handles.proofs.Carried.{change_carried}
 use Rattle.file_handles.proofs.EffectLaws.{change_effect}
-use Rattle.file_handles.proofs.ElementChecks.{if_object, of_any, the_object}
-use Rattle.file_handles.proofs.ElementCommands.{IsFinished, writes_finished}
+use Rattle.file_handles.proofs.Setting.ElementChecks.{if_object, of_any, the_object}
+use Rattle.file_handles.proofs.Setting.ElementCommands.{IsFinished, writes_finished}
 use Rattle.file_handles.proofs.IndexLeft.{change_left}
 use Rattle.file_handles.proofs.Places.{filed_somehow}
 use Rattle.file_handles.proofs.Refused.{refused_answer}
-use Rattle.file_handles.proofs.PinCommand.{pin_learnt, pin_makes, pin_rewrites}
+use Rattle.file_handles.proofs.Setting.PinCommand.{pin_learnt, pin_makes, pin_rewrites}
 use Rattle.file_handles.proofs.UnsyncedLaws.{change_unsynced}
 use Rattle.file_handles.proofs.NoSlots.{call_handed_on, call_passed}
 use Rattle.file_handles.proofs.handles.Handles.set_pin.Goals as goal

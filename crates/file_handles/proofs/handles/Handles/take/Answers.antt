@@ -1,5 +1,5 @@
 use Rattle.std.proofs.Common.{sym, ◌∙◌}
-use Rattle.file_handles.proofs.LowNumbers.{low_at}
+use Rattle.file_handles.proofs.Dooming.LowNumbers.{low_at}
 use Rattle.file_handles.proofs.handles.Handles.take.Goals as goal
 
 pub returns-clause-low : goal.returns-clause-low

@@ -8,11 +8,11 @@ use Rattle.file_handles.specs.Carries.{CarriesOut}
 use Rattle.file_handles.specs.Kept.{kept, object_at}
 use Rattle.file_handles.specs.Refuses.{HasAt}
 use Rattle.file_handles.proofs.EffectLaws.{change_effect, unsets_rewrite}
-use Rattle.file_handles.proofs.EntryChanged.{with_elements}
-use Rattle.file_handles.proofs.ElementChecks.{at_object, if_object, of_any, some_object}
-use Rattle.file_handles.proofs.ElementCommands.{IsFinished, fault_reply, unset_leaves, unset_makes}
-use Rattle.file_handles.proofs.ElementEntries.{room_without}
-use Rattle.file_handles.proofs.ElementReads.{mapped_none, mapped_some, unset_none_leaves}
+use Rattle.file_handles.proofs.Setting.EntryChanged.{with_elements}
+use Rattle.file_handles.proofs.Setting.ElementChecks.{at_object, if_object, of_any, some_object}
+use Rattle.file_handles.proofs.Setting.ElementCommands.{IsFinished, fault_reply, unset_leaves, unset_makes}
+use Rattle.file_handles.proofs.Setting.ElementEntries.{room_without}
+use Rattle.file_handles.proofs.Setting.ElementReads.{mapped_none, mapped_some, unset_none_leaves}
 use Rattle.file_handles.proofs.Places.{filed_somehow}
 use Rattle.file_handles.proofs.Refused.{refused_answer_or_none}
 use Rattle.file_handles.proofs.IndexLeft.{change_left}

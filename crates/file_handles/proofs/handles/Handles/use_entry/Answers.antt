@@ -9,12 +9,12 @@ use Rattle.file_handles.specs.Kept.{kept, object_at}
 use Rattle.file_handles.specs.Refuses.{HasAt}
 use Rattle.file_handles.proofs.Carried.{change_carried_at}
 use Rattle.file_handles.proofs.EffectLaws.{change_effect_at}
-use Rattle.file_handles.proofs.ElementChecks.{if_object, of_any, the_object}
-use Rattle.file_handles.proofs.ElementCommands.{IsFinished, writes_finished}
+use Rattle.file_handles.proofs.Setting.ElementChecks.{if_object, of_any, the_object}
+use Rattle.file_handles.proofs.Setting.ElementCommands.{IsFinished, writes_finished}
 use Rattle.file_handles.proofs.IndexLeft.{change_left}
 use Rattle.file_handles.proofs.Places.{filed_somehow}
 use Rattle.file_handles.proofs.Refused.{refused_answer}
-use Rattle.file_handles.proofs.UseCommand.{use_makes}
+use Rattle.file_handles.proofs.Setting.UseCommand.{use_makes}
 use Rattle.file_handles.proofs.Where.{at_moment}
 use Rattle.file_handles.proofs.UnsyncedLaws.{change_unsynced}
 use Rattle.file_handles.proofs.NoSlots.{call_handed_on, call_passed}

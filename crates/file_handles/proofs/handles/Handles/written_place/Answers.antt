@@ -1,9 +1,9 @@
 use Rattle.std.proofs.Common.{sym, ◌∙◌}
 use Rattle.file_handles.specs.Kept.{kept, writing}
 use Rattle.file_handles.specs.Setting.{pin_command}
-use Rattle.file_handles.proofs.ElementChecks.{handed_on}
+use Rattle.file_handles.proofs.Setting.ElementChecks.{handed_on}
 use Rattle.file_handles.proofs.LiveUses.{live_refuses, writes_at}
-use Rattle.file_handles.proofs.PinCommand.{pin_no_writer, pin_passes}
+use Rattle.file_handles.proofs.Setting.PinCommand.{pin_no_writer, pin_passes}
 use Rattle.file_handles.proofs.NoSlots.{check_handed_on, check_passed, writer_checks}
 use Rattle.file_handles.proofs.handles.Handles.written_place.Goals as goal
 

@@ -2,7 +2,7 @@ use Rattle.std.proofs.Common.{ap, subst, sym, ◌∙◌, ◌≡◌, ◌≤◌, �
 use Rattle.std.specs.Map.{lookup}
 use Rattle.std.specs.Prelude.{IsSome, option_and_then}
 use Rattle.record_list.specs.Lists.{same_name}
-use Rattle.index_map.specs.Slots.{IsBase, IsTable, Puts, changed_of, kilobytes_of, marked, marked_in, records_of, remarked, weigh}
+use Rattle.index_map.specs.Slots.{IsBase, IsTable, PutsSlot, changed_of, kilobytes_of, marked, marked_in, records_of, remarked, weigh}
 use Rattle.index_map.proofs.Marked.{base_marked, base_small, base_table, changed_there, kilobytes_there, marked_at, not_there, records_there}
 use Rattle.index_map.proofs.Steps.{no_record}
 use Rattle.index_map.proofs.base.Base.mark.Goals as goal
@@ -73,8 +73,8 @@ returns-in-Some-clause-marked c =
     let is = subst (λ l. IsBase l ms n) (sym c.as_slice-records.ensures) c.self.invariant in
     let name = c.args.name.now in
     let view : marked_in rs ms ≡ c.args.self.now = ap (λ l. marked_in l ms) c.as_slice-records.ensures ∙ c.self.view_is in
-    subst (λ t. Puts t (marked_in c.self.inside.records (set ms i c.args.mark)) name (option_and_then (remarked c.args.mark) (lookup (same_name name) t))) view
-    (subst (λ l. Puts (marked_in rs ms) (marked_in l (set ms i c.args.mark)) name (option_and_then (remarked c.args.mark) (lookup (same_name name) (marked_in rs ms)))) c.as_slice-records.ensures
+    subst (λ t. PutsSlot t (marked_in c.self.inside.records (set ms i c.args.mark)) name (option_and_then (remarked c.args.mark) (lookup (same_name name) t))) view
+    (subst (λ l. PutsSlot (marked_in rs ms) (marked_in l (set ms i c.args.mark)) name (option_and_then (remarked c.args.mark) (lookup (same_name name) (marked_in rs ms)))) c.as_slice-records.ensures
     (marked_at rs ms n is i no_record c.index.result.now c.args.name.now c.in-Some.ensures.within (c.in-Some.ensures.found no_record) c.args.mark (subst (λ t. IsSome (lookup (same_name name) t)) (sym view) c.requires)))
 
 pub returns-in-Some-clause-table : goal.returns-in-Some-clause-table

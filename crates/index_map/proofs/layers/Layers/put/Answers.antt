@@ -6,7 +6,7 @@ use Rattle.std.proofs.lemmas.Result.{on_ok_weaker}
 use Rattle.cache_base.specs.declared.name.Name.{Name}
 use Rattle.record_list.specs.Change.{record_eq}
 use Rattle.record_list.specs.Lists.{same_name}
-use Rattle.index_map.specs.Slots.{AreApart, IsTable, Puts, Slot, record_of, record_slot, remarked, slot_of}
+use Rattle.index_map.specs.Slots.{AreApart, IsTable, PutsSlot, Slot, record_of, record_slot, remarked, slot_of}
 use Rattle.index_map.specs.declared.mark.Mark.TheVariants.{Away, Seen}
 use Rattle.index_map.proofs.Joined.{apart_list, apart_none, apart_over, base_named, from_list, from_table, join_table, marked_away, marked_seen, none_of, puts_list, puts_other, puts_over}
 use Rattle.index_map.proofs.Steps.{named_fits}
@@ -33,8 +33,8 @@ returns-in-None-clause-ok c =
     let none = sym c.in-None.ensures.slot in
     let p = c.put_record.new.table in
     on_ok_weaker c.put_record.result
-    (λ puts. subst (λ t. Puts t (p ++ b) name (Some (record_slot r true (lookup (same_name name) t)))) c.self.view_is
-    (subst (λ s. Puts (o ++ b) (p ++ b) name (Some (record_slot r true s))) (sym (from_table o b apart name none))
+    (λ puts. subst (λ t. PutsSlot t (p ++ b) name (Some (record_slot r true (lookup (same_name name) t)))) c.self.view_is
+    (subst (λ s. PutsSlot (o ++ b) (p ++ b) name (Some (record_slot r true s))) (sym (from_table o b apart name none))
     (puts_other o b apart name p (Some (record_slot r true (lookup (same_name name) o))) none puts)))
     c.put_record.ensures.ok
 
@@ -80,10 +80,10 @@ returns-in_ok-put-in-Some-clause-ok c =
     let p = c.put.new.self in
     let d = c.mark.new.self in
     let new : Slot = record { current = Some r; seen = true; base = old.base } in
-    let puts : Puts o p name (Some new) = subst (λ f. Puts o p name (Some (record { current = Some (record_of name f); seen = true; base = old.base }))) c.facts_of.ensures c.in_ok-put-in-Some.ensures.ok in
-    let takes : Puts b d name None = subst (λ s. Puts b d name s) (ap (option_and_then (remarked Away)) at ∙ marked_away old) c.mark.ensures.marked in
-    subst (λ t. Puts t (p ++ d) name (Some (record_slot r true (lookup (same_name name) t)))) c.self.view_is
-    (subst (λ s. Puts (o ++ b) (p ++ d) name (Some (record_slot r true s))) (sym (from_list o b apart name old at))
+    let puts : PutsSlot o p name (Some new) = subst (λ f. PutsSlot o p name (Some (record { current = Some (record_of name f); seen = true; base = old.base }))) c.facts_of.ensures c.in_ok-put-in-Some.ensures.ok in
+    let takes : PutsSlot b d name None = subst (λ s. PutsSlot b d name s) (ap (option_and_then (remarked Away)) at ∙ marked_away old) c.mark.ensures.marked in
+    subst (λ t. PutsSlot t (p ++ d) name (Some (record_slot r true (lookup (same_name name) t)))) c.self.view_is
+    (subst (λ s. PutsSlot (o ++ b) (p ++ d) name (Some (record_slot r true s))) (sym (from_list o b apart name old at))
     (puts_over o b apart name p d new puts takes))
 
 pub returns-in_ok-put-in-Some-clause-was_table : goal.returns-in_ok-put-in-Some-clause-was_table
@@ -103,8 +103,8 @@ returns-in_ok-put-in-Some-clause-table c =
     let p = c.put.new.self in
     let d = c.mark.new.self in
     let new : Slot = record { current = Some r; seen = true; base = old.base } in
-    let puts : Puts o p name (Some new) = subst (λ f. Puts o p name (Some (record { current = Some (record_of name f); seen = true; base = old.base }))) c.facts_of.ensures c.in_ok-put-in-Some.ensures.ok in
-    let takes : Puts b d name None = subst (λ s. Puts b d name s) (ap (option_and_then (remarked Away)) at ∙ marked_away old) c.mark.ensures.marked in
+    let puts : PutsSlot o p name (Some new) = subst (λ f. PutsSlot o p name (Some (record { current = Some (record_of name f); seen = true; base = old.base }))) c.facts_of.ensures c.in_ok-put-in-Some.ensures.ok in
+    let takes : PutsSlot b d name None = subst (λ s. PutsSlot b d name s) (ap (option_and_then (remarked Away)) at ∙ marked_away old) c.mark.ensures.marked in
     join_table p d c.put.ensures.table c.mark.ensures.table (apart_over o b apart name p d new puts takes)
 
 pub returns-else-differs-clause-ok : goal.returns-else-differs-clause-ok
@@ -122,8 +122,8 @@ returns-else-differs-clause-ok c =
     let is : option_and_then (remarked Seen) (lookup (same_name name) b) ≡ slot =
     ap (option_and_then (remarked Seen)) at ∙ marked_seen name r kept refl same
     ∙ ap (λ s. Some (record_slot r true s)) (sym (from_list o b apart name old at)) in
-    let puts = subst (λ s. Puts b c.mark-else-differs.new.self name s) is c.mark-else-differs.ensures.marked in
-    subst (λ t. Puts t (o ++ c.mark-else-differs.new.self) name (Some (record_slot r true (lookup (same_name name) t)))) c.self.view_is
+    let puts = subst (λ s. PutsSlot b c.mark-else-differs.new.self name s) is c.mark-else-differs.ensures.marked in
+    subst (λ t. PutsSlot t (o ++ c.mark-else-differs.new.self) name (Some (record_slot r true (lookup (same_name name) t)))) c.self.view_is
     (puts_list o b apart name c.mark-else-differs.new.self slot (none_of o b apart name old at) puts)
 
 pub returns-else-differs-clause-was_table : goal.returns-else-differs-clause-was_table

@@ -2,7 +2,7 @@ use Rattle.std.proofs.Common.{Some, None, ap, subst, false}
 use Rattle.std.specs.Option.{option_map}
 use Rattle.std.specs.Prelude.{OnOk, Option}
 use Rattle.index_record.specs.declared.record.IndexRecord.{IndexRecord}
-use Rattle.index_map.specs.Slots.{Puts, Slot, record_of}
+use Rattle.index_map.specs.Slots.{PutsSlot, Slot, record_of}
 use Rattle.index_map.proofs.Steps.{base_fits}
 use Rattle.index_map.proofs.table.Table.remove.Goals as goal
 
@@ -17,9 +17,9 @@ put-requires c = record {
 
 pub returns-in-None-clause-removes : goal.returns-in-None-clause-removes
 returns-in-None-clause-removes c =
-    subst (λ s. Puts c.args.self.now c.take.new.self c.args.name.now s) (ap gone c.in-None.ensures.base) c.take.ensures.taken
+    subst (λ s. PutsSlot c.args.self.now c.take.new.self c.args.name.now s) (ap gone c.in-None.ensures.base) c.take.ensures.taken
 
 pub returns-in-Some-clause-removes : goal.returns-in-Some-clause-removes
 returns-in-Some-clause-removes c =
-    let puts = subst (λ r. OnOk r (Puts c.args.self.now c.put.new.self c.args.name.now (Some (record { current = None; seen = false; base = Some (record_of c.args.name.now c.in-Some.base) })))) c.unwrap.ensures c.put.ensures.ok in
-    subst (λ s. Puts c.args.self.now c.put.new.self c.args.name.now s) (ap gone c.in-Some.ensures.base) puts
+    let puts = subst (λ r. OnOk r (PutsSlot c.args.self.now c.put.new.self c.args.name.now (Some (record { current = None; seen = false; base = Some (record_of c.args.name.now c.in-Some.base) })))) c.unwrap.ensures c.put.ensures.ok in
+    subst (λ s. PutsSlot c.args.self.now c.put.new.self c.args.name.now s) (ap gone c.in-Some.ensures.base) puts

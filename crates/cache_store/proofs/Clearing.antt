@@ -1,0 +1,13 @@
+pub mod ClearCommands
+pub mod ClearDoes
+pub mod ClearNames
+pub mod ClearedLaws
+pub mod FilesAmong
+pub mod HeldDoomed
+pub mod JoinedNames
+pub mod MarkKept
+pub mod NamesDoomed
+pub mod NothingDoomed
+pub mod ObjectsDoomed
+pub mod OriginHash
+pub mod StoppedImages

@@ -1,0 +1,2 @@
+pub mod DumpDoes
+pub mod DumpedItems

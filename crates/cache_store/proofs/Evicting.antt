@@ -1,0 +1,4 @@
+pub mod EvictDoes
+pub mod Forgotten
+pub mod SameTotals
+pub mod VictimsApart

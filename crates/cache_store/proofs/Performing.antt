@@ -1,0 +1,10 @@
+pub mod CalmAccounts
+pub mod HandedFaults
+pub mod PerformDoes
+pub mod PerformOpen
+pub mod PerformStands
+pub mod PerformSteps
+pub mod PerformWhole
+pub mod RepliedInMemory
+pub mod Represented
+pub mod Stays

@@ -1,0 +1,6 @@
+pub mod BodyRanges
+pub mod FoundAnswers
+pub mod PartRead
+pub mod PartWhole
+pub mod ReadsHeld
+pub mod ShownParts

@@ -1,0 +1,14 @@
+pub mod CountedChanges
+pub mod HasEntry
+pub mod InUseLaws
+pub mod IndexAchieves
+pub mod IndexWrites
+pub mod LearntAchieves
+pub mod ListDoes
+pub mod OneLearnt
+pub mod PastHeader
+pub mod RecordsAtEnd
+pub mod ScanAlike
+pub mod SparedIndex
+pub mod TellsAlike
+pub mod UpdateOver

@@ -1,0 +1,72 @@
+-- The base of the index in memory, as the cache is opened.
+use Rattle.std.proofs.Common.{◌≡◌, ◌≢◌, ◌∙◌, List, Result, Ok, Err, refl, sym, ap, subst}
+use Rattle.std.specs.Prelude.{IfOk, is_some}
+use Rattle.cache_base.specs.Bytes.{be32}
+use Rattle.disk_model.specs.Image.{Files}
+use Rattle.disk_model.specs.State.{State, removed, renamed, settled, standing}
+use Rattle.disk_model.specs.declared.place.Place.TheVariants.{Index, Log, Tmp}
+use Rattle.disk_model.proofs.Standing.{settled_same}
+use Rattle.index_map.specs.Known.{Known, SameBase}
+use Rattle.index_record.specs.declared.record.IndexRecord.{IndexRecord}
+use Rattle.index_theory.specs.Closing.{flagged}
+use Rattle.index_theory.specs.Honest.{index_records, journal_records}
+use Rattle.index_theory.specs.IndexKind.{index_kind}
+use Rattle.index_theory.specs.Start.{start_of}
+use Rattle.index_theory.specs.declared.kinds.Start.{Start}
+use Rattle.index_theory.specs.declared.kinds.Start.TheVariants.{Ready, Update, Build}
+use Rattle.startup_read.specs.Opening.{cleared, marked, opened, set_aside}
+use Rattle.startup_read.specs.Starts.{StartsFrom, StartsWith, is_clean}
+use Rattle.cache_store.specs.InUse.{HoldsBase, IsBasedOn, OpensInUse, past_header}
+use Rattle.cache_store.specs.Open.{BeginsOn}
+use Rattle.cache_store.specs.declared.memory_index.MemoryIndex.{MemoryIndex}
+use Rattle.cache_store.proofs.Records.PastHeader.{SamePast, either_past, flagged_past}
+
+-- the records of an index that is read are the base
+starts_on_base : (start : Start) (base changes : List IndexRecord) (map : Known) → StartsWith start base changes map → start ≢ Build → HoldsBase base map
+starts_on_base Ready base changes map starts found = record { has_base = starts.1.1.has_base; same = starts.1.1.base }
+starts_on_base Update base changes map starts found = record { has_base = starts.has_base; same = starts.base }
+starts_on_base Build base changes map starts found = absurd (found refl)
+
+-- an opening writes no byte of it past its header
+opened_past : (s : State) → SamePast s (opened s)
+opened_past s =
+    let a : State = set_aside s in
+    let m : State = marked a in
+    let u : State = settled m in
+    let aside : SamePast s a = either_past (is_some (standing s Log)) s (renamed Log Tmp s) s refl refl in
+    let flag : SamePast a m = either_past (is_clean (index_kind (standing a Index))) a (flagged (be32 1) a) a (flagged_past a (be32 1) refl) refl in
+    let clear : SamePast u (cleared u) = either_past (is_some (standing u Tmp)) u (removed Tmp u) u refl refl in
+    clear ∙ ap past_header (settled_same m Index) ∙ flag ∙ aside
+
+pub opens_based : (s t : State) (map : Known) → StartsFrom (standing s) map → t ≡ opened s → OpensInUse s map t
+opens_based s t map starts is found = record {
+  base = starts_on_base (start_of (standing s)) (index_records (standing s Index)) (journal_records (standing s Log)) map starts found;
+  past = ap (λ (u : State). past_header (standing u Index)) is ∙ opened_past s;
+}
+
+-- the same over the same base, on the same disk
+pub begun_based : {E : Type 0} (r : Result MemoryIndex E) (A : Type 0) (s t u : State) (map : Known) → (A → u ≡ t) → (A → OpensInUse s map t)
+    → IfOk r (λ index. SameBase map index.map) → IfOk r (λ index. A → OpensInUse s index.map u)
+begun_based (Ok index) A s t u map same opens base = λ a found.
+    let was = opens a found in
+    subst (IsBasedOn s index.map) (sym (same a)) (record {
+      base = record { has_base = base.has_base ∙ was.base.has_base; same = λ name. base.records name ∙ was.base.same name };
+      past = was.past;
+    })
+begun_based (Err e) A s t u map same opens base = tt
+
+-- the records that it begins with
+pub begins_on : (files : Files) (map : Known) → StartsFrom files map → BeginsOn files map
+begins_on files map starts = record {
+  ready = λ is. subst (λ (start : Start). StartsWith start (index_records (files Index)) (journal_records (files Log)) map) is starts;
+  build = λ is. ap (λ (m : Known). m.has_base) (subst (λ (start : Start). StartsWith start (index_records (files Index)) (journal_records (files Log)) map) is starts);
+}
+
+-- the same over the same base, where the index is not trusted
+pub begun_on : {E : Type 0} (r : Result MemoryIndex E) (A : Type 0) (files : Files) (map : Known) → (A → start_of files ≢ Ready) → (A → StartsFrom files map)
+    → IfOk r (λ index. SameBase map index.map) → IfOk r (λ index. A → BeginsOn files index.map)
+begun_on (Ok index) A files map unready starts base = λ a. record {
+  ready = λ is. absurd (unready a is);
+  build = λ is. base.has_base ∙ (begins_on files map (starts a)).build is;
+}
+begun_on (Err e) A files map unready starts base = tt

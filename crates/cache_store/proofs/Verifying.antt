@@ -1,0 +1,2 @@
+pub mod FoundOnShelf
+pub mod VerifyDoes

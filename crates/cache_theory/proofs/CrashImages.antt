@@ -1,0 +1,10 @@
+pub mod Crashes
+pub mod DiskChanges
+pub mod EverSteps
+pub mod FileBytes
+pub mod FiledOnce
+pub mod Kept
+pub mod Reading
+pub mod Readings
+pub mod Torn
+pub mod Unpublished

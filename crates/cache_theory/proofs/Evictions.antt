@@ -1,0 +1,3 @@
+pub mod EvictLimit
+pub mod EvictNames
+pub mod Evicting

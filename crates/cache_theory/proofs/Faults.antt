@@ -1,0 +1,9 @@
+pub mod FaultedCuts
+pub mod FaultedMarks
+pub mod FaultedOn
+pub mod FaultedRead
+pub mod FaultedSteps
+pub mod FaultedTold
+pub mod RepliesApart
+pub mod RepliesLong
+pub mod TextsApart

@@ -1,0 +1,3 @@
+pub mod LoadedBack
+pub mod StockedShelf
+pub mod WrittenItems

@@ -1,0 +1,13 @@
+pub mod DoomedObjects
+pub mod Dooming
+pub mod Entering
+pub mod HeldAside
+pub mod Objects
+pub mod Releasing
+pub mod Slots
+pub mod SlotsBefore
+pub mod Slotted
+pub mod Storing
+pub mod Users
+pub mod WritingNames
+pub mod WrittenObjects

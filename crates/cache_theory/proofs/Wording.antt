@@ -1,0 +1,7 @@
+pub mod Worded
+pub mod WordedFronts
+pub mod WordedInPlace
+pub mod WordedNames
+pub mod WordedSettled
+pub mod WordedSteps
+pub mod WordedVersions

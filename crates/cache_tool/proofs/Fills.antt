@@ -1,0 +1,5 @@
+pub mod FillEnds
+pub mod FillHalf
+pub mod FillRuns
+pub mod FillTexts
+pub mod FillWhole

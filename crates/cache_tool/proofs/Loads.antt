@@ -1,0 +1,4 @@
+pub mod LoadBytes
+pub mod LoadEnds
+pub mod LoadParts
+pub mod LoadTurns

@@ -1,0 +1,139 @@
+-- What the verb `run` comes to, by what its commands and the end of the session came to.
+use Rattle.std.proofs.Common.{◌≡◌, ◌≢◌, ◌⊎◌, inl, inr, ⊎_elim, ℕ, suc, ◌≤◌, List, length, Option, None, Some, Result, Err, refl, sym, subst, ◌∙◌}
+use Rattle.cache_base.specs.Causes.{Rose}
+use Rattle.cache_base.specs.declared.status.Status.{Status}
+use Rattle.cache_base.specs.declared.status.Status.TheVariants as status
+use Rattle.cache_store.specs.Faults.{ending}
+use Rattle.cache_store.specs.Open.{StartsOn}
+use Rattle.cache_store.specs.Session.{Session}
+use Rattle.cache_store.specs.declared.fault.StoreFault.{StoreFault}
+use Rattle.cache_store.specs.declared.fault.StoreFault.TheVariants as fault
+use Rattle.cache_theory.specs.Command.{Command}
+use Rattle.cache_theory.specs.Crash.{IsSafe}
+use Rattle.cache_theory.specs.Faulted.{unfaulted}
+use Rattle.cache_theory.specs.History.{History, acked, settled_at}
+use Rattle.cache_theory.specs.Machine.{Machine}
+use Rattle.cache_theory.specs.Step.{step}
+use Rattle.cache_tool.specs.Beginning.{BeginsRun, FailsToBegin}
+use Rattle.cache_tool.specs.Ending.{EndsSession}
+use Rattle.cache_tool.specs.ScriptProgress.{LeavesScript, PerformsScript, one_begun_on}
+use Rattle.cache_tool.specs.Statuses.{IsClosing, status_in}
+use Rattle.cache_tool.specs.Verbs.{LeavesDisk, Reach, RunsScript, one_begun_after}
+use Rattle.cache_tool.specs.World.{Progress, World, output_of, world_of}
+use Rattle.cache_tool.proofs.DoneLaws.{are_done_where}
+use Rattle.cache_tool.proofs.Moments.{with_left}
+use Rattle.cache_tool.proofs.OneCommand.{not_begun}
+use Rattle.cache_tool.proofs.Scripts.ScriptTurns.{counts_more, counts_on}
+use Rattle.cache_tool.proofs.SessionEnds.{ends_leave, resumed_done, resumed_tells, stops_leave}
+use Rattle.cache_tool.proofs.StatusLaws.{EndsAs, closes_or_not, closing_same}
+use Rattle.disk_model.specs.Account.{Ending}
+use Rattle.disk_model.specs.Listing.{IsFinite}
+use Rattle.disk_model.specs.State.{State, standing}
+use Rattle.index_theory.specs.Honest.{Honest, LeavesHonest}
+
+-- ---- the run did not begin
+
+-- the same world with other bytes left in the source
+abbrev told : World → Option (List ℕ) → World
+told w left = record w { source = record (w.source) { left = left } }
+
+pub runs_not_begun : {T : Type 0} (moment : ℕ) (before : World) (t : State) (faults : ℕ) (answer : Result T StoreFault) (f : StoreFault) (ended : Status) → answer ≡ Err f → answer ≢ Err fault.Sink → ended ≡ status_in (Err f)
+    → (ending answer ≡ Ending.OneFailed → Rose before.disk_faults faults) → FailsToBegin moment before.disk t → RunsScript moment ended before (record before { disk = t; disk_faults = faults })
+runs_not_begun moment before t faults answer f ended failed no_sink same rose fails = go before.source.left
+  where
+    go : (left : Option (List ℕ)) → RunsScript moment ended (told before left) (record (told before left) { disk = t; disk_faults = faults })
+    go None = tt
+    go (Some bytes) = λ m cs is found. inr (not_begun (output_of (told before (Some bytes))) t faults answer f ended failed no_sink same rose fails m is, refl)
+
+-- ---- the session was ended
+
+module _ {moment : ℕ} (s : State) (mid : Session) (begins : BeginsRun moment s mid) (m : Machine) (is : StartsOn moment s m) (acked_now : ℕ) (faults with_last : List ℕ) (cs : List Command) (last : Session) (t : State) (ended came : Status) where
+  abbrev d : Command
+  d = (begins.resumed m is).done
+
+  abbrev at : History
+  at = acked (begins.resumed m is).done (settled_at m)
+
+  -- how far they came
+  abbrev reach : Status → Reach
+  reach e = one_begun_after m (begins.resumed m is).done acked_now faults with_last e cs
+
+  pub ended_leaves : LeavesScript (step m (begins.resumed m is).done).next (one_begun_on (acked (begins.resumed m is).done (settled_at m)) acked_now faults with_last came cs) came mid last → EndsSession ended last t
+      → EndsAs ended came → (¬ (IsClosing came) → t ≡ last.disk) → LeavesHonest last.disk → LeavesDisk m (one_begun_after m (begins.resumed m is).done acked_now faults with_last ended cs) ended s t
+  ended_leaves leaves ends same dropped kept = elim (closes_or_not ended) [
+    | inl closing ↦
+        let as_came : ended ≡ came = closing_same ended came same closing in
+        let led = leaves.stands (subst IsClosing as_came closing) in
+        subst (λ e. LeavesDisk m (reach e) ended s t) (sym as_came)
+        (ends_leave s mid begins m is last t ended ends (one_begun_on at acked_now faults with_last came cs).done (reach came).marks led.history led.leads led.machine led.within)
+    | inr still ↦ stops_leave m (reach ended) ended s t still (λ quiet. safe) (λ quiet honest. images honest)
+  ]
+    where
+      safe : IsSafe t (reach ended).marks
+      safe = elim (closes_or_not came) [
+        | inl closing ↦ let led = leaves.stands closing in led.within t (ends.each led.history led.leads.keeps).safe
+        | inr still ↦ subst (λ x. IsSafe x (reach ended).marks) (sym (dropped still)) leaves.safe
+      ]
+
+      images : Honest (standing s) → LeavesHonest t
+      images honest = elim (closes_or_not came) [
+        | inl closing ↦ let led = leaves.stands closing in (ends.each led.history led.leads.keeps).images (led.leads.tells (inl (resumed_tells s mid begins m is honest)))
+        | inr still ↦ subst LeavesHonest (sym (dropped still)) kept
+      ]
+
+pub runs_ended : (moment : ℕ) (ended : Status) (came : Result Status StoreFault) (s : State) (mid last : Progress) (t : State) (begun faults : ℕ) → mid.disk_faults ≡ begun → IsFinite s → BeginsRun moment s mid.session
+    → PerformsScript came mid last → LeavesHonest last.session.disk
+    → EndsSession ended last.session t → EndsAs ended (status_in came) → (¬ (IsClosing (status_in came)) → t ≡ last.session.disk)
+    → last.disk_faults ≤ faults → (ended ≡ status.Disk → (status_in came ≡ status.Disk) ⊎ Rose last.disk_faults faults)
+    → RunsScript moment ended (record (world_of mid) { disk = s; disk_faults = begun }) (record (world_of last) { disk = t; disk_faults = faults })
+runs_ended moment ended came s mid last t begun faults calm finite begins performs kept ends same dropped later rose =
+    subst (λ n. RunsScript moment ended (record (world_of mid) { disk = s; disk_faults = n }) (record (world_of last) { disk = t; disk_faults = faults })) calm (go mid.source.left performs)
+  where
+    go : (left : Option (List ℕ)) → PerformsScript came (with_left mid left) last → RunsScript moment ended (record (world_of (with_left mid left)) { disk = s }) (record (world_of last) { disk = t; disk_faults = faults })
+    go None performs = tt
+    go (Some bytes) performs = λ m cs is found.
+        let resumed = begins.resumed m is in
+        let r = performs.each (acked resumed.done (settled_at m)) cs resumed.leads.keeps found in
+        let as_came : IsClosing ended → status_in came ≡ ended = λ closes. sym (closing_same ended (status_in came) same closes) in
+        let count : ℕ = length r.faults in
+        inl (
+          resumed.done,
+          (
+            resumed_done s mid.session begins m is finite,
+            record {
+              done = r.done;
+              as_many = r.is_done.as_many;
+              acked = r.acked;
+              faults = r.faults;
+              with_last = r.with_last;
+              counts = record {
+                numbers = r.counts.numbers;
+                counted = counts_on count mid.disk_faults last.disk_faults faults later r.counts.counted;
+                last = elim r.counts.last [
+                  | inl none ↦ inl none
+                  | inr (cut, once) ↦ inr (cut, counts_on (suc count) mid.disk_faults last.disk_faults faults later once)
+                ];
+                disk = λ e. elim (rose e) [
+                  | inl before ↦ counts_on (suc count) mid.disk_faults last.disk_faults faults later (r.counts.disk before)
+                  | inr closing ↦ counts_more count mid.disk_faults last.disk_faults faults closing r.counts.counted
+                ];
+              };
+              are_done = are_done_where (resumed_tells s mid.session begins m is) (step m resumed.done).next (unfaulted r.with_last cs) (unfaulted r.with_last r.done) r.is_done.are_done;
+              all = λ e. r.tells.all (⊎_elim (λ done. inl (as_came (subst IsClosing (sym done) tt) ∙ done)) (λ script. inr (as_came (subst IsClosing (sym script) tt) ∙ script)) e);
+              replies =
+                  let said = r.tells.replies in
+                  record {
+                    out = said.out;
+                    printed = said.printed;
+                    told = said.told;
+                    front = said.front;
+                    no_line = said.no_line;
+                    all = λ e. said.all (as_came (subst IsClosing (sym e) tt) ∙ e);
+                    script = λ e. said.script (as_came (subst IsClosing (sym e) tt) ∙ e);
+                    source = λ e. said.source (as_came (subst IsClosing (sym e) tt) ∙ e);
+                  };
+              source = λ e. r.tells.source (as_came (subst IsClosing (sym e) tt) ∙ e);
+              leaves = ended_leaves s mid.session begins m is r.acked r.faults r.with_last r.done last.session t ended (status_in came) r.leaves ends same dropped kept;
+            },
+          ),
+        )

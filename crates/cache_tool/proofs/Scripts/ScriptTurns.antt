@@ -1,0 +1,352 @@
+-- What is performed of a script, turn by turn.
+use Rattle.std.proofs.Common.{◌≡◌, ◌⊎◌, inl, inr, ℕ, suc, ◌+◌, ◌<◌, ◌≤◌, List, [], ◌∷◌, ◌++◌, length, take, Option, None, Some, Result, Ok, Err, IsErrAnd, refl, sym, ap, subst, ◌∙◌, arith, append-nil, length-append}
+use Rattle.std.specs.Io.KnownBytes.{Appends}
+use Rattle.std.specs.Prelude.{Bool, IsTrue}
+use Rattle.std.proofs.KnownBytes.{Appends-nil, Appends-trans}
+use Rattle.cache_script.specs.Command.{command_of}
+use Rattle.cache_script.specs.Reader.{BreaksOff, Ends, Gives, IsBadScript, LeavesReader, given_in, held_in, rest_of, used_in}
+use Rattle.cache_script.specs.declared.command.Command.{Command as Given}
+use Rattle.cache_script.specs.declared.reader.Reader.{Reader}
+use Rattle.cache_script.specs.declared.reader.ScriptFault.{ScriptFault}
+use Rattle.cache_base.specs.Causes.{Rose}
+use Rattle.cache_store.specs.DoneFor.{IsDoneFor}
+use Rattle.cache_store.specs.Faulting.{StaysAs}
+use Rattle.cache_store.specs.Open.{KeepsTo, Tells}
+use Rattle.cache_store.specs.Performing.{ComesToTell, PerformsAndKeeps, PerformsFor}
+use Rattle.cache_store.specs.Said.{IsCut}
+use Rattle.cache_store.specs.declared.fault.Verdict.{Verdict}
+use Rattle.cache_store.specs.declared.fault.StoreFault.{StoreFault}
+use Rattle.cache_store.specs.declared.fault.StoreFault.TheVariants as fault
+use Rattle.cache_store.proofs.Performing.Represented.{represents}
+use Rattle.cache_theory.specs.Command.{Command}
+use Rattle.cache_theory.specs.Faulted.{AreFaults, fault_line, replies_but, unfaulted, with_next}
+use Rattle.cache_theory.specs.History.{History, acked, unanswered}
+use Rattle.cache_theory.specs.Machine.{Machine}
+use Rattle.cache_theory.specs.Step.{after, step}
+use Rattle.cache_theory.specs.Text.{IsSpoken, reply_text, script_bytes}
+use Rattle.cache_theory.proofs.Faults.RepliesApart.{step_spoken}
+use Rattle.cache_theory.proofs.Faults.FaultedOn.{faults_are_in_front, faults_are_within, next_may_fault}
+use Rattle.cache_tool.specs.Right.{LeadTo, has_rebuild}
+use Rattle.cache_tool.specs.ScriptProgress.{AreRead, ArePerformed, DoneForKept, EndsScript, FailsAfter, FailsInLine, FaultsAfter, HasPerformed, IsCutOff, PerformsAll, PerformsNext, all_answered}
+use Rattle.cache_tool.specs.Staying.{StaysFor, StaysOnce}
+use Rattle.cache_tool.specs.Tally.{RoseBy}
+use Rattle.cache_tool.specs.World.{Progress, Sitting, Supply, sitting_of}
+use Rattle.cache_tool.specs.declared.script.Ended.{Ended}
+use Rattle.cache_tool.specs.declared.script.Ended.TheVariants as ended
+use Rattle.cache_tool.proofs.Answering.{AnswersByFault, AnswersByReply, AnswersNext}
+use Rattle.cache_tool.proofs.DoneKept.{done_kept_but, done_kept_on}
+use Rattle.cache_tool.proofs.DoneLaws.{done_rebuild, done_right, done_spoken, done_where, script_is_spoken, spoken_parts}
+use Rattle.cache_tool.proofs.FaultedParts.{next_numbers, one_longer}
+use Rattle.cache_tool.proofs.Moments.{with_source}
+use Rattle.cache_tool.proofs.RightLaws.{leads_none, leads_on, leads_one, leads_still}
+use Rattle.cache_tool.proofs.StayingLaws.{stays_done}
+use Rattle.cache_tool.proofs.Scripts.ScriptBytes.{more_length, nothing_read, read_bad, read_front, read_on, read_taken, read_whole}
+use Rattle.index_map.specs.Known.{SameBase}
+
+-- the machine after some commands and one more
+pub after_more : (m : Machine) (cs : List Command) (c : Command) → after m (cs ++ c ∷ []) ≡ (step (after m cs) c).next
+after_more m [] c = refl
+after_more m (d ∷ cs) c = after_more (step m d).next cs c
+
+-- and so the history
+answered_more : (cs : List Command) (c : Command) (h : History) → all_answered (cs ++ c ∷ []) h ≡ acked c (all_answered cs h)
+answered_more [] c h = refl
+answered_more (d ∷ cs) c h = answered_more cs c (acked d h)
+
+module _ (before : Progress) where
+  -- nothing was performed
+  none_performed : PerformsAll [] [] before before
+  none_performed = record {
+    each = λ h keeps. record {
+      done = [];
+      is_done = record { as_many = refl; spoken = λ spoken. spoken; are_done = tt };
+      performed = record { stands = leads_none before.session h keeps; out = Appends-nil before.taken };
+    };
+  }
+
+  -- for a history: this was done so far, and then one thing more
+  module _ (mid now : Progress) (ds : List Command) (d : Command) (faults : List ℕ) (numbers : AreFaults (length ds) faults) (h : History) (so_far : ArePerformed ds faults h before mid) where
+    -- what was kept of it
+    abbrev kept : List Command
+    kept = unfaulted faults ds
+
+    -- it leads on to a history
+    one_leads : (g : History) → KeepsTo now.session g → (ComesToTell d mid.session (after h.machine kept) → Tells now.session g.machine) → StaysOnce d mid.session (after h.machine kept) now.session
+        → LeadTo (kept ++ d ∷ []) before.session h.machine now.session g
+    one_leads g keeps tells stays =
+        leads_on kept (d ∷ []) before.session h.machine mid.session (all_answered kept h) now.session g refl so_far.stands (leads_one d mid.session (after h.machine kept) now.session g keeps tells stays)
+
+    -- after the answers so far this went out
+    one_out : (text : List ℕ) → Appends mid.taken now.taken text → Appends before.taken now.taken (replies_but h.machine ds faults ++ text)
+    one_out text out = Appends-trans before.taken mid.taken now.taken (replies_but h.machine ds faults) text so_far.out out
+
+    -- where it is done for a command, all of this is done for the commands so far and this one
+    one_done : (cs : List Command) (c : Command) → DoneForKept before.session h.machine cs ds faults → IsDoneFor (Tells mid.session (after h.machine kept)) c (after h.machine kept) d
+        → DoneForKept before.session h.machine (cs ++ c ∷ []) (ds ++ d ∷ []) faults
+    one_done cs c so is = done_kept_on before.session h.machine cs ds faults so numbers (c ∷ []) (d ∷ []) refl (done_where right c (after h.machine kept) d is, tt)
+      where
+        right : Tells before.session h.machine ⊎ IsTrue (has_rebuild (unfaulted faults cs)) → Tells mid.session (after h.machine kept)
+        right (inl told) = so_far.stands.tells (inl told)
+        right (inr rebuilt) = so_far.stands.tells (inr (sym (done_rebuild (Tells before.session h.machine) h.machine (unfaulted faults cs) kept so.are_done) ∙ rebuilt))
+
+    -- it was performed
+    went_on : (o : Verdict) → PerformsAndKeeps d (all_answered kept h) (Ok o) mid.session now.session mid.taken now.taken → StaysOnce d mid.session (after h.machine kept) now.session
+        → ArePerformed (ds ++ d ∷ []) faults h before now
+    went_on o next stays =
+        let goes = faults_are_in_front h.machine ds (d ∷ []) faults numbers in
+        record {
+          stands = subst (λ l. LeadTo l before.session h.machine now.session (all_answered l h)) (sym goes.kept)
+              (subst (λ x. LeadTo (kept ++ d ∷ []) before.session h.machine now.session x) (sym (answered_more kept d h))
+              (one_leads (acked d (all_answered kept h)) next.keeps.next (next.performs.tells tt) stays));
+          out = subst (Appends before.taken now.taken) (sym (goes.replies ∙ ap (λ l. replies_but h.machine ds faults ++ l) (append-nil (reply_text (step (after h.machine kept) d).reply))))
+              (one_out (reply_text (step (after h.machine kept) d).reply) next.performs.printed);
+        }
+
+    -- it failed
+    broke_off : (f : StoreFault) → IsSpoken d → PerformsAndKeeps d (all_answered kept h) (Err f) mid.session now.session mid.taken now.taken → (f ≡ fault.Sink → StaysOnce d mid.session (after h.machine kept) now.session)
+        → IsCutOff ds faults d f h before now
+    broke_off f spoken next stays = record {
+      safe = next.keeps.safe;
+      cut =
+          let tail = next.performs.cut (step_spoken (after h.machine kept) d spoken) in
+          record { cut = tail.0; short = tail.1.0; out = one_out (take tail.0 (reply_text (step (after h.machine kept) d).reply)) tail.1.1 };
+      effect = λ sink. one_leads (unanswered d (all_answered kept h)) (next.keeps.unanswered sink) (next.performs.tells sink) (stays sink);
+    }
+
+    -- the disk failed in a look, and all is as it was
+    module _ (stays : StaysAs mid.session now.session) (base : SameBase mid.session.open_store.index.map now.session.open_store.index.map) where
+      still_leads : LeadTo kept before.session h.machine now.session (all_answered kept h)
+      still_leads = leads_still kept before.session h.machine mid.session now.session (all_answered kept h) so_far.stands stays base
+
+      -- so it was answered by the line
+      faulted_on : Appends mid.taken now.taken fault_line → ArePerformed (ds ++ d ∷ []) (with_next (length ds) faults) h before now
+      faulted_on said =
+          let next = next_may_fault h.machine ds d faults numbers in
+          record {
+            stands = subst (λ l. LeadTo l before.session h.machine now.session (all_answered l h)) (sym next.kept) still_leads;
+            out = subst (Appends before.taken now.taken) (sym next.replies)
+                (Appends-trans before.taken mid.taken now.taken (replies_but h.machine ds faults) fault_line so_far.out said);
+          }
+
+      -- or by a part of it
+      faulted_off : IsCut mid.taken now.taken fault_line
+          → (n : ℕ) × ((n < length fault_line) × Appends before.taken now.taken (replies_but h.machine ds faults ++ take n fault_line))
+      faulted_off (n, (short, out)) = (n, (short, Appends-trans before.taken mid.taken now.taken (replies_but h.machine ds faults) (take n fault_line) so_far.out out))
+
+  -- one command more was performed
+  module _ (mid now : Progress) (cs : List Command) (c : Command) (faults : List ℕ) (numbers : AreFaults (length cs) faults) (performs : PerformsAll cs faults before mid) where
+    one_performed : (o : Verdict) → PerformsFor c (Ok o) mid.session now.session mid.taken now.taken → StaysFor {T = Verdict} c (Ok o) mid.session now.session → PerformsAll (cs ++ c ∷ []) faults before now
+    one_performed o next stays = record {
+      each = λ h keeps.
+          let some = performs.each h keeps in
+          let stands = some.performed.stands.keeps in
+          let at = after h.machine (unfaulted faults some.done) in
+          let numbers_done = subst (λ n. AreFaults n faults) (sym some.is_done.as_many) numbers in
+          let does = next.crash (all_answered (unfaulted faults some.done) h) stands in
+          let did = done_right mid.session c at does.0 does.1.0 in
+          let stays_once = stays_done (Tells mid.session at) c mid.session at now.session does.0 did (stays at (represents stands) tt) in
+          record {
+            done = some.done ++ does.0 ∷ [];
+            is_done = one_done mid now some.done does.0 faults numbers_done h some.performed cs c some.is_done did;
+            performed = went_on mid now some.done does.0 faults numbers_done h some.performed o does.1.1 stays_once;
+          };
+    }
+
+    -- it failed
+    one_failed : (f : StoreFault) → IsSpoken c → PerformsFor c (Err f) mid.session now.session mid.taken now.taken → StaysFor {T = Verdict} c (Err f) mid.session now.session → FailsAfter cs faults c f before now
+    one_failed f spoken next stays = record {
+      each = λ h keeps.
+          let some = performs.each h keeps in
+          let stands = some.performed.stands.keeps in
+          let at = after h.machine (unfaulted faults some.done) in
+          let numbers_done = subst (λ n. AreFaults n faults) (sym some.is_done.as_many) numbers in
+          let does = next.crash (all_answered (unfaulted faults some.done) h) stands in
+          let did = done_right mid.session c at does.0 does.1.0 in
+          let stays_once : f ≡ fault.Sink → StaysOnce does.0 mid.session at now.session = λ sink. stays_done (Tells mid.session at) c mid.session at now.session does.0 did (stays at (represents stands) sink) in
+          record {
+            done = some.done;
+            last = does.0;
+            is_done = one_done mid now some.done does.0 faults numbers_done h some.performed cs c some.is_done did;
+            as_long = some.is_done.as_many;
+            cut_off = broke_off mid now some.done does.0 faults numbers_done h some.performed f (done_spoken (Tells mid.session at) c at does.0 did spoken) does.1.1 stays_once;
+          };
+    }
+
+    -- it was answered by the line
+    module _ (stays : StaysAs mid.session now.session) (base : SameBase mid.session.open_store.index.map now.session.open_store.index.map) where
+      one_faulted : Appends mid.taken now.taken fault_line → PerformsAll (cs ++ c ∷ []) (with_next (length cs) faults) before now
+      one_faulted said = record {
+        each = λ h keeps.
+            let some = performs.each h keeps in
+            let numbers_done = subst (λ n. AreFaults n faults) (sym some.is_done.as_many) numbers in
+            record {
+              done = some.done ++ c ∷ [];
+              is_done = subst (λ n. DoneForKept before.session h.machine (cs ++ c ∷ []) (some.done ++ c ∷ []) (with_next n faults)) some.is_done.as_many (done_kept_but before.session h.machine cs some.done faults some.is_done numbers_done c);
+              performed = subst (λ n. ArePerformed (some.done ++ c ∷ []) (with_next n faults) h before now) some.is_done.as_many (faulted_on mid now some.done c faults numbers_done h some.performed stays base said);
+            };
+      }
+
+      -- or by a part of it
+      one_faulted_cut : IsCut mid.taken now.taken fault_line → FaultsAfter cs faults before now
+      one_faulted_cut cut = record {
+        each = λ h keeps.
+            let some = performs.each h keeps in
+            let numbers_done = subst (λ n. AreFaults n faults) (sym some.is_done.as_many) numbers in
+            record {
+              done = some.done;
+              is_done = some.is_done;
+              stands = still_leads mid now some.done c faults numbers_done h some.performed stays base;
+              cut = faulted_off mid now some.done c faults numbers_done h some.performed stays base cut;
+            };
+      }
+
+-- ---- one turn
+
+-- an answer that the disk failed comes only where its count rose
+pub answered_rose : {tells : Bool} {c : Command} {f : StoreFault} {before now : Sitting} → AnswersNext tells c (Err f) before now → f ≡ fault.Disk → Rose before.disk_faults now.disk_faults
+answered_rose (later, inl reply) disk = reply.rose (ap (λ x. Err x) disk)
+answered_rose (later, inr line) disk = absurd (line.no_disk (ap (λ x. Err x) disk))
+
+-- what a call of the reader leaves
+pub gives_one : (r q : Reader) (left now : Option (List ℕ)) (answer : Result (Option Given) ScriptFault) (o : Option Given) (c : Given) → answer ≡ Ok o → o ≡ Some c → LeavesReader r q left now answer
+    → Gives r q left now (command_of c)
+gives_one r q left now answer o c is some leaves = subst (λ a. LeavesReader r q left now a) (is ∙ ap Ok some) leaves
+
+pub gives_none : (r q : Reader) (left now : Option (List ℕ)) (answer : Result (Option Given) ScriptFault) (o : Option Given) → answer ≡ Ok o → o ≡ None → LeavesReader r q left now answer
+    → Ends r q left now
+gives_none r q left now answer o is none leaves = subst (λ a. LeavesReader r q left now a) (is ∙ ap Ok none) leaves
+
+pub starts : (tells : Bool) (r : Reader) (before : Progress) → held_in r ≡ [] → given_in r ≡ 0 → used_in r ≡ 0 → HasPerformed tells r before before
+starts tells r before held given used = record {
+  commands = [];
+  read = nothing_read before.source.left (held_in r) held;
+  given = given;
+  used = used;
+  faults = [];
+  counts = record { numbers = tt; counted = omega arith };
+  performs = λ told. none_performed before;
+}
+
+-- the disk failed as often at least, or once more
+pub counts_on : (n a b c : ℕ) → b ≤ c → RoseBy n a b → RoseBy n a c
+counts_on n a b c later rose = omega arith
+
+pub counts_more : (n a b c : ℕ) → Rose b c → RoseBy n a b → RoseBy (suc n) a c
+counts_more n a b c once rose = omega arith
+
+module _ (tells : Bool) (r q : Reader) (mid now : Progress) (c : Command) (gives : Gives r q mid.source.left now.source.left c) (later : mid.disk_faults ≤ now.disk_faults) where
+  module _ (before : Progress) (goes : HasPerformed tells r before mid) where
+    -- this was read so far
+    so_read : AreRead before.source.left now.source.left (goes.commands ++ c ∷ []) (held_in q)
+    so_read = read_on r q before.source.left mid.source.left now.source.left goes.commands c goes.read goes.used gives
+
+    so_given : given_in q ≡ length (goes.commands ++ c ∷ [])
+    so_given = omega (arith, goes.given, gives.given, length-append goes.commands (c ∷ []))
+
+    so_used : used_in q ≡ length (script_bytes (goes.commands ++ c ∷ []))
+    so_used = gives.used ∙ omega (arith, goes.used, more_length goes.commands c)
+
+    still_counted : RoseBy (length goes.faults) before.disk_faults now.disk_faults
+    still_counted = counts_on (length goes.faults) before.disk_faults mid.disk_faults now.disk_faults later goes.counts.counted
+
+    once_more : Rose mid.disk_faults now.disk_faults → RoseBy (suc (length goes.faults)) before.disk_faults now.disk_faults
+    once_more rose = counts_more (length goes.faults) before.disk_faults mid.disk_faults now.disk_faults rose goes.counts.counted
+
+    more_numbers : AreFaults (length (goes.commands ++ c ∷ [])) goes.faults
+    more_numbers = faults_are_within (length goes.commands) (length (goes.commands ++ c ∷ [])) goes.faults (omega (arith, length-append goes.commands (c ∷ []))) goes.counts.numbers
+
+  -- a command was performed
+  replied_on : (o : Verdict) → (IsTrue tells → PerformsFor c (Ok o) mid.session now.session mid.taken now.taken) → (IsTrue tells → StaysFor {T = Verdict} c (Ok o) mid.session now.session)
+      → PerformsNext tells (Ok None) r q mid now
+  replied_on o performs stays = record {
+    on = λ before goes. record {
+      commands = goes.commands ++ c ∷ [];
+      read = so_read before goes;
+      given = so_given before goes;
+      used = so_used before goes;
+      faults = goes.faults;
+      counts = record { numbers = more_numbers before goes; counted = still_counted before goes };
+      performs = λ told. one_performed before mid now goes.commands c goes.faults goes.counts.numbers (goes.performs told) o (performs told) (stays told);
+    };
+  }
+
+  -- it was answered by the line
+  faulted_turn : Rose mid.disk_faults now.disk_faults → (IsTrue tells → StaysAs mid.session now.session) → SameBase mid.session.open_store.index.map now.session.open_store.index.map
+      → Appends mid.taken now.taken fault_line → PerformsNext tells (Ok None) r q mid now
+  faulted_turn rose stays base said = record {
+    on = λ before goes. record {
+      commands = goes.commands ++ c ∷ [];
+      read = so_read before goes;
+      given = so_given before goes;
+      used = so_used before goes;
+      faults = with_next (length goes.commands) goes.faults;
+      counts = record {
+        numbers = next_numbers goes.commands c goes.faults goes.counts.numbers;
+        counted = subst (λ n. RoseBy n before.disk_faults now.disk_faults) (one_longer goes.faults (suc (length goes.commands))) (once_more before goes rose);
+      };
+      performs = λ told. one_faulted before mid now goes.commands c goes.faults goes.counts.numbers (goes.performs told) (stays told) base said;
+    };
+  }
+
+  pub turn_on : (v : Verdict) → AnswersNext tells c (Ok v) (sitting_of mid) (sitting_of now) → PerformsNext tells (Ok None) r q mid now
+  turn_on v (later_too, inl reply) = replied_on v reply.performs reply.stays
+  turn_on v (later_too, inr line) = faulted_turn line.rose line.stays line.base line.printed
+
+  -- a command failed
+  turn_off : (f : StoreFault) → AnswersNext tells c (Err f) (sitting_of mid) (sitting_of now) → PerformsNext tells (Err f) r q mid now
+  turn_off f (later_too, answer) = record {
+    on = λ before goes. record {
+      commands = goes.commands;
+      last = c;
+      front = read_front before.source.left now.source.left (goes.commands ++ c ∷ []) (held_in q) (so_read before goes);
+      faults = goes.faults;
+      counts = record { numbers = goes.counts.numbers; counted = still_counted before goes };
+      disk = λ e. once_more before goes (answered_rose (later_too, answer) e);
+      fails = failed before goes answer;
+    };
+  }
+    where
+      failed : (before : Progress) (goes : HasPerformed tells r before mid) → AnswersByReply tells c (Err f) (sitting_of mid) (sitting_of now) ⊎ AnswersByFault tells (Err f) (sitting_of mid) (sitting_of now)
+          → (IsTrue tells → FailsAfter goes.commands goes.faults c f before now)
+          ⊎ (FailsInLine f goes.faults before now × (IsTrue tells → FaultsAfter goes.commands goes.faults before now))
+      failed before goes (inl reply) = inl (λ told. one_failed before mid now goes.commands c goes.faults goes.counts.numbers (goes.performs told) f
+          (spoken_parts goes.commands (c ∷ []) (script_is_spoken (goes.commands ++ c ∷ []) (so_read before goes).commands)).1.0 (reply.performs told) (reply.stays told))
+      failed before goes (inr line) = inr (
+        record { no_disk = λ e. line.no_disk (ap (λ x. Err x) e); rose = once_more before goes line.rose },
+        λ told. one_faulted_cut before mid now goes.commands c goes.faults goes.counts.numbers (goes.performs told) (line.stays told) line.base line.cut,
+      )
+
+  -- which is the answer
+  pub turn_err : (f : StoreFault) (final : Result (Option Ended) StoreFault) → IsErrAnd final (λ e. e ≡ f) → AnswersNext tells c (Err f) (sitting_of mid) (sitting_of now) → PerformsNext tells final r q mid now
+  turn_err f (Ok e) is answers = absurd is
+  turn_err f (Err e) is answers = subst (λ x. PerformsNext tells (Err x) r q mid now) (sym is) (turn_off f answers)
+
+module _ (tells : Bool) (r q : Reader) (mid : Progress) (source : Supply) where
+  -- there was none
+  stopped : (e : Ended) → ((before : Progress) → (goes : HasPerformed tells r before mid) → EndsScript e before.source.left source.left goes.commands)
+      → PerformsNext tells (Ok (Some e)) r q mid (with_source mid source)
+  stopped e ends = record {
+    on = λ before goes. record {
+      commands = goes.commands;
+      ends = ends before goes;
+      faults = goes.faults;
+      counts = record { numbers = goes.counts.numbers; counted = goes.counts.counted };
+      performs = λ told. record {
+        each = λ h keeps.
+            let some = (goes.performs told).each h keeps in
+            record { done = some.done; is_done = some.is_done; performed = record { stands = some.performed.stands; out = some.performed.out } };
+      };
+    };
+  }
+
+  pub turn_whole : Ends r q mid.source.left source.left → PerformsNext tells (Ok (Some ended.Whole)) r q mid (with_source mid source)
+  turn_whole ends = stopped ended.Whole (λ before goes. (ends.after, read_whole before.source.left mid.source.left goes.commands (held_in r) goes.read ends.before))
+
+  pub turn_failed : BreaksOff r mid.source.left source.left → PerformsNext tells (Ok (Some ended.Failed)) r q mid (with_source mid source)
+  turn_failed fails = stopped ended.Failed (λ before goes. read_taken r before.source.left mid.source.left source.left goes.commands goes.read fails)
+
+  pub turn_bad : (n : ℕ) → n ≡ given_in r + 1 → IsBadScript (used_in r) (rest_of r mid.source.left) → PerformsNext tells (Ok (Some (ended.Bad n))) r q mid (with_source mid source)
+  turn_bad n number bad = stopped (ended.Bad n) (λ before goes. (
+    number ∙ ap (λ k. k + 1) goes.given,
+    read_bad before.source.left mid.source.left goes.commands (held_in r) (used_in r) goes.read goes.used bad,
+  ))

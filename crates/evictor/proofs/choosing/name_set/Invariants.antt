@@ -1,9 +1,0 @@
-use Rattle.std.proofs.Common.{◌≡◌, take}
-use Rattle.std.specs.BTreeSet.{contains}
-use Rattle.cache_base.specs.Names.{name_cmp}
-use Rattle.cache_base.specs.declared.name.Name.{Name}
-use Rattle.evictor.specs.Evict.{has_name}
-use Rattle.evictor.proofs.choosing.name_set.Given as goal
-
-abbrev pub invariant-loop-name : goal.invariant-loop-name
-invariant-loop-name l = (q : Name) → contains name_cmp l.set q ≡ has_name (take l.name-index l.names) q

@@ -1,0 +1,15 @@
+pub mod AsidePlaces
+pub mod DoomedBut
+pub mod DoomedCarried
+pub mod DoomedChecks
+pub mod DoomedCommand
+pub mod DoomedKeeps
+pub mod DoomedNumbers
+pub mod DoomedStands
+pub mod DoomedUser
+pub mod Evicted
+pub mod FirstFree
+pub mod GoneUnder
+pub mod LowNumbers
+pub mod MarkLeft
+pub mod SlotUsers

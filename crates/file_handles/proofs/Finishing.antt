@@ -1,0 +1,9 @@
+pub mod Completed
+pub mod Completions
+pub mod FinishCarried
+pub mod Grown
+pub mod InChunk
+pub mod IndexPublished
+pub mod Published
+pub mod WriterCommands
+pub mod Writers

@@ -1,0 +1,8 @@
+pub mod CreatedCommand
+pub mod CreatedIn
+pub mod Joined
+pub mod JoinedObject
+pub mod JoinedOpen
+pub mod JoinedReader
+pub mod JoinedSlots
+pub mod SeatLaws

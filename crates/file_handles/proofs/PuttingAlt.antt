@@ -1,0 +1,3 @@
+pub mod AltChecks
+pub mod AltCommand
+pub mod LongerEntry

@@ -1,0 +1,10 @@
+pub mod ElementChecks
+pub mod ElementCommands
+pub mod ElementEntries
+pub mod ElementLengths
+pub mod ElementMarks
+pub mod ElementReads
+pub mod ElementSlots
+pub mod EntryChanged
+pub mod PinCommand
+pub mod UseCommand

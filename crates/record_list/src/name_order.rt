@@ -1,0 +1,29 @@
+//! Records in name order.
+
+ghost use Rattle.std.specs.Prelude.{◌≡◌, true};
+ghost use Rattle.record_list.specs.Lists.{AreRising, HasNames, IsByName};
+
+use index_record::{IndexRecord, Records};
+
+/// Whether each record's name is below that of the next: then the records are in name order.
+pub fn rise(records: &[IndexRecord]) -> bool
+    ensures { result ≡ true → AreRising records.now }
+{
+    records.is_sorted_by(|a, b| a.name.cmp(&b.name).is_lt())
+}
+
+pub(crate) fn sort(records: &mut Vec<IndexRecord>)
+    requires { HasNames records.old.items }
+    ensures { IsByName records.old.items records.new.items }
+{
+    records.sort_unstable_by_key(|record| record.name);
+}
+
+/// The records in name order, in the memory that holds them.
+pub fn by_name(mut records: Vec<IndexRecord>) -> Records
+    requires { HasNames records.items }
+    ensures { IsByName records.items result }
+{
+    sort(&mut records);
+    Records::from_vec(records)
+}
