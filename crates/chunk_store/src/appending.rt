@@ -1,6 +1,6 @@
 //! Chunks written one after another.
 
-ghost use Rattle.std.specs.Prelude.{◌≡◌, ◌*◌, ◌≤◌, ◌++◌, ◌<◌, ◌+◌, length, IsTrue};
+ghost use Rattle.std.specs.Prelude.{◌≡◌, ◌*◌, ◌^◌, ◌≤◌, ◌++◌, ◌<◌, ◌+◌, length, IsTrue};
 ghost use Rattle.cache_base.specs.Limits.{chunk_size};
 ghost use Rattle.disk_model.specs.Account.{Accounts, FailsInChange, ending};
 ghost use Rattle.disk_model.specs.State.{standing, wrote};
@@ -30,7 +30,7 @@ pub fn append_chunk<D: Disk>(
     buf: &mut Buffer,
 ) -> Result<(), DiskFault>
     requires full { length buf.old ≡ CHUNK }
-    requires limit { index ≤ 4194304 }
+    requires limit { index * chunk_size ≤ 2 ^ 40 }
     requires told { IsTrue D.tells →
         MayWriteAt (standing (D.state disk.old) place.now) (index * chunk_size) }
     ensures buf { buf.new ≡ buf.old }

@@ -1,6 +1,6 @@
 -- The checks of an index, in order, and what is read of one that passes them.
 use Rattle.std.specs.Option.{option_or}
-use Rattle.std.specs.Prelude.{Bool, List, Option, Some, [], drop, length, nat_le, not, option_map, ℕ, ◌==◌, ◌∷◌, ◌≡◌}
+use Rattle.std.specs.Prelude.{Bool, List, Option, Some, [], drop, length, nat_le, not, option_map, ℕ, ◌+◌, ◌==◌, ◌∷◌, ◌≡◌}
 use Rattle.cache_base.specs.Bytes.{be32_at}
 use Rattle.cache_base.specs.Checks.{first_failing}
 use Rattle.index_file.specs.Index.{flag_at, header_size}
@@ -12,7 +12,7 @@ use Rattle.record_list.specs.Stored.{present, read_as, records_fault, stored_in}
 
 -- the checks of the header
 unfoldable pub header_checks : List ℕ → List (Bool × IndexFault)
-header_checks xs = (nat_le 20 (length xs), faults.Short) ∷ (be32_at xs 0 == 0xA, faults.Version) ∷ []
+header_checks xs = (nat_le (header_size + 4) (length xs), faults.Short) ∷ (be32_at xs 0 == 0xA, faults.Version) ∷ []
 
 -- the fault of the first failing check of the header, or else of the records after it
 abbrev pub index_fault : List ℕ → Option IndexFault

@@ -4,7 +4,6 @@ use Rattle.std.specs.Prelude.{Option, Some, None, if◌then◌else◌, ◌==◌}
 use Rattle.std.proofs.lemmas.Bool.{eq-eqb, ne_eqb}
 use Rattle.cache_base.specs.Bytes.{be32_at}
 use Rattle.cache_base.specs.Checks.{first_failing}
-use Rattle.cache_base.specs.declared.name.Name.{Name}
 use Rattle.jenkins_hash.specs.Hash.{hash_of}
 use Rattle.record_list.specs.Lists.{names_of}
 use Rattle.record_list.specs.Stored.{are_distinct, body_of, records_checks, records_fault, stored_in}
@@ -47,14 +46,6 @@ module _ (part body : List ℕ) (left : ℕ) (is_empty : Bool) (is : body ≡ bo
     pub other_hash : number ≢ hash → records_fault part ≡ Some faults.Hash
     other_hash differ = as_rows part ∙ second_fails _ _ _ (whole_is ∙ whole) (ne_eqb _ _ (λ same. differ (at ∙ same ∙ sym hash_of_body)))
 
-    module _ (hashed : number ≡ hash) (names : List Name) (ns : names ≡ names_of (stored_in part)) where
-      at_names : records_fault part ≡ (if are_distinct names then None else Some faults.Repeated)
-      at_names =
-          as_rows part ∙ two_pass _ _ _ (whole_is ∙ whole) (eq-eqb _ _ (sym at ∙ hashed ∙ hash_of_body))
-          ∙ ap (λ ms. if are_distinct ms then None else Some faults.Repeated) (sym ns)
-
-      pub repeated : are_distinct names ≡ false → records_fault part ≡ Some faults.Repeated
-      repeated t = at_names ∙ ap (λ b. if b then None else Some faults.Repeated) t
-
-      pub no_fault : are_distinct names ≡ true → records_fault part ≡ None
-      no_fault t = at_names ∙ ap (λ b. if b then None else Some faults.Repeated) t
+    pub names_left : number ≡ hash
+        → records_fault part ≡ (if are_distinct (names_of (stored_in part)) then None else Some faults.Repeated)
+    names_left hashed = as_rows part ∙ two_pass _ _ _ (whole_is ∙ whole) (eq-eqb _ _ (sym at ∙ hashed ∙ hash_of_body))

@@ -2,7 +2,7 @@ pub mod NameLaws
 pub mod OrderLaws
 pub mod ChangeLaws
 pub mod StoredLaws
-pub mod Wanted
+pub mod Present
 pub mod ReadingLaws
 pub mod FirstFault
 pub mod Pushed

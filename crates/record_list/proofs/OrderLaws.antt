@@ -1,20 +1,19 @@
 -- Lists that are sorted by name, and names none of which stands twice.
-use Rattle.std.proofs.Common.{◌≡◌, ℕ, ◌+◌, ◌<◌, List, [], ◌∷◌, length, get_or, take, Bool, true, false, not, ◌&&◌, ◌||◌, refl, sym, ap, ◌∙◌, arith}
-use Rattle.std.specs.Prelude.{map}
-use Rattle.std.specs.Cmp.Lexicographic.{slice_cmp}
+use Rattle.std.proofs.Common.{◌≡◌, ℕ, ◌+◌, ◌<◌, List, [], ◌∷◌, length, get_or, Bool, true, false, not, ◌&&◌, ◌||◌, refl, sym, ap, ◌∙◌, arith}
+use Rattle.std.specs.Prelude.{map, ◌↔◌}
 use Rattle.std.specs.List.{AllByRecursion, IsAllAdjacentAnswer, IsDistinct, list_any}
 use Rattle.std.specs.List.Sorted.{IsPermutation, IsSorted, IsSortedByKey}
-use Rattle.std.specs.Ordering.{is_lt, nat_cmp}
+use Rattle.std.specs.Ordering.{is_lt}
 use Rattle.std.specs.declared.cmp.Ordering.{Ordering}
 use Rattle.std.specs.declared.cmp.Ordering.TheVariants.{Less, Equal, Greater}
 use Rattle.std.proofs.lemmas.Bool.{and_parts}
 use Rattle.std.proofs.lemmas.List.{get_or-map, length-map}
 use Rattle.std.proofs.lemmas.List.Sorted.{IsPermutation-sym}
-use Rattle.std.proofs.lemmas.Map.Keys.{IsDistinct-IsPermutation, apart_from_distinct, sorted_from_all_adjacent}
+use Rattle.std.proofs.lemmas.Map.Keys.{IsDistinct-IsPermutation, Less-from_sorted, apart_from_distinct, sorted_from_all_adjacent}
 use Rattle.cache_base.specs.Names.{AreRising, name_cmp}
 use Rattle.cache_base.specs.declared.name.Name.{Name}
 use Rattle.cache_base.proofs.NameLaws.{name_cmp_total}
-use Rattle.index_record.specs.Record.{record_in, removed_record}
+use Rattle.index_record.specs.Record.{removed_record}
 use Rattle.index_record.specs.declared.record.IndexRecord.{IndexRecord}
 use Rattle.record_list.specs.Lists.{names_of, same_name}
 use Rattle.record_list.specs.Stored.{are_distinct}
@@ -110,28 +109,26 @@ named_at : (rs : List IndexRecord) (k : ℕ) → k < length rs
     → get_or (names_of rs) k no_name ≡ (get_or rs k no_record).name
 named_at rs k lt = get_or-map (λ (r : IndexRecord). r.name) rs k no_record no_name lt
 
--- records rise where the name of each is below that of the next
+-- records rise where the name of each is below that of the next, and nowhere else
 pub records_rise : (rs : List IndexRecord) (answer : Bool)
     → IsAllAdjacentAnswer (λ (a b : IndexRecord) t. t ≡ is_lt (name_cmp a.name b.name)) rs answer
-    → answer ≡ true → AreRising (names_of rs)
-records_rise rs true each is =
-    let len : length (names_of rs) ≡ length rs = length-map rs (λ (r : IndexRecord). r.name) in
-    sorted_from_all_adjacent name_cmp_total (names_of rs) no_name
-    (λ k h. rw (named_at rs k (omega (arith, len, h)), named_at rs (k + 1) (omega (arith, len, h)))
-    (below_from_test _ (each k no_record (omega (arith, len, h)))))
-records_rise rs false each is = absurd (cc)
-
--- the records of groups rise where the first 20 bytes of each are below those of the next
-module _ (groups : List (List ℕ)) where
-  name_at : (k : ℕ) → k < length groups → get_or (names_of (map record_in groups)) k no_name ≡ (record_in (get_or groups k [])).name
-  name_at k lt =
-      let len : length (map record_in groups) ≡ length groups = length-map groups record_in in
-      get_or-map (λ (r : IndexRecord). r.name) (map record_in groups) k (record_in []) no_name (omega (arith, len))
-      ∙ ap (λ (r : IndexRecord). r.name) (get_or-map record_in groups k [] (record_in []) lt)
-
-  pub groups_rise : (r : Bool) → IsAllAdjacentAnswer (λ a b t. t ≡ is_lt (slice_cmp nat_cmp (take 20 a) (take 20 b))) groups r → r ≡ true → AreRising (names_of (map record_in groups))
-  groups_rise true answer is =
-      let len : length (names_of (map record_in groups)) ≡ length groups = length-map (map record_in groups) (λ (r : IndexRecord). r.name) ∙ length-map groups record_in in
-      sorted_from_all_adjacent name_cmp_total (names_of (map record_in groups)) no_name
-      (λ k h. rw (name_at k (omega (arith, len, h)), name_at (k + 1) (omega (arith, len, h))) (below_from_test _ (answer k [] (omega (arith, len, h)))))
-  groups_rise false answer is = absurd (cc)
+    → answer ≡ true ↔ AreRising (names_of rs)
+records_rise rs true each =
+    let len : length (names_of rs) ≡ length rs = length-map rs (λ (r : IndexRecord). r.name) in (
+      λ is. sorted_from_all_adjacent name_cmp_total (names_of rs) no_name
+          (λ k h. rw (named_at rs k (omega (arith, len, h)), named_at rs (k + 1) (omega (arith, len, h)))
+          (below_from_test _ (each k no_record (omega (arith, len, h))))),
+      λ rising. refl,
+    )
+records_rise rs false (k, lt, fails) = (
+  λ is. absurd (cc),
+  λ rising.
+      let len : length (names_of rs) ≡ length rs = length-map rs (λ (r : IndexRecord). r.name) in
+      let here = named_at rs k (omega (arith, lt)) in
+      let next = named_at rs (k + 1) lt in
+      let below = Less-from_sorted name_cmp (names_of rs) k (k + 1) no_name rising (omega arith) (omega (arith, len, lt)) in
+      let less : name_cmp (get_or rs k no_record).name (get_or rs (k + 1) no_record).name ≡ Less = (λ i. name_cmp (sym here i) (sym next i)) ∙ below in
+      let test : is_lt (name_cmp (get_or rs k no_record).name (get_or rs (k + 1) no_record).name) ≡ true = ap is_lt less in
+      let failed : false ≡ is_lt (name_cmp (get_or rs k no_record).name (get_or rs (k + 1) no_record).name) = fails no_record in
+      absurd (cc),
+)

@@ -12,13 +12,13 @@ use Rattle.record_list.specs.Laws.{CleanReadsSame}
 use Rattle.record_list.specs.Lists.{HasNames, names_of, same_name}
 use Rattle.record_list.specs.Stored.{AreClean, present, read_as, records_checks, records_fault, stored_in}
 use Rattle.record_list.proofs.OrderLaws.{distinct_are}
-use Rattle.record_list.proofs.Wanted.{still_removed}
+use Rattle.record_list.proofs.Present.{still_removed}
 
 pub fits_distinct : (part : List ℕ) → records_fault part ≡ None → HasNames (stored_in part)
 unfolding records_checks
 fits_distinct part fits = distinct_are (names_of (stored_in part)) (all_hold (records_checks part) fits).1.1.0
 
-names_read : (rs : List IndexRecord) → names_of (read_as rs) ≡ names_of rs
+pub names_read : (rs : List IndexRecord) → names_of (read_as rs) ≡ names_of rs
 names_read [] = refl
 names_read (r ∷ rs) = ap (λ ns. r.name ∷ ns) (names_read rs)
 

@@ -1,13 +1,13 @@
 //! Records in name order.
 
-ghost use Rattle.std.specs.Prelude.{◌≡◌, true};
+ghost use Rattle.std.specs.Prelude.{◌↔◌, IsTrue};
 ghost use Rattle.record_list.specs.Lists.{AreRising, HasNames, IsByName};
 
 use index_record::{IndexRecord, Records};
 
 /// Whether each record's name is below that of the next: then the records are in name order.
 pub fn rise(records: &[IndexRecord]) -> bool
-    ensures { result ≡ true → AreRising records.now }
+    ensures { IsTrue result ↔ AreRising records.now }
 {
     records.is_sorted_by(|a, b| a.name.cmp(&b.name).is_lt())
 }

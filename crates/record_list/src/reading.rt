@@ -1,16 +1,16 @@
 //! Reading records from a file.
 
-ghost use Rattle.std.specs.Prelude.{◌≡◌, ◌≤◌, ◌||◌, IfErr, IfOk, None, OnOk, filter, length, map, not, true};
+ghost use Rattle.std.specs.Prelude.{◌≡◌, ◌≤◌, IfErr, IfOk, None, OnOk, Some, if◌then◌else◌, length, map};
 ghost use Rattle.cache_base.specs.Bytes.{be32_at};
-ghost use Rattle.index_record.specs.Record.{cleared, is_removed as is_removed_of, record_in};
+ghost use Rattle.index_record.specs.Record.{record_in};
 ghost use Rattle.record_list.specs.Change.{HasNoRemoved};
-ghost use Rattle.record_list.specs.Lists.{AreRising, HasNames, names_of};
+ghost use Rattle.record_list.specs.Lists.{HasNames, names_of};
 ghost use Rattle.record_list.specs.Stored.{AreClean, IsFirstFault, are_distinct, present, read_as, records_fault, stored_in};
 
-use crate::RecordsFault;
+use crate::{RecordsFault, rise};
 use byteorder::{BigEndian, ByteOrder};
 use cache_base::{Name, NoMemory};
-use index_record::{RECORD, Records, is_removed};
+use index_record::{IndexRecord, RECORD, Records, is_removed};
 use std::alloc::Global;
 
 fn number_at_front(b: &[u8]) -> u32
@@ -20,22 +20,14 @@ fn number_at_front(b: &[u8]) -> u32
     BigEndian::read_u32(b)
 }
 
-fn names_in(alloc: Global, groups: &[[u8; RECORD]]) -> Result<Vec<Name>, NoMemory>
-    ensures { IfOk result (λ names. names.items ≡ names_of (map record_in groups.now)) }
+fn names_in(alloc: Global, records: &[IndexRecord]) -> Result<Vec<Name>, NoMemory>
+    ensures { IfOk result (λ names. names.items ≡ names_of records.now) }
 {
-    let mut names = Vec::with_capacity(alloc, groups.len())?;
-    for group in groups {
-        names.push(index_record::read(group).name)?;
+    let mut names = Vec::with_capacity(alloc, records.len())?;
+    for record in records {
+        names.push(record.name)?;
     }
     Ok(names)
-}
-
-// Whether the names rise from each group to the next, as they do in a file that this crate printed. Then none stands
-// twice.
-fn rise(groups: &[[u8; RECORD]]) -> bool
-    ensures { result ≡ true → AreRising (map record_in groups.now) }
-{
-    groups.is_sorted_by(|a, b| a[..20].cmp(&b[..20]).is_lt())
 }
 
 // Whether no name stands twice.
@@ -46,36 +38,32 @@ fn all_distinct(mut names: Vec<Name>) -> bool
     names.is_sorted_by(|a, b| a.cmp(b).is_lt())
 }
 
-// Whether no name stands twice in the groups. Where the names rise nothing is copied and sorted.
-fn has_distinct_names(alloc: Global, groups: &[[u8; RECORD]]) -> Result<bool, NoMemory>
-    ensures { IfOk result (λ answer. answer ≡ are_distinct (names_of (map record_in groups.now))) }
+// Whether no name stands twice. In a file that this crate printed the names rise, and nothing is copied and sorted.
+fn has_distinct_names(alloc: Global, records: &[IndexRecord]) -> Result<bool, NoMemory>
+    ensures { IfOk result (λ answer. answer ≡ are_distinct (names_of records.now)) }
 {
-    if rise(groups) {
+    if rise(records) {
         return Ok(true);
     }
-    Ok(all_distinct(names_in(alloc, groups)?))
+    Ok(all_distinct(names_in(alloc, records)?))
 }
 
-// The records in these groups, or those that are not removed.
-fn records_of(alloc: Global, groups: &[[u8; RECORD]], removed: bool) -> Result<Records, NoMemory>
-    ensures { IfOk result (λ records.
-        records ≡ map cleared
-        (filter (λ r. removed || not (is_removed_of r)) (map record_in groups.now))) }
+// The records in these groups.
+fn records_of(alloc: Global, groups: &[[u8; RECORD]]) -> Result<Records, NoMemory>
+    ensures { IfOk result (λ records. records ≡ read_as (map record_in groups.now)) }
 {
     let mut records = Records::with_room(alloc, groups.len())?;
     for group in groups {
-        let record = index_record::read(group);
-        if removed || !is_removed(&record) {
-            records.push(record)?;
-        }
+        records.push(index_record::read(group))?;
     }
     Ok(records)
 }
 
-// The bytes of each record of a part that passes all checks.
-fn check(alloc: Global, part: &[u8]) -> Result<&[[u8; RECORD]], RecordsFault>
+// The bytes of each record of a part whose length and hash fit.
+fn groups_of(part: &[u8]) -> Result<&[[u8; RECORD]], RecordsFault>
     requires { 4 ≤ length part.now }
-    ensures passes { OnOk result (records_fault part.now ≡ None) }
+    ensures names { OnOk result (records_fault part.now
+        ≡ (if are_distinct (names_of (stored_in part.now)) then None else Some RecordsFault.Repeated)) }
     ensures groups { IfOk result (λ groups. map record_in groups.now ≡ stored_in part.now) }
     ensures fault { IfErr result (IsFirstFault part.now) }
 {
@@ -86,10 +74,6 @@ fn check(alloc: Global, part: &[u8]) -> Result<&[[u8; RECORD]], RecordsFault>
     }
     if number_at_front(hash) != jenkins_hash::hash(body) {
         return Err(RecordsFault::Hash);
-    }
-    let distinct = has_distinct_names(alloc, groups)?;
-    if !distinct {
-        return Err(RecordsFault::Repeated);
     }
     Ok(groups)
 }
@@ -104,8 +88,12 @@ pub fn parse(alloc: Global, part: &[u8]) -> Result<Records, RecordsFault>
     ensures clean { IfOk result AreClean }
     ensures fault { IfErr result (IsFirstFault part.now) }
 {
-    let groups = check(alloc, part)?;
-    Ok(records_of(alloc, groups, true)?)
+    let records = records_of(alloc, groups_of(part)?)?;
+    let distinct = has_distinct_names(alloc, records.as_slice())?;
+    if !distinct {
+        return Err(RecordsFault::Repeated);
+    }
+    Ok(records)
 }
 
 /// As `parse`, but the removed records are left out. They are checked like all others.
@@ -118,6 +106,7 @@ pub fn parse_present(alloc: Global, part: &[u8]) -> Result<Records, RecordsFault
     ensures present { IfOk result HasNoRemoved }
     ensures fault { IfErr result (IsFirstFault part.now) }
 {
-    let groups = check(alloc, part)?;
-    Ok(records_of(alloc, groups, false)?)
+    let mut records = parse(alloc, part)?.into_vec();
+    records.retain(|record| !is_removed(record));
+    Ok(Records::from_vec(records))
 }
