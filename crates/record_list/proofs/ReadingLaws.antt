@@ -4,21 +4,23 @@ use Rattle.std.specs.Prelude.{◌==◌, None, filter}
 use Rattle.std.specs.List.{AllByRecursion, IsDistinct}
 use Rattle.std.proofs.lemmas.Bool.{eqb-false}
 use Rattle.cache_base.proofs.CheckLaws.{all_hold}
+use Rattle.cache_base.specs.Names as names
 use Rattle.cache_base.specs.declared.name.Name.{Name}
 use Rattle.index_record.specs.declared.record.IndexRecord.{IndexRecord}
 use Rattle.index_record.specs.Record.{cleared, has_bit, is_removed}
 use Rattle.record_list.specs.Change.{HasNoRemoved}
 use Rattle.record_list.specs.Laws.{CleanReadsSame}
-use Rattle.record_list.specs.Lists.{HasNames, names_of, same_name}
-use Rattle.record_list.specs.Stored.{AreClean, present, read_as, records_checks, records_fault, stored_in}
-use Rattle.record_list.proofs.OrderLaws.{distinct_are}
+use Rattle.record_list.specs.Lists.{AreRising, HasNames, names_of, same_name}
+use Rattle.record_list.specs.Stored.{AreClean, are_distinct, present, read_as, records_checks, records_fault, stored_in}
+use Rattle.record_list.proofs.OrderLaws.{are_apart, distinct_are}
+use Rattle.record_list.proofs.NameLaws.{rising_distinct}
 use Rattle.record_list.proofs.Present.{still_removed}
 
 pub fits_distinct : (part : List ℕ) → records_fault part ≡ None → HasNames (stored_in part)
 unfolding records_checks
 fits_distinct part fits = distinct_are (names_of (stored_in part)) (all_hold (records_checks part) fits).1.1.0
 
-pub names_read : (rs : List IndexRecord) → names_of (read_as rs) ≡ names_of rs
+names_read : (rs : List IndexRecord) → names_of (read_as rs) ≡ names_of rs
 names_read [] = refl
 names_read (r ∷ rs) = ap (λ ns. r.name ∷ ns) (names_read rs)
 
@@ -74,3 +76,9 @@ cleared_same r dirty fresh = ap (λ f. record r { flags = f }) (flags_same r.fla
 pub clean_reads_same : CleanReadsSame
 clean_reads_same [] h = refl
 clean_reads_same (r ∷ rs) h = λ i. cleared_same r h.0.0 h.0.1 i ∷ clean_reads_same rs h.1 i
+
+-- where the names of the records that were read rise, none stands twice in the part
+pub read_rising : (rs out : List IndexRecord) → out ≡ read_as rs → AreRising out → are_distinct (names_of rs) ≡ true
+read_rising rs out is rising =
+    let same : names_of out ≡ names_of rs = ap names_of is ∙ names_read rs in
+    are_apart (names_of rs) (rising_distinct (names_of rs) (subst names.AreRising same rising))

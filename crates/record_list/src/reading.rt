@@ -1,16 +1,16 @@
 //! Reading records from a file.
 
-ghost use Rattle.std.specs.Prelude.{◌≡◌, ◌≤◌, IfErr, IfOk, None, OnOk, Some, if◌then◌else◌, length, map};
+ghost use Rattle.std.specs.Prelude.{◌≡◌, ◌≤◌, IfErr, IfOk, IfSome, None, OnOk, Some, if◌then◌else◌, length, map};
 ghost use Rattle.cache_base.specs.Bytes.{be32_at};
 ghost use Rattle.index_record.specs.Record.{record_in};
 ghost use Rattle.record_list.specs.Change.{HasNoRemoved};
-ghost use Rattle.record_list.specs.Lists.{HasNames, names_of};
+ghost use Rattle.record_list.specs.Lists.{AreRising, HasNames, names_of};
 ghost use Rattle.record_list.specs.Stored.{AreClean, IsFirstFault, are_distinct, present, read_as, records_fault, stored_in};
 
 use crate::{RecordsFault, rise};
 use byteorder::{BigEndian, ByteOrder};
 use cache_base::{Name, NoMemory};
-use index_record::{IndexRecord, RECORD, Records, is_removed};
+use index_record::{RECORD, Records, is_removed};
 use std::alloc::Global;
 
 fn number_at_front(b: &[u8]) -> u32
@@ -20,12 +20,12 @@ fn number_at_front(b: &[u8]) -> u32
     BigEndian::read_u32(b)
 }
 
-fn names_in(alloc: Global, records: &[IndexRecord]) -> Result<Vec<Name>, NoMemory>
-    ensures { IfOk result (λ names. names.items ≡ names_of records.now) }
+fn names_in(alloc: Global, groups: &[[u8; RECORD]]) -> Result<Vec<Name>, NoMemory>
+    ensures { IfOk result (λ names. names.items ≡ names_of (map record_in groups.now)) }
 {
-    let mut names = Vec::with_capacity(alloc, records.len())?;
-    for record in records {
-        names.push(record.name)?;
+    let mut names = Vec::with_capacity(alloc, groups.len())?;
+    for group in groups {
+        names.push(index_record::read(group).name)?;
     }
     Ok(names)
 }
@@ -38,16 +38,6 @@ fn all_distinct(mut names: Vec<Name>) -> bool
     names.is_sorted_by(|a, b| a.cmp(b).is_lt())
 }
 
-// Whether no name stands twice. In a file that this crate printed the names rise, and nothing is copied and sorted.
-fn has_distinct_names(alloc: Global, records: &[IndexRecord]) -> Result<bool, NoMemory>
-    ensures { IfOk result (λ answer. answer ≡ are_distinct (names_of records.now)) }
-{
-    if rise(records) {
-        return Ok(true);
-    }
-    Ok(all_distinct(names_in(alloc, records)?))
-}
-
 // The records in these groups.
 fn records_of(alloc: Global, groups: &[[u8; RECORD]]) -> Result<Records, NoMemory>
     ensures { IfOk result (λ records. records ≡ read_as (map record_in groups.now)) }
@@ -57,6 +47,20 @@ fn records_of(alloc: Global, groups: &[[u8; RECORD]]) -> Result<Records, NoMemor
         records.push(index_record::read(group))?;
     }
     Ok(records)
+}
+
+// The records in these groups, where their names rise, as they do in a file that this crate printed. Then none stands
+// twice.
+fn rising_records(alloc: Global, groups: &[[u8; RECORD]]) -> Result<Option<Records>, NoMemory>
+    ensures records { IfOk result (λ found. IfSome found (λ records.
+        records ≡ read_as (map record_in groups.now))) }
+    ensures rising { IfOk result (λ found. IfSome found AreRising) }
+{
+    let records = records_of(alloc, groups)?;
+    if rise(records.as_slice()) {
+        return Ok(Some(records));
+    }
+    Ok(None)
 }
 
 // The bytes of each record of a part whose length and hash fit.
@@ -88,12 +92,16 @@ pub fn parse(alloc: Global, part: &[u8]) -> Result<Records, RecordsFault>
     ensures clean { IfOk result AreClean }
     ensures fault { IfErr result (IsFirstFault part.now) }
 {
-    let records = records_of(alloc, groups_of(part)?)?;
-    let distinct = has_distinct_names(alloc, records.as_slice())?;
+    let groups = groups_of(part)?;
+    if let Some(records) = rising_records(alloc, groups)? {
+        return Ok(records);
+    }
+    // One list at a time stands beside the bytes: the records, or the names to sort.
+    let distinct = all_distinct(names_in(alloc, groups)?);
     if !distinct {
         return Err(RecordsFault::Repeated);
     }
-    Ok(records)
+    Ok(records_of(alloc, groups)?)
 }
 
 /// As `parse`, but the removed records are left out. They are checked like all others.
