@@ -26,5 +26,5 @@ take_program "$@"
 closed "$work/empty"
 compare "$work/empty" "$work/script" "$work/cache2" "$work/script_c" 1000 run
 export FRESH=$work/empty
-python3 "$here/costs.py" 1.3 40 "$work/script" "rattle=$work/cache2" "c=$work/script_c" "at once=$work/script_c at-once" -- \
+python3 "$here/costs.py" 1.15 40 "$work/script" "rattle=$work/cache2" "c=$work/script_c" "at once=$work/script_c at-once" -- \
     "$work/one" 1000 run

@@ -20,11 +20,11 @@ kilobytes() {
     python3 -c 'import sys; print(sum(int(line.split()[-1], 16) & 0xffffff for line in sys.stdin if not line.startswith("records")))'
 }
 
-# measure NAME DIR WORD..
+# measure NAME GOAL DIR WORD..
 measure() {
     echo "$1"
-    compare "$2" "$work/body" "$work/cache2" "$work/session_c" "${@:3}"
-    python3 "$here/costs.py" 1.5 "$runs" "$work/body" "rattle=$work/cache2" "c=$work/session_c" -- "${@:2}" || status=1
+    compare "$3" "$work/body" "$work/cache2" "$work/session_c" "${@:4}"
+    python3 "$here/costs.py" "$2" "$runs" "$work/body" "rattle=$work/cache2" "c=$work/session_c" -- "${@:3}" || status=1
 }
 
 status=0
@@ -32,8 +32,8 @@ closed "$work/full"
 mkdir -p "$work/large/entries" "$work/large/doomed"
 "$work/open_index_c" "$work/large" "$records" sorted
 runs=40
-measure "list of $records records" "$work/large" 1001 list
-measure "put of 5 bytes beside $records records" "$work/large" 1001 put :https://example.com/
+measure "list of $records records" 1.2 "$work/large" 1001 list
+measure "put of 5 bytes beside $records records" 1.3 "$work/large" 1001 put :https://example.com/
 
 python3 - "$work/script" "$entries" <<'PYTHON'
 import random
@@ -48,8 +48,8 @@ with open(sys.argv[1], "wb") as script:
 PYTHON
 "$work/cache2" "$work/full" 1000 run <"$work/script" >/dev/null
 runs=80
-measure "verify of $entries entries" "$work/full" 1001 verify
-measure "rebuild of $entries entries" "$work/full" 1001 rebuild
+measure "verify of $entries entries" 1.3 "$work/full" 1001 verify
+measure "rebuild of $entries entries" 1.2 "$work/full" 1001 rebuild
 
 # half of the KB of all entries
 compare "$work/full" "$work/body" "$work/cache2" "$work/session_c" 1001 evict 4294967295
@@ -58,7 +58,7 @@ runs=20
 export FRESH=$work/full
 compare "$work/full" "$work/body" "$work/cache2" "$work/session_c" 1001 evict "$half"
 echo "evict half of $entries entries"
-python3 "$here/costs.py" 1.5 "$runs" "$work/body" "rattle=$work/cache2" "c=$work/session_c" -- "$work/one" 1001 evict "$half" || status=1
+python3 "$here/costs.py" 1.2 "$runs" "$work/body" "rattle=$work/cache2" "c=$work/session_c" -- "$work/one" 1001 evict "$half" || status=1
 # how it grows: the two columns are one program
 for many in $((records / 10)) "$records"; do
     mkdir -p "$work/rows/entries" "$work/rows/doomed"
