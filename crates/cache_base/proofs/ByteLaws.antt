@@ -7,7 +7,7 @@ use Rattle.std.proofs.lemmas.List.{take-append-drop, drop-drop}
 use Rattle.std.proofs.Math.Seq.{take-nil}
 use Rattle.cache_base.specs.Bytes.{AreBytes, be32, be16, be32_at}
 
--- a number in front is read
+-- a number at the beginning is read
 pub be32_front : (n : ℕ) (rest : List ℕ) → n < 2 ^ 32 → be32_at (be32 n ++ rest) 0 ≡ n
 be32_front n rest h = from_be_bytes-to_be_bytes_4 n h
 
@@ -37,7 +37,7 @@ byte_at [] h (suc i) = omega arith
 byte_at (x ∷ xs) h zero = h.0
 byte_at (x ∷ xs) h (suc i) = byte_at xs h.1 i
 
--- a front, and a front of what follows
+-- a prefix, and a prefix of what follows
 pub take_more : (a b : ℕ) (xs : List ℕ) → take a xs ++ take b (drop a xs) ≡ take (a + b) xs
 take_more zero b xs = let e : b ≡ 0 + b = omega arith in ap (λ n. take n xs) e
 take_more (suc a) b [] = take-nil b ∙ sym (take-nil (suc a + b))

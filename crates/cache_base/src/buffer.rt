@@ -10,7 +10,7 @@ use std::alloc::Global;
 use std::marker::Model;
 
 /// A list of at most `BUFFER_MAX` bytes: room for one chunk, and for the four bytes of the stop tail that is written
-/// behind the chunks of an unfinished entry. All its memory is taken when it is made, so that no later call fails.
+/// after the chunks of an unfinished entry. All its memory is taken when it is made, so that no later call fails.
 #[derive(Drop)]
 pub struct Buffer {
     room: Vec<u8>,
@@ -35,7 +35,7 @@ fn put_end(slice: &mut [u8], at: usize, b: &[u8])
 impl Buffer {
     ghost use Rattle.cache_base.specs.Buffer.{LendsBytes};
 
-    /// The empty list. Fails only for want of memory.
+    /// The empty list. Fails only where memory ran out.
     pub fn new(alloc: Global) -> Result<Buffer, NoMemory>
         ensures { IfOk result (λ buffer. buffer ≡ []) }
     {

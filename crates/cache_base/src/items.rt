@@ -44,7 +44,7 @@ impl<T: Drop> Items<T> {
         }
     }
 
-    /// The empty list, with room for so many items. Fails only for want of memory.
+    /// The empty list, with room for so many items. Fails only where memory ran out.
     pub fn with_room(alloc: Global, items: usize) -> Result<Self, NoMemory>
         ensures { IfOk result (λ list. list ≡ []) }
     {
@@ -107,6 +107,15 @@ impl Items<u8> {
     ghost use Rattle.std.specs.Prelude.{length, replicate, take, ◌-◌};
     ghost use Rattle.std.specs.Borrow.{sem};
     ghost use Rattle.cache_base.specs.Items.{LendsItems};
+
+    /// The list of a slice's bytes, in memory of its own. Fails only where memory ran out.
+    pub fn from_slice(alloc: Global, b: &[u8]) -> Result<Self, NoMemory>
+        ensures { IfOk result (λ bytes. bytes ≡ b.now) }
+    {
+        Ok(Items {
+            items: Vec::from_slice(alloc, b)?,
+        })
+    }
 
     /// Adds bytes at the end, or leaves the list as it was.
     pub fn extend(&mut self, b: &[u8]) -> Result<(), NoMemory>

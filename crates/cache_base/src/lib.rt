@@ -1,7 +1,9 @@
 //! What every crate of the cache shares: names, moments, limits and exit statuses, small lists that contracts see
-//! as lists, a buffer for one chunk, and the words in which an answer is tied to a count of faults.
+//! as lists, a buffer for one chunk, big-endian numbers in bytes, and the words in which an answer is tied to a count
+//! of faults.
 #![tactic(auto)]
 
+mod big_endian;
 mod buffer;
 mod bytes;
 mod items;
@@ -12,6 +14,7 @@ mod names;
 mod numbers;
 mod status;
 
+pub use big_endian::{u16_at, u32_at};
 pub use buffer::Buffer;
 pub use bytes::bytes_fit;
 pub use items::{Bytes, Hashes, Items, Names, NoMemory, Numbers};

@@ -10,12 +10,12 @@ use Rattle.std.specs.Prelude.{is_some}
 use Rattle.cache_base.specs.Names.{has_name}
 use Rattle.cache_base.specs.declared.name.Name.{Name}
 use Rattle.cache_check.proofs.TableLaws.{get-insert, insert_is_table, same_table}
-use Rattle.cache_check.specs.Findings.{findings, findings_at, names_alone, names_of_both, with_names}
+use Rattle.cache_check.specs.Findings.{findings, findings_at, findings_of, names_alone, names_of_both, with_names}
 use Rattle.cache_check.specs.Table.{IsTable, Table, bytes_cmp, get, keys, name_of}
 use Rattle.index_record.specs.declared.record.IndexRecord.{IndexRecord}
 use Rattle.record_list.proofs.NameLaws.{same_back}
 use Rattle.record_list.specs.Lists.{record_at, same_name}
-use Rattle.cache_check.specs.Checks.{findings_of, named}
+use Rattle.cache_check.specs.Checks.{named}
 use Rattle.cache_check.specs.Laws.{AgreeBeside, FindingsAgree}
 use Rattle.cache_check.proofs.RowLaws.{at_parts, one}
 

@@ -9,7 +9,8 @@ use Rattle.cache_check.specs.declared.finding.What.TheVariants as what
 use Rattle.chunk_store.specs.Chunks.{damage_at, damages}
 use Rattle.chunk_store.specs.declared.damage.Damage.{Damage}
 use Rattle.entry_metadata.specs.Metadata.{Meta}
-use Rattle.cache_check.specs.Checks.{damaged, named}
+use Rattle.cache_check.specs.Checks.{named}
+use Rattle.cache_check.specs.Findings.{damaged}
 
 -- the damages of the chunks from i on, of n
 abbrev pub damages_from : (ℕ → Option Damage) → ℕ → ℕ → List Damage

@@ -2,7 +2,7 @@
 use Rattle.std.proofs.Common.{◌≡◌, ◌++◌, ℕ, List, Option, Some, None, sym, ap, subst, ◌∙◌}
 use Rattle.std.specs.Prelude.{IfSome}
 use Rattle.cache_base.specs.declared.name.Name.{Name}
-use Rattle.cache_check.specs.Findings.{content_findings, file_findings}
+use Rattle.cache_check.specs.Findings.{content_findings, damaged, file_findings}
 use Rattle.cache_check.specs.declared.finding.Finding.{Finding}
 use Rattle.disk_model.specs.State.{State, standing}
 use Rattle.disk_model.specs.declared.place.Place.TheVariants.{Entry}
@@ -10,15 +10,13 @@ use Rattle.entry_file.specs.EntryFile.{file_fault, file_meta}
 use Rattle.entry_file.specs.EntryRead.{ReadsAs}
 use Rattle.entry_file.specs.declared.entry_read.EntryRead.{EntryRead}
 use Rattle.entry_file.specs.declared.entry_read.EntryRead.TheVariants.{Fits}
-use Rattle.entry_metadata.specs.Checks.{meta_in}
 use Rattle.entry_metadata.specs.Meta.{meta_of}
 use Rattle.entry_metadata.specs.Metadata.{Meta as Said}
 use Rattle.entry_metadata.specs.declared.meta.Meta.{Meta}
-use Rattle.cache_check.specs.Checks.{damaged, named}
+use Rattle.cache_check.specs.Checks.{named}
 
 -- the findings of a content that fits are those of its body
 fitting : (name : Name) (c : List ℕ) (m : Said) → file_fault name.0 c ≡ None → m ≡ file_meta c → damaged m c ≡ content_findings (file_fault name.0 c) c
-unfolding meta_in
 fitting name c m fits same = ap (λ (k : Said). damaged k c) same ∙ ap (λ f. content_findings f c) (sym fits)
 
 by_content : (name : Name) (o : Option (List ℕ)) (meta : Meta) (size : ℕ) (out next : List Finding)

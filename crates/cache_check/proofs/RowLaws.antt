@@ -8,7 +8,7 @@ use Rattle.std.specs.Ordering.{is_eq, ordering_reverse}
 use Rattle.std.specs.declared.cmp.Ordering.TheVariants.{Less, Equal, Greater}
 use Rattle.cache_base.specs.Names.{has_name, name_cmp}
 use Rattle.cache_base.specs.declared.name.Name.{Name}
-use Rattle.cache_check.specs.Findings.{findings, findings_at, names_alone, names_of_both, with_names}
+use Rattle.cache_check.specs.Findings.{findings, findings_at, findings_of, names_alone, names_of_both, with_names}
 use Rattle.cache_check.specs.Table.{Table, bytes_cmp, get, insert, keys, name_of}
 use Rattle.cache_check.specs.declared.finding.Finding.{Finding}
 use Rattle.disk_model.specs.Image.{Files}
@@ -16,7 +16,7 @@ use Rattle.index_record.specs.declared.record.IndexRecord.{IndexRecord}
 use Rattle.record_list.proofs.ChangeLaws.{below_all}
 use Rattle.record_list.proofs.NameLaws.{below_apart, below_trans, same_itself, tied_same}
 use Rattle.record_list.specs.Lists.{names_of, record_at}
-use Rattle.cache_check.specs.Checks.{findings_of, named, table_of}
+use Rattle.cache_check.specs.Checks.{named, table_of}
 
 -- all these names are above the first
 abbrev pub Above : Name → List Name → Type 0

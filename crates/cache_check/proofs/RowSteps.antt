@@ -9,7 +9,7 @@ use Rattle.std.specs.declared.cmp.Ordering.{Ordering}
 use Rattle.std.specs.declared.cmp.Ordering.TheVariants.{Less, Equal, Greater}
 use Rattle.cache_base.specs.Names.{AreRising, has_name, name_cmp}
 use Rattle.cache_base.specs.declared.name.Name.{Name}
-use Rattle.cache_check.specs.Findings.{findings}
+use Rattle.cache_check.specs.Findings.{findings, findings_of}
 use Rattle.cache_check.specs.Table.{name_of}
 use Rattle.cache_check.specs.declared.finding.Finding.{Finding}
 use Rattle.disk_model.specs.Image.{Files}
@@ -17,7 +17,7 @@ use Rattle.disk_model.specs.declared.place.Place.TheVariants.{Entry}
 use Rattle.index_record.specs.declared.record.IndexRecord.{IndexRecord}
 use Rattle.record_list.proofs.NameLaws.{above_below}
 use Rattle.record_list.specs.Lists.{AreRising as AreByName, names_of}
-use Rattle.cache_check.specs.Checks.{findings_of, looks_at, looks_over, named, table_of}
+use Rattle.cache_check.specs.Checks.{looks_at, looks_over, named, table_of}
 use Rattle.cache_check.specs.Rows.{first_row, of_file, of_record, without_first, turn_findings, turn_looks}
 use Rattle.cache_check.specs.declared.rows.Row.{Row}
 use Rattle.cache_check.proofs.RowLaws.{Above, still_above, takes_both, takes_file, takes_findings, takes_record, under_table}

@@ -1,26 +1,20 @@
--- What the check of a name, of a file and of a chunk adds, and the calls of the disk that they take.
+-- What the check of a name and of a file adds, and the calls of the disk that they take.
 use Rattle.std.specs.List.{AllByRecursion}
-use Rattle.std.specs.Prelude.{IsSome, List, None, Option, Some, [], if◌then◌else◌, map, option_and_then, sum_by, take, unwrap_or, ℕ, ◌++◌, ◌+◌, ◌≡◌}
+use Rattle.std.specs.Prelude.{IsSome, List, None, Option, Some, [], if◌then◌else◌, map, sum_by, unwrap_or, ℕ, ◌++◌, ◌+◌, ◌≡◌}
 use Rattle.cache_base.specs.Limits.{chunks}
 use Rattle.cache_base.specs.Names.{has_name}
 use Rattle.cache_base.specs.declared.name.Name.{Name}
-use Rattle.cache_check.specs.Findings.{IsTableOf, file_findings, record_findings}
+use Rattle.cache_check.specs.Findings.{IsTableOf}
 use Rattle.cache_check.specs.Table.{Table, name_of}
 use Rattle.cache_check.specs.declared.finding.Finding.{Finding}
 use Rattle.cache_check.specs.declared.finding.What.{What}
-use Rattle.cache_check.specs.declared.finding.What.TheVariants as what
-use Rattle.chunk_store.specs.Chunks.{damage_at, damages}
-use Rattle.chunk_store.specs.declared.damage.Damage.{Damage}
 use Rattle.disk_model.specs.Calls.{Counts}
 use Rattle.disk_model.specs.Image.{Files}
 use Rattle.disk_model.specs.State.{State, standing}
 use Rattle.disk_model.specs.declared.place.Place.TheVariants.{Entry}
 use Rattle.entry_file.specs.EntryFile.{file_meta, fits}
-use Rattle.entry_file.specs.Looks.{LooksAtMost}
-use Rattle.entry_metadata.specs.Metadata.{Meta}
-use Rattle.index_record.specs.declared.record.IndexRecord.{IndexRecord}
+use Rattle.entry_file.specs.Looks.{LooksAtMost, meta_looks}
 use Rattle.index_theory.specs.Ever.{Entries}
-use Rattle.index_theory.specs.Scan.{record_of}
 
 -- what the entry file of a name holds, if one stands
 abbrev pub file_at : State → Name → Option (List ℕ)
@@ -38,23 +32,10 @@ named name whats = map (λ w. record { name = name; what = w }) whats
 abbrev pub AddsFindings : Name → List What → List Finding → List Finding → Type 0
 AddsFindings name whats before now = now ≡ before ++ named name whats
 
--- the damage of chunk i of the body before the offset of these metadata, if it differs
-abbrev pub chunk_damage : Meta → ℕ → List ℕ → Option Damage
-chunk_damage m i content = damage_at m.hashes (take m.offset content) i
-
--- each chunk that differs of the body before the offset of these metadata
-abbrev pub damaged : Meta → List ℕ → List What
-damaged m content = map (λ d. what.Damaged d) (damages m.hashes m.offset (take m.offset content))
-
--- what is wrong with what stands under a name, and with the record that is known
-abbrev pub findings_of : Name → Option (List ℕ) → Option IndexRecord → List What
-findings_of name content known =
-    file_findings name content ++ record_findings (option_and_then (record_of name) content) known
-
--- the calls that the check of a file takes: four at most for its metadata, and one for each chunk where it fits
+-- the calls that the check of a file takes: those for its metadata, and one for each chunk where it fits
 abbrev pub looks_at : Name → Option (List ℕ) → ℕ
-looks_at name None = 4
-looks_at name (Some content) = 4 + (if fits name.0 content then chunks (file_meta content).offset else 0)
+looks_at name None = meta_looks
+looks_at name (Some content) = meta_looks + (if fits name.0 content then chunks (file_meta content).offset else 0)
 
 -- those of all files of a table that are not being written
 abbrev pub looks_over : Table (List ℕ) → List Name → ℕ

@@ -1,5 +1,5 @@
 -- What a check of all entries finds.
-use Rattle.std.specs.Prelude.{List, None, Option, Some, [], filter, flat_map, if◌then◌else◌, map, not, ℕ, ◌++◌, ◌∷◌, ◌≡◌}
+use Rattle.std.specs.Prelude.{List, None, Option, Some, [], filter, flat_map, if◌then◌else◌, map, not, option_and_then, take, ℕ, ◌++◌, ◌∷◌, ◌≡◌}
 use Rattle.cache_base.specs.Names.{has_name}
 use Rattle.cache_base.specs.declared.name.Name.{Name}
 use Rattle.cache_check.specs.Table.{IsTable, Table, get, insert, keys, name_of}
@@ -7,19 +7,23 @@ use Rattle.cache_check.specs.declared.finding.Finding.{Finding}
 use Rattle.cache_check.specs.declared.finding.What.{What}
 use Rattle.cache_check.specs.declared.finding.What.TheVariants as what
 use Rattle.chunk_store.specs.Chunks.{damages}
-use Rattle.entry_file.specs.EntryFile.{body_in, file_fault, file_meta}
+use Rattle.entry_file.specs.EntryFile.{file_fault, file_meta}
 use Rattle.entry_file.specs.declared.entry_read.Unfit.{Unfit}
+use Rattle.entry_metadata.specs.Metadata.{Meta}
 use Rattle.index_record.specs.declared.record.IndexRecord.{IndexRecord}
 use Rattle.index_theory.specs.Ever.{Entries}
-use Rattle.index_theory.specs.Scan.{scanned}
+use Rattle.index_theory.specs.Scan.{record_of}
 use Rattle.record_list.specs.Change.{record_eq}
 use Rattle.record_list.specs.Lists.{record_at}
+
+-- each chunk that differs of the body before the offset of these metadata
+abbrev pub damaged : Meta → List ℕ → List What
+damaged m content = map (λ d. what.Damaged d) (damages m.hashes m.offset (take m.offset content))
 
 -- a content by its first failing check: that, or each chunk that differs
 abbrev pub content_findings : Option Unfit → List ℕ → List What
 content_findings (Some check) content = what.Unfit check ∷ []
-content_findings None content =
-    map (λ d. what.Damaged d) (damages (file_meta content).hashes (file_meta content).offset (body_in content))
+content_findings None content = damaged (file_meta content) content
 
 -- the file of a name, if one stands
 abbrev pub file_findings : Name → Option (List ℕ) → List What
@@ -33,10 +37,14 @@ record_findings (Some filed) None = what.Missing ∷ []
 record_findings None (Some known) = what.Extra ∷ []
 record_findings (Some filed) (Some known) = if record_eq filed known then [] else what.Differs ∷ []
 
+-- what is wrong with what stands under a name, and with the record that is known
+abbrev pub findings_of : Name → Option (List ℕ) → Option IndexRecord → List What
+findings_of name content known =
+    file_findings name content ++ record_findings (option_and_then (record_of name) content) known
+
 -- what is wrong under a name
 unfoldable pub findings_at : Table (List ℕ) → List IndexRecord → Name → List What
-findings_at files records name =
-    file_findings name (get files name.0) ++ record_findings (scanned (get files) name) (record_at records name)
+findings_at files records name = findings_of name (get files name.0) (record_at records name)
 
 -- the names of files, as a table
 abbrev pub names_alone : Table (List ℕ) → Table (Unit {0})

@@ -8,7 +8,8 @@ use Rattle.cache_check.specs.declared.finding.What.{What}
 use Rattle.disk_model.specs.Image.{Files}
 use Rattle.disk_model.specs.declared.place.Place.TheVariants.{Entry}
 use Rattle.index_record.specs.declared.record.IndexRecord.{IndexRecord}
-use Rattle.cache_check.specs.Checks.{findings_of, looks_at, named}
+use Rattle.cache_check.specs.Checks.{looks_at, named}
+use Rattle.cache_check.specs.Findings.{findings_of}
 use Rattle.cache_check.specs.declared.rows.Row.{Row}
 
 -- the row of a file, with this record or without one

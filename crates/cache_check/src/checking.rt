@@ -1,8 +1,7 @@
 //! All entries, held against all records.
 
 ghost use Rattle.std.specs.BTreeSet.{contains as contains_of};
-ghost use Rattle.std.specs.Prelude.{◌≡◌, ◌++◌, IfOk, OnOk, IsTrue, IsErrOf};
-ghost use Rattle.cache_base.specs.Causes.{HasCause};
+ghost use Rattle.std.specs.Prelude.{◌≡◌, ◌++◌, IfOk, OnOk, IsTrue};
 ghost use Rattle.cache_base.specs.Names.{AreRising, name_cmp};
 ghost use Rattle.cache_check.specs.Findings.{AreFindings, findings as findings_in};
 ghost use Rattle.disk_model.specs.Account.{Looks, ending};
@@ -34,12 +33,10 @@ fn check_row<D: Disk>(
     ensures adds { OnOk result (IsTrue D.tells →
         spec.AddsFindings row.now.name
         (rows.row_findings (standing (D.state disk.old)) row.now) out.old out.new) }
-    ensures state { IsTrue D.tells → D.state disk.new ≡ D.state disk.old }
-    ensures looks { IsTrue D.tells →
+    ensures calls { IsTrue D.tells →
         LooksAtMost (rows.row_looks (standing (D.state disk.old)) row.now)
         (D.counts disk.old) (D.counts disk.new) }
-    ensures cause { HasCause (IsErrOf result DiskFault.Failed)
-        (D.faults disk.old) (D.faults disk.new) }
+    ensures looks { Looks D.Disk (ending result) disk.old disk.new }
 {
     if row.filed {
         check_entry(alloc, disk, &row.name, row.known, buf, out)
@@ -61,13 +58,11 @@ fn check_turn<D: Disk>(
     ensures adds { OnOk result (IsTrue D.tells →
         let is_written = contains_of name_cmp writing.now row.now.name in
         out.new ≡ out.old ++ rows.turn_findings (standing (D.state disk.old)) is_written row.now) }
-    ensures state { IsTrue D.tells → D.state disk.new ≡ D.state disk.old }
-    ensures looks { IsTrue D.tells →
+    ensures calls { IsTrue D.tells →
         let is_written = contains_of name_cmp writing.now row.now.name in
         LooksAtMost (rows.turn_looks (standing (D.state disk.old)) is_written row.now)
         (D.counts disk.old) (D.counts disk.new) }
-    ensures cause { HasCause (IsErrOf result DiskFault.Failed)
-        (D.faults disk.old) (D.faults disk.new) }
+    ensures looks { Looks D.Disk (ending result) disk.old disk.new }
 {
     if writing.contains(&row.name) {
         return Ok(());
@@ -89,11 +84,9 @@ fn check_all<D: Disk>(
     ensures findings { IfOk result (λ list. IsTrue D.tells →
         let files = spec.files_of (D.state disk.old) names.now in
         list ≡ findings_in files records.now writing.now) }
-    ensures state { IsTrue D.tells → D.state disk.new ≡ D.state disk.old }
-    ensures looks { IsTrue D.tells → let files = spec.files_of (D.state disk.old) names.now in
+    ensures calls { IsTrue D.tells → let files = spec.files_of (D.state disk.old) names.now in
         LooksAtMost (spec.looks_over files writing.now) (D.counts disk.old) (D.counts disk.new) }
-    ensures cause { HasCause (IsErrOf result DiskFault.Failed)
-        (D.faults disk.old) (D.faults disk.new) }
+    ensures looks { Looks D.Disk (ending result) disk.old disk.new }
 {
     let set = name_set(alloc, writing)?;
     let mut buf = Buffer::new(alloc)?;

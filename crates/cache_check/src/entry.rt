@@ -1,8 +1,8 @@
 //! One file, held against the record of its name.
 
-ghost use Rattle.std.specs.Prelude.{◌≡◌, IfOk, OnOk, IsTrue, IsErrOf, option_and_then};
-ghost use Rattle.cache_base.specs.Causes.{HasCause};
-ghost use Rattle.cache_check.specs.Findings.{file_findings, record_findings};
+ghost use Rattle.std.specs.Prelude.{◌≡◌, IfOk, OnOk, IsTrue, option_and_then};
+ghost use Rattle.cache_check.specs.Findings.{file_findings, findings_of, record_findings};
+ghost use Rattle.disk_model.specs.Account.{Looks, ending};
 ghost use Rattle.index_theory.specs.Scan.{record_of};
 ghost use Rattle.entry_file.specs.Looks.{LooksAtMost};
 ghost use Rattle.cache_check.specs.Checks as spec;
@@ -53,11 +53,9 @@ fn check_file<D: Disk>(
     ensures filed { IfOk result (λ filed. IsTrue D.tells →
         let file = spec.file_at (D.state disk.old) name.now in
         filed ≡ option_and_then (record_of name.now) file) }
-    ensures state { IsTrue D.tells → D.state disk.new ≡ D.state disk.old }
-    ensures looks { IsTrue D.tells → let file = spec.file_at (D.state disk.old) name.now in
+    ensures calls { IsTrue D.tells → let file = spec.file_at (D.state disk.old) name.now in
         LooksAtMost (spec.looks_at name.now file) (D.counts disk.old) (D.counts disk.new) }
-    ensures cause { HasCause (IsErrOf result DiskFault.Failed)
-        (D.faults disk.old) (D.faults disk.new) }
+    ensures looks { Looks D.Disk (ending result) disk.old disk.new }
 {
     match read_meta(alloc, disk, &Place::Entry(*name), name)? {
         EntryRead::Absent => Ok(None),
@@ -86,12 +84,10 @@ pub(crate) fn check_entry<D: Disk>(
 ) -> Result<(), DiskFault>
     ensures adds { OnOk result (IsTrue D.tells →
         let file = spec.file_at (D.state disk.old) name.now in
-        spec.AddsFindings name.now (spec.findings_of name.now file known) out.old out.new) }
-    ensures state { IsTrue D.tells → D.state disk.new ≡ D.state disk.old }
-    ensures looks { IsTrue D.tells → let file = spec.file_at (D.state disk.old) name.now in
+        spec.AddsFindings name.now (findings_of name.now file known) out.old out.new) }
+    ensures calls { IsTrue D.tells → let file = spec.file_at (D.state disk.old) name.now in
         LooksAtMost (spec.looks_at name.now file) (D.counts disk.old) (D.counts disk.new) }
-    ensures cause { HasCause (IsErrOf result DiskFault.Failed)
-        (D.faults disk.old) (D.faults disk.new) }
+    ensures looks { Looks D.Disk (ending result) disk.old disk.new }
 {
     let filed = check_file(alloc, disk, name, buf, out)?;
     add_compared(name, filed, known, out)?;

@@ -54,7 +54,7 @@ follow_first None key file files named h = tt
 follow_first (Some last) key file files named h =
     ap (slice_cmp nat_cmp (file_name last)) named ∙ less (slice_cmp nat_cmp (file_name last) file.0) (first (is_lt (slice_cmp nat_cmp (file_name last) file.0)) (below_all (slice_cmp nat_cmp) (file_name last) files) h)
 
--- one more version in front of others
+-- one more version before others
 one_more : (before : Option (List ℕ)) (used : ℕ) (v : Version) (vs : List Version) → (may_dump v ≡ true → MayDump v × IsAbove before v.key) → ((n : ℕ) → AreItems before (within n vs))
     → ((n : ℕ) → AreItems (Some v.key) (within n vs)) → AreItems before (within used (cond (may_dump v) (v ∷ vs) vs))
 one_more before used v vs may skipped after = go (may_dump v) refl

@@ -1,4 +1,4 @@
--- What stands at the front of bytes that a part or the end begins.
+-- What stands at the beginning of bytes that a part or the end begins.
 use Rattle.std.proofs.Common.{◌≡◌, ◌≢◌, ℕ, suc, ◌+◌, ◌<◌, ◌≤◌, Bool, true, false, cond, min, List, [], ◌∷◌, ◌++◌, length, take, drop, ltb, refl, sym, ap, ◌∙◌, arith}
 use Rattle.std.specs.Cmp.Lexicographic.{pointwise}
 use Rattle.std.specs.Prelude.{nat_eq, nat_lt, ◌==◌, ◌||◌}
@@ -21,7 +21,7 @@ use Rattle.cache_export.specs.declared.front.Front.TheVariants.{Whole, More, Bad
 use Rattle.cache_export.specs.declared.limits.TheConstants.{DUMP_MAX}
 use Rattle.cache_export.proofs.FieldLaws.{key_sizes}
 
--- ---- a number in front of bytes that go on
+-- ---- a number before bytes that go on
 
 front_number : (xs more : List ℕ) → 4 ≤ length xs → from_be_bytes w32 (xs ++ more) ≡ from_be_bytes w32 xs
 front_number [] more l = absurd (omega (arith, l))
@@ -174,7 +174,7 @@ key_size key = omega arith
 pub head_size : (xs : List ℕ) → length (head ++ xs) ≡ 8 + length xs
 head_size xs = omega arith
 
--- what is found whole at the front of the bytes, whatever follows
+-- what is found whole at the beginning of the bytes, whatever follows
 pub record Finds (front : Front) (lead : ℕ) (own : List ℕ) : Type 0 where
   pub len : ℕ
   pub found : front ≡ Whole len

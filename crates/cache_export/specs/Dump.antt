@@ -15,6 +15,10 @@ use Rattle.cache_export.specs.declared.limits.TheConstants.{DUMP_MAX}
 abbrev pub head : List ℕ
 head = codes "C2DUMP01"
 
+-- how many bytes that has
+abbrev pub head_len : ℕ
+head_len = 8
+
 -- what stands in an item before the body: a byte 1, the key after its length, and the body's length
 unfoldable pub front_bytes : List ℕ → ℕ → List ℕ
 front_bytes key len = 1 ∷ (be32 (length key) ++ (key ++ be32 len))

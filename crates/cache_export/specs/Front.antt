@@ -5,7 +5,7 @@ use Rattle.std.specs.Cmp.Lexicographic.{pointwise}
 use Rattle.cache_base.specs.Bytes.{be32_at}
 use Rattle.cache_base.specs.Limits.{chunk_size}
 use Rattle.cache_base.specs.declared.limits.TheConstants.{BLOCK_MAX, BODY_MAX, KEY_MAX}
-use Rattle.cache_export.specs.Dump.{head}
+use Rattle.cache_export.specs.Dump.{head, head_len}
 use Rattle.cache_export.specs.declared.front.Front.{Front}
 use Rattle.cache_export.specs.declared.front.Front.TheVariants.{Whole, More, Bad}
 use Rattle.cache_export.specs.declared.front.Due.{Due}
@@ -50,8 +50,8 @@ body_front left used bytes = if left == 0 then block_front used bytes else sized
 -- the head, and what follows it
 unfoldable pub head_front : ℕ → List ℕ → Front
 head_front used bytes =
-    if nat_lt (length bytes) 8 then More
-    else if pointwise nat_eq (take 8 bytes) head then item_front (used + 8) (drop 8 bytes)
+    if nat_lt (length bytes) head_len then More
+    else if pointwise nat_eq (take head_len bytes) head then item_front (used + head_len) (drop head_len bytes)
     else Bad
 
 -- the body's length, and what follows it
@@ -64,7 +64,7 @@ length_front used bytes =
 
 -- so many bytes stand before what is found
 abbrev pub lead_len : Due → ℕ
-lead_len due.Head = 8
+lead_len due.Head = head_len
 lead_len due.Item = 0
 lead_len due.Length = 4
 lead_len due.Body = 0

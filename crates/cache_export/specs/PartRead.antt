@@ -1,14 +1,15 @@
 -- What is read of the bytes of a whole part.
-use Rattle.std.specs.Prelude.{◌≡◌, ℕ, ◌+◌, ◌*◌, ◌<◌, ◌≤◌, true, min, List, length, take, drop, slice_index, Option, None, Some}
+use Rattle.std.specs.Prelude.{◌≡◌, ℕ, ◌+◌, ◌<◌, ◌≤◌, true, min, List, length, take, drop, slice_index, Option, None, Some}
 use Rattle.cache_base.specs.Bytes.{be32_at}
 use Rattle.cache_base.specs.Limits.{chunk_size}
 use Rattle.cache_base.specs.declared.limits.TheConstants.{BODY_MAX}
 use Rattle.entry_key.specs.Writing.{may_write}
+use Rattle.entry_metadata.specs.Checks.{header_place}
 use Rattle.entry_metadata.specs.Meta.{meta_of}
 use Rattle.entry_metadata.specs.Metadata.{Meta}
 use Rattle.entry_metadata.specs.declared.fault.MetaFault.{MetaFault}
 use Rattle.entry_metadata.specs.declared.fault.MetaFault.TheVariants as meta
-use Rattle.cache_export.specs.Dump.{IsAbove, head}
+use Rattle.cache_export.specs.Dump.{IsAbove, head, head_len}
 use Rattle.cache_export.specs.Parts.{Part, Spells, SpellsRest, Stage}
 use Rattle.cache_export.specs.declared.front.Due.{Due}
 use Rattle.cache_export.specs.declared.front.Due.TheVariants as due
@@ -53,7 +54,7 @@ IsKeyField bytes = (slice_index bytes 0 ≡ 1) × (length bytes ≡ 5 + be32_at 
 
 -- the bytes are as many as a key has that is due, by its length
 abbrev pub IsWholeKey : Due → List ℕ → Type 0
-IsWholeKey due.Head bytes = (take 8 bytes ≡ head) × IsKeyField (drop 8 bytes)
+IsWholeKey due.Head bytes = (take head_len bytes ≡ head) × IsKeyField (drop head_len bytes)
 IsWholeKey due.Item bytes = IsKeyField bytes
 IsWholeKey due.Length bytes = ⊥
 IsWholeKey due.Body bytes = ⊥
@@ -64,7 +65,7 @@ IsWholeBlock bytes = length bytes ≡ 4 + be32_at bytes 0
 
 -- a block that says this is the one of this key and these hashes, and it has version 3
 abbrev pub IsBlockOf : Meta → List ℕ → List ℕ → List ℕ → Type 0
-IsBlockOf said block key hashes = (said.key ≡ key) × ((said.hashes ≡ hashes) × (be32_at block (4 + 2 * length hashes) ≡ 3))
+IsBlockOf said block key hashes = (said.key ≡ key) × ((said.hashes ≡ hashes) × (be32_at block (header_place (length hashes)) ≡ 3))
 
 -- the bytes are as many as those of a piece, where so many bytes of the body are left, or of a block
 pub record IsWholeRest (left : ℕ) (bytes : List ℕ) : Type 0 where

@@ -17,7 +17,7 @@ pub data Part : Type 0 where
 
 -- what is due
 pub data Stage : Type 0 where
-  -- an item or the end, after the item of a key; where no item came before, the head of the dump stands in front
+  -- an item or the end, after the item of a key; where no item came before, the head of the dump stands before it
   AtItem : (before : Option (List ℕ)) → Stage
   -- the length of the body under a key, and then a part of the body or its block
   AtLength : (key : List ℕ) → Stage

@@ -1,13 +1,11 @@
 //! Tells by the lengths in a dump whether the part that is due is whole, wants more bytes or is bad.
 
-ghost use Rattle.std.specs.Prelude.{◌≡◌, ◌≤◌, ◌<◌, ◌+◌, ◌^◌, length};
-ghost use Rattle.cache_base.specs.Bytes.{be32_at};
+ghost use Rattle.std.specs.Prelude.{◌≡◌, ◌≤◌, ◌^◌};
 ghost use Rattle.cache_export.specs.Front.{block_front as block_front_of, body_front as body_front_of, front_at, head_front as head_front_of, item_front as item_front_of, key_front as key_front_of, lead_len, length_front as length_front_of, sized as sized_of};
 ghost use Rattle.cache_export.specs.declared.limits.TheConstants.{DUMP_MAX};
 
 use crate::limits::{DUMP_MAX, END, HEAD, ITEM};
-use byteorder::{BigEndian, ByteOrder};
-use cache_base::{BLOCK_MAX, BODY_MAX, CHUNK, KEY_MAX};
+use cache_base::{BLOCK_MAX, BODY_MAX, CHUNK, KEY_MAX, u32_at};
 
 /// What stands at the beginning of some bytes of a dump.
 #[derive(Clone, Copy, Debug, PartialEq, Eq)]
@@ -31,14 +29,6 @@ pub(crate) enum Due {
     Length,
     /// A piece of a body or its block.
     Body,
-}
-
-// The number in the four bytes from the place on.
-pub(crate) fn number_at(b: &[u8], at: usize) -> u32
-    requires { at + 4 ≤ length b.now }
-    ensures { result ≡ be32_at b.now at }
-{
-    BigEndian::read_u32(&b[at..])
 }
 
 // A part of so many bytes, after `used` of the dump.
@@ -65,7 +55,7 @@ fn key_front(used: u64, bytes: &[u8]) -> Front
     if bytes.len() < 5 {
         return Front::More;
     }
-    let len = number_at(bytes, 1) as usize;
+    let len = u32_at(bytes, 1) as usize;
     if len == 0 || len > KEY_MAX {
         return Front::Bad;
     }
@@ -109,7 +99,7 @@ fn block_front(used: u64, bytes: &[u8]) -> Front
     if bytes.len() < 4 {
         return Front::More;
     }
-    let len = number_at(bytes, 0) as usize;
+    let len = u32_at(bytes, 0) as usize;
     if len > BLOCK_MAX {
         return Front::Bad;
     }
@@ -155,7 +145,7 @@ fn length_front(used: u64, bytes: &[u8]) -> Front
     if bytes.len() < 4 {
         return Front::More;
     }
-    let len = number_at(bytes, 0) as usize;
+    let len = u32_at(bytes, 0) as usize;
     if len > BODY_MAX {
         return Front::Bad;
     }

@@ -1,15 +1,16 @@
 //! Judges the bytes of a whole part, and says what they are.
 
-ghost use Rattle.std.specs.Prelude.{◌+◌, ◌*◌, ◌≡◌, ◌≤◌, ◌↔◌, IfOk, IfErr, IsTrue, drop, length};
+ghost use Rattle.std.specs.Prelude.{◌+◌, ◌≡◌, ◌≤◌, ◌↔◌, IfOk, IfErr, IsTrue, drop, length};
 ghost use Rattle.cache_base.specs.declared.limits.TheConstants.{BODY_MAX};
 ghost use Rattle.cache_export.specs.Parts.{Part, Spells, SpellsRest, Stage, left_of};
 ghost use Rattle.cache_export.specs.PartRead.{IfPart, IsItemDue, IsBlockOf, IsWholeBlock, IsWholeKey, IsWholePart, IsWholeRest, MayFollow, SpellsNoRest, SpellsNone, before_at, part_fault_of};
 ghost use Rattle.cache_export.specs.Stages.{stage_at};
+ghost use Rattle.entry_metadata.specs.Checks.{header_place};
 ghost use Rattle.entry_metadata.specs.Meta.{meta_of};
 
 use crate::Item;
-use crate::front::{Due, number_at};
-use cache_base::{Bytes, CHUNK, NoMemory, bytes_fit};
+use crate::front::Due;
+use cache_base::{Bytes, CHUNK, bytes_fit, u32_at};
 use entry_key::may_write;
 use entry_metadata::{Meta, MetaFault, parse};
 use entry_name::name_of;
@@ -25,15 +26,6 @@ pub(crate) enum PartFault {
     Bad,
     /// Memory ran out.
     Memory,
-}
-
-/// Bytes of their own.
-pub(crate) fn bytes_from(alloc: Global, b: &[u8]) -> Result<Bytes, NoMemory>
-    ensures { IfOk result (λ bytes. bytes ≡ b.now) }
-{
-    let mut bytes = Bytes::new(alloc);
-    bytes.extend(b)?;
-    Ok(bytes)
 }
 
 // The bytes after the first ones.
@@ -68,7 +60,7 @@ fn key_in(alloc: Global, due: Due, last: &[u8], part: &[u8]) -> Result<Item, Par
     bytes_fit(part);
     let key = bytes_after(part, due.lead() + 5);
     if may_follow(due, last, key) {
-        match bytes_from(alloc, key) {
+        match Bytes::from_slice(alloc, key) {
             Ok(key) => Ok(Item::Key(key)),
             Err(_) => Err(PartFault::Memory),
         }
@@ -79,7 +71,8 @@ fn key_in(alloc: Global, due: Due, last: &[u8], part: &[u8]) -> Result<Item, Par
 
 // Whether a block that says this is the one of this key and these hashes, in the version that a dump has.
 fn is_of(meta: &Meta, block: &[u8], key: &[u8], hashes: &[u16]) -> bool
-    requires { meta.now.hashes ≡ hashes.now → 8 + 2 * length hashes.now ≤ length block.now }
+    requires { meta.now.hashes ≡ hashes.now →
+        header_place (length hashes.now) + 4 ≤ length block.now }
     ensures { IsTrue result ↔ IsBlockOf (meta_of meta.now) block.now key.now hashes.now }
 {
     if meta.key.as_slice() != key {
@@ -88,7 +81,7 @@ fn is_of(meta: &Meta, block: &[u8], key: &[u8], hashes: &[u16]) -> bool
     if meta.hashes.as_slice() != hashes {
         return false;
     }
-    number_at(block, 4 + 2 * hashes.len()) == VERSION
+    u32_at(block, 4 + 2 * hashes.len()) == VERSION
 }
 
 // What a fault of a block is here.
@@ -153,7 +146,7 @@ fn rest_in(
     let given = hashes.len().saturating_mul(CHUNK);
     if len as usize > given {
         bytes_fit(part);
-        return match bytes_from(alloc, part) {
+        return match Bytes::from_slice(alloc, part) {
             Ok(piece) => Ok(Item::Piece(piece)),
             Err(_) => Err(PartFault::Memory),
         };
@@ -183,7 +176,7 @@ pub(crate) fn part_in(
     match due {
         Due::Head => key_in(alloc, due, last, part),
         Due::Item => key_in(alloc, due, last, part),
-        Due::Length => rest_in(alloc, last, number_at(part, 0), &[], bytes_after(part, 4)),
+        Due::Length => rest_in(alloc, last, u32_at(part, 0), &[], bytes_after(part, 4)),
         Due::Body => rest_in(alloc, last, len, hashes, part),
     }
 }

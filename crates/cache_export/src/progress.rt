@@ -7,8 +7,8 @@ ghost use Rattle.cache_export.specs.Parts.{Part, Spells, Stage, after, left_of};
 ghost use Rattle.cache_export.specs.PartRead.{IfPart};
 
 use crate::Item;
-use crate::front::{Due, number_at};
-use cache_base::{Bytes, CHUNK, Hashes, NoMemory};
+use crate::front::Due;
+use cache_base::{Bytes, CHUNK, Hashes, NoMemory, u32_at};
 use jenkins_hash::hash16;
 use std::alloc::Global;
 
@@ -55,7 +55,7 @@ impl Progress {
     {
         match self.due {
             Due::Length => {
-                self.len = number_at(part, 0);
+                self.len = u32_at(part, 0);
                 self.hashes.clear();
             }
             _ => {}

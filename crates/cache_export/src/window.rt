@@ -36,8 +36,8 @@ impl From<SourceFault> for ReadFault {
     }
 }
 
-/// A list of at most `HELD_MAX` bytes that grows at its end by reads, and is cut at its front. All its memory is
-/// taken by the first read. Its bytes are moved to the front of the room only where there is no room after them.
+/// A list of at most `HELD_MAX` bytes that grows at its end by reads, and is cut at its beginning. All its memory is
+/// taken by the first read. Its bytes are moved to the beginning of the room only where there is no room after them.
 #[derive(Drop)]
 pub(crate) struct Window {
     room: Vec<u8>,
@@ -81,7 +81,7 @@ impl Window {
         &self.room[self.start..self.end]
     }
 
-    /// Cuts bytes off the front.
+    /// Cuts bytes off the beginning.
     pub(crate) fn skip(&mut self, count: usize)
         requires { count ≤ length (items self.old) }
         ensures { items self.new ≡ drop count (items self.old) }
@@ -100,7 +100,7 @@ impl Window {
         Ok(())
     }
 
-    // Moves the bytes to the front of the room, where they stand at its end.
+    // Moves the bytes to the beginning of the room, where they stand at its end.
     fn make_room(&mut self)
         requires held { length (items self.old) < HELD_MAX }
         requires whole { vec_len self.old.room ≡ HELD_MAX }

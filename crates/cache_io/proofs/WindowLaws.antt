@@ -1,4 +1,4 @@
--- The bytes of a window, after its front is cut off, and after a read.
+-- The bytes of a window, after its beginning is cut off, and after a read.
 use Rattle.std.proofs.Common.{◌≡◌, ℕ, ◌+◌, ◌-◌, ◌≤◌, List, [], ◌++◌, length, take, drop, slice_range, Option, None, Some, IfSome, sym, ap, subst, ◌∙◌, arith}
 use Rattle.std.proofs.Math.Seq.{take-add}
 use Rattle.std.proofs.lemmas.List.{append-nil, append_assoc, drop-take, drop-drop, length-append, nil_from_length, take_all, take-append-le}

@@ -9,7 +9,7 @@ use crate::{Sink, SinkFault, Source, SourceFault};
 use cache_base::{Bytes, Numbers};
 use std::alloc::Global;
 
-// Copies as much of the front as the buffer takes, and no more than `most`.
+// Copies as long a prefix as the buffer takes, and no more than `most`.
 fn fill(from: &[u8], buf: &mut [u8], most: usize) -> usize
     ensures count { result ≡ min (length from.now) (min (length buf.old) most) }
     ensures front { take result buf.new ≡ take result from.now }
@@ -19,7 +19,7 @@ fn fill(from: &[u8], buf: &mut [u8], most: usize) -> usize
     n
 }
 
-/// Bytes in memory, which are read from the front. Calls with planned numbers, from 1 on, fail, and the others give
+/// Bytes in memory, which are read from the beginning. Calls with planned numbers, from 1 on, fail, and the others give
 /// no more than a piece.
 #[derive(Drop)]
 pub struct MemSource {

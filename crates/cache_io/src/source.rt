@@ -21,7 +21,7 @@ pub trait Source {
     /// How often a read has failed.
     ghost faults: { Self → ℕ };
 
-    /// Reads some bytes into the front of the buffer and tells how many. None are read only at the end, which
+    /// Reads some bytes into the beginning of the buffer and tells how many. None are read only at the end, which
     /// stays the end.
     fn read(&mut self, buf: &mut [u8]) -> Result<usize, SourceFault>
         requires { 0 < length buf.old }

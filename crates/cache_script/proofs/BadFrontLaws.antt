@@ -1,4 +1,4 @@
--- Bad fronts: what the code finds makes them, more bytes leave them bad, and no command that fits begins one.
+-- Bad prefixes: what the code finds makes them, more bytes leave them bad, and no command that fits begins one.
 use Rattle.std.proofs.Common.{◌≡◌, ◌≢◌, ℕ, ◌+◌, ◌-◌, ◌<◌, ◌≤◌, Bool, true, false, List, [], ◌∷◌, ◌++◌, length, take, drop, get_or, Option, None, Some, IfSome, ltb, refl, sym, ap, ◌∙◌, subst, arith}
 use Rattle.std.proofs.lemmas.Bool.{ltb-true, ltb-false}
 use Rattle.std.proofs.lemmas.List.{append_assoc, append-nil, take-append-le, take-append-drop, take_at, length-append, length-drop, length-take-le, get_or_append_left, get_or_at, get_or-take, get_or-drop}
@@ -70,13 +70,13 @@ last_is_newline c =
     let e = ends c in
     ap (λ l. get_or l (length l - 1) 0) e.1 ∙ get_or_at e.0 10 [] 0 (length (e.0 ++ 10 ∷ []) - 1) (omega (arith, length-append e.0 (10 ∷ [])))
 
--- ---- no command that fits begins a bad front
+-- ---- no command that fits begins a bad prefix
 
 length_some : (xs : List ℕ) → xs ≢ [] → 0 < length xs
 length_some [] some = absurd (some refl)
 length_some (x ∷ xs) some = omega arith
 
--- what begins a list and is no longer than its front begins the front
+-- what begins a list and is no longer than its prefix begins the prefix
 whole_front : (w bytes more after : List ℕ) → bytes ++ more ≡ w ++ after → length w ≤ length bytes → bytes ≡ w ++ drop (length w) bytes
 whole_front w bytes more after e few =
     let same : take (length w) bytes ≡ w = sym (take-append-le (length w) bytes more few) ∙ ap (take (length w)) e ∙ take_at w after (length w) refl in

@@ -102,7 +102,7 @@ first_line c after fits =
 pub some_same : {X : Type 0} (x y : X) → Some x ≡ Some y → x ≡ y
 some_same x y e = cc
 
--- what the first line of bytes that begin with a command tells of it, and what stands behind the line
+-- what the first line of bytes that begin with a command tells of it, and what stands after the line
 pub record LineOf (c : Command) (text rest after : List ℕ) : Type 0 where
   pub line : text ≡ spaced (command_words c)
   pub tells : form_in text ≡ Some (form_of c)
@@ -114,7 +114,7 @@ line_of c xs text rest after fits spelled cutting =
     let line : text ≡ spaced (command_words c) = ap (λ p. p.0) same in
     record { line = line; tells = ap form_in line ∙ line_read c fits; behind = ap (λ p. p.1) same }
 
--- ---- what a line tells and the bytes behind it make the command
+-- ---- what a line tells and the bytes after it make the command
 
 abbrev pub completed : Form → List ℕ → Command
 completed (Form.WholeLine c) rest = c
@@ -131,7 +131,7 @@ completed_is (SetElement s name value) after = ap (λ v. SetElement s name v) (t
 completed_is (PutAlt s kind bytes) after = ap (λ b. PutAlt s kind b) (taken_back bytes after)
 completed_is c after = refl
 
--- the command with a line that is read so is known from what stands behind the line
+-- the command with a line that is read so is known from what stands after the line
 pub command_is : (c : Command) (form : Form) (text rest after : List ℕ) → LineOf c text rest after → form_in text ≡ Some form → c ≡ completed form rest
 command_is c form text rest after of tells =
     sym (completed_is c after) ∙ ap (completed (form_of c)) (sym of.behind) ∙ ap (λ f. completed f rest) (some_same _ _ (sym of.tells ∙ tells))

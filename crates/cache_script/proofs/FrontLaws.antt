@@ -1,4 +1,4 @@
--- Which command stands at the front of bytes, by their first line.
+-- Which command stands at the beginning of bytes, by their first line.
 use Rattle.std.proofs.Common.{◌≡◌, ◌≢◌, ℕ, zero, suc, ◌+◌, ◌-◌, ◌<◌, ◌≤◌, List, [], ◌∷◌, ◌++◌, length, take, drop, replicate, get_or, codes, decimal, Option, None, Some, IfSome, MatchOption, refl, sym, ap, ◌∙◌, subst, arith}
 use Rattle.memchr.specs.Find.{IsFirstByte, is_byte}
 use Rattle.std.proofs.Math.Seq.{take-add}
@@ -63,7 +63,7 @@ bad_line_is_bad bytes text rest cutting none = λ more c after is e.
 pub no_command_line : (bytes : List ℕ) → cut 10 bytes ≡ None → HasNoCommand bytes
 no_command_line bytes none = λ c after is e. none_or_some none (ap (cut 10) e ∙ first_line c after is.fields)
 
--- ---- what stands behind the line
+-- ---- what stands after the line
 
 pub length_data : (c : Command) → length (command_data c) ≡ data_len (form_of c)
 length_data (Append s bytes) = length-append bytes (10 ∷ [])
@@ -71,7 +71,7 @@ length_data (SetElement s name value) = length-append value (10 ∷ [])
 length_data (PutAlt s kind bytes) = length-append bytes (10 ∷ [])
 length_data c = refl
 
--- the last byte behind the line is a newline
+-- the last byte after the line is a newline
 newline_behind : (bytes after : List ℕ) → get_or ((bytes ++ 10 ∷ []) ++ after) (length bytes + 1 - 1) 0 ≡ 10
 newline_behind bytes after = ap (λ l. get_or l (length bytes + 1 - 1) 0) (append_assoc bytes (10 ∷ []) after) ∙ get_or_at bytes 10 after 0 (length bytes + 1 - 1) (omega arith)
 
@@ -100,13 +100,13 @@ begun_line bytes n b none = no_command_line bytes none b.command (drop n bytes) 
 pub begun_form : (bytes text rest : List ℕ) (n : ℕ) → BeginsWithCommand bytes n → cut 10 bytes ≡ Some (text, rest) → form_in text ≡ None → ⊥
 begun_form bytes text rest n b cutting none = none_or_some none (line_of b.command bytes text rest (drop n bytes) b.is.fields b.spelled cutting).tells
 
--- the bytes behind the line are whole
+-- the bytes after the line are whole
 pub begun_data : (bytes text rest : List ℕ) (form : Form) (n : ℕ) → BeginsWithCommand bytes n → cut 10 bytes ≡ Some (text, rest) → form_in text ≡ Some form → data_len form ≤ length rest
 begun_data bytes text rest form n b cutting tells =
     let of = line_of b.command bytes text rest (drop n bytes) b.is.fields b.spelled cutting in
     omega (arith, length_data b.command, ap data_len (form_same b.command form text rest (drop n bytes) of tells), ap length of.behind, length-append (command_data b.command) (drop n bytes))
 
--- the command is known from the line and what stands behind it
+-- the command is known from the line and what stands after it
 pub begun_command : (bytes text rest : List ℕ) (form : Form) → cut 10 bytes ≡ Some (text, rest) → form_in text ≡ Some form
     → (c : Command) (after : List ℕ) → IsCommand c → bytes ≡ command_bytes c ++ after → completed form rest ≡ c
 begun_command bytes text rest form cutting tells = λ c after is e. sym (command_is c form text rest after (line_of c bytes text rest after is.fields e cutting) tells)
@@ -119,7 +119,7 @@ completed_words (Form.AppendLine s len) rest fits enough = ap (λ n. codes "appe
 completed_words (Form.SetLine s len name) rest fits enough = ap (λ n. codes "set" ∷ decimal s ∷ decimal n ∷ name ∷ []) (length-take-le len rest (omega arith))
 completed_words (Form.AltLine s len kind) rest fits enough = ap (λ n. codes "putalt" ∷ decimal s ∷ decimal n ∷ kind ∷ []) (length-take-le len rest (omega arith))
 
--- bytes, and the newline behind them
+-- bytes, and the newline after them
 taken_more : (len : ℕ) (rest : List ℕ) → len + 1 ≤ length rest → get_or rest (len + 1 - 1) 0 ≡ 10 → take len rest ++ 10 ∷ [] ≡ take (len + 1) rest
 taken_more len rest enough newline =
     let place : len + 1 - 1 ≡ len = omega arith in
@@ -210,7 +210,7 @@ data_most (Form.AppendLine s len) fits = omega (arith, fits.1)
 data_most (Form.SetLine s len name) fits = omega (arith, fits.1.1)
 data_most (Form.AltLine s len kind) fits = omega (arith, fits.1.1)
 
--- fewer bytes stand behind the line than the command has there
+-- fewer bytes stand after the line than the command has there
 pub data_begun : (bytes text rest : List ℕ) (form : Form) → cut 10 bytes ≡ Some (text, rest) → form_in text ≡ Some form → length rest < data_len form → HasNoCommand bytes
 data_begun bytes text rest form cutting tells few = λ c after is e.
     let of = line_of c bytes text rest after is.fields e cutting in
@@ -221,7 +221,7 @@ data_begun bytes text rest form cutting tells few = λ c after is e.
 pub lacks_of : (b : ℕ) (xs : List ℕ) → cut b xs ≡ None → Lacks b xs
 lacks_of b xs e = subst (λ (o : Option (List ℕ × List ℕ)). MatchOption o (Lacks b xs) (IsCut b xs)) e (cut_is b xs)
 
--- a search that begins behind bytes without it
+-- a search that begins after bytes without it
 pub cut_from : (b : ℕ) (xs : List ℕ) (from : ℕ) (r : Option ℕ) → from ≤ length xs → Lacks b (take from xs) → IsFirstByte (is_byte b) (take (length xs - from) (drop from xs)) r
     → cut b xs ≡ cut_by (option_map (λ k. from + k) r) xs
 cut_from b xs from None within lacks first =

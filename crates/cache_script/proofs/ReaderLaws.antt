@@ -55,7 +55,7 @@ is_given c fits = tt
 pub bad_is_no_part : (used : ℕ) (held there : List ℕ) → there ≡ held → IsBadFront used held → ¬ (IsPart used there)
 bad_is_no_part used held there same bad = λ part. part.good (subst (IsBadFront used) (sym same) bad)
 
--- where a bad front was held, no part is there after reads, no command that fits, and some bytes
+-- where a bad prefix was held, no part is there after reads, no command that fits, and some bytes
 pub no_part : (used : ℕ) (held new : List ℕ) (left now : Option (List ℕ)) → Grew held new left now → IsBadFront used held → IsPart used new → ⊥
 no_part used held new left now g bad part = (part_before used held new left now g part).good bad
 
@@ -65,7 +65,7 @@ no_command used n held new left now g bad begins fits = bad_has_none used n held
 pub no_end : (used : ℕ) (held new : List ℕ) (left now : Option (List ℕ)) → Grew held new left now → IsBadFront used held → new ≡ [] → ⊥
 no_end used held new left now g bad none = bad_is_some used held g.piece bad (sym g.grown ∙ none)
 
--- the end is reached behind what was held
+-- the end is reached after what was held
 pub ended : (held new : List ℕ) (left now : Option (List ℕ)) → Grew held new left now → new ≡ [] → IsAtEnd now → IsAtEnd (prepend_known held left)
 ended held new left now g none end = go left now g.read end
   where

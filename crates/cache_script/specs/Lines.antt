@@ -12,7 +12,7 @@ use Rattle.cache_base.specs.Numbers.{number_in}
 use Rattle.cache_script.specs.declared.lines.Line.{Line}
 use Rattle.cache_script.specs.declared.lines.Line.TheVariants as line
 
--- what a line tells: a whole command, or one behind whose line so many bytes follow
+-- what a line tells: a whole command, or one after whose line so many bytes follow
 pub data Form : Type 0 where
   WholeLine : (command : Command) → Form
   AppendLine : (slot len : ℕ) → Form
@@ -33,7 +33,7 @@ line_form (line.Append s len) = Form.AppendLine s len
 line_form (line.Set s len name) = Form.SetLine s len name.now
 line_form (line.PutAlt s len kind) = Form.AltLine s len kind.now
 
--- what stands before the first such byte and what behind it, where there is one
+-- what stands before the first such byte and what after it, where there is one
 abbrev pub cut : ℕ → List ℕ → Option (List ℕ × List ℕ)
 cut byte [] = None
 cut byte (x ∷ xs) = if x == byte then Some ([], xs) else option_map (λ parts. (x ∷ parts.0, parts.1)) (cut byte xs)
@@ -114,7 +114,7 @@ form_words (Form.AppendLine s len) = codes "append" ∷ decimal s ∷ decimal le
 form_words (Form.SetLine s len name) = codes "set" ∷ decimal s ∷ decimal len ∷ name ∷ []
 form_words (Form.AltLine s len kind) = codes "putalt" ∷ decimal s ∷ decimal len ∷ kind ∷ []
 
--- its fields are within their limits, and a whole command has no bytes behind its line
+-- its fields are within their limits, and a whole command has no bytes after its line
 abbrev pub FormFits : Form → Type 0
 FormFits (Form.WholeLine c) = FieldsFit c × (command_data c ≡ [])
 FormFits (Form.AppendLine s len) = (s < SLOTS) × (len ≤ PIECE_MAX)
@@ -125,7 +125,7 @@ FormFits (Form.AltLine s len kind) = (s < SLOTS) × ((AreBytes kind × IsOneLine
 abbrev pub Tells : List ℕ → Form → Type 0
 Tells text form = (text ≡ spaced (form_words form)) × FormFits form
 
--- how many bytes of the command stand behind its line
+-- how many bytes of the command stand after its line
 abbrev pub data_len : Form → ℕ
 data_len (Form.WholeLine c) = 0
 data_len (Form.AppendLine s len) = len + 1

@@ -40,7 +40,7 @@ fn what_text(alloc: Global, what: What) -> Result<String, NoMemory>
     Ok(String::from_str(alloc, text)?)
 }
 
-/// The line that is printed of a finding, without its newline. Fails only for want of memory.
+/// The line that is printed of a finding, without its newline. Fails only where memory runs out.
 pub fn finding_text(alloc: Global, f: &Finding) -> Result<String, NoMemory>
     ensures { IfOk result (λ text. string_bytes text ≡ spaced (finding_words f.now)) }
 {

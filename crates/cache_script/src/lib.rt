@@ -4,8 +4,8 @@
 
 mod command;
 mod findings;
+mod first_command;
 mod front;
-mod giving;
 mod laws;
 mod lines;
 mod reader;

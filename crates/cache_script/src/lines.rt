@@ -23,7 +23,7 @@ pub(crate) enum Line<'a> {
     PutAlt { slot: u8, len: u32, kind: &'a [u8] },
 }
 
-/// What stands before the first such byte, and what behind it.
+/// What stands before the first such byte, and what after it.
 pub(crate) fn cut(text: &[u8], byte: u8) -> Option<(&[u8], &[u8])>
     ensures { option_map (λ parts. (parts.0.now, parts.1.now)) result ≡ cut_of byte text.now }
 {
@@ -147,7 +147,7 @@ fn number_line<'a>(verb: &[u8], rest: &'a [u8]) -> Option<Line<'a>>
     first_slot_line(verb, rest)
 }
 
-// What a verb tells that has more behind it.
+// What a verb tells that has more after it.
 #[tactic(auto, unfolding(crate::specs::Lines::verb_form))]
 fn verb_line<'a>(verb: &[u8], rest: &'a [u8]) -> Option<Line<'a>>
     ensures { option_map line_form result ≡ verb_form verb.now rest.now }

@@ -18,7 +18,7 @@ pub(crate) fn damage_text(alloc: Global, damage: Damage) -> Result<String, NoMem
     Ok(format!(in alloc; "damaged {chunk} {stored} {found}")?)
 }
 
-/// The line that is printed of a refusal, without its newline. Fails only for want of memory.
+/// The line that is printed of a refusal, without its newline. Fails only where memory runs out.
 pub fn refusal_text(alloc: Global, r: &Refusal) -> Result<String, NoMemory>
     ensures { IfOk result (λ text. string_bytes text ≡ spaced (refusal_words r.now)) }
 {

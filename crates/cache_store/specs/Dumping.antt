@@ -1,4 +1,4 @@
--- What of a file is dumped, and what stands behind so many bytes of a dump.
+-- What of a file is dumped, and what stands after so many bytes of a dump.
 use Rattle.std.specs.Prelude.{Bool, List, None, Option, Some, [], filter, flat_map, if◌then◌else◌, length, nat_le, nat_lt, not, ℕ, ◌&&◌, ◌+◌, ◌++◌, ◌≡◌}
 use Rattle.cache_base.specs.declared.limits.TheConstants.{BODY_MAX}
 use Rattle.cache_export.specs.Dump.{back_bytes, front_bytes, item_bytes}

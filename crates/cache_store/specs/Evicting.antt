@@ -21,22 +21,21 @@ use Rattle.disk_model.specs.declared.place.Place.TheVariants.{Entry}
 use Rattle.evictor.specs.Evict.{victims}
 use Rattle.file_handles.specs.Cache.{Cache}
 use Rattle.file_handles.specs.Kept.{Kept}
+use Rattle.file_handles.specs.Removing.{LastChangeFails}
 use Rattle.file_handles.specs.Stands.{KeepsWhere, ReachesHistory, RepresentsSome}
 use Rattle.file_handles.specs.Users.{AreOpenNames, users_of}
 use Rattle.index_map.specs.Known.{IsKnown, Known, SameBase}
 use Rattle.index_record.specs.declared.record.IndexRecord.{IndexRecord}
 use Rattle.index_theory.specs.Ever.{entries_on}
-use Rattle.record_list.specs.Lists.{IsByName, record_at, same_name}
+use Rattle.record_list.specs.Lists.{record_at, same_name}
 
 -- these names have to go by the records of the map, so that all take at most so many KB; no name in use is among them
 pub record AreVictims (map : Known) (k : Kept) (kb : ℕ) (names : List Name) : Type 0 where
-  pub records : List IndexRecord
   pub in_use : List Name
   pub known : IsKnown map
-  pub by_name : IsByName map.records records
   pub opened : AreOpenNames k in_use
   pub unused : (name : Name) → has_name in_use name ≡ false → users_of k name ≡ 0
-  pub chosen : names ≡ victims records in_use kb
+  pub chosen : names ≡ victims map.records in_use kb
 
 -- a file stands under the name
 abbrev pub has_file : State → Name → Bool
@@ -94,4 +93,4 @@ IsEviction _ = ⊥
 abbrev pub LooksBeforeChanges : {Self : _} → Ghosts Self → Ending → Self → Self → Type 0
 LooksBeforeChanges D answer before now =
     answer ≡ Ending.OneFailed → IsTrue D.tells
-    → (D.state now ≡ D.state before) ⊎ ((D.counts now).failed.change ≡ (D.counts now).calls)
+    → (D.state now ≡ D.state before) ⊎ LastChangeFails (D.counts now)

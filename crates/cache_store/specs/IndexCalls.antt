@@ -9,6 +9,7 @@ use Rattle.disk_model.specs.Calls.{counted_read}
 use Rattle.disk_model.specs.State.{State, settled}
 use Rattle.disk_model.specs.declared.disk.Disk.{Ghosts}
 use Rattle.disk_model.specs.declared.place.Place.{Place}
+use Rattle.entry_file.specs.Looks.{meta_looks}
 use Rattle.file_handles.specs.Closing.{writes_draft}
 use Rattle.file_handles.specs.Kept.{Kept}
 use Rattle.index_map.specs.Known.{Known, changed}
@@ -37,10 +38,10 @@ names_read (StepUpdate n) mark rest = Some (length (take n rest))
 names_read UpdateState mark rest = Some 0
 names_read _ mark rest = None
 
--- at most four looks at entries are made for each name
-abbrev pub LooksAtNames : {Self : _} → Ghosts Self → ℕ → Self → Self → Type 0
-LooksAtNames D names before now =
-    IsTrue D.tells → (D.counts now).entry_reads ≤ (D.counts before).entry_reads + 4 * names
+-- at most the looks for an entry's metadata are made for each name
+abbrev pub ReadsEntriesOf : {Self : _} → Ghosts Self → ℕ → Self → Self → Type 0
+ReadsEntriesOf D names before now =
+    IsTrue D.tells → (D.counts now).entry_reads ≤ (D.counts before).entry_reads + meta_looks * names
 
 -- the disk is looked at once, at this place, and is as before
 abbrev pub LooksOnceAt : {Self : _} → Ghosts Self → Place → Self → Self → Type 0

@@ -37,10 +37,10 @@ is_plain Dump = false
 is_plain _ = true
 
 -- such a reply, of which nothing is said yet
-abbrev pub IsPlain : Answered → Type 0
-IsPlain answered.Done = ⊤
-IsPlain (answered.Refused r) = ⊤
-IsPlain _ = ⊥
+abbrev pub IsPlainAnswer : Answered → Type 0
+IsPlainAnswer answered.Done = ⊤
+IsPlainAnswer (answered.Refused r) = ⊤
+IsPlainAnswer _ = ⊥
 
 -- the line of some refusal goes out
 abbrev pub PrintsRefusal : Option (List ℕ) → Option (List ℕ) → Type 0

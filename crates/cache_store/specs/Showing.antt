@@ -2,9 +2,9 @@
 use Rattle.std.specs.Prelude.{List, None, Option, Some, codes, option_map, ℕ, ◌-◌}
 use Rattle.alt_data.specs.AltData.{Alt, alt_of}
 use Rattle.cache_store.specs.EntryText.{head_text}
-use Rattle.cache_store.specs.declared.showing.Part.{Part}
-use Rattle.cache_store.specs.declared.showing.Shown.{Shown}
-use Rattle.cache_store.specs.declared.showing.Shown.TheVariants as shown
+use Rattle.cache_store.specs.declared.shown.Part.{Part}
+use Rattle.cache_store.specs.declared.shown.Shown.{Shown}
+use Rattle.cache_store.specs.declared.shown.Shown.TheVariants as shown
 use Rattle.cache_theory.specs.Command.{Command}
 use Rattle.cache_theory.specs.Command.Command.{Get, GetAlt, MainBody}
 use Rattle.cache_theory.specs.Text.{alt_line, with_number}

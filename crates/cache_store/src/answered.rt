@@ -2,7 +2,7 @@
 
 ghost use Rattle.std.specs.Prelude.{◌≡◌, ◌≢◌, false, IfOk, Err, Ok};
 ghost use Rattle.cache_store.specs.Faults.{ending};
-ghost use Rattle.cache_store.specs.Printed.{IsPlain, lists_findings};
+ghost use Rattle.cache_store.specs.Printed.{IsPlainAnswer, lists_findings};
 ghost use Rattle.cache_store.specs.Replied.{replied};
 ghost use Rattle.file_handles.specs.Answers.{done_or, ending as handle_ending, fault_ending as handle_fault_ending, reply_in};
 
@@ -45,7 +45,7 @@ pub(crate) enum Answered {
 pub(crate) fn fault_answer(fault: HandleFault) -> Result<Answered, StoreFault>
     ensures replies { replied result ≡ reply_in fault }
     ensures not_said { result ≢ Ok Answered.All }
-    ensures plain { IfOk result IsPlain }
+    ensures plain { IfOk result IsPlainAnswer }
     ensures unlisted { IfOk result (λ a. lists_findings a ≡ false) }
     ensures no_sink { result ≢ Err StoreFault.Sink }
     ensures ending { ending result ≡ handle_fault_ending fault }
@@ -62,7 +62,7 @@ pub(crate) fn fault_answer(fault: HandleFault) -> Result<Answered, StoreFault>
 pub(crate) fn answer_of<T: Drop>(answer: Result<T, HandleFault>) -> Result<Answered, StoreFault>
     ensures replies { replied result ≡ done_or answer }
     ensures not_said { result ≢ Ok Answered.All }
-    ensures plain { IfOk result IsPlain }
+    ensures plain { IfOk result IsPlainAnswer }
     ensures unlisted { IfOk result (λ a. lists_findings a ≡ false) }
     ensures no_sink { result ≢ Err StoreFault.Sink }
     ensures ending { ending result ≡ handle_ending answer }

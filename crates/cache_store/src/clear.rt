@@ -9,7 +9,7 @@ ghost use Rattle.cache_store.specs.Clearing.{AreCleared, ClearsByRecords, HasNoM
 ghost use Rattle.cache_store.specs.Evicting.{DoomsAll};
 ghost use Rattle.cache_store.specs.Faulting.{is_refusal, of_handles};
 ghost use Rattle.cache_store.specs.Faults.{ending, of_disk};
-ghost use Rattle.cache_store.specs.IndexCalls.{LooksAtNames};
+ghost use Rattle.cache_store.specs.IndexCalls.{ReadsEntriesOf};
 ghost use Rattle.cache_store.specs.StoppedClearing.{ClearsUnderMark};
 ghost use Rattle.cache_theory.specs.Command.Command.{ClearOrigin};
 ghost use Rattle.cache_theory.specs.Covers.{joined_names};
@@ -27,7 +27,7 @@ ghost use Rattle.index_theory.specs.Leaves.{LeavesBeside, LeavesIndex};
 
 use crate::StoreFault;
 use crate::answered::Answered;
-use crate::faulting::look_fault;
+use crate::look_faults::look_fault;
 use crate::store::Store;
 use cache_base::{Name, Names, NoMemory, has_name, listed, name_set};
 use context_clear::{end as end_clearing, store as store_mark};
@@ -205,7 +205,7 @@ impl Store {
         ensures chunks { SameChunks (kept self.old.handles) (kept self.new.handles) }
         ensures no_sink { result ≢ Err StoreFault.Sink }
         ensures held { self.new.reply.held ≡ self.old.reply.held }
-        ensures names { LooksAtNames D.Disk (length self.old.index.update) disk.old disk.new }
+        ensures names { ReadsEntriesOf D.Disk (length self.old.index.update) disk.old disk.new }
         ensures faulted { self.new.faulting ≡ true → result ≡ Err StoreFault.Disk }
         ensures looked { self.new.faulting ≡ true →
             Looks D.Disk Ending.OneFailed disk.old disk.new }
@@ -259,7 +259,7 @@ impl Store {
         ensures unmarked { OnOk result (IsTrue D.tells → HasNoMark (D.state disk.new)) }
         ensures chunks { SameChunks (kept self.old.handles) (kept self.new.handles) }
         ensures unsaid { SaysNothing (ClearOrigin origin.now) result self.old.reply self.new.reply }
-        ensures names { LooksAtNames D.Disk (length self.old.index.update) disk.old disk.new }
+        ensures names { ReadsEntriesOf D.Disk (length self.old.index.update) disk.old disk.new }
         ensures faulted { self.new.faulting ≡ true → result ≡ Err StoreFault.Disk }
         ensures looked { self.new.faulting ≡ true →
             Looks D.Disk Ending.OneFailed disk.old disk.new }

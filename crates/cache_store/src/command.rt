@@ -9,9 +9,9 @@ ghost use Rattle.cache_store.specs.Clearing.{HasNoMark, IsClearing, LeavesResume
 ghost use Rattle.cache_store.specs.Evicting.{IsEviction, LeavesOthers, LooksBeforeChanges};
 ghost use Rattle.cache_store.specs.Faulting.{FailsForGood, LooksAtNothing, StaysAs};
 ghost use Rattle.cache_store.specs.Faults.{AccountsForSink, OnlySinkFails, ending};
-ghost use Rattle.cache_store.specs.IndexCalls.{Flushes, IsFresh, IsWritten, LooksAtNames, LooksOnceAt, MakesNoCall, NeverSyncs, OnlyLooks, Rebuilds, SyncsAll, names_read};
+ghost use Rattle.cache_store.specs.IndexCalls.{Flushes, IsFresh, IsWritten, ReadsEntriesOf, LooksOnceAt, MakesNoCall, NeverSyncs, OnlyLooks, Rebuilds, SyncsAll, names_read};
 ghost use Rattle.cache_store.specs.InUse.{SparesIndex};
-ghost use Rattle.cache_store.specs.Printed.{HasBadKey, IsPlain, Prints, is_plain};
+ghost use Rattle.cache_store.specs.Printed.{HasBadKey, IsPlainAnswer, Prints, is_plain};
 ghost use Rattle.cache_store.specs.Reads.{AreHeld, LastIsFirst, LeavesChunks};
 ghost use Rattle.cache_store.specs.Said.{IsCut, saying};
 ghost use Rattle.cache_store.specs.Saying.{CutsIn, SaysMore, TakesMore};
@@ -32,10 +32,10 @@ ghost use Rattle.index_theory.specs.Leaves.{LeavesIndex};
 ghost use Rattle.index_theory.specs.Unclean.{IsUnclean};
 
 use crate::answered::{Answered, answer_of};
-use crate::faulting::has_failed;
+use crate::look_faults::has_failed;
 use crate::pending::Pending;
 use crate::replies::counted;
-use crate::showing::Shown;
+use crate::shown::Shown;
 use crate::store::Store;
 use crate::verify::say_found;
 use crate::{StoreFault, Verdict};
@@ -179,7 +179,7 @@ impl Store {
         ensures does { let at = session D.Disk in IsTrue D.tells →
             DoesWhatIsDone (command_of c.now) result (at self.old disk.old) (at self.new disk.new)
             (K.taken sink.old) (saying K.Sink self.new.reply sink.new) }
-        ensures plain { IfOk result (λ a. is_plain (command_of c.now) ≡ true → IsPlain a) }
+        ensures plain { IfOk result (λ a. is_plain (command_of c.now) ≡ true → IsPlainAnswer a) }
         ensures unsaid { IsStillToSay (command_of c.now) result
             sink.old sink.new self.new.reply }
         ensures found { command_of c.now ≡ Verify → IfOk result (λ a. IsTrue D.tells →
@@ -201,7 +201,7 @@ impl Store {
         ensures unclean { IsTrue D.tells → IsUnclean (D.state disk.new) }
         ensures looks { let mark = mark_of (standing (D.state disk.old) Clear) in
             IfSome (names_read (command_of c.now) mark self.old.index.update)
-            (λ names. LooksAtNames D.Disk names disk.old disk.new) }
+            (λ names. ReadsEntriesOf D.Disk names disk.old disk.new) }
         ensures looks_first { IsEviction (command_of c.now) →
             LooksBeforeChanges D.Disk (ending result) disk.old disk.new }
         ensures flushed { command_of c.now ≡ Flush → OnOk result
@@ -309,11 +309,11 @@ impl Store {
                 self.index.learn_of(answer)
             }
             Command::Pin { slot } => {
-                let answer = self.handles.pin(alloc, disk, slot);
+                let answer = self.handles.set_pin(alloc, disk, slot, true);
                 self.index.learn_of(answer)
             }
             Command::Unpin { slot } => {
-                let answer = self.handles.unpin(alloc, disk, slot);
+                let answer = self.handles.set_pin(alloc, disk, slot, false);
                 self.index.learn_of(answer)
             }
             Command::ReadPart { slot, from, len } => {
@@ -468,7 +468,7 @@ impl Store {
             Told D.Disk SyncsNothing disk.old disk.new }
         ensures looks { let mark = mark_of (standing (D.state disk.old) Clear) in
             IfSome (names_read (command_of c.now) mark (open_of self.old).index.update)
-            (λ names. LooksAtNames D.Disk names disk.old disk.new) }
+            (λ names. ReadsEntriesOf D.Disk names disk.old disk.new) }
         ensures looks_first { IsEviction (command_of c.now) →
             LooksBeforeChanges D.Disk (ending result) disk.old disk.new }
         ensures account { Accounts D.Disk (ending result) disk.old disk.new }

@@ -21,13 +21,13 @@ ghost use Rattle.entry_file.specs.Held.{IsLastOf};
 ghost use Rattle.entry_key.specs.Writing.{may_write as may_write_in};
 ghost use Rattle.entry_metadata.specs.Meta.{meta_of};
 ghost use Rattle.entry_metadata.specs.Metadata.{block_bytes};
-ghost use Rattle.file_handles.specs.Kept.{kept};
+ghost use Rattle.file_handles.specs.Kept.{kept, last_read};
 ghost use Rattle.index_map.specs.Known.{SameBase};
 
 use crate::StoreFault;
 use crate::answered::Answered;
-use crate::faulting::look_fault;
 use crate::found_body::{Frame, Range, first_chunk, say_framed};
+use crate::look_faults::look_fault;
 use crate::pending::Pending;
 use crate::store::Store;
 use cache_base::{BODY_MAX, Name, Names, NoMemory};
@@ -103,7 +103,7 @@ fn say_item<D: Disk, K: Sink>(
     requires key { may_write_in found.meta.now.key ≡ true }
     requires held { IsTrue D.tells → let len = found.meta.now.offset in
         let file = standing (D.state disk.old) (Entry found.name.now) in
-        IsLastOf (chunks_of len) file len handles.old.chunk }
+        IsLastOf (chunks_of len) file len (last_read handles.old) }
     ensures said { let at = saying K.Sink in let meta = found.entry.meta.now in
         OnOk result (IsTrue D.tells →
         ForPrefix (D.state disk.old) (Entry found.entry.name.now) meta.offset (λ body.

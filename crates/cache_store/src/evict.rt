@@ -5,7 +5,7 @@ ghost use Rattle.cache_base.specs.Names.{AreRising, has_name as has_name_of};
 ghost use Rattle.cache_store.specs.Answering.{IsStillToSay};
 ghost use Rattle.cache_store.specs.Evicting.{ArePicked, AreUnused, AreVictims, DoomsAll, HoldsFiles, LeavesOthers, LooksBeforeChanges, has_file};
 ghost use Rattle.cache_store.specs.Faults.{AccountsForSink, ending};
-ghost use Rattle.cache_store.specs.IndexCalls.{LooksAtNames};
+ghost use Rattle.cache_store.specs.IndexCalls.{ReadsEntriesOf};
 ghost use Rattle.cache_store.specs.Said.{saying};
 ghost use Rattle.cache_store.specs.Saying.{TakesMore};
 ghost use Rattle.cache_theory.specs.Command.Command.{Evict};
@@ -13,7 +13,7 @@ ghost use Rattle.disk_model.specs.Account.{Accounts, Ending, Looks, LooksAtNoEnt
 ghost use Rattle.disk_model.specs.Told.{Told};
 ghost use Rattle.file_handles.specs.Cache.{cache};
 ghost use Rattle.file_handles.specs.Kept.{kept};
-ghost use Rattle.file_handles.specs.Removing.{FailsInChange};
+ghost use Rattle.file_handles.specs.Removing.{FailsInRemoval};
 ghost use Rattle.index_map.specs.Known.{SameBase};
 ghost use Rattle.file_handles.specs.HeldChunks.{SameChunks};
 ghost use Rattle.file_handles.specs.Unsynced.{SyncsNothing};
@@ -21,8 +21,8 @@ ghost use Rattle.index_theory.specs.Leaves.{LeavesBeside, LeavesIndex};
 
 use crate::StoreFault;
 use crate::answered::Answered;
-use crate::faulting::look_fault;
 use crate::listing::say_listing;
+use crate::look_faults::look_fault;
 use crate::store::Store;
 use cache_base::{Name, Names, NoMemory, has_name};
 use cache_io::Sink;
@@ -75,7 +75,7 @@ fn remove_files<D: Disk>(
     ensures kept { kept handles.new ≡ kept handles.old }
     ensures index { Told D.Disk LeavesBeside disk.old disk.new }
     ensures account { Accounts D.Disk (disk_ending result) disk.old disk.new }
-    ensures change { FailsInChange D.Disk (disk_ending result) disk.new }
+    ensures change { FailsInRemoval D.Disk (disk_ending result) disk.new }
     ensures unsynced { Told D.Disk SyncsNothing disk.old disk.new }
     ensures no_entry { LooksAtNoEntry D.Disk disk.old disk.new }
 {
@@ -95,7 +95,7 @@ impl Store {
     fn names_to_evict(&self, alloc: Global, kb: u32) -> Result<Names, NoMemory>
         ensures { IfOk result (AreVictims self.now.index.map (kept self.now.handles) kb) }
     {
-        let records = self.index.map.records()?;
+        let records = self.index.map.unordered()?;
         let in_use = self.handles.open_names(alloc)?;
         victims(alloc, records, &in_use, u64::from(kb))
     }
@@ -125,7 +125,7 @@ impl Store {
         ensures chunks { SameChunks (kept self.old.handles) (kept self.new.handles) }
         ensures unsaid { IsStillToSay (Evict kb) result sink.old sink.new self.new.reply }
         ensures all { IfOk result (λ a. a ≡ Answered.All) }
-        ensures names { LooksAtNames D.Disk (length self.old.index.update) disk.old disk.new }
+        ensures names { ReadsEntriesOf D.Disk (length self.old.index.update) disk.old disk.new }
         ensures looks_first { LooksBeforeChanges D.Disk (ending result) disk.old disk.new }
         ensures faulted { self.new.faulting ≡ true → result ≡ Err StoreFault.Disk }
         ensures looked { self.new.faulting ≡ true →
@@ -136,7 +136,8 @@ impl Store {
             SameBase self.old.index.map self.new.index.map }
         ensures silent { self.new.faulting ≡ true →
             (sink.new ≡ sink.old) × (self.new.reply.held ≡ []) }
-        ensures change { self.new.faulting ≡ false → FailsInChange D.Disk (ending result) disk.new }
+        ensures change { self.new.faulting ≡ false →
+            FailsInRemoval D.Disk (ending result) disk.new }
         ensures account { Accounts D.Disk (ending result) disk.old disk.new }
         ensures sink { AccountsForSink K.Sink result sink.old sink.new }
     {

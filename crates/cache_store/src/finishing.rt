@@ -5,7 +5,7 @@ ghost use Rattle.cache_base.specs.declared.limits.TheConstants.{SLOTS};
 ghost use Rattle.cache_store.specs.Answering.{SaysNothing};
 ghost use Rattle.cache_store.specs.Faults.{ending};
 ghost use Rattle.cache_store.specs.Performing.{HadEffect};
-ghost use Rattle.cache_store.specs.Printed.{IsPlain};
+ghost use Rattle.cache_store.specs.Printed.{IsPlainAnswer};
 ghost use Rattle.cache_theory.specs.Command.Command.{FinishAs};
 ghost use Rattle.disk_model.specs.Account.{Accounts, FailsInChange};
 ghost use Rattle.disk_model.specs.Told.{Told};
@@ -52,7 +52,7 @@ impl Store {
         ensures does { let at = session D.Disk in IsTrue D.tells →
             AchievesFor (FinishAs slot header elements.now) result
             (at self.old disk.old) (at self.new disk.new) }
-        ensures plain { IfOk result IsPlain }
+        ensures plain { IfOk result IsPlainAnswer }
         ensures base { HadEffect result → SameBase self.old.index.map self.new.index.map }
         ensures chunks { SameChunks (kept self.old.handles) (kept self.new.handles) }
         ensures unsaid { SaysNothing (FinishAs slot header elements.now) result

@@ -9,11 +9,11 @@ ghost use Rattle.cache_store.specs.Saying.{CutsIn, SaysMore, SendsFront};
 ghost use Rattle.disk_model.specs.Account.{Looks, ending as disk_ending};
 ghost use Rattle.disk_model.specs.State.{standing};
 ghost use Rattle.entry_file.specs.Held.{IsLastOf};
-ghost use Rattle.file_handles.specs.Kept.{kept};
+ghost use Rattle.file_handles.specs.Kept.{kept, last_read};
 ghost use Rattle.file_handles.specs.Reading.{part_of_body};
 
 use crate::StoreFault;
-use crate::faulting::look_fault;
+use crate::look_faults::look_fault;
 use crate::pending::Pending;
 use crate::store::Store;
 use cache_base::CHUNK;
@@ -53,10 +53,10 @@ pub(crate) fn first_chunk<D: Disk>(
 ) -> Result<(), DiskFault>
     requires inside { range.to ≤ range.len }
     requires held { IsTrue D.tells → IsLastOf (chunks_of range.len)
-        (standing (D.state disk.old) range.place.now) range.len handles.old.chunk }
+        (standing (D.state disk.old) range.place.now) range.len (last_read handles.old) }
     ensures chunk { OnOk result (IsTrue D.tells → range.entry.from < range.entry.to →
         HasChunkAt (standing (D.state disk.old) range.entry.place.now) range.entry.len
-        (range.entry.from / chunk_size) handles.new.chunk) }
+        (range.entry.from / chunk_size) (last_read handles.new)) }
     ensures kept { kept handles.new ≡ kept handles.old }
     ensures looks { Looks D.Disk (disk_ending result) disk.old disk.new }
 {
@@ -79,11 +79,11 @@ fn turn_to<D: Disk, K: Sink>(
     requires at { (range.from ≤ at) × (at < range.len) }
     requires first { IsTrue D.tells → at ≡ range.from →
         HasChunkAt (standing (D.state disk.old) range.place.now) range.len
-        (at / chunk_size) handles.old.chunk }
+        (at / chunk_size) (last_read handles.old) }
     requires later { range.from < at → 0 < at / chunk_size }
     ensures chunk { OnOk result (IsTrue D.tells →
         HasChunkAt (standing (D.state disk.old) range.entry.place.now) range.entry.len
-        (at / chunk_size) handles.new.chunk) }
+        (at / chunk_size) (last_read handles.new)) }
     ensures said { let at = saying K.Sink in
         OnOk result (SaysMore (at reply.old sink.old) (at reply.new sink.new) []) }
     ensures cut { let at = saying K.Sink in OnErr result ((more : List ℕ) → 0 < length more →
@@ -114,7 +114,7 @@ fn say_range<D: Disk, K: Sink>(
     requires inside { (range.from ≤ range.to) × (range.to ≤ range.len) }
     requires first { IsTrue D.tells → range.from < range.to →
         HasChunkAt (standing (D.state disk.old) range.place.now) range.len
-        (range.from / chunk_size) handles.old.chunk }
+        (range.from / chunk_size) (last_read handles.old) }
     ensures said { let at = saying K.Sink in OnOk result (IsTrue D.tells →
         ForPrefix (D.state disk.old) range.entry.place.now range.entry.len (λ body.
         let bytes = range_of range.entry.from range.entry.to body in
@@ -158,7 +158,7 @@ pub(crate) fn say_framed<D: Disk, K: Sink>(
     requires inside { (range.from ≤ range.to) × (range.to ≤ range.len) }
     requires first { IsTrue D.tells → range.from < range.to →
         HasChunkAt (standing (D.state disk.old) range.place.now) range.len
-        (range.from / chunk_size) handles.old.chunk }
+        (range.from / chunk_size) (last_read handles.old) }
     ensures said { let at = saying K.Sink in OnOk result (IsTrue D.tells →
         ForPrefix (D.state disk.old) range.entry.place.now range.entry.len (λ body.
         let bytes = range_of range.entry.from range.entry.to body in
@@ -199,7 +199,7 @@ impl Store {
         requires calm { self.old.faulting ≡ false }
         requires inside { (range.from ≤ range.to) × (range.to ≤ range.len) }
         requires held { IsTrue D.tells → IsLastOf (chunks_of range.len)
-            (standing (D.state disk.old) range.place.now) range.len self.old.handles.chunk }
+            (standing (D.state disk.old) range.place.now) range.len (last_read self.old.handles) }
         ensures said { let at = saying K.Sink in OnOk result (IsTrue D.tells →
             ForPrefix (D.state disk.old) range.entry.place.now range.entry.len (λ body.
             let text = head.now ++ (range_of range.entry.from range.entry.to body ++ 10 ∷ []) in

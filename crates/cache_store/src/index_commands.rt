@@ -3,7 +3,7 @@
 ghost use Rattle.std.specs.Prelude.{◌≡◌, ◌↔◌, [], Err, false, true, IfOk, IsTrue, Ok, OnOk, length, take};
 ghost use Rattle.cache_store.specs.Answering.{HasOutcome, IsStillToSay, SaysNothing};
 ghost use Rattle.cache_store.specs.Faults.{AccountsForSink, ending};
-ghost use Rattle.cache_store.specs.IndexCalls.{Flushes, IsFresh, IsWritten, LooksAtNames, Rebuilds};
+ghost use Rattle.cache_store.specs.IndexCalls.{Flushes, IsFresh, IsWritten, ReadsEntriesOf, Rebuilds};
 ghost use Rattle.cache_store.specs.InUse.{SparesIndex};
 ghost use Rattle.cache_store.specs.Kept.{HoldsIndex};
 ghost use Rattle.cache_store.specs.Said.{saying};
@@ -21,8 +21,8 @@ ghost use Rattle.startup_read.specs.Spares.{SparesEntries};
 
 use crate::StoreFault;
 use crate::answered::Answered;
-use crate::faulting::look_fault;
 use crate::listing::say_listing;
+use crate::look_faults::look_fault;
 use crate::memory_index::{MemoryIndex, scan};
 use crate::store::Store;
 use cache_base::Moment;
@@ -96,7 +96,7 @@ impl Store {
         ensures silent { self.new.faulting ≡ true →
             (sink.new ≡ sink.old) × (self.new.reply.held ≡ []) }
         ensures looks { Looks D.Disk (ending result) disk.old disk.new }
-        ensures names { LooksAtNames D.Disk (length self.old.index.update) disk.old disk.new }
+        ensures names { ReadsEntriesOf D.Disk (length self.old.index.update) disk.old disk.new }
         ensures sink { AccountsForSink K.Sink result sink.old sink.new }
     {
         let ended = match self.index.finish_apart(disk) {
@@ -123,7 +123,7 @@ impl Store {
             StaysAs (at self.old disk.old) (at self.new disk.new) }
         ensures looks { Looks D.Disk (ending result) disk.old disk.new }
         ensures names { let names = length (take n self.old.index.update) in
-            LooksAtNames D.Disk names disk.old disk.new }
+            ReadsEntriesOf D.Disk names disk.old disk.new }
     {
         match self.index.step(disk, n) {
             Ok(()) => Ok(self.index.state()),

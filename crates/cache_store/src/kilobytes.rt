@@ -2,7 +2,7 @@
 
 ghost use Rattle.std.specs.Prelude.{◌≡◌, ◌≢◌, [], Err, IfOk, IsTrue, OnOk, length};
 ghost use Rattle.cache_store.specs.Faults.{ending};
-ghost use Rattle.cache_store.specs.IndexCalls.{LooksAtNames};
+ghost use Rattle.cache_store.specs.IndexCalls.{ReadsEntriesOf};
 ghost use Rattle.disk_model.specs.Account.{Looks};
 ghost use Rattle.evictor.specs.Evict.{total_kb};
 ghost use Rattle.index_map.specs.Known.{IsKnown, SameBase};
@@ -49,7 +49,7 @@ impl Store {
         ensures no_sink { result ≢ Err StoreFault.Sink }
         ensures looks { Looks D.Disk (ending result) disk.old disk.new }
         ensures names { let rest = (open_of self.old).index.update in
-            LooksAtNames D.Disk (length rest) disk.old disk.new }
+            ReadsEntriesOf D.Disk (length rest) disk.old disk.new }
     {
         self.index.finish(disk)?;
         Ok(total_of(&self.index.map))

@@ -7,7 +7,7 @@ ghost use Rattle.cache_store.specs.Evicting.{IsEviction, LeavesOthers, LooksBefo
 ghost use Rattle.cache_store.specs.Faulting.{FailsForGood, LooksAtNothing};
 ghost use Rattle.cache_store.specs.Faults.{AccountsForSink, ending};
 ghost use Rattle.cache_store.specs.InUse.{SparesIndex};
-ghost use Rattle.cache_store.specs.IndexCalls.{Flushes, IsFresh, IsWritten, LooksAtNames, LooksOnceAt, MakesNoCall, NeverSyncs, OnlyLooks, Rebuilds, SyncsAll, names_read};
+ghost use Rattle.cache_store.specs.IndexCalls.{Flushes, IsFresh, IsWritten, ReadsEntriesOf, LooksOnceAt, MakesNoCall, NeverSyncs, OnlyLooks, Rebuilds, SyncsAll, names_read};
 ghost use Rattle.cache_store.specs.Outcomes.{Faults, verdict_in, verdict_of};
 ghost use Rattle.cache_store.specs.Printed.{HasBadKey, Prints, is_plain};
 ghost use Rattle.cache_store.specs.Reads.{AreHeld, LastIsFirst, LeavesChunks};
@@ -174,7 +174,7 @@ impl Store {
             Told D.Disk SyncsNothing disk.old disk.new }
         ensures looks { let mark = mark_of (standing (D.state disk.old) Clear) in
             IfSome (names_read (command_of c.now) mark (open_of self.old).index.update)
-            (λ names. LooksAtNames D.Disk names disk.old disk.new) }
+            (λ names. ReadsEntriesOf D.Disk names disk.old disk.new) }
         ensures looks_first { is_faulting self.new ≡ false → IsEviction (command_of c.now) →
             LooksBeforeChanges D.Disk (ending result) disk.old disk.new }
         ensures account { is_faulting self.new ≡ false →

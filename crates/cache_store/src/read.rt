@@ -18,7 +18,7 @@ ghost use Rattle.file_handles.specs.Reading.{ForBody, HasRead, HasReadOrNot, Hol
 ghost use Rattle.file_handles.specs.Stands.{RepresentsSome};
 
 use crate::answered::Answered;
-use crate::faulting::{handles_fault, is_failed};
+use crate::look_faults::{handles_fault, is_failed};
 use crate::pending::Pending;
 use crate::replies::counted;
 use crate::store::Store;

@@ -4,7 +4,7 @@ ghost use Rattle.std.specs.Prelude.{◌≡◌, false, IfOk, IfSome, IsSome, IsTr
 ghost use Rattle.cache_store.specs.Answering.{SaysNothing};
 ghost use Rattle.cache_store.specs.Clearing.{HasNoMark, LeavesResumed};
 ghost use Rattle.cache_store.specs.Faults.{ending};
-ghost use Rattle.cache_store.specs.IndexCalls.{LooksAtNames, LooksOnceAt, names_resumed};
+ghost use Rattle.cache_store.specs.IndexCalls.{ReadsEntriesOf, LooksOnceAt, names_resumed};
 ghost use Rattle.cache_store.specs.StoppedClearing.{ClearsUnderMark};
 ghost use Rattle.cache_theory.specs.Command.Command.{Resume};
 ghost use Rattle.context_clear.specs.Mark.{mark_of};
@@ -56,7 +56,7 @@ impl Store {
         ensures unsaid { SaysNothing Resume result self.old.reply self.new.reply }
         ensures answer { IfOk result (λ a. a ≡ Answered.Resumed) }
         ensures names { let mark = mark_of (standing (D.state disk.old) Clear) in
-            LooksAtNames D.Disk (names_resumed mark self.old.index.update) disk.old disk.new }
+            ReadsEntriesOf D.Disk (names_resumed mark self.old.index.update) disk.old disk.new }
         ensures once { IsTrue D.tells → standing (D.state disk.old) Clear ≡ None →
             LooksOnceAt D.Disk Clear disk.old disk.new }
         ensures ends { self.new.faulting ≡ false }

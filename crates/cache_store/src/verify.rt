@@ -11,8 +11,8 @@ ghost use Rattle.disk_model.specs.Account.{Looks};
 ghost use Rattle.index_map.specs.Known.{SameBase};
 
 use crate::answered::Answered;
-use crate::faulting::look_fault;
 use crate::listing::say_listing;
+use crate::look_faults::look_fault;
 use crate::pending::Pending;
 use crate::store::Store;
 use crate::{StoreFault, Verdict};

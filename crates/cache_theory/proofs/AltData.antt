@@ -1,4 +1,4 @@
--- A finished entry with alternative data behind its body is an entry as before.
+-- A finished entry with alternative data after its body is an entry as before.
 use Rattle.std.proofs.Common.{◌≡◌, ◌≢◌, ℕ, ◌+◌, ◌<◌, ◌^◌, ◌≤◌, List, [], ◌∷◌, ◌++◌, codes, decimal, length, Bool, true, false, ◌||◌, not, refl, arith, length-append, leb-true}
 use Rattle.std.specs.Prelude.{◌==◌, nat_le, nat_lt}
 use Rattle.std.specs.Str.Parse.{AllDigits}

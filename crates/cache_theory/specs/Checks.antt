@@ -88,7 +88,7 @@ no_alt m s = (is_none (element (codes "alt-data") (object_of m s).version.elemen
 abbrev pub good_kind : List ℕ → Check
 good_kind kind = (is_kind kind, refused.BadElement)
 
--- the version with alternative data of this kind behind its body
+-- the version with alternative data of this kind after its body
 abbrev pub with_alt_data : List ℕ → List ℕ → Version → Version
 with_alt_data kind bytes v = record v { body = v.body ++ bytes; elements = with_alt v.body kind v.elements }
 

@@ -25,7 +25,7 @@ pub data Command : Type 0 where
   -- the entry is pinned, so that neither an eviction nor a clearing takes it; or it is so no longer
   Pin : (slot : ℕ) → Command
   Unpin : (slot : ℕ) → Command
-  -- these bytes are kept behind the body as alternative data of this kind
+  -- these bytes are kept after the body as alternative data of this kind
   PutAlt : (slot : ℕ) (kind bytes : List ℕ) → Command
   ReadPart : (slot from len : ℕ) → Command
   Close : (slot : ℕ) → Command

@@ -95,16 +95,16 @@ faulted m cs bytes = faulted_from 1 m cs bytes
 abbrev pub NoReplyIsFault : Type 0
 NoReplyIsFault = (r : Reply) (more : List ℕ) → reply_text r ≢ codes "fault" ++ more
 
--- a front of the text, and not all of it
+-- a prefix of the text, and not all of it
 abbrev pub IsCutOf : List ℕ → List ℕ → Type 0
 IsCutOf text x = (n : ℕ) × ((n < length text) × (x ≡ take n text))
 
--- the reply to a command behind the first p, in the state that those of them leave that are kept
+-- the reply to a command after the first p, in the state that those of them leave that are kept
 abbrev pub reply_behind : Machine → List Command → ℕ → List ℕ → Command → List ℕ
 reply_behind m cs p faults c = reply_text (step (after m (unfaulted faults (take p cs))) c).reply
 
--- what may have gone out of the answer to the next command, if there is one, behind the answers to the first p:
--- nothing, or a cut of the line or of its reply. Behind the last command anything may follow
+-- what may have gone out of the answer to the next command, if there is one, after the answers to the first p:
+-- nothing, or a cut of the line or of its reply. After the last command anything may follow
 abbrev pub MayFollow : Machine → List Command → ℕ → List ℕ → List ℕ → Type 0
 MayFollow m cs p faults x = (c : Command) → slice_get cs p ≡ Some c
     → (x ≡ []) ⊎ (IsCutOf fault_line x ⊎ IsCutOf (reply_behind m cs p faults c) x)
@@ -165,11 +165,11 @@ pub record GoesOn (m : Machine) (cs more : List Command) (faults : List ℕ) : T
 abbrev pub FaultsAreInFront : Type 0
 FaultsAreInFront = (m : Machine) (cs more : List Command) (faults : List ℕ) → AreFaults (length cs) faults → GoesOn m cs more faults
 
--- the numbers with that of the next command behind so many
+-- the numbers with that of the next command after so many
 abbrev pub with_next : ℕ → List ℕ → List ℕ
 with_next p faults = faults ++ suc p ∷ []
 
--- the number of one command more is behind those of the first
+-- the number of one command more comes after those of the first
 abbrev pub NextIsNumbered : Type 0
 NextIsNumbered = (p : ℕ) (faults : List ℕ) → AreFaults p faults → AreFaults (suc p) (with_next p faults)
 
@@ -178,7 +178,7 @@ pub record FaultsNext (m : Machine) (cs : List Command) (c : Command) (faults : 
   pub replies : replies_but m (cs ++ c ∷ []) (with_next (length cs) faults) ≡ replies_but m cs faults ++ fault_line
   pub kept : unfaulted (with_next (length cs) faults) (cs ++ c ∷ []) ≡ unfaulted faults cs
 
--- so it may be with any command behind any others
+-- so it may be with any command after any others
 abbrev pub NextMayFault : Type 0
 NextMayFault = (m : Machine) (cs : List Command) (c : Command) (faults : List ℕ) → AreFaults (length cs) faults → FaultsNext m cs c faults
 

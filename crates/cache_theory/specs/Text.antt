@@ -204,7 +204,7 @@ command_words (VerifyRecords records) = []
 command_words Rebuild = codes "rebuild" ∷ []
 command_words Dump = []
 
--- the bytes behind a command's line, with their newline
+-- the bytes after a command's line, with their newline
 abbrev pub command_data : Command → List ℕ
 command_data (Append s bytes) = bytes ++ 10 ∷ []
 command_data (SetElement s name value) = value ++ 10 ∷ []
@@ -268,17 +268,17 @@ pub record IsCommand (c : Command) : Type 0 where
 abbrev pub script_bytes : List Command → List ℕ
 script_bytes cs = flat_map command_bytes cs
 
--- these are the commands that a front of the bytes spells, within the length of a script, and what follows them
+-- these are the commands that a prefix of the bytes spells, within the length of a script, and what follows them
 pub record SpellsFront (bytes : List ℕ) (cs : List Command) (rest : List ℕ) : Type 0 where
   pub commands : AllByRecursion IsCommand cs
   pub spelled : bytes ≡ script_bytes cs ++ rest
   pub short : length (script_bytes cs) ≤ SCRIPT_MAX
 
--- no command more that would keep the script within its length begins the bytes behind so many of a script
+-- no command more that would keep the script within its length begins the bytes after so many of a script
 abbrev pub NoMore : ℕ → List ℕ → Type 0
 NoMore before rest = (c : Command) (more : List ℕ) → IsCommand c → rest ≡ command_bytes c ++ more → SCRIPT_MAX < before + length (command_bytes c)
 
--- the longest list of commands that a front of the bytes spells
+-- the longest list of commands that a prefix of the bytes spells
 pub record CommandsIn (bytes : List ℕ) (cs : List Command) : Type 0 where
   pub rest : List ℕ
   pub front : SpellsFront bytes cs rest

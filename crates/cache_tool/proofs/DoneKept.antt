@@ -1,4 +1,4 @@
--- What is done for the commands of a session, and for more behind them.
+-- What is done for the commands of a session, and for more after them.
 use Rattle.std.proofs.Common.{◌≡◌, ◌⊎◌, IsTrue, List, [], ◌∷◌, ◌++◌, length, subst, sym, ap, ℕ, ◌∙◌, length-append, arith}
 use Rattle.cache_store.specs.Open.{Tells}
 use Rattle.cache_store.specs.Session.{Session}

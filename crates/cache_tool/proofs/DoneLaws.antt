@@ -117,7 +117,7 @@ some_done right (HasEntry key) m =
 some_done right Resume m = some_resumed right (mark_of m.mark) m
 some_done right c m = (c, refl)
 
--- ---- for the first command, and for the one behind it
+-- ---- for the first command, and for the one after it
 
 -- where the index is trusted a store begins with the records of it with its journal applied
 begun_records : (s : State) (first : Session) (es : Entries) → BeginsOn (standing s) first.open_store.index.map → first.open_store.index.update ≡ [] → start_of (standing s) ≡ Ready
@@ -137,7 +137,7 @@ module _ (s : State) (first : Session) (m : Machine) (tells : Honest (standing s
   pub resumed_at_opening : (d : Command) → IsResumedBy (GoesBy first m) (mark_of m.mark) m d → IsResumedBy (AreAtOpening s m) (mark_of m.mark) m d
   resumed_at_opening d is = resumed_where (GoesBy first m) (AreAtOpening s m) at_opening (mark_of m.mark) m d is
 
-  -- behind it the records are those, but for the names that were cleared
+  -- after it the records are those, but for the names that were cleared
   module _ (mid : Session) (d : Command) (stands : Represents first m) (ended : start_of (standing s) ≡ Ready → mid.open_store.index.update ≡ []) where
     left_by : (mark : Option ℕ) → IsResumedBy (GoesBy first m) mark m d → LeavesResumed mark first mid.open_store.index → start_of (standing s) ≡ Ready
         → (records : List IndexRecord) → AreAtEnd (entries_on mid.disk) mid.open_store.index records

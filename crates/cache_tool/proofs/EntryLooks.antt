@@ -55,7 +55,7 @@ opened_to_read moment s first finite opens ready =
     let (m, is) = starts_on moment s finite in
     (bytes_end first.open_store.index.update).0 (sym (opens.keeps m is).matches.rest ∙ nothing_left moment s m is ready)
 
--- nor has it behind what is done for `Resume`
+-- nor has it after what is done for `Resume`
 pub nothing_to_read : (moment : ℕ) (s : State) (mid : Session) → IsFinite s → BeginsRun moment s mid → start_of (standing s) ≡ Ready → mid.open_store.index.update ≡ []
 nothing_to_read moment s mid finite begins ready =
     let (m, is) = starts_on moment s finite in

@@ -1,4 +1,4 @@
--- Commands of which the next one is answered `fault`, and more commands behind it.
+-- Commands of which the next one is answered `fault`, and more commands after it.
 use Rattle.std.proofs.Common.{◌≡◌, List, [], ◌∷◌, ◌++◌, length, refl, sym, ap, subst, suc, ℕ, ◌∙◌, append_assoc}
 use Rattle.cache_theory.specs.Command.{Command}
 use Rattle.cache_theory.specs.Faulted.{AreFaults, fault_line, replies_but, unfaulted, with_next}

@@ -8,7 +8,7 @@ use Rattle.cache_theory.specs.Command.Command.{Append, At, Close, Create, Evict,
 abbrev pub next_number : ℕ → ℕ
 next_number x = (1103515245 * x + 12345) % 2 ^ 31
 
--- the number of the entry behind so many others
+-- the number of the entry after so many others
 abbrev pub number_at : ℕ → ℕ → ℕ
 number_at first zero = first
 number_at first (suc i) = next_number (number_at first i)

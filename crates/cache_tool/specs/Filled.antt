@@ -51,7 +51,7 @@ module _ {right : Type 0} {now count first : ℕ} {m : Machine} (filled : AreFil
   status_in_check = let made = after m (making_commands now count first) in
       status_of (outcome_of (step (step made filled.evicts).next filled.checks).reply)
 
--- for a machine at an opening, and what was done for `Resume`: none of the commands behind it is acknowledged, and
+-- for a machine at an opening, and what was done for `Resume`: none of the commands after it is acknowledged, and
 -- all may have begun
 pub record PrintsFill (now count first : ℕ) (m : Machine) (d : Command) (ended : Status) (before after : Output)
     : Type 0 where

@@ -37,7 +37,7 @@ abbrev pub begun_parts : Option Begun → List Part
 begun_parts None = []
 begun_parts (Some b) = Part.KeyPart b.key ∷ map (λ piece. Part.PiecePart piece) b.pieces
 
--- the parts of the items, and of the beginning behind them
+-- the parts of the items, and of the beginning after them
 abbrev pub loaded_parts : Loaded → List Part
 loaded_parts l = flat_map parts_of l.items ++ begun_parts l.begun
 
@@ -97,7 +97,7 @@ pub record GaveLoaded (left now : Option (List ℕ)) (l : Loaded) : Type 0 where
 
 -- ---- what is printed
 
--- the line behind the last of so many items
+-- the line after the last of so many items
 abbrev pub loaded_line : ℕ → List ℕ
 loaded_line n = with_number (codes "loaded") n
 
@@ -105,7 +105,7 @@ loaded_line n = with_number (codes "loaded") n
 abbrev pub bad_dump_line : ℕ → List ℕ
 bad_dump_line n = line (codes "bad" ∷ codes "dump" ∷ decimal n ∷ [])
 
--- so many items were loaded, or the one behind so many is bad
+-- so many items were loaded, or the one after so many is bad
 abbrev pub IsLoadLine : ℕ → List ℕ → Type 0
 IsLoadLine n text = (text ≡ loaded_line n) ⊎ (text ≡ bad_dump_line (suc n))
 
@@ -122,7 +122,7 @@ pub record PrintsLoadLine (n : ℕ) (ended : Status) (before now : Option (List 
 -- ---- the verb
 
 -- for a machine at an opening, and what was done for `Resume`: the entries of these items were written, and none of the
--- commands behind it is acknowledged
+-- commands after it is acknowledged
 pub record PrintsLoaded (m : Machine) (d : Command) (bytes : List ℕ) (ended : Status) (before now : World)
     : Type 0 where
   pub loaded : Loaded
@@ -131,7 +131,7 @@ pub record PrintsLoaded (m : Machine) (d : Command) (bytes : List ℕ) (ended : 
   -- with `Done` they are a dump of these items, and the source was read to its end
   pub whole : ended ≡ status.Done → IsDump bytes loaded.items
       × ((loaded.begun ≡ None) × IsAtEnd now.source.left)
-  -- with `Script` they are no dump, and the item behind these is bad
+  -- with `Script` they are no dump, and the item after these is bad
   pub bad : ended ≡ status.Script → IsNoDump bytes × IsBadBehind read
   -- with `Source` it gave no whole part more
   pub broken : ended ≡ status.Source → GaveLoaded before.source.left now.source.left loaded

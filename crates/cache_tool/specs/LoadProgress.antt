@@ -115,7 +115,7 @@ status_at_end (Err f) = status_in (Err f)
 abbrev pub IsLine : Status → Type 0
 IsLine s = (s ≡ status.Done) ⊎ (s ≡ status.Script)
 
--- the number that it tells is that of so many whole items, or of the one behind them
+-- the number that it tells is that of so many whole items, or of the one after them
 abbrev pub TellsNumber : Result Ended StoreFault → ℕ → Type 0
 TellsNumber (Ok (ended.Whole count)) n = count ≡ n
 TellsNumber (Ok (ended.Bad number)) n = number ≡ suc n

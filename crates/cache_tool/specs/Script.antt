@@ -33,7 +33,7 @@ IsScript left = IsSomeAnd left (λ bytes. (cs : List Command) × ScriptSpells by
 abbrev pub HasScript : Option (List ℕ) → Type 0
 HasScript left = IfSome left (λ bytes. (cs : List Command) × ScriptSpells bytes cs)
 
--- where they are told, there is a bad command behind those that they spell
+-- where they are told, there is a bad command after those that they spell
 abbrev pub HasBadCommand : Option (List ℕ) → Type 0
 HasBadCommand left =
     IfSome left (λ bytes. (cs : List Command) × (CommandsIn bytes cs × ¬ (ScriptSpells bytes cs)))

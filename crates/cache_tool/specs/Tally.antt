@@ -41,7 +41,7 @@ abbrev pub failure : Result Ended StoreFault → Failure
 failure (Ok e) = ended_failure e
 failure (Err f) = fault_failure f
 
--- so after one turn, behind which there may be more
+-- so after one turn, after which there may be more
 abbrev pub turn_failure : Result (Option Ended) StoreFault → Failure
 turn_failure (Ok None) = Failure.NoFailure
 turn_failure (Ok (Some e)) = ended_failure e

@@ -60,7 +60,7 @@ abbrev pub all_begun_none_acked : Machine → Command → List Command → Reach
 all_begun_none_acked m d cs =
     record { done = d ∷ cs; marks = marks_between m (d ∷ cs) 1 (length (d ∷ cs)) }
 
--- the marks where behind it the first `a` of these are acknowledged, and those up to `b` have begun, but for those with
+-- the marks where after it the first `a` of these are acknowledged, and those up to `b` have begun, but for those with
 -- these numbers, which are answered `fault`; it is not counted among them
 abbrev pub marks_behind : Machine → Command → List Command → List ℕ → ℕ → ℕ → Marks
 marks_behind m d cs faults a b =
@@ -170,7 +170,7 @@ StoresEntry moment key ended before now =
     ⊎ (HasNotBegun m ended at end × (now.source ≡ before.source))
 
 -- What went out are the answers to what was done for commands. It tells how many are answered, and which of them by
--- `fault`. The command behind them may have been answered so, too, with an answer that was cut.
+-- `fault`. The command after them may have been answered so, too, with an answer that was cut.
 pub record TellsReplies (m : Machine) (bytes : List ℕ) (cs done : List Command) (ended : Status)
     (acked : ℕ) (faults with_last : List ℕ) (before now : Option (List ℕ)) : Type 0 where
   pub out : List ℕ
@@ -194,7 +194,7 @@ pub record CountsFaults (ended : Status) (acked : ℕ) (faults with_last : List 
       ⊎ ((with_last ≡ with_next acked faults) × RoseBy (suc (length faults)) before now)
   pub disk : ended ≡ status.Disk → RoseBy (suc (length faults)) before now
 
--- These are the commands of a script, and what was done for them behind what was done for `Resume`: some are
+-- These are the commands of a script, and what was done for them after what was done for `Resume`: some are
 -- acknowledged, and one more may have begun. A command that is answered `fault` is left out, as if it had not been
 -- there.
 pub record PrintsReplies (m : Machine) (d : Command) (bytes : List ℕ) (cs : List Command) (ended : Status)

@@ -3,7 +3,7 @@
 ghost use Rattle.std.specs.Prelude.{◌≡◌, ◌≢◌, ◌⊎◌, true, IsTrue};
 ghost use Rattle.cache_base.specs.Causes.{Rose};
 ghost use Rattle.cache_script.specs.Command.{command_of};
-ghost use Rattle.cache_store.specs.IndexCalls.{LooksAtNames};
+ghost use Rattle.cache_store.specs.IndexCalls.{ReadsEntriesOf};
 ghost use Rattle.cache_store.specs.Printed.{PrintsNo, PrintsOk, is_plain};
 ghost use Rattle.cache_store.specs.Saying.{TakesMore};
 ghost use Rattle.cache_theory.specs.Given.{IsGiven};
@@ -47,7 +47,7 @@ pub(crate) fn perform_one<D: Disk, K: Sink>(
     ensures grows { IsTrue D.tells → TakesMore (K.taken sink.old) (K.taken sink.new) }
     ensures no_entry { let files = standing (D.state disk.old) in
         LooksAtNone (command_of command.now) (mark_of (files Clear)) (start_of files) →
-        LooksAtNames D.Disk 0 disk.old disk.new }
+        ReadsEntriesOf D.Disk 0 disk.old disk.new }
     ensures quiet { IsClosing result → IsTrue D.tells → IsQuiet (D.state disk.new) }
     ensures stops { IsTrue D.tells → StopsAtFault (D.counts disk.old) (D.counts disk.new) }
     ensures sink { result ≡ Status.Sink → Rose (K.faults sink.old) (K.faults sink.new) }

@@ -2,7 +2,7 @@
 
 ghost use Rattle.std.specs.Prelude.{◌≡◌, ◌≢◌, ◌↔◌, ◌⊎◌, IsTrue, IsSome, IsNone};
 ghost use Rattle.cache_base.specs.Causes.{Rose};
-ghost use Rattle.cache_store.specs.IndexCalls.{LooksAtNames};
+ghost use Rattle.cache_store.specs.IndexCalls.{ReadsEntriesOf};
 ghost use Rattle.cache_store.specs.Saying.{TakesMore};
 ghost use Rattle.cache_tool.specs.ByVerb.{IsStatusOf, IsWhole, Performs, PrintsBy, ReadsSource, WentOn};
 ghost use Rattle.cache_tool.specs.Statuses.{IsAnswer, IsClosing};
@@ -40,7 +40,7 @@ use std::alloc::Global;
 /// A command that ends in a failed look at the disk before anything of its reply is out is answered by the line
 /// `fault`, and leaves all as it was. A `run` goes on with the next command; for other words the status is that of a
 /// disk that failed. Looks in the opening, in the clearing that is left, in the closing, in `fill` and in `load` end
-/// the run, as does one behind a part of a reply.
+/// the run, as does one after a part of a reply.
 ///
 /// The clauses on contents hold where the disk and the source tell theirs. Those on a crash hold where nothing was
 /// pending at the call, and speak of every exit, whatever the status.
@@ -79,7 +79,7 @@ pub fn run<D: Disk, S: Source, K: Sink>(
     ensures no_entry { let files = standing (D.state disk.old) in
         WhenOne (asked_in words.now) (λ now c.
         LooksAtNone c (mark_of (files Clear)) (start_of files)
-        → LooksAtNames D.Disk 0 disk.old disk.new) }
+        → ReadsEntriesOf D.Disk 0 disk.old disk.new) }
 
     // Where the store was closed nothing is pending.
     ensures quiet { IsClosing result → IsTrue D.tells → IsQuiet (D.state disk.new) }

@@ -4,7 +4,7 @@ ghost use Rattle.std.specs.Prelude.{◌≡◌, ◌≢◌, ◌⊎◌, ◌≤◌, 
 ghost use Rattle.std.specs.Io.KnownBytes.{Appends};
 ghost use Rattle.cache_base.specs.Causes.{HasCause, Rose};
 ghost use Rattle.cache_store.specs.Faults.{ending};
-ghost use Rattle.cache_store.specs.IndexCalls.{LooksAtNames};
+ghost use Rattle.cache_store.specs.IndexCalls.{ReadsEntriesOf};
 ghost use Rattle.cache_store.specs.Open.{IsOpen, LeavesOpen};
 ghost use Rattle.cache_store.specs.Said.{IsCut};
 ghost use Rattle.cache_store.specs.Saying.{IsPart};
@@ -40,7 +40,7 @@ pub(crate) fn begin<D: Disk>(alloc: Global, now: Moment, disk: &mut D) -> Result
     ensures fails { OnErr result (Told D.Disk (FailsToBegin now) disk.old disk.new) }
     ensures looks { IsTrue D.tells → let files = standing (D.state disk.old) in
         ReadsNoEntry (mark_of (files Clear)) (start_of files) →
-        LooksAtNames D.Disk 0 disk.old disk.new }
+        ReadsEntriesOf D.Disk 0 disk.old disk.new }
     ensures no_sink { result ≢ Err StoreFault.Sink }
     ensures account { Accounts D.Disk (ending result) disk.old disk.new }
 {

@@ -13,11 +13,11 @@ use Rattle.chunk_store.specs.Stored.{filled_up, read_as, chunk_len}
 filled_whole : (n : ℕ) (part : List ℕ) → length part ≡ n → part ++ replicate (n - length part) 0 ≡ part
 filled_whole n part e = grind (arith, common_steps)
 
--- the first bytes of a front, by the shorter of both
+-- the first bytes of a prefix, by the shorter of both
 take_front : (size m : ℕ) (xs : List ℕ) → take size (take m xs) ≡ take (min size m) xs
 take_front size m xs = grind (arith, common_steps)
 
--- a part within the front of a content
+-- a part within the prefix of a content
 part_in_front : (size from len : ℕ) (content : List ℕ) → from ≤ len → take (min size (len - from)) (drop from content) ≡ take size (drop from (take len content))
 part_in_front size from len content low =
     sym (take_front size (len - from) (drop from content))

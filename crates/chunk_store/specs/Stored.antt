@@ -12,11 +12,11 @@ chunk_len len i = min chunk_size (len - i * chunk_size)
 abbrev pub filled_up : ℕ → List ℕ → List ℕ
 filled_up n part = part ++ replicate (n - length part) 0
 
--- chunk i of a body of this length at the front of a file, as read: what the file does not have is zeros
+-- chunk i of a body of this length at the beginning of a file, as read: what the file does not have is zeros
 abbrev pub read_as : ℕ → ℕ → Option (List ℕ) → List ℕ
 read_as len i file = filled_up (chunk_len len i) (part_of (i * chunk_size) (chunk_len len i) file)
 
--- the mark of an unfinished entry, which stands behind its last chunk
+-- the mark of an unfinished entry, which stands after its last chunk
 abbrev pub stop_tail : List ℕ
 stop_tail = 255 ∷ 255 ∷ 255 ∷ 255 ∷ []
 

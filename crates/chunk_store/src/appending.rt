@@ -21,7 +21,7 @@ fn push_tail(buf: &mut Buffer)
     buf.push(0xff);
 }
 
-/// Writes the whole chunk that the buffer holds at its place in the file, and the stop tail behind it, by one call of
+/// Writes the whole chunk that the buffer holds at its place in the file, and the stop tail after it, by one call of
 /// the disk. The buffer is as before. It takes no memory of its own.
 pub fn append_chunk<D: Disk>(
     disk: &mut D,

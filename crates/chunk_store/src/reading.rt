@@ -11,8 +11,8 @@ ghost use Rattle.chunk_store.specs.Stored.{chunk_len, read_as};
 use cache_base::{Buffer, CHUNK};
 use disk_model::{Disk, DiskFault, Place};
 
-/// Makes the buffer the chunk `index` of a body of `offset` bytes that stands at the front of the file, by one call of
-/// the disk. Where the file is shorter, or no file stands there, the bytes that it does not have are zeros.
+/// Makes the buffer the chunk `index` of a body of `offset` bytes that stands at the beginning of the file, by one call
+/// of the disk. Where the file is shorter, or no file stands there, the bytes that it does not have are zeros.
 pub fn read_chunk<D: Disk>(
     disk: &mut D,
     place: &Place,

@@ -9,7 +9,7 @@ use Rattle.disk_model.specs.Place.{is_same}
 use Rattle.disk_model.specs.MemImage.{Given, image_of, ArePlacesApart}
 use Rattle.disk_model.proofs.Places.{is_same-refl, is_same-apart, one_same}
 
--- the one content is first, and the other places have theirs behind it
+-- the one content is first, and the other places have theirs after it
 pub image_here : (place : Place) (content : List ℕ) (rest : Given) → image_of ((place, content) ∷ rest) place ≡ Some content
 image_here place content rest = ap (λ (b : Bool). if b then Some content else image_of rest place) (is_same-refl place)
 

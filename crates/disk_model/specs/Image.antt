@@ -9,7 +9,7 @@ use Rattle.disk_model.specs.Sound.{names_before}
 abbrev pub Files : Type 0
 Files = Place → Option (List ℕ)
 
--- a write reaches a position: its own, and, where the file then ends behind it, all behind
+-- a write reaches a position: its own, and, where the file then ends after it, all after
 abbrev pub Reaches : ℕ → Write → Type 0
 Reaches i (End from bytes) = from ≤ i
 Reaches i (Patch from bytes) = (from ≤ i) × (i < from + length bytes)

@@ -6,7 +6,7 @@ use Rattle.disk_model.specs.declared.place.NameStep.{NameStep}
 use Rattle.disk_model.specs.declared.place.NameStep.TheVariants.{Create, Rename, Remove}
 use Rattle.disk_model.specs.Place.{is_same}
 
--- a write step: the file then ends behind these bytes, or it keeps what lies behind them
+-- a write step: the file then ends after these bytes, or it keeps what lies after them
 pub data Write : Type 0 where
   End : (from : ℕ) (bytes : List ℕ) → Write
   Patch : (from : ℕ) (bytes : List ℕ) → Write

@@ -76,7 +76,7 @@ pub trait Disk {
         ensures cause { HasCause (IsErrOf result DiskFault.Failed)
             (faults self.old) (faults self.new) };
 
-    /// Fills the buffer's front with the bytes of the file from the offset `from` on, as far as the file goes, and
+    /// Fills the buffer's beginning with the bytes of the file from the offset `from` on, as far as the file goes, and
     /// tells how many they are: none where no file stands there, or where `from` is at or past its end. The rest of
     /// the buffer is as before.
     fn read(&mut self, place: &Place, from: u64, buf: &mut [u8]) -> Result<usize, DiskFault>
@@ -97,7 +97,7 @@ pub trait Disk {
         ensures cause { HasCause (IsErrOf result DiskFault.Failed)
             (faults self.old) (faults self.new) };
 
-    /// Writes the bytes at the offset `from`. The file then ends behind them.
+    /// Writes the bytes at the offset `from`. The file then ends after them.
     fn write_end(&mut self, place: &Place, from: u64, bytes: &[u8]) -> Result<(), DiskFault>
         requires limit { from ≤ 2 ^ 40 }
         requires told { IsTrue tells → MayWriteAt (standing (state self.old) place.now) from }

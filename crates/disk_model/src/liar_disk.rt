@@ -104,7 +104,7 @@ impl Disk for LiarDisk {
         Ok(())
     }
 
-    /// One name of twenty zero bytes. Fails only for want of memory.
+    /// One name of twenty zero bytes. Fails only where memory ran out.
     fn entries(&mut self, out: &mut Names) -> Result<(), DiskFault>
         ensures rising { OnOk result (AreRising out.new) }
         ensures names { OnOk result (out.new ≡ record { 0 = replicate 20 0 } ∷ []) }
@@ -116,7 +116,7 @@ impl Disk for LiarDisk {
         Ok(())
     }
 
-    /// The number 0. Fails only for want of memory.
+    /// The number 0. Fails only where memory ran out.
     fn doomed(&mut self, out: &mut Numbers) -> Result<(), DiskFault>
         ensures rising { OnOk result (AreRisingNumbers out.new) }
         ensures numbers { OnOk result (out.new ≡ 0 ∷ []) }

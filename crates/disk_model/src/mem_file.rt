@@ -13,7 +13,7 @@ use std::alloc::{AllocError, Global};
 /// A write at an offset.
 #[derive(Drop)]
 pub(crate) enum MemWrite {
-    /// The file then ends behind these bytes.
+    /// The file then ends after these bytes.
     AtEnd(u64, Vec<u8>),
     /// The file keeps its length.
     Inside(u64, Vec<u8>),
@@ -114,7 +114,7 @@ impl MemFile {
         self.current.reserve(more)
     }
 
-    /// The file then ends behind these bytes.
+    /// The file then ends after these bytes.
     pub fn write_end(&mut self, alloc: Global, from: usize, bytes: &[u8]) -> Result<(), AllocError>
         requires { from ≤ len_of (content (file_of self.old)) }
         ensures ok { OnOk result

@@ -185,7 +185,7 @@ impl Table {
         self.files[file].synced_bytes()
     }
 
-    /// Writes the bytes at an offset of a file, which then ends behind them.
+    /// Writes the bytes at an offset of a file, which then ends after them.
     pub fn write_end(&mut self, file: usize, from: usize, bytes: &[u8]) -> Result<(), AllocError>
         requires stands { file < length self.old.files.items }
         requires inside { from ≤ length (content ((state_of self.old).files file)) }

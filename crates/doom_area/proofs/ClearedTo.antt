@@ -35,13 +35,13 @@ removes_done (Ok value) n before now next removes is = subst (RemovesDoomed befo
 removes_done (Err Failed) n before now next removes is = subst (RemovesDoomed before) (sym is) (removes_more before now n removes)
 removes_done (Err Memory) n before now next removes is = subst (RemovesDoomed before) (sym is) removes
 
--- those behind the first are other numbers
+-- those after the first are other numbers
 behind_apart : (n : ℕ) (rest : List ℕ) (number : ℕ) → AreRisingNumbers (n ∷ rest) → Contains rest number → number ≢ n
 behind_apart n rest number rising has same =
     let lt : n < get_or rest has.0 number = below_from_sorted (n ∷ rest) 0 (suc has.0) number rising (omega arith) (omega (arith, has.1)) in
     omega (arith, has.2)
 
--- a number that is not the first stands behind it
+-- a number that is not the first stands after it
 only_behind : (n : ℕ) (rest : List ℕ) (number : ℕ) → Contains (n ∷ rest) number → number ≢ n → Contains rest number
 only_behind n rest number (zero, lt, is) apart = absurd (apart (sym is))
 only_behind n rest number (suc k, lt, is) apart = (k, omega arith, is)

@@ -1,6 +1,7 @@
 //! An entry that loses its name, and later its file.
 
 ghost use Rattle.std.specs.Prelude.{◌≡◌, ◌<◌, ℕ, length, IfOk, IsTrue, IsSome};
+ghost use Rattle.cache_base.specs.declared.limits.TheConstants.{SLOTS};
 ghost use Rattle.disk_model.specs.Account.{Accounts, FailsInChange, ending};
 ghost use Rattle.disk_model.specs.State.{standing, renamed, removed};
 ghost use Rattle.disk_model.specs.Calls.{counted_change, if_done};
@@ -13,7 +14,7 @@ use disk_model::{Disk, DiskFault, Place};
 
 /// The least number that is not in use. It takes no memory.
 pub fn least(in_use: &[u32]) -> u32
-    requires { length in_use.now < 64 }
+    requires { length in_use.now < SLOTS }
     ensures { IsLeastFree in_use.now result }
 {
     let mut number: u32 = 0;
@@ -26,7 +27,7 @@ pub fn least(in_use: &[u32]) -> u32
 /// Moves the file of an entry among the doomed, under the least number that is not in use, and gives the number. A
 /// doomed file that stands under this number, which no entry uses any more, loses its name.
 pub fn doom<D: Disk>(disk: &mut D, name: &Name, in_use: &[u32]) -> Result<u32, DiskFault>
-    requires few { length in_use.now < 64 }
+    requires few { length in_use.now < SLOTS }
     requires told { IsTrue D.tells → IsSome (standing (D.state disk.old) (Entry name.now)) }
     ensures number { IfOk result (IsLeastFree in_use.now) }
     ensures state { (number : ℕ) → IsLeastFree in_use.now number →

@@ -17,7 +17,7 @@ use Rattle.jenkins_hash.specs.Hash.{hash16_of}
 same_map : (f g : ℕ → ℕ) (n : ℕ) → ((i : ℕ) → i < n → f i ≡ g i) → map f (range_with_len 0 n) ≡ map g (range_with_len 0 n)
 same_map f g n same = fill_by_all g (map f (range_with_len 0 n)) n 0 (length-map-range_with_len f 0 n) (λ k lt. get_or-map-range_with_len f 0 n k k 0 lt (omega arith) ∙ same k lt)
 
--- a part of the front of a list
+-- a part of a list's prefix
 pub part_in_front : (size from : ℕ) (xs ys : List ℕ) → from + size ≤ length xs → take size (drop from (xs ++ ys)) ≡ take size (drop from xs)
 part_in_front size from xs ys le =
     let long = length-drop from xs in
@@ -112,7 +112,7 @@ module _ (e : Growing) (body : List ℕ) (has : HasBody e body) where
         ap (λ r. take w body ++ (r ++ b)) has.rest ∙ sym (append_assoc (take w body) (drop w body) b) ∙ ap (λ xs. xs ++ b) (take-append-drop w body) in
         ap (λ front. front ++ ((e.rest ++ b) ++ stop_tail)) cut ∙ sym (append_assoc (take w body) (e.rest ++ b) stop_tail) ∙ ap (λ xs. xs ++ stop_tail) whole ∙ sym file_whole
 
--- behind the whole chunks of the entry's file may be written
+-- after the whole chunks of the entry's file may be written
 pub may_write : (e : Growing) (file : Option (List ℕ)) → IsItsFile e file → MayWriteAt file (length e.hashes * chunk_size)
 may_write e file its =
     let body = its.0 in

@@ -44,7 +44,7 @@ pub by_block : (name c : List ℕ) → has_offset c ≡ true → file_fault name
 unfolding file_fault
 by_block name c h = ap (λ b. cond b (named_fault (block_fault (block_in c) (offset_in c)) (bytes_eq (file_name (file_meta c).key) name)) (Some unfit.Short)) h
 
--- a row with another fault in front
+-- a row with another fault before it
 not_first : (b : Bool) (rest : Option MetaFault) (f : MetaFault) → rest ≢ Some faults.Memory → f ≢ faults.Memory → cond b rest (Some f) ≢ Some faults.Memory
 not_first true rest f sure own e = sure e
 not_first false rest f sure own e = own (cc)
@@ -53,7 +53,7 @@ never : (rows : List (Bool × MetaFault)) → AllByRecursion (λ row. row.1 ≢ 
 never [] h e = absurd (cc)
 never (row ∷ rows) h e = not_first row.0 (first_failing rows) row.1 (never rows h.1) h.0 e
 
--- want of memory is no fault of a block
+-- that memory ran out is no fault of a block
 never_memory : (block : List ℕ) (offset : ℕ) → block_fault block offset ≢ Some faults.Memory
 unfolding checks_of
 never_memory block offset = never (checks_of block (meta_in block offset)) (λ e. cc, (λ e. cc, (λ e. cc, (λ e. cc, (λ e. cc, (λ e. cc, (λ e. cc, tt)))))))

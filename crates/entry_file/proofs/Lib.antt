@@ -14,3 +14,4 @@ pub mod NextChunk
 pub mod Midway
 pub mod FinishedBody
 pub mod Damaged
+pub mod LookLaws

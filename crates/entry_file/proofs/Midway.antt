@@ -12,7 +12,7 @@ pub record IsMidway (e : Growing) (left whole : List ℕ) (stood : Type 0) (file
   pub stands : stood → file ≡ Some (unfinished_file now)
 
 module _ (e : Growing) (left whole : List ℕ) (stood : Type 0) (file : Option (List ℕ)) (m : IsMidway e left whole stood file) where
-  -- the front of what is left was taken
+  -- a prefix of what is left was taken
   pub went_on : (new : Growing) (found : Option (List ℕ)) (front back : List ℕ) → front ++ back ≡ left
       → ((body : List ℕ) → HasBody e body → HasBody new (body ++ front))
       → (stood → (body : List ℕ) → HasBody e body → file ≡ Some (unfinished_file body) → found ≡ Some (unfinished_file (body ++ front)))

@@ -10,8 +10,8 @@ use Rattle.entry_metadata.specs.Metadata.{Meta as Said, Spells}
 use Rattle.entry_metadata.proofs.SpelledLaws.{Spells-passes, Spells-says}
 use Rattle.entry_file.specs.declared.entry_read.EntryRead.TheVariants as reads
 use Rattle.entry_file.specs.declared.entry_read.Unfit.TheVariants as unfit
-use Rattle.entry_file.specs.EntryFile.{named_fault}
-use Rattle.entry_file.specs.BlockRead.{BlockReadsAs, block_check}
+use Rattle.entry_file.specs.EntryFile.{block_check, named_fault}
+use Rattle.entry_file.specs.BlockRead.{BlockReadsAs}
 
 -- what is spelled is what the block says
 said : (block : List ℕ) (offset : ℕ) (m : Said) → Spells block offset m → m ≡ meta_in block offset

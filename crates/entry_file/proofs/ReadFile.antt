@@ -56,15 +56,27 @@ module _ (name : List ℕ) (o : Option (List ℕ)) (size : ℕ) (told : Some siz
           let e = offset_at c at in
           has_one c (omega (arith, enough, long)) (λ s. other (e ∙ s)) (omega (arith, within, long, e))
 
+      block_long : (c : List ℕ) → o ≡ Some c → size ≡ length c → length (block_in c) ≡ size - 4 - offset
+      block_long c at long =
+          let e = offset_at c at in
+          let t = length-take (length c - 4 - offset_in c) (drop (offset_in c) c) in
+          let d = length-drop (offset_in c) c in
+          omega (arith, t, d, e, long, within, enough)
+
       pub large : offset < 2 ^ 32 → BLOCK_MAX < size - 4 - offset → ReadsAs name o (reads.Unfit unfit.TooBig)
       large word big = of_content _ (λ c at long.
           let e = offset_at c at in
-          let block_long : length (block_in c) ≡ size - 4 - offset =
-          let t = length-take (length c - 4 - offset_in c) (drop (offset_in c) c) in let d = length-drop (offset_in c) c in
-          omega (arith, t, d, e, long, within, enough) in
+          let long_block = block_long c at long in
           let fault : block_fault (block_in c) (offset_in c) ≡ Some faults.TooBig =
-          first.larger (block_in c) (offset_in c) (chunks (offset_in c)) refl (omega (arith, block_long, big, word, e)) (omega (arith, block_long, big)) in
+          first.larger (block_in c) (offset_in c) (chunks (offset_in c)) refl (omega (arith, long_block, big, word, e)) (omega (arith, long_block, big)) in
           by_block name c (has c at long) ∙ ap (λ (f : Option MetaFault). named_fault f (bytes_eq (file_name (file_meta c).key) name)) fault)
+
+      -- a block that is read is not too large
+      pub not_large : size - 4 - offset ≤ BLOCK_MAX → (c : List ℕ) → o ≡ Some c → BLOCK_MAX < length (block_in c) → ⊥
+      not_large few c at big =
+          let long : size ≡ length c = let sizes : Some size ≡ Some (length c) = told ∙ ap (option_map length) at in cc in
+          let long_block = block_long c at long in
+          omega (arith, few, long_block, big)
 
       -- what the block reads as, the file reads as
       module _ (len : ℕ) (rest : len ≡ size - 4 - offset) (block : List ℕ) (part : IfSome o (λ c. block ≡ slice_range c offset (offset + len))) where

@@ -50,7 +50,7 @@ module _ (m : Meta) (c : List ℕ) (stores : StoresBody (Some c) m) where
   pub is_version : IsMeta m → AreBytes (take m.offset c) → IsVersion (rewritten m c)
   is_version is bytes = record { meta = subst IsMeta (sym same_meta) is; body = bytes }
 
-  -- its body, with the block and the offset behind it, is the file of the version
+  -- its body, with the block and the offset after it, is the file of the version
   pub block_written : written (block_write m) c ≡ file_of (rewritten m c)
   unfolding file_of
   block_written = λ i. take m.offset c ++ (block_bytes (sym same_meta i) ++ be32 (sym ends i))

@@ -24,7 +24,7 @@ not_written place P s file at = record {
   moments = λ left lt. absurd (omega arith);
 }
 
--- what lies behind a front
+-- what comes after a prefix
 drop_behind : {X : Type 0} (front rest : List X) (n : ℕ) → length front ≤ n → drop n (front ++ rest) ≡ drop (n - length front) rest
 drop_behind front rest n le =
     let sum : n ≡ length front + (n - length front) = omega arith in

@@ -29,7 +29,7 @@ body_in c = take (offset_in c) c
 abbrev pub file_meta : List ℕ → Meta
 file_meta c = meta_in (block_in c) (offset_in c)
 
--- the check that a fault of a block names; want of memory names none
+-- the check that a fault of a block names; that memory ran out names none
 abbrev pub unfit_of : MetaFault → Option Unfit
 unfit_of faults.Short = Some unfit.Short
 unfit_of faults.TooBig = Some unfit.TooBig
@@ -49,11 +49,14 @@ abbrev pub named_fault : Option MetaFault → Bool → Option Unfit
 named_fault (Some fault) is_named = unfit_of fault
 named_fault None is_named = if is_named then None else Some unfit.WrongName
 
+-- the first failing check of the block of a body of this length, and of the name
+abbrev pub block_check : List ℕ → List ℕ → ℕ → Option Unfit
+block_check name block offset = named_fault (block_fault block offset) (bytes_eq (file_name (meta_in block offset).key) name)
+
 -- the first failing check of a file of this name
 unfoldable pub file_fault : List ℕ → List ℕ → Option Unfit
 file_fault name c =
-    if has_offset c then named_fault (block_fault (block_in c) (offset_in c)) (bytes_eq (file_name (file_meta c).key) name)
-    else Some unfit.Short
+    if has_offset c then block_check name (block_in c) (offset_in c) else Some unfit.Short
 
 -- the content fits under the name
 abbrev pub fits : List ℕ → List ℕ → Bool

@@ -2,6 +2,10 @@
 use Rattle.std.specs.Prelude.{ℕ, ◌≡◌, ◌≤◌, ◌+◌}
 use Rattle.disk_model.specs.Calls.{Counts}
 
+-- the looks that are enough for the metadata of an entry
+abbrev pub meta_looks : ℕ
+meta_looks = 4
+
 -- at most n calls were made, and no change failed
 pub record LooksAtMost (n : ℕ) (before now : Counts) : Type 0 where
   pub calls : now.calls ≤ before.calls + n

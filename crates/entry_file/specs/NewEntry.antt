@@ -11,7 +11,7 @@ use Rattle.entry_parts.specs.Elements.{Element}
 use Rattle.entry_parts.specs.declared.header.Header.{Header}
 use Rattle.jenkins_hash.specs.Hash.{hash16_of}
 
--- what is held of it: the hashes of the chunks that are on the disk, and the bytes of the body behind these
+-- what is held of it: the hashes of the chunks that are on the disk, and the bytes of the body after these
 pub record Growing : Type 0 where
   pub hashes : List ℕ
   pub rest : List ℕ
@@ -33,6 +33,6 @@ IsItsFile e file = (body : List ℕ) × HasBody e body × (file ≡ Some (unfini
 abbrev pub finished : Header → List ℕ → List Element → List ℕ → Version
 finished header key elements body = record { header = header; key = key; elements = elements; body = body }
 
--- the write that finishes a file: what the file of the version has behind the whole chunks of its body
+-- the write that finishes a file: what the file of the version has after the whole chunks of its body
 abbrev pub last_write : Version → Write
 last_write v = End (whole_len v.body) (drop (whole_len v.body) (file_of v))

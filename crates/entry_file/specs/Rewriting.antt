@@ -1,5 +1,5 @@
--- The metadata of a file, written anew behind the same body.
-use Rattle.std.specs.Prelude.{ℕ, ◌≡◌, ◌≤◌, List, ◌++◌, length, take, Option, None, Some}
+-- The metadata of a file, written anew after the same body.
+use Rattle.std.specs.Prelude.{ℕ, ◌≡◌, List, ◌++◌, take, Option, None, Some}
 use Rattle.cache_base.specs.Bytes.{be32}
 use Rattle.chunk_store.specs.Prefixes.{HasChunks}
 use Rattle.chunk_store.specs.declared.damage.Damage.{Damage}
@@ -15,11 +15,11 @@ use Rattle.entry_file.specs.Version.{IsFileOf, Version, version_meta}
 abbrev pub StoresBody : Option (List ℕ) → Meta → Type 0
 StoresBody file m = HasChunks file m.offset m.hashes
 
--- the version with these metadata, whose body is the front of the content up to their offset
+-- the version with these metadata, whose body is the prefix of the content up to their offset
 abbrev pub rewritten : Meta → List ℕ → Version
 rewritten m c = finished m.header m.key m.elements (take m.offset c)
 
--- the write of the block and its offset behind the body
+-- the write of the block and its offset after the body
 abbrev pub block_write : Meta → Write
 block_write m = End m.offset (block_bytes m ++ be32 m.offset)
 

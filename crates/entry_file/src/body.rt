@@ -1,12 +1,13 @@
 //! The body of an entry's file against its hashes.
 
-ghost use Rattle.std.specs.Prelude.{◌≡◌, ◌<◌, ◌≤◌, ◌+◌, take, IfOk, IfSome, IsTrue, None, OnOk};
+ghost use Rattle.std.specs.Prelude.{◌≡◌, ◌<◌, ◌+◌, take, IfOk, IfSome, IsTrue, None, OnOk};
 ghost use Rattle.cache_base.specs.Limits.{chunks as chunks_of};
 ghost use Rattle.chunk_store.specs.Chunks.{damage_at};
 ghost use Rattle.disk_model.specs.Account.{Looks, ending};
 ghost use Rattle.disk_model.specs.State.{standing};
-ghost use Rattle.entry_file.specs.Damages.{first_damage, HasMeta};
+ghost use Rattle.entry_file.specs.Damages.{HasMeta, chunks_read, first_damage};
 ghost use Rattle.entry_file.specs.Held.{IsLastOf};
+ghost use Rattle.entry_file.specs.Looks.{LooksAtMost};
 ghost use Rattle.entry_file.specs.Rewriting.{StoresBody};
 ghost use Rattle.entry_metadata.specs.Meta.{meta_of};
 
@@ -15,8 +16,9 @@ use chunk_store::{ChunkAnswer, Damage, check_chunk, read_chunk};
 use disk_model::{Disk, DiskFault, Place};
 use entry_metadata::Meta;
 
-// Reads a chunk of the body that stands at the place with these metadata, and holds it against its hash.
-fn check_one<D: Disk>(
+/// The damage of one chunk of the body that stands at the place with these metadata, or none. The chunk is read into
+/// the buffer, by one call of the disk, and held against its hash.
+pub fn check_chunk_at<D: Disk>(
     disk: &mut D,
     place: &Place,
     meta: &Meta,
@@ -31,7 +33,7 @@ fn check_one<D: Disk>(
         damage ≡ damage_at meta.now.hashes (take meta.now.offset content) index)) }
     ensures held { OnOk result (IsTrue D.tells →
         IsLastOf (index + 1) (standing (D.state disk.old) place.now) meta.now.offset buf.new) }
-    ensures calls { IsTrue D.tells → (D.counts disk.new).calls ≤ (D.counts disk.old).calls + 1 }
+    ensures calls { IsTrue D.tells → LooksAtMost 1 (D.counts disk.old) (D.counts disk.new) }
     ensures looks { Looks D.Disk (ending result) disk.old disk.new }
 {
     read_chunk(disk, place, meta.offset, index, buf)?;
@@ -46,8 +48,8 @@ fn check_one<D: Disk>(
 }
 
 /// The first chunk that differs of the body that stands at the place with these metadata, or none. Each chunk up to
-/// that one is read into the buffer, by one call of the disk. Where none differs the file stores the body, and the
-/// buffer holds its last chunk.
+/// that one is read into the buffer, by one call of the disk, and none after it. Where none differs the file stores the
+/// body, and the buffer holds its last chunk.
 pub fn check_body<D: Disk>(
     disk: &mut D,
     place: &Place,
@@ -63,12 +65,12 @@ pub fn check_body<D: Disk>(
     ensures held { IfOk result (λ damage. IsTrue D.tells → damage ≡ None →
         IsLastOf (chunks_of meta.now.offset)
         (standing (D.state disk.old) place.now) meta.now.offset buf.new) }
-    ensures calls { IsTrue D.tells →
-        (D.counts disk.new).calls ≤ (D.counts disk.old).calls + chunks_of meta.now.offset }
+    ensures calls { IsTrue D.tells → LooksAtMost (chunks_read (meta_of meta.now) result)
+        (D.counts disk.old) (D.counts disk.new) }
     ensures looks { Looks D.Disk (ending result) disk.old disk.new }
 {
     for index in 0..chunks(u64::from(meta.offset)) as u32 {
-        match check_one(disk, place, meta, index, buf)? {
+        match check_chunk_at(disk, place, meta, index, buf)? {
             None => {}
             Some(damage) => return Ok(Some(damage)),
         }

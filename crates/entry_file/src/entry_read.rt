@@ -12,7 +12,7 @@ pub enum Unfit {
     TooBig,
     /// The header's version is not 1, 2 or 3.
     Version,
-    /// No zero byte stands behind the key.
+    /// No zero byte stands after the key.
     KeyEnd,
     /// The metadata hash is not that of what follows it.
     Hash,

@@ -39,7 +39,7 @@ fn parts_fit(header: Header, key: &[u8], elements: &Elements)
     bytes_fit(elements.print());
 }
 
-// The hashes of the whole chunks, and behind them that of the rest, where there is one.
+// The hashes of the whole chunks, and after them that of the rest, where there is one.
 fn all_hashes(hashes: ChunkHashes, rest: &[u8]) -> Hashes
     requires { length hashes * CHUNK + length rest.now ≤ BODY_MAX }
     ensures { result

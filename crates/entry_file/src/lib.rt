@@ -1,8 +1,8 @@
 //! Entry files: a body, its metadata block and the block's offset. The laws say what a file reads as; `read_meta`
-//! reads all but the body, and `check_body` holds the body against its hashes. `begin` and `NewEntry` write a file
-//! whose body comes in pieces: until it is finished it is no entry, and by one write it becomes one. `rewrite_meta`
-//! writes the block of a file anew, and `grow_body` makes the body of a finished file longer. A block that is read
-//! has version 1, 2 or 3 of the format, and one that is written version 3.
+//! reads all but the body, and `check_body` holds the body against its hashes, or `check_chunk_at` one chunk of it.
+//! `begin` and `NewEntry` write a file whose body comes in pieces: until it is finished it is no entry, and by one
+//! write it becomes one. `rewrite_meta` writes the block of a file anew, and `grow_body` makes the body of a finished
+//! file longer. A block that is read has version 1, 2 or 3 of the format, and one that is written version 3.
 #![tactic(auto)]
 
 mod beginning;
@@ -18,7 +18,7 @@ mod reading;
 mod rewriting;
 
 pub use beginning::begin;
-pub use body::check_body;
+pub use body::{check_body, check_chunk_at};
 pub use chunk_store::Damage;
 pub use entry_read::{EntryRead, Unfit};
 pub use laws::{

@@ -7,11 +7,11 @@ use crate::chunk_hashes::ChunkHashes;
 use cache_base::{Buffer, CHUNK};
 
 /// An entry whose body comes in pieces. Its whole chunks are on the disk, each written as soon as it was full, with the
-/// stop tail behind the last; the bytes after them are held here. It may be dropped at any time, and is to be dropped
+/// stop tail after the last; the bytes after them are held here. It may be dropped at any time, and is to be dropped
 /// after a call that failed: the file at its place is then no entry.
 #[derive(Drop)]
 pub struct NewEntry {
-    // The bytes behind the last whole chunk.
+    // The bytes after the last whole chunk.
     pub(crate) rest: Buffer,
     // The hash of each whole chunk, with room for those to come.
     pub(crate) hashes: ChunkHashes,

@@ -1,17 +1,17 @@
 //! Reading an entry's file without its body.
 
-ghost use Rattle.std.specs.Prelude.{◌≡◌, ◌≤◌, ◌<◌, ◌+◌, ◌-◌, ◌^◌, IfOk, IfErr, OnOk, IfSome, IsTrue, IsErrOf, Some, drop, length, slice_range};
+ghost use Rattle.std.specs.Prelude.{◌≡◌, ◌≤◌, ◌<◌, ◌+◌, ◌-◌, ◌^◌, ℕ, List, IfOk, IfErr, OnOk, IfSome, IsTrue, Some, drop, length, slice_range};
 ghost use Rattle.std.specs.Option.{option_map};
 ghost use Rattle.cache_base.specs.Bytes.{AreBytes};
-ghost use Rattle.cache_base.specs.Causes.{HasCause};
+ghost use Rattle.cache_base.specs.declared.limits.TheConstants.{BLOCK_MAX};
 ghost use Rattle.disk_model.specs.Account.{Looks, ending};
 ghost use Rattle.disk_model.specs.State.{standing};
-ghost use Rattle.entry_file.specs.EntryFile.{offset_in, unfit_of};
+ghost use Rattle.entry_file.specs.EntryFile.{block_in, offset_in, unfit_of};
 ghost use Rattle.entry_file.specs.Damages.{HasMeta};
 ghost use Rattle.entry_file.specs.EntryRead.{IfFits, Joins, ReadsAs};
 ghost use Rattle.entry_file.specs.BlockRead.{BlockReadsAs};
 ghost use Rattle.disk_model.specs.Calls.{HoldsPart};
-ghost use Rattle.entry_file.specs.Looks.{LooksAtMost};
+ghost use Rattle.entry_file.specs.Looks.{LooksAtMost, meta_looks};
 ghost use Rattle.entry_metadata.specs.Metadata.{Spells};
 
 use crate::{EntryRead, Unfit};
@@ -21,7 +21,7 @@ use entry_metadata::MetaFault;
 use entry_name::name_of;
 use std::alloc::Global;
 
-// The failing check that a fault of a block names; want of memory names none.
+// The failing check that a fault of a block names; that memory ran out names none.
 fn unfit(fault: MetaFault) -> Option<Unfit>
     ensures { result ≡ unfit_of fault }
 {
@@ -73,10 +73,8 @@ fn last_offset<D: Disk>(disk: &mut D, place: &Place, end: u64) -> Result<u32, Di
         IfSome (standing (D.state disk.old) place.now) (λ content. offset ≡ offset_in content)) }
     ensures bytes { OnOk result (IsTrue D.tells → IfSome (standing (D.state disk.old) place.now)
         (λ content. AreBytes (drop (length content - 4) content))) }
-    ensures state { IsTrue D.tells → D.state disk.new ≡ D.state disk.old }
-    ensures looks { IsTrue D.tells → LooksAtMost 1 (D.counts disk.old) (D.counts disk.new) }
-    ensures cause { HasCause (IsErrOf result DiskFault.Failed)
-        (D.faults disk.old) (D.faults disk.new) }
+    ensures calls { IsTrue D.tells → LooksAtMost 1 (D.counts disk.old) (D.counts disk.new) }
+    ensures looks { Looks D.Disk (ending result) disk.old disk.new }
 {
     let mut bytes = [0; 4];
     disk.read(place, end, &mut bytes)?;
@@ -96,10 +94,8 @@ fn part_at<D: Disk>(
     ensures bytes { IfOk result (λ part. IsTrue D.tells →
         IfSome (standing (D.state disk.old) place.now) (λ content.
         part.items ≡ slice_range content from (from + len))) }
-    ensures state { IsTrue D.tells → D.state disk.new ≡ D.state disk.old }
-    ensures looks { IsTrue D.tells → LooksAtMost 1 (D.counts disk.old) (D.counts disk.new) }
-    ensures cause { HasCause (IsErrOf result DiskFault.Failed)
-        (D.faults disk.old) (D.faults disk.new) }
+    ensures calls { IsTrue D.tells → LooksAtMost 1 (D.counts disk.old) (D.counts disk.new) }
+    ensures looks { Looks D.Disk (ending result) disk.old disk.new }
 {
     let mut part = vec![in alloc; 0u8; len]?;
     disk.read(place, from, &mut part)?;
@@ -122,10 +118,12 @@ fn read_sized<D: Disk>(
         IfFits read (HasMeta (standing (D.state disk.old) place.now))) }
     ensures join { IfOk result (λ read. IsTrue D.tells →
         IfFits read (Joins name.now.0 (standing (D.state disk.old) place.now))) }
-    ensures state { IsTrue D.tells → D.state disk.new ≡ D.state disk.old }
-    ensures looks { IsTrue D.tells → LooksAtMost 2 (D.counts disk.old) (D.counts disk.new) }
-    ensures cause { HasCause (IsErrOf result DiskFault.Failed)
-        (D.faults disk.old) (D.faults disk.new) }
+    ensures large { IsTrue D.tells → (content : List ℕ)
+        → standing (D.state disk.old) place.now ≡ Some content
+        → BLOCK_MAX < length (block_in content)
+        → LooksAtMost 1 (D.counts disk.old) (D.counts disk.new) }
+    ensures calls { IsTrue D.tells → LooksAtMost 2 (D.counts disk.old) (D.counts disk.new) }
+    ensures looks { Looks D.Disk (ending result) disk.old disk.new }
 {
     if size < 4 {
         return Ok(EntryRead::Unfit(Unfit::Short));
@@ -159,9 +157,16 @@ pub fn read_meta<D: Disk>(
         IfFits read (HasMeta (standing (D.state disk.old) place.now))) }
     ensures join { IfOk result (λ read. IsTrue D.tells →
         IfFits read (Joins name.now.0 (standing (D.state disk.old) place.now))) }
-    ensures calls { IsTrue D.tells → (D.counts disk.new).calls ≤ (D.counts disk.old).calls + 4 }
+
+    // Of a block that is too large nothing is read: two looks are enough, at the file's size and at its last bytes.
+    ensures large { IsTrue D.tells → (content : List ℕ)
+        → standing (D.state disk.old) place.now ≡ Some content
+        → BLOCK_MAX < length (block_in content)
+        → LooksAtMost 2 (D.counts disk.old) (D.counts disk.new) }
+    ensures calls { IsTrue D.tells →
+        (D.counts disk.new).calls ≤ (D.counts disk.old).calls + meta_looks }
     ensures entry_reads { IsTrue D.tells →
-        (D.counts disk.new).entry_reads ≤ (D.counts disk.old).entry_reads + 4 }
+        (D.counts disk.new).entry_reads ≤ (D.counts disk.old).entry_reads + meta_looks }
     ensures looks { Looks D.Disk (ending result) disk.old disk.new }
 {
     match disk.size(place)? {

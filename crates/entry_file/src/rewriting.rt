@@ -15,7 +15,7 @@ use entry_metadata::Meta;
 use std::alloc::Global;
 
 /// Makes the file that of a version with these metadata and the body that it has: the block and its offset are written
-/// behind the body, by one call of the disk. What stood behind the body before is gone.
+/// after the body, by one call of the disk. What stood after the body before is gone.
 pub fn rewrite_meta<D: Disk>(
     alloc: Global,
     disk: &mut D,

@@ -8,7 +8,7 @@ use Rattle.entry_key.specs.Key.{Tag, doubled, tag_bytes, is_bare, MayFollow, Key
 use Rattle.entry_key.specs.Faults.{LacksComma, EndsTag, FaultAbove}
 use Rattle.entry_key.proofs.Walking.{spelled}
 
--- bytes behind a letter: a value that runs to their end, or one with its comma
+-- bytes after a letter: a value that runs to their end, or one with its comma
 abbrev Split : List ℕ → Type 0
 Split xs =
     ((value : List ℕ) × (xs ≡ doubled value))
@@ -42,13 +42,13 @@ Decided last at bytes =
     ((tags : List Tag) × (address : List ℕ) × KeyReadsAbove last bytes tags address)
     ⊎ ((tags : List Tag) × (f : KeyFault) × FaultAbove last at bytes tags f)
 
--- a tag in front
+-- a tag before the others
 decided_more : (last at : ℕ) (t : Tag) (bytes rest : List ℕ) → bytes ≡ tag_bytes t ++ rest → MayFollow last t → EndsTag t rest
     → Decided t.letter (at + length (tag_bytes t)) rest → Decided last at bytes
 decided_more last at t bytes rest e may ends (inl d) = inl (t ∷ d.0, d.1, (may, (rest, e, d.2)))
 decided_more last at t bytes rest e may ends (inr d) = inr (t ∷ d.0, d.1, (may, (rest, e, ends, d.2)))
 
--- what stands behind a letter without a value
+-- what stands after a letter without a value
 bare_decided : (n last at x : ℕ) (xs : List ℕ) → ((last at : ℕ) (bytes : List ℕ) → length bytes ≤ n → Decided last at bytes)
     → length xs ≤ n → x ≢ 58 → last < x → is_bare x ≡ true → Decided last at (x ∷ xs)
 bare_decided n last at x [] r short colon above bare =
@@ -64,7 +64,7 @@ bare_decided n last at x (y ∷ ys) r short colon above bare = go (y == 44) refl
         let lacks : LacksComma x (at + 1) (y ∷ ys) (at + 1) = record { bare = λ _. (eqb-false y 44 e, refl); other = λ o. absurd (cc (o, bare)) } in
         inr ([], NoComma (at + 1), (x, y ∷ ys, refl, colon, above, lacks))
 
--- what stands behind a letter with a value
+-- what stands after a letter with a value
 valued_decided : (n last at x : ℕ) (xs : List ℕ) → ((last at : ℕ) (bytes : List ℕ) → length bytes ≤ n → Decided last at bytes)
     → length xs ≤ n → x ≢ 58 → last < x → is_bare x ≡ false → Split xs → Decided last at (x ∷ xs)
 valued_decided n last at x xs r short colon above valued (inl s) =

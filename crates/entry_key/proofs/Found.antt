@@ -10,7 +10,7 @@ use Rattle.entry_key.specs.Walk.{Letter, Comma, Value, read_from, read_key, with
 use Rattle.entry_key.specs.ValueEnds.{put_value}
 use Rattle.entry_key.proofs.Walking.{put_nothing, value_reads, value_runs_on, comma_lacks, letter_reads, order_reads}
 
--- behind a letter its value is read, and then a letter is due
+-- after a letter its value is read, and then a letter is due
 behind_reads : (x at next : ℕ) (value rest : List ℕ) (b : Bool) → is_bare x ≡ b → (b ≡ true → value ≡ []) → (b ≡ false → slice_index rest 0 ≢ 44)
     → next ≡ at + length (doubled value) + 1
     → read_from (cond b (Comma x) (Value x)) at (doubled value ++ 44 ∷ rest) ≡ put_value value (read_from (Letter x) next rest)

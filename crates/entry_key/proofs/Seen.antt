@@ -15,7 +15,7 @@ use Rattle.entry_key.proofs.KeyLaws.{KeyReads-read_key}
 use Rattle.entry_key.proofs.Said.{Low, low_more, Tells}
 use Rattle.entry_key.proofs.Walking.{letter_reads, order_reads}
 
--- what was read behind these tags, with them in front
+-- what was read after these tags, with them before it
 abbrev pub behind : List Tag → Result Parts KeyFault → Result Parts KeyFault
 behind tags (Ok p) = Ok (record p { tags = tags ++ p.tags })
 behind tags (Err f) = Err f
@@ -43,7 +43,7 @@ letter_no_value l at (x ∷ xs) = go (x == 58) (nat_lt l x) (read_from (behind_l
     go false true r = tag r
     go false false r = tt
 
--- a tag that was read is one more of those in front
+-- a tag that was read is one more of those before it
 joined : (tags : List Tag) (x : ℕ) (v : List ℕ) (r : Result Parts KeyFault) → NoValue r
     → behind tags (with_tag x (put_value v r)) ≡ behind (tags ++ record { letter = x; value = v } ∷ []) r
 unfolding NoValue
@@ -63,7 +63,7 @@ pub record Seen (key : List ℕ) (last at : ℕ) (tags : List Tag) : Type 0 wher
 pub none_seen : (key : List ℕ) → Seen key 44 0 []
 none_seen key = record { low = tt; within = omega arith; reads = behind_none _ }
 
--- behind a letter that may stand there, what follows decides
+-- after a letter that may stand there, what follows decides
 letter_seen : (key : List ℕ) (last at : ℕ) (tags : List Tag) → Seen key last at tags → at < length key → slice_index key at ≢ 58 → last < slice_index key at
     → read_key key ≡ behind tags (with_tag (slice_index key at) (read_from (behind_letter (slice_index key at)) (at + 1) (drop (at + 1) key)))
 letter_seen key last at tags s lt colon above =

@@ -16,13 +16,13 @@ put_one : (x : ℕ) (value : List ℕ) (r : Result Parts KeyFault) → with_valu
 put_one x value (Ok p) = refl
 put_one x value (Err f) = refl
 
--- behind a comma that has no second one, a letter is due
+-- after a comma that has no second one, a letter is due
 second_is_letter : (l at : ℕ) (rest : List ℕ) → slice_index rest 0 ≢ 44 → read_from (Second l) at rest ≡ read_from (Letter l) at rest
 unfolding read_from
 second_is_letter l at [] n = refl
 second_is_letter l at (x ∷ xs) n = rw (ne_eqb x 44 n) refl
 
--- one byte of a value, spelled, and the more that is read behind it
+-- one byte of a value, spelled, and the more that is read after it
 value_byte : (l at x : ℕ) (value more : List ℕ) (r : Result Parts KeyFault) (t : Bool) → (x == 44) ≡ t
     → read_from (Value l) (at + length (cond t (44 ∷ 44 ∷ []) (x ∷ []))) more ≡ put_value value r
     → read_from (Value l) at (cond t (44 ∷ 44 ∷ []) (x ∷ []) ++ more) ≡ put_value (x ∷ value) r

@@ -12,21 +12,21 @@ pub data Due : Type 0 where
   Comma : ℕ → Due
   -- more of the value, or its comma
   Value : ℕ → Due
-  -- behind a comma: its second one, or else what follows the tag
+  -- after a comma: its second one, or else what follows the tag
   Second : ℕ → Due
 
--- what is due behind a letter
+-- what is due after a letter
 abbrev pub behind_letter : ℕ → Due
 behind_letter x = if is_bare x then Comma x else Value x
 
--- what is due behind the byte x
+-- what is due after the byte x
 abbrev pub next_due : Due → ℕ → Due
 next_due (Letter last) x = behind_letter x
 next_due (Comma last) x = Letter last
 next_due (Value last) x = if x == 44 then Second last else Value last
 next_due (Second last) x = if x == 44 then Value last else behind_letter x
 
--- what was read from some place on: the rest of a value, the tags behind it, and the address
+-- what was read from some place on: the rest of a value, the tags after it, and the address
 pub record Parts : Type 0 where
   pub value : List ℕ
   pub tags : List Tag
@@ -39,17 +39,17 @@ end_fault (Comma last) at = NoComma at
 end_fault (Value last) at = NoComma at
 end_fault (Second last) at = NoAddress
 
--- what was read behind a byte, with that byte in front of the value
+-- what was read after a byte, with that byte before the value
 abbrev pub with_value : ℕ → Result Parts KeyFault → Result Parts KeyFault
 with_value x (Ok p) = Ok (record p { value = x ∷ p.value })
 with_value x (Err f) = Err f
 
--- what was read behind a letter, as its tag
+-- what was read after a letter, as its tag
 abbrev pub with_tag : ℕ → Result Parts KeyFault → Result Parts KeyFault
 with_tag x (Ok p) = Ok (record { value = []; tags = record { letter = x; value = p.value } ∷ p.tags; address = p.address })
 with_tag x (Err f) = Err f
 
--- x where a letter or the colon is due: `behind` is what was read behind it, `rest` the bytes there
+-- x where a letter or the colon is due: `behind` is what was read after it, `rest` the bytes there
 abbrev pub at_letter : ℕ → ℕ → ℕ → List ℕ → Result Parts KeyFault → Result Parts KeyFault
 at_letter last at x rest behind =
     if x == 58 then Ok (record { value = []; tags = []; address = rest })

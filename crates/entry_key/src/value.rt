@@ -14,7 +14,7 @@ fn is_bare(letter: u8) -> bool
     letter == b'a' || letter == b'b' || letter == b'p'
 }
 
-/// The place of the comma that ends the value behind this letter, which begins at `from`.
+/// The place of the comma that ends the value after this letter, which begins at `from`.
 pub(crate) fn value_end(key: &[u8], from: usize, letter: u8) -> Result<usize, KeyFault>
     requires { from ≤ length key.now }
     ensures end { IfOk result (ValueEnds key.now letter from) }

@@ -14,9 +14,13 @@ use Rattle.entry_metadata.specs.Metadata.{Meta}
 use Rattle.entry_metadata.specs.declared.fault.MetaFault.{MetaFault}
 use Rattle.entry_metadata.specs.declared.fault.MetaFault.TheVariants as faults
 
--- where the header begins in a block with h hashes of chunks
+-- where the hash of chunk i stands in a block
+abbrev pub hash_place : ℕ → ℕ
+hash_place i = 4 + 2 * i
+
+-- where the header begins in a block with h hashes of chunks: after the last of them
 abbrev pub header_place : ℕ → ℕ
-header_place h = 4 + 2 * h
+header_place h = hash_place h
 
 -- how many bytes a header of this version has
 unfoldable pub header_len : ℕ → ℕ
@@ -24,7 +28,7 @@ header_len version = if version == 1 then 28 else 32
 
 -- where the key begins in such a block of this version
 abbrev pub key_place : ℕ → ℕ → ℕ
-key_place h version = 4 + 2 * h + header_len version
+key_place h version = header_place h + header_len version
 
 -- how many bytes a block of this version has at most, so that it is not too big as version 3 either
 unfoldable pub block_max : ℕ → ℕ
@@ -48,7 +52,7 @@ meta_in block offset =
       header = record header { version = 3 };
       key = slice_range block key (key + header.key_size);
       elements = elements_of (drop (key + header.key_size + 1) block);
-      hashes = map (λ i. be16_at block (4 + 2 * i)) (range_with_len 0 h);
+      hashes = map (λ i. be16_at block (hash_place i)) (range_with_len 0 h);
       offset = offset;
     }
 
@@ -71,7 +75,7 @@ checks_of block m =
 abbrev pub block_fault : List ℕ → ℕ → Option MetaFault
 block_fault block offset = first_failing (checks_of block (meta_in block offset))
 
--- the fault is that of the first failing check, or want of memory
+-- the fault is that of the first failing check, or says that memory ran out
 abbrev pub IsFirstFault : List ℕ → ℕ → MetaFault → Type 0
 IsFirstFault block offset faults.Memory = Unit {0}
 IsFirstFault block offset f = block_fault block offset ≡ Some f

@@ -8,8 +8,7 @@ ghost use Rattle.entry_metadata.specs.Passed.{Passed};
 ghost use Rattle.entry_parts.specs.Header.{header_in, short_header_in};
 
 use crate::MetaFault;
-use byteorder::{BigEndian, ByteOrder};
-use cache_base::{BLOCK_MAX, chunks};
+use cache_base::{BLOCK_MAX, chunks, u32_at};
 use entry_parts::Header;
 
 /// The number of hashes in the block of a body of `offset` bytes.
@@ -17,13 +16,6 @@ pub(crate) fn hash_count(offset: u32) -> usize
     ensures { result ≡ chunks_of offset }
 {
     chunks(u64::from(offset)) as usize
-}
-
-fn number_at(b: &[u8], at: usize) -> u32
-    requires { at + 4 ≤ length b.now }
-    ensures { result ≡ be32_at b.now at }
-{
-    BigEndian::read_u32(&b[at..])
 }
 
 /// The number of bytes of a header of this version.
@@ -96,7 +88,7 @@ pub(crate) fn check(block: &[u8], offset: u32) -> Result<Header, MetaFault>
     if block.len() < header_place + 29 {
         return Err(MetaFault::Short);
     }
-    let version = number_at(block, header_place);
+    let version = u32_at(block, header_place);
     if block.len() > block_max(version) {
         return Err(MetaFault::TooBig);
     }
@@ -115,7 +107,7 @@ pub(crate) fn check(block: &[u8], offset: u32) -> Result<Header, MetaFault>
     if block[key_end] != 0 {
         return Err(MetaFault::KeyEnd);
     }
-    if number_at(block, 0) != jenkins_hash::hash(&block[4..]) {
+    if u32_at(block, 0) != jenkins_hash::hash(&block[4..]) {
         return Err(MetaFault::Hash);
     }
     if entry_key::parse(&block[key_place..key_end]).is_err() {

@@ -7,7 +7,7 @@ ghost use Rattle.entry_metadata.specs.declared.fault.MetaFault.TheVariants.{Memo
 use cache_base::NoMemory;
 use entry_parts::PartsFault;
 
-/// The first failing check of a block, in this order, or want of memory.
+/// The first failing check of a block, in this order, or that memory ran out.
 #[derive(Clone, Copy, Debug, PartialEq, Eq)]
 pub enum MetaFault {
     /// The block ends before its key can, whichever version it has.
@@ -16,7 +16,7 @@ pub enum MetaFault {
     TooBig,
     /// The header's version is not 1, 2 or 3.
     Version,
-    /// No zero byte stands behind the key.
+    /// No zero byte stands after the key.
     KeyEnd,
     /// The hash is not that of what follows it.
     Hash,

@@ -14,5 +14,5 @@ mod reading;
 pub use fault::MetaFault;
 pub use laws::{block_fits_exactly, block_reads_back};
 pub use meta::Meta;
-pub use printing::{block_len, print};
+pub use printing::{block_len, block_len_of, print};
 pub use reading::parse;

@@ -1,13 +1,15 @@
 //! Printing a metadata block.
 
-ghost use Rattle.std.specs.Prelude.{◌≡◌, ◌++◌, ◌∷◌, IfOk, OnOk, flat_map, length};
+ghost use Rattle.std.specs.Prelude.{◌≡◌, ◌<◌, ◌^◌, ◌++◌, ◌∷◌, IfOk, OnOk, flat_map, length};
 ghost use Rattle.cache_base.specs.Bytes.{be16, be32};
+ghost use Rattle.cache_base.specs.Limits.{chunks as chunks_of};
 ghost use Rattle.entry_metadata.specs.Fields.{FieldsFit};
 ghost use Rattle.entry_metadata.specs.Meta.{meta_of};
-ghost use Rattle.entry_metadata.specs.Metadata.{IsMeta, block_bytes, block_rest};
+ghost use Rattle.entry_metadata.specs.Metadata.{IsMeta, block_bytes, block_length, block_rest};
 ghost use Rattle.jenkins_hash.specs.Hash.{hash_of};
 
 use crate::Meta;
+use crate::checks::hash_count;
 use cache_base::{Bytes, NoMemory};
 use std::alloc::Global;
 
@@ -67,7 +69,7 @@ fn with_ends(alloc: Global, rest: &[u8], offset: u32) -> Result<Bytes, NoMemory>
     Ok(out)
 }
 
-/// The block of version 3, and behind it the final offset in four bytes. Fails only for want of memory.
+/// The block of version 3, and after it the final offset in four bytes. Fails only where memory ran out.
 pub fn print(alloc: Global, meta: &Meta) -> Result<Bytes, NoMemory>
     ensures meta { IsMeta (meta_of meta.now) }
     ensures bytes { IfOk result (λ out.
@@ -77,11 +79,19 @@ pub fn print(alloc: Global, meta: &Meta) -> Result<Bytes, NoMemory>
     with_ends(alloc, rest.as_slice(), meta.offset)
 }
 
+/// The number of bytes of a block as it is printed, without the final offset: that of a body of so many bytes, with so
+/// many bytes of a key and of elements.
+pub fn block_len_of(body: u32, key: usize, elements: usize) -> usize
+    requires { block_length (chunks_of body) key elements < 2 ^ 64 }
+    ensures { result ≡ block_length (chunks_of body) key elements }
+{
+    4 + 2 * hash_count(body) + 32 + key + 1 + elements
+}
+
 /// The number of bytes of the block as it is printed, without the final offset.
 pub fn block_len(meta: &Meta) -> usize
     ensures { result ≡ length (block_bytes (meta_of meta.now)) }
 {
-    let hashes = meta.hashes.as_slice().len();
     let key = meta.key.as_slice().len();
-    4 + 2 * hashes + 32 + key + 1 + meta.elements.len()
+    block_len_of(meta.offset, key, meta.elements.len())
 }

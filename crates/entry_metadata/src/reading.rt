@@ -1,45 +1,29 @@
 //! Reading a metadata block.
 
-ghost use Rattle.std.specs.Prelude.{◌≡◌, ◌≤◌, ◌<◌, ◌+◌, ◌-◌, ◌*◌, ◌^◌, IfOk, IfErr, OnOk, None, length, map};
+ghost use Rattle.std.specs.Prelude.{◌≡◌, ◌≤◌, ◌<◌, ◌-◌, ◌^◌, IfOk, IfErr, OnOk, None, length, map};
 ghost use Rattle.std.specs.List.{range_with_len};
 ghost use Rattle.cache_base.specs.Bytes.{be16_at};
-ghost use Rattle.entry_metadata.specs.Checks.{IsFirstFault, block_fault, meta_in};
+ghost use Rattle.entry_metadata.specs.Checks.{IsFirstFault, block_fault, hash_place, header_place, meta_in};
 ghost use Rattle.entry_metadata.specs.Meta.{meta_of};
 ghost use Rattle.entry_metadata.specs.Metadata.{Meta as Said, Spells};
 ghost use Rattle.entry_metadata.specs.declared.fault.MetaFault.TheVariants.{Memory};
 
 use crate::checks::{check, hash_count, header_len};
 use crate::{Meta, MetaFault};
-use byteorder::{BigEndian, ByteOrder};
-use cache_base::{Bytes, Hashes, NoMemory};
+use cache_base::{Bytes, Hashes, NoMemory, u16_at};
 use entry_parts::{Elements, Header};
 use std::alloc::Global;
 
-fn hash_at(block: &[u8], at: usize) -> u16
-    requires { at + 2 ≤ length block.now }
-    ensures { result ≡ be16_at block.now at }
-{
-    BigEndian::read_u16(&block[at..])
-}
-
 fn hashes_in(alloc: Global, block: &[u8], count: usize) -> Result<Hashes, NoMemory>
-    requires { 4 + 2 * count ≤ length block.now }
+    requires { header_place count ≤ length block.now }
     ensures { IfOk result (λ hashes.
-        hashes ≡ map (λ i. be16_at block.now (4 + 2 * i)) (range_with_len 0 count)) }
+        hashes ≡ map (λ i. be16_at block.now (hash_place i)) (range_with_len 0 count)) }
 {
     let mut hashes = Hashes::new(alloc);
     for i in 0..count {
-        hashes.push(hash_at(block, 4 + 2 * i))?;
+        hashes.push(u16_at(block, 4 + 2 * i))?;
     }
     Ok(hashes)
-}
-
-fn bytes_from(alloc: Global, b: &[u8]) -> Result<Bytes, NoMemory>
-    ensures { IfOk result (λ bytes. bytes ≡ b.now) }
-{
-    let mut bytes = Bytes::new(alloc);
-    bytes.extend(b)?;
-    Ok(bytes)
 }
 
 fn read_all(alloc: Global, block: &[u8], offset: u32) -> Result<Meta, MetaFault>
@@ -54,7 +38,7 @@ fn read_all(alloc: Global, block: &[u8], offset: u32) -> Result<Meta, MetaFault>
     let key_end = key_place + header.key_size as usize;
     let elements = Elements::parse(alloc, &block[key_end + 1..])?;
     let hashes = hashes_in(alloc, block, count)?;
-    let key = bytes_from(alloc, &block[key_place..key_end])?;
+    let key = Bytes::from_slice(alloc, &block[key_place..key_end])?;
     Ok(Meta {
         header: Header {
             version: 3,
@@ -74,7 +58,7 @@ pub fn parse(alloc: Global, block: &[u8], offset: u32) -> Result<Meta, MetaFault
     requires { offset < 2 ^ 32 - 1 }
     // What is read is what the block spells.
     ensures spelled { IfOk result (λ meta. Spells block.now offset (meta_of meta)) }
-    // A block that spells anything is refused only for want of memory.
+    // A block that spells anything is refused only where memory ran out.
     ensures refused { (said : Said) → Spells block.now offset said →
         IfErr result (λ f. f ≡ Memory) }
     ensures fault { IfErr result (IsFirstFault block.now offset) }

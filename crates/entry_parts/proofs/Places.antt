@@ -51,7 +51,7 @@ this_set name value es others f e h = ap (with_element name value) e ∙ ap (λ 
 this_removed : (name : List ℕ) (es others : List Element) (f : Element) → es ≡ f ∷ others → bytes_eq f.name name ≡ true → without_element name es ≡ others
 this_removed name es others f e h = ap (without_element name) e ∙ ap (λ (b : Bool). cond b others (f ∷ without_element name others)) h
 
--- the first of the elements left, and those behind it
+-- the first of the elements left, and those after it
 first_joined : (es : List Element) (rest : List ℕ) (f : First es rest) → rest ≡ element_bytes f.first ++ elements_bytes f.others
 first_joined es rest f = f.spelled ∙ sym (element_front f.first (elements_bytes f.others))
 

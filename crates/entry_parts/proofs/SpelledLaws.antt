@@ -24,7 +24,7 @@ ends_in_zero (x ∷ y ∷ ys) l h =
     let n : length (x ∷ y ∷ ys) - 1 ≡ suc (length (y ∷ ys) - 1) = omega arith in
     ends_in_zero (y ∷ ys) (omega arith) (sym (ap (slice_index (x ∷ y ∷ ys)) n) ∙ h)
 
--- a byte in front of the first field
+-- a byte before the first field
 onto_spelled : (x : ℕ) (fields : List (List ℕ)) (y : ℕ) (ys : List ℕ) → with_zeros fields ≡ y ∷ ys → with_zeros (onto_first x fields) ≡ x ∷ y ∷ ys
 unfolding with_zeros
 onto_spelled x [] y ys e = absurd (cc)

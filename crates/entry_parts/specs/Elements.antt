@@ -8,7 +8,7 @@ pub record Element : Type 0 where
   pub name : List ℕ
   pub value : List ℕ
 
--- the bytes of an element: its name and its value, each with a zero byte behind it
+-- the bytes of an element: its name and its value, each with a zero byte after it
 abbrev pub element_bytes : Element → List ℕ
 element_bytes e = e.name ++ 0 ∷ (e.value ++ 0 ∷ [])
 
@@ -28,7 +28,7 @@ AreElements es = AllByRecursion (λ e. HasNoZero e.name × HasNoZero e.value) es
 abbrev pub have_form : List ℕ → Bool
 have_form xs = length xs == 0 || (slice_index xs (length xs - 1) == 0 && length (filter (λ x. x == 0) xs) % 2 == 0)
 
--- the byte x in front of the first field
+-- the byte x before the first field
 abbrev pub onto_first : ℕ → List (List ℕ) → List (List ℕ)
 onto_first x [] = []
 onto_first x (field ∷ fields) = (x ∷ field) ∷ fields

@@ -8,7 +8,7 @@ use Rattle.entry_parts.specs.Elements.{Element, elements_bytes}
 use Rattle.entry_parts.specs.declared.fault.PartsFault.{PartsFault}
 use Rattle.entry_parts.specs.declared.fault.PartsFault.TheVariants as bad
 
--- the elements with this value for the first of the name in its place, or behind them where none has the name
+-- the elements with this value for the first of the name in its place, or after them where none has the name
 abbrev pub with_element : List ℕ → List ℕ → List Element → List Element
 with_element name value [] = record { name = name; value = value } ∷ []
 with_element name value (e ∷ es) = if bytes_eq e.name name then record { name = name; value = value } ∷ es else e ∷ with_element name value es

@@ -48,7 +48,7 @@ fn first_zero(b: &[u8]) -> usize
     end
 }
 
-// What stands before the first zero byte, and what behind it.
+// What stands before the first zero byte, and what after it.
 pub(crate) fn cut(b: &[u8]) -> (&[u8], &[u8])
     requires { (field : List ℕ) × (rest : List ℕ) × HasNoZero field × (b.now ≡ field ++ 0 ∷ rest) }
     ensures { (field rest : List ℕ) → HasNoZero field → b.now ≡ field ++ 0 ∷ rest

@@ -24,7 +24,7 @@ fn is_whole(buffer: &Buffer, byte: u8) -> bool {
     chunk.len() == 262_144 && chunk.iter().all(|x| *x == byte)
 }
 
-// A disk on which a chunk of the byte `a` and these bytes behind it stand.
+// A disk on which a chunk of the byte `a` and these bytes after it stand.
 fn disk_with(alloc: Global, rest: &[u8]) -> Result<MemDisk, NoMemory> {
     let mut file = Bytes::from_vec(vec![in alloc; b'a'; 262_144]?);
     file.extend(rest)?;
@@ -41,7 +41,7 @@ fn append_first<D: Disk>(disk: &mut D, buf: &mut Buffer) -> Result<(), DiskFault
     append_chunk(disk, &ENTRY, 0, buf)
 }
 
-// Whether a whole chunk and the two bytes behind it are read, by one call each.
+// Whether a whole chunk and the two bytes after it are read, by one call each.
 fn reads_each(disk: &mut MemDisk, buffer: &mut Buffer) -> Result<bool, DiskFault> {
     read_chunk(disk, &ENTRY, 262_146, 0, buffer)?;
     let whole = is_whole(buffer, b'a');
@@ -57,7 +57,7 @@ fn each_chunk_of_a_body_is_read(rt: HostRuntime) -> Result<(), Fail> {
     Ok(())
 }
 
-// Whether zeros are read behind the end of a file, and where none stands.
+// Whether zeros are read after the end of a file, and where none stands.
 fn reads_zeros(disk: &mut MemDisk, buffer: &mut Buffer) -> Result<bool, DiskFault> {
     read_chunk(disk, &ENTRY, 262_149, 1, buffer)?;
     let behind = buffer.as_slice() == b"yz\0\0\0".as_slice();

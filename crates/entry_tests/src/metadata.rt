@@ -44,7 +44,7 @@ const FOURTH: &[u8] = b"\xb2\xab\x53\xb4\x39\x9e\
     \0\0\0\x04\0\0\0\x01\0\0\x03\xe8\0\0\x03\xe8\0\0\x03\xe8\xff\xff\xff\xff\0\0\0\x15\0\0\0\0\
     :https://example.com/\0";
 
-// The block of version 1 with another byte behind its key.
+// The block of version 1 with another byte after its key.
 const FIRST_NO_ZERO: &[u8] = b"\xcd\x85\xa6\x3f\x39\x9e\
     \0\0\0\x01\0\0\0\x01\0\0\x03\xe8\0\0\x03\xe8\0\0\x03\xe8\xff\xff\xff\xff\0\0\0\x15\
     :https://example.com/\x01";
@@ -66,7 +66,7 @@ const BROWSER: &[u8] = b"\xad\xfa\xa7\x24\x5a\x31\
     net-response-time-onstop\015\0";
 
 // What a block says: frecency, key and hashes; how many bytes the elements have, and some values
-// by name; how many bytes the block has, and the offset that is printed behind it.
+// by name; how many bytes the block has, and the offset that is printed after it.
 #[derive(Clone, Copy)]
 struct Said<'a> {
     frecency: u32,
@@ -152,7 +152,7 @@ fn says(meta: &Meta, said: &Said<'_>) -> bool {
         && block_len(meta) == said.len
 }
 
-// Whether this block is printed, with the offset behind it.
+// Whether this block is printed, with the offset after it.
 fn is_printed(alloc: Global, meta: &Meta, block: &[u8], said: &Said<'_>) -> Result<bool, NoMemory> {
     let bytes = print(alloc, meta)?;
     let (front, end) = bytes

@@ -1,3 +1,4 @@
 pub mod Prefix
 pub mod Sorting
 pub mod Stable
+pub mod AnyOrder

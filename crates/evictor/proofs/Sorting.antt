@@ -16,7 +16,7 @@ use Rattle.evictor.proofs.Stable.{sorted_tail, sorted_first}
 abbrev pub before : IndexRecord → IndexRecord → Bool
 before r s = is_lt (evict_cmp r s)
 
-evict_cmp_total : IsTotalOrder evict_cmp
+pub evict_cmp_total : IsTotalOrder evict_cmp
 unfolding evict_cmp
 evict_cmp_total = then_total (on_total rank nat_cmp_total) (on_total (λ (r : IndexRecord). r.name.0) nat_list_cmp_total)
 

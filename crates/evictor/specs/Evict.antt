@@ -1,7 +1,9 @@
 -- The order of eviction, and the victims.
+use Rattle.std.specs.List.{IsDistinct}
 use Rattle.std.specs.List.Sorted.{IsPermutation, IsSorted}
 use Rattle.std.specs.Ordering.{is_lt, nat_cmp, ordering_then}
 use Rattle.std.specs.Prelude.{Bool, List, [], filter, if◌then◌else◌, length, map, nat_le, not, sum_by, take, ℕ, ◌&&◌, ◌++◌, ◌+◌, ◌-◌, ◌<◌, ◌==◌, ◌^◌, ◌∷◌, ◌≡◌, ◌≤◌}
+use Rattle.std.specs.Str.{bytes_eq}
 use Rattle.std.specs.declared.cmp.Ordering.{Ordering}
 use Rattle.cache_base.specs.Names.{has_name, name_cmp}
 use Rattle.cache_base.specs.declared.name.Name.{Name}
@@ -63,3 +65,9 @@ pub record AreVictims (records : List IndexRecord) (in_use : List Name) (limit :
 abbrev pub VictimsSuffice : Type 0
 VictimsSuffice = (records : List IndexRecord) (in_use : List Name) (limit : ℕ) →
     (first : List IndexRecord) × (rest : List IndexRecord) × AreVictims records in_use limit first rest
+
+-- where no name stands twice, the victims are the same in whatever order the records stand
+abbrev pub SameInAnyOrder : Type 0
+SameInAnyOrder = (records others : List IndexRecord) (in_use : List Name) (limit : ℕ)
+    → IsDistinct (λ (m n : Name). bytes_eq m.0 n.0) (map (λ (r : IndexRecord). r.name) records) → IsPermutation records others
+    → victims records in_use limit ≡ victims others in_use limit

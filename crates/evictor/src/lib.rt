@@ -8,5 +8,5 @@ mod laws;
 mod ordering;
 
 pub use choosing::victims;
-pub use laws::{order_sorts, victims_suffice};
+pub use laws::{order_sorts, same_in_any_order, victims_suffice};
 pub use ordering::order;

@@ -96,7 +96,7 @@ const CHANGES: &[Change<'static>] = &[
         parts: b"kp",
         ending: 1,
     },
-    // a key in front that is not that of the block
+    // a key at the beginning that is not that of the block
     Change {
         place: 22,
         byte: b'x',

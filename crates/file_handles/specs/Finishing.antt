@@ -25,7 +25,7 @@ abbrev pub completed_by : Option Parts → MachineObject → MachineObject
 completed_by None = completed
 completed_by (Some parts) = finished_as parts.header parts.elements
 
--- the parts that are written behind a body of this key: those that are given, in version 3 of the format and with the
+-- the parts that are written after a body of this key: those that are given, in version 3 of the format and with the
 -- key's length, or else its own
 abbrev pub parts_by : Option Parts → List ℕ → Parts → Parts
 parts_by None key own = own

@@ -15,6 +15,7 @@ use Rattle.cache_base.specs.declared.name.Name.{Name}
 use Rattle.file_handles.specs.declared.object.Draft.{Draft}
 use Rattle.file_handles.specs.declared.object.Entry.{Entry}
 use Rattle.file_handles.specs.declared.object.Entry.TheVariants as entry
+use Rattle.file_handles.specs.declared.object.Label.{Label}
 use Rattle.file_handles.specs.declared.object.Object.{Object}
 
 -- where a file stands: under its name, or aside, under its number among the doomed
@@ -29,6 +30,10 @@ object_place x = place_of x.name x.aside
 -- an object of these parts
 abbrev pub object_with : ℕ → Name → Bool → Option ℕ → Entry → Object
 object_with number name doomed aside e = record { number = number; name = name; doomed = doomed; aside = aside; entry = e }
+
+-- an object of this label and entry
+abbrev pub labelled : Label → Entry → Object
+labelled l e = object_with l.number l.name l.doomed l.aside e
 
 -- whether it is being written
 abbrev pub is_draft : Entry → Bool

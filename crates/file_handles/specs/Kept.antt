@@ -20,6 +20,10 @@ pub record Kept : Type 0 where
 abbrev pub kept : Handles → Kept
 kept h = record { objects = h.table.objects; slots = h.table.slots; made = h.made; chunks = h.chunks }
 
+-- the bytes in the buffer of these handles: those of the chunk that was checked or read last
+abbrev pub last_read : Handles → List ℕ
+last_read h = h.chunk
+
 -- the object at a place
 abbrev pub object_at : Kept → ℕ → Option Object
 object_at k p = unwrap_or (slice_get k.objects p) None

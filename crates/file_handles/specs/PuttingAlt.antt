@@ -1,4 +1,4 @@
--- When alternative data are put behind the body of an entry.
+-- When alternative data are put after the body of an entry.
 use Rattle.std.specs.Prelude.{Bool, IfSome, List, None, Option, Result, Some, [], codes, is_none, length, nat_le, option_map, ℕ, ◌&&◌, ◌+◌, ◌∷◌, ◌≡◌}
 use Rattle.alt_data.specs.AltData.{IsPut, alt_value, is_kind}
 use Rattle.cache_base.specs.Checks.{first_failing}
@@ -62,7 +62,7 @@ are_small_with es key len =
     nat_le (length (elements_bytes es)) ELEMENTS_MAX
     && nat_le (block_length (chunks len) (length key) (length (elements_bytes es))) BLOCK_MAX
 
--- the first reason why data of this kind and length may not be put behind the body of an entry that a slot writes
+-- the first reason why data of this kind and length may not be put after the body of an entry that a slot writes
 abbrev pub put_fault : Entry → List ℕ → ℕ → Option Refusal
 put_fault (entry.Draft d) kind len = Some refused.Unfinished
 put_fault (entry.Finished meta) kind len = first_failing (

@@ -12,7 +12,7 @@ ghost use Rattle.file_handles.specs.Held.{rest_in};
 ghost use Rattle.file_handles.specs.Unsynced.{SyncsNothing};
 ghost use Rattle.index_theory.specs.Leaves.{LeavesBeside};
 
-use crate::object::{Draft, Entry, Object};
+use crate::object::{Draft, Entry};
 use crate::{HandleFault, Handles};
 use cache_base::BODY_MAX;
 use cache_theory::Refusal;
@@ -81,15 +81,8 @@ impl Handles {
         ensures account { Accounts D.Disk (ending result) disk.old disk.new }
         ensures change { FailsInChange D.Disk (ending result) disk.new }
     {
-        let object = self.take(place);
-        let file = object.file_place();
-        let Object {
-            number,
-            name,
-            doomed,
-            aside,
-            entry,
-        } = object;
+        let (label, entry) = self.take_apart(place);
+        let file = label.file_place();
         let Entry::Draft(draft) = entry else {
             unreachable!();
         };
@@ -107,7 +100,7 @@ impl Handles {
             key,
             elements,
         });
-        self.put_entry(place, number, name, doomed, aside, entry);
+        self.put_entry(place, label, entry);
         Ok(())
     }
 

@@ -12,7 +12,7 @@ ghost use Rattle.file_handles.specs.Held.{elements_in, is_draft};
 ghost use Rattle.file_handles.specs.Setting.{HasRoom, MaySet, changed_by, header_by, with_change};
 
 use crate::finish::learnt_of;
-use crate::object::{Draft, Entry, Object};
+use crate::object::{Draft, Entry};
 use crate::{Effect, HandleFault, Handles};
 use cache_base::{Moment, NoMemory};
 use disk_model::Disk;
@@ -171,15 +171,8 @@ impl Handles {
         ensures account { Accounts D.Disk (ending result) disk.old disk.new }
         ensures change { FailsInChange D.Disk (ending result) disk.new }
     {
-        let object = self.take(place);
-        let file = object.file_place();
-        let Object {
-            number,
-            name,
-            doomed,
-            aside,
-            entry,
-        } = object;
+        let (label, entry) = self.take_apart(place);
+        let file = label.file_place();
         let entry = match entry {
             Entry::Draft(draft) => Entry::Draft(changed_draft(draft, change)?),
             Entry::Finished(meta) => {
@@ -188,8 +181,8 @@ impl Handles {
                 Entry::Finished(meta)
             }
         };
-        let effect = learnt_of(&name, doomed, &entry);
-        self.put_entry(place, number, name, doomed, aside, entry);
+        let effect = learnt_of(&label.name, label.doomed, &entry);
+        self.put_entry(place, label, entry);
         Ok(effect)
     }
 }

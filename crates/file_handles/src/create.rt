@@ -33,6 +33,7 @@ use entry_name::name_of;
 use entry_parts::{Elements, Header};
 use std::alloc::Global;
 
+// A copy of bytes.
 fn bytes_of(alloc: Global, b: &[u8]) -> Result<Bytes, NoMemory>
     ensures { IfOk result (λ bytes. bytes ≡ b.now) }
 {

@@ -17,7 +17,7 @@ ghost use Rattle.file_handles.specs.Unsynced.{SyncsNothing};
 ghost use Rattle.index_theory.specs.Leaves.{LeavesBeside};
 
 use crate::find::read_metadata;
-use crate::object::Object;
+use crate::object::{Label, Object};
 use crate::{Effect, HandleFault, Handles};
 use cache_base::{Name, SLOTS};
 use cache_theory::Refusal;
@@ -34,6 +34,7 @@ pub(crate) struct DoomedNumbers {
     pub(crate) count: usize,
 }
 
+/// The numbers of the files of these objects that stand aside.
 pub(crate) fn doomed_numbers(objects: &[Option<Object>; SLOTS]) -> DoomedNumbers
     ensures count { result.count ≤ SLOTS }
     ensures rows { length objects.now ≡ SLOTS }
@@ -59,7 +60,7 @@ fn set_aside<D: Disk>(
     aside: Option<u32>,
     in_use: &[u32],
 ) -> Result<u32, DiskFault>
-    requires few { length in_use.now < 64 }
+    requires few { length in_use.now < SLOTS }
     requires told { IsTrue D.tells → aside ≡ None →
         IsSome (standing (D.state disk.old) (EntryAt name.now)) }
     ensures moves { Told D.Disk (SetsAside name.now aside in_use.now result) disk.old disk.new }
@@ -112,18 +113,16 @@ impl Handles {
         ensures account { Accounts D.Disk (ending result) disk.old disk.new }
         ensures change { FailsInChange D.Disk (ending result) disk.new }
     {
-        let object = self.take(place);
-        let Object {
-            number,
-            name: own,
-            aside,
-            entry,
-            ..
-        } = object;
+        let (label, entry) = self.take_apart(place);
         // Those of the other objects, so fewer than the table has rows.
         let doomed = doomed_numbers(&self.table.objects);
-        let moved_to = set_aside(disk, name, aside, &doomed.numbers[..doomed.count])?;
-        self.put_entry(place, number, own, true, Some(moved_to), entry);
+        let moved_to = set_aside(disk, name, label.aside, &doomed.numbers[..doomed.count])?;
+        let label = Label {
+            doomed: true,
+            aside: Some(moved_to),
+            ..label
+        };
+        self.put_entry(place, label, entry);
         Ok(())
     }
 
@@ -163,10 +162,10 @@ impl Handles {
         }
     }
 
-    /// No file of an entry in use stands aside under the number 64.
+    /// No file of an entry in use stands aside under the number `SLOTS`: theirs are less.
     pub fn leaves_number_free(&self)
         ensures { (s : State) (m : Machine) → Represents (cache_at (kept self.now) s) m →
-            standing s (DoomedAt 64) ≡ None }
+            standing s (DoomedAt SLOTS) ≡ None }
     {}
 
     /// Dooms what stands under a name. Its file moves among the doomed where a slot has it, and otherwise is removed.

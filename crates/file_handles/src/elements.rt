@@ -21,12 +21,14 @@ ghost use Rattle.index_theory.specs.Leaves.{LeavesBeside};
 use crate::change::Change;
 use crate::object::Entry;
 use crate::{Effect, HandleFault, Handles};
-use cache_base::{BLOCK_MAX, ELEMENTS_MAX, chunks};
+use cache_base::{BLOCK_MAX, ELEMENTS_MAX};
 use cache_theory::Refusal;
 use disk_model::Disk;
+use entry_metadata::block_len_of;
 use entry_parts::Elements;
 use std::alloc::Global;
 
+// Whether a zero byte is among them.
 fn has_zero(b: &[u8]) -> bool
     ensures { result ≡ has_zero_in b.now }
 {
@@ -63,14 +65,11 @@ fn block_with(entry: &Entry, elements: usize) -> usize
     ensures { result ≡ block_length
         (chunks_of (body_len_in entry.now)) (length (key_in entry.now)) elements }
 {
-    let (hashes, key) = match entry {
-        Entry::Draft(draft) => (
-            chunks(u64::from(draft.body.len())) as usize,
-            draft.key.as_slice().len(),
-        ),
-        Entry::Finished(meta) => (meta.hashes.as_slice().len(), meta.key.as_slice().len()),
+    let (body, key) = match entry {
+        Entry::Draft(draft) => (draft.body.len(), draft.key.as_slice().len()),
+        Entry::Finished(meta) => (meta.offset, meta.key.as_slice().len()),
     };
-    4 + 2 * hashes + 32 + key + 1 + elements
+    block_len_of(body, key, elements)
 }
 
 /// Whether the block of an entry with so many bytes of elements is not too large.

@@ -16,7 +16,7 @@ impl Handles {
     ghost use Rattle.file_handles.specs.Cache.{cache};
     ghost use Rattle.file_handles.specs.Dooming.{DoomsUnder};
     ghost use Rattle.file_handles.specs.Kept.{kept};
-    ghost use Rattle.file_handles.specs.Removing.{FailsInChange};
+    ghost use Rattle.file_handles.specs.Removing.{FailsInRemoval};
     ghost use Rattle.file_handles.specs.Stands.{RepresentsSome};
     ghost use Rattle.file_handles.specs.Users.{users_of};
 
@@ -32,7 +32,7 @@ impl Handles {
         ensures index { Told D.Disk LeavesBeside disk.old disk.new }
         ensures no_entry { LooksAtNoEntry D.Disk disk.old disk.new }
         ensures account { Accounts D.Disk (disk_ending result) disk.old disk.new }
-        ensures change { FailsInChange D.Disk (disk_ending result) disk.new }
+        ensures change { FailsInRemoval D.Disk (disk_ending result) disk.new }
     {
         disk.remove(&Place::Entry(*name))
     }

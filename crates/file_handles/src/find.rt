@@ -124,7 +124,7 @@ pub(crate) fn load<D: Disk>(
 impl Handles {
     ghost use Rattle.file_handles.specs.Cache.{cache};
     ghost use Rattle.file_handles.specs.Found.{Finds, HoldsLast, IsFoundUnder};
-    ghost use Rattle.file_handles.specs.Kept.{kept, object_at as object_kept_at};
+    ghost use Rattle.file_handles.specs.Kept.{kept, last_read, object_at as object_kept_at};
     ghost use Rattle.file_handles.specs.Loading.{is_writing as is_writing_in, used_place};
     ghost use Rattle.file_handles.specs.Stands.{RepresentsSome};
 
@@ -163,7 +163,7 @@ impl Handles {
         requires told { IsTrue D.tells → RepresentsSome (cache D.Disk self.old disk.old) }
         ensures finds { IsTrue D.tells → Finds key.now result (cache D.Disk self.old disk.old) }
         ensures held { IfOk result (λ meta. IsTrue D.tells →
-            HoldsLast (D.state disk.old) key.now meta.offset self.new.chunk) }
+            HoldsLast (D.state disk.old) key.now meta.offset (last_read self.new)) }
         ensures kept { kept self.new ≡ kept self.old }
         ensures no_change { result ≢ Err HandleFault.Disk }
         ensures looks { Looks D.Disk (ending result) disk.old disk.new }
@@ -191,7 +191,7 @@ impl Handles {
             IfOk result (λ found. IsTrue D.tells → IsFoundUnder name.now.0 file found) }
         ensures held { let file = standing (D.state disk.old) (EntryAt name.now) in
             IfOk result (λ found. IsTrue D.tells → IfSome found (λ meta.
-            IsLastOf (chunks_of meta.offset) file meta.offset self.new.chunk)) }
+            IsLastOf (chunks_of meta.offset) file meta.offset (last_read self.new))) }
         ensures kept { kept self.new ≡ kept self.old }
         ensures looks { Looks D.Disk (disk_ending result) disk.old disk.new }
     {
@@ -216,10 +216,10 @@ impl Handles {
     ) -> Result<(), DiskFault>
         requires index { index < chunks_of len }
         requires held { IsTrue D.tells → chunks_of len ≡ 1 →
-            IsLastOf 1 (standing (D.state disk.old) place.now) len self.old.chunk }
+            IsLastOf 1 (standing (D.state disk.old) place.now) len (last_read self.old) }
         ensures chunk { OnOk result (IsTrue D.tells →
             IfSome (standing (D.state disk.old) place.now) (λ file. len ≤ length file →
-            self.new.chunk ≡ chunk_of (take len file) index)) }
+            last_read self.new ≡ chunk_of (take len file) index)) }
         ensures once { chunks_of len ≡ 1 → disk.new ≡ disk.old }
         ensures kept { kept self.new ≡ kept self.old }
         ensures looks { Looks D.Disk (disk_ending result) disk.old disk.new }
@@ -232,7 +232,7 @@ impl Handles {
 
     /// The chunk that was checked or read last for an entry that was found.
     pub fn chunk_read(&self) -> &[u8]
-        ensures { result.now ≡ self.now.chunk }
+        ensures { result.now ≡ last_read self.now }
     {
         self.chunk.as_slice()
     }

@@ -19,7 +19,7 @@ ghost use Rattle.file_handles.specs.Seats.{IsLow};
 ghost use Rattle.index_theory.specs.Leaves.{LeavesBeside};
 
 use crate::elements::has_small_block;
-use crate::object::{Draft, Entry, Object, Parts};
+use crate::object::{Draft, Entry, Label, Parts};
 use crate::{Effect, HandleFault, Handles};
 use cache_base::{Bytes, Name, bytes_fit};
 use cache_theory::Refusal;
@@ -102,7 +102,7 @@ fn finish_fault(entry: &Entry, given: &Option<Parts>) -> Option<Refusal>
     }
 }
 
-// The parts that are written behind a body of this key: those that are given, in version 3 of the format and with the
+// The parts that are written after a body of this key: those that are given, in version 3 of the format and with the
 // key's length, or else its own.
 fn parts_by(given: Option<Parts>, key: &Bytes, own: Parts) -> Parts
     requires short { length key.now ≤ KEY_MAX }
@@ -181,15 +181,8 @@ impl Handles {
         ensures account { Accounts D.Disk (ending result) disk.old disk.new }
         ensures change { FailsInChange D.Disk (ending result) disk.new }
     {
-        let object = self.take(place);
-        let file = object.file_place();
-        let Object {
-            number,
-            name,
-            doomed,
-            aside,
-            entry,
-        } = object;
+        let (label, entry) = self.take_apart(place);
+        let file = label.file_place();
         let Entry::Draft(draft) = entry else {
             unreachable!();
         };
@@ -202,10 +195,10 @@ impl Handles {
         let parts = parts_by(given, &key, Parts { header, elements });
         let Parts { header, elements } = parts;
         let meta = body.finish(alloc, disk, &file, header, key, elements)?;
-        let aside = publish(disk, &name, doomed, aside)?;
+        let aside = publish(disk, &label.name, label.doomed, label.aside)?;
         let entry = Entry::Finished(meta);
-        let effect = learnt_of(&name, doomed, &entry);
-        self.put_entry(place, number, name, doomed, aside, entry);
+        let effect = learnt_of(&label.name, label.doomed, &entry);
+        self.put_entry(place, Label { aside, ..label }, entry);
         Ok(effect)
     }
 

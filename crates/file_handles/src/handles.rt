@@ -6,7 +6,7 @@ ghost use Rattle.cache_base.specs.declared.limits.TheConstants.{SLOTS};
 ghost use Rattle.file_handles.specs.Finding.{is_free, is_user};
 ghost use Rattle.file_handles.specs.Seats.{AreLow, AreUsed, IsLow, is_use_of};
 
-use crate::object::{Entry, Object, Use};
+use crate::object::{Entry, Label, Object, Use};
 use cache_base::{Buffer, Bytes, Name, NoMemory, SLOTS};
 use cache_theory::{Refusal, opens_proper};
 use chunk_cache::ChunkCache;
@@ -37,7 +37,7 @@ pub struct Handles {
 
 impl Handles {
     ghost use Rattle.file_handles.specs.Carries.{StandsForOpening};
-    ghost use Rattle.file_handles.specs.Held.{object_with};
+    ghost use Rattle.file_handles.specs.Held.{labelled};
     ghost use Rattle.file_handles.specs.Kept.{kept, live_use as live_use_of, object_at as object_kept_at, use_at, used as used_or, with_object, writing as writing_or};
     ghost use Rattle.file_handles.specs.Loading.{user_place};
 
@@ -138,32 +138,54 @@ impl Handles {
         self.table.objects[place] = Some(object);
     }
 
-    /// Puts an object of these parts at a place that a slot uses.
-    pub(crate) fn put_entry(
-        &mut self,
-        place: usize,
-        number: u64,
-        name: Name,
-        doomed: bool,
-        aside: Option<u32>,
-        entry: Entry,
-    )
+    /// Takes the object at a place out of the table, and its entry out of it.
+    pub(crate) fn take_apart(&mut self, place: usize) -> (Label, Entry)
+        requires place { place < SLOTS }
+        requires there { IsSome (object_kept_at (kept self.old) place) }
+        ensures found { object_kept_at (kept self.old) place
+            ≡ Some (labelled result.0 result.1) }
+        ensures kept { kept self.new ≡ with_object (kept self.old) place None }
+        ensures used { list_any (is_use_of place) (kept self.new).slots ≡ true }
+        ensures low { IsLow result.0.aside }
+    {
+        let Object {
+            number,
+            name,
+            doomed,
+            aside,
+            entry,
+        } = self.take(place);
+        let label = Label {
+            number,
+            name,
+            doomed,
+            aside,
+        };
+        (label, entry)
+    }
+
+    /// Puts the object of a label and an entry at a place that a slot uses.
+    pub(crate) fn put_entry(&mut self, place: usize, label: Label, entry: Entry)
         requires place { place < SLOTS }
         requires used { list_any (is_use_of place) (kept self.old).slots ≡ true }
-        requires low { IsLow aside }
+        requires low { IsLow label.aside }
         ensures { kept self.new ≡ with_object (kept self.old) place
-            (Some (object_with number name doomed aside entry)) }
+            (Some (labelled label entry)) }
     {
-        self.put(
-            place,
-            Object {
-                number,
-                name,
-                doomed,
-                aside,
-                entry,
-            },
-        );
+        let Label {
+            number,
+            name,
+            doomed,
+            aside,
+        } = label;
+        let object = Object {
+            number,
+            name,
+            doomed,
+            aside,
+            entry,
+        };
+        self.put(place, object);
     }
 
     /// The table has a row for each slot: it tells the lengths to a caller.

@@ -39,6 +39,15 @@ pub(crate) enum Entry {
     Finished(Meta),
 }
 
+/// What is held of an object beside its entry.
+#[derive(Clone, Copy)]
+pub(crate) struct Label {
+    pub(crate) number: u64,
+    pub(crate) name: Name,
+    pub(crate) doomed: bool,
+    pub(crate) aside: Option<u32>,
+}
+
 /// An entry that is in use.
 #[derive(Drop)]
 pub(crate) struct Object {
@@ -60,6 +69,20 @@ pub(crate) struct Use {
     pub(crate) ghost ranged: { place < SLOTS },
 }
 
+impl Label {
+    ghost use Rattle.file_handles.specs.Held.{place_of};
+
+    /// Where the file stands.
+    pub(crate) fn file_place(self) -> Place
+        ensures { result ≡ place_of self.name self.aside }
+    {
+        match self.aside {
+            Some(number) => Place::Doomed(number),
+            None => Place::Entry(self.name),
+        }
+    }
+}
+
 impl Object {
     ghost use Rattle.file_handles.specs.Held.{elements_in, key_in, object_place};
 
@@ -67,10 +90,13 @@ impl Object {
     pub(crate) fn file_place(&self) -> Place
         ensures { result ≡ object_place self.now }
     {
-        match self.aside {
-            Some(number) => Place::Doomed(number),
-            None => Place::Entry(self.name),
-        }
+        let label = Label {
+            number: self.number,
+            name: self.name,
+            doomed: self.doomed,
+            aside: self.aside,
+        };
+        label.file_place()
     }
 
     /// Its key.

@@ -1,8 +1,7 @@
-//! Pins the entry of a slot, so that neither an eviction nor a clearing takes it, and unpins it.
+//! Pins the entry of a slot, so that neither an eviction nor a clearing takes it, or unpins it.
 
 ghost use Rattle.std.specs.Prelude.{◌≡◌, ◌≢◌, ◌<◌, Bool, Err, IfErr, IfOk, IsSomeAnd, IsTrue, OnOk};
 ghost use Rattle.cache_base.specs.declared.limits.TheConstants.{SLOTS};
-ghost use Rattle.cache_theory.specs.Command.Command.{Pin, Unpin};
 ghost use Rattle.disk_model.specs.Account.{Accounts, FailsInChange};
 ghost use Rattle.disk_model.specs.Told.{Told};
 ghost use Rattle.file_handles.specs.Answers.{OnRefused, done_or, ending};
@@ -40,8 +39,9 @@ impl Handles {
         Ok(used.place)
     }
 
-    // Pins the entry of a slot that writes it, or unpins it.
-    fn set_pin<D: Disk>(
+    /// Pins the entry of a slot that writes it, or unpins it. Neither an eviction nor a clearing takes one that is
+    /// pinned. The metadata of a finished entry are rewritten.
+    pub fn set_pin<D: Disk>(
         &mut self,
         alloc: Global,
         disk: &mut D,
@@ -66,58 +66,5 @@ impl Handles {
     {
         let place = self.written_place(slot)?;
         self.change_at(alloc, disk, place, Change::Pin { pinned })
-    }
-
-    /// Pins the entry of a slot that writes it: neither an eviction nor a clearing takes it. The metadata of a finished
-    /// entry are rewritten.
-    pub fn pin<D: Disk>(
-        &mut self,
-        alloc: Global,
-        disk: &mut D,
-        slot: u8,
-    ) -> Result<Effect, HandleFault>
-        requires slot { slot < SLOTS }
-        requires told { IsTrue D.tells → RepresentsSome (cache D.Disk self.old disk.old) }
-        ensures carried { let at = cache D.Disk in IsTrue D.tells →
-            CarriesOut (Pin slot) (done_or result)
-            (at self.old disk.old) (at self.new disk.new) }
-        ensures effect { IfOk result (HasEffect (kept self.old) (Pin slot)) }
-        ensures plain { IfOk result IsPlainEffect }
-        ensures chunks { SameChunks (kept self.old) (kept self.new) }
-        ensures no_slot { TellsNoSlot (kept self.old) slot result }
-        ensures unchanged { OnRefused result (λ _. disk.new ≡ disk.old) }
-        ensures no_read { result ≢ Err HandleFault.Read }
-        ensures unsynced { Told D.Disk SyncsNothing disk.old disk.new }
-        ensures index { Told D.Disk LeavesBeside disk.old disk.new }
-        ensures account { Accounts D.Disk (ending result) disk.old disk.new }
-        ensures change { FailsInChange D.Disk (ending result) disk.new }
-    {
-        self.set_pin(alloc, disk, slot, true)
-    }
-
-    /// Unpins the entry of a slot that writes it. The metadata of a finished entry are rewritten.
-    pub fn unpin<D: Disk>(
-        &mut self,
-        alloc: Global,
-        disk: &mut D,
-        slot: u8,
-    ) -> Result<Effect, HandleFault>
-        requires slot { slot < SLOTS }
-        requires told { IsTrue D.tells → RepresentsSome (cache D.Disk self.old disk.old) }
-        ensures carried { let at = cache D.Disk in IsTrue D.tells →
-            CarriesOut (Unpin slot) (done_or result)
-            (at self.old disk.old) (at self.new disk.new) }
-        ensures effect { IfOk result (HasEffect (kept self.old) (Unpin slot)) }
-        ensures plain { IfOk result IsPlainEffect }
-        ensures chunks { SameChunks (kept self.old) (kept self.new) }
-        ensures no_slot { TellsNoSlot (kept self.old) slot result }
-        ensures unchanged { OnRefused result (λ _. disk.new ≡ disk.old) }
-        ensures no_read { result ≢ Err HandleFault.Read }
-        ensures unsynced { Told D.Disk SyncsNothing disk.old disk.new }
-        ensures index { Told D.Disk LeavesBeside disk.old disk.new }
-        ensures account { Accounts D.Disk (ending result) disk.old disk.new }
-        ensures change { FailsInChange D.Disk (ending result) disk.new }
-    {
-        self.set_pin(alloc, disk, slot, false)
     }
 }

@@ -1,4 +1,4 @@
-//! Puts alternative data behind the body of the entry in a slot.
+//! Puts alternative data after the body of the entry in a slot.
 
 ghost use Rattle.std.specs.Prelude.{◌≡◌, ◌≢◌, ◌+◌, ◌<◌, ◌≤◌, ◌⊎◌, Err, IfErr, IfOk, IfSome, IsSomeAnd, IsTrue, None, OnOk, codes, decimal, length};
 ghost use Rattle.alt_data.specs.AltData.{alt_value as alt_value_of, is_kind as is_kind_of};
@@ -22,14 +22,14 @@ ghost use Rattle.index_theory.specs.Leaves.{LeavesBeside};
 use crate::change::{Change, changed_elements};
 use crate::fault::look_fault;
 use crate::finish::learnt_of;
-use crate::object::{Entry, Object};
+use crate::object::Entry;
 use crate::{Effect, HandleFault, Handles};
 use alt_data::{ALT_DATA, alt_value, grown_hashes};
-use cache_base::{BLOCK_MAX, BODY_MAX, ELEMENTS_MAX, Hashes, NoMemory, chunks};
+use cache_base::{BLOCK_MAX, BODY_MAX, ELEMENTS_MAX, Hashes, NoMemory};
 use cache_theory::Refusal;
 use disk_model::{Disk, Place};
 use entry_file::grow_body;
-use entry_metadata::Meta;
+use entry_metadata::{Meta, block_len_of};
 use std::alloc::Global;
 
 // How many digits a number has. So the checks need no memory for the element's value.
@@ -77,11 +77,11 @@ fn has_room(meta: &Meta, kind: &[u8], len: usize) -> bool
     if elements > ELEMENTS_MAX {
         return false;
     }
-    let hashes = chunks(u64::from(meta.offset) + len as u64) as usize;
-    4 + 2 * hashes + 32 + meta.key.as_slice().len() + 1 + elements <= BLOCK_MAX
+    let body = meta.offset + len as u32;
+    block_len_of(body, meta.key.as_slice().len(), elements) <= BLOCK_MAX
 }
 
-// The first reason why data of this kind and length may not be put behind the body of the entry, if there is one.
+// The first reason why data of this kind and length may not be put after the body of the entry, if there is one.
 fn put_fault(entry: &Entry, kind: &[u8], len: usize) -> Option<Refusal>
     ensures { result ≡ put_fault_of entry.now kind.now len }
 {
@@ -104,7 +104,7 @@ fn put_fault(entry: &Entry, kind: &[u8], len: usize) -> Option<Refusal>
     None
 }
 
-// The hashes of the body of a file with the data behind it. A look that fails changes nothing.
+// The hashes of the body of a file with the data after it. A look that fails changes nothing.
 fn hashes_with<D: Disk>(
     alloc: Global,
     disk: &mut D,
@@ -181,7 +181,7 @@ impl Handles {
     ghost use Rattle.file_handles.specs.Refuses.{ChecksNoSlot, Passes, Refuses, TellsNoSlot, UsesObject};
     ghost use Rattle.file_handles.specs.Stands.{RepresentsSome};
 
-    // The place of the entry behind whose body a slot may put the data.
+    // The place of the entry after whose body a slot may put the data.
     fn may_put_alt(&self, slot: u8, kind: &[u8], alt: &[u8]) -> Result<usize, Refusal>
         requires { slot < SLOTS }
         ensures refused { IfErr result (λ r.
@@ -199,7 +199,7 @@ impl Handles {
         }
     }
 
-    // The hashes of the body of the entry at a place with the data behind it.
+    // The hashes of the body of the entry at a place with the data after it.
     fn hashes_at<D: Disk>(
         &self,
         alloc: Global,
@@ -231,7 +231,7 @@ impl Handles {
         hashes_with(alloc, disk, &file, meta, alt)
     }
 
-    // Puts the data behind the body of the entry at a place, where the longer body has these hashes. Its chunks are
+    // Puts the data after the body of the entry at a place, where the longer body has these hashes. Its chunks are
     // forgotten before the write, since the last one may become longer.
     fn put_at<D: Disk>(
         &mut self,
@@ -269,28 +269,21 @@ impl Handles {
         ensures account { Accounts D.Disk (ending result) disk.old disk.new }
         ensures change { FailsInChange D.Disk (ending result) disk.new }
     {
-        let object = self.take(place);
-        let file = object.file_place();
-        let Object {
-            number,
-            name,
-            doomed,
-            aside,
-            entry,
-        } = object;
+        let (label, entry) = self.take_apart(place);
+        let file = label.file_place();
         let Entry::Finished(old) = entry else {
             unreachable!();
         };
         let meta = grown_meta(alloc, old, kind, alt.len(), hashes)?;
-        self.chunks.forget(number);
+        self.chunks.forget(label.number);
         grow_body(alloc, disk, &file, &meta, alt)?;
         let entry = Entry::Finished(meta);
-        let effect = learnt_of(&name, doomed, &entry);
-        self.put_entry(place, number, name, doomed, aside, entry);
+        let effect = learnt_of(&label.name, label.doomed, &entry);
+        self.put_entry(place, label, entry);
         Ok(effect)
     }
 
-    /// Puts alternative data of a kind behind the body of a finished entry, such as compiled code for a script
+    /// Puts alternative data of a kind after the body of a finished entry, such as compiled code for a script
     /// (`CacheFile::OpenAlternativeOutputStream` of Firefox). The element `alt-data` then says where they begin. The
     /// data and the new metadata are written by one call of the disk, at the end of the body: it reaches nothing
     /// before that. The last chunk of the body is read first, for its new hash, unless it is a whole one. The slot

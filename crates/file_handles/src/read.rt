@@ -28,7 +28,7 @@ pub(crate) struct StoredChunk {
     /// The number of its object.
     pub(crate) number: u64,
     pub(crate) index: u32,
-    /// The file at whose front so many bytes of the body stand.
+    /// The file that begins with so many bytes of the body.
     pub(crate) file: Place,
     pub(crate) stored: u32,
 }

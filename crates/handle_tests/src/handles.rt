@@ -32,7 +32,7 @@ const X_PATH: &str = "cache/entries/FFA483082FB38F7A9B0622078DC25FC6BF89E7A3";
 // The name of this key begins with the lesser byte.
 const Y: &[u8] = b":https://y/";
 
-// A call of the handles, or a look at the folder or a change of it behind their back.
+// A call of the handles, or a look at the folder or a change of it that they do not see.
 #[derive(Clone, Copy)]
 enum Call<'a> {
     Create(u8, &'a [u8], Moment),
@@ -341,8 +341,8 @@ fn slot_answers(
         }
         Call::Unset(_, name) => unsets(handles.unset_element(alloc, disk, slot, name), wanted),
         Call::Use(_, now) => learns(handles.use_entry(alloc, disk, slot, now), wanted),
-        Call::Pin(_) => learns(handles.pin(alloc, disk, slot), wanted),
-        Call::Unpin(_) => learns(handles.unpin(alloc, disk, slot), wanted),
+        Call::Pin(_) => learns(handles.set_pin(alloc, disk, slot, true), wanted),
+        Call::Unpin(_) => learns(handles.set_pin(alloc, disk, slot, false), wanted),
         Call::Close(_) => learns(handles.close(alloc, disk, slot), wanted),
         Call::Read(_, from, len) => is_read(rt, handles, disk, slot, from, len, wanted),
         _ => false,

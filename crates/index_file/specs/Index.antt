@@ -2,15 +2,20 @@
 use Rattle.std.specs.Prelude.{Bool, List, not, ℕ, ◌++◌, ◌<◌, ◌==◌, ◌^◌, ◌≡◌}
 use Rattle.cache_base.specs.Bytes.{be32}
 use Rattle.index_record.specs.declared.record.IndexRecord.{IndexRecord}
+use Rattle.index_file.specs.declared.TheConstants.{VERSION}
 use Rattle.record_list.specs.Stored.{AreStored, present, read_as, stored_bytes}
 
 -- the header: the version, a moment, whether the index is dirty, and kilobytes that are not read
 unfoldable pub header_bytes : ℕ → ℕ → ℕ → List ℕ
-header_bytes timestamp flag kilobytes = be32 0xA ++ (be32 timestamp ++ (be32 flag ++ be32 kilobytes))
+header_bytes timestamp flag kilobytes = be32 VERSION ++ (be32 timestamp ++ (be32 flag ++ be32 kilobytes))
 
 -- how many bytes it has
 abbrev pub header_size : ℕ
 header_size = 16
+
+-- where the timestamp stands in it
+abbrev pub timestamp_at : ℕ
+timestamp_at = 4
 
 -- where the flag stands in it
 abbrev pub flag_at : ℕ

@@ -5,7 +5,7 @@ ghost use Rattle.index_file.specs.RecordsFault.{fault_of};
 
 use record_list::RecordsFault;
 
-/// The first failing check of an index, in this order, or want of memory.
+/// The first failing check of an index, in this order, or that memory ran out.
 #[derive(Clone, Copy, Debug, PartialEq, Eq)]
 pub enum IndexFault {
     /// There is no room for the header and the hash.

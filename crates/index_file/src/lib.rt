@@ -15,6 +15,7 @@ pub use image::IndexImage;
 pub use laws::{index_fits_exactly, index_reads_back};
 pub use printing::print;
 pub use reading::parse;
+use record_list::HASH;
 
 /// The version of an index (`kIndexVersion` of CacheIndex.cpp).
 pub const VERSION: u32 = 0xA;
@@ -22,8 +23,11 @@ pub const VERSION: u32 = 0xA;
 /// The bytes of an index's header.
 pub const HEADER: usize = 16;
 
+/// Where the timestamp stands in the header: four bytes, the moment at which the index was written.
+pub const TIMESTAMP_AT: usize = 4;
+
 /// Where the flag stands in the header: four bytes that are 0 where the index is up to date.
 pub const FLAG_AT: usize = 8;
 
 /// The fewest bytes of an index: its header and the hash of no records.
-pub const LEAST: usize = HEADER + 4;
+pub const LEAST: usize = HEADER + HASH;

@@ -8,7 +8,7 @@ ghost use Rattle.record_list.specs.Change.{HasNoRemoved};
 ghost use Rattle.record_list.specs.Lists.{HasNames};
 ghost use Rattle.record_list.specs.Stored.{AreClean};
 
-use crate::{HEADER, VERSION};
+use crate::{FLAG_AT, HEADER, TIMESTAMP_AT, VERSION};
 use byteorder::{BigEndian, ByteOrder};
 use cache_base::{Bytes, NoMemory};
 use index_record::Records;
@@ -20,13 +20,13 @@ fn header(timestamp: u32, dirty: bool) -> [u8; HEADER]
 {
     let mut out = [0; HEADER];
     BigEndian::write_u32(&mut out[0..4], VERSION);
-    BigEndian::write_u32(&mut out[4..8], timestamp);
-    BigEndian::write_u32(&mut out[8..12], u32::from(dirty));
+    BigEndian::write_u32(&mut out[TIMESTAMP_AT..TIMESTAMP_AT + 4], timestamp);
+    BigEndian::write_u32(&mut out[FLAG_AT..FLAG_AT + 4], u32::from(dirty));
     BigEndian::write_u32(&mut out[12..16], 0);
     out
 }
 
-/// The bytes of the file `index` with these records, in name order. Fails only for want of memory.
+/// The bytes of the file `index` with these records, in name order. Fails only where memory ran out.
 pub fn print(
     alloc: Global,
     records: &Records,

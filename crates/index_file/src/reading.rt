@@ -1,7 +1,6 @@
 //! Reading an index.
 
-ghost use Rattle.std.specs.Prelude.{◌≡◌, ◌≤◌, ◌+◌, ℕ, Bool, IfErr, IfOk, List, None, OnOk, length};
-ghost use Rattle.cache_base.specs.Bytes.{be32_at};
+ghost use Rattle.std.specs.Prelude.{◌≡◌, ℕ, Bool, IfErr, IfOk, List, None, OnOk};
 ghost use Rattle.index_file.specs.Checks.{IsFirstFault, index_fault, index_in, is_dirty_in, timestamp_in};
 ghost use Rattle.index_file.specs.Index.{IndexSpells};
 ghost use Rattle.index_file.specs.declared.fault.IndexFault.TheVariants.{Memory};
@@ -10,17 +9,10 @@ ghost use Rattle.record_list.specs.Change.{HasNoRemoved};
 ghost use Rattle.record_list.specs.Lists.{HasNames};
 ghost use Rattle.record_list.specs.Stored.{AreClean};
 
-use crate::{FLAG_AT, HEADER, IndexFault, IndexImage, LEAST, VERSION};
-use byteorder::{BigEndian, ByteOrder};
+use crate::{FLAG_AT, HEADER, IndexFault, IndexImage, LEAST, TIMESTAMP_AT, VERSION};
+use cache_base::u32_at;
 use record_list::parse_present;
 use std::alloc::Global;
-
-fn number_at(b: &[u8], at: usize) -> u32
-    requires { at + 4 ≤ length b.now }
-    ensures { result ≡ be32_at b.now at }
-{
-    BigEndian::read_u32(&b[at..])
-}
 
 fn read_all(alloc: Global, b: &[u8]) -> Result<IndexImage, IndexFault>
     ensures passes { OnOk result (index_fault b.now ≡ None) }
@@ -35,14 +27,14 @@ fn read_all(alloc: Global, b: &[u8]) -> Result<IndexImage, IndexFault>
     if b.len() < LEAST {
         return Err(IndexFault::Short);
     }
-    if number_at(b, 0) != VERSION {
+    if u32_at(b, 0) != VERSION {
         return Err(IndexFault::Version);
     }
     let (_, part) = b.split_at(HEADER);
     let records = parse_present(alloc, part)?;
     Ok(IndexImage {
-        timestamp: number_at(b, 4),
-        dirty: number_at(b, FLAG_AT) != 0,
+        timestamp: u32_at(b, TIMESTAMP_AT),
+        dirty: u32_at(b, FLAG_AT) != 0,
         records,
     })
 }
@@ -52,7 +44,7 @@ pub fn parse(alloc: Global, b: &[u8]) -> Result<IndexImage, IndexFault>
     // What is read is what the bytes spell.
     ensures spelled { IfOk result (λ image.
         IndexSpells b.now image.timestamp image.dirty image.records) }
-    // Bytes that spell an index are refused only for want of memory.
+    // Bytes that spell an index are refused only where memory ran out.
     ensures refused { (timestamp : ℕ) (dirty : Bool) (rs : List IndexRecord) →
         IndexSpells b.now timestamp dirty rs → IfErr result (λ f. f ≡ Memory) }
     ensures distinct { IfOk result (λ image. HasNames image.records) }

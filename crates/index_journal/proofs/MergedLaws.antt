@@ -16,7 +16,7 @@ use Rattle.record_list.proofs.OrderLaws.{all_unlike}
 use Rattle.record_list.proofs.ReadingLaws.{all_left, filter_distinct}
 use Rattle.index_journal.specs.Merged.{merged}
 
--- the record under a name of a list with one more in front
+-- the record under a name of a list with one more before it
 at_front : (r : IndexRecord) (rs : List IndexRecord) (name : Name) (s : Bool) → same_name r.name name ≡ s → record_at (r ∷ rs) name ≡ cond s (Some r) (record_at rs name)
 at_front r rs name s e = ap (λ b. cond b (Some r) (record_at rs name)) e
 

@@ -4,13 +4,13 @@ use Rattle.index_journal.specs.RecordsFault.{fault_of}
 use Rattle.index_journal.specs.declared.fault.JournalFault.{JournalFault}
 use Rattle.index_journal.specs.declared.fault.JournalFault.TheVariants as faults
 use Rattle.index_record.specs.declared.record.IndexRecord.{IndexRecord}
-use Rattle.record_list.specs.Stored.{read_as, records_fault, stored_in}
+use Rattle.record_list.specs.Stored.{hash_size, read_as, records_fault, stored_in}
 
 -- the fault of the first failing check: that of the length, or else of the records
 abbrev pub journal_fault : List ℕ → Option JournalFault
-journal_fault xs = if nat_le 4 (length xs) then option_map fault_of (records_fault xs) else Some faults.Short
+journal_fault xs = if nat_le hash_size (length xs) then option_map fault_of (records_fault xs) else Some faults.Short
 
--- the fault is that of the first failing check, or want of memory
+-- the fault is that of the first failing check, or says that memory ran out
 abbrev pub IsFirstFault : List ℕ → JournalFault → Type 0
 IsFirstFault xs faults.Memory = Unit {0}
 IsFirstFault xs f = journal_fault xs ≡ Some f

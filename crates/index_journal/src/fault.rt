@@ -5,7 +5,7 @@ ghost use Rattle.index_journal.specs.RecordsFault.{fault_of};
 
 use record_list::RecordsFault;
 
-/// The first failing check of a journal, in this order, or want of memory.
+/// The first failing check of a journal, in this order, or that memory ran out.
 #[derive(Clone, Copy, Debug, PartialEq, Eq)]
 pub enum JournalFault {
     /// There is no room for the hash.

@@ -15,6 +15,7 @@ pub use fault::JournalFault;
 pub use laws::{journal_fits_exactly, journal_reads_back};
 pub use printing::print;
 pub use reading::parse;
+use record_list::HASH;
 
 /// The fewest bytes of a journal: the hash of no records.
-pub const LEAST: usize = 4;
+pub const LEAST: usize = HASH;

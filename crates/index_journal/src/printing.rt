@@ -9,7 +9,7 @@ use cache_base::{Bytes, NoMemory};
 use index_record::Records;
 use std::alloc::Global;
 
-/// The bytes of the file `index.log` with these records, in name order. Fails only for want of memory.
+/// The bytes of the file `index.log` with these records, in name order. Fails only where memory ran out.
 pub fn print(alloc: Global, records: &Records) -> Result<Bytes, NoMemory>
     requires distinct { HasNames records.now }
     requires clean { AreClean records.now }

@@ -31,7 +31,7 @@ fn read_all(alloc: Global, b: &[u8]) -> Result<Records, JournalFault>
 pub fn parse(alloc: Global, b: &[u8]) -> Result<Records, JournalFault>
     // What is read is what the bytes spell.
     ensures spelled { IfOk result (JournalSpells b.now) }
-    // Bytes that spell a journal are refused only for want of memory.
+    // Bytes that spell a journal are refused only where memory ran out.
     ensures refused { (rs : List IndexRecord) → JournalSpells b.now rs →
         IfErr result (λ f. f ≡ Memory) }
     ensures distinct { IfOk result HasNames }

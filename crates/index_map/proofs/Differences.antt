@@ -1,15 +1,15 @@
 -- The changes of the slots, by rising names, are the difference.
-use Rattle.std.proofs.Common.{◌≡◌, false, List, refl, sym, ap, ◌∙◌, length}
+use Rattle.std.proofs.Common.{◌≡◌, List, refl, sym, ap, ◌∙◌, length}
 use Rattle.std.specs.List.{filter_map}
 use Rattle.std.specs.Map.{lookup, values_of}
 use Rattle.std.specs.Prelude.{IfSome, None, Option, Some, option_and_then}
 use Rattle.std.proofs.lemmas.List.Sorted.{length_permutation}
 use Rattle.cache_base.specs.declared.name.Name.{Name}
-use Rattle.index_record.specs.Record.{has_bit, removed_record}
+use Rattle.index_record.specs.Record.{removed_record}
 use Rattle.index_record.specs.declared.record.IndexRecord.{IndexRecord}
 use Rattle.record_list.specs.Change.{IsDiff, change}
 use Rattle.record_list.specs.Lists.{HasNames, IsByName, same_name}
-use Rattle.record_list.specs.Stored.{AreClean}
+use Rattle.record_list.specs.Stored.{AreClean, IsClean}
 use Rattle.record_list.proofs.SortedLaws.{by_name_keeps}
 use Rattle.index_map.specs.Known.{changed}
 use Rattle.index_map.specs.Slots.{IsSlotOf, IsTable, base_in, change_in, change_of, current_in, Slot}
@@ -45,7 +45,7 @@ is_diff table out is by = record {
 }
 
 pub is_clean : (table : List (Name × Slot)) (out : List IndexRecord) → IsTable table → IsByName (changes_of table) out → AreClean out
-is_clean table out is by = all_moved (λ r. (has_bit 28 r.flags ≡ false) × (has_bit 27 r.flags ≡ false)) (changes_of table) out by.same (clean_changes table is)
+is_clean table out is by = all_moved IsClean (changes_of table) out by.same (clean_changes table is)
 
 pub diff_long : (table : List (Name × Slot)) (out : List IndexRecord) → IsTable table → IsByName (changes_of table) out
     → length out ≡ changed (base_in (values_of table)) (current_in (values_of table))

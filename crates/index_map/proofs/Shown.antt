@@ -3,18 +3,18 @@ use Rattle.std.proofs.Common.{◌≡◌, Bool, true, false, cond, List, [], ◌�
 use Rattle.std.specs.List.{cons_option, filter_map}
 use Rattle.std.specs.Map.{lookup, values_of}
 use Rattle.std.specs.Option.{option_map}
-use Rattle.std.specs.Prelude.{IfSome, None, Option, Some, option_and_then, is_some}
+use Rattle.std.specs.Prelude.{Err, IfSome, None, Ok, OnErr, OnOk, Option, Result, Some, option_and_then, is_some}
 use Rattle.std.proofs.lemmas.Bool.{or_parts}
 use Rattle.std.proofs.lemmas.List.Elements.{All-weaker}
 use Rattle.cache_base.specs.declared.name.Name.{Name}
-use Rattle.index_record.specs.Record.{has_bit, is_removed}
+use Rattle.index_record.specs.Record.{is_removed}
 use Rattle.index_record.specs.declared.record.IndexRecord.{IndexRecord}
 use Rattle.record_list.specs.Change.{record_eq}
 use Rattle.record_list.specs.Lists.{record_at, same_name}
-use Rattle.record_list.specs.Stored.{AreClean}
-use Rattle.record_list.proofs.NameLaws.{same_is}
-use Rattle.index_map.specs.Known.{BeginsOver, IsKnown, IsPlain, Sets}
-use Rattle.index_map.specs.Slots.{IsSlotOf, IsTable, PutsSlot, base_slot, change_in, change_of, is_used, rewritten, seen_of, seen_only, shown, written, Slot}
+use Rattle.record_list.specs.Stored.{AreClean, IsClean}
+use Rattle.record_list.proofs.NameLaws.{same_is, same_itself}
+use Rattle.index_map.specs.Known.{BeginsOver, IsKnown, IsPlain, Known, SameBase, Sets}
+use Rattle.index_map.specs.Slots.{IsSlotOf, IsTable, PutsSlot, base_in, base_slot, change_in, change_of, is_used, rewritten, seen_of, seen_only, shown, written, Slot}
 use Rattle.index_map.proofs.Lookups.{Own, all-part, names-part, record_at-part}
 
 -- ---- the parts of a slot
@@ -40,9 +40,6 @@ seen_own name slot h = go slot.seen
     go false = tt
 
 -- what a journal has to say of a slot is of its name, and neither dirty nor fresh
-abbrev IsClean : IndexRecord → Type 0
-IsClean r = (has_bit 28 r.flags ≡ false) × (has_bit 27 r.flags ≡ false)
-
 change_fits : (name : Name) (base current : Option IndexRecord) → IfSome base (λ r. r.name ≡ name) → IfSome current (λ r. (r.name ≡ name) × IsPlain r)
     → IfSome (change_of base current) (λ r. (r.name ≡ name) × IsClean r)
 change_fits name None None b c = tt
@@ -92,8 +89,8 @@ seen_is_current (Some slot) = go slot.seen slot.current
     go true (Some r) = refl
     go false o = tt
 
-pub is_known : (table : List (Name × Slot)) (has_base : Bool) → IsTable table → IsKnown (shown table has_base)
-is_known table has_base is = record {
+pub is_known : (table : List (Name × Slot)) (has_base : Bool) → (has_base ≡ false → base_in (values_of table) ≡ []) → IsTable table → IsKnown (shown table has_base)
+is_known table has_base none is = record {
   names = names-part current_of table is.distinct (own_current table is);
   base_names = names-part base_of table is.distinct (own_base table is);
   present = all-part (λ r. is_removed r ≡ false) current_of table (All-weaker (λ e. IsSlotOf e.0 e.1) (λ e. IfSome e.1.current (λ r. is_removed r ≡ false))
@@ -106,7 +103,29 @@ is_known table has_base is = record {
       let have = seen_is_current (lookup (same_name q) table) in
       let P : Option IndexRecord → Option IndexRecord → Type 0 = λ x y. IfSome x (λ r. y ≡ Some r) in
       subst (λ x. P x (record_at (filter_map current_of (values_of table)) q)) (sym s) (subst (λ y. P (option_and_then seen_of (lookup (same_name q) table)) y) (sym c) have);
+  no_base = none;
 }
+
+-- ---- without a base there are no records of one
+
+none_at_all : (rs : List IndexRecord) → ((q : Name) → record_at rs q ≡ None) → rs ≡ []
+none_at_all [] h = refl
+none_at_all (r ∷ rs) h =
+    let here : record_at (r ∷ rs) r.name ≡ Some r = ap (λ b. cond b (Some r) (record_at rs r.name)) (same_itself r.name) in
+    let none = h r.name in
+    absurd (cc)
+
+-- none where the base holds the same as before
+pub still_no_base : (old new : Known) → SameBase old new → (old.has_base ≡ false → old.base ≡ []) → new.has_base ≡ false → new.base ≡ []
+still_no_base old new same none without =
+    none_at_all new.base (λ q. same.records q ∙ ap (λ rs. record_at rs q) (none (sym same.has_base ∙ without)))
+
+-- a record was put, or the slots are as they were
+pub put_no_base : {T E : Type 0} (old new : List (Name × Slot)) (has_base : Bool) (name : Name) (r : Option IndexRecord) (answer : Result T E)
+    → OnOk answer (Sets (shown old has_base) (shown new has_base) name r) → OnErr answer (new ≡ old)
+    → (has_base ≡ false → base_in (values_of old) ≡ []) → has_base ≡ false → base_in (values_of new) ≡ []
+put_no_base old new has_base name r (Ok x) sets err none = still_no_base (shown old has_base) (shown new has_base) sets.base none
+put_no_base old new has_base name r (Err e) sets same none = λ without. ap (λ t. base_in (values_of t)) same ∙ none without
 
 -- ---- one slot is put or taken
 

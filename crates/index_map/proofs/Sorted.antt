@@ -1,20 +1,21 @@
 -- Records can be put in name order, and then say the same under each name.
 use Rattle.std.proofs.Common.{◌≡◌, Bool, true, false, cond, List, [], ◌∷◌, refl, sym, ap, ◌∙◌, subst}
-use Rattle.std.specs.List.{AllByRecursion}
-use Rattle.std.specs.List.Sorted.{IsStrictlySortedBy}
+use Rattle.std.specs.List.{AllByRecursion, IsDistinct}
+use Rattle.std.specs.List.Sorted.{IsPermutation, IsStrictlySortedBy}
 use Rattle.std.specs.Prelude.{Some}
 use Rattle.std.specs.declared.cmp.Ordering.{Ordering}
 use Rattle.std.specs.declared.cmp.Ordering.TheVariants.{Less, Equal, Greater}
+use Rattle.std.proofs.lemmas.List.Sorted.{IsPermutation-cons, IsPermutation-middle, IsPermutation-refl, IsPermutation-sym, IsPermutation-trans}
 use Rattle.cache_base.specs.Names.{name_cmp}
 use Rattle.cache_base.specs.declared.name.Name.{Name}
 use Rattle.index_record.specs.declared.record.IndexRecord.{IndexRecord}
 use Rattle.record_list.specs.Change.{applied, journal_or}
-use Rattle.record_list.specs.Lists.{AreRising, names_of, record_at, same_name}
-use Rattle.record_list.proofs.NameLaws.{above_below, below_apart, below_trans, tied_same}
+use Rattle.record_list.specs.Lists.{AreRising, HasNames, IsByName, names_of, record_at, same_name}
+use Rattle.record_list.proofs.NameLaws.{above_below, below_apart, below_trans, same_itself, tied_same}
 use Rattle.index_map.specs.Known.{Applies, BeginsOver, BeginsAfter, Known}
 use Rattle.index_map.proofs.Steps.{crossed, not_both}
 
--- r before x, in its place, or behind it
+-- r before x, in its place, or after it
 abbrev placed : Ordering → IndexRecord → IndexRecord → List IndexRecord → List IndexRecord → List IndexRecord
 placed Less r x xs behind = r ∷ x ∷ xs
 placed Equal r x xs behind = r ∷ xs
@@ -63,6 +64,34 @@ sorted_none = tt
 pub sorted_rises : (xs : List IndexRecord) → AreRising (sorted xs)
 sorted_rises [] = sorted_none
 sorted_rises (x ∷ xs) = put_rises x (sorted xs) (sorted_rises xs)
+
+-- ---- the same records, where no name stands twice
+
+all_sorted : (P : Name → Type 0) (xs : List IndexRecord) → AllByRecursion P (names_of xs) → AllByRecursion P (names_of (sorted xs))
+all_sorted P [] all = tt
+all_sorted P (x ∷ xs) all = all_put P x (sorted xs) all.0 (all_sorted P xs all.1)
+
+moved_put : (r : IndexRecord) (xs : List IndexRecord) → AllByRecursion (λ y. same_name r.name y ≡ false) (names_of xs) → IsPermutation (r ∷ xs) (put r xs)
+moved_put r [] apart = IsPermutation-refl (r ∷ [])
+moved_put r (x ∷ xs) apart = go (name_cmp r.name x.name) refl (moved_put r xs apart.1)
+  where
+    go : (o : Ordering) → name_cmp r.name x.name ≡ o → IsPermutation (r ∷ xs) (put r xs) → IsPermutation (r ∷ x ∷ xs) (placed o r x xs (put r xs))
+    go Less e moved = IsPermutation-refl (r ∷ x ∷ xs)
+    go Equal e moved =
+        let same : same_name r.name x.name ≡ true = ap (λ n. same_name r.name n) (sym (tied_same r.name x.name e)) ∙ same_itself r.name in
+        let other = apart.0 in
+        absurd (cc)
+    go Greater e moved = IsPermutation-trans _ _ _ (IsPermutation-sym _ _ (IsPermutation-middle (x ∷ []) r xs)) (IsPermutation-cons x _ _ moved)
+
+moved_sorted : (xs : List IndexRecord) → HasNames xs → IsPermutation xs (sorted xs)
+unfolding IsDistinct
+moved_sorted [] distinct = IsPermutation-refl []
+moved_sorted (x ∷ xs) distinct =
+    IsPermutation-trans _ _ _ (IsPermutation-cons x _ _ (moved_sorted xs distinct.1))
+    (moved_put x (sorted xs) (all_sorted (λ y. same_name x.name y ≡ false) xs distinct.0))
+
+pub sorted_by_name : (xs : List IndexRecord) → HasNames xs → IsByName xs (sorted xs)
+sorted_by_name xs distinct = record { rising = sorted_rises xs; same = moved_sorted xs distinct }
 
 -- ---- what stands under a name
 

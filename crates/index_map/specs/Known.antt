@@ -2,11 +2,11 @@
 use Rattle.std.specs.List.{AllByRecursion}
 use Rattle.std.specs.Prelude.{Bool, List, None, Option, Some, [], count_by, false, if◌then◌else◌, is_none, is_some, true, ℕ, IfSome, ◌+◌, ◌≡◌}
 use Rattle.cache_base.specs.declared.name.Name.{Name}
-use Rattle.index_record.specs.Record.{has_bit, is_removed}
+use Rattle.index_record.specs.Record.{is_removed}
 use Rattle.index_record.specs.declared.record.IndexRecord.{IndexRecord}
 use Rattle.record_list.specs.Change.{HasNoRemoved, IsApplied, applied, change}
 use Rattle.record_list.specs.Lists.{HasNames, record_at, same_name}
-use Rattle.record_list.specs.Stored.{AreClean}
+use Rattle.record_list.specs.Stored.{AreClean, IsClean}
 
 -- the records now, those of them that were seen, and the records of the base, in no fixed order; without a base it has
 -- no records
@@ -19,20 +19,21 @@ pub record Known : Type 0 where
 -- a record without the removed bit 29, the dirty bit 28 and the fresh bit 27
 pub record IsPlain (r : IndexRecord) : Type 0 where
   pub present : is_removed r ≡ false
-  pub clean : (has_bit 28 r.flags ≡ false) × (has_bit 27 r.flags ≡ false)
+  pub clean : IsClean r
 
 -- each of these records is plain
 abbrev pub ArePlain : List IndexRecord → Type 0
 ArePlain rs = AllByRecursion IsPlain rs
 
--- what is true of every map: no name stands twice, no record is removed, dirty or fresh, and what was seen is a
--- record now
+-- what is true of every map: no name stands twice, no record is removed, dirty or fresh, what was seen is a record now,
+-- and without a base there are no records of one
 pub record IsKnown (m : Known) : Type 0 where
   pub names : HasNames m.records
   pub base_names : HasNames m.base
   pub present : HasNoRemoved m.records
   pub clean : AreClean m.records
   pub seen : (name : Name) → IfSome (record_at m.seen name) (λ r. record_at m.records name ≡ Some r)
+  pub no_base : m.has_base ≡ false → m.base ≡ []
 
 -- the number of names whose record now differs from the base's: records that are new or differ, and those that are gone
 abbrev pub changed : List IndexRecord → List IndexRecord → ℕ

@@ -1,13 +1,13 @@
--- The slots behind a map: one for each name, held without the name.
+-- The slots of a map: one for each name, held without the name.
 use Rattle.std.specs.List.{IsDistinct, cons_option, filter_map}
 use Rattle.std.specs.Map.{keys_of, lookup, values_of}
 use Rattle.std.specs.Option.{option_eq, option_map, option_map_or}
 use Rattle.std.specs.Prelude.{All, Bool, IfSome, List, None, Option, Some, [], false, if◌then◌else◌, is_some, length, map, not, option_and_then, sum_by, true, ℕ, ◌<◌, ◌∷◌, ◌^◌, ◌||◌, ◌≡◌}
 use Rattle.cache_base.specs.Numbers.{one_if}
 use Rattle.cache_base.specs.declared.name.Name.{Name}
-use Rattle.index_record.specs.Record.{removed_record, size_kb}
+use Rattle.index_record.specs.Record.{size_kb}
 use Rattle.index_record.specs.declared.record.IndexRecord.{IndexRecord}
-use Rattle.record_list.specs.Change.{record_eq}
+use Rattle.record_list.specs.Change.{change, record_eq}
 use Rattle.record_list.specs.Lists.{AreRising, same_name}
 use Rattle.index_map.specs.Known.{ArePlain, IsPlain, Known}
 use Rattle.index_map.specs.declared.slot.Facts.{Facts}
@@ -73,10 +73,8 @@ differs slot = not (option_eq record_eq slot.base slot.current)
 
 -- what a journal has to say of a name with this record in the base, or none, and this one now, or none
 abbrev pub change_of : Option IndexRecord → Option IndexRecord → Option IndexRecord
-change_of None None = None
-change_of (Some b) None = Some (removed_record b.name)
-change_of None (Some r) = Some r
-change_of (Some b) (Some r) = if record_eq b r then None else Some r
+change_of None now = now
+change_of (Some b) now = change b.name (Some b) now
 
 -- what a journal has to say of a slot
 abbrev pub change_in : Slot → Option IndexRecord

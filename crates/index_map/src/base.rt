@@ -53,8 +53,7 @@ impl Base {
         }
     }
 
-    /// The base of these records, all of them seen or none. Records in name order stay where they are, and are not
-    /// copied.
+    /// The base of these records, all of them seen or none. They stay in their memory, where they are sorted by name.
     pub fn over(alloc: Global, records: Records, seen: bool) -> Result<Base, NoMemory>
         requires names { HasNames records }
         requires plain { ArePlain records }
@@ -62,7 +61,7 @@ impl Base {
             lookup (same_name q) base ≡ option_map (spec.base_slot seen) (record_at records q)) }
         ensures table { IfOk result spec.IsTable }
     {
-        let records = in_order(alloc, records)?;
+        let records = in_order(records);
         let marks = vec![in alloc; first_mark(seen); records.as_slice().len()]?;
         let counts = count_marked(records.as_slice(), marks.as_slice());
         Ok(Base {

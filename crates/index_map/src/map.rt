@@ -25,12 +25,16 @@ pub struct RecordMap {
 }
 
 impl Model for RecordMap {
+    ghost use Rattle.std.specs.Map.{values_of};
+    ghost use Rattle.std.specs.Prelude.{◌≡◌, [], false};
     ghost use Rattle.index_map.specs.Known.{Known};
-    ghost use Rattle.index_map.specs.Slots.{shown};
+    ghost use Rattle.index_map.specs.Slots.{base_in, shown};
 
     ghost Value = { Known };
 
     ghost view = { λ m. shown m.slots m.has_base };
+
+    ghost invariant = { λ m. m.has_base ≡ false → base_in (values_of m.slots) ≡ [] };
 }
 
 impl RecordMap {
@@ -47,8 +51,8 @@ impl RecordMap {
         }
     }
 
-    /// The map of the records of a base, all of them seen or none. Records in name order stay where they are, and are
-    /// not copied.
+    /// The map of the records of a base, all of them seen or none. They stay in their memory, where they are sorted by
+    /// name.
     pub fn with_base(alloc: Global, base: Records, seen: bool) -> Result<RecordMap, NoMemory>
         requires names { HasNames base }
         requires plain { spec.ArePlain base }
@@ -177,6 +181,14 @@ impl RecordMap {
         ensures known { spec.IsKnown self.now }
     {
         Ok(by_name(self.slots.records(self.alloc)?))
+    }
+
+    /// The records now, in no fixed order: for a caller that sorts them in another order.
+    pub fn unordered(&self) -> Result<Records, NoMemory>
+        ensures records { IfOk result (λ records. records ≡ self.now.records) }
+        ensures known { spec.IsKnown self.now }
+    {
+        Ok(Records::from_vec(self.slots.records(self.alloc)?))
     }
 
     /// What a journal has to say: in name order, for each name whose record now differs from the base's, the record

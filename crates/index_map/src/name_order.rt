@@ -1,24 +1,19 @@
 //! Records in name order, and the place of a name among them.
 
 ghost use Rattle.std.specs.List.{AllByRecursion, HoldsAt};
-ghost use Rattle.std.specs.Prelude.{◌≡◌, ◌<◌, IfNone, IfOk, IfSome, false, length};
+ghost use Rattle.std.specs.Prelude.{◌≡◌, ◌<◌, IfNone, IfSome, false, length};
 ghost use Rattle.record_list.specs.Lists.{AreRising, HasNames, IsByName, names_of, same_name};
 
-use cache_base::{Name, NoMemory};
+use cache_base::Name;
 use index_record::{IndexRecord, Records};
-use record_list::{by_name, rise};
-use std::alloc::Global;
+use record_list::by_name;
 
-/// The records in name order. Where they are in this order already, nothing is copied.
-pub(crate) fn in_order(alloc: Global, records: Records) -> Result<Records, NoMemory>
+/// The records in name order, in their memory.
+pub(crate) fn in_order(records: Records) -> Records
     requires { HasNames records }
-    ensures { IfOk result (IsByName records) }
+    ensures { IsByName records result }
 {
-    if rise(records.as_slice()) {
-        return Ok(records);
-    }
-    let list = Vec::from_slice(alloc, records.as_slice())?;
-    Ok(by_name(list))
+    by_name(records.into_vec())
 }
 
 /// The place of a name among records in name order.

@@ -39,7 +39,7 @@ module _ (r : IndexRecord) (is : IsRecord r) where
   record_long = length-append r.name.0 tail ∙ (let h = is.name.0 in omega (arith, h))
 
 module _ (xs : List ℕ) (bytes : AreBytes xs) (long : length xs ≡ 41) where
-  -- what stands in the k bytes from the place n on, in front of what follows them
+  -- what stands in the k bytes from the place n on, before what follows them
   onto : (n k : ℕ) (front rest : List ℕ) → front ≡ take k (drop n xs) → rest ≡ drop (n + k) xs → front ++ rest ≡ drop n xs
   onto n k front rest is more = (λ i. is i ++ more i) ∙ cut xs n k
 

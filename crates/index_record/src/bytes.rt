@@ -2,13 +2,13 @@
 
 ghost use Rattle.std.specs.Int.{from_be_bytes, to_be_bytes, w64};
 ghost use Rattle.std.specs.Prelude.{◌≡◌, ◌<◌, ◌≤◌, ◌+◌, ◌*◌, ◌/◌, ◌%◌, ◌^◌, ◌++◌, ◌∷◌, drop, length};
-ghost use Rattle.cache_base.specs.Bytes.{AreBytes, be16, be16_at, be32, be32_at};
+ghost use Rattle.cache_base.specs.Bytes.{AreBytes, be16, be32};
 ghost use Rattle.index_record.specs.Record.{IsRecord, cleared, record_bytes, record_in};
 
 use crate::RECORD;
 use crate::record::{DIRTY, FRESH, IndexRecord};
 use byteorder::{BigEndian, ByteOrder};
-use cache_base::{Name, bytes_fit};
+use cache_base::{Name, bytes_fit, u16_at, u32_at};
 
 // The flags that go to a file.
 const STORED: u32 = !(DIRTY | FRESH);
@@ -17,20 +17,6 @@ fn stored(flags: u32) -> u32
     ensures { result ≡ flags / 2 ^ 29 * 2 ^ 29 + flags % 2 ^ 27 }
 {
     flags & STORED
-}
-
-fn u16_at(b: &[u8], at: usize) -> u16
-    requires { at + 2 ≤ length b.now }
-    ensures { result ≡ be16_at b.now at }
-{
-    BigEndian::read_u16(&b[at..])
-}
-
-fn u32_at(b: &[u8], at: usize) -> u32
-    requires { at + 4 ≤ length b.now }
-    ensures { result ≡ be32_at b.now at }
-{
-    BigEndian::read_u32(&b[at..])
 }
 
 fn u64_at(b: &[u8], at: usize) -> u64

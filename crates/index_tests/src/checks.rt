@@ -37,7 +37,7 @@ const CUT: &[u8] = b"hello\x06\xab\x5e\x9a\x39\x9e\
     \0\0\0\x03\0\0\0\x01\0\0\x03\xe8\0\0\x03\xe8\0\0\x03\xe8\xff\xff\xff\xff\0\0\0\x15\0\0\0\0\
     :https://example.com/\0\0\0\0";
 
-// What stands behind a body of 262,145 bytes of the same key, with 1 and 2 as the hashes of its chunks.
+// What stands after a body of 262,145 bytes of the same key, with 1 and 2 as the hashes of its chunks.
 const LONG_TAIL: &[u8] = b"\x95\xef\xfb\x31\0\x01\0\x02\
     \0\0\0\x03\0\0\0\x01\0\0\x03\xe8\0\0\x03\xe8\0\0\x03\xe8\xff\xff\xff\xff\0\0\0\x15\0\0\0\0\
     :https://example.com/\0\0\x04\0\x01";

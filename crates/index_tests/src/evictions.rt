@@ -1,5 +1,5 @@
 use cache_base::{Name, Names, NoMemory};
-use evictor::{order, order_sorts, victims, victims_suffice};
+use evictor::{order, order_sorts, same_in_any_order, victims, victims_suffice};
 use index_record::{INITIALIZED, IndexRecord, NO_TIME, PINNED, Records};
 use std::alloc::Global;
 
@@ -108,4 +108,5 @@ fn the_shortest_prefix_that_is_enough_goes(rt: HostRuntime) {
 fn laws_are_called() {
     order_sorts();
     victims_suffice();
+    same_in_any_order();
 }

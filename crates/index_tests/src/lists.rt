@@ -120,7 +120,7 @@ fn rises_as(alloc: Global, part: &[u8], due: &[IndexRecord]) -> Result<bool, Fai
     Ok(rising(alloc, &records)?.as_slice() == due)
 }
 
-// Whether a part's records are printed behind this front as these bytes.
+// Whether a part's records are printed after this head as these bytes.
 fn prints_as(alloc: Global, part: &[u8], front: &[u8], due: &[u8]) -> Result<bool, Fail> {
     let records = parsed(alloc, part)?;
     let printed = print(alloc, front, &records)?;

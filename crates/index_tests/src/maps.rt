@@ -90,6 +90,8 @@ enum Step<'a> {
     GivesNone(Name),
     // The KB of each name, or that it is removed.
     Records(&'a [(Name, Option<u16>)]),
+    // The same of the list in no fixed order, of one record.
+    Unordered(&'a [(Name, Option<u16>)]),
     Diff(&'a [(Name, Option<u16>)]),
 }
 
@@ -144,6 +146,7 @@ fn tells(map: &RecordMap, step: Step<'_>) -> Result<bool, NoMemory> {
         Step::Gives(name, kb) => map.get(&name) == Some(record(name, kb)),
         Step::GivesNone(name) => map.get(&name).is_none(),
         Step::Records(due) => are(map.records()?.as_slice(), due),
+        Step::Unordered(due) => are(map.unordered()?.as_slice(), due),
         Step::Diff(due) => are(map.diff()?.as_slice(), due),
         _ => false,
     })
@@ -214,6 +217,7 @@ fn a_base_is_seen_and_changed(rt: HostRuntime) {
         Step::DropUnseen,
         Step::Numbers(1, 2, 1),
         Step::Records(&[(TWO, Some(2))]),
+        Step::Unordered(&[(TWO, Some(2))]),
         Step::Diff(&[(ONE, None)]),
         // what was written is the base
         Step::Base(true),

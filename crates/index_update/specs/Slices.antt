@@ -5,7 +5,7 @@ use Rattle.cache_base.specs.declared.name.Name.{Name}
 use Rattle.disk_model.specs.Account.{Ending}
 use Rattle.disk_model.specs.Account.Ending.{OneFailed}
 use Rattle.disk_model.specs.declared.disk.Disk.{Ghosts}
-use Rattle.entry_file.specs.Looks.{LooksAtMost}
+use Rattle.entry_file.specs.Looks.{LooksAtMost, meta_looks}
 use Rattle.index_map.specs.Known.{Known}
 use Rattle.index_theory.specs.Ever.{Entries}
 use Rattle.index_update.specs.Reads.{ReadsIn}
@@ -18,8 +18,9 @@ pub record ReadsSlice (es : Entries) (first rest left : List Name) (old new : Kn
   pub records : left ≢ [] → ReadsIn es first old.records new.records
   pub tells : left ≡ [] → ComesToTell es old rest new
 
--- the disk is looked at alone, by at most four calls for each of so many names, and its faults are accounted for
+-- the disk is looked at alone, for each of so many names by at most the calls that an entry's metadata take, and its
+-- faults are accounted for
 pub record LooksAtNames {Self : _} (D : Ghosts Self) (answer : Ending) (names : ℕ) (before now : Self) : Type 0 where
   pub cause : HasCause (answer ≡ OneFailed) (D.faults before) (D.faults now)
   pub state : IsTrue D.tells → D.state now ≡ D.state before
-  pub looks : IsTrue D.tells → LooksAtMost (4 * names) (D.counts before) (D.counts now)
+  pub looks : IsTrue D.tells → LooksAtMost (meta_looks * names) (D.counts before) (D.counts now)

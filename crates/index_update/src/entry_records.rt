@@ -3,7 +3,7 @@
 ghost use Rattle.std.specs.Prelude.{◌≡◌, ◌*◌, IfOk, IfSome, IsErrOf, IsTrue, OnErr, OnOk, length};
 ghost use Rattle.cache_base.specs.Causes.{HasCause};
 ghost use Rattle.disk_model.specs.declared.disk.DiskFault.TheVariants.{Failed};
-ghost use Rattle.entry_file.specs.Looks.{LooksAtMost};
+ghost use Rattle.entry_file.specs.Looks.{LooksAtMost, meta_looks};
 ghost use Rattle.entry_metadata.specs.Meta.{meta_of};
 ghost use Rattle.index_map.specs.Known.{IsPlain, SameBase, Sets};
 ghost use Rattle.index_record.specs.Filling.{record_of_meta};
@@ -39,7 +39,8 @@ fn read_record<D: Disk>(
     ensures named { IfOk result (λ found. IfSome found (λ r. r.name ≡ name.now)) }
     ensures plain { IfOk result (λ found. IfSome found IsPlain) }
     ensures state { IsTrue D.tells → D.state disk.new ≡ D.state disk.old }
-    ensures looks { IsTrue D.tells → LooksAtMost 4 (D.counts disk.old) (D.counts disk.new) }
+    ensures looks { IsTrue D.tells →
+        LooksAtMost meta_looks (D.counts disk.old) (D.counts disk.new) }
     ensures cause { HasCause (IsErrOf result DiskFault.Failed)
         (D.faults disk.old) (D.faults disk.new) }
 {
@@ -62,7 +63,8 @@ fn read_one<D: Disk>(
     ensures base { SameBase map.old map.new }
     ensures kept { OnErr result (map.new ≡ map.old) }
     ensures state { IsTrue D.tells → D.state disk.new ≡ D.state disk.old }
-    ensures looks { IsTrue D.tells → LooksAtMost 4 (D.counts disk.old) (D.counts disk.new) }
+    ensures looks { IsTrue D.tells →
+        LooksAtMost meta_looks (D.counts disk.old) (D.counts disk.new) }
     ensures cause { HasCause (IsErrOf result DiskFault.Failed)
         (D.faults disk.old) (D.faults disk.new) }
 {
@@ -88,7 +90,7 @@ pub(crate) fn read_each<D: Disk>(
     ensures base { SameBase map.old map.new }
     ensures state { IsTrue D.tells → D.state disk.new ≡ D.state disk.old }
     ensures looks { IsTrue D.tells →
-        LooksAtMost (4 * length names.now) (D.counts disk.old) (D.counts disk.new) }
+        LooksAtMost (meta_looks * length names.now) (D.counts disk.old) (D.counts disk.new) }
     ensures cause { HasCause (IsErrOf result DiskFault.Failed)
         (D.faults disk.old) (D.faults disk.new) }
 {

@@ -57,7 +57,7 @@ absorb_all-front w m =
     sym (ap (λ (s : List ℕ). absorb_all w s) (take-append-drop (length m / 12 * 12) m))
     ∙ absorb_all-append w (length m / 12) (front m) (tail m) (length-front m) ∙ absorb_all_short (absorb_all w (front m)) (tail m) short
 
--- more bytes go on from the words of the first, with the bytes that were left in front of them
+-- more bytes go on from the words of the first, with the bytes that were left before them
 absorb_all_more : (w : Words) (m d : List ℕ) → absorb_all w (m ++ d) ≡ absorb_all (absorb_all w m) (tail m ++ d)
 absorb_all_more w m d =
     sym (ap (λ (s : List ℕ). absorb_all w s) (front-tail m d))

@@ -38,7 +38,7 @@ fed_kept s n m d holds size short words group at len =
       omega (arith, length-append m d),
     )
 
--- a piece whose front fills the group g, with the bytes t after the last of its groups
+-- a piece whose prefix fills the group g, with the bytes t after the last of its groups
 pub fed_filled : (s n : Hasher) (m d f r g t : List ℕ) → WasFedBytes s m → length s.group ≡ 12 → s.held < 12 → d ≡ f ++ r
     → length f ≡ 12 - s.held → length g ≡ 12 → take (s.held + length f) g ≡ take s.held s.group ++ f
     → n.words ≡ absorb_all (absorb s.words g) r → t ≡ tail r → n.held ≡ length t → take (0 + length t) n.group ≡ t

@@ -17,7 +17,7 @@ pub(crate) fn read_whole<F: Read + Seek>(file: &mut F, from: u64, buf: &mut [u8]
     file.read_exact(buf)
 }
 
-// Fills the buffer's front from the offset on, as far as the file goes, and tells how many bytes that are.
+// Fills the beginning of the buffer from the offset on, as far as the file goes, and tells how many bytes that are.
 fn read_front<F: Read + Seek>(file: &mut F, from: u64, buf: &mut [u8]) -> io::Result<usize>
     ensures len { IfOk result (λ n. n ≤ length buf.old) }
 {

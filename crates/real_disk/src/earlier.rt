@@ -12,12 +12,10 @@ use crate::paths::{INDEX, LOG, TMP, path_in};
 use crate::standing::Standing;
 use crate::sync_note;
 use crate::tree::{file_len, open_regular, read_only};
+use index_file::FLAG_AT;
 use std::fs;
 use std::io::{self, ErrorKind};
 use std::rt::Files;
-
-// Where the flag of `index` stands (docs/FORMATS.md).
-const FLAG_AT: u64 = 8;
 
 /// Why no change of an earlier process waits. Only the functions here make it.
 #[derive(Clone, Copy, Debug, PartialEq, Eq)]
@@ -124,6 +122,6 @@ fn is_missing<R: Files>(rt: &R, path: &str) -> io::Result<bool> {
 fn is_flag_clear<R: Files>(rt: &R, path: &str) -> io::Result<bool> {
     let mut file = open_regular(rt, &read_only(), path)?;
     let mut flag = [0; 4];
-    read_whole(&mut file, FLAG_AT, &mut flag)?;
+    read_whole(&mut file, FLAG_AT as u64, &mut flag)?;
     Ok(u32::from_be_bytes(flag) == 0)
 }

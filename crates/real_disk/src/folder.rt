@@ -214,7 +214,7 @@ impl<R: Files + AllocGlobal> Folder<'_, R> {
         self.tree.make_file(area, path)
     }
 
-    /// The file then ends behind the bytes.
+    /// The file then ends after the bytes.
     pub(crate) fn write_end(&mut self, place: &Place, from: u64, bytes: &[u8]) -> io::Result<()>
         ensures noted { OnOk result (IsNoted self.new.files place.now) }
         ensures kept { KeepsNote place.now self.old.files self.new.files }
@@ -234,7 +234,7 @@ impl<R: Files + AllocGlobal> Folder<'_, R> {
         outcome
     }
 
-    /// The file keeps what lies behind the bytes.
+    /// The file keeps what lies after the bytes.
     pub(crate) fn patch(&mut self, place: &Place, from: u64, bytes: &[u8]) -> io::Result<()>
         ensures noted { OnOk result (IsNoted self.new.files place.now) }
         ensures kept { KeepsNote place.now self.old.files self.new.files }
@@ -391,7 +391,7 @@ impl<R: Files + AllocGlobal + Clone + Drop> Folder<'_, R> {
         let tree = &self.tree;
         let kept = &self.kept;
         sync_each(&mut self.files, |place| sync_file(tree, kept, place))?;
-        self.kept.settle();
+        self.kept.close_synced();
         let was_synced = self.earlier.is_synced();
         let covered = self.cover_earlier()?;
         self.tree.sync()?;

@@ -138,7 +138,7 @@ impl<F: Drop> Kept<F> {
     }
 
     /// All files were synced. Of them the last one stays open.
-    pub(crate) fn settle(&mut self) {
+    pub(crate) fn close_synced(&mut self) {
         if let Some(mut opened) = self.written.pop() {
             opened.unsynced = false;
             self.last = Some(opened);

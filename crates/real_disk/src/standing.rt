@@ -116,7 +116,7 @@ impl<R: Files + AllocGlobal + Clone + Drop> Tree<'_, R> {
     }
 }
 
-// Where a link stands in the place of a folder of the cache, the files behind it are not the cache's.
+// Where a link stands in the place of a folder of the cache, the files that it leads to are not the cache's.
 fn refuse_link<R: Files>(rt: &R, path: &str) -> io::Result<()> {
     match fs::symlink_metadata(rt, path) {
         Ok(found) if found.is_symlink() => Err(ErrorKind::Other.into()),

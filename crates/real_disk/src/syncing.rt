@@ -10,7 +10,7 @@ use std::alloc::Global;
 use std::collections::BTreeSet;
 use std::io;
 
-/// Syncs each and takes it off. One that fails stays, with all behind it.
+/// Syncs each and takes it off. One that fails stays, with all after it.
 pub(crate) fn sync_each<K: Ord + Drop, S: Fn(&K) -> io::Result<()>>(
     pending: &mut BTreeSet<K, Global>,
     sync: S,

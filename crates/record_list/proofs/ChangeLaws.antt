@@ -92,7 +92,7 @@ some_not_none r e = absurd (cc)
 pub some_same : (r s : IndexRecord) → Some r ≡ Some s → r ≡ s
 some_same r s e = ap (λ o. unwrap_or o r) e
 
--- the records behind the first, at a name that is not the first's
+-- the records after the first, at a name that is not the first's
 behind : (x : IndexRecord) (xs : List IndexRecord) (name : Name) → same_name x.name name ≡ false → record_at (x ∷ xs) name ≡ record_at xs name
 behind x xs name apart = ap (λ c. cond c (Some x) (record_at xs name)) apart
 

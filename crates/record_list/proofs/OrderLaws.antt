@@ -1,21 +1,21 @@
 -- Lists that are sorted by name, and names none of which stands twice.
 use Rattle.std.proofs.Common.{◌≡◌, ℕ, ◌+◌, ◌<◌, List, [], ◌∷◌, length, get_or, Bool, true, false, not, ◌&&◌, ◌||◌, refl, sym, ap, ◌∙◌, arith}
-use Rattle.std.specs.Prelude.{map, ◌↔◌}
+use Rattle.std.specs.Prelude.{IsTrue, map, ◌↔◌}
 use Rattle.std.specs.List.{AllByRecursion, IsAllAdjacentAnswer, IsDistinct, list_any}
-use Rattle.std.specs.List.Sorted.{IsPermutation, IsSorted, IsSortedByKey}
+use Rattle.std.specs.List.Sorted.{IsPermutation, IsSortedByKey}
 use Rattle.std.specs.Ordering.{is_lt}
 use Rattle.std.specs.declared.cmp.Ordering.{Ordering}
 use Rattle.std.specs.declared.cmp.Ordering.TheVariants.{Less, Equal, Greater}
 use Rattle.std.proofs.lemmas.Bool.{and_parts}
 use Rattle.std.proofs.lemmas.List.{get_or-map, length-map}
-use Rattle.std.proofs.lemmas.List.Sorted.{IsPermutation-sym}
+use Rattle.std.proofs.lemmas.List.Sorted.{IsPermutation-map, IsPermutation-sym}
 use Rattle.std.proofs.lemmas.Map.Keys.{IsDistinct-IsPermutation, Less-from_sorted, apart_from_distinct, sorted_from_all_adjacent}
 use Rattle.cache_base.specs.Names.{AreRising, name_cmp}
 use Rattle.cache_base.specs.declared.name.Name.{Name}
 use Rattle.cache_base.proofs.NameLaws.{name_cmp_total}
 use Rattle.index_record.specs.Record.{removed_record}
 use Rattle.index_record.specs.declared.record.IndexRecord.{IndexRecord}
-use Rattle.record_list.specs.Lists.{names_of, same_name}
+use Rattle.record_list.specs.Lists.{HasNames, IsByName, names_of, same_name}
 use Rattle.record_list.specs.Stored.{are_distinct}
 use Rattle.record_list.proofs.NameLaws.{above_below, rising_distinct, same_back, same_itself, tied_same}
 
@@ -83,24 +83,17 @@ below_from_test Less h = refl
 below_from_test Equal h = absurd (cc)
 below_from_test Greater h = absurd (cc)
 
--- names are distinct exactly where each of them is below the next once they are sorted
-pub distinct_answer : (names sorted : List Name) → IsPermutation names sorted → IsSorted name_cmp sorted
-    → (r : Bool) → IsAllAdjacentAnswer (λ a b t. t ≡ is_lt (name_cmp a b)) sorted r → r ≡ are_distinct names
-distinct_answer names sorted moved up true answer =
-    let rising : AreRising sorted = sorted_from_all_adjacent name_cmp_total sorted no_name (λ k h. below_from_test _ (answer k no_name h)) in
-    sym (are_apart names (distinct_permutation sorted names (IsPermutation-sym names sorted moved) (rising_distinct sorted rising)))
-distinct_answer names sorted moved up false answer = go (are_distinct names) refl
+-- where records that were sorted by name rise, none of the names stands twice, and nowhere else
+pub distinct_answer : (rs sorted : List IndexRecord) (r : Bool) → IsPermutation rs sorted → (HasNames rs → IsByName rs sorted)
+    → (IsTrue r ↔ AreRising (names_of sorted)) → r ≡ are_distinct (names_of rs)
+distinct_answer rs sorted true moved by_name tells =
+    let back = IsPermutation-sym (names_of rs) (names_of sorted) (IsPermutation-map (λ (r : IndexRecord). r.name) rs sorted moved) in
+    sym (are_apart (names_of rs) (distinct_permutation (names_of sorted) (names_of rs) back (rising_distinct (names_of sorted) (tells.0 refl))))
+distinct_answer rs sorted false moved by_name tells = go (are_distinct (names_of rs)) refl
   where
-    go : (b : Bool) → are_distinct names ≡ b → false ≡ b
+    go : (b : Bool) → are_distinct (names_of rs) ≡ b → false ≡ b
     go false e = refl
-    go true e =
-        let apart : IsDistinct same_name sorted = distinct_permutation names sorted moved (distinct_are names e) in
-        let a : Name = get_or sorted answer.0 no_name in
-        let b : Name = get_or sorted (answer.0 + 1) no_name in
-        let less : name_cmp a b ≡ Less = neighbours a b (up answer.0 no_name (omega arith) answer.1) (apart_from_distinct same_name sorted answer.0 (answer.0 + 1) no_name apart (omega arith) answer.1) in
-        let test : is_lt (name_cmp a b) ≡ true = ap is_lt less in
-        let failed : false ≡ is_lt (name_cmp a b) = answer.2 no_name in
-        absurd (cc)
+    go true e = tells.1 (by_name (distinct_are (names_of rs) e)).rising
 
 no_record : IndexRecord
 no_record = removed_record no_name

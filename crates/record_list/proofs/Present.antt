@@ -11,7 +11,7 @@ still_removed r =
     let same : (r.flags / 2 ^ 29 * 2 ^ 29 + r.flags % 2 ^ 27) / 2 ^ 29 ≡ r.flags / 2 ^ 29 = omega arith in
     ap (λ n. n % 2 == 1) same
 
--- the list with one read record in front, where it is not removed
+-- the list with one read record at its head, where it is not removed
 with_one : IndexRecord → List IndexRecord → Bool → List IndexRecord
 with_one r rs b = cond (not b) (cleared r ∷ present (read_as rs)) (present (read_as rs))
 

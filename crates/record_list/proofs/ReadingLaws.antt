@@ -20,7 +20,7 @@ pub fits_distinct : (part : List ℕ) → records_fault part ≡ None → HasNam
 unfolding records_checks
 fits_distinct part fits = distinct_are (names_of (stored_in part)) (all_hold (records_checks part) fits).1.1.0
 
-names_read : (rs : List IndexRecord) → names_of (read_as rs) ≡ names_of rs
+pub names_read : (rs : List IndexRecord) → names_of (read_as rs) ≡ names_of rs
 names_read [] = refl
 names_read (r ∷ rs) = ap (λ ns. r.name ∷ ns) (names_read rs)
 

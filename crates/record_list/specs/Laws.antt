@@ -4,7 +4,7 @@ use Rattle.cache_base.specs.Bytes.{AreBytes}
 use Rattle.cache_base.specs.declared.name.Name.{Name}
 use Rattle.index_record.specs.declared.record.IndexRecord.{IndexRecord}
 use Rattle.record_list.specs.Lists.{AreRising, HasNames, IsByName, record_at}
-use Rattle.record_list.specs.Stored.{AreClean, AreStored, read_as, records_fault, stored_bytes, stored_in}
+use Rattle.record_list.specs.Stored.{AreClean, AreStored, hash_size, read_as, records_fault, stored_bytes, stored_in}
 
 -- records that stand in a file pass the checks, and are read
 abbrev pub StoredReadsBack : Type 0
@@ -12,7 +12,7 @@ StoredReadsBack = (rs : List IndexRecord) → AreStored rs → (records_fault (s
 
 -- bytes pass the checks exactly where they are records and their hash
 abbrev pub StoredFitsExactly : Type 0
-StoredFitsExactly = (part : List ℕ) → AreBytes part → 4 ≤ length part
+StoredFitsExactly = (part : List ℕ) → AreBytes part → hash_size ≤ length part
     → (records_fault part ≡ None) ↔ ((rs : List IndexRecord) × AreStored rs × (part ≡ stored_bytes rs))
 
 -- among records whose names rise no name stands twice

@@ -1,4 +1,4 @@
--- Records as they stand in a file, behind its front: the bytes of the records, and the hash of these bytes.
+-- Records as they stand in a file, after its beginning: the bytes of the records, and the hash of these bytes.
 use Rattle.std.specs.List.{AllByRecursion, list_any}
 use Rattle.std.specs.Prelude.{Bool, List, Option, Some, [], false, filter, length, map, not, take, true, ℕ, ◌%◌, ◌&&◌, ◌++◌, ◌-◌, ◌==◌, ◌∷◌, ◌≡◌}
 use Rattle.cache_base.specs.Bytes.{be32, be32_at}
@@ -16,13 +16,17 @@ pub record AreStored (rs : List IndexRecord) : Type 0 where
   pub records : AllByRecursion IsRecord rs
   pub distinct : HasNames rs
 
+-- how many bytes the hash of records has
+abbrev pub hash_size : ℕ
+hash_size = 4
+
 -- the bytes of records, and the hash of these bytes
 unfoldable pub stored_bytes : List IndexRecord → List ℕ
 stored_bytes rs = records_bytes rs ++ be32 (hash_of (records_bytes rs))
 
--- the part of a file behind its front, without the hash at its end
+-- the part of a file after its beginning, without the hash at its end
 abbrev pub body_of : List ℕ → List ℕ
-body_of part = take (length part - 4) part
+body_of part = take (length part - hash_size) part
 
 -- the records that stand there
 abbrev pub stored_in : List ℕ → List IndexRecord
@@ -33,11 +37,11 @@ abbrev pub are_distinct : List Name → Bool
 are_distinct [] = true
 are_distinct (name ∷ names) = not (list_any (same_name name) names) && are_distinct names
 
--- the checks of a part of at least four bytes, each with its fault
+-- the checks of a part with room for the hash, each with its fault
 unfoldable pub records_checks : List ℕ → List (Bool × RecordsFault)
 records_checks part =
     (length (body_of part) % record_size == 0, faults.Length)
-    ∷ (be32_at part (length part - 4) == hash_of (body_of part), faults.Hash)
+    ∷ (be32_at part (length part - hash_size) == hash_of (body_of part), faults.Hash)
     ∷ (are_distinct (names_of (stored_in part)), faults.Repeated)
     ∷ []
 
@@ -45,7 +49,7 @@ records_checks part =
 abbrev pub records_fault : List ℕ → Option RecordsFault
 records_fault part = first_failing (records_checks part)
 
--- the fault is that of the first failing check, or want of memory
+-- the fault is that of the first failing check, or memory ran out
 abbrev pub IsFirstFault : List ℕ → RecordsFault → Type 0
 IsFirstFault part faults.Memory = Unit {0}
 IsFirstFault part f = records_fault part ≡ Some f
@@ -66,7 +70,7 @@ AreClean rs = AllByRecursion IsClean rs
 abbrev pub present : List IndexRecord → List IndexRecord
 present rs = filter (λ r. not (is_removed r)) rs
 
--- the bytes are a front, and behind it these records by rising names
+-- the bytes are the beginning of a file, and after it these records by rising names
 pub record IsPrinted (front : List ℕ) (rs : List IndexRecord) (bytes : List ℕ) : Type 0 where
   pub sorted : List IndexRecord
   pub by_name : IsByName rs sorted

@@ -5,7 +5,7 @@ ghost use Rattle.record_list.specs.declared.fault.RecordsFault.TheVariants.{Memo
 
 use cache_base::NoMemory;
 
-/// Why the part of a file behind its front holds no records.
+/// Why the part of a file after its beginning holds no records.
 #[derive(Clone, Copy, Debug, PartialEq, Eq)]
 pub enum RecordsFault {
     /// The bytes before the hash are no whole number of records.

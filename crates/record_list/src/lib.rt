@@ -17,3 +17,6 @@ pub use laws::{
 pub use name_order::{by_name, rise};
 pub use printing::print;
 pub use reading::{parse, parse_present};
+
+/// The bytes of the hash after the records.
+pub const HASH: usize = 4;

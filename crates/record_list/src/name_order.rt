@@ -1,5 +1,6 @@
 //! Records in name order.
 
+ghost use Rattle.std.specs.List.Sorted.{IsPermutation};
 ghost use Rattle.std.specs.Prelude.{◌↔◌, IsTrue};
 ghost use Rattle.record_list.specs.Lists.{AreRising, HasNames, IsByName};
 
@@ -12,9 +13,10 @@ pub fn rise(records: &[IndexRecord]) -> bool
     records.is_sorted_by(|a, b| a.name.cmp(&b.name).is_lt())
 }
 
+// Sorts the records by name: where no name stands twice they are in name order then.
 pub(crate) fn sort(records: &mut Vec<IndexRecord>)
-    requires { HasNames records.old.items }
-    ensures { IsByName records.old.items records.new.items }
+    ensures moved { IsPermutation records.old.items records.new.items }
+    ensures by_name { HasNames records.old.items → IsByName records.old.items records.new.items }
 {
     records.sort_unstable_by_key(|record| record.name);
 }

@@ -5,10 +5,11 @@ ghost use Rattle.std.specs.Prelude.{◌≡◌, ◌≤◌, ◌++◌, IfOk, OnOk, 
 ghost use Rattle.cache_base.specs.Bytes.{be32};
 ghost use Rattle.index_record.specs.Record.{IsRecord};
 ghost use Rattle.jenkins_hash.specs.Hash.{hash_of};
-ghost use Rattle.record_list.specs.Lists.{HasNames, records_bytes};
-ghost use Rattle.record_list.specs.Stored.{AreClean, IsPrinted, read_as};
+ghost use Rattle.record_list.specs.Lists.{AreRising, HasNames, records_bytes};
+ghost use Rattle.record_list.specs.Stored.{AreClean, AreStored, IsPrinted, read_as, stored_bytes};
 
-use crate::name_order::sort;
+use crate::HASH;
+use crate::name_order::{rise, sort};
 use cache_base::{Bytes, NoMemory};
 use index_record::{IndexRecord, RECORD, Records};
 use std::alloc::Global;
@@ -31,26 +32,40 @@ fn push_hash(out: &mut Bytes, front: usize) -> Result<(), NoMemory>
     out.extend(&hash.to_be_bytes())
 }
 
-// So many records, with a front before them and a hash after them, have at least so many bytes.
+// So many records, with so many bytes before them and a hash after them, have at least so many bytes.
 fn room(front: usize, records: usize) -> usize {
     records
         .saturating_mul(RECORD)
         .saturating_add(front)
-        .saturating_add(4)
+        .saturating_add(HASH)
 }
 
-/// The beginning of a file, and after it the records in name order and their hash.
+// The beginning of a file, and after it these records as they stand, and their hash.
+fn print_rising(alloc: Global, front: &[u8], records: &[IndexRecord]) -> Result<Bytes, NoMemory>
+    requires rising { AreRising records.now }
+    requires clean { AreClean records.now }
+    ensures stored { OnOk result (AreStored records.now) }
+    ensures spelled { IfOk result (λ bytes. bytes ≡ front.now ++ stored_bytes records.now) }
+{
+    let mut out = Bytes::with_room(alloc, room(front.len(), records.len()))?;
+    out.extend(front)?;
+    push_records(&mut out, records)?;
+    push_hash(&mut out, front.len())?;
+    Ok(out)
+}
+
+/// The beginning of a file, and after it the records in name order and their hash. Records that stand in name order are
+/// not copied.
 pub fn print(alloc: Global, front: &[u8], records: &Records) -> Result<Bytes, NoMemory>
     requires distinct { HasNames records.now }
     requires clean { AreClean records.now }
     ensures { IfOk result (IsPrinted front.now records.now) }
 {
     let records = records.as_slice();
+    if rise(records) {
+        return print_rising(alloc, front, records);
+    }
     let mut sorted = Vec::from_slice(alloc, records)?;
     sort(&mut sorted);
-    let mut out = Bytes::with_room(alloc, room(front.len(), records.len()))?;
-    out.extend(front)?;
-    push_records(&mut out, sorted.as_slice())?;
-    push_hash(&mut out, front.len())?;
-    Ok(out)
+    print_rising(alloc, front, sorted.as_slice())
 }

@@ -44,7 +44,7 @@ spelled_index c timestamp dirty kind rs same spells = subst (λ k. ReadsIndex (S
 bad_index : (c : List ℕ) (f : IndexFault) (rs : List IndexRecord) → index_fault c ≡ Some f → ReadsIndex (Some c) Invalid rs
 bad_index c f rs faulty = record { is = sym (faulty_index_is c f faulty); has = λ none. absurd none; stands = λ none. absurd none }
 
--- a fault that is not want of memory
+-- a fault other than that memory ran out
 pub faulty_index : (c : List ℕ) (f : IndexFault) (rs : List IndexRecord) → f ≢ index_faults.Memory → IsFirstFault c f → ReadsIndex (Some c) Invalid rs
 faulty_index c index_faults.Short rs check first = bad_index c index_faults.Short rs first
 faulty_index c index_faults.Version rs check first = bad_index c index_faults.Version rs first

@@ -12,7 +12,7 @@ use Rattle.cache_theory.specs.Table.{IsTable, get}
 use Rattle.cache_theory.proofs.TableLaws.{get-insert, insert_is_table}
 use Rattle.file_handles.proofs.Finding.OpenNames.{names_of_table}
 
--- one name more in a set, behind those that were in it
+-- one name more in a set, after those that were in it
 with_one : (b old had : Bool) → cond b true (old || had) ≡ (old || (had || b))
 with_one true true had = refl
 with_one true false true = refl

@@ -118,7 +118,7 @@ module _ (k : Kept) (now : ℕ) (s t : State) (old new : MemoryIndex) (finishes 
 pub sent_says : (was now : Saying) → now.held ≡ [] → SendsAll was now.taken → SaysMore was now []
 sent_says was now none sends before text said = record { front = text; out = sends before text said; is = ap (λ h. text ++ h) (sym none) }
 
--- a front was said, and cut as it went out
+-- a prefix was said, and cut as it went out
 pub cuts_sent : (was mid : Saying) (out : Option (List ℕ)) (front more : List ℕ) → SaysMore was mid front → CutsAll mid out → CutsIn was out (front ++ more)
 cuts_sent was mid out front more says cuts =
     cuts_front was out front more (λ before text said. cuts before (text ++ front) (says before text said))

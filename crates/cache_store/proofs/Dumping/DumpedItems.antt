@@ -210,7 +210,7 @@ pub turn_stops : (was now : Saying) (out : Option (List ℕ)) (text rest whole :
 turn_stops was now out text rest whole left stops =
     subst (StopsIn was out) left.completes (stops_then was now out left.said (text ++ rest) left.says (stops_front now out text rest stops))
 
--- the file of the next name is in front
+-- the file of the next name is at the head
 pub files_first : (files : Files) (n : Name) (names : List Name) (c : List ℕ) → files (Entry n) ≡ Some c → table_of files (n ∷ names) ≡ (n.0, c) ∷ table_of files names
 files_first files n names c is = ap (λ o. (n.0, unwrap_or o []) ∷ table_of files names) is
 

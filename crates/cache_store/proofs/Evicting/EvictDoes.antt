@@ -26,7 +26,7 @@ use Rattle.cache_store.proofs.Clearing.NothingDoomed.{IsBare, those_standing}
 use Rattle.cache_store.proofs.Records.RecordsAtEnd.{goes_by, some_at_end, sorted_at_end}
 use Rattle.cache_store.proofs.Saying.SaidWhole.{fails_unsaid, if_err, on_ok, whole_cut, whole_said}
 use Rattle.cache_store.proofs.Spared.{rested_in}
-use Rattle.cache_store.proofs.Evicting.VictimsApart.{all_filtered, victims_unused}
+use Rattle.cache_store.proofs.Evicting.VictimsApart.{all_filtered, victims_by_name, victims_unused}
 use Rattle.cache_theory.specs.Checks.{checks}
 use Rattle.cache_theory.specs.Command.{Command}
 use Rattle.cache_theory.specs.Command.Command.{Evict, EvictNames}
@@ -52,11 +52,13 @@ use Rattle.file_handles.specs.Users.{users_of}
 use Rattle.file_handles.proofs.Begun.{begun_in}
 use Rattle.file_handles.proofs.Finding.User.{no_one}
 use Rattle.file_handles.proofs.Where.{stand_for}
+use Rattle.index_map.proofs.Sorted.{sorted, sorted_by_name}
+use Rattle.index_record.specs.declared.record.IndexRecord.{IndexRecord}
 use Rattle.index_theory.specs.Ever.{entries_on}
 use Rattle.index_theory.specs.Leaves.{LeavesBeside}
 use Rattle.index_update.specs.Rest.{name_bytes}
 use Rattle.index_update.proofs.ReadMore.{base_then}
-use Rattle.record_list.specs.Lists.{record_at}
+use Rattle.record_list.specs.Lists.{IsByName, record_at}
 use Rattle.record_list.proofs.NameLaws.{same_itself}
 use Rattle.record_list.proofs.SortedLaws.{by_name_keeps}
 
@@ -134,17 +136,26 @@ removes names given list files r k l s t v u same_names same_files are first sec
 
 module _ (kb : ℕ) (k l : Kept) (now : ℕ) (s t u : State) (old mid : MemoryIndex) (names : List Name) (r : Result (Unit {0}) DiskFault) (finishes : Finishes s t old mid)
     (are : AreVictims mid.map k kb names) (removed : Removes names r k l s u) where
+  -- the records in name order
+  abbrev records : List IndexRecord
+  records = sorted mid.map.records
+
+  by_name : IsByName mid.map.records records
+  by_name = sorted_by_name mid.map.records are.known.names
+
+  chosen_of : (m : Machine) → are.in_use ≡ open_names m → names ≡ victims records (open_names m) kb
+  chosen_of m opened = victims_by_name mid.map k kb names are ∙ ap (λ ns. victims records ns kb) opened
+
   -- the records of the victims are out afterwards, and the others are as they were
   pub evict_leaves : (new : MemoryIndex) → Forgets names mid.map new.map → LeavesOthers (session_at k now old s) kb new.map
   evict_leaves new forgets m is =
       let stand = is.stands in
-      let chosen : names ≡ victims are.records (open_names m) kb =
-      are.chosen ∙ ap (λ ns. victims are.records ns kb) (are.opened m stand.0 stand.1.proper stand.1.handles) in (
-        are.records,
+      let chosen = chosen_of m (are.opened m stand.0 stand.1.proper stand.1.handles) in (
+        records,
         (
-          sorted_at_end (entries_on s) old mid.map are.records are.known are.by_name finishes.records,
+          sorted_at_end (entries_on s) old mid.map records are.known by_name finishes.records,
           λ q. forgets.records q ∙ ap (λ ns. cond (is_among q.0 ns) None (record_at mid.map.records q)) chosen
-              ∙ ap (λ o. cond (is_among q.0 (victims are.records (open_names m) kb)) None o) (sym (by_name_keeps mid.map.records are.records are.known.names are.by_name q)),
+              ∙ ap (λ o. cond (is_among q.0 (victims records (open_names m) kb)) None o) (sym (by_name_keeps mid.map.records records are.known.names by_name q)),
         ),
       )
 
@@ -156,10 +167,10 @@ module _ (kb : ℕ) (k l : Kept) (now : ℕ) (s t u : State) (old mid : MemoryIn
     done_is : IsDoneBy (GoesBy (session_at k now old s) h.machine) (SaysThere (session_at k now old s) h.machine) (Evict kb) h.machine (EvictNames names)
     done_is =
         let opened : are.in_use ≡ open_names h.machine = are.opened h.machine stand.0 stand.1.proper stand.1.handles in (
-          are.records,
+          records,
           (
-            ap EvictNames (are.chosen ∙ ap (λ ns. victims are.records ns kb) opened),
-            goes_by k now s old h.machine stand are.records (sorted_at_end (entries_on s) old mid.map are.records are.known are.by_name finishes.records),
+            ap EvictNames (chosen_of h.machine opened),
+            goes_by k now s old h.machine stand records (sorted_at_end (entries_on s) old mid.map records are.known by_name finishes.records),
           ),
         )
 

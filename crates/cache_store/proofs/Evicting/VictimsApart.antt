@@ -11,6 +11,7 @@ use Rattle.cache_store.specs.Evicting.{ArePicked, AreUnused, AreVictims, HoldsFi
 use Rattle.disk_model.specs.State.{State, standing}
 use Rattle.disk_model.specs.declared.place.Place.TheVariants.{Entry}
 use Rattle.evictor.specs.Evict.{candidates, in_order, may_evict, total_kb, victims}
+use Rattle.evictor.proofs.AnyOrder.{same_in_any_order}
 use Rattle.evictor.proofs.Prefix.{IsPrefix, split}
 use Rattle.evictor.proofs.Sorting.{moved_in_order}
 use Rattle.file_handles.specs.Cache.{cache_at}
@@ -18,10 +19,10 @@ use Rattle.file_handles.specs.Kept.{Kept}
 use Rattle.file_handles.specs.Stands.{RepresentsSome}
 use Rattle.file_handles.specs.Users.{AreOpenNames, users_of}
 use Rattle.index_map.specs.Known.{IsKnown, Known}
+use Rattle.index_map.proofs.Sorted.{sorted, sorted_by_name}
 use Rattle.index_record.specs.Record.{is_pinned}
 use Rattle.index_record.specs.declared.record.IndexRecord.{IndexRecord}
-use Rattle.record_list.specs.Lists.{HasNames, IsByName, names_of, same_name}
-use Rattle.record_list.proofs.NameLaws.{rising_distinct}
+use Rattle.record_list.specs.Lists.{HasNames, names_of, same_name}
 use Rattle.record_list.proofs.OrderLaws.{distinct_permutation}
 use Rattle.record_list.proofs.ReadingLaws.{filter_distinct}
 
@@ -93,12 +94,12 @@ module _ (map : Known) (k : Kept) (kb : ℕ) (names : List Name) (are : AreVicti
   pub victims_unused : AllByRecursion (λ name. users_of k name ≡ 0) names
   victims_unused =
       subst (AllByRecursion (λ name. users_of k name ≡ 0)) (sym are.chosen)
-      (all_victims are.records are.in_use kb (λ name. users_of k name ≡ 0) (λ r passes. are.unused r.name (not_in_use are.records are.in_use kb r passes)))
+      (all_victims map.records are.in_use kb (λ name. users_of k name ≡ 0) (λ r passes. are.unused r.name (not_in_use map.records are.in_use kb r passes)))
 
   -- and so of some of them
   pub picked_unused : (some : List Name) → ArePicked names some → AreUnused k some
   picked_unused some (test, is) =
-      let distinct : IsDistinct same_name names = subst (IsDistinct same_name) (sym are.chosen) (victims_distinct are.records are.in_use kb (rising_distinct (names_of are.records) are.by_name.rising)) in
+      let distinct : IsDistinct same_name names = subst (IsDistinct same_name) (sym are.chosen) (victims_distinct map.records are.in_use kb are.known.names) in
       subst (AreUnused k) (sym is) (record {
         distinct = filtered_distinct test names distinct;
         unused = all_filtered (λ name. users_of k name ≡ 0) test names victims_unused;
@@ -107,12 +108,17 @@ module _ (map : Known) (k : Kept) (kb : ℕ) (names : List Name) (are : AreVicti
 pub files_stand : (s : State) (names : List Name) → AllByRecursion (λ name. IsSome (standing s (Entry name))) (filter (has_file s) names)
 files_stand s names = recursion_from_All (λ name. IsSome (standing s (Entry name))) (filter (has_file s) names) (filter_passes (has_file s) names)
 
+-- they are the victims of the records in name order, too
+pub victims_by_name : (map : Known) (k : Kept) (kb : ℕ) (names : List Name) (are : AreVictims map k kb names) → names ≡ victims (sorted map.records) are.in_use kb
+victims_by_name map k kb names are =
+    are.chosen ∙ same_in_any_order map.records (sorted map.records) are.in_use kb are.known.names (sorted_by_name map.records are.known.names).same
+
 -- the names that `victims` gives are victims
-pub chooses : {E : Type 0} (map : Known) (k : Kept) (kb : ℕ) (records : List IndexRecord) (in_use : List Name) → IsKnown map → IsByName map.records records → AreOpenNames k in_use
+pub chooses : {E : Type 0} (map : Known) (k : Kept) (kb : ℕ) (records : List IndexRecord) (in_use : List Name) → IsKnown map → records ≡ map.records → AreOpenNames k in_use
     → ((name : Name) → has_name in_use name ≡ false → users_of k name ≡ 0) → (r : Result (List Name) E) → IfOk r (λ names. names ≡ victims records in_use kb) → IfOk r (AreVictims map k kb)
-chooses map k kb records in_use known by opened unused (Err e) is = tt
-chooses map k kb records in_use known by opened unused (Ok names) is =
-    record { records = records; in_use = in_use; known = known; by_name = by; opened = opened; unused = unused; chosen = is }
+chooses map k kb records in_use known same opened unused (Err e) is = tt
+chooses map k kb records in_use known same opened unused (Ok names) is =
+    record { in_use = in_use; known = known; opened = opened; unused = unused; chosen = is ∙ ap (λ rs. victims rs in_use kb) same }
 
 -- files that were seen to stand may be removed
 pub files_hold : (k : Kept) (s t v : State) (names files : List Name) → t ≡ s → v ≡ t → files ≡ filter (has_file t) names → RepresentsSome (cache_at k s) → HoldsFiles (cache_at k v) files

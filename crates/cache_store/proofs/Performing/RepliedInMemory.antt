@@ -13,7 +13,7 @@ use Rattle.cache_store.specs.Answering.{AnswersOver, CutsRest, SendsRest, left_t
 use Rattle.cache_store.specs.Faulting.{LooksAtNothing}
 use Rattle.cache_store.specs.InMemory.{AnswersInMemory, CutsPlainLine, RepliesInMemory}
 use Rattle.cache_store.specs.IndexCalls.{MakesNoCall}
-use Rattle.cache_store.specs.Printed.{IsPlain}
+use Rattle.cache_store.specs.Printed.{IsPlainAnswer}
 use Rattle.cache_store.specs.Records.{AnswersHas, has_record}
 use Rattle.cache_store.specs.Replied.{reply_of}
 use Rattle.cache_store.specs.Said.{Saying}
@@ -83,7 +83,7 @@ pub none_of_line : (before : Option (List ℕ)) → CutsPlainLine before before
 none_of_line before = (line (codes "ok" ∷ []), (inl refl, (0, (omega arith, Appends-nil before))))
 
 -- or a part
-pub part_of_line : (a : Answered) (before : Option (List ℕ)) (mid : Saying) (now : Option (List ℕ)) → IsPlain a → mid.taken ≡ before → mid.held ≡ [] → CutsRest (left_to_say a) mid now → CutsPlainLine before now
+pub part_of_line : (a : Answered) (before : Option (List ℕ)) (mid : Saying) (now : Option (List ℕ)) → IsPlainAnswer a → mid.taken ≡ before → mid.held ≡ [] → CutsRest (left_to_say a) mid now → CutsPlainLine before now
 part_of_line answered.Done before mid now plain same none cuts =
     (line (codes "ok" ∷ []), (inl refl, cuts _ before (said_rest answered.Done before mid same none)))
 part_of_line (answered.Refused r) before mid now plain same none cuts =
@@ -91,7 +91,7 @@ part_of_line (answered.Refused r) before mid now plain same none cuts =
 part_of_line a before mid now plain same none cuts = absurd plain
 
 -- all of a plain line is still to be said
-pub plain_unsaid : (a : Answered) → IsPlain a → a ≢ answered.All
+pub plain_unsaid : (a : Answered) → IsPlainAnswer a → a ≢ answered.All
 plain_unsaid answered.Done plain e = cc
 plain_unsaid (answered.Refused r) plain e = cc
 plain_unsaid a plain e = absurd plain

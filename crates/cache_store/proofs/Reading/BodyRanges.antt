@@ -18,7 +18,7 @@ use Rattle.file_handles.proofs.Reading.Parts.{chunk_part}
 abbrev pub next_at : ℕ → ℕ → ℕ
 next_at at to = at + min (to - at) (262144 - at % 262144)
 
--- it is behind where the part begins, and no further than all goes
+-- it is after where the part begins, and no further than all goes
 pub next_on : (at to : ℕ) → at < to → at < next_at at to
 next_on at to some = omega (arith, some)
 
@@ -45,7 +45,7 @@ range_more body from at to behind =
     ∙ sym (take-add (at - from) n (drop from body))
     ∙ ap (λ k. take k (drop from body)) (let e : (at - from) + n ≡ (at + n) - from = omega (arith, behind) in e)
 
--- and all that is behind it
+-- and all that is after it
 pub range_rest : (body : List ℕ) (from at to : ℕ) → from ≤ at → at ≤ to → range_of from at body ++ range_of at to body ≡ range_of from to body
 range_rest body from at to behind before =
     let there : drop (at - from) (drop from body) ≡ drop at body = drop-drop (at - from) from body ∙ ap (λ k. drop k body) (let e : from + (at - from) ≡ at = omega (arith, behind) in e) in
@@ -67,7 +67,7 @@ rest_long body at to some inside =
     let from = length-drop at body in
     omega (arith, long, from, some, inside)
 
--- where what was said goes up to the end of the first part or behind it, and is out, that part is out
+-- where what was said goes up to the end of the first part or after it, and is out, that part is out
 pub first_out : (body : List ℕ) (from to at : ℕ) (was mid : Saying) (now : Option (List ℕ)) → next_at from to ≤ at
     → SaysMore was mid (range_of from at body) → SendsFront mid now [] → SendsFront was now (part_of_body body from (to - from))
 first_out body from to at was mid now done says out before text said =

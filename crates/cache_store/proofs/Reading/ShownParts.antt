@@ -18,9 +18,9 @@ use Rattle.cache_store.specs.declared.fault.Verdict.TheVariants as outcome
 use Rattle.cache_store.specs.Replied.{replied}
 use Rattle.cache_store.specs.declared.answered.Answered.{Answered}
 use Rattle.cache_store.specs.declared.fault.StoreFault.{StoreFault}
-use Rattle.cache_store.specs.declared.showing.Part.{Part}
-use Rattle.cache_store.specs.declared.showing.Shown.{Shown}
-use Rattle.cache_store.specs.declared.showing.Shown.TheVariants as shown
+use Rattle.cache_store.specs.declared.shown.Part.{Part}
+use Rattle.cache_store.specs.declared.shown.Shown.{Shown}
+use Rattle.cache_store.specs.declared.shown.Shown.TheVariants as shown
 use Rattle.cache_theory.specs.Checks.{alt_in_version}
 use Rattle.cache_theory.specs.Command.{Command, Reply}
 use Rattle.cache_theory.specs.Command.Command.{Get, GetAlt, MainBody}
@@ -63,7 +63,7 @@ found_text_is : (v : Version) → entry_text (version_meta v) v.body ≡ reply_t
 unfolding reply_text
 found_text_is v = regrouped (found_line (version_meta v)) (elements_bytes v.elements) (v.body ++ 10 ∷ [])
 
--- bytes up to a place are the front of the body
+-- bytes up to a place are the beginning of the body
 to_front : (n : ℕ) (body : List ℕ) → range_of 0 n body ≡ take n body
 to_front n body = ap (λ k. take k body) (let e : n - 0 ≡ n = omega arith in e)
 

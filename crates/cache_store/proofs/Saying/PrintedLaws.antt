@@ -2,7 +2,7 @@
 use Rattle.std.proofs.Common.{◌≡◌, ◌≢◌, ℕ, List, [], ◌∷◌, true, false, Option, Result, Ok, Err, OnOk, IfOk, refl, sym, subst, ◌∙◌}
 use Rattle.std.specs.Io.KnownBytes.{Appends}
 use Rattle.cache_store.specs.Answering.{SaysOf, SendsRest, outcome_in, left_to_say}
-use Rattle.cache_store.specs.Printed.{IsPlain, Prints, PrintsFindings, PrintsNo, PrintsRefusal, is_check, is_plain, lists_findings}
+use Rattle.cache_store.specs.Printed.{IsPlainAnswer, Prints, PrintsFindings, PrintsNo, PrintsRefusal, is_check, is_plain, lists_findings}
 use Rattle.cache_store.specs.Said.{Saying}
 use Rattle.cache_store.specs.Session.{Session}
 use Rattle.cache_store.specs.Verifying.{IsFoundIn, PrintsFound}
@@ -36,7 +36,7 @@ findings_out Verify before now checks out = out
 findings_out c before now checks out = absurd (let never : true ≡ false = checks in cc)
 
 pub prints_outcome : (c : Command) (a : Answered) (r : Result Verdict StoreFault) (before : Option (List ℕ)) (mid : Saying) (now : Option (List ℕ))
-    → (a ≢ answered.All → mid.taken ≡ before) → (a ≢ answered.All → mid.held ≡ []) → (is_plain c ≡ true → IsPlain a) → lists_findings a ≡ is_check c
+    → (a ≢ answered.All → mid.taken ≡ before) → (a ≢ answered.All → mid.held ≡ []) → (is_plain c ≡ true → IsPlainAnswer a) → lists_findings a ≡ is_check c
     → OnOk r (SendsRest (left_to_say a) mid now)
     → IfOk r (λ o. o ≡ outcome_in a) → IfOk r (λ o. Prints c o before now)
 prints_outcome c a (Err f) before mid now same empty plain lists prints is = tt

@@ -10,7 +10,7 @@ use Rattle.cache_theory.specs.Step.{after, step}
 use Rattle.cache_theory.specs.Text.{AreSpoken, reply_text}
 use Rattle.cache_theory.proofs.Faults.FaultedTold.{faulted_is_told}
 
--- no command stands behind the last
+-- no command stands after the last
 none_behind : (cs : List Command) (c : Command) → slice_get cs (length cs) ≡ Some c → ⊥
 none_behind cs c at = let within = slice_get_within cs (length cs) c at in omega (arith, within)
 
@@ -30,7 +30,7 @@ pub front_is_told : FrontIsTold
 front_is_told m cs more faults spoken numbers =
     ap (faulted m (cs ++ more)) (sym (append-nil (replies_but m cs faults))) ∙ told_behind m cs more faults [] spoken numbers (λ c at. inl refl)
 
--- the command behind the first
+-- the command after the first
 behind_is : (cs more : List Command) (c d : Command) → slice_get (cs ++ c ∷ more) (length cs) ≡ Some d → c ≡ d
 behind_is [] more c d at = let is : Some c ≡ Some d = at in cc
 behind_is (b ∷ cs) more c d at = behind_is cs more c d at

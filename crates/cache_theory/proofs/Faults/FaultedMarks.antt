@@ -10,7 +10,7 @@ use Rattle.cache_theory.specs.Session.{MarksAreOfKept, marks_between}
 use Rattle.cache_theory.specs.Step.{after}
 use Rattle.cache_theory.proofs.Faults.FaultedOn.{faults_are_in_front, kept_are_counted}
 
--- the marks where some commands are acknowledged, and so many of those behind them have begun
+-- the marks where some commands are acknowledged, and so many of those after them have begun
 marks_behind : Machine → List Command → List Command → Marks
 marks_behind m acked more = all_begun (after m acked) more (all_acked m acked (marks_of m))
 

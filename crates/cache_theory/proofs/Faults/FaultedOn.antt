@@ -40,7 +40,7 @@ unfaulted_none : (n : ℕ) (cs : List Command) → unfaulted_from n [] cs ≡ cs
 unfaulted_none n [] = refl
 unfaulted_none n (c ∷ cs) = ap (λ ds. c ∷ ds) (unfaulted_none (suc n) cs)
 
--- Commands behind others.
+-- Commands after others.
 
 replies_on : (n end : ℕ) (faults : List ℕ) (m : Machine) (cs more : List Command) → end ≡ n + length cs → AreRisingIn n end faults
     → replies_from n faults m (cs ++ more) ≡ replies_from n faults m cs ++ replies_text (after m (unfaulted_from n faults cs)) more

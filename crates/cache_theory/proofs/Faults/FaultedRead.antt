@@ -10,7 +10,7 @@ use Rattle.cache_theory.specs.Step.{after, step}
 use Rattle.cache_theory.specs.Text.{reply_text}
 use Rattle.cache_theory.proofs.Faults.FaultedSteps.{read_none, replies_fault, replies_reply, unfaulted_fault, unfaulted_reply}
 
--- the bytes go on with the text, and with what is left behind it
+-- the bytes go on with the text, and with what is left after it
 whole : (text bytes : List ℕ) → begins_with text bytes ≡ true → bytes ≡ text ++ drop (length text) bytes
 whole text bytes begins =
     sym (take-append-drop (length text) bytes) ∙ ap (λ front. front ++ drop (length text) bytes) ((bytes_eq-Decides (take (length text) bytes) text).0 begins)
@@ -27,7 +27,7 @@ record IsReadFrom (n : ℕ) (m : Machine) (cs : List Command) (bytes : List ℕ)
 same_some : (d e : Command) → Some d ≡ Some e → d ≡ e
 same_some d e is = cc
 
--- one command more in front
+-- one command more at the beginning
 with_fault : (n : ℕ) (m : Machine) (c : Command) (cs : List Command) (bytes : List ℕ) (r : Faulted) → IsReadFrom (suc n) m cs bytes r
     → IsReadFrom n m (c ∷ cs) (fault_line ++ bytes) (fault_before n r)
 with_fault n m c cs bytes r is = record {

@@ -1,4 +1,4 @@
--- One command more in front: what is printed, what is kept, and what is read of it.
+-- One command more at the beginning: what is printed, what is kept, and what is read of it.
 use Rattle.std.proofs.Common.{◌≡◌, inl, inr, ℕ, suc, ◌<◌, ◌||◌, List, [], ◌∷◌, ◌++◌, cond, length, true, false, refl, ap, ap₂, subst, ◌∙◌, arith, drop_at, eq-eqb, ne_eqb}
 use Rattle.std.proofs.lemmas.Bool.{cases_lt, cond-true, cond-false}
 use Rattle.cache_theory.specs.Command.{Command}
@@ -32,7 +32,7 @@ begins_at n end (f ∷ faults) rising = elim (cases_lt n f) [
       Here faults (ap (λ x. x ∷ faults) same) (subst (λ x. AreRisingIn (suc x) end faults) same rising.1.1)
 ]
 
--- one number more in front
+-- one number more at the beginning
 in_front : (n : ℕ) (more : List ℕ) → is_faulted (n ∷ more) n ≡ true
 in_front n more = ap (λ b. b || is_faulted more n) (eq-eqb n n refl)
 

@@ -23,7 +23,7 @@ not_begun text bytes never = elim (cases_Bool (begins_with text bytes)) [
   | inr f ↦ f
 ]
 
--- a text begins what it is in front of
+-- a text begins what it is a prefix of
 pub text_begins : (text more : List ℕ) → begins_with text (text ++ more) ≡ true
 text_begins text more = (bytes_eq-Decides (take (length text) (text ++ more)) text).1 (take-append_seam text more)
 

@@ -18,7 +18,7 @@ use Rattle.cache_theory.proofs.Wording.WordedSteps.{IsDoneBy, IsOfCommands, all_
 use Rattle.cache_theory.proofs.Wording.WordedVersions.{Writes, since_of_commands}
 use Rattle.entry_file.specs.Version.{Version}
 
--- one of the commands behind the first f and up to b is done and has a property
+-- one of the commands after the first f and up to b is done and has a property
 record IsDoneIn (P : Machine → Command → Type 0) (m : Machine) (cs : List Command) (f b : ℕ) : Type 0 where
   pub at : ℕ
   pub command : Command
@@ -28,7 +28,7 @@ record IsDoneIn (P : Machine → Command → Type 0) (m : Machine) (cs : List Co
   pub has : P (state_at m cs at) command
 
 module _ (m : Machine) (cs : List Command) (b f : ℕ) where
-  -- the commands behind the first f
+  -- the commands after the first f
   abbrev rest : List Command
   rest = drop f (take b cs)
 
@@ -74,7 +74,7 @@ module _ (m : Machine) (cs : List Command) (b f : ℕ) where
         };
       }
 
-  -- a fact of marks that begin anew at the first f is one of the commands behind them
+  -- a fact of marks that begin anew at the first f is one of the commands after them
   in_words : (P : Machine → Command → Type 0) (Q : Marks → Type 0) → IsOfCommands (state_at m cs f) P Q → (Q (marks_of (state_at m cs f)) → IsDoneIn P m cs f b)
       → Q (all_begun (state_at m cs f) rest (marks_of (state_at m cs f))) ↔ IsDoneIn P m cs f b
   in_words P Q of anew = (
@@ -82,7 +82,7 @@ module _ (m : Machine) (cs : List Command) (b f : ℕ) where
     λ d. from_done (state_at m cs f) P Q of (state_at m cs f) rest (marks_of (state_at m cs f)) refl (in_done P d),
   )
 
--- the state behind a command
+-- the state after a command
 pub state_next : (m : Machine) (cs : List Command) (i : ℕ) (c : Command) → slice_get cs i ≡ Some c → state_at m cs (suc i) ≡ (step (state_at m cs i) c).next
 state_next m cs i c at = ap (after m) (take_next cs i c at) ∙ after-append m (take i cs) (c ∷ [])
 

@@ -75,7 +75,7 @@ behind_settled m front cs ds none marks =
     ap (λ n. all_begun n ds (all_acked m (front ++ cs) (marks_of m))) (after-append m front cs)
     ∙ ap (all_begun (after at cs) ds) first ∙ sym (all_begun-append at cs ds (marks_of at))
 
--- behind the last one there is none
+-- after the last one there is none
 none_between : (cs : List Command) (a b f j : ℕ) → a ≡ f + j → a ≤ b → IsLastSettled cs a f → NoneSettles (take j (drop f (take b cs)))
 none_between cs a b f j sum most last i = go (slice_get (take j (drop f (take b cs))) i) refl
   where
@@ -87,7 +87,7 @@ none_between cs a b f j sum most last i = go (slice_get (take j (drop f (take b 
         sym (slice_get-take b cs (f + i) (omega arith)) ∙ sym (slice_get-drop f (take b cs) i) ∙ sym (slice_get-take j (drop f (take b cs)) i below) ∙ at in
         subst (λ (o : Option Command). IfSome o (λ d. settles d ≡ false)) there (last.last (f + i) (omega arith) (omega arith))
 
--- and so the marks of a session are those of the commands behind the last one
+-- and so the marks of a session are those of the commands after the last one
 pub marks_from_settled : (m : Machine) (cs : List Command) (a b f : ℕ) → a ≤ b → IsLastSettled cs a f
     → marks_between m cs a b ≡ all_begun (state_at m cs f) (drop f (take b cs)) (marks_of (state_at m cs f))
 marks_from_settled m cs a b f most last =

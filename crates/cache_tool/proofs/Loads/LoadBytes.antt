@@ -28,7 +28,7 @@ back_cut : (block c : List ℕ) → back_bytes block ++ c ≡ be32 (length block
 unfolding back_bytes
 back_cut block c = refl
 
--- the same part in front, or one that asks for the same
+-- the same part at the beginning, or one that asks for the same
 record IsSame (s : Stage) (p q : Part) (a b c d : List ℕ) : Type 0 where
   own : a ≡ b
   rest : c ≡ d
@@ -72,7 +72,7 @@ same_rest key len hashes (Part.BlockPart m) (Part.BlockPart n) a b c d s t e =
     let same = same_field x y c d (omega (arith, small)) (omega (arith, low)) fields in
     record { own = s.1.1.1.1.1 ∙ ap back_bytes same.0 ∙ sym t.1.1.1.1.1; rest = same.1; next = λ k l n hs. refl }
 
--- the part behind a length
+-- the part after a length
 next_at : (key : List ℕ) (p q : Part) (a b : List ℕ) (x y : List ℕ) (len : ℕ) → a ≡ b → SpellsRest key len [] p x → SpellsRest key len [] q y → IsSameRest p q x y [] [] → due_after (Stage.AtLength key) p a ≡ due_after (Stage.AtLength key) q b
 next_at key (Part.KeyPart k) q a b x y len own s t same = absurd s
 next_at key (Part.PiecePart z) (Part.KeyPart k) a b x y len own s t same = absurd t
@@ -175,7 +175,7 @@ begins l own more bytes stage are spelled short = record {
 pub loaded_no_dump : (l : Loaded) (own more bytes : List ℕ) (stage : Stage) → AreLoaded l own stage → bytes ≡ own ++ more → NoPart stage (length own) more → IsNoDump bytes
 loaded_no_dump l own more bytes stage are spelled none = no_dump stage (loaded_parts l) bytes own more (loaded_are l own stage are) spelled none
 
--- with the end behind them they are a dump of the items
+-- with the end after them they are a dump of the items
 ends_whole : (items : List Version) (begun : Option Begun) (own end : List ℕ) (stage : Stage) → AreLoaded (record { items = items; begun = begun }) own stage → SpellsEnd stage end
     → length (own ++ end) ≤ DUMP_MAX → IsDump (own ++ end) items × (begun ≡ None)
 ends_whole items (Some b) own end stage are e short = absurd (no_end_within b.key stage end (begun_is_of (last_key None items) b.key stage b.pieces are.tail are.begun) e)

@@ -46,7 +46,7 @@ use Rattle.disk_model.specs.State.{State}
 use Rattle.index_record.specs.declared.record.IndexRecord.{IndexRecord}
 use Rattle.index_theory.specs.Honest.{LeavesHonest}
 
--- ---- the machine behind `Resume`
+-- ---- the machine after `Resume`
 
 slots_stay : (m : Machine) (names : List Name) → (all_doomed m names).slots ≡ m.slots
 slots_stay m [] = refl

@@ -127,7 +127,7 @@ reads_broken l own held read more stage (Some bytes) (Some rest) now are taken s
 run_stops : {T U : Type 0} (f : StoreFault) (cs : List Command) (answer : Result T StoreFault) (before now : Session) → RunsAll cs answer before now → RunsAll {T = U} cs (Err f) before now
 run_stops f cs answer before now runs = record { each = λ h keeps. record { safe = (runs.each h keeps).safe; stands = tt } }
 
--- a reader that wants more after these bytes has no part that is due at their front
+-- a reader that wants more after these bytes has no part that is due at their beginning
 none_whole : (r : DumpReader) (bytes : List ℕ) → WantsMore r bytes → (p : Part) (mine rest : List ℕ) → Spells (stage_in r) p mine → bytes ≡ mine ++ rest → DUMP_MAX < used_in r + length mine
 none_whole r bytes wants p mine rest s e = past (used_in r + length mine) (λ fits.
     let f = part_found r.progress.due r.progress.key r.progress.len r.progress.hashes r.used p mine rest s fits in

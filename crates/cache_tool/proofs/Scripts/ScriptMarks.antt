@@ -38,7 +38,7 @@ module _ (h : History) (ds more : List Command) (faults : List ℕ) (numbers : A
   abbrev pub kept : List Command
   kept = unfaulted faults ds
 
-  -- the first are acknowledged, and these behind them have begun
+  -- the first are acknowledged, and these after them have begun
   marks_at : (b : ℕ) (xs : List Command) → take b (ds ++ more) ≡ ds ++ xs → marks_on h (ds ++ more) faults (length ds) b ≡ all_begun (after h.machine kept) xs (all_acked h.machine kept h.marks)
   marks_at b xs is =
       ap (λ l. between h l (length (unfaulted faults (take (length ds) (ds ++ more))))) (ap (unfaulted faults) is ∙ (faults_are_in_front h.machine ds xs faults numbers).kept)

@@ -21,7 +21,7 @@ use Rattle.cache_tool.proofs.FaultedParts.{next_replies}
 pub begins_more : (text more out : List ℕ) → BeginsWith text out → BeginsWith (text ++ more) out
 begins_more text more out b = (b.0 ++ more, ap (λ l. l ++ more) b.1 ∙ append_assoc out b.0 more)
 
--- a front of a part, behind what went before
+-- a prefix of a part, after what went before
 begins_cut : (text first part rest : List ℕ) (n : ℕ) → text ≡ first ++ (part ++ rest) → BeginsWith text (first ++ take n part)
 begins_cut text first part rest n is = (
   drop n part ++ rest,

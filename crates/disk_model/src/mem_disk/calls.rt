@@ -202,7 +202,7 @@ impl Disk for MemDisk {
     }
 }
 
-// Fills the buffer's front from `from` on.
+// Fills the buffer's beginning from `from` on.
 fn copy_part(content: &[u8], from: u64, buf: &mut [u8]) -> usize
     ensures len { result ≡ length (take (length buf.old) (drop from content.now)) }
     ensures bytes { buf.new ≡ take (length buf.old) (drop from content.now) ++ drop result buf.old }

@@ -28,7 +28,7 @@ const NO_KEY: &[u8] = b"\x88\x00\x03\xe0\
     \0\0\0\x03\0\0\0\0\0\0\0\0\0\0\0\0\0\0\0\0\0\0\0\0\0\0\0\0\0\0\0\0\0\
     \0\0\0\0";
 
-// A file of version 4, one of version 1 with another byte behind its key, and one of version 3 whose block ends
+// A file of version 4, one of version 1 with another byte after its key, and one of version 3 whose block ends
 // before its key.
 const FOURTH: &[u8] = b"hello\xb2\xab\x53\xb4\x39\x9e\
     \0\0\0\x04\0\0\0\x01\0\0\x03\xe8\0\0\x03\xe8\0\0\x03\xe8\xff\xff\xff\xff\0\0\0\x15\0\0\0\0\

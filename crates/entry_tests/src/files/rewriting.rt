@@ -13,12 +13,12 @@ use entry_metadata::Meta;
 use entry_parts::Elements;
 use std::test::Fail;
 
-// What stands behind the body in the file of `hello` where the element `a` is `bc`.
+// What stands after the body in the file of `hello` where the element `a` is `bc`.
 const HELLO_END: &[u8] = b"\xa9\xf8\xdf\xcb\x39\x9e\
     \0\0\0\x03\0\0\0\x01\0\0\x03\xe8\0\0\x03\xe8\0\0\x03\xe8\xff\xff\xff\xff\0\0\0\x15\0\0\0\0\
     :https://example.com/\0a\0bc\0\0\0\0\x05";
 
-// The same behind 262,145 times `x`.
+// The same after 262,145 times `x`.
 const LONG_END: &[u8] = b"\xef\xfc\xd6\xc1\xf9\xb4\xaf\x33\
     \0\0\0\x03\0\0\0\x01\0\0\x03\xe8\0\0\x03\xe8\0\0\x03\xe8\xff\xff\xff\xff\0\0\0\x15\0\0\0\0\
     :https://example.com/\0a\0bc\0\0\x04\0\x01";

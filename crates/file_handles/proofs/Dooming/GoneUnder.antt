@@ -66,7 +66,7 @@ pub gone_or_not : (s t : State) (name : Name) (f : DiskFault) → t ≡ if_done 
 gone_or_not s t name Failed is = inl is
 gone_or_not s t name Memory is = inr is
 
--- The same behind a call that left all as it was.
+-- The same after a call that left all as it was.
 module _ {D : Type 0} (state : D → State) (d e : D) (t : State) (k after : Kept) (name : Name) (bare : position (is_user name) k.objects ≡ None) (same : e ≡ d) (still : after ≡ k) where
   pub gone_fails_by : {T : Type 0} (answer : Result T HandleFault) → IsErr answer → (t ≡ removed (Entry name) (state e)) ⊎ (t ≡ state e) → DoomsUnder name.0 answer (cache_at k (state d)) (cache_at after t)
   gone_fails_by answer failed either =

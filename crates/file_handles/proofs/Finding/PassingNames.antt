@@ -13,7 +13,7 @@ use Rattle.cache_theory.proofs.Names.{same_bytes}
 use Rattle.cache_theory.proofs.ObjectLaws.WritingNames.{is_true, none_below, passes_there, passing}
 
 module _ {X : Type 0} (passes : X → Bool) (q : Name) where
-  -- one entry more in front, which passes or not, and is under the name or not
+  -- one entry more at the head, which passes or not, and is under the name or not
   with_first : (e : List ℕ × X) (es : Table X) (p b : Bool) → passes e.1 ≡ p → eq_by_cmp bytes_cmp q.0 e.0 ≡ b → (b ≡ true → get es q.0 ≡ None)
       → has_name (map name_of (keys (passing passes es))) q ≡ passes_there passes (get es q.0)
       → has_name (map name_of (keys (cond p (e ∷ passing passes es) (passing passes es)))) q ≡ passes_there passes (cond b (Some e.1) (get es q.0))

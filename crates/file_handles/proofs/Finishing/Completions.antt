@@ -22,7 +22,7 @@ completion (Some parts) = record { done = λ o. refl; doomed = λ o. refl; key =
 abbrev pub own_parts : Draft → Parts
 own_parts d = record { header = d.header; elements = d.elements }
 
--- what is written behind the body of a draft makes the version that the object is finished to
+-- what is written after the body of a draft makes the version that the object is finished to
 version_by : (given : Option Parts) (d : Draft) (o : MachineObject) → IsDraftOf d o.version
     → finished (parts_by given d.key (own_parts d)).header d.key (parts_by given d.key (own_parts d)).elements o.version.body ≡ (completed_by given o).version
 version_by None d o is = λ i. finished (is.header i) (is.key i) (is.elements i) o.version.body

@@ -1,4 +1,4 @@
--- The command that puts alternative data behind the body of an entry.
+-- The command that puts alternative data after the body of an entry.
 use Rattle.std.proofs.Common.{◌≡◌, inl, ◌-◌, ◌≤◌, ◌<◌, ◌^◌, ℕ, List, ◌++◌, length, length-append, take, drop, append_assoc, Bool, true, not, Option, None, Some, Result, Ok, Err, IfSome, refl, sym, ap, subst, ◌∙◌, arith}
 use Rattle.std.specs.Prelude.{IfOk, IsErrAnd, IsOkAnd, OnOk, if◌then◌else◌, option_and_then}
 use Rattle.std.specs.Int.{w32, from_be_bytes}

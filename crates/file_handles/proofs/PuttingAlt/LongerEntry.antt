@@ -1,4 +1,4 @@
--- A finished entry that gets alternative data behind its body, and its file.
+-- A finished entry that gets alternative data after its body, and its file.
 use Rattle.std.proofs.Common.{◌≡◌, inl, inr, ◌+◌, ◌-◌, ℕ, List, ◌++◌, length, length-append, take, Bool, true, false, Option, None, Some, IfSome, refl, sym, ap, subst, ◌∙◌, arith}
 use Rattle.cache_base.specs.Limits.{chunks}
 use Rattle.cache_base.specs.declared.name.Name.{Name}
@@ -38,7 +38,7 @@ use Rattle.file_handles.specs.declared.object.Object.{Object}
 use Rattle.file_handles.proofs.Changed.{writes_weaker}
 use Rattle.file_handles.proofs.EffectLaws.{learnt_doomed, learnt_whole}
 
--- the object with the data behind its body
+-- the object with the data after its body
 abbrev pub behind : List ℕ → List ℕ → MachineObject → MachineObject
 behind kind alt o = with_version (with_alt_data kind alt) o
 

@@ -203,7 +203,7 @@ fn leaves_no_entry(alloc: Global, body: &[u8]) -> Result<bool, Fail> {
 }
 
 // The first chunk of the body is a whole entry file of the same key. It stands aside, with the stop
-// tail behind it, and the reopening removes it.
+// tail after it, and the reopening removes it.
 #[test]
 fn a_body_that_imitates_an_entry_is_none(rt: HostRuntime) -> Result<(), Fail> {
     let body = imitating_body(rt.alloc())?;

@@ -70,7 +70,7 @@ fn every_verb_is_answered(rt: HostRuntime) -> Result<(), Fail> {
     Ok(())
 }
 
-// Want of memory, and no answer in its place.
+// Memory ran out, and no answer in its place.
 #[test]
 fn a_size_that_no_memory_holds(rt: HostRuntime) -> Result<(), Fail> {
     for byte in [0, 1, 255] {

@@ -185,7 +185,7 @@ fn both_items_are_loaded(rt: HostRuntime) -> Result<(), Fail> {
     Ok(())
 }
 
-// What comes before the bad item is loaded, and what stood under the key of one that is bad behind its key is gone.
+// What comes before the bad item is loaded, and what stood under the key of one that is bad after its key is gone.
 #[test]
 fn an_item_is_bad(rt: HostRuntime) -> Result<(), Fail> {
     let alloc = rt.alloc();

@@ -127,7 +127,7 @@ fn add_letters(key: &mut String, len: u32) -> Result<(), Fail> {
     Ok(())
 }
 
-// Puts `hello` under a key with so many letters behind the colon.
+// Puts `hello` under a key with so many letters after the colon.
 fn put_under_long(alloc: Global, len: u32) -> Result<Status, Fail> {
     let mut key = String::from_str(alloc, ":")?;
     add_letters(&mut key, len)?;

@@ -7,7 +7,8 @@ use Rattle.disk_model.specs.State.{State, standing}
 use Rattle.disk_model.specs.declared.place.Place.TheVariants.{Entry}
 use Rattle.entry_file.proofs.Damaged.{each_content, of_content}
 use Rattle.entry_metadata.specs.Meta.{meta_of}
-use Rattle.cache_check.specs.Checks.{damaged, named}
+use Rattle.cache_check.specs.Checks.{named}
+use Rattle.cache_check.specs.Findings.{damaged}
 use Rattle.cache_check.proofs.Damages.{damages_from, from_first, listed, more}
 use Rattle.cache_check.proofs.body.add_damages.Goals as goal
 

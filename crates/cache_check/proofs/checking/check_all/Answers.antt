@@ -11,8 +11,8 @@ use Rattle.cache_check.proofs.RowSteps.{all_found}
 use Rattle.cache_check.proofs.Turns.{Turns, looks_parts, still_by_name, still_complete, still_rising, still_stand}
 use Rattle.cache_check.proofs.checking.check_all.Goals as goal
 
-pub returns-in_err-check_turn-clause-looks : goal.returns-in_err-check_turn-clause-looks
-returns-in_err-check_turn-clause-looks g c = λ told.
+pub returns-in_err-check_turn-clause-calls : goal.returns-in_err-check_turn-clause-calls
+returns-in_err-check_turn-clause-calls g c = λ told.
     let s = g.D.Disk.state c.args.disk.now in
     let names = c.rows.filed.now in
     let rs = c.rows.known.now in
@@ -27,7 +27,7 @@ returns-in_err-check_turn-clause-looks g c = λ told.
     looks_done left all (g.D.Disk.counts c.args.disk.now) (g.D.Disk.counts c.check_turn.new.disk)
     (looks_more (turn_looks (standing (g.D.Disk.state c.rows.disk)) b row) (looks_over (table_of (standing s) names) w) left all (g.D.Disk.counts c.args.disk.now) (g.D.Disk.counts c.rows.disk) (g.D.Disk.counts c.check_turn.new.disk)
     (looks_parts names rs row more ss turns c.rows.invariant.rising c.rows.invariant.by_name s (g.D.Disk.state c.rows.disk) w (c.rows.invariant.stand told) b (c.rows.invariant.state told) (c.in_ok-set.ensures.has row.name))
-    (c.rows.invariant.looks told) (c.in_err-check_turn.ensures.looks told))
+    (c.rows.invariant.looks told) (c.in_err-check_turn.ensures.calls told))
 
 pub rows-preserved : goal.rows-preserved
 rows-preserved g c =
@@ -57,7 +57,7 @@ rows-preserved g c =
           c.rows.out c.check_turn.new.out whole (c.in_ok-check_turn.ensures.adds told) (c.rows.invariant.completes told);
       looks = λ told. looks_more (turn_looks (standing t) b row) (looks_over (table_of (standing s) names) w) (looks_over (table_of (standing s) more) w) all (g.D.Disk.counts c.args.disk.now) (g.D.Disk.counts c.rows.disk) (g.D.Disk.counts c.check_turn.new.disk)
           (looks_parts names rs row more ss turns rising by_name s t w (c.rows.invariant.stand told) b (c.rows.invariant.state told) (c.in_ok-set.ensures.has row.name))
-          (c.rows.invariant.looks told) (c.in_ok-check_turn.ensures.looks told);
+          (c.rows.invariant.looks told) (c.in_ok-check_turn.ensures.calls told);
       state = search rules;
       faults = search rules;
     }

@@ -1,4 +1,4 @@
-use Rattle.std.proofs.Common.{◌≡◌, ℕ, List, refl, sym, subst, ◌∙◌}
+use Rattle.std.proofs.Common.{◌≡◌, ℕ, List, refl, sym, subst, ◌∙◌, arith}
 use Rattle.std.proofs.lemmas.Bool.{false≢true}
 use Rattle.cache_export.proofs.PartLaws.{block_spelled, is_third, none_other, none_refused, version_there}
 use Rattle.entry_metadata.specs.Meta.{meta_of}
@@ -15,7 +15,9 @@ returns-in-Err-clause-bad c =
     (none_refused c.args.key.now c.args.len c.args.hashes.now c.args.part.now c.in-Err.fault c.requires.left refused)
 
 pub is_of-requires : goal.is_of-requires
-is_of-requires c = λ same. version_there c.bytes_after-block.result.now c.args.hashes.now c.args.len (meta_of c.in-Ok.meta) c.in-Ok.ensures.spelled same
+is_of-requires c = λ same.
+    let there = version_there c.bytes_after-block.result.now c.args.hashes.now c.args.len (meta_of c.in-Ok.meta) c.in-Ok.ensures.spelled same in
+    omega (arith, there)
 
 pub returns-then-is_of-clause-ok : goal.returns-then-is_of-clause-ok
 returns-then-is_of-clause-ok c =

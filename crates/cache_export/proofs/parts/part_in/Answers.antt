@@ -16,4 +16,4 @@ returns-in-Item-clause-bad c =
     (item_stage c.args.due c.args.last.now c.args.len c.args.hashes.now (subst IsItemDue (sym c.in-Item.is) tt)) c.key_in-in-Item.ensures.bad
 
 pub returns-in-Length-clause-bad : goal.returns-in-Length-clause-bad
-returns-in-Length-clause-bad c = rw c.in-Length.is (lengths_none c.rest_in.result c.args.last.now c.args.part.now _ c.number_at.result c.number_at.ensures c.bytes_after.ensures c.rest_in.ensures.bad)
+returns-in-Length-clause-bad c = rw c.in-Length.is (lengths_none c.rest_in.result c.args.last.now c.args.part.now _ c.u32_at.result c.u32_at.ensures c.bytes_after.ensures c.rest_in.ensures.bad)

@@ -1,7 +1,7 @@
 -- What the command came to, where the run began and where it did not.
 use Rattle.std.proofs.Common.{◌≡◌, ◌∙◌, ap, arith, inl, inr, refl, subst, sym}
 use Rattle.cache_script.specs.Command.{command_of}
-use Rattle.cache_store.specs.IndexCalls.{LooksAtNames}
+use Rattle.cache_store.specs.IndexCalls.{ReadsEntriesOf}
 use Rattle.cache_store.specs.Open.{Tells}
 use Rattle.cache_store.specs.Saying.{IsPart}
 use Rattle.cache_store.specs.Session.{session}
@@ -97,7 +97,7 @@ returns-then-faulting-clause-no_entry g c = λ none told.
     let command = command_of c.args.command.now in
     let opened = c.begin.ensures.looks told (looks_none command (mark_of (files Clear)) (start_of files) none) told in
     let ready = nothing_to_read c.args.now (g.D.Disk.state c.args.disk.now) (session g.D.Disk c.in-Ok.store c.begin.new.disk) (g.met.D.Disk.finite c.args.disk.now told) (c.in-Ok.ensures.begins told) in
-    let performed = reads_none (λ names. LooksAtNames g.D.Disk names c.begin.new.disk c.attempt-answered.new.disk) command (mark_of (files Clear)) (mark_of (standing (g.D.Disk.state c.begin.new.disk) Clear)) (start_of files)
+    let performed = reads_none (λ names. ReadsEntriesOf g.D.Disk names c.begin.new.disk c.attempt-answered.new.disk) command (mark_of (files Clear)) (mark_of (standing (g.D.Disk.state c.begin.new.disk) Clear)) (start_of files)
     c.in-Ok.store.index.update none ready c.attempt-answered.ensures.looks told in
     let ended = c.end_faulted.ensures.no_entry told in
     omega (arith, opened, performed, ended)
@@ -115,7 +115,7 @@ returns-clause-no_entry g c = λ none told.
     let command = command_of c.args.command.now in
     let opened = c.begin.ensures.looks told (looks_none command (mark_of (files Clear)) (start_of files) none) told in
     let ready = nothing_to_read c.args.now (g.D.Disk.state c.args.disk.now) (session g.D.Disk c.in-Ok.store c.begin.new.disk) (g.met.D.Disk.finite c.args.disk.now told) (c.in-Ok.ensures.begins told) in
-    let performed = reads_none (λ names. LooksAtNames g.D.Disk names c.begin.new.disk c.attempt-answered.new.disk) command (mark_of (files Clear)) (mark_of (standing (g.D.Disk.state c.begin.new.disk) Clear)) (start_of files)
+    let performed = reads_none (λ names. ReadsEntriesOf g.D.Disk names c.begin.new.disk c.attempt-answered.new.disk) command (mark_of (files Clear)) (mark_of (standing (g.D.Disk.state c.begin.new.disk) Clear)) (start_of files)
     c.in-Ok.store.index.update none ready c.attempt-answered.ensures.looks told in
     let ended = c.end.ensures.no_entry told in
     omega (arith, opened, performed, ended)

@@ -1,6 +1,6 @@
 -- A run began: the store was opened, and what is done for `Resume` was done; or one of them failed.
 use Rattle.std.proofs.Common.{Ok, arith, refl}
-use Rattle.cache_store.specs.IndexCalls.{LooksAtNames}
+use Rattle.cache_store.specs.IndexCalls.{ReadsEntriesOf}
 use Rattle.cache_store.specs.Session.{session}
 use Rattle.cache_theory.specs.Command.Command.{Resume}
 use Rattle.cache_tool.proofs.EntryLooks.{resume_reads}
@@ -20,14 +20,14 @@ returns-in_err-attempt-clause-fails g c = on_err c.from_residual-in_err-attempt.
 pub returns-in_err-attempt-clause-looks : goal.returns-in_err-attempt-clause-looks
 returns-in_err-attempt-clause-looks g c = λ told none again.
     let opened = c.open.ensures.no_entry told in
-    let performed = resume_reads c.args.now (g.D.Disk.state c.args.disk.now) (session g.D.Disk c.in_ok-store.store c.open.new.disk) (λ names. LooksAtNames g.D.Disk names c.open.new.disk c.attempt.new.disk)
+    let performed = resume_reads c.args.now (g.D.Disk.state c.args.disk.now) (session g.D.Disk c.in_ok-store.store c.open.new.disk) (λ names. ReadsEntriesOf g.D.Disk names c.open.new.disk c.attempt.new.disk)
     (g.met.D.Disk.finite c.args.disk.now told) (c.in_ok-store.ensures.opens told) none c.attempt.ensures.looks told in
     omega (arith, opened, performed)
 
 pub returns-clause-looks : goal.returns-clause-looks
 returns-clause-looks g c = λ told none again.
     let opened = c.open.ensures.no_entry told in
-    let performed = resume_reads c.args.now (g.D.Disk.state c.args.disk.now) (session g.D.Disk c.in_ok-store.store c.open.new.disk) (λ names. LooksAtNames g.D.Disk names c.open.new.disk c.attempt.new.disk)
+    let performed = resume_reads c.args.now (g.D.Disk.state c.args.disk.now) (session g.D.Disk c.in_ok-store.store c.open.new.disk) (λ names. ReadsEntriesOf g.D.Disk names c.open.new.disk c.attempt.new.disk)
     (g.met.D.Disk.finite c.args.disk.now told) (c.in_ok-store.ensures.opens told) none c.attempt.ensures.looks told in
     omega (arith, opened, performed)
 

@@ -1,4 +1,4 @@
-use Rattle.std.proofs.Common.{◌≡◌, ◌≤◌, ◌+◌, take}
+use Rattle.std.proofs.Common.{◌≡◌, take}
 use Rattle.std.specs.Prelude.{IfSome}
 use Rattle.std.specs.Bool.{IsTrue}
 use Rattle.cache_base.specs.Limits.{chunks}
@@ -6,6 +6,7 @@ use Rattle.chunk_store.specs.Chunks.{damage_at}
 use Rattle.disk_model.specs.State.{standing}
 use Rattle.entry_file.specs.Damages.{first_damage}
 use Rattle.entry_file.specs.Held.{IsLastOf}
+use Rattle.entry_file.specs.Looks.{LooksAtMost}
 use Rattle.entry_metadata.specs.Meta.{meta_of}
 use Rattle.entry_file.proofs.Damaged.{first_from}
 use Rattle.entry_file.proofs.body.check_body.Given as goal
@@ -17,6 +18,5 @@ invariant-loop-index g l =
     first_damage (meta_of l.meta) content ≡ first_from (damage_at l.meta.hashes (take l.meta.offset content)) l.index (chunks l.meta.offset)))
     × (IsTrue g.D.Disk.tells → IsLastOf l.index (standing (g.D.Disk.state l.fn.disk) l.place) l.meta.offset l.buf)
     × (IsTrue g.D.Disk.tells → g.D.Disk.state l.disk ≡ g.D.Disk.state l.fn.disk)
-    × (IsTrue g.D.Disk.tells → (g.D.Disk.counts l.disk).calls ≤ (g.D.Disk.counts l.fn.disk).calls + l.index)
-    × (IsTrue g.D.Disk.tells → (g.D.Disk.counts l.disk).failed ≡ (g.D.Disk.counts l.fn.disk).failed)
+    × (IsTrue g.D.Disk.tells → LooksAtMost l.index (g.D.Disk.counts l.fn.disk) (g.D.Disk.counts l.disk))
     × (g.D.Disk.faults l.disk ≡ g.D.Disk.faults l.fn.disk)

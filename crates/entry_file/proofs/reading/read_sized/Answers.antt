@@ -6,7 +6,7 @@ use Rattle.entry_file.specs.Damages.{HasMeta}
 use Rattle.entry_file.specs.declared.entry_read.EntryRead.{EntryRead}
 use Rattle.entry_file.specs.EntryRead.{IfFits, Joins, ReadsAs}
 use Rattle.entry_file.specs.BlockRead.{BlockReadsAs}
-use Rattle.entry_file.proofs.ReadFile.{as_block, as_join, large, no_offset, of_answer, of_answers, outside, part_along, small}
+use Rattle.entry_file.proofs.ReadFile.{as_block, as_join, large, no_offset, not_large, of_answer, of_answers, outside, part_along, small}
 use Rattle.entry_file.proofs.ReadJoin.{has_meta}
 use Rattle.entry_file.proofs.reading.read_sized.Goals as goal
 use Rattle.entry_file.proofs.reading.read_sized.Goals.{then-offset-via-then-offset, then-offset-via-else-offset+then-from-end}
@@ -31,6 +31,16 @@ returns-then-len-gt-BLOCK_MAX-clause-reads g c = λ told.
     large c.args.name.now.0 o c.args.size (c.requires told) (omega arith) c.in_ok-offset.offset (c.in_ok-offset.ensures.offset told)
     c.if-offset.false (omega arith) (omega arith) (omega arith)
 
+pub returns-in_err-block-clause-large : goal.returns-in_err-block-clause-large
+returns-in_err-block-clause-large g c = λ told content at big.
+    absurd (not_large c.args.name.now.0 (standing (g.D.Disk.state c.args.disk.now) c.args.place.now) c.args.size (c.requires told) (omega arith) c.in_ok-offset.offset (c.in_ok-offset.ensures.offset told)
+    c.if-offset.false (omega arith) (omega arith) content at big)
+
+pub returns-clause-large : goal.returns-clause-large
+returns-clause-large g c = λ told content at big.
+    absurd (not_large c.args.name.now.0 (standing (g.D.Disk.state c.args.disk.now) c.args.place.now) c.args.size (c.requires told) (omega arith) c.in_ok-offset.offset (c.in_ok-offset.ensures.offset told)
+    c.if-offset.false (omega arith) (omega arith) content at big)
+
 pub returns-clause-reads : goal.returns-clause-reads
 returns-clause-reads g c =
     let name = c.args.name.now.0 in
@@ -40,7 +50,7 @@ returns-clause-reads g c =
     of_answer (IsTrue g.D.Disk.tells) (BlockReadsAs name block offset c.args.size) (ReadsAs name o) c.read_of_block.result
     (λ told. as_block name o c.args.size (c.requires told) (omega arith) offset (c.in_ok-offset.ensures.offset told) c.if-offset.false (omega arith)
     (c.args.size - 4 - c.from-from.result) (omega arith) block
-    (part_along _ _ c.args.place.now c.in_ok-block.block.items block c.from-from.result offset _ (c.in_ok-offset.ensures.state told) c.from-from.ensures c.as_slice.ensures.value
+    (part_along _ _ c.args.place.now c.in_ok-block.block.items block c.from-from.result offset _ (c.in_ok-offset.ensures.looks.state told) c.from-from.ensures c.as_slice.ensures.value
     (c.in_ok-block.ensures.bytes told)))
     c.read_of_block.ensures.reads
 
@@ -61,7 +71,7 @@ returns-clause-join g c =
     of_answers (IsTrue g.D.Disk.tells) (BlockReadsAs name block offset c.args.size) (λ read. IfFits read (Spells block offset)) (λ read. IfFits read (Joins name o)) c.read_of_block.result
     (λ told. as_join name o c.args.size (c.requires told) (omega arith) offset (c.in_ok-offset.ensures.offset told) c.if-offset.false (omega arith)
     (c.args.size - 4 - c.from-from.result) (omega arith) block
-    (part_along _ _ c.args.place.now c.in_ok-block.block.items block c.from-from.result offset _ (c.in_ok-offset.ensures.state told) c.from-from.ensures c.as_slice.ensures.value
+    (part_along _ _ c.args.place.now c.in_ok-block.block.items block c.from-from.result offset _ (c.in_ok-offset.ensures.looks.state told) c.from-from.ensures c.as_slice.ensures.value
     (c.in_ok-block.ensures.bytes told))
     (c.in_ok-offset.ensures.bytes told))
     c.read_of_block.ensures.reads c.read_of_block.ensures.spelled

@@ -109,14 +109,14 @@ returns-in-Pin-clause-does g c = λ told.
     let was = saying g.K.Sink c.args.self.now.reply c.args.sink.now in
     as_command _ (Pin c.in-Pin.slot) _ _ _ _ _ (ap command_of c.in-Pin.is) (λ m. refl)
     (unsaid_does (Pin c.in-Pin.slot) c.learn_of-in-Pin.result _ _ was c.learn_of-in-Pin.ensures.learnt.not_said c.learn_of-in-Pin.ensures.learnt.no_sink c.requires.empty
-    (pin_achieves c.pin-answer.result c.learn_of-in-Pin.result (session g.D.Disk c.args.self.now c.args.disk.now) _ refl c.learn_of-in-Pin.ensures.learnt (c.pin-answer.ensures.index told) c.in-Pin.slot (c.pin-answer.ensures.carried told) c.pin-answer.ensures.effect))
+    (pin_achieves c.set_pin-answer.result c.learn_of-in-Pin.result (session g.D.Disk c.args.self.now c.args.disk.now) _ refl c.learn_of-in-Pin.ensures.learnt (c.set_pin-answer.ensures.index told) c.in-Pin.slot (c.set_pin-answer.ensures.carried told) c.set_pin-answer.ensures.effect))
 
 pub returns-in-Unpin-clause-does : goal.returns-in-Unpin-clause-does
 returns-in-Unpin-clause-does g c = λ told.
     let was = saying g.K.Sink c.args.self.now.reply c.args.sink.now in
     as_command _ (Unpin c.in-Unpin.slot) _ _ _ _ _ (ap command_of c.in-Unpin.is) (λ m. refl)
     (unsaid_does (Unpin c.in-Unpin.slot) c.learn_of-in-Unpin.result _ _ was c.learn_of-in-Unpin.ensures.learnt.not_said c.learn_of-in-Unpin.ensures.learnt.no_sink c.requires.empty
-    (unpin_achieves c.unpin-answer.result c.learn_of-in-Unpin.result (session g.D.Disk c.args.self.now c.args.disk.now) _ refl c.learn_of-in-Unpin.ensures.learnt (c.unpin-answer.ensures.index told) c.in-Unpin.slot (c.unpin-answer.ensures.carried told) c.unpin-answer.ensures.effect))
+    (unpin_achieves c.set_pin-answer-in-Unpin.result c.learn_of-in-Unpin.result (session g.D.Disk c.args.self.now c.args.disk.now) _ refl c.learn_of-in-Unpin.ensures.learnt (c.set_pin-answer-in-Unpin.ensures.index told) c.in-Unpin.slot (c.set_pin-answer-in-Unpin.ensures.carried told) c.set_pin-answer-in-Unpin.ensures.effect))
 
 pub returns-in-ReadPart-clause-does : goal.returns-in-ReadPart-clause-does
 returns-in-ReadPart-clause-does g c = λ told.

@@ -4,6 +4,7 @@ use Rattle.entry_file.proofs.Writing.{not_written}
 use Rattle.file_handles.specs.Cache.{cache_at}
 use Rattle.file_handles.specs.Changes.{ChangesThere, with_version}
 use Rattle.file_handles.specs.Effects.{IsLearntOf, learnt_of_held}
+use Rattle.file_handles.specs.Held.{labelled}
 use Rattle.file_handles.specs.Kept.{kept, with_object}
 use Rattle.file_handles.specs.Setting.{changed_by, header_by, with_change}
 use Rattle.file_handles.specs.declared.object.Entry.{Entry}
@@ -17,28 +18,28 @@ use Rattle.file_handles.proofs.PutBack.{changes_done, changes_failed, put_back}
 use Rattle.file_handles.proofs.handles.Handles.change_at.Goals as goal
 use Rattle.file_handles.proofs.handles.Handles.change_at.Goals.{in-Draft+in_ok-changed_draft-in-Draft, in-Finished+in_ok-meta-in-Finished+in_ok-rewrite_meta-in-Finished}
 
-pub take-object-requires-clause-there : goal.take-object-requires-clause-there
-take-object-requires-clause-there g c = is_there _ _ c.requires.room
+pub take_apart-entry-requires-clause-there : goal.take_apart-entry-requires-clause-there
+take_apart-entry-requires-clause-there g c = is_there _ _ c.requires.room
 
 pub returns-in_err-changed_draft-in-Draft-clause-changes :
     goal.returns-in_err-changed_draft-in-Draft-clause-changes
 returns-in_err-changed_draft-in-Draft-clause-changes g c told =
     let s = g.D.Disk.state c.args.disk.now in
-    changes_failed c.args.place (with_version (with_change c.args.change)) c.from_residual.result s s (kept c.args.self.now) (kept c.take-object.new.self) c.take-object.result c.take-object.ensures.found
+    changes_failed c.args.place (with_version (with_change c.args.change)) c.from_residual.result s s (kept c.args.self.now) (kept c.take_apart-entry.new.self) (labelled c.take_apart-entry.result.0 c.take_apart-entry.result.1) c.take_apart-entry.ensures.found
     (λ o filed. not_written _ _ s) c.from_residual.ensures.0
 
 pub returns-in_err-meta-in-Finished-clause-changes :
     goal.returns-in_err-meta-in-Finished-clause-changes
 returns-in_err-meta-in-Finished-clause-changes g c told =
     let s = g.D.Disk.state c.args.disk.now in
-    changes_failed c.args.place (with_version (with_change c.args.change)) c.from_residual-in_err-meta-in-Finished.result s s (kept c.args.self.now) (kept c.take-object.new.self) c.take-object.result c.take-object.ensures.found
+    changes_failed c.args.place (with_version (with_change c.args.change)) c.from_residual-in_err-meta-in-Finished.result s s (kept c.args.self.now) (kept c.take_apart-entry.new.self) (labelled c.take_apart-entry.result.0 c.take_apart-entry.result.1) c.take_apart-entry.ensures.found
     (λ o filed. not_written _ _ s) c.from_residual-in_err-meta-in-Finished.ensures.0
 
 pub rewrite_meta-requires : goal.rewrite_meta-requires
 rewrite_meta-requires g c told =
     let s = g.D.Disk.state c.args.disk.now in
-    let x = c.take-object.result in
-    let filed = c.requires.told told x c.take-object.ensures.found in
+    let x = labelled c.take_apart-entry.result.0 c.take_apart-entry.result.1 in
+    let filed = c.requires.told told x c.take_apart-entry.ensures.found in
     let new = c.in_ok-meta-in-Finished.ensures in
     let with : IsMetaWith (header_by c.args.change) (changed_by c.args.change) c.in-Finished.meta c.in_ok-meta-in-Finished.meta =
     record { header = new.header; key = new.others.0; elements = new.elements; hashes = new.others.1.0; offset = new.others.1.1 } in
@@ -49,11 +50,11 @@ pub returns-in_err-rewrite_meta-in-Finished-clause-changes :
 returns-in_err-rewrite_meta-in-Finished-clause-changes g c told =
     let s = g.D.Disk.state c.args.disk.now in
     let t = g.D.Disk.state c.rewrite_meta.new.disk in
-    let x = c.take-object.result in
+    let x = labelled c.take_apart-entry.result.0 c.take_apart-entry.result.1 in
     let new = c.in_ok-meta-in-Finished.ensures in
     let with : IsMetaWith (header_by c.args.change) (changed_by c.args.change) c.in-Finished.meta c.in_ok-meta-in-Finished.meta =
     record { header = new.header; key = new.others.0; elements = new.elements; hashes = new.others.1.0; offset = new.others.1.1 } in
-    changes_failed c.args.place (with_version (with_change c.args.change)) c.from_residual-in_err-rewrite_meta-in-Finished.result s t (kept c.args.self.now) (kept c.take-object.new.self) x c.take-object.ensures.found
+    changes_failed c.args.place (with_version (with_change c.args.change)) c.from_residual-in_err-rewrite_meta-in-Finished.result s t (kept c.args.self.now) (kept c.take_apart-entry.new.self) x c.take_apart-entry.ensures.found
     (λ o filed. meta_writes (header_by c.args.change) (changed_by c.args.change) x o s filed c.in-Finished.meta c.in_ok-meta-in-Finished.meta c.in-Finished.is with t c.file_place-file.result c.file_place-file.ensures (c.rewrite_meta.ensures.writes told))
     c.from_residual-in_err-rewrite_meta-in-Finished.ensures.0
 
@@ -68,7 +69,7 @@ returns-clause-changes g c told =
     let s = g.D.Disk.state c.args.disk.now in
     let k = kept c.args.self.now in
     let after = kept c.put_entry.new.self in
-    let x = c.take-object.result in
+    let x = labelled c.take_apart-entry.result.0 c.take_apart-entry.result.1 in
     elim c.match-entry.branch [
       | in-Draft+in_ok-changed_draft-in-Draft w ↦
           let new = w.in_ok-changed_draft-in-Draft.ensures in
@@ -76,9 +77,9 @@ returns-clause-changes g c told =
           record { body = new.others.0; header = new.header; key = new.others.1; elements = new.elements } in
           let t_is : g.D.Disk.state c.match-entry.disk ≡ s = ap g.D.Disk.state w.disk-is in
           let y : Object = record { number = x.number; name = x.name; doomed = x.doomed; aside = x.aside; entry = Draft w.in_ok-changed_draft-in-Draft.field-0 } in
-          let put = put_back k (kept c.take-object.new.self) after c.args.place _ c.take-object.ensures.kept c.put_entry.ensures ∙ ap (λ (e : Entry). with_object k c.args.place (Some (record { number = x.number; name = x.name; doomed = x.doomed; aside = x.aside; entry = e }))) w.entry-is in
+          let put = put_back k (kept c.take_apart-entry.new.self) after c.args.place _ c.take_apart-entry.ensures.kept c.put_entry.ensures ∙ ap (λ (e : Entry). with_object k c.args.place (Some (record { number = x.number; name = x.name; doomed = x.doomed; aside = x.aside; entry = e }))) w.entry-is in
           subst (λ (u : State). ChangesThere c.args.place (with_version (with_change c.args.change)) (Ok c.learnt_of-effect.result) (cache_at k s) (cache_at after u)) (sym t_is)
-          (changes_done c.args.place (with_version (with_change c.args.change)) (Ok c.learnt_of-effect.result) s s k after x c.take-object.ensures.found (λ o filed. not_written _ _ s)
+          (changes_done c.args.place (with_version (with_change c.args.change)) (Ok c.learnt_of-effect.result) s s k after x c.take_apart-entry.ensures.found (λ o filed. not_written _ _ s)
           y (λ o filed. draft_becomes (header_by c.args.change) (changed_by c.args.change) x o s filed w.in-Draft.draft w.in_ok-changed_draft-in-Draft.field-0 w.in-Draft.is with) put)
       | in-Finished+in_ok-meta-in-Finished+in_ok-rewrite_meta-in-Finished w ↦
           let new = w.in_ok-meta-in-Finished.ensures in
@@ -87,9 +88,9 @@ returns-clause-changes g c told =
           let t : State = g.D.Disk.state w.rewrite_meta.new.disk in
           let t_is : g.D.Disk.state c.match-entry.disk ≡ t = ap g.D.Disk.state w.disk-is in
           let y : Object = record { number = x.number; name = x.name; doomed = x.doomed; aside = x.aside; entry = Finished w.in_ok-meta-in-Finished.meta } in
-          let put = put_back k (kept c.take-object.new.self) after c.args.place _ c.take-object.ensures.kept c.put_entry.ensures ∙ ap (λ (e : Entry). with_object k c.args.place (Some (record { number = x.number; name = x.name; doomed = x.doomed; aside = x.aside; entry = e }))) w.entry-is in
+          let put = put_back k (kept c.take_apart-entry.new.self) after c.args.place _ c.take_apart-entry.ensures.kept c.put_entry.ensures ∙ ap (λ (e : Entry). with_object k c.args.place (Some (record { number = x.number; name = x.name; doomed = x.doomed; aside = x.aside; entry = e }))) w.entry-is in
           subst (λ (u : State). ChangesThere c.args.place (with_version (with_change c.args.change)) (Ok c.learnt_of-effect.result) (cache_at k s) (cache_at after u)) (sym t_is)
-          (changes_done c.args.place (with_version (with_change c.args.change)) (Ok c.learnt_of-effect.result) s t k after x c.take-object.ensures.found
+          (changes_done c.args.place (with_version (with_change c.args.change)) (Ok c.learnt_of-effect.result) s t k after x c.take_apart-entry.ensures.found
           (λ o filed. meta_writes (header_by c.args.change) (changed_by c.args.change) x o s filed w.in-Finished.meta w.in_ok-meta-in-Finished.meta w.in-Finished.is with t c.file_place-file.result c.file_place-file.ensures (w.rewrite_meta.ensures.writes told))
           y (λ o filed. meta_becomes (header_by c.args.change) (changed_by c.args.change) x o s filed w.in-Finished.meta w.in_ok-meta-in-Finished.meta w.in-Finished.is with t c.file_place-file.result c.file_place-file.ensures
           (w.in_ok-rewrite_meta-in-Finished.ensures.stands told)) put)
@@ -97,9 +98,9 @@ returns-clause-changes g c told =
 
 pub returns-clause-effect : goal.returns-clause-effect
 returns-clause-effect g c =
-    let x = c.take-object.result in
+    let x = labelled c.take_apart-entry.result.0 c.take_apart-entry.result.1 in
     let change = with_version (with_change c.args.change) in
-    subst (λ (o : Option Object). IsLearntOf change o c.learnt_of-effect.result) (sym c.take-object.ensures.found) (λ o held new.
+    subst (λ (o : Option Object). IsLearntOf change o c.learnt_of-effect.result) (sym c.take_apart-entry.ensures.found) (λ o held new.
     c.learnt_of-effect.ensures.held
     ∙ elim c.match-entry.branch [
       | in-Draft+in_ok-changed_draft-in-Draft w ↦

@@ -11,4 +11,4 @@ returns-clause-count c =
     ∙ ap (λ (m : Known). changed m.base m.records) c.self.view_is
 
 pub returns-clause-known : goal.returns-clause-known
-returns-clause-known c = subst IsKnown c.self.view_is (is_known c.self.inside.slots c.self.inside.has_base c.counts.ensures.table)
+returns-clause-known c = subst IsKnown c.self.view_is (is_known c.self.inside.slots c.self.inside.has_base c.self.invariant c.counts.ensures.table)

@@ -7,7 +7,7 @@ use Rattle.index_map.proofs.Shown.{is_known}
 use Rattle.index_map.proofs.map.RecordMap.diff.Goals as goal
 
 pub returns-in_err-changes-clause-known : goal.returns-in_err-changes-clause-known
-returns-in_err-changes-clause-known c = subst IsKnown c.self.view_is (is_known c.self.inside.slots c.self.inside.has_base c.changes.ensures.table)
+returns-in_err-changes-clause-known c = subst IsKnown c.self.view_is (is_known c.self.inside.slots c.self.inside.has_base c.self.invariant c.changes.ensures.table)
 
 pub by_name-requires : goal.by_name-requires
 by_name-requires c = subst HasNames (sym c.in_ok-changes.ensures.changes) (names_changed c.self.inside.slots c.changes.ensures.table)
@@ -28,4 +28,4 @@ returns-clause-count c =
     diff_long c.self.inside.slots c.by_name.result c.changes.ensures.table by ∙ ap (λ (m : Known). changed m.base m.records) c.self.view_is
 
 pub returns-clause-known : goal.returns-clause-known
-returns-clause-known c = subst IsKnown c.self.view_is (is_known c.self.inside.slots c.self.inside.has_base c.changes.ensures.table)
+returns-clause-known c = subst IsKnown c.self.view_is (is_known c.self.inside.slots c.self.inside.has_base c.self.invariant c.changes.ensures.table)

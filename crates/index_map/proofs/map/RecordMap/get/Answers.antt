@@ -10,4 +10,4 @@ returns-clause-record c =
     ∙ ap (λ (m : Known). record_at m.seen c.args.name.now) c.self.view_is
 
 pub returns-clause-known : goal.returns-clause-known
-returns-clause-known c = subst IsKnown c.self.view_is (is_known c.self.inside.slots c.self.inside.has_base c.seen_at.ensures.table)
+returns-clause-known c = subst IsKnown c.self.view_is (is_known c.self.inside.slots c.self.inside.has_base c.self.invariant c.seen_at.ensures.table)

@@ -12,7 +12,7 @@ by_name-requires c =
     subst HasNames (sym c.in_ok-records.ensures.records) (names-part current_of table is.distinct (own_current table is))
 
 pub returns-in_err-records-clause-known : goal.returns-in_err-records-clause-known
-returns-in_err-records-clause-known c = subst IsKnown c.self.view_is (is_known c.self.inside.slots c.self.inside.has_base c.records.ensures.table)
+returns-in_err-records-clause-known c = subst IsKnown c.self.view_is (is_known c.self.inside.slots c.self.inside.has_base c.self.invariant c.records.ensures.table)
 
 pub returns-clause-known : goal.returns-clause-known
-returns-clause-known c = subst IsKnown c.self.view_is (is_known c.self.inside.slots c.self.inside.has_base c.records.ensures.table)
+returns-clause-known c = subst IsKnown c.self.view_is (is_known c.self.inside.slots c.self.inside.has_base c.self.invariant c.records.ensures.table)

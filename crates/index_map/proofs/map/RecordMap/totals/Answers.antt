@@ -18,4 +18,4 @@ returns-clause-kilobytes c =
     ∙ ap (λ (m : Known). sum_by size_kb m.records) c.self.view_is
 
 pub returns-clause-known : goal.returns-clause-known
-returns-clause-known c = subst IsKnown c.self.view_is (is_known c.self.inside.slots c.self.inside.has_base c.counts-counts.ensures.table)
+returns-clause-known c = subst IsKnown c.self.view_is (is_known c.self.inside.slots c.self.inside.has_base c.self.invariant c.counts-counts.ensures.table)

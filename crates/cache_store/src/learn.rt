@@ -3,7 +3,7 @@
 ghost use Rattle.std.specs.Prelude.{◌≡◌, false, IfErr, IfOk};
 ghost use Rattle.cache_store.specs.Faults.{EndsAs, ending};
 ghost use Rattle.cache_store.specs.Learnt.{IsLearnt, effect_of, effect_of_some};
-ghost use Rattle.cache_store.specs.Printed.{IsPlain, lists_findings};
+ghost use Rattle.cache_store.specs.Printed.{IsPlainAnswer, lists_findings};
 ghost use Rattle.file_handles.specs.Answers.{done_or, done_or_none, ending as handle_ending};
 ghost use Rattle.file_handles.specs.Effects.{IsPlainEffect};
 
@@ -20,7 +20,7 @@ impl MemoryIndex {
     ) -> Result<Answered, StoreFault>
         requires { IsPlainEffect (effect_of answer) }
         ensures learnt { IsLearnt (done_or answer) (effect_of answer) result self.old self.new }
-        ensures plain { IfOk result IsPlain }
+        ensures plain { IfOk result IsPlainAnswer }
         ensures unlisted { IfOk result (λ a. lists_findings a ≡ false) }
         ensures unlearnt { IfErr answer (λ f. self.new ≡ self.old) }
         ensures ending { EndsAs (handle_ending answer) (ending result) }

@@ -10,8 +10,8 @@ ghost use Rattle.entry_metadata.specs.Meta.{meta_of};
 
 use crate::StoreFault;
 use crate::answered::{Answered, fault_answer};
-use crate::faulting::is_failed;
 use crate::found_body::Range;
+use crate::look_faults::is_failed;
 use crate::replies::{alt_head, counted, entry_head};
 use crate::store::Store;
 use alt_data::info;
