@@ -15,9 +15,11 @@ abbrev pub OnlyOneTable : Type 0
 OnlyOneTable = (es : Entries) (one two : Table (List ℕ)) → IsTableOf es one → IsTableOf es two → one ≡ two
 
 -- under each name that is not being written the same file stands, and the record is the same
-pub record AgreeBeside (writing : List Name) (one two : Table (List ℕ)) (rs qs : List IndexRecord) : Type 0 where
+pub record AgreeBeside (writing : List Name) (one two : Table (List ℕ)) (rs qs : List IndexRecord)
+    : Type 0 where
   pub files : (name : Name) → has_name writing name ≡ false → get one name.0 ≡ get two name.0
-  pub records : (name : Name) → has_name writing name ≡ false → record_at rs name ≡ record_at qs name
+  pub records : (name : Name) → has_name writing name ≡ false
+      → record_at rs name ≡ record_at qs name
 
 -- what is found depends on these alone
 abbrev pub FindingsAgree : Type 0

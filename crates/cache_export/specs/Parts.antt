@@ -74,5 +74,6 @@ SpellsEnd (Stage.InBody key len hashes) bytes = ⊥
 -- After so many bytes of a dump no part that is due begins these bytes and ends within the longest dump, and they do
 -- not end it there.
 pub record NoPart (stage : Stage) (used : ℕ) (bytes : List ℕ) : Type 0 where
-  pub part : (p : Part) (own more : List ℕ) → Spells stage p own → bytes ≡ own ++ more → DUMP_MAX < used + length own
+  pub part : (p : Part) (own more : List ℕ) → Spells stage p own → bytes ≡ own ++ more
+      → DUMP_MAX < used + length own
   pub ending : SpellsEnd stage bytes → DUMP_MAX < used + length bytes

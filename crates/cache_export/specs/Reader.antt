@@ -53,7 +53,8 @@ pub record StandsWhole (r : DumpReader) (end : ℕ) : Type 0 where
   pub there : end ≤ length (held_in r)
   pub some : 0 < end
   pub fits : used_in r + end ≤ DUMP_MAX
-  pub whole : IsWholePart r.progress.due (left_of r.progress.len (length r.progress.hashes)) (take end (held_in r))
+  pub whole : IsWholePart r.progress.due (left_of r.progress.len (length r.progress.hashes))
+      (take end (held_in r))
 
 -- the part up to the place was taken, and it was this one
 pub record Takes (old new : DumpReader) (end : ℕ) (item : Item) : Type 0 where
@@ -71,7 +72,8 @@ RefusesPart old end faults.Memory = Unit {0}
 
 -- A part was given, and with it so many whole items. The bytes that were held and those that were read are the part's
 -- and those that are held now.
-pub record Gives (old new : DumpReader) (left now : Option (List ℕ)) (p : Part) (count : ℕ) : Type 0 where
+pub record Gives (old new : DumpReader) (left now : Option (List ℕ)) (p : Part) (count : ℕ)
+    : Type 0 where
   pub own : List ℕ
   pub part : Spells (stage_in old) p own
   pub stage : stage_in new ≡ after (stage_in old) p own

@@ -85,7 +85,8 @@ ClearingLeavesNone = (origin : List ℕ) (answer : Result Verdict StoreFault) (b
     → Represents before m → Tells before m → LeavesNoneOf (value_hash origin) after.disk
 
 -- for a history: the names are cleared, by a command that is answered as a flush and by one that is not
-pub record ClearsNames (crash : Bool) (names : List Name) (h : History) (answer : Result ℕ StoreFault)
+pub record ClearsNames (crash : Bool) (names : List Name) (h : History)
+    (answer : Result ℕ StoreFault)
     (before after : Session) : Type 0 where
   pub safe : IsTrue crash → IsSafe after.disk (begun (ClearNames names) h).marks
   pub count : IfOk answer (λ n. n ≡ length names)

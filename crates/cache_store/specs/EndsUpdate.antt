@@ -16,7 +16,8 @@ update_over h = record h { machine = update_ended h.machine }
 
 -- with an answer the store and the disk stand for the machine whose update has ended, whichever it was before, and keep
 -- to the history with that machine; and a crash loses no more than before, at every exit
-pub record EndsUpdate {T : Type 0} (answer : Result T StoreFault) (before after : Session) : Type 0 where
+pub record EndsUpdate {T : Type 0} (answer : Result T StoreFault) (before after : Session)
+    : Type 0 where
   pub stands : (m : Machine) → Represents before m → OnOk answer (Represents after (update_ended m))
   pub keeps : (h : History) → KeepsTo before h → OnOk answer (KeepsTo after (update_over h))
   pub safe : (h : History) → KeepsTo before h → IsSafe after.disk h.marks

@@ -56,7 +56,8 @@ pub record HoldsFiles (now : Cache) (names : List Name) : Type 0 where
   pub files : AllByRecursion (λ name. IsSome (standing now.disk (Entry name))) names
 
 -- what stands under these names is doomed, whatever the history in whose marks they are touched
-pub record DoomsAll (names : List Name) (answer : Result (Unit {0}) DiskFault) (before after : Cache)
+pub record DoomsAll (names : List Name) (answer : Result (Unit {0}) DiskFault)
+    (before after : Cache)
     : Type 0 where
   pub leaves : (crash : Bool) (h : History)
       → AllByRecursion (λ name. is_touched h.marks name.0 ≡ true) names → KeepsWhere crash before h

@@ -34,7 +34,8 @@ abbrev pub AnswersInMemory : Open → Command → Result Answered StoreFault →
 AnswersInMemory o c answer before now = ForReply o c (λ r. AnswersTo r answer before now)
 
 -- the reply is out, or it was cut
-pub record IsOutOrCut (answer : Result Verdict StoreFault) (before now : Option (List ℕ)) (r : Reply) : Type 0 where
+pub record IsOutOrCut (answer : Result Verdict StoreFault) (before now : Option (List ℕ))
+    (r : Reply) : Type 0 where
   pub out : OnOk answer (Appends before now (reply_text r))
   pub cut : OnErr answer (IsReplyCut r before now)
 

@@ -99,7 +99,8 @@ pub record Opens (now : ℕ) (s : State) (after : Session) : Type 0 where
 -- the records that a store begins with: where the index is trusted those of it with its journal applied, whatever the
 -- entries are; and where it cannot be read there is no base
 pub record BeginsOn (files : Files) (map : Known) : Type 0 where
-  pub ready : start_of files ≡ Ready → BeginsAfter (index_records (files Index)) (journal_records (files Log)) map
+  pub ready : start_of files ≡ Ready
+      → BeginsAfter (index_records (files Index)) (journal_records (files Log)) map
   pub build : start_of files ≡ Build → map.has_base ≡ false
 
 -- ---- the closing
@@ -119,11 +120,13 @@ abbrev pub ClosesSafely : Session → State → Type 0
 ClosesSafely before t = (h : History) → KeepsTo before h → IsCrashSafe t h.marks
 
 -- the store is closed, whatever machine it stands for, and whatever history the disk keeps to
-pub record Closes (answer : Result (Unit {0}) StoreFault) (before : Session) (t : State) : Type 0 where
+pub record Closes (answer : Result (Unit {0}) StoreFault) (before : Session) (t : State)
+    : Type 0 where
   pub shut : (m : Machine) → Represents before m → OnOk answer (IsShut t m)
   pub crash : (h : History) → KeepsTo before h → IsSafe t h.marks
 
 -- where the records were right each image is honest, and after an Ok the directory is
-pub record ClosesHonestly (answer : Result (Unit {0}) StoreFault) (before : Session) (t : State) : Type 0 where
+pub record ClosesHonestly (answer : Result (Unit {0}) StoreFault) (before : Session) (t : State)
+    : Type 0 where
   pub images : (m : Machine) → Represents before m → Tells before m → LeavesHonest t
   pub honest : (m : Machine) → Represents before m → Tells before m → OnOk answer (IsHonest t m)

@@ -29,7 +29,8 @@ verdict_in (Err f) = Err f
 
 -- A look at the disk failed before anything of the reply was out: the store and the disk are as they were, and the line
 -- that tells it was printed, or a part of it where the sink failed or memory ran out.
-pub record Faults {Self : _} (D : Ghosts Self) (answer : Result Outcome StoreFault) (old new : Store) (before now : Self)
+pub record Faults {Self : _} (D : Ghosts Self) (answer : Result Outcome StoreFault)
+    (old new : Store) (before now : Self)
     (taken later : Option (List ℕ)) : Type 0 where
   pub outcome : IfOk answer (λ o. o ≡ outcome.Faulted)
   pub no_disk : answer ≢ Err fault.Disk

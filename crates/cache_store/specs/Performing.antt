@@ -118,13 +118,15 @@ AchievesWhatIsDone c answer before after =
     → DoneInMemory before c h.machine (λ d. Achieves crash d h answer before after)
 
 -- for a history: what the command does before its reply is out whole, with and without a crash
-pub record DoesCommand (crash : Bool) (c : Command) (h : History) (answer : Result Answered StoreFault)
+pub record DoesCommand (crash : Bool) (c : Command) (h : History)
+    (answer : Result Answered StoreFault)
     (before after : Session) (taken : Option (List ℕ)) (now : Saying) : Type 0 where
   pub safe : IsTrue crash → IsSafe after.disk (begun c h).marks
   pub answers : AnswersTo (step h.machine c).reply answer taken now
   pub next : OnOk answer (KeepsWhere crash after (acked c h))
   pub effect : IfErr answer (λ f. f ≡ fault.Sink → KeepsWhere crash after (acked c h))
-  pub tells : HadEffect answer → ComesToTell c before h.machine → Tells after (step h.machine c).next
+  pub tells : HadEffect answer → ComesToTell c before h.machine
+      → Tells after (step h.machine c).next
 
 -- whatever the history that the session keeps to
 abbrev pub DoesFor : Command → Result Answered StoreFault → Session → Session

@@ -40,17 +40,20 @@ abbrev pub ScanChanges : Effect → Entries → Entries → Type 0
 ScanChanges e before now = (name : Name) → scanned now name ≡ once e (scanned before) name
 
 -- a name is off the rest of these names, whose record was set before in this map
-pub record TakenOff (name : Name) (map : Known) (names : List Name) (new : MemoryIndex) : Type 0 where
+pub record TakenOff (name : Name) (map : Known) (names : List Name) (new : MemoryIndex)
+    : Type 0 where
   pub rest : new.update ≡ without name names
   pub base : SameBase map new.map
-  pub tells : (es : Entries) → TellsSeen es map (name_bytes (without name names)) → (names ≡ [] → TellsAll es map)
+  pub tells : (es : Entries) → TellsSeen es map (name_bytes (without name names))
+      → (names ≡ [] → TellsAll es map)
       → TellsOf es new
 
 -- this is learnt: the name leaves the rest, and the records go on to tell of the entries
 pub record LearnsEffect (e : Effect) (old new : MemoryIndex) : Type 0 where
   pub rest : name_bytes new.update ≡ rest_once e (name_bytes old.update)
   pub base : SameBase old.map new.map
-  pub tells : (before now : Entries) → ScanChanges e before now → TellsOf before old → TellsOf now new
+  pub tells : (before now : Entries) → ScanChanges e before now → TellsOf before old
+      → TellsOf now new
 
 -- the records are those of the machine's shelf
 pub record RecordsTell (index : MemoryIndex) (m : Machine) : Type 0 where
@@ -69,7 +72,8 @@ AnswersHas key index a =
 -- the records in memory once the update has ended: where it had ended, those of the map; and else those that were seen,
 -- with the records of the entries whose names were left to read
 pub record EndsWith (es : Entries) (index : MemoryIndex) (records : List IndexRecord) : Type 0 where
-  pub ended : index.update ≡ [] → (name : Name) → record_at records name ≡ record_at index.map.records name
+  pub ended : index.update ≡ [] → (name : Name)
+      → record_at records name ≡ record_at index.map.records name
   pub read : index.update ≢ [] → ReadsIn es index.update index.map.seen records
 
 -- just those, in name order

@@ -39,7 +39,8 @@ abbrev pub IsCovered : List ℕ → Version → Type 0
 IsCovered origin v = covers (value_hash origin) v.key v.header ≡ true
 
 -- a crash leaves the version under the key; by no chance, where metadata were rewritten in place under its name
-pub record IsBroughtBack (s : State) (w : Marks) (image : Files) (key : List ℕ) (v : Version) : Type 0 where
+pub record IsBroughtBack (s : State) (w : Marks) (image : Files) (key : List ℕ) (v : Version)
+    : Type 0 where
   pub left : IsLeft s w image
   pub found : found (entries image) key ≡ Some v
   pub no_chance : is_touched w (file_name key) ≡ true

@@ -148,7 +148,8 @@ pub record IsRead (m : Machine) (cs : List Command) (bytes : List ℕ) (r : Faul
   pub left : List ℕ
   pub begins : bytes ≡ replies_but m (take r.answered cs) r.faults ++ left
   pub ends : (c : Command) → slice_get cs r.answered ≡ Some c
-      → (begins_with fault_line left ≡ false) × (begins_with (reply_behind m cs r.answered r.faults c) left ≡ false)
+      → (begins_with fault_line left ≡ false)
+      × (begins_with (reply_behind m cs r.answered r.faults c) left ≡ false)
 
 -- so it is with what is read of any bytes
 abbrev pub FaultedIsRead : Type 0
@@ -158,7 +159,8 @@ FaultedIsRead = (m : Machine) (cs : List Command) (bytes : List ℕ) → IsRead 
 
 -- the later commands go by what was kept of the first
 pub record GoesOn (m : Machine) (cs more : List Command) (faults : List ℕ) : Type 0 where
-  pub replies : replies_but m (cs ++ more) faults ≡ replies_but m cs faults ++ replies_text (after m (unfaulted faults cs)) more
+  pub replies : replies_but m (cs ++ more) faults
+      ≡ replies_but m cs faults ++ replies_text (after m (unfaulted faults cs)) more
   pub kept : unfaulted faults (cs ++ more) ≡ unfaulted faults cs ++ more
 
 -- where only some of the first are answered `fault`
@@ -174,8 +176,10 @@ abbrev pub NextIsNumbered : Type 0
 NextIsNumbered = (p : ℕ) (faults : List ℕ) → AreFaults p faults → AreFaults (suc p) (with_next p faults)
 
 -- one command more is answered `fault`, and so is not kept
-pub record FaultsNext (m : Machine) (cs : List Command) (c : Command) (faults : List ℕ) : Type 0 where
-  pub replies : replies_but m (cs ++ c ∷ []) (with_next (length cs) faults) ≡ replies_but m cs faults ++ fault_line
+pub record FaultsNext (m : Machine) (cs : List Command) (c : Command) (faults : List ℕ)
+    : Type 0 where
+  pub replies : replies_but m (cs ++ c ∷ []) (with_next (length cs) faults)
+      ≡ replies_but m cs faults ++ fault_line
   pub kept : unfaulted (with_next (length cs) faults) (cs ++ c ∷ []) ≡ unfaulted faults cs
 
 -- so it may be with any command after any others

@@ -52,7 +52,8 @@ is_among name names = list_any (bytes_eq name) (map (λ n. n.0) names)
 
 -- what stands under these names is off the shelf, and the update has ended
 pub record AreLost (m next : Machine) (names : List Name) : Type 0 where
-  pub shelf : (name : List ℕ) → get next.shelf name ≡ (if is_among name names then None else get m.shelf name)
+  pub shelf : (name : List ℕ)
+      → get next.shelf name ≡ (if is_among name names then None else get m.shelf name)
   pub rest : next.rest ≡ []
   pub slots : next.slots ≡ m.slots
   pub moment : next.moment ≡ m.moment

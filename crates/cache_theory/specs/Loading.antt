@@ -41,7 +41,8 @@ stocked shelf (v ∷ vs) = stocked (insert shelf (file_name v.key) (file_of v)) 
 -- all that was done answered `ok`, the shelf has the files, and the slot is free again
 pub record IsStocked (m : Machine) (vs : List Version) : Type 0 where
   pub replies_ok : replies m (items_written vs) ≡ map (λ c. Done) (items_written vs)
-  pub shelf : (name : List ℕ) → get (after m (items_written vs)).shelf name ≡ get (stocked m.shelf vs) name
+  pub shelf : (name : List ℕ)
+      → get (after m (items_written vs)).shelf name ≡ get (stocked m.shelf vs) name
   pub free : is_slot (after m (items_written vs)) 0 ≡ false
 
 -- the items of a dump are written so
@@ -55,7 +56,8 @@ IsNoneNamed key vs = AllByRecursion (λ v. file_name v.key ≢ file_name key) vs
 -- then each of them is found, and each key of another name is found as before
 pub record FindsStock (shelf : Table (List ℕ)) (vs : List Version) : Type 0 where
   pub items : (v : Version) → Any (λ w. w ≡ v) vs → found (get (stocked shelf vs)) v.key ≡ Some v
-  pub others : (key : List ℕ) → IsNoneNamed key vs → found (get (stocked shelf vs)) key ≡ found (get shelf) key
+  pub others : (key : List ℕ) → IsNoneNamed key vs
+      → found (get (stocked shelf vs)) key ≡ found (get shelf) key
 
 -- so it is on each shelf, of the items of each dump
 abbrev pub StockIsFound : Type 0
@@ -67,9 +69,11 @@ DumpsAll shelf = dumped shelf ≡ filter may_dump (versions_in shelf)
 
 -- and into an empty shelf it brings back what may be dumped, and nothing else
 pub record LoadsBack (shelf : Table (List ℕ)) : Type 0 where
-  pub found_again : (key : List ℕ) (v : Version) → found (get shelf) key ≡ Some v → may_dump v ≡ true
+  pub found_again : (key : List ℕ) (v : Version) → found (get shelf) key ≡ Some v
+      → may_dump v ≡ true
       → found (get (stocked [] (dumped shelf))) key ≡ Some v
-  pub nothing_else : (key : List ℕ) (v : Version) → found (get (stocked [] (dumped shelf))) key ≡ Some v → found (get shelf) key ≡ Some v
+  pub nothing_else : (key : List ℕ) (v : Version)
+      → found (get (stocked [] (dumped shelf))) key ≡ Some v → found (get shelf) key ≡ Some v
 
 -- so it is of each shelf whose dump leaves nothing out
 abbrev pub DumpLoadsBack : Type 0

@@ -52,10 +52,12 @@ names_cleared _ = []
 
 -- the records by which it goes, where this was done before: those of all entries in an honest directory; and where
 -- the index is trusted those of it with its journal applied, but for those of the names that were cleared
-pub record AreOnResumed (s : State) (m : Machine) (d : Command) (records : List IndexRecord) : Type 0 where
+pub record AreOnResumed (s : State) (m : Machine) (d : Command) (records : List IndexRecord)
+    : Type 0 where
   pub honest : AreOfShelf (Honest (standing s)) (step m d).next records
   pub trusted : start_of (standing s) ≡ Ready
-      → (indexed : List IndexRecord) × (AreIndexed s indexed × AreOthers indexed (names_cleared d) records)
+      → (indexed : List IndexRecord)
+      × (AreIndexed s indexed × AreOthers indexed (names_cleared d) records)
 
 -- this holds of what is done for such a command
 abbrev pub DoneOnResumed : State → Machine → Command → Command → (Command → Type 0) → Type 0
@@ -85,7 +87,8 @@ pub record BeginsRun (moment : ℕ) (s : State) (now : Session) : Type 0 where
 pub record FailsToBegin (moment : ℕ) (s t : State) : Type 0 where
   pub images : OpensHonestly s t
   pub crash : (m : Machine) → StartsOn moment s m
-      → (IsQuiet s → IsSafe t (marks_of m)) ⊎ DoneAtOpening s m (λ d. IsSafe t (acked d (settled_at m)).marks)
+      → (IsQuiet s → IsSafe t (marks_of m))
+      ⊎ DoneAtOpening s m (λ d. IsSafe t (acked d (settled_at m)).marks)
 
 -- no entry is looked at: no mark of an origin stands, or the index is trusted
 abbrev pub ReadsNoEntry : Option ℕ → Start → Type 0

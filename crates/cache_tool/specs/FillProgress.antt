@@ -25,12 +25,14 @@ pub record AreRun {T : Type 0} (cs : List Command) (h : History) (answer : Resul
   pub stands : OnOk answer (LeadTo cs before h.machine now (all_unanswered cs h))
 
 -- whatever history the disk kept to
-pub record RunsAll {T : Type 0} (cs : List Command) (answer : Result T StoreFault) (before now : Session)
+pub record RunsAll {T : Type 0} (cs : List Command) (answer : Result T StoreFault)
+    (before now : Session)
     : Type 0 where
   pub each : (h : History) → KeepsTo before h → AreRun cs h answer before now
 
 -- for a history: half of all was evicted, by a sum which is that of all entries where the records in memory are right
-pub record HalfIsEvicted {T : Type 0} (h : History) (answer : Result T StoreFault) (before now : Session)
+pub record HalfIsEvicted {T : Type 0} (h : History) (answer : Result T StoreFault)
+    (before now : Session)
     (said : List ℕ) : Type 0 where
   pub kb : ℕ
   pub summed : Tells before h.machine → kb ≡ total_kb (scan h.machine.shelf)
@@ -41,7 +43,8 @@ pub record HalfIsEvicted {T : Type 0} (h : History) (answer : Result T StoreFaul
   pub replied : OnOk answer (said ≡ reply_text (step h.machine done).reply)
 
 -- the same for every history that the disk kept to
-pub record EvictsHalf {T : Type 0} (answer : Result T StoreFault) (before now : Session) (said : List ℕ)
+pub record EvictsHalf {T : Type 0} (answer : Result T StoreFault) (before now : Session)
+    (said : List ℕ)
     : Type 0 where
   pub each : (h : History) → KeepsTo before h → HalfIsEvicted h answer before now said
 
@@ -50,11 +53,14 @@ pub record FillIsPerformed (moment count first : ℕ) (h : History) (came : Resu
     (before now : Session) (lines : List ℕ) : Type 0 where
   pub filled : AreFilled (Tells before h.machine) moment count first h.machine
   pub safe : IsSafe now.disk (all_unanswered (done_in filled) h).marks
-  pub stands : OnOk came (LeadTo (done_in filled) before h.machine now (all_unanswered (done_in filled) h))
+  pub stands : OnOk came
+      (LeadTo (done_in filled) before h.machine now (all_unanswered (done_in filled) h))
   pub status : IfOk came (λ s. s ≡ status_in_check filled)
   pub printed : OnOk came (lines ≡ lines_in filled)
 
 -- whatever history the disk kept to
-pub record PerformsFill (moment count first : ℕ) (came : Result Status StoreFault) (before now : Session)
+pub record PerformsFill (moment count first : ℕ) (came : Result Status StoreFault)
+    (before now : Session)
     (lines : List ℕ) : Type 0 where
-  pub each : (h : History) → KeepsTo before h → FillIsPerformed moment count first h came before now lines
+  pub each : (h : History) → KeepsTo before h
+      → FillIsPerformed moment count first h came before now lines

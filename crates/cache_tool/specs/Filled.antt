@@ -53,7 +53,8 @@ module _ {right : Type 0} {now count first : ℕ} {m : Machine} (filled : AreFil
 
 -- for a machine at an opening, and what was done for `Resume`: none of the commands after it is acknowledged, and
 -- all may have begun
-pub record PrintsFill (now count first : ℕ) (m : Machine) (d : Command) (ended : Status) (before after : Output)
+pub record PrintsFill (now count first : ℕ) (m : Machine) (d : Command) (ended : Status)
+    (before after : Output)
     : Type 0 where
   pub filled : AreFilled (Honest (standing before.disk)) now count first (step m d).next
   -- with an answer the status is that of the check

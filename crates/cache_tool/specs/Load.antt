@@ -123,7 +123,8 @@ pub record PrintsLoadLine (n : ℕ) (ended : Status) (before now : Option (List 
 
 -- for a machine at an opening, and what was done for `Resume`: the entries of these items were written, and none of the
 -- commands after it is acknowledged
-pub record PrintsLoaded (m : Machine) (d : Command) (bytes : List ℕ) (ended : Status) (before now : World)
+pub record PrintsLoaded (m : Machine) (d : Command) (bytes : List ℕ) (ended : Status)
+    (before now : World)
     : Type 0 where
   pub loaded : Loaded
   -- the source's bytes begin with them
@@ -141,7 +142,8 @@ pub record PrintsLoaded (m : Machine) (d : Command) (bytes : List ℕ) (ended : 
   pub stocked : IsStocked (step m d).next loaded.items
   pub found : FindsStock (step m d).next.shelf loaded.items
   pub prints : PrintsLoadLine (length loaded.items) ended before.taken now.taken
-  pub leaves : LeavesDisk m (all_begun_none_acked m d (loaded_commands loaded)) ended before.disk now.disk
+  pub leaves : LeavesDisk m
+      (all_begun_none_acked m d (loaded_commands loaded)) ended before.disk now.disk
 
 -- `load`, of a source that tells its bytes: the entries of a dump are written; or the run did not begin, and nothing
 -- of it was read

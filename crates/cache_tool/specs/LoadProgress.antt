@@ -123,7 +123,8 @@ TellsNumber (Ok ended.Failed) n = ⊤
 TellsNumber (Err f) n = ⊤
 
 -- this was read, and all of it was done as far as a fault let it
-pub record EndsLoaded (tells : Type 0) (answer : Result Ended StoreFault) (from left : Option (List ℕ))
+pub record EndsLoaded (tells : Type 0) (answer : Result Ended StoreFault)
+    (from left : Option (List ℕ))
     (before now : Session) : Type 0 where
   pub loaded : Loaded
   pub reads : IfSome from (ReadsLoaded (status_at_end answer) from left loaded)
@@ -139,7 +140,8 @@ LoadsSoFar tells (Ok (Some e)) from before now = EndsLoaded tells (Ok e) from no
 LoadsSoFar tells (Err f) from before now = EndsLoaded tells (Err f) from now.left before now.session
 
 -- one turn, whatever the turns before it did
-pub record LoadsNext (tells : Type 0) (answer : Result (Option Ended) StoreFault) (mid now : Loading)
+pub record LoadsNext (tells : Type 0) (answer : Result (Option Ended) StoreFault)
+    (mid now : Loading)
     : Type 0 where
   pub on : (from : Option (List ℕ)) (before : Session) → HasLoaded tells from before mid
       → LoadsSoFar tells answer from before now
@@ -152,7 +154,8 @@ pub record HoldsLine (ended : Status) (n : ℕ) (text : List ℕ) : Type 0 where
   pub bad : ended ≡ status.Script → text ≡ bad_dump_line (suc n)
 
 -- a load was performed: what was read, what is printed, and what it did to the session
-pub record PerformsLoad (tells : Type 0) (came : Result Status StoreFault) (from left : Option (List ℕ))
+pub record PerformsLoad (tells : Type 0) (came : Result Status StoreFault)
+    (from left : Option (List ℕ))
     (before now : Session) (text : List ℕ) : Type 0 where
   pub loaded : Loaded
   pub reads : IfSome from (ReadsLoaded (status_in came) from left loaded)

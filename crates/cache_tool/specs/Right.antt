@@ -40,7 +40,8 @@ pub record LeadTo (cs : List Command) (before : Session) (m : Machine) (now : Se
   pub keeps : KeepsTo now h
   pub tells : AreRight cs before m → Tells now h.machine
   -- where the records were right, the index stays in use as long as few of them differ from it
-  pub in_use : (records : List IndexRecord) → Tells before m → HoldsBase records before.open_store.index.map
+  pub in_use : (records : List IndexRecord) → Tells before m
+      → HoldsBase records before.open_store.index.map
       → StaysOverAll records m cs → IsInUse records before now
   -- and before the update has ended it is unchanged, whatever the records are
   pub unended : AreSpared m cs → KeepsPast before.disk now.disk

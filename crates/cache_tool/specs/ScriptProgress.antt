@@ -52,7 +52,8 @@ pub record ArePerformed (cs : List Command) (faults : List ℕ) (h : History) (b
   pub out : Appends before.taken now.taken (replies_but h.machine cs faults)
 
 -- this is done for so many commands, and for each of those that are kept
-pub record DoneForKept (before : Session) (m : Machine) (cs done : List Command) (faults : List ℕ) : Type 0 where
+pub record DoneForKept (before : Session) (m : Machine) (cs done : List Command) (faults : List ℕ)
+    : Type 0 where
   pub as_many : length done ≡ length cs
   pub spoken : AreSpoken cs → AreSpoken done
   pub are_done : AreDoneFor (Tells before m) m (unfaulted faults cs) (unfaulted faults done)
@@ -74,7 +75,8 @@ pub record AreCounted (p : ℕ) (faults : List ℕ) (before now : Progress) : Ty
   pub counted : RoseBy (length faults) before.disk_faults now.disk_faults
 
 -- One command more was begun, and failed: a part of its reply went out.
-pub record IsCutIn (cs : List Command) (faults : List ℕ) (c : Command) (m : Machine) (before now : Progress)
+pub record IsCutIn (cs : List Command) (faults : List ℕ) (c : Command) (m : Machine)
+    (before now : Progress)
     : Type 0 where
   pub cut : ℕ
   pub short : cut < length (reply_text (step (after m (unfaulted faults cs)) c).reply)
@@ -82,7 +84,8 @@ pub record IsCutIn (cs : List Command) (faults : List ℕ) (c : Command) (m : Ma
       ++ take cut (reply_text (step (after m (unfaulted faults cs)) c).reply))
 
 -- For a history: one command more was begun and failed, and this is what it left.
-pub record IsCutOff (cs : List Command) (faults : List ℕ) (c : Command) (f : StoreFault) (h : History)
+pub record IsCutOff (cs : List Command) (faults : List ℕ) (c : Command) (f : StoreFault)
+    (h : History)
     (before now : Progress) : Type 0 where
   pub safe : IsSafe now.session.disk (begun c (all_answered (unfaulted faults cs) h)).marks
   pub cut : IsCutIn cs faults c h.machine before now
@@ -90,7 +93,8 @@ pub record IsCutOff (cs : List Command) (faults : List ℕ) (c : Command) (f : S
       now.session (unanswered c (all_answered (unfaulted faults cs) h))
 
 -- of what is done for some commands
-pub record SomeCutOff (cs : List Command) (faults : List ℕ) (c : Command) (f : StoreFault) (h : History)
+pub record SomeCutOff (cs : List Command) (faults : List ℕ) (c : Command) (f : StoreFault)
+    (h : History)
     (before now : Progress) : Type 0 where
   pub done : List Command
   pub last : Command
@@ -109,7 +113,8 @@ pub record SomeFaultCut (cs : List Command) (faults : List ℕ) (h : History) (b
       × Appends before.taken now.taken (replies_but h.machine done faults ++ take n fault_line))
 
 -- whatever history the disk kept to
-pub record FailsAfter (cs : List Command) (faults : List ℕ) (c : Command) (f : StoreFault) (before now : Progress)
+pub record FailsAfter (cs : List Command) (faults : List ℕ) (c : Command) (f : StoreFault)
+    (before now : Progress)
     : Type 0 where
   pub each : (h : History) → KeepsTo before.session h → SomeCutOff cs faults c f h before now
 
@@ -183,7 +188,8 @@ pub record PerformsNext (tells : Bool) (answer : Result (Option Ended) StoreFaul
 -- The whole script, for a history and the commands of the source's bytes.
 
 -- what went out, which acknowledges what was done for `a` commands
-pub record TellsAcked (m : Machine) (bytes : List ℕ) (cs done : List Command) (ended : Status) (a : ℕ)
+pub record TellsAcked (m : Machine) (bytes : List ℕ) (cs done : List Command) (ended : Status)
+    (a : ℕ)
     (faults with_last : List ℕ) (before now : Progress) : Type 0 where
   pub all : (ended ≡ status.Done) ⊎ (ended ≡ status.Script) → a ≡ length cs
   pub replies : TellsReplies m bytes cs done ended a faults with_last before.taken now.taken
@@ -197,7 +203,8 @@ pub record LeadsWithin (r : Reach) (m : Machine) (before now : Session) : Type 0
   pub within : (s : State) → IsSafe s history.marks → IsSafe s r.marks
 
 -- what the store and the disk came to
-pub record LeavesScript (m : Machine) (r : Reach) (ended : Status) (before now : Session) : Type 0 where
+pub record LeavesScript (m : Machine) (r : Reach) (ended : Status) (before now : Session)
+    : Type 0 where
   pub safe : IsSafe now.disk r.marks
   pub stands : IsClosing ended → LeadsWithin r m before now
 
@@ -227,7 +234,8 @@ pub record ScriptIsRun (h : History) (bytes : List ℕ) (cs : List Command) (end
   pub counts : CountsFaults ended acked faults with_last before.disk_faults now.disk_faults
   pub is_done : DoneForKept before.session h.machine cs done with_last
   pub tells : TellsAcked h.machine bytes cs done ended acked faults with_last before now
-  pub leaves : LeavesScript h.machine (one_begun_on h acked faults with_last ended done) ended before.session now.session
+  pub leaves : LeavesScript h.machine
+      (one_begun_on h acked faults with_last ended done) ended before.session now.session
 
 -- whatever history the disk kept to
 pub record PerformsScript (came : Result Status StoreFault) (before now : Progress) : Type 0 where

@@ -46,7 +46,8 @@ pub record IsInUse (records : List IndexRecord) (before now : Session) : Type 0 
 -- so it is after one command, for a machine; and before the update has ended, whatever the records are
 pub record StaysOnce (c : Command) (before : Session) (m : Machine) (now : Session) : Type 0 where
   pub in_use : (records : List IndexRecord) → Tells before m
-      → HoldsBase records before.open_store.index.map → StaysOver records m c → IsInUse records before now
+      → HoldsBase records before.open_store.index.map → StaysOver records m c
+      → IsInUse records before now
   pub unended : IsSpared m c → KeepsPast before.disk now.disk
 
 -- and whatever machine the store stands for, once the command has had its effect

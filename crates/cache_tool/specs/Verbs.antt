@@ -81,7 +81,8 @@ pub record KeepsIndex (m : Machine) (cs : List Command) (s t : State) : Type 0 w
   -- in an honest directory it stays in use, where few records come to differ from it: it is unchanged past its header,
   -- and the journal spells what differs
   pub in_use : Honest (standing s) → let base = index_records (standing s Index) in
-      StaysOverAll base m cs → EndsInUse base (after m cs) → StaysInUse base (scan (after m cs).shelf) s t
+      StaysOverAll base m cs → EndsInUse base (after m cs)
+      → StaysInUse base (scan (after m cs).shelf) s t
   -- in any directory it is unchanged past its header, where the update has not ended
   pub unended : (after m cs).rest ≢ [] → KeepsPast s t
 
@@ -114,11 +115,13 @@ pub record HasNotBegun (m : Machine) (ended : Status) (before now : Output) : Ty
   pub silent : Keeps before.taken now.taken
   -- no command has begun, or that one alone
   pub leaves : LeavesDisk m (none_begun m) ended before.disk now.disk
-      ⊎ DoneAtOpening before.disk m (λ d. LeavesDisk m (none_performed m d) ended before.disk now.disk)
+      ⊎ DoneAtOpening before.disk m
+      (λ d. LeavesDisk m (none_performed m d) ended before.disk now.disk)
 
 -- It began, and this was done for `Resume`. Then these commands were performed for words other than `run`, and the last
 -- reply is what is printed. None of them is acknowledged, and all may have begun.
-pub record PrintsLast (m : Machine) (d : Command) (cs : List Command) (ended : Status) (before now : Output)
+pub record PrintsLast (m : Machine) (d : Command) (cs : List Command) (ended : Status)
+    (before now : Output)
     : Type 0 where
   -- with an answer the status is that of the last reply
   pub answer : IsAnswer ended → ended ≡ status_of (outcome_of (last_reply (step m d).next cs))
@@ -129,14 +132,16 @@ pub record PrintsLast (m : Machine) (d : Command) (cs : List Command) (ended : S
 
 -- It began so, and then a look at the disk failed before anything of the reply was said: the line that tells it is
 -- printed, or a part of it, and no command was performed.
-pub record PrintsFault (m : Machine) (d : Command) (ended : Status) (before now : Output) : Type 0 where
+pub record PrintsFault (m : Machine) (d : Command) (ended : Status) (before now : Output)
+    : Type 0 where
   pub failed : (ended ≡ status.Disk) ⊎ (ended ≡ status.Memory)
   pub rose : Rose before.disk_faults now.disk_faults
   pub part : IsPart before.taken now.taken fault_line
   pub leaves : LeavesDisk m (none_performed m d) ended before.disk now.disk
   -- the store was closed, unless the disk failed once more or memory ran out
   pub closed : ended ≡ status.Disk
-      → LeavesDisk m (none_performed m d) status.No before.disk now.disk ⊎ RoseBy 2 before.disk_faults now.disk_faults
+      → LeavesDisk m (none_performed m d) status.No before.disk now.disk
+      ⊎ RoseBy 2 before.disk_faults now.disk_faults
 
 -- words other than `run` and `put`: the command is performed, and its reply is printed; or the line `fault` is, or
 -- the run did not begin
@@ -187,7 +192,8 @@ pub record TellsReplies (m : Machine) (bytes : List ℕ) (cs done : List Command
 
 -- the numbers of the commands that are answered `fault`, by how often the disk failed: so often at least, and once more
 -- where the line was cut, or where the disk failed for good
-pub record CountsFaults (ended : Status) (acked : ℕ) (faults with_last : List ℕ) (before now : ℕ) : Type 0 where
+pub record CountsFaults (ended : Status) (acked : ℕ) (faults with_last : List ℕ) (before now : ℕ)
+    : Type 0 where
   pub numbers : AreFaults acked faults
   pub counted : RoseBy (length faults) before now
   pub last : (with_last ≡ faults)
@@ -197,7 +203,8 @@ pub record CountsFaults (ended : Status) (acked : ℕ) (faults with_last : List 
 -- These are the commands of a script, and what was done for them after what was done for `Resume`: some are
 -- acknowledged, and one more may have begun. A command that is answered `fault` is left out, as if it had not been
 -- there.
-pub record PrintsReplies (m : Machine) (d : Command) (bytes : List ℕ) (cs : List Command) (ended : Status)
+pub record PrintsReplies (m : Machine) (d : Command) (bytes : List ℕ) (cs : List Command)
+    (ended : Status)
     (before now : World) : Type 0 where
   pub done : List Command
   pub as_many : length done ≡ length cs
@@ -210,11 +217,13 @@ pub record PrintsReplies (m : Machine) (d : Command) (bytes : List ℕ) (cs : Li
   -- all of them are acknowledged, where none failed
   pub all : (ended ≡ status.Done) ⊎ (ended ≡ status.Script) → acked ≡ length cs
   -- what is printed are their answers, and tells how many are acknowledged
-  pub replies : TellsReplies (step m d).next bytes cs done ended acked faults with_last before.taken now.taken
+  pub replies : TellsReplies
+      (step m d).next bytes cs done ended acked faults with_last before.taken now.taken
   -- a source that failed gave these commands whole
   pub source : ended ≡ status.Source
       → AreTaken before.source.left now.source.left (take acked cs)
-  pub leaves : LeavesDisk m (one_begun_after m d acked faults with_last ended done) ended before.disk now.disk
+  pub leaves : LeavesDisk m
+      (one_begun_after m d acked faults with_last ended done) ended before.disk now.disk
 
 -- `run`, of a source that tells its bytes: the commands that these spell are performed; or the run did not begin, and
 -- nothing of them was read

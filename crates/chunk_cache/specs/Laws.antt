@@ -80,8 +80,10 @@ ForgetAddsNone = (entry : ℕ) (chunks : List CachedChunk) (chunk : CachedChunk)
 -- what is true of every cache stays true
 pub record StaysCache : Type 0 where
   pub empty : IsCache []
-  pub looked : (entry index : ℕ) (chunks : List CachedChunk) → IsCache chunks → IsCache (looked_at entry index chunks)
+  pub looked : (entry index : ℕ) (chunks : List CachedChunk) → IsCache chunks
+      → IsCache (looked_at entry index chunks)
   pub kept : (entry index : ℕ) (bytes : List ℕ) (chunks : List CachedChunk)
       → IsCache chunks → IsCache (with_chunk entry index bytes chunks)
   pub evicted : (chunks : List CachedChunk) → IsCache chunks → IsCache (with_room chunks)
-  pub forgotten : (entry : ℕ) (chunks : List CachedChunk) → IsCache chunks → IsCache (without_entry entry chunks)
+  pub forgotten : (entry : ℕ) (chunks : List CachedChunk) → IsCache chunks
+      → IsCache (without_entry entry chunks)

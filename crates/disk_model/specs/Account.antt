@@ -23,11 +23,13 @@ ending (Ok value) = Ending.NoneFailed
 ending (Err fault) = fault_ending fault
 
 -- the faults of the disk are accounted for by the answer
-pub record Accounts {Self : _} (D : Ghosts Self) (answer : Ending) (before now : Self) : Type 0 where
+pub record Accounts {Self : _} (D : Ghosts Self) (answer : Ending) (before now : Self)
+    : Type 0 where
   -- a fault is answered only where the count of faults rose, and otherwise the count is the same
   pub cause : HasCause (answer ≡ Ending.OneFailed) (D.faults before) (D.faults now)
   -- where none is answered and memory sufficed, no change and no sync failed
-  pub went_on : answer ≡ Ending.NoneFailed → IsTrue D.tells → (D.counts now).failed ≡ (D.counts before).failed
+  pub went_on : answer ≡ Ending.NoneFailed → IsTrue D.tells
+      → (D.counts now).failed ≡ (D.counts before).failed
   -- after a change or a sync that failed no call follows
   pub stops : IsTrue D.tells → StopsAtFault (D.counts before) (D.counts now)
 

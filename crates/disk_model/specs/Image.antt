@@ -38,7 +38,8 @@ longest synced (write ∷ earlier) = max (length (content_after synced (write �
 pub record MayHold (file : File) (c : List ℕ) : Type 0 where
   pub no_shorter : shortest file.synced file.writes ≤ length c
   pub no_longer : length c ≤ longest file.synced file.writes
-  pub kept : (i : ℕ) → i < length c → IsReached i file.writes ⊎ (slice_index c i ≡ slice_index file.synced i)
+  pub kept : (i : ℕ) → i < length c
+      → IsReached i file.writes ⊎ (slice_index c i ≡ slice_index file.synced i)
 
 -- a crash may leave this at a place where that file stands, or none
 abbrev pub MayStand : (ℕ → File) → Option ℕ → Option (List ℕ) → Type 0

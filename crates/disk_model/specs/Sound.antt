@@ -20,7 +20,8 @@ AreInside synced writes = (left : ℕ) (write : Write) → slice_get writes left
 -- After any prefix of the name steps no file stands at two places, and each file that stands was made. Each write
 -- lies within its file.
 pub record IsSound (s : State) : Type 0 where
-  pub one_place : (left : ℕ) (p q : Place) (file : ℕ) → names_before s left p ≡ Some file → names_before s left q ≡ Some file → p ≡ q
+  pub one_place : (left : ℕ) (p q : Place) (file : ℕ) → names_before s left p ≡ Some file
+      → names_before s left q ≡ Some file → p ≡ q
   pub made : (left : ℕ) (p : Place) (file : ℕ) → names_before s left p ≡ Some file → file < s.made
   pub inside : (file : ℕ) → AreInside (s.files file).synced (s.files file).writes
 

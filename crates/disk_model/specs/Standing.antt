@@ -4,7 +4,8 @@ use Rattle.disk_model.specs.declared.place.Place.{Place}
 use Rattle.disk_model.specs.State.{State, standing}
 
 -- the content stands at the place, or no file where it is none, and what stands elsewhere is as before
-pub record PutsContent (place : Place) (content : Option (List ℕ)) (before now : State) : Type 0 where
+pub record PutsContent (place : Place) (content : Option (List ℕ)) (before now : State)
+    : Type 0 where
   pub here : standing now place ≡ content
   pub others : (other : Place) → other ≢ place → standing now other ≡ standing before other
 
@@ -16,4 +17,5 @@ SameStanding before now = (place : Place) → standing now place ≡ standing be
 pub record Moves (from to : Place) (before now : State) : Type 0 where
   pub moved : standing now to ≡ standing before from
   pub gone : standing now from ≡ None
-  pub others : (other : Place) → other ≢ from → other ≢ to → standing now other ≡ standing before other
+  pub others : (other : Place) → other ≢ from → other ≢ to
+      → standing now other ≡ standing before other

@@ -21,4 +21,5 @@ RemovesDoomed before now = (numbers : List ℕ) × (now ≡ removed_each numbers
 -- no doomed file stands, and what stands elsewhere is as before
 pub record IsCleared (before now : State) : Type 0 where
   pub none : (n : ℕ) → standing now (Doomed n) ≡ None
-  pub others : (place : Place) → ((n : ℕ) → place ≢ Doomed n) → standing now place ≡ standing before place
+  pub others : (place : Place) → ((n : ℕ) → place ≢ Doomed n)
+      → standing now place ≡ standing before place

@@ -22,7 +22,8 @@ grown_len e = length e.hashes * chunk_size + length e.rest
 
 -- this is the body so far: its whole chunks are on the disk, and the rest is held
 pub record HasBody (e : Growing) (body : List ℕ) : Type 0 where
-  pub hashes : e.hashes ≡ map (λ i. hash16_of (chunk body i)) (range_with_len 0 (length body / chunk_size))
+  pub hashes : e.hashes
+      ≡ map (λ i. hash16_of (chunk body i)) (range_with_len 0 (length body / chunk_size))
   pub rest : e.rest ≡ drop (whole_len body) body
 
 -- the file that stands there is the entry's, with the whole chunks of its body

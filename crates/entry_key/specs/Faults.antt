@@ -7,7 +7,8 @@ use Rattle.entry_key.specs.Key.{Tag, MayFollow, doubled, is_bare, tag_bytes}
 -- in these bytes after a letter, from the place `at` on, no comma ends its value, and `place` is where one lacks
 pub record LacksComma (letter at : ℕ) (rest : List ℕ) (place : ℕ) : Type 0 where
   pub bare : is_bare letter ≡ true → (slice_index rest 0 ≢ 44) × (place ≡ at)
-  pub other : is_bare letter ≡ false → (value : List ℕ) × (rest ≡ doubled value) × (place ≡ at + length rest)
+  pub other : is_bare letter ≡ false
+      → (value : List ℕ) × (rest ≡ doubled value) × (place ≡ at + length rest)
 
 -- a letter above `last` is due at the place `at`, and these bytes have the fault there
 abbrev pub FaultAt : ℕ → ℕ → List ℕ → KeyFault → Type 0

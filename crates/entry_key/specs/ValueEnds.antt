@@ -15,4 +15,5 @@ pub record ValueEnds (key : List ℕ) (letter from end : ℕ) : Type 0 where
   pub from_first : from ≤ end
   pub within : end < length key
   pub spelled : slice_range key from end ≡ doubled value
-  pub reads : read_from (behind_letter letter) from (drop from key) ≡ put_value value (read_from (Letter letter) (end + 1) (drop (end + 1) key))
+  pub reads : read_from (behind_letter letter) from (drop from key)
+      ≡ put_value value (read_from (Letter letter) (end + 1) (drop (end + 1) key))

@@ -13,8 +13,11 @@ pub record PassedAt (block : List ℕ) (offset count : ℕ) (h : Header) : Type 
   pub version : is_version h.version ≡ true
   pub within : key_place count h.version + h.key_size < length block
   pub small : length block ≤ block_max h.version
-  pub grammar : reads (read_key (slice_range block (key_place count h.version) (key_place count h.version + h.key_size))) ≡ true
-  pub fault : block_fault block offset ≡ (if have_form (drop (key_place count h.version + h.key_size + 1) block) then None else Some Elements)
+  pub grammar : reads (read_key (slice_range block
+      (key_place count h.version) (key_place count h.version + h.key_size))) ≡ true
+  pub fault : block_fault block offset
+      ≡ (if have_form (drop (key_place count h.version + h.key_size + 1) block) then None
+      else Some Elements)
 
 -- the same of the block of a body of this length
 abbrev pub Passed : List ℕ → ℕ → Header → Type 0

@@ -7,6 +7,10 @@ use Rattle.entry_parts.specs.Setting.{with_element, without_element}
 pub record IsPlace (name bytes : List ℕ) (start end : ℕ) : Type 0 where
   pub in_order : start ≤ end
   pub inside : end ≤ length bytes
-  pub replaced : (value : List ℕ) → elements_bytes (with_element name value (elements_of bytes)) ≡ take start bytes ++ (element_bytes (record { name = name; value = value }) ++ drop end bytes)
-  pub removed : elements_bytes (without_element name (elements_of bytes)) ≡ take start bytes ++ drop end bytes
+  pub replaced : (value : List ℕ)
+      → elements_bytes (with_element name value (elements_of bytes))
+      ≡ take start bytes
+      ++ (element_bytes (record { name = name; value = value }) ++ drop end bytes)
+  pub removed : elements_bytes (without_element name (elements_of bytes))
+      ≡ take start bytes ++ drop end bytes
   pub found : nat_lt start end ≡ is_some (element name (elements_of bytes))

@@ -55,7 +55,8 @@ OrderSorts = (records : List IndexRecord) → IsPermutation records (in_order re
 
 -- the victims are the first of the candidates: without them the total is at most the limit, or none is left, and
 -- without fewer of them it is above
-pub record AreVictims (records : List IndexRecord) (in_use : List Name) (limit : ℕ) (first rest : List IndexRecord) : Type 0 where
+pub record AreVictims (records : List IndexRecord) (in_use : List Name) (limit : ℕ)
+    (first rest : List IndexRecord) : Type 0 where
   pub named : victims records in_use limit ≡ map (λ r. r.name) first
   pub prefix : candidates records in_use ≡ first ++ rest
   pub enough : 0 < length rest → total_kb records ≤ limit + total_kb first

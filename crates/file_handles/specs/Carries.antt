@@ -39,7 +39,8 @@ pub record CarriesOut (c : Command) (replied : Option Reply) (before after : Cac
 pub record CarriesOutAt (now : ℕ) (c : Command) (replied : Option Reply) (before after : Cache)
     : Type 0 where
   pub answers : (m : Machine) → m.moment ≡ now → Represents before m → Replies c m replied after
-  pub crash : (h : History) → h.machine.moment ≡ now → KeepsTo before h → LeavesHistory c h replied after
+  pub crash : (h : History) → h.machine.moment ≡ now → KeepsTo before h
+      → LeavesHistory c h replied after
 
 -- the command, which asks nothing of the disk, is carried out with this reply and changes nothing
 abbrev pub Answers : Kept → Command → Reply → Type 0

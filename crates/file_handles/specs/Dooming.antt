@@ -51,7 +51,8 @@ TakesFirstFree s t = (number : ℕ) → standing s (Doomed number) ≡ None
     → IsSome (standing t (Doomed number)) → IsFirstFree t number × (number < SLOTS)
 
 -- a file stands aside: under the number that it has, or else it moves to the least number that is not in use
-pub record SetsAside (name : Name) (aside : Option ℕ) (in_use : List ℕ) (answer : Result ℕ DiskFault) (s t : State)
+pub record SetsAside (name : Name) (aside : Option ℕ) (in_use : List ℕ)
+    (answer : Result ℕ DiskFault) (s t : State)
     : Type 0 where
   pub stays : (number : ℕ) → aside ≡ Some number → (answer ≡ Ok number) × (t ≡ s)
   pub number : aside ≡ None → IfOk answer (IsLeastFree in_use)

@@ -5,6 +5,7 @@ use Rattle.disk_model.specs.declared.disk.Disk.{Ghosts}
 use Rattle.file_handles.specs.Kept.{Kept}
 
 -- the handles are as before, and of the disk nothing but a look failed: it holds what it held
-pub record LeavesAll {Self : _} (D : Ghosts Self) (k after : Kept) (before now : Self) : Type 0 where
+pub record LeavesAll {Self : _} (D : Ghosts Self) (k after : Kept) (before now : Self)
+    : Type 0 where
   pub handles : after ≡ k
   pub looks : Looks D Ending.OneFailed before now

@@ -16,7 +16,8 @@ pub record JoinsAt (slot place : ℕ) (writes : Bool) (before after : Kept) : Ty
   pub same : after ≡ with_use before slot (Some use_)
 
 -- the object is at a place that was free, and the slot uses it
-pub record AddsObject (slot : ℕ) (object : Object) (writes : Bool) (before after : Kept) : Type 0 where
+pub record AddsObject (slot : ℕ) (object : Object) (writes : Bool) (before after : Kept)
+    : Type 0 where
   pub place : ℕ
   pub ranged : place < SLOTS
   pub free : object_at before place ≡ None

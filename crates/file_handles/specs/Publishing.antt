@@ -38,14 +38,17 @@ pub data IsAmidPublishing (name : Name) (doomed : Bool) (aside : Option ℕ) (s 
   Published : t ≡ published_by name doomed aside s → IsAmidPublishing name doomed aside s t
 
 -- after an Ok it is published, and gives the number where the file stands aside from then on
-pub record MayPublish (name : Name) (doomed : Bool) (aside : Option ℕ) (answer : Result (Option ℕ) DiskFault) (s t : State)
+pub record MayPublish (name : Name) (doomed : Bool) (aside : Option ℕ)
+    (answer : Result (Option ℕ) DiskFault) (s t : State)
     : Type 0 where
-  pub done : IfOk answer (λ after. (after ≡ aside_by doomed aside) × (t ≡ published_by name doomed aside s))
+  pub done : IfOk answer
+      (λ after. (after ≡ aside_by doomed aside) × (t ≡ published_by name doomed aside s))
   pub amid : OnErr answer (IsAmidPublishing name doomed aside s t)
 
 -- the object that x becomes is the machine's object, finished by this change; its file was written whole before it was
 -- published
-pub record BecomesWhole (change : MachineObject → MachineObject) (x y : Object) (o : MachineObject) (u : State) : Type 0 where
+pub record BecomesWhole (change : MachineObject → MachineObject) (x y : Object) (o : MachineObject)
+    (u : State) : Type 0 where
   pub same_object : y.number ≡ x.number
   pub keeps_chunks : KeepsChunks o (change o)
   pub same_name : y.name ≡ x.name
@@ -54,18 +57,22 @@ pub record BecomesWhole (change : MachineObject → MachineObject) (x y : Object
   pub file : standing u (object_place x) ≡ Some (object_file (change o))
 
 -- a call finishes every machine's object that x is by this change: its file alone is written to, and then published
-pub record Completes (x : Object) (change : MachineObject → MachineObject) (changed : Result Object HandleFault) (s t : State) : Type 0 where
+pub record Completes (x : Object) (change : MachineObject → MachineObject)
+    (changed : Result Object HandleFault) (s t : State) : Type 0 where
   pub written : State
-  pub writes : (o : MachineObject) → IsFiledAs x o s → WritesAt (object_place x) (IsMomentOf (change o)) s written
+  pub writes : (o : MachineObject) → IsFiledAs x o s
+      → WritesAt (object_place x) (IsMomentOf (change o)) s written
   pub sound : IsSound written
   -- it was written whole, or nothing came after
   pub amid : (t ≡ written) ⊎ (IsAmidPublishing x.name x.doomed x.aside written t
-      × ((o : MachineObject) → IsFiledAs x o s → standing written (object_place x) ≡ Some (object_file (change o))))
+      × ((o : MachineObject) → IsFiledAs x o s
+      → standing written (object_place x) ≡ Some (object_file (change o))))
   pub becomes : IfOk changed (λ y. (t ≡ published_by x.name x.doomed x.aside written)
       × ((o : MachineObject) → IsFiledAs x o s → BecomesWhole change x y o written))
 
 -- it does so to the object at a place, and changes nothing else of the handles
-pub record CompletesAt {T : Type 0} (p : ℕ) (change : MachineObject → MachineObject) (answer : Result T HandleFault)
+pub record CompletesAt {T : Type 0} (p : ℕ) (change : MachineObject → MachineObject)
+    (answer : Result T HandleFault)
     (before after : Cache) (x : Object) : Type 0 where
   pub changed : Result Object HandleFault
   pub completes : Completes x change changed before.disk after.disk

@@ -67,7 +67,8 @@ pub record KeepsWhere (crash : Bool) (now : Cache) (h : History) : Type 0 where
 
 -- a call leaves this history: a crash at any exit may lose no more than its marks allow, and after
 -- an Ok the disk keeps to it
-pub record ReachesHistory {T E : Type 0} (crash : Bool) (h : History) (answer : Result T E) (after : Cache)
+pub record ReachesHistory {T E : Type 0} (crash : Bool) (h : History) (answer : Result T E)
+    (after : Cache)
     : Type 0 where
   pub safe : IsTrue crash → IsSafe after.disk h.marks
   pub next : OnOk answer (KeepsWhere crash after h)

@@ -26,7 +26,8 @@ abbrev pub index_bytes : ℕ → ℕ → ℕ → List IndexRecord → List ℕ
 index_bytes timestamp flag kilobytes stored = header_bytes timestamp flag kilobytes ++ stored_bytes stored
 
 -- the bytes spell an index of this moment with these records: removed ones are no part of it, any flag but 0 is dirty
-pub record IndexSpells (bytes : List ℕ) (timestamp : ℕ) (dirty : Bool) (rs : List IndexRecord) : Type 0 where
+pub record IndexSpells (bytes : List ℕ) (timestamp : ℕ) (dirty : Bool) (rs : List IndexRecord)
+    : Type 0 where
   pub stored : List IndexRecord
   pub flag : ℕ
   pub kilobytes : ℕ

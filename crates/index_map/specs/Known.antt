@@ -48,8 +48,10 @@ pub record SameBase (old new : Known) : Type 0 where
 
 -- under this name stands this record now, or none, and it was seen; all else is as before
 pub record Sets (old new : Known) (name : Name) (r : Option IndexRecord) : Type 0 where
-  pub records : (q : Name) → record_at new.records q ≡ (if same_name name q then r else record_at old.records q)
-  pub seen : (q : Name) → record_at new.seen q ≡ (if same_name name q then r else record_at old.seen q)
+  pub records : (q : Name)
+      → record_at new.records q ≡ (if same_name name q then r else record_at old.records q)
+  pub seen : (q : Name)
+      → record_at new.seen q ≡ (if same_name name q then r else record_at old.seen q)
   pub base : SameBase old new
 
 -- the map begins with these records, all of them seen or none, over this base

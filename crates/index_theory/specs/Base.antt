@@ -6,7 +6,8 @@ use Rattle.index_record.specs.declared.record.IndexRecord.{IndexRecord}
 use Rattle.record_list.specs.Lists.{record_at}
 
 -- the file is an index with this flag that spells these records, in any order
-pub record BaseStands (file : Option (List ℕ)) (dirty : Bool) (base : List IndexRecord) : Type 0 where
+pub record BaseStands (file : Option (List ℕ)) (dirty : Bool) (base : List IndexRecord)
+    : Type 0 where
   pub content : List ℕ
   pub timestamp : ℕ
   pub spelled : List IndexRecord

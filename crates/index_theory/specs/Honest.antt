@@ -71,7 +71,8 @@ ReadyIsScan = (files : Files) (out : List IndexRecord) → start_of files ≡ Re
     → IsApplied (index_records (files Index)) (journal_records (files Log)) out → Honest files ↔ IsScan (entries files) out
 
 -- an index and a journal stand there that spell these records
-pub record AreSpelled (files : Files) (timestamp : ℕ) (dirty : Bool) (base js : List IndexRecord) : Type 0 where
+pub record AreSpelled (files : Files) (timestamp : ℕ) (dirty : Bool) (base js : List IndexRecord)
+    : Type 0 where
   pub index : List ℕ
   pub log : List ℕ
   pub index_stands : files Index ≡ Some index

@@ -33,10 +33,13 @@ IsSetAside s t left =
 -- what an opening of s has done, up to its sync: doomed files are gone, the journal may be set aside, and the flag of a
 -- clean index may be written
 pub record IsOpening (s t : State) : Type 0 where
-  pub entries : (left : ℕ) (name : List ℕ) → names_before t left (entry_place name) ≡ names_now s (entry_place name)
+  pub entries : (left : ℕ) (name : List ℕ)
+      → names_before t left (entry_place name) ≡ names_now s (entry_place name)
   pub index : (left : ℕ) → names_before t left Index ≡ names_now s Index
   pub journal : (left : ℕ) → IsSetAside s t left
-  pub files : (file : ℕ) → (t.files file ≡ s.files file) ⊎ ((names_now s Index ≡ Some file) × IsFlagged (s.files file) (t.files file))
+  pub files : (file : ℕ)
+      → (t.files file ≡ s.files file)
+      ⊎ ((names_now s Index ≡ Some file) × IsFlagged (s.files file) (t.files file))
 
 -- it begins with nothing done
 abbrev pub OpeningBegins : Type 0

@@ -20,7 +20,8 @@ pub record ReadsSlice (es : Entries) (first rest left : List Name) (old new : Kn
 
 -- the disk is looked at alone, for each of so many names by at most the calls that an entry's metadata take, and its
 -- faults are accounted for
-pub record LooksAtNames {Self : _} (D : Ghosts Self) (answer : Ending) (names : ℕ) (before now : Self) : Type 0 where
+pub record LooksAtNames {Self : _} (D : Ghosts Self) (answer : Ending) (names : ℕ)
+    (before now : Self) : Type 0 where
   pub cause : HasCause (answer ≡ OneFailed) (D.faults before) (D.faults now)
   pub state : IsTrue D.tells → D.state now ≡ D.state before
   pub looks : IsTrue D.tells → LooksAtMost (meta_looks * names) (D.counts before) (D.counts now)

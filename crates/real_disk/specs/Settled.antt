@@ -8,7 +8,8 @@ use Rattle.real_disk.specs.declared.earlier.Earlier.{Earlier}
 use Rattle.real_disk.specs.declared.notes.FolderNotes.{FolderNotes}
 
 -- no change of a file or of a name waits for a sync, and none that an earlier process has left
-pub record IsAllSynced (files : FileNotes) (folders : FolderNotes) (earlier : Earlier) : Type 0 where
+pub record IsAllSynced (files : FileNotes) (folders : FolderNotes) (earlier : Earlier)
+    : Type 0 where
   pub no_file : btree_set_len files ≡ 0
   pub no_name : NoneLeft folders
   pub no_earlier : IsSynced earlier

@@ -39,7 +39,8 @@ change name (Some r) (Some s) = if record_eq r s then None else Some s
 -- the list is what a journal has to say: the change of each name, by rising names
 pub record IsDiff (base now js : List IndexRecord) : Type 0 where
   pub rising : AreRising js
-  pub same : (name : Name) → record_at js name ≡ change name (record_at base name) (record_at now name)
+  pub same : (name : Name)
+      → record_at js name ≡ change name (record_at base name) (record_at now name)
 
 -- a list with no removed record
 abbrev pub HasNoRemoved : List IndexRecord → Type 0

@@ -31,12 +31,14 @@ is_dirty Dirty = true
 is_dirty Clean = false
 
 -- this is the kind of what stands as the index, and these are its records where it is one
-pub record ReadsIndex (file : Option (List ℕ)) (kind : IndexKind) (records : List IndexRecord) : Type 0 where
+pub record ReadsIndex (file : Option (List ℕ)) (kind : IndexKind) (records : List IndexRecord)
+    : Type 0 where
   pub is : kind ≡ index_kind file
   pub has : IsIndex kind → records ≡ index_records file
   pub stands : IsIndex kind → BaseStands file (is_dirty kind) records
 
 -- so of the journal
-pub record ReadsJournal (file : Option (List ℕ)) (kind : LogKind) (records : List IndexRecord) : Type 0 where
+pub record ReadsJournal (file : Option (List ℕ)) (kind : LogKind) (records : List IndexRecord)
+    : Type 0 where
   pub is : kind ≡ log_kind file
   pub has : IsJournal kind → records ≡ journal_records file
