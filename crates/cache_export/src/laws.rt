@@ -3,6 +3,8 @@
 ghost use Rattle.cache_export.specs.Dump.{DumpsAreOne};
 ghost use Rattle.cache_export.specs.Dumped.{DumpOfIsDump};
 ghost use Rattle.cache_export.specs.Joined.{DumpIsParts};
+ghost use Rattle.cache_export.specs.declared.limits.TheConstants.{DUMP_MAX};
+ghost use Rattle.std.specs.Prelude.{◌≡◌};
 
 /// A dump has one list of versions.
 pub fn dumps_are_one()
@@ -17,4 +19,9 @@ pub fn dump_is_parts()
 /// The dump of a directory, with all that is found there and may be dumped as far as it fits, is a dump.
 pub fn dump_of_is_dump()
     ensures { DumpOfIsDump }
+{}
+
+/// The number of the limit. Definitions cite the constant by name, so another number would change what they say.
+pub fn limit_is()
+    ensures { DUMP_MAX ≡ 1099511627776 }
 {}

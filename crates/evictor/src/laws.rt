@@ -1,4 +1,5 @@
-//! The order of eviction sorts the records, no more of them go than must, and how the records stood does not matter.
+//! The order of eviction sorts the records, no more of them go than must, and where each name stands once it does not
+//! matter in which order the records stood.
 
 ghost use Rattle.evictor.specs.Evict.{OrderSorts, SameInAnyOrder, VictimsSuffice};
 

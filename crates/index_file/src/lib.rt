@@ -12,7 +12,7 @@ mod reading;
 
 pub use fault::IndexFault;
 pub use image::IndexImage;
-pub use laws::{index_fits_exactly, index_reads_back};
+pub use laws::{index_fits_exactly, index_reads_back, version_is};
 pub use printing::print;
 pub use reading::parse;
 use record_list::HASH;
