@@ -32,7 +32,7 @@ fn text(alloc: Global, bytes: &[u8]) -> Result<Bytes, NoMemory> {
 }
 
 fn has(cache: &mut ChunkCache, entry: u64, index: u32, bytes: &[u8]) -> bool {
-    match cache.get(entry, index) {
+    match cache.look(entry, index) {
         Some(found) => found == bytes,
         None => false,
     }
@@ -75,7 +75,7 @@ fn step_goes(alloc: Global, cache: &mut ChunkCache, step: &Step<'_>) -> Result<b
         Step::KeepEach(entry, count, x) => keep_each(alloc, cache, entry, count, x)?,
         Step::Forget(entry) => cache.forget(entry),
         Step::Has(entry, index, bytes) => return Ok(has(cache, entry, index, bytes)),
-        Step::Lacks(entry, index) => return Ok(cache.get(entry, index).is_none()),
+        Step::Lacks(entry, index) => return Ok(cache.look(entry, index).is_none()),
         Step::Counts(entry, count, x, due) => {
             return Ok(count_cached(cache, entry, count, x) == due);
         }

@@ -3,7 +3,7 @@
 ghost use Rattle.cache_export.specs.Dump.{DumpsAreOne};
 ghost use Rattle.cache_export.specs.Dumped.{DumpOfIsDump};
 ghost use Rattle.cache_export.specs.Joined.{DumpIsParts};
-ghost use Rattle.cache_export.specs.declared.limits.TheConstants.{DUMP_MAX};
+ghost use Rattle.cache_export.specs.declared.limits.TheConstants.{DUMP_MAX, HELD_MAX};
 ghost use Rattle.std.specs.Prelude.{◌≡◌};
 
 /// A dump has one list of versions.
@@ -24,4 +24,9 @@ pub fn dump_of_is_dump()
 /// The number of the limit. Definitions cite the constant by name, so another number would change what they say.
 pub fn limit_is()
     ensures { DUMP_MAX ≡ 1099511627776 }
+{}
+
+/// How many bytes of a dump a reader holds at most: a piece of 262,144 bytes and two lengths of four.
+pub fn held_is()
+    ensures { HELD_MAX ≡ 262152 }
 {}

@@ -15,7 +15,7 @@ mod window;
 mod writing;
 
 pub use item::{DumpFault, Item};
-pub use laws::{dump_is_parts, dump_of_is_dump, dumps_are_one, limit_is};
+pub use laws::{dump_is_parts, dump_of_is_dump, dumps_are_one, held_is, limit_is};
 pub use limits::{DUMP_MAX, HEAD, HELD_MAX};
 pub use reader::DumpReader;
 pub use writing::{item_back, item_front};

@@ -56,7 +56,7 @@ impl ChunkCache {
 
     /// Lends the bytes of a chunk, and makes it the most recent. There are none exactly where the chunk is not cached.
     /// It takes no memory.
-    pub fn get(&mut self, entry: u64, index: u32) -> Option<&[u8]>
+    pub fn look(&mut self, entry: u64, index: u32) -> Option<&[u8]>
         ensures bytes { option_copied result ≡ spec.bytes_of entry index self.old }
         ensures* order { sem 𝓛 (EndsAs self.entry (spec.looked_at entry index self.old)) }
         ensures cache { spec.IsCache self.old }

@@ -58,8 +58,21 @@ fn first_names(
 
 /// The names of the entries to evict, in the order of eviction: the fewest after whose removal the sizes of all records
 /// sum to at most `limit` KB, or all that may be evicted where even these are too few. Pinned records stay, and so do
-/// the names in `in_use`, but their sizes count. The list is sorted in its own memory.
+/// the names in `in_use`, but their sizes count. The records are copied, and stay as they are.
 pub fn victims(
+    alloc: Global,
+    records: &Records,
+    in_use: &Names,
+    limit: u64,
+) -> Result<Names, NoMemory>
+    ensures { IfOk result (λ names. names ≡ spec.victims records.now in_use.now limit) }
+{
+    let copy = Records::from_vec(Vec::from_slice(alloc, records.as_slice())?);
+    victims_of(alloc, copy, in_use, limit)
+}
+
+/// The same of records that are handed over: they are sorted in their own memory, and nothing is copied.
+pub fn victims_of(
     alloc: Global,
     records: Records,
     in_use: &Names,

@@ -7,6 +7,6 @@ mod choosing;
 mod laws;
 mod ordering;
 
-pub use choosing::victims;
+pub use choosing::{victims, victims_of};
 pub use laws::{order_sorts, same_in_any_order, victims_suffice};
 pub use ordering::order;

@@ -1,28 +1,24 @@
 -- Slots that are held without their names, and the slots that they are.
-use Rattle.std.proofs.Common.{arith, ◌≡◌, ℕ, ◌+◌, ◌-◌, ◌<◌, ◌≤◌, ◌^◌, Bool, true, false, cond, not, List, [], ◌∷◌, ◌++◌, length, refl, sym, ap, ◌∙◌, subst}
-use Rattle.std.specs.BTreeMap.{insert_entry}
-use Rattle.std.specs.List.{IsDistinct, cons_option, filter_map, sum_by}
-use Rattle.std.specs.Map.{keys_of, lookup, remove_entry, values_of}
-use Rattle.std.specs.Ordering.{match_ordering}
-use Rattle.std.specs.declared.cmp.Ordering.{Ordering}
-use Rattle.std.specs.declared.cmp.Ordering.TheVariants.{Less, Equal, Greater}
+use Rattle.std.proofs.Common.{◌≡◌, ℕ, zero, suc, ◌+◌, ◌-◌, ◌<◌, ◌≤◌, Bool, true, false, cond, not, List, [], ◌∷◌, ◌++◌, length, get_or, set, take, refl, sym, ap, ◌∙◌, subst}
+use Rattle.std.specs.List.{IsDistinct, cons_option, filter_map, sum_by, swap_remove}
+use Rattle.std.specs.Map.{keys_of, lookup, values_of}
 use Rattle.std.specs.Option.{option_eq, option_map, option_map_or}
-use Rattle.std.specs.Prelude.{Err, None, Ok, OnErr, Option, Result, Some, is_some, map, option_to_list, unwrap_or, ◌&&◌, ◌==◌, ◌||◌}
-use Rattle.std.proofs.lemmas.List.{append-nil, append_assoc, length-map}
-use Rattle.std.proofs.lemmas.List.Sums.{sum_by-cons}
-use Rattle.cache_base.specs.Names.{AreRising, name_cmp}
+use Rattle.std.specs.Prelude.{Err, None, Ok, OnErr, Option, Result, Some, is_some, map, option_to_list, position, unwrap_or, ◌&&◌, ◌==◌, ◌||◌}
+use Rattle.std.proofs.lemmas.List.{append-nil, append_assoc, length-map, map-set, map_more, take-map}
+use Rattle.std.proofs.lemmas.List.Sums.{sum_by-cons, sum_by_push}
 use Rattle.cache_base.specs.Numbers.{one_if}
 use Rattle.cache_base.specs.declared.name.Name.{Name}
 use Rattle.index_record.specs.Record.{size_kb}
 use Rattle.index_record.specs.declared.record.IndexRecord.{IndexRecord}
+use Rattle.indexmap.specs.IndexMap.{insert_entry, swap_remove_entry}
 use Rattle.record_list.specs.Change.{record_eq}
 use Rattle.record_list.specs.Lists.{same_name}
-use Rattle.record_list.proofs.NameLaws.{rising_distinct, same_is, same_itself, tied_same}
-use Rattle.index_map.specs.Slots.{AreSmall, Slot, bare, changed_of, counts_of, is_held, is_used, kilobytes_of, record_of, records_of, seen_held, seen_only, slot_of, slots_of}
+use Rattle.record_list.proofs.NameLaws.{same_is, same_itself}
+use Rattle.index_map.specs.Slots.{Slot, bare, changed_of, counts_of, is_held, is_used, kilobytes_of, record_of, records_of, seen_held, seen_only, slot_of, slots_of}
 use Rattle.index_map.specs.declared.slot.Facts.{Facts}
 use Rattle.index_map.specs.declared.counts.Counts.{Counts}
 use Rattle.index_map.specs.declared.slot.Held.{Held}
-use Rattle.index_map.proofs.Sums.{AreThere, IsWith, IsWithout, changed-le, empty, kilobytes-le, records-le}
+use Rattle.index_map.proofs.Sums.{AreThere, IsWith, IsWithout, empty}
 
 -- the slot without records
 abbrev pub none_held : Held
@@ -135,41 +131,16 @@ there_bare n k h t = record {
   changed = subst (λ x. x ≤ n.changed) (changed_bare k h) t.changed;
 }
 
--- ---- the counts of slots one after another
+more_bare : (g : Slot → ℕ) (hs : List Held) (i : ℕ) (d : Held) → i < length hs → sum_by g (map bare (take (i + 1) hs)) ≡ sum_by g (map bare (take i hs)) + g (bare (get_or hs i d))
+more_bare g hs i d low = ap (sum_by g) (map_more bare hs i d low) ∙ sum_by_push g (map bare (take i hs)) (bare (get_or hs i d))
 
--- the counts of what came, and of what is left, are together those of all
-pub record AreCounted (n : Counts) (left all : List Held) : Type 0 where
-  pub records : n.records + sum_by records_of (map bare left) ≡ sum_by records_of (map bare all)
-  pub kilobytes : n.kilobytes + sum_by kilobytes_of (map bare left) ≡ sum_by kilobytes_of (map bare all)
-  pub changed : n.changed + sum_by changed_of (map bare left) ≡ sum_by changed_of (map bare all)
-
-one_more : (g : Slot → ℕ) (n m whole : ℕ) (h : Held) (rest left : List Held) → rest ≡ h ∷ left → n + sum_by g (map bare rest) ≡ whole
-    → m ≡ n + g (bare h) → m + sum_by g (map bare left) ≡ whole
-one_more g n m whole h rest left first was is = omega (arith, ap (λ l. sum_by g (map bare l)) first, sum_by-cons g (bare h) (map bare left), was, is)
-
-pub counted_more : (n m : Counts) (h : Held) (rest left all : List Held) → rest ≡ h ∷ left → IsWith n (bare h) m → AreCounted n rest all → AreCounted m left all
-counted_more n m h rest left all first w was = record {
-  records = one_more records_of n.records m.records _ h rest left first was.records w.records;
-  kilobytes = one_more kilobytes_of n.kilobytes m.kilobytes _ h rest left first was.kilobytes w.kilobytes;
-  changed = one_more changed_of n.changed m.changed _ h rest left first was.changed w.changed;
-}
-
-none_more : (g : Slot → ℕ) (n whole : ℕ) (rest : List Held) → rest ≡ [] → n + sum_by g (map bare rest) ≡ whole → n ≡ whole
-none_more g n whole rest end is = omega (arith, ap (λ l. sum_by g (map bare l)) end, is)
-
-pub counted_all : (n : Counts) (rest all : List Held) → rest ≡ [] → AreCounted n rest all → n ≡ counts_of (map bare all)
-counted_all n rest all end is = λ i. record {
-  records = none_more records_of n.records _ rest end is.records i;
-  kilobytes = none_more kilobytes_of n.kilobytes _ rest end is.kilobytes i;
-  changed = none_more changed_of n.changed _ rest end is.changed i;
-}
-
--- counts of fewer than 2^63 slots can be added up
-pub counted_small : (n : Counts) (rest all : List Held) → AreCounted n rest all → length all < 2 ^ 63 → AreSmall n
-counted_small n rest all is few = record {
-  records = omega (arith, is.records, records-le (map bare all), length-map all bare);
-  kilobytes = omega (arith, is.kilobytes, kilobytes-le (map bare all), length-map all bare);
-  changed = omega (arith, is.changed, changed-le (map bare all), length-map all bare);
+-- the counts of one slot more
+pub counts_more : (hs : List Held) (i : ℕ) (d : Held) (n m : Counts) → i < length hs → n ≡ counts_of (map bare (take i hs)) → IsWith n (bare (get_or hs i d)) m
+    → m ≡ counts_of (map bare (take (i + 1) hs))
+counts_more hs i d n m low counted w = λ j. record {
+  records = (w.records ∙ ap (λ (c : Counts). c.records + records_of (bare (get_or hs i d))) counted ∙ sym (more_bare records_of hs i d low)) j;
+  kilobytes = (w.kilobytes ∙ ap (λ (c : Counts). c.kilobytes + kilobytes_of (bare (get_or hs i d))) counted ∙ sym (more_bare kilobytes_of hs i d low)) j;
+  changed = (w.changed ∙ ap (λ (c : Counts). c.changed + changed_of (bare (get_or hs i d))) counted ∙ sym (more_bare changed_of hs i d low)) j;
 }
 
 -- ---- the slots of a table
@@ -184,12 +155,8 @@ keys_slots (e ∷ es) = λ i. e.0 ∷ keys_slots es i
 pub length_slots : (es : List (Name × Held)) → length (slots_of es) ≡ length es
 length_slots es = length-map es slot_entry
 
--- the names of a tree rise, and so none stands twice
-pub rising_slots : (es : List (Name × Held)) → AreRising (keys_of es) → AreRising (keys_of (slots_of es))
-rising_slots es h = subst AreRising (sym (keys_slots es)) h
-
-pub distinct_slots : (es : List (Name × Held)) → AreRising (keys_of es) → IsDistinct same_name (keys_of (slots_of es))
-distinct_slots es h = rising_distinct (keys_of (slots_of es)) (rising_slots es h)
+pub distinct_slots : (es : List (Name × Held)) → IsDistinct same_name (keys_of es) → IsDistinct same_name (keys_of (slots_of es))
+distinct_slots es h = subst (IsDistinct same_name) (sym (keys_slots es)) h
 
 pub lookup_slots : (q : Name) (es : List (Name × Held)) → lookup (same_name q) (slots_of es) ≡ option_map (slot_of q) (lookup (same_name q) es)
 lookup_slots q [] = refl
@@ -225,25 +192,36 @@ lookup_or_slots q es = go (lookup (same_name q) es) ∙ ap (λ o. unwrap_or o em
     go None = refl
     go (Some h) = refl
 
-pub insert_slots : (k : Name) (h : Held) (es : List (Name × Held)) → slots_of (insert_entry name_cmp es k h) ≡ insert_entry name_cmp (slots_of es) k (slot_of k h)
+pub insert_slots : (k : Name) (h : Held) (es : List (Name × Held)) → slots_of (insert_entry same_name es k h) ≡ insert_entry same_name (slots_of es) k (slot_of k h)
 insert_slots k h [] = refl
-insert_slots k h (e ∷ es) = go (name_cmp k e.0) refl (insert_slots k h es)
+insert_slots k h (e ∷ es) = go (same_name k e.0) refl (insert_slots k h es)
   where
-    go : (o : Ordering) → name_cmp k e.0 ≡ o → slots_of (insert_entry name_cmp es k h) ≡ insert_entry name_cmp (slots_of es) k (slot_of k h)
-        → slots_of (match_ordering o ((k, h) ∷ e ∷ es) ((e.0, h) ∷ es) (e ∷ insert_entry name_cmp es k h))
-        ≡ match_ordering o ((k, slot_of k h) ∷ slots_of (e ∷ es)) ((e.0, slot_of k h) ∷ slots_of es) ((e.0, slot_of e.0 e.1) ∷ insert_entry name_cmp (slots_of es) k (slot_of k h))
-    go Less tie rest = refl
-    go Equal tie rest = λ i. (e.0, slot_of (sym (tied_same k e.0 tie) i) h) ∷ slots_of es
-    go Greater tie rest = λ i. (e.0, slot_of e.0 e.1) ∷ rest i
+    go : (b : Bool) → same_name k e.0 ≡ b → slots_of (insert_entry same_name es k h) ≡ insert_entry same_name (slots_of es) k (slot_of k h)
+        → slots_of (cond b ((e.0, h) ∷ es) (e ∷ insert_entry same_name es k h)) ≡ cond b ((e.0, slot_of k h) ∷ slots_of es) ((e.0, slot_of e.0 e.1) ∷ insert_entry same_name (slots_of es) k (slot_of k h))
+    go true same rest = λ i. (e.0, slot_of (sym (same_is k e.0 same) i) h) ∷ slots_of es
+    go false same rest = λ i. (e.0, slot_of e.0 e.1) ∷ rest i
 
-pub take_slots : (t : Name → Bool) (es : List (Name × Held)) → slots_of (remove_entry t es) ≡ remove_entry t (slots_of es)
+get_or_slots : (es : List (Name × Held)) (i : ℕ) (d : Name × Held) → get_or (slots_of es) i (slot_entry d) ≡ slot_entry (get_or es i d)
+get_or_slots [] i d = refl
+get_or_slots (e ∷ es) zero d = refl
+get_or_slots (e ∷ es) (suc i) d = get_or_slots es i d
+
+removed_slots : (es : List (Name × Held)) (i : ℕ) (d : Name × Held) → slots_of (swap_remove es i d) ≡ swap_remove (slots_of es) i (slot_entry d)
+removed_slots es i d =
+    let last = length es - 1 in
+    sym (take-map slot_entry last (set es i (get_or es last d)))
+    ∙ ap (take last) (map-set slot_entry es i (get_or es last d) ∙ ap (set (slots_of es) i) (sym (get_or_slots es last d)))
+    ∙ ap (λ n. take (n - 1) (set (slots_of es) i (get_or (slots_of es) (n - 1) (slot_entry d)))) (sym (length-map es slot_entry))
+
+pub take_slots : (t : Name → Bool) (es : List (Name × Held)) → slots_of (swap_remove_entry t es) ≡ swap_remove_entry t (slots_of es)
 take_slots t [] = refl
-take_slots t (e ∷ es) = go (t e.0) (take_slots t es)
+take_slots t (e ∷ es) =
+    go (position t (keys_of (e ∷ es)))
+    ∙ ap (λ ks. option_map_or (λ i. swap_remove (slots_of (e ∷ es)) i (slot_entry e)) (position t ks) (slots_of (e ∷ es))) (sym (keys_slots (e ∷ es)))
   where
-    go : (b : Bool) → slots_of (remove_entry t es) ≡ remove_entry t (slots_of es)
-        → slots_of (cond b es (e ∷ remove_entry t es)) ≡ cond b (slots_of es) ((e.0, slot_of e.0 e.1) ∷ remove_entry t (slots_of es))
-    go true rest = refl
-    go false rest = λ i. (e.0, slot_of e.0 e.1) ∷ rest i
+    go : (o : Option ℕ) → slots_of (option_map_or (λ i. swap_remove (e ∷ es) i e) o (e ∷ es)) ≡ option_map_or (λ i. swap_remove (slots_of (e ∷ es)) i (slot_entry e)) o (slots_of (e ∷ es))
+    go None = refl
+    go (Some i) = removed_slots (e ∷ es) i e
 
 -- ---- lists made of the slots
 

@@ -19,7 +19,7 @@ use Rattle.index_map.specs.declared.mark.Mark.TheVariants.{Away, Gone, Seen}
 use Rattle.index_map.specs.declared.slot.Facts.{Facts}
 use Rattle.index_map.specs.declared.slot.Held.{Held}
 
-abbrev first_of : Option Slot → Option Slot → Option Slot
+abbrev pub first_of : Option Slot → Option Slot → Option Slot
 first_of None o = o
 first_of (Some s) o = Some s
 
@@ -172,9 +172,36 @@ module _ (o b : List (Name × Slot)) (apart : AreApart o b) (name : Name) where
         go true = refl
         go false = apart q
 
+  -- from the first into the second
+  module _ (p c : List (Name × Slot)) (slot : Option Slot) (takes : PutsSlot o p name None) (puts : PutsSlot b c name slot) where
+    pub puts_back : PutsSlot (o ++ b) (p ++ c) name slot
+    puts_back q =
+        lookup_join (same_name q) p c ∙ (λ i. first_of (takes q i) (puts q i))
+        ∙ go (same_name name q) ∙ ap (cond (same_name name q) slot) (sym (lookup_join (same_name q) o b))
+      where
+        go : (u : Bool) → first_of (cond u None (lookup (same_name q) o)) (cond u slot (lookup (same_name q) b)) ≡ cond u slot (first_of (lookup (same_name q) o) (lookup (same_name q) b))
+        go true = refl
+        go false = refl
+
+    pub apart_back : AreApart p c
+    apart_back q =
+        subst (λ x. IfSome x (λ t. lookup (same_name q) c ≡ None)) (sym (takes q))
+        (subst (λ y. IfSome (cond (same_name name q) None (lookup (same_name q) o)) (λ t. y ≡ None)) (sym (puts q)) (go (same_name name q)))
+      where
+        go : (u : Bool) → IfSome (cond u None (lookup (same_name q) o)) (λ t. cond u slot (lookup (same_name q) b) ≡ None)
+        go true = tt
+        go false = apart q
+
+pub apart_empty : (a b : List (Name × Slot)) → b ≡ [] → AreApart a b
+apart_empty a b none q = go (lookup (same_name q) a)
+  where
+    go : (o : Option Slot) → IfSome o (λ s. lookup (same_name q) b ≡ None)
+    go None = tt
+    go (Some s) = ap (lookup (same_name q)) none
+
 -- ---- all slots are rewritten
 
-none_left : (w : Slot → Slot) (t : Name → Bool) (a : List (Name × Slot)) → lookup t a ≡ None → lookup t (rewritten w a) ≡ None
+pub none_left : (w : Slot → Slot) (t : Name → Bool) (a : List (Name × Slot)) → lookup t a ≡ None → lookup t (rewritten w a) ≡ None
 none_left w t [] h = refl
 none_left w t (e ∷ a) h = go (t e.0) refl h (none_left w t a)
   where

@@ -5,6 +5,7 @@ pub mod ListSteps
 pub mod Held
 pub mod Lookups
 pub mod Marked
+pub mod Places
 pub mod Puts
 pub mod Search
 pub mod Shown

@@ -14,10 +14,10 @@ use Rattle.std.specs.List.Sorted.{IsStrictlySortedBy}
 use Rattle.record_list.specs.Lists.{AreRising, HasNames, names_of, record_at, same_name}
 use Rattle.record_list.proofs.NameLaws.{rising_distinct, same_back, same_is, same_itself}
 use Rattle.index_map.specs.Known.{ArePlain, IsPlain}
-use Rattle.index_map.specs.Slots.{AreSmall, IsBase, IsSlotOf, IsTable, PutsSlot, Slot, base_slot, changed_of, counts_of, first_mark, gone_slot, kept_slot, kilobytes_of, marked, marked_in, records_of, remarked, rewritten, seen_mark, seen_of, seen_only, slot_of, weigh, written, written_mark}
+use Rattle.index_map.specs.Slots.{AreFew, AreSmall, IsBase, IsSlotOf, IsTable, PutsSlot, Slot, base_slot, changed_of, counts_of, first_mark, gone_slot, kept_slot, kilobytes_of, marked, marked_in, records_of, remarked, rewritten, seen_mark, seen_of, seen_only, slot_of, weigh, written, written_mark}
 use Rattle.index_map.specs.declared.counts.Counts.{Counts}
 use Rattle.index_map.specs.declared.slot.Held.{Held}
-use Rattle.index_map.proofs.Sums.{small}
+use Rattle.index_map.proofs.Sums.{few, small}
 use Rattle.index_map.specs.declared.mark.Mark.{Mark}
 use Rattle.index_map.specs.declared.mark.Mark.TheVariants.{Away, Gone, Seen, Unseen}
 
@@ -333,6 +333,9 @@ module _ (rs : List IndexRecord) (ms : List Mark) (counts : Counts) (is : IsBase
 
   pub base_small : AreSmall counts
   base_small = small counts (values_of (marked_in rs ms)) is.counted (omega (arith, marked_long rs ms, is.few))
+
+  pub base_few : AreFew counts
+  base_few = few counts (values_of (marked_in rs ms)) is.counted (omega (arith, marked_long rs ms, is.few))
 
   module _ (i : ℕ) (d : IndexRecord) (e : Mark) (name : Name) (low : i < length rs) (own : (get_or rs i d).name ≡ name) where
     -- what is held at the place of a name

@@ -1,35 +1,22 @@
--- The place of a name among records in name order.
+-- The place of a name among things in name order, each of which has one.
 use Rattle.std.proofs.Common.{◌≡◌, ℕ, ◌<◌, ◌≤◌, Bool, true, false, List, [], length, get_or, nat_lt, refl, sym, ap, ◌∙◌, subst, arith}
 use Rattle.std.specs.List.{AllByRecursion}
 use Rattle.std.specs.List.Sorted.{IsNonDecreasingBy, IsPartitionPoint}
 use Rattle.std.specs.Ordering.{ordering_index}
+use Rattle.std.specs.Prelude.{map}
 use Rattle.std.specs.declared.cmp.Ordering.{Ordering}
 use Rattle.std.specs.declared.cmp.Ordering.TheVariants.{Less, Equal, Greater}
 use Rattle.std.proofs.lemmas.Bool.{ltb-false, ltb-true}
 use Rattle.std.proofs.lemmas.List.{get_or-map, length-map}
 use Rattle.std.proofs.lemmas.List.Elements.{recursion_from_All}
 use Rattle.std.proofs.lemmas.Map.Keys.{Less-from_sorted}
-use Rattle.cache_base.specs.Names.{name_cmp}
+use Rattle.cache_base.specs.Names.{AreRising, name_cmp}
 use Rattle.cache_base.specs.declared.name.Name.{Name}
-use Rattle.index_record.specs.Record.{removed_record}
-use Rattle.index_record.specs.declared.record.IndexRecord.{IndexRecord}
-use Rattle.record_list.specs.Lists.{AreRising, names_of, same_name}
+use Rattle.record_list.specs.Lists.{same_name}
 use Rattle.record_list.proofs.NameLaws.{above_below, below_apart, below_apart_back, below_trans, tied_same}
 
-abbrev no_name : Name
+abbrev pub no_name : Name
 no_name = record { 0 = [] }
-
-abbrev no_record : IndexRecord
-no_record = removed_record no_name
-
-name_at : (rs : List IndexRecord) (k : ℕ) (d : IndexRecord) (e : Name) → k < length rs → get_or (names_of rs) k e ≡ (get_or rs k d).name
-name_at rs k d e low = get_or-map (λ (r : IndexRecord). r.name) rs k d e low
-
-below_at : (rs : List IndexRecord) (i j : ℕ) (d : IndexRecord) → AreRising rs → i < j → j < length rs → name_cmp (get_or rs i d).name (get_or rs j d).name ≡ Less
-below_at rs i j d rising less low =
-    let long : length (names_of rs) ≡ length rs = length-map rs (λ (r : IndexRecord). r.name) in
-    (λ k. name_cmp (sym (name_at rs i d no_name (omega arith)) k) (sym (name_at rs j d no_name low) k))
-    ∙ Less-from_sorted name_cmp (names_of rs) i j no_name rising less (omega (arith, long))
 
 not_above : (a b q : Name) → name_cmp a b ≡ Less → (o : Ordering) → name_cmp b q ≡ o → ordering_index (name_cmp a q) ≤ ordering_index o
 not_above a b q less Less e = let l : name_cmp a q ≡ Less = below_trans a b q less e in subst (λ o. ordering_index o ≤ 0) (sym l) (omega arith)
@@ -41,28 +28,38 @@ not_above a b q less Greater e = go (name_cmp a q)
     go Equal = omega arith
     go Greater = omega arith
 
-pub answers_rise : (rs : List IndexRecord) (q : Name) → AreRising rs → IsNonDecreasingBy (λ (r : IndexRecord). ordering_index (name_cmp r.name q)) rs
-answers_rise rs q rising i j d up low = go (nat_lt i j) refl
+name_at : {X : Type 0} (key : X → Name) (xs : List X) (k : ℕ) (d : X) (e : Name) → k < length xs → get_or (map key xs) k e ≡ key (get_or xs k d)
+name_at key xs k d e low = get_or-map key xs k d e low
+
+below_at : {X : Type 0} (key : X → Name) (xs : List X) (i j : ℕ) (d : X) → AreRising (map key xs) → i < j → j < length xs → name_cmp (key (get_or xs i d)) (key (get_or xs j d)) ≡ Less
+below_at key xs i j d rising less low =
+    let long : length (map key xs) ≡ length xs = length-map xs key in
+    (λ k. name_cmp (sym (name_at key xs i d no_name (omega arith)) k) (sym (name_at key xs j d no_name low) k))
+    ∙ Less-from_sorted name_cmp (map key xs) i j no_name rising less (omega (arith, long))
+
+pub answers_rise : {X : Type 0} (key : X → Name) (xs : List X) (q : Name) → AreRising (map key xs) → IsNonDecreasingBy (λ (x : X). ordering_index (name_cmp (key x) q)) xs
+answers_rise key xs q rising i j d up low = go (nat_lt i j) refl
   where
-    go : (b : Bool) → nat_lt i j ≡ b → ordering_index (name_cmp (get_or rs i d).name q) ≤ ordering_index (name_cmp (get_or rs j d).name q)
-    go true h = not_above (get_or rs i d).name (get_or rs j d).name q (below_at rs i j d rising (ltb-true i j h) low) (name_cmp (get_or rs j d).name q) refl
+    go : (b : Bool) → nat_lt i j ≡ b → ordering_index (name_cmp (key (get_or xs i d)) q) ≤ ordering_index (name_cmp (key (get_or xs j d)) q)
+    go true h = not_above (key (get_or xs i d)) (key (get_or xs j d)) q (below_at key xs i j d rising (ltb-true i j h) low) (name_cmp (key (get_or xs j d)) q) refl
     go false h =
         let same : i ≡ j = omega (arith, ltb-false i j h) in
-        subst (λ k. ordering_index (name_cmp (get_or rs i d).name q) ≤ ordering_index (name_cmp (get_or rs k d).name q)) same (omega arith)
+        subst (λ k. ordering_index (name_cmp (key (get_or xs i d)) q) ≤ ordering_index (name_cmp (key (get_or xs k d)) q)) same (omega arith)
 
-pub none_there : (rs : List IndexRecord) (q : Name) (p : ℕ) → IsPartitionPoint (λ (r : IndexRecord). name_cmp r.name q ≡ Less) (λ (r : IndexRecord). name_cmp r.name q ≡ Greater) rs p
-    → AllByRecursion (λ n. same_name q n ≡ false) (names_of rs)
-none_there rs q p parts = recursion_from_All (λ n. same_name q n ≡ false) (names_of rs) at
+pub none_there : {X : Type 0} (key : X → Name) (d : X) (xs : List X) (q : Name) (p : ℕ)
+    → IsPartitionPoint (λ (x : X). name_cmp (key x) q ≡ Less) (λ (x : X). name_cmp (key x) q ≡ Greater) xs p
+    → AllByRecursion (λ n. same_name q n ≡ false) (map key xs)
+none_there key d xs q p parts = recursion_from_All (λ n. same_name q n ≡ false) (map key xs) at
   where
-    long : length (names_of rs) ≡ length rs
-    long = length-map rs (λ (r : IndexRecord). r.name)
+    long : length (map key xs) ≡ length xs
+    long = length-map xs key
 
-    at_record : (k : ℕ) → k < length rs → same_name q (get_or rs k no_record).name ≡ false
-    at_record k low = go (nat_lt k p) refl
+    at_one : (k : ℕ) → k < length xs → same_name q (key (get_or xs k d)) ≡ false
+    at_one k low = go (nat_lt k p) refl
       where
-        go : (b : Bool) → nat_lt k p ≡ b → same_name q (get_or rs k no_record).name ≡ false
-        go true h = below_apart_back (get_or rs k no_record).name q (parts.0 k no_record (omega arith) (ltb-true k p h))
-        go false h = below_apart q (get_or rs k no_record).name (above_below (get_or rs k no_record).name q (parts.1 k no_record (omega (arith, ltb-false k p h)) low))
+        go : (b : Bool) → nat_lt k p ≡ b → same_name q (key (get_or xs k d)) ≡ false
+        go true h = below_apart_back (key (get_or xs k d)) q (parts.0 k d (omega arith) (ltb-true k p h))
+        go false h = below_apart q (key (get_or xs k d)) (above_below (key (get_or xs k d)) q (parts.1 k d (omega (arith, ltb-false k p h)) low))
 
-    at : (k : ℕ) (d : Name) → k < length (names_of rs) → same_name q (get_or (names_of rs) k d) ≡ false
-    at k d low = ap (same_name q) (name_at rs k no_record d (omega (arith, long))) ∙ at_record k (omega (arith, long))
+    at : (k : ℕ) (e : Name) → k < length (map key xs) → same_name q (get_or (map key xs) k e) ≡ false
+    at k e low = ap (same_name q) (name_at key xs k d e (omega (arith, long))) ∙ at_one k (omega (arith, long))

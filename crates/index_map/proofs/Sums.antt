@@ -7,7 +7,7 @@ use Rattle.std.proofs.lemmas.List.Sums.{sum_by-le}
 use Rattle.index_record.specs.Record.{size_kb}
 use Rattle.index_record.specs.declared.record.IndexRecord.{IndexRecord}
 use Rattle.cache_base.specs.Numbers.{one_if}
-use Rattle.index_map.specs.Slots.{AreSmall, changed_of, counts_of, kilobytes_of, records_of, Slot}
+use Rattle.index_map.specs.Slots.{AreFew, AreSmall, changed_of, counts_of, kilobytes_of, records_of, Slot}
 use Rattle.index_map.specs.declared.counts.Counts.{Counts}
 
 one_if-le : (b : Bool) → one_if b ≤ 1
@@ -60,6 +60,14 @@ changed_are n slots h = ap (λ (m : Counts). m.changed) h
 -- the counts of fewer than 2^63 slots are small
 pub small : (n : Counts) (slots : List Slot) → n ≡ counts_of slots → length slots < 2 ^ 63 → AreSmall n
 small n slots h few = record {
+  records = omega (arith, records_are n slots h, records-le slots);
+  kilobytes = omega (arith, kilobytes_are n slots h, kilobytes-le slots);
+  changed = omega (arith, changed_are n slots h, changed-le slots);
+}
+
+-- those of fewer than 2^62 are few
+pub few : (n : Counts) (slots : List Slot) → n ≡ counts_of slots → length slots < 2 ^ 62 → AreFew n
+few n slots h low = record {
   records = omega (arith, records_are n slots h, records-le slots);
   kilobytes = omega (arith, kilobytes_are n slots h, kilobytes-le slots);
   changed = omega (arith, changed_are n slots h, changed-le slots);

@@ -1,59 +1,41 @@
 -- The entries of a table after one slot is put or taken, and after all are rewritten.
-use Rattle.std.proofs.Common.{◌≡◌, ℕ, ◌+◌, Bool, true, false, cond, List, [], ◌∷◌, refl, sym, ap, ◌∙◌, subst}
-use Rattle.std.specs.BTreeMap.{insert_entry, is_at}
-use Rattle.std.specs.List.{All, cons_option, sum_by}
-use Rattle.std.specs.Map.{lookup, remove_entry, values_of}
+use Rattle.std.proofs.Common.{◌≡◌, ℕ, ◌+◌, ◌-◌, ◌<◌, Bool, true, false, cond, List, [], ◌∷◌, length, get_or, refl, sym, ap, ◌∙◌, subst, arith}
+use Rattle.std.specs.List.{All, cons_option, sum_by, swap_remove}
+use Rattle.std.specs.Map.{lookup, keys_of, values_of}
 use Rattle.std.specs.Map.Calls.{RetainsPairs}
-use Rattle.std.specs.Option.{option_map}
-use Rattle.std.specs.Ordering.{is_eq, match_ordering}
-use Rattle.std.specs.Prelude.{None, Option, Some}
-use Rattle.std.specs.declared.cmp.Ordering.{Ordering}
-use Rattle.std.specs.declared.cmp.Ordering.TheVariants.{Less, Equal, Greater}
-use Rattle.std.proofs.lemmas.List.Elements.{All-cons, All-head, All-nil, All-tail}
-use Rattle.std.proofs.lemmas.List.Sums.{sum_by-cons}
-use Rattle.cache_base.specs.Names.{name_cmp}
+use Rattle.std.specs.Option.{option_map, option_map_or}
+use Rattle.std.specs.Prelude.{Option, None, Some, position, slice_get}
+use Rattle.std.proofs.lemmas.List.Elements.{All-cons, All-head, All-nil, All-tail, All-take, All-set, All-get_or}
+use Rattle.std.proofs.lemmas.List.Sums.{sum_by-cons, sum_by-swap_remove}
+use Rattle.std.proofs.lemmas.Option.{slice_get-get_or, slice_get-map}
 use Rattle.cache_base.specs.declared.name.Name.{Name}
-use Rattle.record_list.specs.Lists.{same_name}
-use Rattle.record_list.proofs.NameLaws.{above_below, below_apart, below_apart_back, same_itself, tied_same}
 use Rattle.index_map.specs.Slots.{is_held, is_used, rewritten, slot_of, slots_of, Slot}
 use Rattle.index_map.specs.declared.slot.Held.{Held}
 use Rattle.index_map.proofs.Held.{held_used}
-
--- ---- names in order
-
--- the test by which a tree finds a name
-pub tie_same : (a b : Name) → is_eq (name_cmp a b) ≡ same_name a b
-tie_same a b = go (name_cmp a b) refl
-  where
-    go : (o : Ordering) → name_cmp a b ≡ o → is_eq o ≡ same_name a b
-    go Less e = sym (below_apart a b e)
-    go Equal e = sym (ap (λ n. same_name a n) (sym (tied_same a b e)) ∙ same_itself a)
-    go Greater e = sym (below_apart_back b a (above_below a b e))
-
-pub found_alike : {X : Type 0} (name : Name) (es : List (Name × X)) → lookup (is_at (name_cmp name)) es ≡ lookup (same_name name) es
-found_alike name es = λ i. lookup (λ n. tie_same name n i) es
-
-pub removed_alike : {X : Type 0} (name : Name) (es : List (Name × X)) → remove_entry (is_at (name_cmp name)) es ≡ remove_entry (same_name name) es
-removed_alike name es = λ i. remove_entry (λ n. tie_same name n i) es
-
--- what a tree finds after one entry is put or taken
-pub updated : {X : Type 0} (name q : Name) (es after : List (Name × X)) (now : Option X)
-    → lookup (is_at (name_cmp q)) after ≡ cond (is_at (name_cmp name) q) now (lookup (is_at (name_cmp q)) es)
-    → lookup (same_name q) after ≡ cond (same_name name q) now (lookup (same_name q) es)
-updated name q es after now is =
-    sym (found_alike q after) ∙ is ∙ (λ i. cond (tie_same name q i) now (found_alike q es i))
+use Rattle.indexmap.specs.IndexMap.{insert_entry, swap_remove_entry}
+use Rattle.indexmap.proofs.MapLemmas.{Found-position, Missing-position, swap_remove_entry-found, swap_remove_entry-missing}
 
 -- ---- one slot is put
 
-pub all_put : {X : Type 0} (P : Name × X → Type 0) (k : Name) (v : X) (es : List (Name × X)) → All P es → P (k, v) → All P (insert_entry name_cmp es k v)
-all_put P k v [] all p = All-cons P (k, v) [] p all
-all_put P k v (e ∷ es) all p = go (name_cmp k e.0) refl (all_put P k v es (All-tail P e es all) p)
+pub sum_put : {K V : Type 0} (eq : K → K → Bool) (g : V → ℕ) (k : K) (v : V) (es : List (K × V))
+    → sum_by g (values_of (insert_entry eq es k v)) + option_map_or g (lookup (eq k) es) 0 ≡ sum_by g (values_of es) + g v
+sum_put eq g k v [] = omega (arith, sum_by-cons g v [])
+sum_put eq g k v (e ∷ es) = go (eq k e.0) (sum_put eq g k v es)
   where
-    go : (o : Ordering) → name_cmp k e.0 ≡ o → All P (insert_entry name_cmp es k v)
-        → All P (match_ordering o ((k, v) ∷ e ∷ es) ((e.0, v) ∷ es) (e ∷ insert_entry name_cmp es k v))
-    go Less h rest = All-cons P (k, v) (e ∷ es) p all
-    go Equal h rest = All-cons P (e.0, v) es (subst (λ n. P (n, v)) (tied_same k e.0 h) p) (All-tail P e es all)
-    go Greater h rest = All-cons P e (insert_entry name_cmp es k v) (All-head P e es all) rest
+    go : (b : Bool) → sum_by g (values_of (insert_entry eq es k v)) + option_map_or g (lookup (eq k) es) 0 ≡ sum_by g (values_of es) + g v
+        → sum_by g (values_of (cond b ((e.0, v) ∷ es) (e ∷ insert_entry eq es k v))) + option_map_or g (cond b (Some e.1) (lookup (eq k) es)) 0
+        ≡ sum_by g (values_of (e ∷ es)) + g v
+    go true h = omega (arith, sum_by-cons g v (values_of es), sum_by-cons g e.1 (values_of es))
+    go false h = omega (arith, h, sum_by-cons g e.1 (values_of (insert_entry eq es k v)), sum_by-cons g e.1 (values_of es))
+
+pub all_put : {K V : Type 0} (eq : K → K → Bool) (same : (a b : K) → eq a b ≡ true → a ≡ b) (P : K × V → Type 0) (k : K) (v : V) (es : List (K × V))
+    → All P es → P (k, v) → All P (insert_entry eq es k v)
+all_put eq same P k v [] all p = All-cons P (k, v) [] p all
+all_put eq same P k v (e ∷ es) all p = go (eq k e.0) refl (all_put eq same P k v es (All-tail P e es all) p)
+  where
+    go : (b : Bool) → eq k e.0 ≡ b → All P (insert_entry eq es k v) → All P (cond b ((e.0, v) ∷ es) (e ∷ insert_entry eq es k v))
+    go true h rest = All-cons P (e.0, v) es (subst (λ n. P (n, v)) (same k e.0 h) p) (All-tail P e es all)
+    go false h rest = All-cons P e (insert_entry eq es k v) (All-head P e es all) rest
 
 -- ---- one slot is taken
 
@@ -61,13 +43,37 @@ pub sum_values : {K V : Type 0} (g : V → ℕ) (es : List (K × V)) → sum_by 
 sum_values g [] = refl
 sum_values g (e ∷ es) = sum_by-cons g e.1 (values_of es) ∙ ap (λ n. g e.1 + n) (sum_values g es) ∙ sym (sum_by-cons (λ e. g e.1) e es)
 
-pub all_taken : {K V : Type 0} (t : K → Bool) (P : K × V → Type 0) (es : List (K × V)) → All P es → All P (remove_entry t es)
-all_taken t P [] all = all
-all_taken t P (e ∷ es) all = go (t e.0) (all_taken t P es (All-tail P e es all))
+value_at : {K V : Type 0} (es : List (K × V)) (i : ℕ) (d : K × V) → i < length es → slice_get (values_of es) i ≡ Some ((get_or es i d).1)
+value_at es i d low = slice_get-map (λ e. e.1) es i ∙ ap (option_map (λ e. e.1)) (slice_get-get_or es i d low)
+
+sum_taken_at : {K V : Type 0} (t : K → Bool) (g : V → ℕ) (es : List (K × V)) (i : ℕ) (d : K × V) → position t (keys_of es) ≡ Some i
+    → sum_by g (values_of (swap_remove_entry t es)) + option_map_or g (lookup t es) 0 ≡ sum_by g (values_of es)
+sum_taken_at t g es i d h =
+    let found = Found-position t es i h in
+    let value : option_map_or g (lookup t es) 0 ≡ g (get_or es i d).1 = ap (λ o. option_map_or g o 0) (found.value ∙ value_at es i d found.within) in
+    let after : sum_by g (values_of (swap_remove_entry t es)) ≡ sum_by (λ e. g e.1) (swap_remove es i d) =
+    ap (λ l. sum_by g (values_of l)) (swap_remove_entry-found t es i d h) ∙ sum_values g (swap_remove es i d) in
+    omega (arith, value, after, sum_by-swap_remove (λ e. g e.1) es i d found.within, sum_values g es)
+
+pub sum_taken : {K V : Type 0} (t : K → Bool) (g : V → ℕ) (es : List (K × V)) (d : K × V)
+    → sum_by g (values_of (swap_remove_entry t es)) + option_map_or g (lookup t es) 0 ≡ sum_by g (values_of es)
+sum_taken {K} {V} t g es d = go (position t (keys_of es)) refl
   where
-    go : (b : Bool) → All P (remove_entry t es) → All P (cond b es (e ∷ remove_entry t es))
-    go true rest = All-tail P e es all
-    go false rest = All-cons P e (remove_entry t es) (All-head P e es all) rest
+    go : (o : Option ℕ) → position t (keys_of es) ≡ o → sum_by g (values_of (swap_remove_entry t es)) + option_map_or g (lookup t es) 0 ≡ sum_by g (values_of es)
+    go (Some i) h = sum_taken_at t g es i d h
+    go None h =
+        let none : option_map_or g (lookup t es) 0 ≡ 0 = ap (λ o. option_map_or g o 0) (Missing-position t es h).value in
+        omega (arith, none, ap (λ l. sum_by g (values_of l)) (swap_remove_entry-missing t es h))
+
+pub all_taken : {K V : Type 0} (t : K → Bool) (P : K × V → Type 0) (es : List (K × V)) (d : K × V) → All P es → All P (swap_remove_entry t es)
+all_taken {K} {V} t P es d all = go (position t (keys_of es)) refl
+  where
+    go : (o : Option ℕ) → position t (keys_of es) ≡ o → All P (swap_remove_entry t es)
+    go None h = subst (All P) (sym (swap_remove_entry-missing t es h)) all
+    go (Some i) h =
+        let found = Found-position t es i h in
+        let last = All-get_or P es (length es - 1) d (omega (arith, found.within)) all in
+        subst (All P) (sym (swap_remove_entry-found t es i d h)) (All-take P (length es - 1) _ (All-set P es i _ last all))
 
 -- ---- all slots are rewritten
 

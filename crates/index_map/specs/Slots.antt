@@ -3,6 +3,7 @@ use Rattle.std.specs.List.{IsDistinct, cons_option, filter_map}
 use Rattle.std.specs.Map.{keys_of, lookup, values_of}
 use Rattle.std.specs.Option.{option_eq, option_map, option_map_or}
 use Rattle.std.specs.Prelude.{All, Bool, IfSome, List, None, Option, Some, [], false, if◌then◌else◌, is_some, length, map, not, option_and_then, sum_by, true, ℕ, ◌<◌, ◌∷◌, ◌^◌, ◌||◌, ◌≡◌}
+use Rattle.cache_base.specs.Names as names
 use Rattle.cache_base.specs.Numbers.{one_if}
 use Rattle.cache_base.specs.declared.name.Name.{Name}
 use Rattle.index_record.specs.Record.{size_kb}
@@ -106,6 +107,12 @@ pub record AreSmall (n : Counts) : Type 0 where
   pub kilobytes : n.kilobytes < 2 ^ 127
   pub changed : n.changed < 2 ^ 63
 
+-- counts of a list of which three can be added up
+pub record AreFew (n : Counts) : Type 0 where
+  pub records : n.records < 2 ^ 62
+  pub kilobytes : n.kilobytes < 2 ^ 126
+  pub changed : n.changed < 2 ^ 62
+
 -- a slot holds records of its own name, and that of now is not removed, dirty or fresh
 pub record IsSlotOf (name : Name) (slot : Slot) : Type 0 where
   pub current : IfSome slot.current (λ r. (r.name ≡ name) × IsPlain r)
@@ -190,7 +197,7 @@ pub record IsBase (rs : List IndexRecord) (marks : List Mark) (counts : Counts) 
   pub rising : AreRising rs
   pub plain : ArePlain rs
   pub long : length marks ≡ length rs
-  pub few : length rs < 2 ^ 63
+  pub few : length rs < 2 ^ 62
   pub counted : counts ≡ counts_of (values_of (marked_in rs marks))
 
 -- what a slot of the list becomes with another mark
@@ -200,6 +207,40 @@ remarked mark slot = option_and_then (λ r. marked r mark) slot.base
 -- a name without a record now
 abbrev pub gone_slot : Option Slot → Option Slot
 gone_slot old = option_map (λ b. record { current = None; seen = false; base = Some b }) (option_and_then (λ slot. slot.base) old)
+
+-- ---- the places of a journal
+
+-- the place of a record's name, where nothing is known yet
+abbrev pub new_place : IndexRecord → Name × Held
+new_place r = (r.name, record { current = None; base = None; seen = false })
+
+-- the places of records in name order, where nothing is known yet
+pub record AreNew (places : List (Name × Held)) : Type 0 where
+  pub records : List IndexRecord
+  pub rising : AreRising records
+  pub made : places ≡ map new_place records
+
+-- the slots of those places that hold a record
+abbrev pub used_in : List (Name × Held) → List (Name × Slot)
+used_in places = rewritten (λ slot. slot) (slots_of places)
+
+-- the base's record of what stands in the layers, if anything does, or else at the place
+abbrev pub base_over : Held → Option Held → Option Facts
+base_over placed None = placed.base
+base_over placed (Some below) = below.base
+
+-- under this name this is held; all else is as before
+abbrev pub PutsHeld : List (Name × Held) → List (Name × Held) → Name → Held → Type 0
+PutsHeld old new name held = (q : Name) → lookup (same_name q) new ≡ (if same_name name q then Some held else lookup (same_name q) old)
+
+-- places in name order, each with what is held under its name, and the counts
+pub record ArePlaces (places : List (Name × Held)) (counts : Counts) : Type 0 where
+  pub rising : names.AreRising (keys_of places)
+  pub own : All (λ e. IsSlotOf e.0 e.1) (slots_of places)
+  pub few : length places < 2 ^ 62
+  pub counted : counts ≡ counts_of (map bare (values_of places))
+
+-- ---- the layers
 
 -- no name has a slot in both
 abbrev pub AreApart : List (Name × Slot) → List (Name × Slot) → Type 0

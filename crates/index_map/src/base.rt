@@ -8,7 +8,7 @@ ghost use Rattle.cache_base.specs.declared.name.Name.{Name as AName};
 ghost use Rattle.record_list.specs.Lists.{HasNames, record_at, same_name};
 ghost use Rattle.index_map.specs.Known.{ArePlain};
 
-use crate::counts::{Counts, count_marked, with_marked, without_marked};
+use crate::counts::{Counts, MOST, count_marked, with_marked, without_marked};
 use crate::listing::{push_changes, push_current};
 use crate::mark::{Mark, first_mark, held_of, keep_seen, mark_written};
 use crate::name_order::{in_order, place_of};
@@ -62,7 +62,11 @@ impl Base {
         ensures table { IfOk result spec.IsTable }
     {
         let records = in_order(records);
-        let marks = vec![in alloc; first_mark(seen); records.as_slice().len()]?;
+        let count = records.as_slice().len();
+        if count >= MOST {
+            return Err(NoMemory);
+        }
+        let marks = vec![in alloc; first_mark(seen); count]?;
         let counts = count_marked(records.as_slice(), marks.as_slice());
         Ok(Base {
             records,
@@ -87,7 +91,7 @@ impl Base {
     /// The counts of the slots.
     pub fn counts(&self) -> Counts
         ensures counts { result ≡ spec.counts_of (values_of self.now) }
-        ensures small { spec.AreSmall result }
+        ensures few { spec.AreFew result }
         ensures table { spec.IsTable self.now }
     {
         self.counts

@@ -8,7 +8,6 @@ use crate::mark::Mark;
 use crate::slot::{Held, differs};
 use cache_base::Name;
 use index_record::{IndexRecord, SIZE_MAX, size_kb};
-use std::collections::BTreeMap;
 
 /// The number of records, and the sum of the sizes of their files.
 #[derive(Clone, Copy, Debug, PartialEq, Eq)]
@@ -18,6 +17,9 @@ pub struct Totals {
     /// The sum of the sizes in KB.
     pub kilobytes: u128,
 }
+
+/// Fewer records than these stand in a list, since more fit in no memory. So the counts of all lists can be added up.
+pub(crate) const MOST: usize = 0x4000_0000_0000_0000;
 
 /// The counts of a table's slots.
 #[derive(Clone, Copy)]
@@ -83,13 +85,26 @@ pub(crate) fn without(counts: &Counts, slot: &Held) -> Counts
     }
 }
 
-/// The counts of the slots of a table.
-pub(crate) fn count(slots: &BTreeMap<Name, Held>) -> Counts
-    ensures { result ≡ spec.counts_of (map spec.bare (values_of slots.now.entries)) }
+/// The counts of these slots.
+pub(crate) fn count(slots: &[Held]) -> Counts
+    requires { length slots.now < 2 ^ 63 }
+    ensures { result ≡ spec.counts_of (map spec.bare slots.now) }
 {
     let mut counts = Counts::NONE;
-    for slot in slots.values() {
+    for slot in slots {
         counts = with(&counts, slot);
+    }
+    counts
+}
+
+/// The counts of what stands at places.
+pub(crate) fn count_places(places: &[(Name, Held)]) -> Counts
+    requires { length places.now < 2 ^ 63 }
+    ensures { result ≡ spec.counts_of (map spec.bare (values_of places.now)) }
+{
+    let mut counts = Counts::NONE;
+    for place in places {
+        counts = with(&counts, &place.1);
     }
     counts
 }

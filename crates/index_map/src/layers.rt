@@ -3,7 +3,7 @@
 ghost use Rattle.std.specs.List.{filter_map};
 ghost use Rattle.std.specs.Map.{lookup, values_of};
 ghost use Rattle.std.specs.Option.{option_map};
-ghost use Rattle.std.specs.Prelude.{◌≡◌, [], IfOk, OnErr, OnOk, Some, true};
+ghost use Rattle.std.specs.Prelude.{◌≡◌, ◌+◌, ◌<◌, ◌^◌, [], IfOk, None, OnErr, OnOk, Some, true};
 ghost use Rattle.cache_base.specs.declared.name.Name.{Name as AName};
 ghost use Rattle.record_list.specs.Lists.{HasNames, record_at, same_name};
 ghost use Rattle.index_map.specs.Known.{ArePlain, IsPlain};
@@ -125,9 +125,26 @@ impl Layers {
         }
     }
 
+    /// Takes the slot of a name out.
+    pub fn take(&mut self, name: &Name)
+        ensures taken { spec.PutsSlot self.old self.new name.now None }
+        ensures was_table { spec.IsTable self.old }
+        ensures table { spec.IsTable self.new }
+    {
+        // The table is a table, as its counts ensure.
+        let _counts = self.others.counts();
+        match self.base.get(name) {
+            Some(_) => self.base.mark(name, Mark::Away),
+            None => self.others.take(name),
+        }
+    }
+
     /// The counts of the slots.
     pub fn counts(&self) -> Counts
         ensures counts { result ≡ spec.counts_of (values_of self.now) }
+        ensures records { result.records < 2 ^ 63 + 2 ^ 62 }
+        ensures kilobytes { result.kilobytes < 2 ^ 127 + 2 ^ 126 }
+        ensures changed { result.changed < 2 ^ 63 + 2 ^ 62 }
         ensures table { spec.IsTable self.now }
     {
         both(self.others.counts(), self.base.counts())

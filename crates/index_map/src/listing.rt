@@ -7,10 +7,10 @@ ghost use Rattle.index_map.specs.Slots as spec;
 
 use crate::mark::{Mark, change_of, current_of};
 use crate::slot::{Held, change, named};
+use crate::table::Slots;
 use cache_base::{Name, NoMemory};
 use index_record::IndexRecord;
 use std::alloc::Global;
-use std::collections::BTreeMap;
 
 fn push_if(list: &mut Vec<IndexRecord>, found: Option<IndexRecord>) -> Result<(), NoMemory>
     ensures { OnOk result (list.new.items ≡ list.old.items ++ option_to_list found) }
@@ -22,11 +22,8 @@ fn push_if(list: &mut Vec<IndexRecord>, found: Option<IndexRecord>) -> Result<()
     Ok(())
 }
 
-/// The records now, in name order.
-pub(crate) fn current_records(
-    alloc: Global,
-    slots: &BTreeMap<Name, Held>,
-) -> Result<Vec<IndexRecord>, NoMemory>
+/// The records now, in the order of the slots.
+pub(crate) fn current_records(alloc: Global, slots: &Slots) -> Result<Vec<IndexRecord>, NoMemory>
     ensures { IfOk result (λ list.
         list.items ≡ spec.current_in (values_of (spec.slots_of slots.now.entries))) }
 {
@@ -37,11 +34,8 @@ pub(crate) fn current_records(
     Ok(list)
 }
 
-/// What a journal has to say, in name order.
-pub(crate) fn changes(
-    alloc: Global,
-    slots: &BTreeMap<Name, Held>,
-) -> Result<Vec<IndexRecord>, NoMemory>
+/// What a journal has to say, in the order of the slots.
+pub(crate) fn changes(alloc: Global, slots: &Slots) -> Result<Vec<IndexRecord>, NoMemory>
     ensures { IfOk result (λ list.
         list.items ≡ filter_map spec.change_in (values_of (spec.slots_of slots.now.entries))) }
 {
@@ -81,6 +75,34 @@ pub(crate) fn push_changes(
 {
     for i in 0..records.len() {
         push_if(list, change_of(&records[i], marks[i]))?;
+    }
+    Ok(())
+}
+
+/// Adds the records now at places, in the order of the places.
+pub(crate) fn push_placed(
+    list: &mut Vec<IndexRecord>,
+    places: &[(Name, Held)],
+) -> Result<(), NoMemory>
+    ensures { OnOk result (list.new.items
+        ≡ list.old.items ++ spec.current_in (values_of (spec.slots_of places.now))) }
+{
+    for place in places {
+        push_if(list, named(&place.0, place.1.current))?;
+    }
+    Ok(())
+}
+
+/// Adds what a journal has to say of places, in the order of the places.
+pub(crate) fn push_placed_changes(
+    list: &mut Vec<IndexRecord>,
+    places: &[(Name, Held)],
+) -> Result<(), NoMemory>
+    ensures { OnOk result (list.new.items
+        ≡ list.old.items ++ filter_map spec.change_in (values_of (spec.slots_of places.now))) }
+{
+    for place in places {
+        push_if(list, change(&place.0, &place.1))?;
     }
     Ok(())
 }

@@ -1,13 +1,15 @@
 //! The records of the index in memory.
 
-ghost use Rattle.std.specs.Prelude.{◌≡◌, IfOk, None, OnErr, OnOk, Some, length, sum_by, true};
+ghost use Rattle.std.specs.Prelude.{◌≡◌, [], IfOk, None, OnErr, OnOk, Some, length, sum_by, true};
 ghost use Rattle.index_record.specs.Record.{size_kb as size_kb_of};
 ghost use Rattle.record_list.specs.Change.{IsDiff, kept};
 ghost use Rattle.record_list.specs.Lists.{HasNames, IsByName, record_at};
 ghost use Rattle.record_list.specs.Stored.{AreClean, IsClean};
+ghost use Rattle.index_map.specs.Slots.{used_in};
 
+use crate::all_slots::AllSlots;
 use crate::counts::Totals;
-use crate::layers::Layers;
+use crate::journal::Journal;
 use crate::reading::seen_at;
 use cache_base::{Name, NoMemory};
 use index_record::{IndexRecord, Records, is_removed};
@@ -19,7 +21,7 @@ use std::marker::Model;
 /// file `index`, if there is one.
 #[derive(Drop)]
 pub struct RecordMap {
-    slots: Layers,
+    slots: AllSlots,
     has_base: bool,
     alloc: Global,
 }
@@ -45,7 +47,7 @@ impl RecordMap {
         ensures { result ≡ spec.no_records }
     {
         RecordMap {
-            slots: Layers::new(alloc),
+            slots: AllSlots::new(alloc),
             has_base: false,
             alloc,
         }
@@ -58,8 +60,23 @@ impl RecordMap {
         requires plain { spec.ArePlain base }
         ensures { IfOk result (spec.BeginsOver base base seen) }
     {
+        RecordMap::begun(alloc, base, seen, Journal::new(alloc))
+    }
+
+    // The map of the records of a base, with places for the names of a journal at which nothing is known yet.
+    fn begun(
+        alloc: Global,
+        base: Records,
+        seen: bool,
+        journal: Journal,
+    ) -> Result<RecordMap, NoMemory>
+        requires names { HasNames base }
+        requires plain { spec.ArePlain base }
+        requires unused { used_in journal ≡ [] }
+        ensures { IfOk result (spec.BeginsOver base base seen) }
+    {
         Ok(RecordMap {
-            slots: Layers::over(alloc, base, seen)?,
+            slots: AllSlots::over(alloc, base, seen, journal)?,
             has_base: true,
             alloc,
         })
@@ -77,7 +94,8 @@ impl RecordMap {
         requires clean { AreClean changes.now }
         ensures { IfOk result (spec.BeginsAfter base changes.now) }
     {
-        let mut map = RecordMap::with_base(alloc, base, true)?;
+        let journal = Journal::over(alloc, changes)?;
+        let mut map = RecordMap::begun(alloc, base, true, journal)?;
         map.apply(changes.as_slice())?;
         Ok(map)
     }

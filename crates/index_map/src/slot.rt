@@ -1,7 +1,8 @@
 //! What is known under one name.
 
-ghost use Rattle.std.specs.Prelude.{◌≡◌};
+ghost use Rattle.std.specs.Prelude.{◌≡◌, length, map, option_and_then};
 ghost use Rattle.std.specs.Option.{option_map};
+ghost use Rattle.cache_base.specs.declared.name.Name.{Name as AName};
 ghost use Rattle.index_map.specs.Slots as spec;
 
 use cache_base::Name;
@@ -127,4 +128,37 @@ pub(crate) fn mark_written(slot: &mut Held) -> bool
 {
     slot.base = slot.current;
     is_used(slot)
+}
+
+/// What a place holds, if it holds a record.
+pub(crate) fn used(held: Option<Held>) -> Option<Held>
+    ensures { (name : AName) → option_map (spec.slot_of name) result
+        ≡ option_and_then (spec.kept_slot (λ slot. slot)) (option_map (spec.slot_of name) held) }
+{
+    match held {
+        Some(held) => { if is_used(&held) { Some(held) } else { None } }
+        None => None,
+    }
+}
+
+/// Takes the unseen records out of places.
+pub(crate) fn keep_seen_in(places: &mut Vec<(Name, Held)>)
+    ensures { places.new.items ≡ map (λ e. (e.0, spec.seen_held e.1)) places.old.items }
+{
+    for i in 0..places.len() {
+        let (name, mut held) = places[i];
+        keep_seen(&mut held);
+        places[i] = (name, held);
+    }
+}
+
+/// Makes the records now in places the base's.
+pub(crate) fn mark_written_in(places: &mut Vec<(Name, Held)>)
+    ensures { places.new.items ≡ map (λ e. (e.0, spec.written_held e.1)) places.old.items }
+{
+    for i in 0..places.len() {
+        let (name, mut held) = places[i];
+        mark_written(&mut held);
+        places[i] = (name, held);
+    }
 }

@@ -1,4 +1,4 @@
-//! Slots in name order, and their counts.
+//! The slots of names by a hash, and their counts.
 
 ghost use Rattle.std.specs.Prelude.{◌≡◌, [], IfOk, OnOk, OnErr, None, Some};
 ghost use Rattle.std.specs.List.{filter_map};
@@ -12,15 +12,19 @@ use crate::reading::base_at;
 use crate::slot::{Held, keep_seen, mark_written};
 use cache_base::{Name, NoMemory};
 use index_record::IndexRecord;
+use indexmap::IndexMap;
 use std::alloc::Global;
-use std::collections::BTreeMap;
+use std::hash::{BuildHasherDefault, DefaultHasher};
 use std::marker::Model;
 
-/// The slots of some names, each of which has a record now or in the base. They stand in an ordered map: names come
-/// from files that anyone may have written, and no choice of names may make a search long.
+/// The slots by name, in the order in which they came. The hash is one of all bytes of a name, and its keys are fixed:
+/// what comes here are names that a run learns, and those are hashes of keys, so nobody chooses them.
+pub(crate) type Slots = IndexMap<Name, Held, BuildHasherDefault<DefaultHasher>>;
+
+/// The slots of some names, each of which has a record now or in the base.
 #[derive(Drop)]
 pub(crate) struct Table {
-    slots: BTreeMap<Name, Held>,
+    slots: Slots,
     counts: Counts,
 }
 
@@ -47,7 +51,7 @@ impl Table {
         ensures table { spec.IsTable result }
     {
         Table {
-            slots: BTreeMap::new(alloc),
+            slots: IndexMap::with_hasher(alloc, BuildHasherDefault::new()),
             counts: Counts::NONE,
         }
     }
@@ -72,7 +76,7 @@ impl Table {
         self.counts
     }
 
-    /// The records now, in name order.
+    /// The records now, in the order of the slots.
     pub fn records(&self, alloc: Global) -> Result<Vec<IndexRecord>, NoMemory>
         ensures records { IfOk result (λ list. list.items ≡ spec.current_in (values_of self.now)) }
         ensures table { spec.IsTable self.now }
@@ -80,7 +84,7 @@ impl Table {
         current_records(alloc, &self.slots)
     }
 
-    /// What a journal has to say, in name order.
+    /// What a journal has to say, in the order of the slots.
     pub fn changes(&self, alloc: Global) -> Result<Vec<IndexRecord>, NoMemory>
         ensures changes { IfOk result (λ list.
             list.items ≡ filter_map spec.change_in (values_of self.now)) }
@@ -114,7 +118,7 @@ impl Table {
         ensures was_table { spec.IsTable self.old }
         ensures table { spec.IsTable self.new }
     {
-        if let Some(old) = self.slots.remove(name) {
+        if let Some(old) = self.slots.swap_remove(name) {
             self.counts = without(&self.counts, &old);
         }
     }
@@ -147,7 +151,7 @@ impl Table {
         ensures table { spec.IsTable self.new }
     {
         self.slots.retain(|_, slot| keep_seen(slot));
-        self.counts = count(&self.slots);
+        self.counts = count(self.slots.values().as_slice());
     }
 
     /// Makes the records now those of the base, and takes out the slots that hold no record then.
@@ -157,6 +161,6 @@ impl Table {
         ensures table { spec.IsTable self.new }
     {
         self.slots.retain(|_, slot| mark_written(slot));
-        self.counts = count(&self.slots);
+        self.counts = count(self.slots.values().as_slice());
     }
 }

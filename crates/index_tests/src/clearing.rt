@@ -19,7 +19,7 @@ const NO_ORIGIN: u64 = 0xDA39_A3EE_5E6B_4B0D;
 
 const SOME_ORIGIN: u64 = 0xF87F_B192_D266_1A8C;
 
-// Their marks. `hash_of` of tools/formats_module.py gives the last four bytes from the first eight.
+// Their marks. `hash_of` of tools/cachelib/hashes.py gives the last four bytes from the first eight.
 const MARK: &[u8] = b"\xda\x39\xa3\xee\x5e\x6b\x4b\x0d\xed\xdc\xe9\x58";
 
 const SOME_MARK: &[u8] = b"\xf8\x7f\xb1\x92\xd2\x66\x1a\x8c\xbf\x5c\x21\xfa";

@@ -1,5 +1,5 @@
 use cache_base::{Name, Names, NoMemory};
-use evictor::{order, order_sorts, same_in_any_order, victims, victims_suffice};
+use evictor::{order, order_sorts, same_in_any_order, victims, victims_of, victims_suffice};
 use index_record::{INITIALIZED, IndexRecord, NO_TIME, PINNED, Records};
 use std::alloc::Global;
 
@@ -58,7 +58,7 @@ fn names(alloc: Global, last: &[u8]) -> Result<Names, NoMemory> {
     Ok(names)
 }
 
-// Whether the names of the victims among the records end in these numbers.
+// Whether the names of the victims among the records end in these numbers, whether the records are lent or handed over.
 fn chooses(
     alloc: Global,
     all: &[IndexRecord],
@@ -69,7 +69,9 @@ fn chooses(
     let records = list(alloc, all)?;
     let in_use = names(alloc, in_use)?;
     let due = names(alloc, due)?;
-    Ok(victims(alloc, records, &in_use, limit)?.as_slice() == due.as_slice())
+    let lent = victims(alloc, &records, &in_use, limit)?;
+    let taken = victims_of(alloc, records, &in_use, limit)?;
+    Ok(lent.as_slice() == due.as_slice() && taken.as_slice() == due.as_slice())
 }
 
 #[test]

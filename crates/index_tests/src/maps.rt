@@ -3,10 +3,13 @@ ghost use Rattle.record_list.specs.Lists.{HasNames};
 ghost use Rattle.record_list.specs.Stored.{AreClean};
 ghost use Rattle.index_map.specs.Known.{ArePlain, IsPlain};
 
-use cache_base::{Name, NoMemory};
+use cache_base::{Bytes, Name, NoMemory};
+use index_journal::{apply, parse};
 use index_map::{RecordMap, Totals};
-use index_record::{INITIALIZED, IndexRecord, NO_TIME, Records, removed};
+use index_record::{INITIALIZED, IndexRecord, NO_TIME, Records, removed, write};
+use jenkins_hash::hash;
 use std::alloc::Global;
+use std::test::Fail;
 
 const ONE: Name = Name([1; 20]);
 
@@ -264,4 +267,61 @@ fn a_journal_changes_the_base(rt: HostRuntime) {
     ];
     let held = all_held(rt.alloc(), &steps);
     assert_eq!(rt; held, Ok(steps.len()));
+}
+
+// The number that stands at a place of a journal of 300 names in no order.
+fn shuffled(place: u16) -> u16
+    requires { place < 300 }
+{
+    place * 77 % 300
+}
+
+// What that journal says of a number: each fourth name is gone.
+fn change(number: u16) -> IndexRecord {
+    let [high, low] = number.to_be_bytes();
+    let mut name = Name([9; 20]);
+    name.0[0] = high;
+    name.0[1] = low;
+    if number % 4 == 0 {
+        removed(&name)
+    } else {
+        record(name, number)
+    }
+}
+
+fn long_journal(alloc: Global) -> Result<Bytes, NoMemory> {
+    let mut bytes = Bytes::new(alloc);
+    for place in 0..300 {
+        bytes.extend(&write(&change(shuffled(place))))?;
+    }
+    let sum = hash(bytes.as_slice());
+    bytes.extend(&sum.to_be_bytes())?;
+    Ok(bytes)
+}
+
+// How many names of the journal have the record in the map that it says.
+fn told_so(map: &RecordMap) -> usize {
+    let mut count = 0;
+    for number in 0..300 {
+        let due = change(number);
+        let wanted = if number % 4 == 0 { None } else { Some(due) };
+        if map.get(&due.name) == wanted {
+            count += 1;
+        }
+    }
+    count
+}
+
+#[test]
+fn a_journal_of_many_names_in_no_order_changes_the_base(rt: HostRuntime) -> Result<(), Fail> {
+    let alloc = rt.alloc();
+    let changes = parse(alloc, long_journal(alloc)?.as_slice())?;
+    let map = RecordMap::with_journal(alloc, pair(alloc, 1, 2)?, &changes)?;
+    let due = apply(alloc, &pair(alloc, 1, 2)?, &changes)?;
+    assert!(rt; map.records()?.as_slice() == due.as_slice());
+    assert_eq!(rt; told_so(&map), 300);
+    // the two of the base, and those of the journal that are not gone
+    assert_eq!(rt; numbers(&map).0, 227);
+    assert_eq!(rt; map.changed(), 225);
+    Ok(())
 }

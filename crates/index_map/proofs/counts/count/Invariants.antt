@@ -1,6 +1,7 @@
-use Rattle.std.specs.Map.{values_of}
-use Rattle.index_map.proofs.Held.{AreCounted}
+use Rattle.std.proofs.Common.{◌≡◌, take}
+use Rattle.std.specs.Prelude.{map}
+use Rattle.index_map.specs.Slots.{bare, counts_of}
 use Rattle.index_map.proofs.counts.count.Given as goal
 
 abbrev pub invariant-loop-slot : goal.invariant-loop-slot
-invariant-loop-slot l = AreCounted l.counts l.slot-iterator (values_of l.slots.entries)
+invariant-loop-slot l = l.counts ≡ counts_of (map bare (take l.slot-index l.slots))

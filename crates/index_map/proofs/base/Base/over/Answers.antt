@@ -13,8 +13,8 @@ use Rattle.index_map.proofs.base.Base.over.Goals as goal
 pub returns-clause-slots : goal.returns-clause-slots
 returns-clause-slots c = λ q.
     let rs = c.in_order-records.result in
-    ap (λ ms. lookup (same_name q) (marked_in rs ms)) (c.in_ok-marks.ensures.items_if_clones_equal (λ y same. same) ∙ ap (λ m. replicate (length c.as_slice.result.now) m) c.first_mark.ensures)
-    ∙ first_marks c.args.seen rs (length c.as_slice.result.now) q (ap length c.as_slice.ensures)
+    ap (λ ms. lookup (same_name q) (marked_in rs ms)) (c.in_ok-marks.ensures.items_if_clones_equal (λ y same. same) ∙ ap (λ m. replicate (length c.as_slice-count.result.now) m) c.first_mark.ensures)
+    ∙ first_marks c.args.seen rs (length c.as_slice-count.result.now) q (ap length c.as_slice-count.ensures)
     ∙ ap (option_map (base_slot c.args.seen)) (by_name_keeps c.args.records rs c.requires.names c.in_order-records.ensures q)
 
 pub returns-clause-table : goal.returns-clause-table

@@ -5,13 +5,13 @@ use Rattle.index_map.proofs.Joined.{counts_join, join_table}
 use Rattle.index_map.proofs.layers.Layers.counts.Goals as goal
 
 pub both-requires-clause-records : goal.both-requires-clause-records
-both-requires-clause-records c = omega (arith, c.counts.ensures.small.records, c.counts-2.ensures.small.records)
+both-requires-clause-records c = omega (arith, c.counts.ensures.small.records, c.counts-2.ensures.few.records)
 
 pub both-requires-clause-kilobytes : goal.both-requires-clause-kilobytes
-both-requires-clause-kilobytes c = omega (arith, c.counts.ensures.small.kilobytes, c.counts-2.ensures.small.kilobytes)
+both-requires-clause-kilobytes c = omega (arith, c.counts.ensures.small.kilobytes, c.counts-2.ensures.few.kilobytes)
 
 pub both-requires-clause-changed : goal.both-requires-clause-changed
-both-requires-clause-changed c = omega (arith, c.counts.ensures.small.changed, c.counts-2.ensures.small.changed)
+both-requires-clause-changed c = omega (arith, c.counts.ensures.small.changed, c.counts-2.ensures.few.changed)
 
 pub returns-clause-counts : goal.returns-clause-counts
 returns-clause-counts c =

@@ -1,5 +1,6 @@
 use Rattle.std.proofs.Common.{ap, ◌∙◌, rules}
-use Rattle.index_map.specs.Slots.{rewritten, seen_held, seen_only, slots_of}
+use Rattle.std.specs.Prelude.{map}
+use Rattle.index_map.specs.Slots.{bare, counts_of, rewritten, seen_held, seen_only, slots_of}
 use Rattle.index_map.proofs.Held.{counts_bare, distinct_slots, seen_same}
 use Rattle.index_map.proofs.Puts.{rewritten_table, seen_only_fits}
 use Rattle.index_map.proofs.Tables.{retained}
@@ -10,8 +11,8 @@ invariant_of-self c =
     let es = c.self.inside.slots.entries in
     let after = c.retain.new.self.entries in
     let e = retained _ seen_held seen_only _ seen_same (λ k v b x g t. search rules) es after c.retain.ensures.filtered in (
-      rewritten_table seen_only seen_only_fits (slots_of es) (slots_of after) e (distinct_slots after c.retain.ensures.ordered) c.self.invariant.0,
-      c.count-self-inside.ensures ∙ counts_bare after,
+      rewritten_table seen_only seen_only_fits (slots_of es) (slots_of after) e (distinct_slots after c.retain.ensures.unique) c.self.invariant.0,
+      c.count-self-inside.ensures ∙ ap (λ hs. counts_of (map bare hs)) (c.as_slice.ensures ∙ c.values.ensures.rest) ∙ counts_bare after,
     )
 
 pub returns-clause-slots : goal.returns-clause-slots
@@ -22,4 +23,4 @@ returns-clause-table c =
     let es = c.self.inside.slots.entries in
     let after = c.retain.new.self.entries in
     let e = retained _ seen_held seen_only _ seen_same (λ k v b x g t. search rules) es after c.retain.ensures.filtered in
-    rewritten_table seen_only seen_only_fits (slots_of es) (slots_of after) e (distinct_slots after c.retain.ensures.ordered) c.self.invariant.0
+    rewritten_table seen_only seen_only_fits (slots_of es) (slots_of after) e (distinct_slots after c.retain.ensures.unique) c.self.invariant.0
