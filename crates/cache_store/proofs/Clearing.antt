@@ -5,6 +5,7 @@ pub mod ClearedLaws
 pub mod FilesAmong
 pub mod HeldDoomed
 pub mod JoinedNames
+pub mod LooksFirst
 pub mod MarkKept
 pub mod NamesDoomed
 pub mod NothingDoomed

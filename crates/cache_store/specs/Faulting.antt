@@ -1,7 +1,7 @@
 -- How a command ends in a look at the disk that failed before anything of its reply was said: all is as it was. And how
 -- the disk fails otherwise.
 use Rattle.std.specs.Io.KnownBytes.{Appends}
-use Rattle.std.specs.Prelude.{Bool, Err, List, None, Ok, Option, Result, Some, codes, false, length, take, true, ℕ, ⊤, ◌%◌, ◌++◌, ◌-◌, ◌≡◌, ◌⊎◌}
+use Rattle.std.specs.Prelude.{Bool, Err, IsTrue, List, None, Ok, Option, Result, Some, codes, false, length, take, true, ℕ, ⊤, ◌%◌, ◌++◌, ◌-◌, ◌≡◌, ◌⊎◌}
 use Rattle.cache_base.specs.Limits.{chunk_size}
 use Rattle.cache_export.specs.Dump.{head as dump_head}
 use Rattle.cache_store.specs.EntryText.{head_text}
@@ -16,7 +16,9 @@ use Rattle.cache_theory.specs.History.{History}
 use Rattle.cache_theory.specs.Machine.{Machine}
 use Rattle.cache_theory.specs.Step.{step}
 use Rattle.cache_theory.specs.Text.{alt_line, with_number}
+use Rattle.disk_model.specs.Account.{Ending}
 use Rattle.disk_model.specs.Calls.{Counts, LastFails}
+use Rattle.disk_model.specs.declared.disk.Disk.{Ghosts}
 use Rattle.disk_model.specs.declared.disk.DiskFault.{DiskFault}
 use Rattle.disk_model.specs.declared.disk.DiskFault.TheVariants as disk
 use Rattle.entry_file.specs.Version.{version_meta}
@@ -81,6 +83,13 @@ LooksAtNothing (HasEntry key) = ⊤
 LooksAtNothing Flush = ⊤
 LooksAtNothing UpdateState = ⊤
 LooksAtNothing _ = ⊥
+
+-- every look at the disk stands before the first change: where the disk failed, it holds the same as before, or its last
+-- call was a change or a sync that failed
+abbrev pub LooksFirst : {Self : _} → Ghosts Self → Ending → Self → Self → Type 0
+LooksFirst D answer before now =
+    answer ≡ Ending.OneFailed → IsTrue D.tells
+    → (D.state now ≡ D.state before) ⊎ LastFails (D.counts now)
 
 -- a reply with bytes of a body up to the end of those of its first chunk, and that to a dump up to the end of its head
 abbrev pub reply_front : Command → Reply → Option (List ℕ)

@@ -9,14 +9,14 @@ use Rattle.cache_theory.specs.Command.{Command}
 use Rattle.cache_theory.specs.Command.Command.{Flush, Rebuild}
 use Rattle.cache_theory.specs.Machine.{Machine}
 use Rattle.disk_model.specs.Image.{Files}
-use Rattle.disk_model.specs.State.{State, standing}
+use Rattle.disk_model.specs.State.{State, settled, standing}
 use Rattle.disk_model.specs.declared.place.Place.TheVariants.{Index, Log}
+use Rattle.doom_area.specs.DoomArea.{RemovesDoomed}
 use Rattle.index_file.specs.Index.{header_size}
 use Rattle.index_journal.specs.Journal.{JournalSpells}
 use Rattle.index_map.specs.Known.{IsKnown, Known, changed}
 use Rattle.index_record.specs.declared.record.IndexRecord.{IndexRecord}
 use Rattle.index_theory.specs.Honest.{index_records}
-use Rattle.index_theory.specs.Leaves.{LeavesIndex}
 use Rattle.index_theory.specs.Scan.{scan}
 use Rattle.index_theory.specs.Start.{start_of}
 use Rattle.index_theory.specs.declared.kinds.Start.TheVariants.{Build}
@@ -81,10 +81,13 @@ pub record ClosesInUse (index : MemoryIndex) (s t : State) : Type 0 where
   pub in_use : index.update ≡ [] → HasFewChanges index.map
       → StaysInUse index.map.base index.map.records s t
 
--- once the update has ended: the index was written if that was due, with all records and this timestamp; then the
--- journal and the flag
+-- Some doomed files were removed. Once the update has ended, the index was written then if that was due, with all
+-- records and this timestamp, and after it the journal and the flag; before that all was synced, and nothing else done.
 pub record ClosesWhole (index : MemoryIndex) (now : ℕ) (s t : State) : Type 0 where
-  pub whole : index.update ≡ [] → (u : State) × (LeavesIndex s u × ClosesIndex index.map now u t)
+  pub removed : State
+  pub removes : RemovesDoomed s removed
+  pub whole : index.update ≡ [] → ClosesIndex index.map now removed t
+  pub synced : index.update ≢ [] → t ≡ settled removed
 
 -- ---- the same by the machine
 

@@ -19,6 +19,7 @@ use Rattle.disk_model.specs.Listing.{AreEntries}
 use Rattle.disk_model.specs.Sound.{IsQuiet}
 use Rattle.disk_model.specs.State.{State, standing}
 use Rattle.disk_model.specs.declared.place.Place.TheVariants.{Clear, Index, Log}
+use Rattle.doom_area.specs.DoomArea.{RemovesDoomed}
 use Rattle.entry_file.specs.EntryFile.{found}
 use Rattle.file_handles.specs.Carries.{IsShelf}
 use Rattle.file_handles.specs.Closing.{IsClosed}
@@ -28,6 +29,7 @@ use Rattle.index_theory.specs.Honest.{Honest, LeavesHonest, index_records, journ
 use Rattle.index_theory.specs.Start.{start_of}
 use Rattle.index_theory.specs.declared.kinds.Start.TheVariants.{Build, Ready}
 use Rattle.index_update.specs.Rest.{name_bytes}
+use Rattle.startup_read.specs.Opening.{opened as opened_index}
 
 -- the store and the disk stand for this machine
 pub record Represents (now : Session) (m : Machine) : Type 0 where
@@ -80,6 +82,10 @@ pub record StartsOn (now : ℕ) (s : State) (m : Machine) : Type 0 where
 abbrev pub OpensSafely : ℕ → State → State → Type 0
 OpensSafely now s t = (m : Machine) → StartsOn now s m → IsQuiet s → IsSafe t (marks_of m)
 
+-- the doomed files are removed first, and then the index is opened, with its sync; nothing else is done
+abbrev pub OpensInOrder : State → State → Type 0
+OpensInOrder s t = (u : State) × (RemovesDoomed s u × (t ≡ opened_index u))
+
 -- in each image every key is found as it was
 abbrev pub KeepsFound : State → State → Type 0
 KeepsFound s t =
@@ -110,10 +116,12 @@ pub record IsHonest (s : State) (m : Machine) : Type 0 where
   pub honest : Honest (standing s)
   pub trusted : m.rest ≡ [] → start_of (standing s) ≡ Ready
 
--- nothing is pending, the entries are those of the shelf, and no doomed file stands
+-- nothing is pending, the entries are those of the shelf, no doomed file stands, and the mark of a clearing is the
+-- machine's
 pub record IsShut (t : State) (m : Machine) : Type 0 where
   pub quiet : IsQuiet t
   pub closed : IsClosed (standing t) m
+  pub mark : standing t Clear ≡ m.mark
 
 -- whatever the history, a crash loses no more than its marks allow
 abbrev pub ClosesSafely : Session → State → Type 0

@@ -7,7 +7,7 @@ ghost use Rattle.cache_script.specs.Command.{command_of};
 ghost use Rattle.cache_store.specs.Answering.{outcome_in, left_to_say};
 ghost use Rattle.cache_store.specs.Clearing.{HasNoMark, IsClearing, LeavesResumed, LeavesUncleared, origin_cleared};
 ghost use Rattle.cache_store.specs.Evicting.{IsEviction, LeavesOthers, LooksBeforeChanges};
-ghost use Rattle.cache_store.specs.Faulting.{FailsForGood, LooksAtNothing, StaysAs};
+ghost use Rattle.cache_store.specs.Faulting.{FailsForGood, LooksAtNothing, LooksFirst, StaysAs};
 ghost use Rattle.cache_store.specs.Faults.{AccountsForSink, OnlySinkFails, ending};
 ghost use Rattle.cache_store.specs.IndexCalls.{Flushes, IsFresh, IsWritten, ReadsEntriesOf, LooksOnceAt, MakesNoCall, NeverSyncs, OnlyLooks, Rebuilds, SyncsAll, names_read};
 ghost use Rattle.cache_store.specs.InUse.{SparesIndex};
@@ -25,6 +25,7 @@ ghost use Rattle.disk_model.specs.Sound.{IsQuiet};
 ghost use Rattle.disk_model.specs.State.{standing};
 ghost use Rattle.disk_model.specs.Told.{Told};
 ghost use Rattle.disk_model.specs.declared.place.Place.TheVariants.{Clear};
+ghost use Rattle.file_handles.specs.Dooming.{TakesEntries};
 ghost use Rattle.file_handles.specs.Unsynced.{SyncsNothing};
 ghost use Rattle.index_map.specs.Known.{SameBase};
 ghost use Rattle.index_theory.specs.Honest.{LeavesHonest};
@@ -204,6 +205,10 @@ impl Store {
             (λ names. ReadsEntriesOf D.Disk names disk.old disk.new) }
         ensures looks_first { IsEviction (command_of c.now) →
             LooksBeforeChanges D.Disk (ending result) disk.old disk.new }
+        ensures takes { IsEviction (command_of c.now) →
+            Told D.Disk TakesEntries disk.old disk.new }
+        ensures resumes_first { command_of c.now ≡ Resume →
+            LooksFirst D.Disk (ending result) disk.old disk.new }
         ensures flushed { command_of c.now ≡ Flush → OnOk result
             (self.new.index.update ≡ [] → IsFresh self.new.index.map) }
         ensures rebuilt { command_of c.now ≡ Rebuild → OnOk result (IsWritten self.new.index.map) }
@@ -460,7 +465,7 @@ impl Store {
 
         // Calls and faults. Some commands make no call of the disk, and some only look at it. A command that goes by
         // the index looks at an entry for no name but those that it reads, and an eviction looks at the disk only
-        // before its first removal.
+        // before its first removal, and does nothing but take files of entries away.
         ensures idle { MakesNoCall (command_of c.now) → disk.new ≡ disk.old }
         ensures looking { OnlyLooks (command_of c.now) →
             Looks D.Disk (ending result) disk.old disk.new }
@@ -471,6 +476,10 @@ impl Store {
             (λ names. ReadsEntriesOf D.Disk names disk.old disk.new) }
         ensures looks_first { IsEviction (command_of c.now) →
             LooksBeforeChanges D.Disk (ending result) disk.old disk.new }
+        ensures takes { IsEviction (command_of c.now) →
+            Told D.Disk TakesEntries disk.old disk.new }
+        ensures resumes_first { command_of c.now ≡ Resume →
+            LooksFirst D.Disk (ending result) disk.old disk.new }
         ensures account { Accounts D.Disk (ending result) disk.old disk.new }
         ensures sink { AccountsForSink K.Sink result sink.old sink.new }
 

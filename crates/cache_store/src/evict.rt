@@ -12,6 +12,7 @@ ghost use Rattle.cache_theory.specs.Command.Command.{Evict};
 ghost use Rattle.disk_model.specs.Account.{Accounts, Ending, Looks, LooksAtNoEntry, ending as disk_ending};
 ghost use Rattle.disk_model.specs.Told.{Told};
 ghost use Rattle.file_handles.specs.Cache.{cache};
+ghost use Rattle.file_handles.specs.Dooming.{TakesEntries};
 ghost use Rattle.file_handles.specs.Kept.{kept};
 ghost use Rattle.file_handles.specs.Removing.{FailsInRemoval};
 ghost use Rattle.index_map.specs.Known.{SameBase};
@@ -27,7 +28,7 @@ use crate::store::Store;
 use cache_base::{Name, Names, NoMemory, has_name};
 use cache_io::Sink;
 use disk_model::{Disk, DiskFault};
-use evictor::victims;
+use evictor::victims_of;
 use file_handles::Handles;
 use std::alloc::Global;
 
@@ -72,6 +73,7 @@ fn remove_files<D: Disk>(
     requires told { IsTrue D.tells → HoldsFiles (cache D.Disk handles.old disk.old) names.now }
     ensures dooms { let at = cache D.Disk in IsTrue D.tells →
         DoomsAll names.now result (at handles.old disk.old) (at handles.new disk.new) }
+    ensures takes { Told D.Disk TakesEntries disk.old disk.new }
     ensures kept { kept handles.new ≡ kept handles.old }
     ensures index { Told D.Disk LeavesBeside disk.old disk.new }
     ensures account { Accounts D.Disk (disk_ending result) disk.old disk.new }
@@ -97,7 +99,7 @@ impl Store {
     {
         let records = self.index.map.unordered()?;
         let in_use = self.handles.open_names(alloc)?;
-        victims(alloc, records, &in_use, u64::from(kb))
+        victims_of(alloc, records, &in_use, u64::from(kb))
     }
 
     /// Ends the update, removes the entries that have to go by their records, so that all take at most so many KB,
@@ -121,6 +123,7 @@ impl Store {
             LeavesOthers (session D.Disk self.old disk.old) kb self.new.index.map }
         ensures base { HadEffect result → SameBase self.old.index.map self.new.index.map }
         ensures index { Told D.Disk LeavesIndex disk.old disk.new }
+        ensures takes { Told D.Disk TakesEntries disk.old disk.new }
         ensures unsynced { Told D.Disk SyncsNothing disk.old disk.new }
         ensures chunks { SameChunks (kept self.old.handles) (kept self.new.handles) }
         ensures unsaid { IsStillToSay (Evict kb) result sink.old sink.new self.new.reply }

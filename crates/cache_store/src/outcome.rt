@@ -4,7 +4,7 @@ ghost use Rattle.std.specs.Prelude.{List, ℕ, ◌≡◌, ◌≢◌, [], Err, Ok
 ghost use Rattle.cache_script.specs.Command.{command_of};
 ghost use Rattle.cache_store.specs.Clearing.{HasNoMark, IsClearing, LeavesResumed, LeavesUncleared, origin_cleared};
 ghost use Rattle.cache_store.specs.Evicting.{IsEviction, LeavesOthers, LooksBeforeChanges};
-ghost use Rattle.cache_store.specs.Faulting.{FailsForGood, LooksAtNothing};
+ghost use Rattle.cache_store.specs.Faulting.{FailsForGood, LooksAtNothing, LooksFirst};
 ghost use Rattle.cache_store.specs.Faults.{AccountsForSink, ending};
 ghost use Rattle.cache_store.specs.InUse.{SparesIndex};
 ghost use Rattle.cache_store.specs.IndexCalls.{Flushes, IsFresh, IsWritten, ReadsEntriesOf, LooksOnceAt, MakesNoCall, NeverSyncs, OnlyLooks, Rebuilds, SyncsAll, names_read};
@@ -20,6 +20,7 @@ ghost use Rattle.disk_model.specs.Sound.{IsQuiet};
 ghost use Rattle.disk_model.specs.State.{standing};
 ghost use Rattle.disk_model.specs.Told.{Told};
 ghost use Rattle.disk_model.specs.declared.place.Place.TheVariants.{Clear};
+ghost use Rattle.file_handles.specs.Dooming.{TakesEntries};
 ghost use Rattle.file_handles.specs.Unsynced.{SyncsNothing};
 ghost use Rattle.index_map.specs.Known.{SameBase};
 ghost use Rattle.index_theory.specs.Honest.{LeavesHonest};
@@ -163,8 +164,8 @@ impl Store {
 
         // Calls and faults. Some commands make no call of the disk, and some only look at it. A command that goes by
         // the index looks at an entry for no name but those that it reads, and an eviction looks at the disk only
-        // before its first removal. Where the disk failed for good, it was in a change or a sync, as the last call,
-        // or the reply is out up to its first chunk.
+        // before its first removal, and does nothing but take files of entries away. Where the disk failed for good, it
+        // was in a change or a sync, as the last call, or the reply is out up to its first chunk.
         ensures idle { MakesNoCall (command_of c.now) → disk.new ≡ disk.old }
         ensures looking { is_faulting self.new ≡ false → OnlyLooks (command_of c.now) →
             Looks D.Disk (ending result) disk.old disk.new }
@@ -177,6 +178,10 @@ impl Store {
             (λ names. ReadsEntriesOf D.Disk names disk.old disk.new) }
         ensures looks_first { is_faulting self.new ≡ false → IsEviction (command_of c.now) →
             LooksBeforeChanges D.Disk (ending result) disk.old disk.new }
+        ensures takes { IsEviction (command_of c.now) →
+            Told D.Disk TakesEntries disk.old disk.new }
+        ensures resumes_first { command_of c.now ≡ Resume →
+            LooksFirst D.Disk (ending result) disk.old disk.new }
         ensures account { is_faulting self.new ≡ false →
             Accounts D.Disk (ending result) disk.old disk.new }
         ensures sink { AccountsForSink K.Sink result sink.old sink.new }

@@ -3,6 +3,7 @@
 ghost use Rattle.std.specs.Prelude.{◌≡◌, false, IfOk, IfSome, IsSome, IsTrue, None};
 ghost use Rattle.cache_store.specs.Answering.{SaysNothing};
 ghost use Rattle.cache_store.specs.Clearing.{HasNoMark, LeavesResumed};
+ghost use Rattle.cache_store.specs.Faulting.{LooksFirst};
 ghost use Rattle.cache_store.specs.Faults.{ending};
 ghost use Rattle.cache_store.specs.IndexCalls.{ReadsEntriesOf, LooksOnceAt, names_resumed};
 ghost use Rattle.cache_store.specs.StoppedClearing.{ClearsUnderMark};
@@ -59,6 +60,7 @@ impl Store {
             ReadsEntriesOf D.Disk (names_resumed mark self.old.index.update) disk.old disk.new }
         ensures once { IsTrue D.tells → standing (D.state disk.old) Clear ≡ None →
             LooksOnceAt D.Disk Clear disk.old disk.new }
+        ensures looks_first { LooksFirst D.Disk (ending result) disk.old disk.new }
         ensures ends { self.new.faulting ≡ false }
         ensures account { Accounts D.Disk (ending result) disk.old disk.new }
     {

@@ -35,7 +35,7 @@ pub struct Store {
 impl Store {
     ghost use Rattle.cache_store.specs.Faults.{ending};
     ghost use Rattle.cache_store.specs.InUse.{ClosesInUse, ClosesWhole, OpensInUse};
-    ghost use Rattle.cache_store.specs.Open.{BeginsOn, Closes, ClosesHonestly, ClosesSafely, HasShelf, IsOpen, KeepsFound, Opens, OpensHonestly, OpensSafely};
+    ghost use Rattle.cache_store.specs.Open.{BeginsOn, Closes, ClosesHonestly, ClosesSafely, HasShelf, IsOpen, KeepsFound, Opens, OpensHonestly, OpensInOrder, OpensSafely};
     ghost use Rattle.cache_store.specs.Session.{is_faulting, open_of, session};
 
     /// Opens the cache at this moment: the files of doomed entries that an earlier run left are removed, the index is
@@ -52,6 +52,7 @@ impl Store {
             OpensInUse (D.state disk.old) (open_of store).index.map (D.state disk.new)) }
         ensures begins { IfOk result (λ store. IsTrue D.tells →
             BeginsOn (standing (D.state disk.old)) (open_of store).index.map) }
+        ensures ordered { OnOk result (Told D.Disk OpensInOrder disk.old disk.new) }
 
         // What a crash leaves, at every exit.
         ensures safe { Told D.Disk (OpensSafely now) disk.old disk.new }
@@ -97,8 +98,9 @@ impl Store {
         ensures journal { OnOk result
             (Told D.Disk (ClosesInUse (open_of self).index) disk.old disk.new) }
 
-        // The files of the index: before the update has ended they are left alone, at every exit. Afterwards the
-        // index that is written, if any, has all records and the moment of this store.
+        // The changes, in their order. Before the update has ended the files of the index are left alone, at every
+        // exit, and after the removal of doomed files all is synced. Afterwards the index that is written, if any, has
+        // all records and the moment of this store.
         ensures spares { (open_of self).index.update ≢ [] →
             Told D.Disk LeavesIndex disk.old disk.new }
         ensures whole { let was = open_of self in

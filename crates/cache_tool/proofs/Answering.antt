@@ -3,21 +3,23 @@ use Rattle.std.proofs.Common.{◌≡◌, ◌≢◌, ◌≤◌, ◌⊎◌, inl, i
 use Rattle.std.specs.Io.KnownBytes.{Appends}
 use Rattle.std.specs.Prelude.{Err, IsTrue, OnErr, OnOk, Result}
 use Rattle.cache_base.specs.Causes.{Rose}
-use Rattle.cache_store.specs.Faulting.{StaysAs}
+use Rattle.cache_store.specs.Faulting.{FailsForGood, StaysAs}
 use Rattle.cache_store.specs.Faults.{ending, fault_ending}
 use Rattle.cache_store.specs.Outcomes.{Faults, verdict_in}
 use Rattle.cache_store.specs.Performing.{PerformsFor}
 use Rattle.cache_store.specs.Said.{IsCut}
-use Rattle.cache_store.specs.Session.{session}
+use Rattle.cache_store.specs.Session.{cache_of, session}
 use Rattle.cache_store.specs.declared.fault.Outcome.{Outcome}
 use Rattle.cache_store.specs.declared.fault.StoreFault.{StoreFault}
 use Rattle.cache_store.specs.declared.fault.StoreFault.TheVariants as fault
 use Rattle.cache_store.specs.declared.fault.Verdict.{Verdict}
 use Rattle.cache_store.specs.declared.store.Store.{Store}
 use Rattle.cache_theory.specs.Command.{Command}
+use Rattle.cache_theory.specs.Command.Command.{Resume}
 use Rattle.cache_theory.specs.Faulted.{fault_line}
 use Rattle.cache_tool.specs.Staying.{StaysFor}
 use Rattle.cache_tool.specs.World.{Sitting}
+use Rattle.cache_tool.proofs.ForGood.{disk_of}
 use Rattle.disk_model.specs.Account.{Accounts, Ending}
 use Rattle.disk_model.specs.Calls.{StopsAtFault}
 use Rattle.disk_model.specs.declared.disk.Disk.{Ghosts as OfDisk}
@@ -28,6 +30,8 @@ pub record AnswersByReply (tells : Bool) (c : Command) (answer : Result Verdict 
   pub performs : IsTrue tells → PerformsFor c answer before.session now.session before.taken now.taken
   pub stays : IsTrue tells → StaysFor {T = Verdict} c answer before.session now.session
   pub rose : answer ≡ Err fault.Disk → Rose before.disk_faults now.disk_faults
+  pub kept : answer ≢ Err fault.Disk → now.disk_faults ≡ before.disk_faults
+  pub for_good : c ≢ Resume → answer ≡ Err fault.Disk → IsTrue tells → FailsForGood now.disk_counts c (cache_of before.session) before.taken now.taken
 
 -- by the line `fault`, where a look at the disk failed and all is as it was
 pub record AnswersByFault (tells : Bool) (answer : Result Verdict StoreFault) (before now : Sitting) : Type 0 where
@@ -47,9 +51,12 @@ by_flag true reply line = line refl
 by_flag false reply line = reply refl
 
 -- what is said of an outcome is said of its verdict
+disk_in : (r : Result Outcome StoreFault) → verdict_in r ≡ Err fault.Disk → r ≡ Err fault.Disk
+disk_in (Ok o) e = absurd (cc e)
+disk_in (Err f) e = let is : f ≡ fault.Disk = cc e in ap (λ x. Err x) is
+
 disk_ending : (r : Result Outcome StoreFault) → verdict_in r ≡ Err fault.Disk → ending r ≡ Ending.OneFailed
-disk_ending (Ok o) e = absurd (cc e)
-disk_ending (Err f) e = let is : f ≡ fault.Disk = cc e in ap fault_ending is
+disk_ending r e = ap ending (disk_in r e)
 
 no_disk_in : (r : Result Outcome StoreFault) → r ≢ Err fault.Disk → verdict_in r ≢ Err fault.Disk
 no_disk_in (Ok o) other e = cc
@@ -68,11 +75,21 @@ module _ {Self : _} (D : OfDisk Self) (result : Result Outcome StoreFault) (old 
   -- so the command was answered
   pub answers_next : (c : Command) → (new.faulting ≡ false → IsTrue D.tells → PerformsFor c (verdict_in result) (session D old before) (session D new now) taken later)
       → (new.faulting ≡ false → IsTrue D.tells → StaysFor {T = Verdict} c (verdict_in result) (session D old before) (session D new now))
-      → AnswersNext D.tells c (verdict_in result) (record { taken = taken; session = session D old before; disk_faults = D.faults before })
-      (record { taken = later; session = session D new now; disk_faults = D.faults now })
-  answers_next c performs stays =
+      → (c ≢ Resume → result ≡ Err fault.Disk → IsTrue D.tells → FailsForGood (D.counts now) c (cache_of (session D old before)) taken later)
+      → AnswersNext D.tells c (verdict_in result) (record { taken = taken; session = session D old before; disk_faults = D.faults before; disk_counts = D.counts before })
+      (record { taken = later; session = session D new now; disk_faults = D.faults now; disk_counts = D.counts now })
+  answers_next c performs stays fails =
       by_flag new.faulting
-      (λ calm. ((account calm).cause.later, inl (record { performs = performs calm; stays = stays calm; rose = λ e. (account calm).cause.rose (disk_ending result e) })))
+      (λ calm. (
+        (account calm).cause.later,
+        inl (record {
+          performs = performs calm;
+          stays = stays calm;
+          rose = λ e. (account calm).cause.rose (disk_ending result e);
+          kept = λ other. (account calm).cause.kept (λ failed. other (ap verdict_in (disk_of result failed)));
+          for_good = λ no_resume e told. fails no_resume (disk_in result e) told;
+        }),
+      ))
       (λ failed.
       let is = faults failed in (
         is.looked.cause.later,

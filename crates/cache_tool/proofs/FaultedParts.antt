@@ -1,7 +1,7 @@
 -- Commands of which the next one is answered `fault`, and more commands after it.
-use Rattle.std.proofs.Common.{◌≡◌, List, [], ◌∷◌, ◌++◌, length, refl, sym, ap, subst, suc, ℕ, ◌∙◌, append_assoc}
+use Rattle.std.proofs.Common.{◌≡◌, ◌≢◌, ◌<◌, ◌≤◌, ◌+◌, ◌||◌, ◌==◌, List, [], ◌∷◌, ◌++◌, cond, false, length, refl, sym, ap, subst, suc, ℕ, ◌∙◌, append_assoc, arith, length-append, ne_eqb}
 use Rattle.cache_theory.specs.Command.{Command}
-use Rattle.cache_theory.specs.Faulted.{AreFaults, fault_line, replies_but, unfaulted, with_next}
+use Rattle.cache_theory.specs.Faulted.{AreFaults, fault_line, is_faulted, replies_but, unfaulted, unfaulted_from, with_next}
 use Rattle.cache_theory.specs.Machine.{Machine}
 use Rattle.cache_theory.specs.Step.{after}
 use Rattle.cache_theory.specs.Text.{replies_text}
@@ -10,6 +10,25 @@ use Rattle.cache_theory.proofs.Faults.FaultedOn.{faults_are_in_front, next_is_nu
 pub one_longer : {X : Type 0} (ds : List X) (d : X) → suc (length ds) ≡ length (ds ++ d ∷ [])
 one_longer [] d = refl
 one_longer (e ∷ ds) d = ap suc (one_longer ds d)
+
+-- with that of the next one there is a number
+pub some_next : (p : ℕ) (faults : List ℕ) → with_next p faults ≢ []
+some_next p faults none = omega (arith, ap length none, length-append faults (suc p ∷ []))
+
+-- a number after the others does not matter before it
+same_before : (faults : List ℕ) (last n : ℕ) → n < last → is_faulted (faults ++ last ∷ []) n ≡ is_faulted faults n
+same_before [] last n before = ap (λ b. b || false) (ne_eqb last n (λ e. omega (arith, e, before)))
+same_before (f ∷ faults) last n before = ap (λ b. (f == n) || b) (same_before faults last n before)
+
+pub kept_before_from : (n : ℕ) (faults : List ℕ) (last : ℕ) (ds : List Command) → n + length ds ≤ last → unfaulted_from n (faults ++ last ∷ []) ds ≡ unfaulted_from n faults ds
+kept_before_from n faults last [] within = refl
+kept_before_from n faults last (c ∷ ds) within =
+    ap (λ b. cond b (unfaulted_from (suc n) (faults ++ last ∷ []) ds) (c ∷ unfaulted_from (suc n) (faults ++ last ∷ []) ds)) (same_before faults last n (omega (arith, within)))
+    ∙ ap (λ l. cond (is_faulted faults n) l (c ∷ l)) (kept_before_from (suc n) faults last ds (omega (arith, within)))
+
+-- nor among the first commands that of the next one
+pub kept_before : (ds : List Command) (faults : List ℕ) → unfaulted (with_next (length ds) faults) ds ≡ unfaulted faults ds
+kept_before ds faults = kept_before_from 1 faults (suc (length ds)) ds (omega arith)
 
 module _ (ds : List Command) (d : Command) (faults : List ℕ) (numbers : AreFaults (length ds) faults) where
   abbrev with_d : List ℕ

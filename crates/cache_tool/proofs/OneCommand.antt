@@ -33,11 +33,12 @@ use Rattle.cache_tool.specs.Right.{LeadTo}
 use Rattle.cache_tool.specs.Statuses.{IsAnswer, IsClosing, status_in, status_of}
 use Rattle.cache_tool.specs.Staying.{StaysOnce}
 use Rattle.cache_tool.specs.Tally.{RoseBy}
-use Rattle.cache_tool.specs.Verbs.{HasNotBegun, LeavesDisk, PrintsFault, PrintsLast, all_begun_none_acked, none_begun, none_performed}
+use Rattle.cache_tool.specs.Verbs.{HasNotBegun, LeavesDisk, PrintsFault, PrintsLast, StopsForGood, all_begun_none_acked, none_begun, none_performed}
 use Rattle.cache_tool.specs.World.{Output}
 use Rattle.cache_tool.proofs.RightLaws.{leads_begun, leads_none, leads_one, leads_still}
 use Rattle.cache_tool.proofs.SessionEnds.{ends_leave, stops_leave}
 use Rattle.disk_model.specs.Account.{Ending}
+use Rattle.disk_model.specs.Calls.{Counts, LastFails}
 use Rattle.disk_model.specs.State.{State}
 use Rattle.index_map.specs.Known.{SameBase}
 use Rattle.index_theory.specs.Honest.{LeavesHonest}
@@ -104,14 +105,14 @@ no_sink_stops answer fault.Memory ended failed no_sink is = inr is
 no_sink_stops answer fault.Disk ended failed no_sink is = inl is
 no_sink_stops answer fault.Sink ended failed no_sink is = absurd (no_sink failed)
 
-disk_failed : (f : StoreFault) (ended : Status) → ended ≡ status_in (Err f) → ended ≡ status.Disk → fault_ending f ≡ Ending.OneFailed
+pub disk_failed : (f : StoreFault) (ended : Status) → ended ≡ status_in (Err f) → ended ≡ status.Disk → fault_ending f ≡ Ending.OneFailed
 disk_failed fault.Memory ended is disk = absurd (let e : status.Memory ≡ status.Disk = sym is ∙ disk in cc)
 disk_failed fault.Disk ended is disk = refl
 disk_failed fault.Sink ended is disk = absurd (let e : status.Sink ≡ status.Disk = sym is ∙ disk in cc)
 
-pub not_begun : {moment : ℕ} {T : Type 0} (before : Output) (t : State) (faults : ℕ) (answer : Result T StoreFault) (f : StoreFault) (ended : Status) → answer ≡ Err f → answer ≢ Err fault.Sink → ended ≡ status_in (Err f)
+pub not_begun : {moment : ℕ} {counts : Counts} {T : Type 0} (before : Output) (t : State) (faults : ℕ) (answer : Result T StoreFault) (f : StoreFault) (ended : Status) → answer ≡ Err f → answer ≢ Err fault.Sink → ended ≡ status_in (Err f)
     → (ending answer ≡ Ending.OneFailed → Rose before.disk_faults faults) → FailsToBegin moment before.disk t
-    → (m : Machine) → StartsOn moment before.disk m → HasNotBegun m ended before (record before { disk = t; disk_faults = faults })
+    → (m : Machine) → StartsOn moment before.disk m → HasNotBegun m ended before (record before { disk = t; disk_faults = faults; disk_counts = counts })
 not_begun before t faults answer f ended failed no_sink same rose fails m is =
     let stop : IsStop ended = no_sink_stops answer f ended failed no_sink same in
     record {
@@ -158,8 +159,9 @@ module _ {moment : ℕ} (before now : Output) (mid last : Session) (begins : Beg
     led_leaves leads = ends_leave before.disk mid begins m is last now.disk ended ends (c ∷ []) (begun c at).marks (unanswered c at) leads refl (λ x safe. safe)
 
     -- and one whose command failed
-    stopped : IsStop ended → IsSafe now.disk (begun c at).marks → LeavesHonest now.disk → IsPart before.taken now.taken (reply_text (step at.machine c).reply) → PrintsLast m (begins.resumed m is).done (c ∷ []) ended before now
-    stopped stop safe kept part = record {
+    stopped : IsStop ended → (ended ≡ status.Disk → StopsForGood at.machine (c ∷ []) before now) → IsSafe now.disk (begun c at).marks → LeavesHonest now.disk → IsPart before.taken now.taken (reply_text (step at.machine c).reply)
+        → PrintsLast m (begins.resumed m is).done (c ∷ []) ended before now
+    stopped stop good safe kept part = record {
       answer = λ is. absurd (stop_is_no_answer ended stop is);
       text = record {
         printed = λ is. absurd (stop_is_no_answer ended stop is);
@@ -167,17 +169,19 @@ module _ {moment : ℕ} (before now : Output) (mid last : Session) (begins : Beg
         cut = λ is. absurd (stop_is_no_sink ended stop is);
       };
       silent = λ is. absurd (stop_is_no_source ended stop is);
+      for_good = good;
       leaves = stops_leave m (all_begun_none_acked m (begins.resumed m is).done (c ∷ [])) ended before.disk now.disk (stop_closes_not ended stop) (λ quiet. safe) (λ quiet honest. kept);
     }
 
     -- it had its effect, and the session was ended so, or failed in its closing
-    ended_so : (ended ≡ status_of (outcome_of (step at.machine c).reply)) ⊎ ((ended ≡ status.Sink) ⊎ IsStop ended) → LeadTo (c ∷ []) mid at.machine last (unanswered c at)
+    ended_so : (ended ≡ status.Disk → LastFails now.disk_counts) → (ended ≡ status_of (outcome_of (step at.machine c).reply)) ⊎ ((ended ≡ status.Sink) ⊎ IsStop ended) → LeadTo (c ∷ []) mid at.machine last (unanswered c at)
         → IsPart before.taken now.taken (reply_text (step at.machine c).reply) → (IsAnswer ended → Appends before.taken now.taken (reply_text (step at.machine c).reply))
         → (ended ≡ status.Sink → IsCut before.taken now.taken (reply_text (step at.machine c).reply)) → PrintsLast m (begins.resumed m is).done (c ∷ []) ended before now
-    ended_so so leads part printed cut = record {
+    ended_so last so leads part printed cut = record {
       answer = λ answer. answered_so so answer;
       text = record { printed = printed; part = part; cut = cut };
       silent = λ source. absurd (never_source so source);
+      for_good = λ disk. inl (last disk);
       leaves = led_leaves leads;
     }
       where
@@ -196,10 +200,11 @@ module _ {moment : ℕ} (before now : Output) (mid last : Session) (begins : Beg
         → Performs c (step m (begins.resumed m is).done).next answer mid last before.taken now.taken → KeepsHistory c (acked (begins.resumed m is).done (settled_at m)) answer last
         → (HadEffect answer → StaysOnce c mid (step m (begins.resumed m is).done).next last) → LeavesHonest last.disk
         → CameBy answer came → (ended ≡ status_in came) ⊎ IsStop ended → ((IsClosing (status_in came) → ⊥) → (ended ≡ status_in came) × (now.disk ≡ last.disk))
+        → (IsClosing (status_in came) → ended ≡ status.Disk → LastFails now.disk_counts) → (answer ≡ Err fault.Disk → StopsForGood at.machine (c ∷ []) before now)
         → PrintsLast m (begins.resumed m is).done (c ∷ []) ended before now
-    performed_prints (Ok o) came spoken performs keeps stays kept by same dropped =
+    performed_prints (Ok o) came spoken performs keeps stays kept by same dropped closed good =
         let acked_leads = leads_one c mid at.machine last (acked c at) keeps.next (performs.tells tt) (stays tt) in
-        ended_so (ok_ends same) (leads_begun c at mid last (begins.resumed m is).leads.keeps keeps.safe acked_leads)
+        ended_so (closed (outcome_closes o (status_in came) (came_ok o came by))) (ok_ends same) (leads_begun c at mid last (begins.resumed m is).leads.keeps keeps.safe acked_leads)
         (all_part before.taken now.taken (reply_text (step at.machine c).reply) performs.printed) (λ answer. performs.printed) (λ sink. absurd (no_sink same sink))
       where
         as_outcome : ended ≡ status_in came → ended ≡ status_of o
@@ -212,8 +217,8 @@ module _ {moment : ℕ} (before now : Output) (mid last : Session) (begins : Beg
         no_sink : (ended ≡ status_in came) ⊎ IsStop ended → ended ≡ status.Sink → ⊥
         no_sink (inl same) sink = sink_is_no_answer ended sink (outcome_is_answer o ended (as_outcome same))
         no_sink (inr stop) sink = stop_is_no_sink ended stop sink
-    performed_prints (Err fault.Sink) came spoken performs keeps stays kept by same dropped =
-        ended_so (inr (sink_ends same)) (leads_one c mid at.machine last (unanswered c at) (keeps.unanswered refl) (performs.tells refl) (stays refl))
+    performed_prints (Err fault.Sink) came spoken performs keeps stays kept by same dropped closed good =
+        ended_so (closed (subst (λ x. IsClosing (status_in x)) (sym by) tt)) (inr (sink_ends same)) (leads_one c mid at.machine last (unanswered c at) (keeps.unanswered refl) (performs.tells refl) (stays refl))
         (cut_part before.taken now.taken (reply_text (step at.machine c).reply) (performs.cut (step_spoken at.machine c spoken))) (λ answer. absurd (no_answer_then (sink_ends same) answer)) (λ sink. performs.cut (step_spoken at.machine c spoken))
       where
         sink_ends : (ended ≡ status_in came) ⊎ IsStop ended → (ended ≡ status.Sink) ⊎ IsStop ended
@@ -223,13 +228,13 @@ module _ {moment : ℕ} (before now : Output) (mid last : Session) (begins : Beg
         no_answer_then : (ended ≡ status.Sink) ⊎ IsStop ended → IsAnswer ended → ⊥
         no_answer_then (inl sink) answer = sink_is_no_answer ended sink answer
         no_answer_then (inr stop) answer = stop_is_no_answer ended stop answer
-    performed_prints (Err fault.Disk) came spoken performs keeps stays kept by same dropped =
+    performed_prints (Err fault.Disk) came spoken performs keeps stays kept by same dropped closed good =
         let left = dropped (λ closing. subst (λ x. IsClosing (status_in x)) by closing) in
-        stopped (inl (left.0 ∙ ap status_in by)) (subst (λ x. IsSafe x (begun c at).marks) (sym left.1) keeps.safe) (subst LeavesHonest (sym left.1) kept)
+        stopped (inl (left.0 ∙ ap status_in by)) (λ disk. good refl) (subst (λ x. IsSafe x (begun c at).marks) (sym left.1) keeps.safe) (subst LeavesHonest (sym left.1) kept)
         (cut_part before.taken now.taken (reply_text (step at.machine c).reply) (performs.cut (step_spoken at.machine c spoken)))
-    performed_prints (Err fault.Memory) came spoken performs keeps stays kept by same dropped =
+    performed_prints (Err fault.Memory) came spoken performs keeps stays kept by same dropped closed good =
         let left = dropped (λ closing. subst (λ x. IsClosing (status_in x)) by closing) in
-        stopped (inr (left.0 ∙ ap status_in by)) (subst (λ x. IsSafe x (begun c at).marks) (sym left.1) keeps.safe) (subst LeavesHonest (sym left.1) kept)
+        stopped (inr (left.0 ∙ ap status_in by)) (λ disk. absurd (let both : status.Memory ≡ status.Disk = sym (left.0 ∙ ap status_in by) ∙ disk in cc)) (subst (λ x. IsSafe x (begun c at).marks) (sym left.1) keeps.safe) (subst LeavesHonest (sym left.1) kept)
         (cut_part before.taken now.taken (reply_text (step at.machine c).reply) (performs.cut (step_spoken at.machine c spoken)))
 
   -- ---- a look at the disk failed
@@ -243,11 +248,13 @@ module _ {moment : ℕ} (before now : Output) (mid last : Session) (begins : Beg
 
     -- the line was printed, or a part of it, and all stayed as it was
     pub faulted_prints : EndsSession ended last now.disk → IsStop ended → Rose before.disk_faults now.disk_faults → IsPart before.taken now.taken fault_line
+        → (ended ≡ status.Disk → Appends before.taken now.taken fault_line ⊎ Rose before.sink_faults now.sink_faults)
         → (ended ≡ status.Disk → EndsSession status.No last now.disk ⊎ RoseBy 2 before.disk_faults now.disk_faults) → PrintsFault m (begins.resumed m is).done ended before now
-    faulted_prints ends stop rose part closed = record {
+    faulted_prints ends stop rose part said closed = record {
       failed = stop;
       rose = rose;
       part = part;
+      said = said;
       leaves = fault_leaves ended ends;
       closed = λ disk. ⊎_elim (λ shut. inl (fault_leaves status.No shut)) (λ more. inr more) (closed disk);
     }

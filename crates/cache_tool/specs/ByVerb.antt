@@ -89,8 +89,8 @@ IsStatusOf (Some (Asked.Fill moment count first)) ended =
 IsStatusOf (Some (Asked.Load moment)) ended = ended ≢ status.No
 IsStatusOf None ended = Unit {0}
 
--- what a run that the disk did not end had of it: no call failed, or in a `run`, whose looks may fail, no change and
--- no sync
+-- for a run that did not end in a failure of the disk: no call of the disk failed; for `run`, whose looks may fail, no
+-- change and no sync
 abbrev pub WentOn : Option Asked → (no_call no_change : Type 0) → Type 0
 WentOn (Some (Asked.Run moment)) no_call no_change = no_change
 WentOn (Some _) no_call no_change = no_call

@@ -11,11 +11,14 @@ pub mod FirstLine
 pub mod HeldReply
 pub mod Load
 pub mod LoadProgress
+pub mod LoadTells
 pub mod Pieces
+pub mod PlainRun
 pub mod Put
 pub mod PutProgress
 pub mod Replies
 pub mod Right
+pub mod SameAsScript
 pub mod Script
 pub mod ScriptProgress
 pub mod Statuses

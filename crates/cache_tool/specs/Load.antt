@@ -105,18 +105,27 @@ loaded_line n = with_number (codes "loaded") n
 abbrev pub bad_dump_line : ℕ → List ℕ
 bad_dump_line n = line (codes "bad" ∷ codes "dump" ∷ decimal n ∷ [])
 
--- so many items were loaded, or the one after so many is bad
-abbrev pub IsLoadLine : ℕ → List ℕ → Type 0
-IsLoadLine n text = (text ≡ loaded_line n) ⊎ (text ≡ bad_dump_line (suc n))
+-- the line tells what the bytes are, which begin with this
+pub data IsLoadLine (bytes : List ℕ) (l : Loaded) (read : BeginsLoaded bytes l) (text : List ℕ)
+    : Type 0 where
+  -- they are a dump of these items, and all of it was loaded
+  TellsDump : text ≡ loaded_line (length l.items) → IsDump bytes l.items → l.begun ≡ None
+      → IsLoadLine bytes l read text
+  -- they are none, and the item after these is bad
+  TellsBad : text ≡ bad_dump_line (suc (length l.items)) → IsNoDump bytes → IsBadBehind read
+      → IsLoadLine bytes l read text
 
--- the line is printed, or it is cut, or nothing is
-pub record PrintsLoadLine (n : ℕ) (ended : Status) (before now : Option (List ℕ)) : Type 0 where
-  pub text : List ℕ
-  pub is_line : IsLoadLine n text
-  pub part : IsPart before now text
-  pub done : ended ≡ status.Done → Appends before now (loaded_line n)
-  pub bad : ended ≡ status.Script → Appends before now (bad_dump_line (suc n))
-  pub cut : ended ≡ status.Sink → IsCut before now text
+-- the line is printed, or it is cut, or nothing is: with no status does any of a line go out that is not so
+pub record PrintsLoadLine (bytes : List ℕ) (l : Loaded) (read : BeginsLoaded bytes l)
+    (ended : Status)
+    (before now : Option (List ℕ)) : Type 0 where
+  pub part : Keeps before now
+      ⊎ ((text : List ℕ) × (IsLoadLine bytes l read text × IsPart before now text))
+  pub done : ended ≡ status.Done → Appends before now (loaded_line (length l.items))
+  pub bad : ended ≡ status.Script → Appends before now (bad_dump_line (suc (length l.items)))
+  -- where the sink failed all of the dump was loaded, or all before the bad item
+  pub cut : ended ≡ status.Sink
+      → (text : List ℕ) × (IsLoadLine bytes l read text × IsCut before now text)
   pub silent : (ended ≡ status.Source) ⊎ (ended ≡ status.Disk) → Keeps before now
 
 -- ---- the verb
@@ -141,7 +150,7 @@ pub record PrintsLoaded (m : Machine) (d : Command) (bytes : List ℕ) (ended : 
   -- each item's version is found then, and each key of another name as before, once the entries stand
   pub stocked : IsStocked (step m d).next loaded.items
   pub found : FindsStock (step m d).next.shelf loaded.items
-  pub prints : PrintsLoadLine (length loaded.items) ended before.taken now.taken
+  pub prints : PrintsLoadLine bytes loaded read ended before.taken now.taken
   pub leaves : LeavesDisk m
       (all_begun_none_acked m d (loaded_commands loaded)) ended before.disk now.disk
 

@@ -1,17 +1,18 @@
 -- How far a `put` came.
 use Rattle.std.specs.Io.KnownBytes.{Consumes}
-use Rattle.std.specs.Prelude.{Err, IfOk, IsSome, List, Ok, OnOk, Option, Result, Some, [], false, length, true, ℕ, ⊤, ◌+◌, ◌++◌, ◌<◌, ◌≡◌, ◌∷◌, ◌⊎◌}
+use Rattle.std.specs.Prelude.{Err, IfOk, IsSome, List, None, Ok, OnOk, Option, Result, Some, [], false, length, true, ℕ, ⊤, ◌+◌, ◌++◌, ◌<◌, ◌≡◌, ◌∷◌, ◌⊎◌}
 use Rattle.cache_base.specs.declared.limits.TheConstants.{BODY_MAX}
 use Rattle.cache_base.specs.declared.status.Status.{Status}
 use Rattle.cache_base.specs.declared.status.Status.TheVariants as status
 use Rattle.cache_store.specs.Answering.{outcome_of}
 use Rattle.cache_store.specs.DoneFor.{DoneFor}
+use Rattle.cache_store.specs.Faulting.{reply_front}
 use Rattle.cache_store.specs.Open.{KeepsTo, Tells}
 use Rattle.cache_store.specs.Session.{Session}
 use Rattle.cache_store.specs.declared.fault.Verdict.{Verdict}
 use Rattle.cache_store.specs.declared.fault.Verdict.TheVariants as outcome
 use Rattle.cache_store.specs.declared.fault.StoreFault.{StoreFault}
-use Rattle.cache_theory.specs.Command.{Command}
+use Rattle.cache_theory.specs.Command.{Command, Reply}
 use Rattle.cache_theory.specs.Command.Command.{Append}
 use Rattle.cache_theory.specs.Crash.{IsSafe}
 use Rattle.cache_theory.specs.History.{History, acked, begun}
@@ -24,6 +25,10 @@ use Rattle.cache_tool.specs.Replies.{is_done, last_reply, until_refused}
 use Rattle.cache_tool.specs.Right.{LeadTo}
 use Rattle.cache_tool.specs.Statuses.{IsAnswer, IsClosing, status_in, status_of}
 use Rattle.cache_tool.specs.World.{Supply}
+
+-- the reply to the command has no bytes of a body
+abbrev pub HasNoFront : Command → Type 0
+HasNoFront c = (r : Reply) → reply_front c r ≡ None
 
 -- One command, whose reply is held.
 

@@ -24,10 +24,11 @@ use Rattle.cache_tool.specs.Right.{LeadTo}
 use Rattle.cache_tool.specs.Script.{AreTaken, performed}
 use Rattle.cache_tool.specs.Statuses.{IsClosing, status_in}
 use Rattle.cache_tool.specs.Tally.{RoseBy}
-use Rattle.cache_tool.specs.Verbs.{CountsFaults, Reach, TellsReplies}
+use Rattle.cache_tool.specs.Verbs.{CountsFaults, Reach, SendsNextFront, TellsReplies}
 use Rattle.cache_tool.specs.World.{Progress}
 use Rattle.cache_tool.specs.declared.script.Ended.{Ended}
 use Rattle.cache_tool.specs.declared.script.Ended.TheVariants as ended
+use Rattle.disk_model.specs.Calls.{LastFails}
 use Rattle.disk_model.specs.State.{State}
 
 -- these commands were read from a source, and after them these bytes
@@ -74,6 +75,10 @@ pub record AreCounted (p : ℕ) (faults : List ℕ) (before now : Progress) : Ty
   pub numbers : AreFaults p faults
   pub counted : RoseBy (length faults) before.disk_faults now.disk_faults
 
+-- where no answer is `fault` the disk did not fail
+abbrev pub TellsOfFaults : List ℕ → Progress → Progress → Type 0
+TellsOfFaults faults before now = faults ≡ [] → now.disk_faults ≡ before.disk_faults
+
 -- One command more was begun, and failed: a part of its reply went out.
 pub record IsCutIn (cs : List Command) (faults : List ℕ) (c : Command) (m : Machine)
     (before now : Progress)
@@ -91,6 +96,9 @@ pub record IsCutOff (cs : List Command) (faults : List ℕ) (c : Command) (f : S
   pub cut : IsCutIn cs faults c h.machine before now
   pub effect : f ≡ fault.Sink → LeadTo (unfaulted faults cs ++ c ∷ []) before.session h.machine
       now.session (unanswered c (all_answered (unfaulted faults cs) h))
+  -- whatever commands come after it
+  pub for_good : (more : List Command) → f ≡ fault.Disk → LastFails now.disk_counts
+      ⊎ SendsNextFront h.machine (cs ++ c ∷ more) (length cs) faults before.taken now.taken
 
 -- of what is done for some commands
 pub record SomeCutOff (cs : List Command) (faults : List ℕ) (c : Command) (f : StoreFault)
@@ -132,6 +140,7 @@ pub record HasPerformed (tells : Bool) (r : Reader) (before now : Progress) : Ty
   pub used : used_in r ≡ length (script_bytes commands)
   pub faults : List ℕ
   pub counts : AreCounted (length commands) faults before now
+  pub calm : TellsOfFaults faults before now
   pub performs : IsTrue tells → PerformsAll commands faults before now
 
 -- what the source has, by how the commands ended
@@ -148,12 +157,20 @@ pub record PerformsToEnd (tells : Bool) (e : Ended) (before now : Progress) : Ty
   pub ends : EndsScript e before.source.left now.source.left commands
   pub faults : List ℕ
   pub counts : AreCounted (length commands) faults before now
+  pub calm : TellsOfFaults faults before now
   pub performs : IsTrue tells → PerformsAll commands faults before now
 
 -- the disk failed once more than there are answers `fault`, but did not fail for good
 pub record FailsInLine (f : StoreFault) (faults : List ℕ) (before now : Progress) : Type 0 where
   pub no_disk : f ≢ fault.Disk
   pub rose : RoseBy (suc (length faults)) before.disk_faults now.disk_faults
+
+-- A command failed in its reply: this is what it left, and where the disk did not end it, it did not fail in it.
+pub record FailsInReply (tells : Bool) (cs : List Command) (faults : List ℕ) (c : Command)
+    (f : StoreFault) (before now : Progress)
+    : Type 0 where
+  pub calm : f ≢ fault.Disk → TellsOfFaults faults before now
+  pub each : IsTrue tells → FailsAfter cs faults c f before now
 
 -- a command failed after those that were performed, or the line `fault` that was its answer did
 pub record FailsMidway (tells : Bool) (f : StoreFault) (before now : Progress) : Type 0 where
@@ -164,7 +181,7 @@ pub record FailsMidway (tells : Bool) (f : StoreFault) (before now : Progress) :
   pub faults : List ℕ
   pub counts : AreCounted (length commands) faults before now
   pub disk : f ≡ fault.Disk → RoseBy (suc (length faults)) before.disk_faults now.disk_faults
-  pub fails : (IsTrue tells → FailsAfter commands faults last f before now)
+  pub fails : FailsInReply tells commands faults last f before now
       ⊎ (FailsInLine f faults before now × (IsTrue tells → FaultsAfter commands faults before now))
 
 -- how the loop over the commands ended: all were performed, or one failed
@@ -218,10 +235,10 @@ marks_on h cs faults a b =
     (all_acked h.machine (take kept begun) h.marks)
 
 -- what was done for a script that ended so, and the marks of the commands that were acknowledged or begun
-abbrev pub one_begun_on : History → (acked : ℕ) (faults with_last : List ℕ) → Status → List Command → Reach
-one_begun_on h acked faults with_last ended cs = record {
+abbrev pub one_begun_on : History → (acked : ℕ) (with_last : List ℕ) → Status → List Command → Reach
+one_begun_on h acked with_last ended cs = record {
   done = unfaulted with_last (take (performed ended acked (length cs)) cs);
-  marks = marks_on h cs faults acked (min (acked + 1) (length cs));
+  marks = marks_on h cs with_last acked (min (acked + 1) (length cs));
 }
 
 -- For a history: these commands of the bytes were run, with these replies and this effect.
@@ -234,8 +251,10 @@ pub record ScriptIsRun (h : History) (bytes : List ℕ) (cs : List Command) (end
   pub counts : CountsFaults ended acked faults with_last before.disk_faults now.disk_faults
   pub is_done : DoneForKept before.session h.machine cs done with_last
   pub tells : TellsAcked h.machine bytes cs done ended acked faults with_last before now
+  pub for_good : ended ≡ status.Disk → LastFails now.disk_counts
+      ⊎ SendsNextFront h.machine done acked faults before.taken now.taken
   pub leaves : LeavesScript h.machine
-      (one_begun_on h acked faults with_last ended done) ended before.session now.session
+      (one_begun_on h acked with_last ended done) ended before.session now.session
 
 -- whatever history the disk kept to
 pub record PerformsScript (came : Result Status StoreFault) (before now : Progress) : Type 0 where

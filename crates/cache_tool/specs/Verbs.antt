@@ -1,10 +1,11 @@
 -- What the verbs come to, for every machine at an opening on what stands.
 use Rattle.std.specs.Io.KnownBytes.{Appends, Keeps}
-use Rattle.std.specs.Prelude.{IfSome, IsSome, List, Option, [], length, min, suc, take, ℕ, ◌+◌, ◌++◌, ◌∷◌, ◌≡◌, ◌≢◌, ◌⊎◌}
+use Rattle.std.specs.Prelude.{IfSome, IsSome, List, Option, Some, [], length, min, slice_get, suc, take, ℕ, ◌+◌, ◌++◌, ◌∷◌, ◌≡◌, ◌≢◌, ◌⊎◌}
 use Rattle.cache_base.specs.Causes.{Rose}
 use Rattle.cache_base.specs.declared.status.Status.{Status}
 use Rattle.cache_base.specs.declared.status.Status.TheVariants as status
 use Rattle.cache_store.specs.Answering.{outcome_of}
+use Rattle.cache_store.specs.Faulting.{SendsReplyFront}
 use Rattle.cache_store.specs.InUse.{HasShortJournal, StaysInUse}
 use Rattle.cache_store.specs.Open.{IsHonest, IsShut, StartsOn}
 use Rattle.cache_store.specs.Said.{IsCut}
@@ -28,6 +29,7 @@ use Rattle.cache_tool.specs.Statuses.{IsAnswer, IsClosing, status_of}
 use Rattle.cache_tool.specs.Staying.{EndsInUse, KeepsPast, StaysOverAll}
 use Rattle.cache_tool.specs.Tally.{RoseBy}
 use Rattle.cache_tool.specs.World.{Output, World, output_of}
+use Rattle.disk_model.specs.Calls.{LastFails}
 use Rattle.disk_model.specs.Sound.{IsQuiet}
 use Rattle.disk_model.specs.State.{State, standing}
 use Rattle.disk_model.specs.declared.place.Place.TheVariants.{Index}
@@ -68,12 +70,12 @@ marks_behind m d cs faults a b =
     marks_between m (d ∷ begun) (suc (length (unfaulted faults (take a cs)))) (suc (length begun))
 
 -- it, and then these one by one, each with an answer of its own: so many are acknowledged, and one more may have begun.
--- Those with these numbers are answered `fault`, and maybe the next one is, too.
+-- Those with these numbers are answered `fault`, or the last of them was to be: they have not begun.
 abbrev pub one_begun_after :
-    Machine → Command → (acked : ℕ) (faults with_last : List ℕ) → Status → List Command → Reach
-one_begun_after m d acked faults with_last ended cs = record {
+    Machine → Command → (acked : ℕ) (with_last : List ℕ) → Status → List Command → Reach
+one_begun_after m d acked with_last ended cs = record {
   done = d ∷ unfaulted with_last (take (performed ended acked (length cs)) cs);
-  marks = marks_behind m d cs faults acked (min (acked + 1) (length cs));
+  marks = marks_behind m d cs with_last acked (min (acked + 1) (length cs));
 }
 
 -- what a session over these commands leaves of an index that could be read, where it held s and holds t
@@ -88,7 +90,8 @@ pub record KeepsIndex (m : Machine) (cs : List Command) (s t : State) : Type 0 w
 
 -- what they leave on a disk that held s and holds t
 pub record LeavesDisk (m : Machine) (r : Reach) (ended : Status) (s t : State) : Type 0 where
-  -- where the store was closed nothing is pending, no doomed file stands, and the entries are those of the machine
+  -- where the store was closed nothing is pending, no doomed file stands, and the entries are those of the machine, as
+  -- is the mark of a clearing: there is none
   pub shut : IsClosing ended → IsShut t (after m r.done)
   -- then the directory is honest where it was so, or all entries were read anew, and where the update has ended its
   -- index is trusted
@@ -118,6 +121,13 @@ pub record HasNotBegun (m : Machine) (ended : Status) (before now : Output) : Ty
       ⊎ DoneAtOpening before.disk m
       (λ d. LeavesDisk m (none_performed m d) ended before.disk now.disk)
 
+-- the disk failed for good: its last call was a change or a sync that failed; or these are one command, and its reply is
+-- out up to the end of a first chunk
+abbrev pub StopsForGood : Machine → List Command → Output → Output → Type 0
+StopsForGood m (c ∷ []) before now =
+    LastFails now.disk_counts ⊎ SendsReplyFront c m before.taken now.taken
+StopsForGood m cs before now = LastFails now.disk_counts
+
 -- It began, and this was done for `Resume`. Then these commands were performed for words other than `run`, and the last
 -- reply is what is printed. None of them is acknowledged, and all may have begun.
 pub record PrintsLast (m : Machine) (d : Command) (cs : List Command) (ended : Status)
@@ -128,15 +138,19 @@ pub record PrintsLast (m : Machine) (d : Command) (cs : List Command) (ended : S
   -- what is printed is its text
   pub text : PrintsText (reply_text (last_reply (step m d).next cs)) ended before now
   pub silent : ended ≡ status.Source → Keeps before.taken now.taken
+  -- a look that failed before anything of a reply was out does not end it so
+  pub for_good : ended ≡ status.Disk → StopsForGood (step m d).next cs before now
   pub leaves : LeavesDisk m (all_begun_none_acked m d cs) ended before.disk now.disk
 
 -- It began so, and then a look at the disk failed before anything of the reply was said: the line that tells it is
--- printed, or a part of it, and no command was performed.
+-- printed, or a part of it where the sink failed or memory ran out, and no command was performed.
 pub record PrintsFault (m : Machine) (d : Command) (ended : Status) (before now : Output)
     : Type 0 where
   pub failed : (ended ≡ status.Disk) ⊎ (ended ≡ status.Memory)
   pub rose : Rose before.disk_faults now.disk_faults
   pub part : IsPart before.taken now.taken fault_line
+  pub said : ended ≡ status.Disk → Appends before.taken now.taken fault_line
+      ⊎ Rose before.sink_faults now.sink_faults
   pub leaves : LeavesDisk m (none_performed m d) ended before.disk now.disk
   -- the store was closed, unless the disk failed once more or memory ran out
   pub closed : ended ≡ status.Disk
@@ -190,6 +204,16 @@ pub record TellsReplies (m : Machine) (bytes : List ℕ) (cs done : List Command
   -- with a source that failed the answers to the commands that it gave whole
   pub source : ended ≡ status.Source → out ≡ replies_but m (take acked done) faults
 
+-- the first commands are answered, and of the reply to the next one all is out up to the end of a first chunk
+pub record SendsNextFront (m : Machine) (done : List Command) (acked : ℕ) (faults : List ℕ)
+    (before now : Option (List ℕ))
+    : Type 0 where
+  pub next : Command
+  pub is_next : slice_get done acked ≡ Some next
+  pub mid : Option (List ℕ)
+  pub answers : Appends before mid (replies_but m (take acked done) faults)
+  pub front : SendsReplyFront next (after m (unfaulted faults (take acked done))) mid now
+
 -- the numbers of the commands that are answered `fault`, by how often the disk failed: so often at least, and once more
 -- where the line was cut, or where the disk failed for good
 pub record CountsFaults (ended : Status) (acked : ℕ) (faults with_last : List ℕ) (before now : ℕ)
@@ -199,10 +223,12 @@ pub record CountsFaults (ended : Status) (acked : ℕ) (faults with_last : List 
   pub last : (with_last ≡ faults)
       ⊎ ((with_last ≡ with_next acked faults) × RoseBy (suc (length faults)) before now)
   pub disk : ended ≡ status.Disk → RoseBy (suc (length faults)) before now
+  -- and where none was to be answered so, and the disk did not end the run, it did not fail
+  pub calm : with_last ≡ [] → ended ≢ status.Disk → now ≡ before
 
 -- These are the commands of a script, and what was done for them after what was done for `Resume`: some are
 -- acknowledged, and one more may have begun. A command that is answered `fault` is left out, as if it had not been
--- there.
+-- there; and so is the next one, where it was to be answered so. All others are done for those of the script.
 pub record PrintsReplies (m : Machine) (d : Command) (bytes : List ℕ) (cs : List Command)
     (ended : Status)
     (before now : World) : Type 0 where
@@ -222,8 +248,11 @@ pub record PrintsReplies (m : Machine) (d : Command) (bytes : List ℕ) (cs : Li
   -- a source that failed gave these commands whole
   pub source : ended ≡ status.Source
       → AreTaken before.source.left now.source.left (take acked cs)
+  -- a look that failed before anything of a reply was out does not end it
+  pub for_good : ended ≡ status.Disk → LastFails now.disk_counts
+      ⊎ SendsNextFront (step m d).next done acked faults before.taken now.taken
   pub leaves : LeavesDisk m
-      (one_begun_after m d acked faults with_last ended done) ended before.disk now.disk
+      (one_begun_after m d acked with_last ended done) ended before.disk now.disk
 
 -- `run`, of a source that tells its bytes: the commands that these spell are performed; or the run did not begin, and
 -- nothing of them was read

@@ -11,14 +11,15 @@ ghost use Rattle.cache_store.specs.Open.{IsOpen, LeavesOpen};
 ghost use Rattle.cache_store.specs.Printed.{HasBadKey, Prints, PrintsOk, PrintsRefusal};
 ghost use Rattle.cache_store.specs.Saying.{TakesMore};
 ghost use Rattle.cache_store.specs.Session.{is_faulting, open_of, session};
+ghost use Rattle.cache_theory.specs.Command.Command.{Resume};
 ghost use Rattle.cache_theory.specs.Given.{IsGiven};
 ghost use Rattle.cache_tool.specs.AnyDisk.{IsRefusalLine, TakesAtMost, ok_line};
 ghost use Rattle.cache_tool.specs.HeldReply.{said_in};
-ghost use Rattle.cache_tool.specs.PutProgress.{AppendsBody, AppendsPiece, PerformsPut, SendsCommand};
+ghost use Rattle.cache_tool.specs.PutProgress.{AppendsBody, AppendsPiece, HasNoFront, PerformsPut, SendsCommand};
 ghost use Rattle.cache_tool.specs.Statuses.{IsAnswer, IsClosing};
 ghost use Rattle.cache_tool.specs.Verbs.{StoresEntry};
 ghost use Rattle.cache_tool.specs.World.{supply, world};
-ghost use Rattle.disk_model.specs.Account.{Accounts, Ending, Looks};
+ghost use Rattle.disk_model.specs.Account.{Accounts, Ending, FailsInChange, Looks};
 ghost use Rattle.disk_model.specs.Calls.{StopsAtFault};
 ghost use Rattle.disk_model.specs.Sound.{IsQuiet};
 ghost use Rattle.entry_key.specs.Writing.{may_write};
@@ -66,6 +67,8 @@ pub(crate) fn send<D: Disk>(
     ensures same_base { is_faulting store.new ≡ true
         → SameBase (open_of store.old).index.map (open_of store.new).index.map }
     ensures bare { LooksAtNothing (command_of c.now) → is_faulting store.new ≡ false }
+    ensures change { is_faulting store.new ≡ false → HasNoFront (command_of c.now) →
+        command_of c.now ≢ Resume → FailsInChange D.Disk (ending result) disk.new }
 {
     said.clear();
     store.attempt(alloc, disk, c, said)
@@ -92,6 +95,8 @@ fn append_piece<D: Disk>(
     ensures no_sink { result ≢ Err StoreFault.Sink }
     ensures account { Accounts D.Disk (ending result) disk.old disk.new }
     ensures bare { is_faulting store.old ≡ false → is_faulting store.new ≡ false }
+    ensures change { is_faulting store.old ≡ false →
+        FailsInChange D.Disk (ending result) disk.new }
 {
     if piece.is_empty() {
         return Ok(Verdict::Ok);
@@ -140,6 +145,8 @@ fn append_all<D: Disk, S: Source>(
     ensures no_sink { result ≢ Err StoreFault.Sink }
     ensures account { Accounts D.Disk (ending result) disk.old disk.new }
     ensures bare { is_faulting store.old ≡ false → is_faulting store.new ≡ false }
+    ensures change { is_faulting store.old ≡ false →
+        FailsInChange D.Disk (ending result) disk.new }
 {
     let mut room = BODY_MAX;
     'pieces: loop {
@@ -166,6 +173,7 @@ fn perform_put<D: Disk, S: Source>(
     said: &mut LastReply,
     disk: &mut D,
 ) -> Result<Status, StoreFault>
+    requires calm { is_faulting store.old ≡ false }
     requires told { IsTrue D.tells → IsOpen (session D.Disk store.old disk.old) }
     ensures performs { let gives = supply S.Source in let at = session D.Disk in
         let before = at store.old disk.old in let now = at store.new disk.new in
@@ -184,6 +192,7 @@ fn perform_put<D: Disk, S: Source>(
     ensures no_sink { result ≢ Err StoreFault.Sink }
     ensures account { Accounts D.Disk (ending result) disk.old disk.new }
     // A look at the disk fails in the first command alone.
+    ensures faulted { is_faulting store.new ≡ true → result ≡ Err StoreFault.Disk }
     ensures looked { result ≡ Err StoreFault.Disk → is_faulting store.new ≡ true →
         Looks D.Disk Ending.OneFailed disk.old disk.new }
     ensures stays { let at = session D.Disk in
@@ -193,6 +202,8 @@ fn perform_put<D: Disk, S: Source>(
         SameBase (open_of store.old).index.map (open_of store.new).index.map }
     ensures unread_fault { result ≡ Err StoreFault.Disk → is_faulting store.new ≡ true →
         source.new ≡ source.old }
+    ensures change { is_faulting store.new ≡ false →
+        FailsInChange D.Disk (ending result) disk.new }
 {
     let mut piece = new_piece(alloc)?;
     let create = Command::Create { slot: SLOT, key };
@@ -244,10 +255,8 @@ pub(crate) fn put<D: Disk, S: Source, K: Sink>(
     };
     let mut said = LastReply::new(alloc);
     let came = perform_put(alloc, &mut store, key, source, &mut said, disk);
-    if let Err(StoreFault::Disk) = came {
-        if store.faulting() {
-            return end_faulted(store, sink, disk);
-        }
+    if store.faulting() {
+        return end_faulted(store, sink, disk);
     }
     match end(store, came, disk) {
         Status::Done => print_answer(Status::Done, said.as_slice(), sink),

@@ -1,6 +1,6 @@
 //! How a session begins and ends, and how its answer is printed.
 
-ghost use Rattle.std.specs.Prelude.{◌≡◌, ◌≢◌, ◌⊎◌, ◌≤◌, Err, IfOk, IsTrue, OnErr};
+ghost use Rattle.std.specs.Prelude.{◌≡◌, ◌≢◌, ◌⊎◌, ◌≤◌, Err, IfOk, IsTrue, OnErr, false};
 ghost use Rattle.std.specs.Io.KnownBytes.{Appends};
 ghost use Rattle.cache_base.specs.Causes.{HasCause, Rose};
 ghost use Rattle.cache_store.specs.Faults.{ending};
@@ -8,14 +8,14 @@ ghost use Rattle.cache_store.specs.IndexCalls.{ReadsEntriesOf};
 ghost use Rattle.cache_store.specs.Open.{IsOpen, LeavesOpen};
 ghost use Rattle.cache_store.specs.Said.{IsCut};
 ghost use Rattle.cache_store.specs.Saying.{IsPart};
-ghost use Rattle.cache_store.specs.Session.{session};
+ghost use Rattle.cache_store.specs.Session.{is_faulting, session};
 ghost use Rattle.cache_theory.specs.Faulted.{fault_line};
 ghost use Rattle.cache_tool.specs.Beginning.{BeginsRun, FailsToBegin, ReadsNoEntry};
 ghost use Rattle.cache_tool.specs.Ending.{EndsSession};
 ghost use Rattle.cache_tool.specs.Statuses.{IsAnswer, IsClosing, IsSaid, status_in, status_of as status_of_outcome};
 ghost use Rattle.context_clear.specs.Mark.{mark_of};
 ghost use Rattle.disk_model.specs.Account.{Accounts, LooksAtNoEntry};
-ghost use Rattle.disk_model.specs.Calls.{StopsAtFault};
+ghost use Rattle.disk_model.specs.Calls.{LastFails, StopsAtFault};
 ghost use Rattle.disk_model.specs.Sound.{IsQuiet};
 ghost use Rattle.disk_model.specs.State.{standing};
 ghost use Rattle.disk_model.specs.Told.{Told};
@@ -41,6 +41,7 @@ pub(crate) fn begin<D: Disk>(alloc: Global, now: Moment, disk: &mut D) -> Result
     ensures looks { IsTrue D.tells → let files = standing (D.state disk.old) in
         ReadsNoEntry (mark_of (files Clear)) (start_of files) →
         ReadsEntriesOf D.Disk 0 disk.old disk.new }
+    ensures calm { IfOk result (λ store. is_faulting store ≡ false) }
     ensures no_sink { result ≢ Err StoreFault.Sink }
     ensures account { Accounts D.Disk (ending result) disk.old disk.new }
 {
@@ -89,6 +90,8 @@ pub(crate) fn end<D: Disk>(store: Store, came: Result<Status, StoreFault>, disk:
     ensures stops { IsTrue D.tells → StopsAtFault (D.counts disk.old) (D.counts disk.new) }
     ensures cause { IsClosing (status_in came) →
         HasCause (result ≡ Status.Disk) (D.faults disk.old) (D.faults disk.new) }
+    ensures last { IsClosing (status_in came) → result ≡ Status.Disk → IsTrue D.tells →
+        LastFails (D.counts disk.new) }
 {
     let status = match came {
         Ok(status) => status,
@@ -105,7 +108,8 @@ pub(crate) fn end<D: Disk>(store: Store, came: Result<Status, StoreFault>, disk:
 // What a session comes to whose last line was said, or whose sink failed in it: its store is closed, unless memory
 // ran out.
 fn after_line(said: Result<(), StoreFault>) -> Result<Status, StoreFault>
-    ensures { (result ≡ Ok Status.No) ⊎ (result ≡ Err StoreFault.Memory) }
+    ensures cases { (result ≡ Ok Status.No) ⊎ (result ≡ Err StoreFault.Memory) }
+    ensures memory { said ≡ Err StoreFault.Memory → result ≡ Err StoreFault.Memory }
 {
     match said {
         Err(StoreFault::Memory) => Err(StoreFault::Memory),
@@ -125,6 +129,8 @@ pub(crate) fn end_faulted<D: Disk, K: Sink>(mut store: Store, sink: &mut K, disk
         (IsTrue D.tells → EndsSession Status.No (session D.Disk store disk.old) (D.state disk.new))
         ⊎ Rose (D.faults disk.old) (D.faults disk.new) }
     ensures part { IsPart (K.taken sink.old) (K.taken sink.new) fault_line }
+    ensures said { result ≡ Status.Disk → Appends (K.taken sink.old) (K.taken sink.new) fault_line
+        ⊎ Rose (K.faults sink.old) (K.faults sink.new) }
     ensures no_entry { LooksAtNoEntry D.Disk disk.old disk.new }
     ensures later { D.faults disk.old ≤ D.faults disk.new }
     ensures stops { IsTrue D.tells → StopsAtFault (D.counts disk.old) (D.counts disk.new) }

@@ -17,6 +17,10 @@ use Rattle.file_handles.proofs.Dooming.DoomedUser.{least_free}
 pub takes_none : (s : State) → TakesEntries s s
 takes_none s = record { taken = []; taking = tt; state = refl }
 
+-- as where the disk holds the same
+pub takes_same : {s t : State} → t ≡ s → TakesEntries s t
+takes_same {s} {t} same = subst (TakesEntries s) (sym same) (takes_none s)
+
 all_taking : (later first : List NameStep) → AllByRecursion IsTaking later → AllByRecursion IsTaking first → AllByRecursion IsTaking (later ++ first)
 all_taking [] first two one = one
 all_taking (step ∷ later) first two one = (two.0, all_taking later first two.1 one)

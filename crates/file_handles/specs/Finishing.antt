@@ -13,6 +13,7 @@ use Rattle.file_handles.specs.Changes.{completed}
 use Rattle.file_handles.specs.Held.{is_draft}
 use Rattle.file_handles.specs.Setting.{has_small_block}
 use Rattle.file_handles.specs.declared.object.Entry.{Entry}
+use Rattle.file_handles.specs.declared.object.Object.{Object}
 use Rattle.file_handles.specs.declared.object.Parts.{Parts}
 
 -- the command that finishes the entry of a slot with the parts that are given, or else with its own
@@ -41,6 +42,10 @@ size_fault x (Some parts) =
 -- the first reason why an entry may not be finished so, if there is one
 abbrev pub finish_fault : Entry → Option Parts → Option Refusal
 finish_fault x given = if is_draft x then size_fault x given else Some refused.Finished
+
+-- the most calls of the disk that finishing an object takes: one write, and a sync and a renaming unless it is doomed
+abbrev pub finish_calls : Object → ℕ
+finish_calls x = if x.doomed then 1 else 3
 
 -- the numbers and the bytes of the parts are such
 pub record AreParts (parts : Parts) : Type 0 where

@@ -1,6 +1,6 @@
 //! Changes what is held of an entry: its elements, its counts by one more use, or whether it is pinned.
 
-ghost use Rattle.std.specs.Prelude.{◌*◌, ◌+◌, ◌/◌, ◌≡◌, ◌<◌, ◌≤◌, IfOk, IfSome, IsSomeAnd, IsTrue, length, true, ◌≢◌, Err};
+ghost use Rattle.std.specs.Prelude.{◌*◌, ◌+◌, ◌/◌, ◌≡◌, ◌<◌, ◌≤◌, IfOk, IfSome, IsSomeAnd, IsTrue, length, true, ◌≢◌, Err, OnOk};
 ghost use Rattle.cache_base.specs.declared.limits.TheConstants.{ELEMENTS_MAX, SLOTS};
 ghost use Rattle.disk_model.specs.Account.{Accounts, FailsInChange};
 ghost use Rattle.entry_parts.specs.Elements.{elements_bytes};
@@ -168,6 +168,8 @@ impl Handles {
         ensures chunks { SameChunks (kept self.old) (kept self.new) }
         ensures refused { OnRefused result (λ _. ⊥) }
         ensures no_read { result ≢ Err HandleFault.Read }
+        ensures calls { OnOk result (IsTrue D.tells →
+            (D.counts disk.new).calls ≤ (D.counts disk.old).calls + 1) }
         ensures account { Accounts D.Disk (ending result) disk.old disk.new }
         ensures change { FailsInChange D.Disk (ending result) disk.new }
     {

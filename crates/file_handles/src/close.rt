@@ -1,6 +1,6 @@
 //! Closes a slot, and all slots at the end.
 
-ghost use Rattle.std.specs.Prelude.{◌≡◌, ◌<◌, ◌&&◌, IfOk, IsSome, IsTrue, None, OnOk, Some, false, length, option_map, slice_get, slice_set, unwrap_or, ◌≢◌, Err};
+ghost use Rattle.std.specs.Prelude.{◌≡◌, ◌<◌, ◌&&◌, IfOk, IsSome, IsTrue, None, OnOk, Some, false, length, option_map, slice_get, slice_set, unwrap_or, ◌≢◌, Err, ◌+◌, ◌≤◌, IfSome};
 ghost use Rattle.std.specs.List.{list_any};
 ghost use Rattle.cache_base.specs.declared.limits.TheConstants.{SLOTS};
 ghost use Rattle.cache_theory.specs.Command.Command.{Close};
@@ -8,9 +8,11 @@ ghost use Rattle.disk_model.specs.Account.{Accounts, FailsInChange, LooksAtNoEnt
 ghost use Rattle.disk_model.specs.Calls.{if_done};
 ghost use Rattle.disk_model.specs.State.{standing};
 ghost use Rattle.disk_model.specs.Told.{Told};
+ghost use Rattle.doom_area.specs.DoomArea.{RemovesDoomed};
 ghost use Rattle.file_handles.specs.Answers.{OnRefused, done_or, ending};
 ghost use Rattle.file_handles.specs.Closing.{is_some_draft, let_go_by};
 ghost use Rattle.file_handles.specs.Effects.{HasEffect, IsPlainEffect};
+ghost use Rattle.file_handles.specs.Finishing.{finish_calls};
 ghost use Rattle.file_handles.specs.Held.{object_place};
 ghost use Rattle.file_handles.specs.Seats.{is_use_of};
 ghost use Rattle.file_handles.specs.Unsynced.{SyncsNothing};
@@ -47,6 +49,7 @@ fn let_go<D: Disk>(disk: &mut D, object: &Object) -> Result<(), DiskFault>
     requires { IsTrue D.tells → IsSome (standing (D.state disk.old) (object_place object.now)) }
     ensures state { Told D.Disk (λ s t. t ≡ if_done result (let_go_by object.now s) s)
         disk.old disk.new }
+    ensures calls { IsTrue D.tells → (D.counts disk.new).calls ≤ (D.counts disk.old).calls + 1 }
     ensures account { Accounts D.Disk (disk_ending result) disk.old disk.new }
     ensures no_entry { LooksAtNoEntry D.Disk disk.old disk.new }
     ensures change { FailsInChange D.Disk (disk_ending result) disk.new }
@@ -100,6 +103,9 @@ impl Handles {
         ensures refused { OnRefused result (λ _. ⊥) }
         ensures no_read { result ≢ Err HandleFault.Read }
         ensures same { writes_draft (kept self.old) slot ≡ false → disk.new ≡ disk.old }
+        ensures calls { OnOk result (IsTrue D.tells →
+            IfSome (object_kept_at (kept self.old) used.place) (λ x. (D.counts disk.new).calls
+            ≤ (D.counts disk.old).calls + finish_calls x)) }
         ensures index { Told D.Disk LeavesBeside disk.old disk.new }
         ensures account { Accounts D.Disk (ending result) disk.old disk.new }
         ensures change { FailsInChange D.Disk (ending result) disk.new }
@@ -124,6 +130,8 @@ impl Handles {
         ensures chunks { (kept self.new).chunks ≡ chunks_left (kept self.old) slot place }
         ensures unsynced { Told D.Disk SyncsNothing disk.old disk.new }
         ensures index { Told D.Disk LeavesBeside disk.old disk.new }
+        ensures calls { IsTrue D.tells →
+            (D.counts disk.new).calls ≤ (D.counts disk.old).calls + 1 }
         ensures account { Accounts D.Disk (disk_ending result) disk.old disk.new }
         ensures change { FailsInChange D.Disk (disk_ending result) disk.new }
     {
@@ -163,6 +171,9 @@ impl Handles {
         ensures unsynced { writes_draft (kept self.old) slot ≡ false →
             Told D.Disk SyncsNothing disk.old disk.new }
         ensures index { Told D.Disk LeavesBeside disk.old disk.new }
+        ensures calls { OnOk result (IsTrue D.tells →
+            IfSome (object_in (kept self.old) slot) (λ x. (D.counts disk.new).calls
+            ≤ (D.counts disk.old).calls + finish_calls x + 1)) }
         ensures account { Accounts D.Disk (ending result) disk.old disk.new }
         ensures change { FailsInChange D.Disk (ending result) disk.new }
     {
@@ -178,6 +189,7 @@ impl Handles {
         requires told { IsTrue D.tells → RepresentsSome (cache D.Disk self disk.old) }
         ensures closes { IsTrue D.tells →
             ClosesAll result (cache D.Disk self disk.old) (D.state disk.new) }
+        ensures removes { Told D.Disk RemovesDoomed disk.old disk.new }
         ensures index { Told D.Disk LeavesBeside disk.old disk.new }
         ensures account { Accounts D.Disk (disk_ending result) disk.old disk.new }
         ensures change { FailsInChange D.Disk (disk_ending result) disk.new }

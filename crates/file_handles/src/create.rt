@@ -23,7 +23,7 @@ use crate::doom::doomed_numbers;
 use crate::fault::look_fault;
 use crate::object::{Draft, Entry, Object};
 use crate::{Effect, HandleFault, Handles};
-use cache_base::{Bytes, Moment, Name, NoMemory, SLOTS};
+use cache_base::{Bytes, Moment, Name, SLOTS};
 use cache_theory::Refusal;
 use disk_model::{Disk, Place};
 use doom_area::least;
@@ -32,15 +32,6 @@ use entry_key::may_write;
 use entry_name::name_of;
 use entry_parts::{Elements, Header};
 use std::alloc::Global;
-
-// A copy of bytes.
-fn bytes_of(alloc: Global, b: &[u8]) -> Result<Bytes, NoMemory>
-    ensures { IfOk result (λ bytes. bytes ≡ b.now) }
-{
-    let mut bytes = Bytes::with_room(alloc, b.len())?;
-    bytes.extend(b)?;
-    Ok(bytes)
-}
 
 // A new draft of a key with this number and name, and its file, which is new and empty and has this number among the
 // doomed.
@@ -63,7 +54,7 @@ fn drafted<D: Disk>(
     ensures account { Accounts D.Disk (ending result) disk.old disk.new }
     ensures change { FailsInChange D.Disk (ending result) disk.new }
 {
-    let bytes = bytes_of(alloc, key)?;
+    let bytes = Bytes::from_slice(alloc, key)?;
     let body = begin(alloc, disk, &Place::Doomed(aside))?;
     let draft = Draft {
         body,

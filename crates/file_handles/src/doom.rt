@@ -236,6 +236,7 @@ impl Handles {
         ensures effect { IfOk result (HasEffect (kept self.old) (Doom key.now)) }
         ensures plain { IfOk result IsPlainEffect }
         ensures numbered { Told D.Disk TakesFirstFree disk.old disk.new }
+        ensures takes { Told D.Disk TakesEntries disk.old disk.new }
         ensures chunks { SameChunks (kept self.old) (kept self.new) }
         ensures unchanged { OnRefused result (λ _. Told D.Disk (λ s t. t ≡ s) disk.old disk.new) }
         ensures read { OnRead result

@@ -168,6 +168,8 @@ impl Handles {
         ensures no_read { result ≢ Err HandleFault.Read }
         ensures unsynced { Told D.Disk SyncsNothing disk.old disk.new }
         ensures index { Told D.Disk LeavesBeside disk.old disk.new }
+        ensures calls { OnOk result (IsTrue D.tells →
+            (D.counts disk.new).calls ≤ (D.counts disk.old).calls + 1) }
         ensures account { Accounts D.Disk (ending result) disk.old disk.new }
         ensures change { FailsInChange D.Disk (ending result) disk.new }
     {
@@ -199,6 +201,8 @@ impl Handles {
         ensures none_there { IfOk result (λ effect. IfNone effect (disk.new ≡ disk.old)) }
         ensures unsynced { Told D.Disk SyncsNothing disk.old disk.new }
         ensures index { Told D.Disk LeavesBeside disk.old disk.new }
+        ensures calls { OnOk result (IsTrue D.tells →
+            (D.counts disk.new).calls ≤ (D.counts disk.old).calls + 1) }
         ensures account { Accounts D.Disk (ending result) disk.old disk.new }
         ensures change { FailsInChange D.Disk (ending result) disk.new }
     {

@@ -1,6 +1,6 @@
 //! Finishes the entry of a slot, with its own header and elements or with given ones: its file becomes whole.
 
-ghost use Rattle.std.specs.Prelude.{◌≡◌, ◌≢◌, ◌<◌, ◌≤◌, Err, IfErr, IfOk, IfSome, IsSome, IsSomeAnd, IsTrue, None, OnOk, length};
+ghost use Rattle.std.specs.Prelude.{◌≡◌, ◌≢◌, ◌<◌, ◌≤◌, Err, IfErr, IfOk, IfSome, IsSome, IsSomeAnd, IsTrue, None, OnOk, length, ◌+◌, if◌then◌else◌};
 ghost use Rattle.cache_base.specs.Bytes.{AreBytes};
 ghost use Rattle.cache_base.specs.declared.limits.TheConstants.{KEY_MAX, SLOTS};
 ghost use Rattle.cache_theory.specs.Command.Command.{Finish, FinishAs};
@@ -12,7 +12,7 @@ ghost use Rattle.entry_parts.specs.Elements.{AreElements, elements_bytes};
 ghost use Rattle.entry_parts.specs.Header.{IsHeader};
 ghost use Rattle.file_handles.specs.Answers.{OnRefused, done_or, ending};
 ghost use Rattle.file_handles.specs.Effects.{HasEffect, IsLearntOf, IsPlainEffect, file_len as file_len_of, learnt_of_held};
-ghost use Rattle.file_handles.specs.Finishing.{AreParts, completed_by, finish_command, finish_fault as finish_fault_of, parts_by as parts_by_of};
+ghost use Rattle.file_handles.specs.Finishing.{AreParts, completed_by, finish_calls, finish_command, finish_fault as finish_fault_of, parts_by as parts_by_of};
 ghost use Rattle.file_handles.specs.Held.{place_of};
 ghost use Rattle.file_handles.specs.Publishing.{MayPublish};
 ghost use Rattle.file_handles.specs.Seats.{IsLow};
@@ -61,6 +61,8 @@ fn publish<D: Disk>(
     requires { IsTrue D.tells → IsSome (standing (D.state disk.old) (place_of name.now aside)) }
     ensures state { Told D.Disk (MayPublish name.now doomed aside result) disk.old disk.new }
     ensures low { IsLow aside → IfOk result IsLow }
+    ensures calls { IsTrue D.tells → (D.counts disk.new).calls
+        ≤ (D.counts disk.old).calls + (if doomed then 0 else 2) }
     ensures account { Accounts D.Disk (disk_ending result) disk.old disk.new }
     ensures change { FailsInChange D.Disk (disk_ending result) disk.new }
 {
@@ -132,7 +134,7 @@ impl Handles {
     ghost use Rattle.file_handles.specs.Changes.{IsFiledAt};
     ghost use Rattle.file_handles.specs.Publishing.{CompletesThere};
     ghost use Rattle.file_handles.specs.HeldChunks.{SameChunks};
-    ghost use Rattle.file_handles.specs.Kept.{kept, number_at, object_at as object_kept_at};
+    ghost use Rattle.file_handles.specs.Kept.{kept, number_at, object_at as object_kept_at, object_in};
     ghost use Rattle.file_handles.specs.Refuses.{ChecksNoSlot, Passes, Refuses, TellsNoSlot, UsesObject};
     ghost use Rattle.file_handles.specs.Stands.{RepresentsSome};
 
@@ -178,6 +180,9 @@ impl Handles {
             (number_at (kept self.new) place ≡ number_at (kept self.old) place) }
         ensures refused { OnRefused result (λ _. ⊥) }
         ensures no_read { result ≢ Err HandleFault.Read }
+        ensures calls { OnOk result (IsTrue D.tells →
+            IfSome (object_kept_at (kept self.old) place) (λ x. (D.counts disk.new).calls
+            ≤ (D.counts disk.old).calls + finish_calls x)) }
         ensures account { Accounts D.Disk (ending result) disk.old disk.new }
         ensures change { FailsInChange D.Disk (ending result) disk.new }
     {
@@ -224,6 +229,9 @@ impl Handles {
         ensures unchanged { OnRefused result (λ _. disk.new ≡ disk.old) }
         ensures no_read { result ≢ Err HandleFault.Read }
         ensures index { Told D.Disk LeavesBeside disk.old disk.new }
+        ensures calls { OnOk result (IsTrue D.tells →
+            IfSome (object_in (kept self.old) slot) (λ x. (D.counts disk.new).calls
+            ≤ (D.counts disk.old).calls + finish_calls x)) }
         ensures account { Accounts D.Disk (ending result) disk.old disk.new }
         ensures change { FailsInChange D.Disk (ending result) disk.new }
     {
@@ -250,6 +258,9 @@ impl Handles {
         ensures unchanged { OnRefused result (λ _. disk.new ≡ disk.old) }
         ensures no_read { result ≢ Err HandleFault.Read }
         ensures index { Told D.Disk LeavesBeside disk.old disk.new }
+        ensures calls { OnOk result (IsTrue D.tells →
+            IfSome (object_in (kept self.old) slot) (λ x. (D.counts disk.new).calls
+            ≤ (D.counts disk.old).calls + finish_calls x)) }
         ensures account { Accounts D.Disk (ending result) disk.old disk.new }
         ensures change { FailsInChange D.Disk (ending result) disk.new }
     {
@@ -278,6 +289,9 @@ impl Handles {
         ensures unchanged { OnRefused result (λ _. disk.new ≡ disk.old) }
         ensures no_read { result ≢ Err HandleFault.Read }
         ensures index { Told D.Disk LeavesBeside disk.old disk.new }
+        ensures calls { OnOk result (IsTrue D.tells →
+            IfSome (object_in (kept self.old) slot) (λ x. (D.counts disk.new).calls
+            ≤ (D.counts disk.old).calls + finish_calls x)) }
         ensures account { Accounts D.Disk (ending result) disk.old disk.new }
         ensures change { FailsInChange D.Disk (ending result) disk.new }
     {

@@ -1,6 +1,6 @@
 //! Pins the entry of a slot, so that neither an eviction nor a clearing takes it, or unpins it.
 
-ghost use Rattle.std.specs.Prelude.{◌≡◌, ◌≢◌, ◌<◌, Bool, Err, IfErr, IfOk, IsSomeAnd, IsTrue, OnOk};
+ghost use Rattle.std.specs.Prelude.{◌≡◌, ◌≢◌, ◌<◌, Bool, Err, IfErr, IfOk, IsSomeAnd, IsTrue, OnOk, ◌≤◌, ◌+◌};
 ghost use Rattle.cache_base.specs.declared.limits.TheConstants.{SLOTS};
 ghost use Rattle.disk_model.specs.Account.{Accounts, FailsInChange};
 ghost use Rattle.disk_model.specs.Told.{Told};
@@ -61,6 +61,8 @@ impl Handles {
         ensures no_read { result ≢ Err HandleFault.Read }
         ensures unsynced { Told D.Disk SyncsNothing disk.old disk.new }
         ensures index { Told D.Disk LeavesBeside disk.old disk.new }
+        ensures calls { OnOk result (IsTrue D.tells →
+            (D.counts disk.new).calls ≤ (D.counts disk.old).calls + 1) }
         ensures account { Accounts D.Disk (ending result) disk.old disk.new }
         ensures change { FailsInChange D.Disk (ending result) disk.new }
     {

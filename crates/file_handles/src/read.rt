@@ -216,7 +216,7 @@ impl Handles {
         ensures no_change { result ≢ Err HandleFault.Disk }
         ensures looks { Looks D.Disk (ending result) disk.old disk.new }
     {
-        if self.chunks.get(chunk.number, chunk.index).is_some() {
+        if self.chunks.look(chunk.number, chunk.index).is_some() {
             return Ok(());
         }
         // A chunk goes only once the new one is there, and its memory is used again for the next.
@@ -240,7 +240,7 @@ impl Handles {
               chunks = looked_at chunk.now.number chunk.now.index (kept self.old).chunks;
             })) }
     {
-        match self.chunks.get(chunk.number, chunk.index) {
+        match self.chunks.look(chunk.number, chunk.index) {
             Some(bytes) => part(bytes, (from % CHUNK as u64) as usize, len),
             None => unreachable!(),
         }

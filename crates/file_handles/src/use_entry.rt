@@ -1,6 +1,6 @@
 //! Counts a use of the entry of a slot.
 
-ghost use Rattle.std.specs.Prelude.{◌≡◌, ◌<◌, IfErr, IfOk, IsSomeAnd, IsTrue, OnOk, ◌≢◌, Err};
+ghost use Rattle.std.specs.Prelude.{◌≡◌, ◌<◌, IfErr, IfOk, IsSomeAnd, IsTrue, OnOk, ◌≢◌, Err, ◌≤◌, ◌+◌};
 ghost use Rattle.cache_base.specs.declared.limits.TheConstants.{SLOTS};
 ghost use Rattle.cache_theory.specs.Command.Command.{UseEntry};
 ghost use Rattle.disk_model.specs.Account.{Accounts, FailsInChange};
@@ -60,6 +60,8 @@ impl Handles {
         ensures no_read { result ≢ Err HandleFault.Read }
         ensures unsynced { Told D.Disk SyncsNothing disk.old disk.new }
         ensures index { Told D.Disk LeavesBeside disk.old disk.new }
+        ensures calls { OnOk result (IsTrue D.tells →
+            (D.counts disk.new).calls ≤ (D.counts disk.old).calls + 1) }
         ensures account { Accounts D.Disk (ending result) disk.old disk.new }
         ensures change { FailsInChange D.Disk (ending result) disk.new }
     {

@@ -8,7 +8,7 @@ use Rattle.cache_theory.specs.Machine.{Machine}
 use Rattle.disk_model.specs.Sound.{IsQuiet}
 use Rattle.disk_model.specs.State.{State, settled, standing}
 use Rattle.disk_model.specs.declared.disk.DiskFault.{DiskFault}
-use Rattle.disk_model.specs.declared.place.Place.TheVariants.{Doomed}
+use Rattle.disk_model.specs.declared.place.Place.TheVariants.{Clear, Doomed}
 use Rattle.file_handles.specs.Closing.{ClosesAll, IsClosed}
 use Rattle.index_keeps.proofs.KeepsLaws.{spared_is_safe}
 use Rattle.index_theory.specs.Apart.{IsApart}
@@ -50,14 +50,15 @@ module _ (before : Session) (d : State) (left : LeavesIndex before.disk d) where
     pub spared_crash : (answer : Result (Unit {0}) DiskFault) → ClosesAll answer (cache_of before) d → (h : History) → KeepsTo before h → IsSafe t h.marks
     spared_crash answer all h is = spared_is_safe d t h.marks (spares (left.apart is.matches.holds.apart)) (all.crash h is.stands)
 
-    -- and the same entries stand
-    pub shut : IsQuiet t → (m : Machine) → Represents before m → IsClosed (standing d) m → IsShut t m
-    shut quiet m is closed = record {
+    -- and the same entries stand, and the same mark
+    pub shut : standing d Clear ≡ standing before.disk Clear → IsQuiet t → (m : Machine) → Represents before m → IsClosed (standing d) m → IsShut t m
+    shut marked quiet m is closed = record {
       quiet = quiet;
       closed = record {
         entries_are = λ name. spared_stands d t (spares (apart_left m is)) (entry_place name) (λ of. of) ∙ closed.entries_are name;
         no_doomed = λ k. spared_stands d t (spares (apart_left m is)) (Doomed k) (λ of. of) ∙ closed.no_doomed k;
       };
+      mark = spared_stands d t (spares (apart_left m is)) Clear (λ of. of) ∙ (marked ∙ sym is.matches.mark);
     }
 
   -- where the update has ended the records are the scan of what stands then

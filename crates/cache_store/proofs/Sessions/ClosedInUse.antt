@@ -154,6 +154,10 @@ pub not_ended : (b : Bool) (names : List Name) → IsTrue b ↔ (names ≡ []) �
 not_ended true names ends left = absurd (left (ends.0 refl))
 not_ended false names ends left = refl
 
+-- after an Ok all is synced
+pub synced_done : {T : Type 0} {v : T} (d t : State) (r : Result T DiskFault) → r ≡ Ok v → t ≡ if_ok r (settled d) d → t ≡ settled d
+synced_done d t r same is = is ∙ ap (λ q. if_ok q (settled d) d) same
+
 -- a sync leaves the index alone, after changes that did, also where it fails
 pub synced_left : {T : Type 0} (s d t : State) (r : Result T DiskFault) → IsSound d → LeavesIndex s d → t ≡ if_ok r (settled d) d → LeavesIndex s t
 synced_left s d t (Ok x) sound left is = subst (LeavesIndex s) (sym is) (both_leave_index s d (settled d) left (sync_leaves_index d sound))

@@ -26,6 +26,7 @@ use Rattle.cache_tool.proofs.DoneLaws.{are_done_where}
 use Rattle.cache_tool.proofs.Puts.PutEnds.{Printed}
 use Rattle.cache_tool.proofs.SessionEnds.{begun_leave, leaves_at, resumed_tells}
 use Rattle.cache_tool.proofs.StatusLaws.{EndsAs, answer_closes, closing_same}
+use Rattle.disk_model.specs.Calls.{Counts}
 use Rattle.disk_model.specs.State.{State, standing}
 use Rattle.index_theory.specs.Honest.{Honest, LeavesHonest}
 
@@ -75,8 +76,8 @@ module _ {moment : ℕ} (count given : ℕ) (came : Result Status StoreFault) (e
   left = begun_leave before.disk mid begins m is_start last t ended ends (done_in fill.filled) (status_in came) same dropped kept fill.safe (came_ok _ came no_sink fill.stands)
 
   -- an answer is printed
-  pub answered : {faults : ℕ} (final : Status) (taken : Option (List ℕ)) → IsAnswer ended → Printed ended final before.taken taken lines
-      → PrintsFill moment count given m (begins.resumed m is_start).done final before (record { taken = taken; disk = t; disk_faults = faults })
+  pub answered : {sink_faults faults : ℕ} {counts : Counts} (final : Status) (taken : Option (List ℕ)) → IsAnswer ended → Printed ended final before.taken taken lines
+      → PrintsFill moment count given m (begins.resumed m is_start).done final before (record { taken = taken; sink_faults = sink_faults; disk = t; disk_faults = faults; disk_counts = counts })
   answered final taken answer printed =
       let closes : IsClosing (status_in came) = subst IsClosing (closing_same ended (status_in came) same (answer_closes ended answer)) (answer_closes ended answer) in
       let text : lines ≡ lines_in fill.filled = came_ok _ came no_sink fill.printed closes in
@@ -92,8 +93,8 @@ module _ {moment : ℕ} (count given : ℕ) (came : Result Status StoreFault) (e
       }
 
   -- none is
-  pub not_answered : {faults : ℕ} → ¬ (IsAnswer ended) → ended ≢ status.Sink
-      → PrintsFill moment count given m (begins.resumed m is_start).done ended before (record before { disk = t; disk_faults = faults })
+  pub not_answered : {faults : ℕ} {counts : Counts} → ¬ (IsAnswer ended) → ended ≢ status.Sink
+      → PrintsFill moment count given m (begins.resumed m is_start).done ended before (record before { disk = t; disk_faults = faults; disk_counts = counts })
   not_answered other sink_not = record {
     filled = filled;
     answer = λ a. absurd (other a);

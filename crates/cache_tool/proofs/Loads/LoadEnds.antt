@@ -1,8 +1,8 @@
 -- How a load ends: the store is closed, and the line is printed.
-use Rattle.std.proofs.Common.{◌≡◌, ◌≢◌, ◌⊎◌, ◌∙◌, inl, inr, false, ℕ, suc, List, [], ◌∷◌, length, Ok, Err, Option, None, Some, IfSome, Result, refl, sym, ap, subst, arith}
+use Rattle.std.proofs.Common.{◌≡◌, ◌≢◌, ◌⊎◌, ◌∙◌, inl, inr, false, ℕ, suc, List, [], ◌∷◌, length, Ok, Err, Option, None, Some, IfSome, Result, refl, sym, ap, subst}
 use Rattle.std.specs.Prelude.{IfOk, OnOk, is_some}
 use Rattle.std.specs.Io.KnownBytes.{Appends}
-use Rattle.std.proofs.KnownBytes.{Appends-nil, Keeps-refl}
+use Rattle.std.proofs.KnownBytes.{Keeps-refl}
 use Rattle.std.proofs.lemmas.Bool.{cond_both}
 use Rattle.cache_base.specs.declared.name.Name.{Name}
 use Rattle.cache_base.specs.declared.status.Status.{Status}
@@ -28,7 +28,8 @@ use Rattle.cache_theory.proofs.Loading.StockedShelf.{stock_is_found}
 use Rattle.cache_theory.proofs.Loading.WrittenItems.{items_are_stocked}
 use Rattle.cache_tool.specs.Beginning.{BeginsRun, DoneAtOpening}
 use Rattle.cache_tool.specs.Ending.{EndsSession}
-use Rattle.cache_tool.specs.Load.{HasDump, HasNoDump, IsDumpOf, IsLoadLine, Loaded, LoadsDump, PrintsLoadLine, PrintsLoaded, bad_dump_line, loaded_commands, loaded_line}
+use Rattle.cache_tool.specs.Load.{BeginsLoaded, HasDump, HasNoDump, IsDumpOf, IsLoadLine, Loaded, LoadsDump, PrintsLoadLine, PrintsLoaded, bad_dump_line, loaded_commands, loaded_line}
+use Rattle.cache_tool.specs.Load.IsLoadLine.{TellsBad, TellsDump}
 use Rattle.cache_tool.specs.LoadProgress.{EndsLoaded, HoldsLine, IsLine, PerformsLoad, ReadsLoaded, TellsNumber, status_at_end}
 use Rattle.cache_tool.specs.PutProgress.{all_unanswered}
 use Rattle.cache_tool.specs.Right.{LeadTo}
@@ -42,6 +43,7 @@ use Rattle.cache_tool.proofs.Loads.LoadTurns.{fault_ends}
 use Rattle.cache_tool.proofs.SessionEnds.{begun_leave, leaves_at}
 use Rattle.cache_tool.proofs.StatusLaws.{EndsAs, closing_same}
 use Rattle.context_clear.specs.Mark.{mark_of}
+use Rattle.disk_model.specs.Calls.{Counts}
 use Rattle.disk_model.specs.State.{State}
 use Rattle.index_record.specs.declared.record.IndexRecord.{IndexRecord}
 use Rattle.index_theory.specs.Honest.{LeavesHonest}
@@ -217,28 +219,27 @@ never_no ended final (inr script) (inl same) is = let e : status.Script ≡ stat
 never_no ended final line (inr (inl sink)) is = let e : status.Sink ≡ status.No = sym sink ∙ is in cc
 never_no ended final line (inr (inr memory)) is = let e : status.Memory ≡ status.No = sym memory ∙ is in cc
 
--- a whole line, or a part of it
-line_is : (n : ℕ) (ended : Status) (text : List ℕ) → IsLine ended → HoldsLine ended n text → IsLoadLine n text
-line_is n ended text (inl done) holds = inl (holds.done done)
-line_is n ended text (inr script) holds = inr (holds.bad script)
+-- the line that is held tells what the bytes are
+line_is : (bytes : List ℕ) (l : Loaded) (ended : Status) (from left : Option (List ℕ)) (reads : ReadsLoaded ended from left l bytes) (text : List ℕ) → IsLine ended → HoldsLine ended (length l.items) text
+    → IsLoadLine bytes l reads.read text
+line_is bytes l ended from left reads text (inl done) holds = let whole = reads.whole done in TellsDump (holds.done done) whole.0 whole.1.0
+line_is bytes l ended from left reads text (inr script) holds = let bad = reads.bad script in TellsBad (holds.bad script) bad.0 bad.1
 
-line_printed : (n : ℕ) (ended final : Status) (before now : Option (List ℕ)) (text : List ℕ) → IsLine ended → HoldsLine ended n text → SaysLine ended final before now text → PrintsLoadLine n final before now
-line_printed n ended final before now text line holds says = record {
-  text = text;
-  is_line = line_is n ended text line holds;
-  part = says.part;
+-- it is printed, or a part of it
+line_printed : (bytes : List ℕ) (l : Loaded) (ended final : Status) (from left : Option (List ℕ)) (reads : ReadsLoaded ended from left l bytes) (before now : Option (List ℕ)) (text : List ℕ) → IsLine ended
+    → HoldsLine ended (length l.items) text → SaysLine ended final before now text → PrintsLoadLine bytes l reads.read final before now
+line_printed bytes l ended final from left reads before now text line holds says = record {
+  part = inr (text, (line_is bytes l ended from left reads text line holds, says.part));
   done = λ e. subst (Appends before now) (holds.done (same_end ended final status.Done (λ x. cc) (λ x. cc) says.same e)) (says.all (inl e));
   bad = λ e. subst (Appends before now) (holds.bad (same_end ended final status.Script (λ x. cc) (λ x. cc) says.same e)) (says.bad e);
-  cut = says.cut;
+  cut = λ e. (text, (line_is bytes l ended from left reads text line holds, says.cut e));
   silent = λ e. absurd (never_silent ended final line says.same e);
 }
 
 -- no line
-none_printed : (n : ℕ) (ended : Status) (known : Option (List ℕ)) → ¬ (IsLine ended) → ended ≢ status.Sink → PrintsLoadLine n ended known known
-none_printed n ended known other no_sink = record {
-  text = loaded_line n;
-  is_line = inl refl;
-  part = (0, (omega arith, Appends-nil known));
+none_printed : (bytes : List ℕ) (l : Loaded) (read : BeginsLoaded bytes l) (ended : Status) (known : Option (List ℕ)) → ¬ (IsLine ended) → ended ≢ status.Sink → PrintsLoadLine bytes l read ended known known
+none_printed bytes l read ended known other no_sink = record {
+  part = inl (Keeps-refl known);
   done = λ e. absurd (other (inl e));
   bad = λ e. absurd (other (inr e));
   cut = λ e. absurd (no_sink e);
@@ -314,7 +315,7 @@ module _ {moment : ℕ} (tells : Type 0) (told : tells) (bytes : List ℕ) (came
       subst (λ o. IfSome o (ReadsLoaded final before.source.left left load.loaded)) from
       (reads_at final (status_in came) before.source.left left load.loaded done_so script_so source_so load.reads)
 
-  loads_with : (final : Status) (now : World) → ReadsLoaded final before.source.left now.source.left load.loaded bytes → final ≢ status.No → PrintsLoadLine (length load.loaded.items) final before.taken now.taken
+  loads_with : (final : Status) (now : World) (reads : ReadsLoaded final before.source.left now.source.left load.loaded bytes) → final ≢ status.No → PrintsLoadLine bytes load.loaded reads.read final before.taken now.taken
       → LeavesDisk m (all_begun_none_acked m (begins.resumed m is_start).done (loaded_commands load.loaded)) final before.disk now.disk
       → PrintsLoaded m (begins.resumed m is_start).done bytes final before now
   loads_with final now reads accepted prints leaves =
@@ -334,22 +335,27 @@ module _ {moment : ℕ} (tells : Type 0) (told : tells) (bytes : List ℕ) (came
       }
 
   -- a line is printed
-  pub line_said : {faults source_faults : ℕ} (final : Status) (taken : Option (List ℕ)) → IsLine ended → SaysLine ended final before.taken taken text
-      → PrintsLoaded m (begins.resumed m is_start).done bytes final before (record { source = record { left = left; faults = source_faults }; taken = taken; disk = t; disk_faults = faults })
+  pub line_said : {faults source_faults sink_faults : ℕ} {counts : Counts} (final : Status) (taken : Option (List ℕ)) → IsLine ended → SaysLine ended final before.taken taken text
+      → PrintsLoaded m (begins.resumed m is_start).done bytes final before (record { source = record { left = left; faults = source_faults }; taken = taken; sink_faults = sink_faults; disk = t; disk_faults = faults; disk_counts = counts })
   line_said final taken line says =
       let is : ended ≡ status_in came = closing_same ended (status_in came) same (line_closes ended line) in
       let holds : HoldsLine ended (length load.loaded.items) text = subst (λ s. HoldsLine s (length load.loaded.items) text) (sym is) load.line in
-      loads_with final _
-      (reads_so final (λ e. sym is ∙ same_end ended final status.Done (λ x. cc) (λ x. cc) says.same e) (λ e. sym is ∙ same_end ended final status.Script (λ x. cc) (λ x. cc) says.same e)
-      (λ e. sym is ∙ same_end ended final status.Source (λ x. cc) (λ x. cc) says.same e))
-      (never_no ended final line says.same) (line_printed (length load.loaded.items) ended final before.taken taken text line holds says)
+      let at_end : ReadsLoaded ended before.source.left left load.loaded bytes = reads_so ended (λ e. sym is ∙ e) (λ e. sym is ∙ e) (λ e. sym is ∙ e) in
+      let reads : ReadsLoaded final before.source.left left load.loaded bytes = record {
+        read = at_end.read;
+        whole = λ e. at_end.whole (same_end ended final status.Done (λ x. cc) (λ x. cc) says.same e);
+        bad = λ e. at_end.bad (same_end ended final status.Script (λ x. cc) (λ x. cc) says.same e);
+        broken = λ e. at_end.broken (same_end ended final status.Source (λ x. cc) (λ x. cc) says.same e);
+      } in
+      loads_with final _ reads
+      (never_no ended final line says.same) (line_printed bytes load.loaded ended final before.source.left left at_end before.taken taken text line holds says)
       (leaves_at m (all_begun_none_acked m (begins.resumed m is_start).done (loaded_commands load.loaded)) ended final before.disk t (λ closing. line_closes ended line) session_left)
 
   -- none is
-  pub none_said : {faults source_faults : ℕ} → ¬ (IsLine ended) → ended ≢ status.Sink → ended ≢ status.No
-      → PrintsLoaded m (begins.resumed m is_start).done bytes ended before (record { source = record { left = left; faults = source_faults }; taken = before.taken; disk = t; disk_faults = faults })
+  pub none_said : {faults source_faults sink_faults : ℕ} {counts : Counts} → ¬ (IsLine ended) → ended ≢ status.Sink → ended ≢ status.No
+      → PrintsLoaded m (begins.resumed m is_start).done bytes ended before (record { source = record { left = left; faults = source_faults }; taken = before.taken; sink_faults = sink_faults; disk = t; disk_faults = faults; disk_counts = counts })
   none_said other not_sink not_no =
-      loads_with ended _
-      (reads_so ended (λ e. came_end ended (status_in came) status.Done (λ x. cc) (λ x. cc) same e) (λ e. came_end ended (status_in came) status.Script (λ x. cc) (λ x. cc) same e)
-      (λ e. came_end ended (status_in came) status.Source (λ x. cc) (λ x. cc) same e))
-      not_no (none_printed (length load.loaded.items) ended before.taken other not_sink) session_left
+      let reads : ReadsLoaded ended before.source.left left load.loaded bytes =
+      reads_so ended (λ e. came_end ended (status_in came) status.Done (λ x. cc) (λ x. cc) same e) (λ e. came_end ended (status_in came) status.Script (λ x. cc) (λ x. cc) same e)
+      (λ e. came_end ended (status_in came) status.Source (λ x. cc) (λ x. cc) same e) in
+      loads_with ended _ reads not_no (none_printed bytes load.loaded reads.read ended before.taken other not_sink) session_left

@@ -18,7 +18,7 @@ use Rattle.cache_theory.specs.Command.{Command}
 use Rattle.cache_theory.specs.History.{acked, settled_at}
 use Rattle.cache_theory.specs.Machine.{Machine}
 use Rattle.cache_theory.specs.Step.{step}
-use Rattle.disk_model.specs.Calls.{Counts, FailsLast, StopsAtFault}
+use Rattle.disk_model.specs.Calls.{Counts, FailsLast, LastFails, StopsAtFault}
 use Rattle.cache_tool.specs.AnyDisk.{IsRefusalLine}
 use Rattle.cache_tool.specs.Beginning.{BeginsRun}
 use Rattle.cache_tool.specs.Ending.{EndsSession}
@@ -28,6 +28,7 @@ use Rattle.cache_tool.specs.PutProgress.{PutIsPerformed}
 use Rattle.cache_tool.specs.Statuses.{IsAnswer, IsClosing, status_in}
 use Rattle.cache_tool.specs.Verbs.{LeavesDisk, PrintsLast, all_begun_none_acked}
 use Rattle.cache_tool.specs.World.{Output, Supply}
+use Rattle.cache_tool.proofs.ForGood.{stops_last}
 use Rattle.cache_tool.proofs.SessionEnds.{begun_leave, leaves_at}
 use Rattle.cache_tool.proofs.StatusLaws.{EndsAs, answer_closes, closing_same}
 use Rattle.disk_model.specs.Account.{Ending}
@@ -58,6 +59,12 @@ never_source ended final (inr nay) (inl same) source = let e : status.No ≡ sta
 never_source ended final answer (inr (inl sink)) source = let e : status.Sink ≡ status.Source = sym sink ∙ source in cc
 never_source ended final answer (inr (inr memory)) source = let e : status.Memory ≡ status.Source = sym memory ∙ source in cc
 
+never_disk : (ended final : Status) → IsAnswer ended → (final ≡ ended) ⊎ ((final ≡ status.Sink) ⊎ (final ≡ status.Memory)) → final ≢ status.Disk
+never_disk ended final (inl done) (inl same) disk = let e : status.Done ≡ status.Disk = sym done ∙ sym same ∙ disk in cc
+never_disk ended final (inr nay) (inl same) disk = let e : status.No ≡ status.Disk = sym nay ∙ sym same ∙ disk in cc
+never_disk ended final answer (inr (inl sink)) disk = let e : status.Sink ≡ status.Disk = sym sink ∙ disk in cc
+never_disk ended final answer (inr (inr memory)) disk = let e : status.Memory ≡ status.Disk = sym memory ∙ disk in cc
+
 -- the commands of a put, by another end
 are_put_at : (m : Machine) (key : List ℕ) (from to : Supply) (came final : Status) (cs : List Command) → (IsAnswer final → IsAnswer came)
     → ArePut m key from to came cs → ArePut m key from to final cs
@@ -71,8 +78,8 @@ module _ {moment : ℕ} (key : List ℕ) (from to : Supply) (came ended : Status
   left = begun_leave before.disk mid begins m is_start last t ended ends put.commands came same dropped kept put.safe put.stands
 
   -- an answer is printed
-  pub answered : {faults : ℕ} (final : Status) (taken : Option (List ℕ)) → IsAnswer ended → Printed ended final before.taken taken said
-      → (cs : List Command) × (ArePut (step m (begins.resumed m is_start).done).next key from to final cs × PrintsLast m (begins.resumed m is_start).done cs final before (record { taken = taken; disk = t; disk_faults = faults }))
+  pub answered : {sink_faults faults : ℕ} {counts : Counts} (final : Status) (taken : Option (List ℕ)) → IsAnswer ended → Printed ended final before.taken taken said
+      → (cs : List Command) × (ArePut (step m (begins.resumed m is_start).done).next key from to final cs × PrintsLast m (begins.resumed m is_start).done cs final before (record { taken = taken; sink_faults = sink_faults; disk = t; disk_faults = faults; disk_counts = counts }))
   answered final taken answer printed =
       let is : ended ≡ came = closing_same ended came same (answer_closes ended answer) in
       let reply = put.last (subst IsAnswer is answer) in (
@@ -87,15 +94,16 @@ module _ {moment : ℕ} (key : List ℕ) (from to : Supply) (came ended : Status
               cut = λ sink. subst (IsCut before.taken taken) reply.replied (printed.cut sink);
             };
             silent = λ source. absurd (never_source ended final answer printed.same source);
+            for_good = λ disk. absurd (never_disk ended final answer printed.same disk);
             leaves = leaves_at m (all_begun_none_acked m (begins.resumed m is_start).done put.commands) ended final before.disk t (λ closing. answer_closes ended answer) left;
           },
         ),
       )
 
   -- none is
-  pub not_answered : {faults : ℕ} → ¬ (IsAnswer ended) → ended ≢ status.Sink
-      → (cs : List Command) × (ArePut (step m (begins.resumed m is_start).done).next key from to ended cs × PrintsLast m (begins.resumed m is_start).done cs ended before (record before { disk = t; disk_faults = faults }))
-  not_answered other no_sink = (
+  pub not_answered : {faults : ℕ} {counts : Counts} → (ended ≡ status.Disk → LastFails counts) → ¬ (IsAnswer ended) → ended ≢ status.Sink
+      → (cs : List Command) × (ArePut (step m (begins.resumed m is_start).done).next key from to ended cs × PrintsLast m (begins.resumed m is_start).done cs ended before (record before { disk = t; disk_faults = faults; disk_counts = counts }))
+  not_answered last other no_sink = (
     put.commands,
     (
       are_put_at (step m (begins.resumed m is_start).done).next key from to came ended put.commands (λ a. absurd (other a)) put.are_put,
@@ -107,6 +115,7 @@ module _ {moment : ℕ} (key : List ℕ) (from to : Supply) (came ended : Status
           cut = λ sink. absurd (no_sink sink);
         };
         silent = λ source. Keeps-refl before.taken;
+        for_good = λ disk. stops_last (step m (begins.resumed m is_start).done).next put.commands before _ (last disk);
         leaves = left;
       },
     ),

@@ -27,6 +27,7 @@ use Rattle.cache_tool.proofs.Scripts.ScriptTurns.{counts_more, counts_on}
 use Rattle.cache_tool.proofs.SessionEnds.{ends_leave, resumed_done, resumed_tells, stops_leave}
 use Rattle.cache_tool.proofs.StatusLaws.{EndsAs, closes_or_not, closing_same}
 use Rattle.disk_model.specs.Account.{Ending}
+use Rattle.disk_model.specs.Calls.{Counts, LastFails}
 use Rattle.disk_model.specs.Listing.{IsFinite}
 use Rattle.disk_model.specs.State.{State, standing}
 use Rattle.index_theory.specs.Honest.{Honest, LeavesHonest}
@@ -37,17 +38,17 @@ use Rattle.index_theory.specs.Honest.{Honest, LeavesHonest}
 abbrev told : World → Option (List ℕ) → World
 told w left = record w { source = record (w.source) { left = left } }
 
-pub runs_not_begun : {T : Type 0} (moment : ℕ) (before : World) (t : State) (faults : ℕ) (answer : Result T StoreFault) (f : StoreFault) (ended : Status) → answer ≡ Err f → answer ≢ Err fault.Sink → ended ≡ status_in (Err f)
-    → (ending answer ≡ Ending.OneFailed → Rose before.disk_faults faults) → FailsToBegin moment before.disk t → RunsScript moment ended before (record before { disk = t; disk_faults = faults })
-runs_not_begun moment before t faults answer f ended failed no_sink same rose fails = go before.source.left
+pub runs_not_begun : {T : Type 0} (counts : Counts) (moment : ℕ) (before : World) (t : State) (faults : ℕ) (answer : Result T StoreFault) (f : StoreFault) (ended : Status) → answer ≡ Err f → answer ≢ Err fault.Sink → ended ≡ status_in (Err f)
+    → (ending answer ≡ Ending.OneFailed → Rose before.disk_faults faults) → FailsToBegin moment before.disk t → RunsScript moment ended before (record before { disk = t; disk_faults = faults; disk_counts = counts })
+runs_not_begun counts moment before t faults answer f ended failed no_sink same rose fails = go before.source.left
   where
-    go : (left : Option (List ℕ)) → RunsScript moment ended (told before left) (record (told before left) { disk = t; disk_faults = faults })
+    go : (left : Option (List ℕ)) → RunsScript moment ended (told before left) (record (told before left) { disk = t; disk_faults = faults; disk_counts = counts })
     go None = tt
     go (Some bytes) = λ m cs is found. inr (not_begun (output_of (told before (Some bytes))) t faults answer f ended failed no_sink same rose fails m is, refl)
 
 -- ---- the session was ended
 
-module _ {moment : ℕ} (s : State) (mid : Session) (begins : BeginsRun moment s mid) (m : Machine) (is : StartsOn moment s m) (acked_now : ℕ) (faults with_last : List ℕ) (cs : List Command) (last : Session) (t : State) (ended came : Status) where
+module _ {moment : ℕ} (s : State) (mid : Session) (begins : BeginsRun moment s mid) (m : Machine) (is : StartsOn moment s m) (acked_now : ℕ) (with_last : List ℕ) (cs : List Command) (last : Session) (t : State) (ended came : Status) where
   abbrev d : Command
   d = (begins.resumed m is).done
 
@@ -56,16 +57,16 @@ module _ {moment : ℕ} (s : State) (mid : Session) (begins : BeginsRun moment s
 
   -- how far they came
   abbrev reach : Status → Reach
-  reach e = one_begun_after m (begins.resumed m is).done acked_now faults with_last e cs
+  reach e = one_begun_after m (begins.resumed m is).done acked_now with_last e cs
 
-  pub ended_leaves : LeavesScript (step m (begins.resumed m is).done).next (one_begun_on (acked (begins.resumed m is).done (settled_at m)) acked_now faults with_last came cs) came mid last → EndsSession ended last t
-      → EndsAs ended came → (¬ (IsClosing came) → t ≡ last.disk) → LeavesHonest last.disk → LeavesDisk m (one_begun_after m (begins.resumed m is).done acked_now faults with_last ended cs) ended s t
+  pub ended_leaves : LeavesScript (step m (begins.resumed m is).done).next (one_begun_on (acked (begins.resumed m is).done (settled_at m)) acked_now with_last came cs) came mid last → EndsSession ended last t
+      → EndsAs ended came → (¬ (IsClosing came) → t ≡ last.disk) → LeavesHonest last.disk → LeavesDisk m (one_begun_after m (begins.resumed m is).done acked_now with_last ended cs) ended s t
   ended_leaves leaves ends same dropped kept = elim (closes_or_not ended) [
     | inl closing ↦
         let as_came : ended ≡ came = closing_same ended came same closing in
         let led = leaves.stands (subst IsClosing as_came closing) in
         subst (λ e. LeavesDisk m (reach e) ended s t) (sym as_came)
-        (ends_leave s mid begins m is last t ended ends (one_begun_on at acked_now faults with_last came cs).done (reach came).marks led.history led.leads led.machine led.within)
+        (ends_leave s mid begins m is last t ended ends (one_begun_on at acked_now with_last came cs).done (reach came).marks led.history led.leads led.machine led.within)
     | inr still ↦ stops_leave m (reach ended) ended s t still (λ quiet. safe) (λ quiet honest. images honest)
   ]
     where
@@ -81,15 +82,16 @@ module _ {moment : ℕ} (s : State) (mid : Session) (begins : BeginsRun moment s
         | inr still ↦ subst LeavesHonest (sym (dropped still)) kept
       ]
 
-pub runs_ended : (moment : ℕ) (ended : Status) (came : Result Status StoreFault) (s : State) (mid last : Progress) (t : State) (begun faults : ℕ) → mid.disk_faults ≡ begun → IsFinite s → BeginsRun moment s mid.session
+pub runs_ended : (k0 k1 : ℕ) (c0 c1 : Counts) (moment : ℕ) (ended : Status) (came : Result Status StoreFault) (s : State) (mid last : Progress) (t : State) (begun faults : ℕ) → mid.disk_faults ≡ begun → IsFinite s → BeginsRun moment s mid.session
     → PerformsScript came mid last → LeavesHonest last.session.disk
     → EndsSession ended last.session t → EndsAs ended (status_in came) → (¬ (IsClosing (status_in came)) → t ≡ last.session.disk)
-    → last.disk_faults ≤ faults → (ended ≡ status.Disk → (status_in came ≡ status.Disk) ⊎ Rose last.disk_faults faults)
-    → RunsScript moment ended (record (world_of mid) { disk = s; disk_faults = begun }) (record (world_of last) { disk = t; disk_faults = faults })
-runs_ended moment ended came s mid last t begun faults calm finite begins performs kept ends same dropped later rose =
-    subst (λ n. RunsScript moment ended (record (world_of mid) { disk = s; disk_faults = n }) (record (world_of last) { disk = t; disk_faults = faults })) calm (go mid.source.left performs)
+    → last.disk_faults ≤ faults → (ended ≡ status.Disk → ((status_in came ≡ status.Disk) × (c1 ≡ last.disk_counts)) ⊎ (Rose last.disk_faults faults × LastFails c1))
+    → (ended ≢ status.Disk → (status_in came ≢ status.Disk) × (faults ≡ last.disk_faults))
+    → RunsScript moment ended (record (world_of mid k0 c0) { disk = s; disk_faults = begun }) (record (world_of last k1 c1) { disk = t; disk_faults = faults })
+runs_ended k0 k1 c0 c1 moment ended came s mid last t begun faults calm finite begins performs kept ends same dropped later failed sound =
+    subst (λ n. RunsScript moment ended (record (world_of mid k0 c0) { disk = s; disk_faults = n }) (record (world_of last k1 c1) { disk = t; disk_faults = faults })) calm (go mid.source.left performs)
   where
-    go : (left : Option (List ℕ)) → PerformsScript came (with_left mid left) last → RunsScript moment ended (record (world_of (with_left mid left)) { disk = s }) (record (world_of last) { disk = t; disk_faults = faults })
+    go : (left : Option (List ℕ)) → PerformsScript came (with_left mid left) last → RunsScript moment ended (record (world_of (with_left mid left) k0 c0) { disk = s }) (record (world_of last k1 c1) { disk = t; disk_faults = faults })
     go None performs = tt
     go (Some bytes) performs = λ m cs is found.
         let resumed = begins.resumed m is in
@@ -113,10 +115,11 @@ runs_ended moment ended came s mid last t begun faults calm finite begins perfor
                   | inl none ↦ inl none
                   | inr (cut, once) ↦ inr (cut, counts_on (suc count) mid.disk_faults last.disk_faults faults later once)
                 ];
-                disk = λ e. elim (rose e) [
-                  | inl before ↦ counts_on (suc count) mid.disk_faults last.disk_faults faults later (r.counts.disk before)
-                  | inr closing ↦ counts_more count mid.disk_faults last.disk_faults faults closing r.counts.counted
+                disk = λ e. elim (failed e) [
+                  | inl (before, still) ↦ counts_on (suc count) mid.disk_faults last.disk_faults faults later (r.counts.disk before)
+                  | inr (closing, last_call) ↦ counts_more count mid.disk_faults last.disk_faults faults closing r.counts.counted
                 ];
+                calm = λ none other. (sound other).1 ∙ r.counts.calm none (sound other).0;
               };
               are_done = are_done_where (resumed_tells s mid.session begins m is) (step m resumed.done).next (unfaulted r.with_last cs) (unfaulted r.with_last r.done) r.is_done.are_done;
               all = λ e. r.tells.all (⊎_elim (λ done. inl (as_came (subst IsClosing (sym done) tt) ∙ done)) (λ script. inr (as_came (subst IsClosing (sym script) tt) ∙ script)) e);
@@ -133,7 +136,11 @@ runs_ended moment ended came s mid last t begun faults calm finite begins perfor
                     source = λ e. said.source (as_came (subst IsClosing (sym e) tt) ∙ e);
                   };
               source = λ e. r.tells.source (as_came (subst IsClosing (sym e) tt) ∙ e);
-              leaves = ended_leaves s mid.session begins m is r.acked r.faults r.with_last r.done last.session t ended (status_in came) r.leaves ends same dropped kept;
+              for_good = λ e. elim (failed e) [
+                | inl (before, still) ↦ ⊎_elim (λ last_call. inl (subst LastFails (sym still) last_call)) (λ sends. inr sends) (r.for_good before)
+                | inr (closing, last_call) ↦ inl last_call
+              ];
+              leaves = ended_leaves s mid.session begins m is r.acked r.with_last r.done last.session t ended (status_in came) r.leaves ends same dropped kept;
             },
           ),
         )

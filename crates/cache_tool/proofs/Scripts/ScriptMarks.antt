@@ -20,15 +20,15 @@ use Rattle.cache_tool.specs.Script.{performed}
 use Rattle.cache_tool.specs.ScriptProgress.{LeadsWithin, LeavesScript, all_answered, marks_on, one_begun_on}
 use Rattle.cache_tool.specs.Statuses.{IsClosing, status_in}
 use Rattle.cache_tool.proofs.Begun.{all_begin_keep}
-use Rattle.cache_tool.proofs.FaultedParts.{next_kept}
+use Rattle.cache_tool.proofs.FaultedParts.{kept_before, next_kept}
 use Rattle.cache_tool.proofs.Scripts.ScriptTurns.{after_more}
 use Rattle.disk_model.specs.State.{State}
 
 -- of these commands the first are acknowledged, and the others have begun
-abbrev between : History → List Command → ℕ → Marks
+abbrev pub between : History → List Command → ℕ → Marks
 between h cs k = all_begun (after h.machine (take k cs)) (drop k (take (length cs) cs)) (all_acked h.machine (take k cs) h.marks)
 
-between_joined : (h : History) (ds xs : List Command) → between h (ds ++ xs) (length ds) ≡ all_begun (after h.machine ds) xs (all_acked h.machine ds h.marks)
+pub between_joined : (h : History) (ds xs : List Command) → between h (ds ++ xs) (length ds) ≡ all_begun (after h.machine ds) xs (all_acked h.machine ds h.marks)
 between_joined h ds xs =
     ap (λ l. all_begun (after h.machine l) (drop (length ds) (take (length (ds ++ xs)) (ds ++ xs))) (all_acked h.machine l h.marks)) (take-append_seam ds xs)
     ∙ ap (λ l. all_begun (after h.machine ds) l (all_acked h.machine ds h.marks)) (ap (drop (length ds)) (take_all (length (ds ++ xs)) (ds ++ xs) (omega arith)) ∙ drop_at ds xs (length ds) refl)
@@ -39,7 +39,7 @@ module _ (h : History) (ds more : List Command) (faults : List ℕ) (numbers : A
   kept = unfaulted faults ds
 
   -- the first are acknowledged, and these after them have begun
-  marks_at : (b : ℕ) (xs : List Command) → take b (ds ++ more) ≡ ds ++ xs → marks_on h (ds ++ more) faults (length ds) b ≡ all_begun (after h.machine kept) xs (all_acked h.machine kept h.marks)
+  pub marks_at : (b : ℕ) (xs : List Command) → take b (ds ++ more) ≡ ds ++ xs → marks_on h (ds ++ more) faults (length ds) b ≡ all_begun (after h.machine kept) xs (all_acked h.machine kept h.marks)
   marks_at b xs is =
       ap (λ l. between h l (length (unfaulted faults (take (length ds) (ds ++ more))))) (ap (unfaulted faults) is ∙ (faults_are_in_front h.machine ds xs faults numbers).kept)
       ∙ ap (λ l. between h (kept ++ xs) (length (unfaulted faults l))) (take-append_seam ds more) ∙ between_joined h kept xs
@@ -63,7 +63,7 @@ within m done w before now h leads same allows = record { history = h; leads = l
 -- the commands were performed, and no more
 pub keeps_front : (h : History) (ds more : List Command) (faults : List ℕ) (ended : Status) (before now : Session) → AreFaults (length ds) faults
     → LeadTo (unfaulted faults ds) before h.machine now (all_answered (unfaulted faults ds) h)
-    → performed ended (length ds) (length (ds ++ more)) ≡ length ds → LeavesScript h.machine (one_begun_on h (length ds) faults faults ended (ds ++ more)) ended before now
+    → performed ended (length ds) (length (ds ++ more)) ≡ length ds → LeavesScript h.machine (one_begun_on h (length ds) faults ended (ds ++ more)) ended before now
 keeps_front h ds more faults ended before now numbers leads same =
     let kept : List Command = unfaulted faults ds in
     let cs : List Command = ds ++ more in
@@ -93,11 +93,11 @@ module _ (h : History) (ds more : List Command) (c : Command) (faults : List ℕ
 
   pub keeps_cut : (f : StoreFault) (before now : Session) → IsSafe now.disk (begun c (all_answered (unfaulted faults ds) h)).marks
       → (f ≡ fault.Sink → LeadTo (unfaulted faults ds ++ c ∷ []) before h.machine now (unanswered c (all_answered (unfaulted faults ds) h)))
-      → LeavesScript h.machine (one_begun_on h (length ds) faults faults (status_in (Err f)) (ds ++ c ∷ more)) (status_in (Err f)) before now
+      → LeavesScript h.machine (one_begun_on h (length ds) faults (status_in (Err f)) (ds ++ c ∷ more)) (status_in (Err f)) before now
   keeps_cut f before now safe effect = record { safe = subst (IsSafe now.disk) (sym marks_next) safe; stands = closed f effect }
     where
       closed : (f : StoreFault) → (f ≡ fault.Sink → LeadTo (first ++ c ∷ []) before h.machine now (unanswered c (all_answered first h))) → IsClosing (status_in (Err f))
-          → LeadsWithin (one_begun_on h (length ds) faults faults (status_in (Err f)) all) h.machine before now
+          → LeadsWithin (one_begun_on h (length ds) faults (status_in (Err f)) all) h.machine before now
       closed fault.Memory has closing = absurd closing
       closed fault.Disk has closing = absurd closing
       closed fault.Sink has closing =
@@ -107,16 +107,28 @@ module _ (h : History) (ds more : List Command) (c : Command) (faults : List ℕ
 
   -- and answered `fault`: so it was not performed
   pub keeps_fault_cut : (f : StoreFault) (before now : Session) → LeadTo (unfaulted faults ds) before h.machine now (all_answered (unfaulted faults ds) h)
-      → LeavesScript h.machine (one_begun_on h (length ds) faults (with_next (length ds) faults) (status_in (Err f)) (ds ++ c ∷ more)) (status_in (Err f)) before now
+      → LeavesScript h.machine (one_begun_on h (length ds) (with_next (length ds) faults) (status_in (Err f)) (ds ++ c ∷ more)) (status_in (Err f)) before now
   keeps_fault_cut f before now leads = record { safe = allows now.disk leads.keeps.stands.crash_kept.safe; stands = closed f }
     where
-      allows : (s : State) → IsSafe s (all_acked h.machine first h.marks) → IsSafe s marks
-      allows s safe = subst (IsSafe s) (sym marks_next) (all_begin_keep s (after h.machine first) (c ∷ []) (all_acked h.machine first h.marks) safe)
+      -- the marks are those where the others are acknowledged
+      left_out : Marks
+      left_out = marks_on h all (with_next (length ds) faults) (length ds) (min (length ds + 1) (length all))
 
-      closed : (f : StoreFault) → IsClosing (status_in (Err f)) → LeadsWithin (one_begun_on h (length ds) faults (with_next (length ds) faults) (status_in (Err f)) all) h.machine before now
+      none_more : left_out ≡ all_acked h.machine first h.marks
+      none_more =
+          ap (λ l. between h (unfaulted (with_next (length ds) faults) l) (length (unfaulted (with_next (length ds) faults) (take (length ds) all)))) (begun_next ds (c ∷ more))
+          ∙ ap (λ l. between h l (length (unfaulted (with_next (length ds) faults) (take (length ds) all)))) (next_kept ds c faults numbers h.machine [])
+          ∙ ap (λ l. between h (first ++ []) (length (unfaulted (with_next (length ds) faults) l))) (take-append_seam ds (c ∷ more))
+          ∙ ap (λ l. between h (first ++ []) (length l)) (kept_before ds faults)
+          ∙ between_joined h first []
+
+      allows : (s : State) → IsSafe s (all_acked h.machine first h.marks) → IsSafe s left_out
+      allows s safe = subst (IsSafe s) (sym none_more) safe
+
+      closed : (f : StoreFault) → IsClosing (status_in (Err f)) → LeadsWithin (one_begun_on h (length ds) (with_next (length ds) faults) (status_in (Err f)) all) h.machine before now
       closed fault.Memory closing = absurd closing
       closed fault.Disk closing = absurd closing
       closed fault.Sink closing =
-          subst (λ l. LeadsWithin (record { done = l; marks = marks }) h.machine before now)
+          subst (λ l. LeadsWithin (record { done = l; marks = left_out }) h.machine before now)
           (sym (ap (unfaulted (with_next (length ds) faults)) (begun_next ds (c ∷ more)) ∙ next_kept ds c faults numbers h.machine [] ∙ append-nil first))
-          (within h.machine first marks before now (all_answered first h) leads refl allows)
+          (within h.machine first left_out before now (all_answered first h) leads refl allows)

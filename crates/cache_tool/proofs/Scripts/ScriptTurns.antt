@@ -1,8 +1,9 @@
 -- What is performed of a script, turn by turn.
-use Rattle.std.proofs.Common.{◌≡◌, ◌⊎◌, inl, inr, ℕ, suc, ◌+◌, ◌<◌, ◌≤◌, List, [], ◌∷◌, ◌++◌, length, take, Option, None, Some, Result, Ok, Err, IsErrAnd, refl, sym, ap, subst, ◌∙◌, arith, append-nil, length-append}
+use Rattle.std.proofs.Common.{◌≡◌, ◌≢◌, ◌⊎◌, inl, inr, ⊎_elim, ℕ, suc, ◌+◌, ◌<◌, ◌≤◌, List, [], ◌∷◌, ◌++◌, length, take, Option, None, Some, Result, Ok, Err, IsErrAnd, refl, sym, ap, subst, ◌∙◌, arith, append-nil, length-append}
 use Rattle.std.specs.Io.KnownBytes.{Appends}
-use Rattle.std.specs.Prelude.{Bool, IsTrue}
+use Rattle.std.specs.Prelude.{Bool, IsTrue, slice_get}
 use Rattle.std.proofs.KnownBytes.{Appends-nil, Appends-trans}
+use Rattle.std.proofs.Math.Seq.{take-append_seam}
 use Rattle.cache_script.specs.Command.{command_of}
 use Rattle.cache_script.specs.Reader.{BreaksOff, Ends, Gives, IsBadScript, LeavesReader, given_in, held_in, rest_of, used_in}
 use Rattle.cache_script.specs.declared.command.Command.{Command as Given}
@@ -10,10 +11,11 @@ use Rattle.cache_script.specs.declared.reader.Reader.{Reader}
 use Rattle.cache_script.specs.declared.reader.ScriptFault.{ScriptFault}
 use Rattle.cache_base.specs.Causes.{Rose}
 use Rattle.cache_store.specs.DoneFor.{IsDoneFor}
-use Rattle.cache_store.specs.Faulting.{StaysAs}
+use Rattle.cache_store.specs.Faulting.{FailsForGood, SendsReplyFront, StaysAs}
 use Rattle.cache_store.specs.Open.{KeepsTo, Tells}
 use Rattle.cache_store.specs.Performing.{ComesToTell, PerformsAndKeeps, PerformsFor}
 use Rattle.cache_store.specs.Said.{IsCut}
+use Rattle.cache_store.specs.Session.{cache_of}
 use Rattle.cache_store.specs.declared.fault.Verdict.{Verdict}
 use Rattle.cache_store.specs.declared.fault.StoreFault.{StoreFault}
 use Rattle.cache_store.specs.declared.fault.StoreFault.TheVariants as fault
@@ -27,20 +29,23 @@ use Rattle.cache_theory.specs.Text.{IsSpoken, reply_text, script_bytes}
 use Rattle.cache_theory.proofs.Faults.RepliesApart.{step_spoken}
 use Rattle.cache_theory.proofs.Faults.FaultedOn.{faults_are_in_front, faults_are_within, next_may_fault}
 use Rattle.cache_tool.specs.Right.{LeadTo, has_rebuild}
-use Rattle.cache_tool.specs.ScriptProgress.{AreRead, ArePerformed, DoneForKept, EndsScript, FailsAfter, FailsInLine, FaultsAfter, HasPerformed, IsCutOff, PerformsAll, PerformsNext, all_answered}
+use Rattle.cache_tool.specs.ScriptProgress.{AreRead, ArePerformed, DoneForKept, EndsScript, FailsAfter, FailsInLine, FailsInReply, FaultsAfter, HasPerformed, IsCutOff, PerformsAll, PerformsNext, all_answered}
 use Rattle.cache_tool.specs.Staying.{StaysFor, StaysOnce}
 use Rattle.cache_tool.specs.Tally.{RoseBy}
+use Rattle.cache_tool.specs.Verbs.{SendsNextFront}
 use Rattle.cache_tool.specs.World.{Progress, Sitting, Supply, sitting_of}
 use Rattle.cache_tool.specs.declared.script.Ended.{Ended}
 use Rattle.cache_tool.specs.declared.script.Ended.TheVariants as ended
 use Rattle.cache_tool.proofs.Answering.{AnswersByFault, AnswersByReply, AnswersNext}
 use Rattle.cache_tool.proofs.DoneKept.{done_kept_but, done_kept_on}
 use Rattle.cache_tool.proofs.DoneLaws.{done_rebuild, done_right, done_spoken, done_where, script_is_spoken, spoken_parts}
-use Rattle.cache_tool.proofs.FaultedParts.{next_numbers, one_longer}
+use Rattle.cache_tool.proofs.FaultedParts.{next_numbers, one_longer, some_next}
+use Rattle.cache_tool.proofs.ForGood.{no_resume, stops_for_good}
 use Rattle.cache_tool.proofs.Moments.{with_source}
 use Rattle.cache_tool.proofs.RightLaws.{leads_none, leads_on, leads_one, leads_still}
 use Rattle.cache_tool.proofs.StayingLaws.{stays_done}
 use Rattle.cache_tool.proofs.Scripts.ScriptBytes.{more_length, nothing_read, read_bad, read_front, read_on, read_taken, read_whole}
+use Rattle.disk_model.specs.Calls.{LastFails}
 use Rattle.index_map.specs.Known.{SameBase}
 
 -- the machine after some commands and one more
@@ -48,10 +53,28 @@ pub after_more : (m : Machine) (cs : List Command) (c : Command) → after m (cs
 after_more m [] c = refl
 after_more m (d ∷ cs) c = after_more (step m d).next cs c
 
+-- the next one stands after the first
+next_at : (ds : List Command) (d : Command) (more : List Command) → slice_get (ds ++ d ∷ more) (length ds) ≡ Some d
+next_at [] d more = refl
+next_at (e ∷ ds) d more = next_at ds d more
+
 -- and so the history
 answered_more : (cs : List Command) (c : Command) (h : History) → all_answered (cs ++ c ∷ []) h ≡ acked c (all_answered cs h)
 answered_more [] c h = refl
 answered_more (d ∷ cs) c h = answered_more cs c (acked d h)
+
+-- the answers to these are out, and then a front of the reply to the next one
+sends_next : (m : Machine) (ds : List Command) (d : Command) (more : List Command) (faults : List ℕ) (before mid now : Option (List ℕ)) → Appends before mid (replies_but m ds faults)
+    → SendsReplyFront d (after m (unfaulted faults ds)) mid now → SendsNextFront m (ds ++ d ∷ more) (length ds) faults before now
+sends_next m ds d more faults before mid now out sends =
+    let seam : ds ≡ take (length ds) (ds ++ d ∷ more) = sym (take-append_seam ds (d ∷ more)) in
+    record {
+      next = d;
+      is_next = next_at ds d more;
+      mid = mid;
+      answers = subst (λ l. Appends before mid (replies_but m l faults)) seam out;
+      front = subst (λ l. SendsReplyFront d (after m (unfaulted faults l)) mid now) seam sends;
+    }
 
 module _ (before : Progress) where
   -- nothing was performed
@@ -104,13 +127,14 @@ module _ (before : Progress) where
 
     -- it failed
     broke_off : (f : StoreFault) → IsSpoken d → PerformsAndKeeps d (all_answered kept h) (Err f) mid.session now.session mid.taken now.taken → (f ≡ fault.Sink → StaysOnce d mid.session (after h.machine kept) now.session)
-        → IsCutOff ds faults d f h before now
-    broke_off f spoken next stays = record {
+        → (f ≡ fault.Disk → LastFails now.disk_counts ⊎ SendsReplyFront d (after h.machine kept) mid.taken now.taken) → IsCutOff ds faults d f h before now
+    broke_off f spoken next stays good = record {
       safe = next.keeps.safe;
       cut =
           let tail = next.performs.cut (step_spoken (after h.machine kept) d spoken) in
           record { cut = tail.0; short = tail.1.0; out = one_out (take tail.0 (reply_text (step (after h.machine kept) d).reply)) tail.1.1 };
       effect = λ sink. one_leads (unanswered d (all_answered kept h)) (next.keeps.unanswered sink) (next.performs.tells sink) (stays sink);
+      for_good = λ more disk. ⊎_elim (λ last. inl last) (λ sends. inr (sends_next h.machine ds d more faults before.taken mid.taken now.taken so_far.out sends)) (good disk);
     }
 
     -- the disk failed in a look, and all is as it was
@@ -153,8 +177,9 @@ module _ (before : Progress) where
     }
 
     -- it failed
-    one_failed : (f : StoreFault) → IsSpoken c → PerformsFor c (Err f) mid.session now.session mid.taken now.taken → StaysFor {T = Verdict} c (Err f) mid.session now.session → FailsAfter cs faults c f before now
-    one_failed f spoken next stays = record {
+    one_failed : (f : StoreFault) → IsSpoken c → PerformsFor c (Err f) mid.session now.session mid.taken now.taken → StaysFor {T = Verdict} c (Err f) mid.session now.session
+        → (f ≡ fault.Disk → FailsForGood now.disk_counts c (cache_of mid.session) mid.taken now.taken) → FailsAfter cs faults c f before now
+    one_failed f spoken next stays good = record {
       each = λ h keeps.
           let some = performs.each h keeps in
           let stands = some.performed.stands.keeps in
@@ -168,7 +193,8 @@ module _ (before : Progress) where
             last = does.0;
             is_done = one_done mid now some.done does.0 faults numbers_done h some.performed cs c some.is_done did;
             as_long = some.is_done.as_many;
-            cut_off = broke_off mid now some.done does.0 faults numbers_done h some.performed f (done_spoken (Tells mid.session at) c at does.0 did spoken) does.1.1 stays_once;
+            cut_off = broke_off mid now some.done does.0 faults numbers_done h some.performed f (done_spoken (Tells mid.session at) c at does.0 did spoken) does.1.1 stays_once
+                (λ disk. stops_for_good (Tells mid.session at) c at does.0 did now.disk_counts mid.taken now.taken (cache_of mid.session) (represents stands).stands (good disk));
           };
     }
 
@@ -224,6 +250,7 @@ starts tells r before held given used = record {
   used = used;
   faults = [];
   counts = record { numbers = tt; counted = omega arith };
+  calm = λ none. refl;
   performs = λ told. none_performed before;
 }
 
@@ -257,8 +284,8 @@ module _ (tells : Bool) (r q : Reader) (mid now : Progress) (c : Command) (gives
 
   -- a command was performed
   replied_on : (o : Verdict) → (IsTrue tells → PerformsFor c (Ok o) mid.session now.session mid.taken now.taken) → (IsTrue tells → StaysFor {T = Verdict} c (Ok o) mid.session now.session)
-      → PerformsNext tells (Ok None) r q mid now
-  replied_on o performs stays = record {
+      → now.disk_faults ≡ mid.disk_faults → PerformsNext tells (Ok None) r q mid now
+  replied_on o performs stays calm = record {
     on = λ before goes. record {
       commands = goes.commands ++ c ∷ [];
       read = so_read before goes;
@@ -266,6 +293,7 @@ module _ (tells : Bool) (r q : Reader) (mid now : Progress) (c : Command) (gives
       used = so_used before goes;
       faults = goes.faults;
       counts = record { numbers = more_numbers before goes; counted = still_counted before goes };
+      calm = λ none. calm ∙ goes.calm none;
       performs = λ told. one_performed before mid now goes.commands c goes.faults goes.counts.numbers (goes.performs told) o (performs told) (stays told);
     };
   }
@@ -284,12 +312,13 @@ module _ (tells : Bool) (r q : Reader) (mid now : Progress) (c : Command) (gives
         numbers = next_numbers goes.commands c goes.faults goes.counts.numbers;
         counted = subst (λ n. RoseBy n before.disk_faults now.disk_faults) (one_longer goes.faults (suc (length goes.commands))) (once_more before goes rose);
       };
+      calm = λ none. absurd (some_next (length goes.commands) goes.faults none);
       performs = λ told. one_faulted before mid now goes.commands c goes.faults goes.counts.numbers (goes.performs told) (stays told) base said;
     };
   }
 
   pub turn_on : (v : Verdict) → AnswersNext tells c (Ok v) (sitting_of mid) (sitting_of now) → PerformsNext tells (Ok None) r q mid now
-  turn_on v (later_too, inl reply) = replied_on v reply.performs reply.stays
+  turn_on v (later_too, inl reply) = replied_on v reply.performs reply.stays (reply.kept (λ e. absurd (cc e)))
   turn_on v (later_too, inr line) = faulted_turn line.rose line.stays line.base line.printed
 
   -- a command failed
@@ -307,10 +336,16 @@ module _ (tells : Bool) (r q : Reader) (mid now : Progress) (c : Command) (gives
   }
     where
       failed : (before : Progress) (goes : HasPerformed tells r before mid) → AnswersByReply tells c (Err f) (sitting_of mid) (sitting_of now) ⊎ AnswersByFault tells (Err f) (sitting_of mid) (sitting_of now)
-          → (IsTrue tells → FailsAfter goes.commands goes.faults c f before now)
+          → FailsInReply tells goes.commands goes.faults c f before now
           ⊎ (FailsInLine f goes.faults before now × (IsTrue tells → FaultsAfter goes.commands goes.faults before now))
-      failed before goes (inl reply) = inl (λ told. one_failed before mid now goes.commands c goes.faults goes.counts.numbers (goes.performs told) f
-          (spoken_parts goes.commands (c ∷ []) (script_is_spoken (goes.commands ++ c ∷ []) (so_read before goes).commands)).1.0 (reply.performs told) (reply.stays told))
+      failed before goes (inl reply) =
+          let spoken = (spoken_parts goes.commands (c ∷ []) (script_is_spoken (goes.commands ++ c ∷ []) (so_read before goes).commands)).1.0 in
+          inl (record {
+            calm = λ other none. reply.kept (λ e. let is : f ≡ fault.Disk = cc e in other is) ∙ goes.calm none;
+            each = λ told.
+                one_failed before mid now goes.commands c goes.faults goes.counts.numbers (goes.performs told) f spoken (reply.performs told) (reply.stays told)
+                (λ disk. reply.for_good (no_resume c spoken) (ap (λ x. Err x) disk) told);
+          })
       failed before goes (inr line) = inr (
         record { no_disk = λ e. line.no_disk (ap (λ x. Err x) e); rose = once_more before goes line.rose },
         λ told. one_faulted_cut before mid now goes.commands c goes.faults goes.counts.numbers (goes.performs told) (line.stays told) line.base line.cut,
@@ -331,6 +366,7 @@ module _ (tells : Bool) (r q : Reader) (mid : Progress) (source : Supply) where
       ends = ends before goes;
       faults = goes.faults;
       counts = record { numbers = goes.counts.numbers; counted = goes.counts.counted };
+      calm = goes.calm;
       performs = λ told. record {
         each = λ h keeps.
             let some = (goes.performs told).each h keeps in

@@ -22,6 +22,8 @@ use Rattle.disk_model.specs.declared.place.Place.{Place}
 use Rattle.disk_model.specs.declared.place.Place.TheVariants.{Doomed}
 use Rattle.disk_model.proofs.Places.{never, one_same}
 use Rattle.disk_model.proofs.Standing.{removed_puts}
+use Rattle.doom_area.specs.DoomArea.{RemovesDoomed}
+use Rattle.doom_area.proofs.ClearedTo.{removes_done}
 use Rattle.entry_name.specs.EntryName.{file_name}
 use Rattle.file_handles.specs.Cache.{cache_at}
 use Rattle.file_handles.specs.Closing.{ClosesAll, IsClosed, let_go_by, without_doomed}
@@ -208,3 +210,16 @@ all_failed k i x r s t u at_x is to m w stands = safe_done k i x r s t u at_x is
 -- the next file stands, whatever the machine is
 pub next_somehow : (s t : State) (k : Kept) (i : ℕ) (x : Object) → RepresentsSome (cache_at k s) → object_at k i ≡ Some x → IsDroppedTo k i s t → IsSome (standing t (object_place x))
 next_somehow s t k i x (m, (number, stands)) at to = next_stands s k m number stands i x t at to
+
+same_or_same : {T : Type 0} (r : Result T DiskFault) (s : State) → if_done r s s ≡ s
+same_or_same (Ok value) s = refl
+same_or_same (Err Failed) s = refl
+same_or_same (Err Memory) s = refl
+
+-- of an object that is let go a doomed file is removed, if it has one, and nothing else is done
+pub let_go_removes : {T : Type 0} (r : Result T DiskFault) (x : Object) (s t u : State) → RemovesDoomed s t → u ≡ if_done r (let_go_by x t) t → RemovesDoomed s u
+let_go_removes r x s t u removes is = go x.aside is
+  where
+    go : (aside : Option ℕ) → u ≡ if_done r (without_doomed aside t) t → RemovesDoomed s u
+    go None is = subst (RemovesDoomed s) (sym (is ∙ same_or_same r t)) removes
+    go (Some number) is = removes_done r number s t u removes is

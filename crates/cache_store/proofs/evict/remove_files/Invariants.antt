@@ -4,6 +4,7 @@ use Rattle.cache_store.proofs.Clearing.NamesDoomed.{Completes}
 use Rattle.disk_model.specs.Account.{IsCalm, LooksAtNoEntry}
 use Rattle.disk_model.specs.Told.{Told}
 use Rattle.file_handles.specs.Cache.{cache}
+use Rattle.file_handles.specs.Dooming.{TakesEntries}
 use Rattle.file_handles.specs.Kept.{kept}
 use Rattle.file_handles.specs.Unsynced.{SyncsNothing}
 use Rattle.index_theory.specs.Leaves.{LeavesBeside}
@@ -18,6 +19,7 @@ invariant-loop-name g l = record {
       → Completes (drop l.name-index l.names) l.fn.names (cache g.D.Disk l.fn.handles l.fn.disk) (cache g.D.Disk l.handles l.disk);
   kept : kept l.handles ≡ kept l.fn.handles;
   index : Told g.D.Disk LeavesBeside l.fn.disk l.disk;
+  takes : Told g.D.Disk TakesEntries l.fn.disk l.disk;
   unsynced : Told g.D.Disk SyncsNothing l.fn.disk l.disk;
   calm : IsCalm g.D.Disk l.fn.disk l.disk;
   looks : LooksAtNoEntry g.D.Disk l.fn.disk l.disk;

@@ -1,10 +1,13 @@
 -- What the command came to, where the run began and where it did not.
-use Rattle.std.proofs.Common.{◌≡◌, ◌∙◌, ap, arith, inl, inr, refl, subst, sym}
+use Rattle.std.proofs.Common.{◌≡◌, ◌⊎◌, ◌∙◌, ap, arith, inl, inr, refl, subst, sym}
+use Rattle.std.specs.Io.KnownBytes.{Appends}
+use Rattle.cache_base.specs.Causes.{Rose}
 use Rattle.cache_script.specs.Command.{command_of}
+use Rattle.cache_store.specs.Faulting.{FailsForGood}
 use Rattle.cache_store.specs.IndexCalls.{ReadsEntriesOf}
 use Rattle.cache_store.specs.Open.{Tells}
 use Rattle.cache_store.specs.Saying.{IsPart}
-use Rattle.cache_store.specs.Session.{session}
+use Rattle.cache_store.specs.Session.{cache_of, session}
 use Rattle.cache_store.proofs.Performing.Represented.{represents}
 use Rattle.cache_theory.specs.Faulted.{fault_line}
 use Rattle.cache_theory.specs.History.{acked, settled_at}
@@ -12,6 +15,7 @@ use Rattle.cache_theory.specs.Step.{step}
 use Rattle.cache_tool.specs.World.{output}
 use Rattle.cache_tool.proofs.DoneLaws.{done_right, done_spoken}
 use Rattle.cache_tool.proofs.EntryLooks.{looks_none, nothing_to_read, reads_none}
+use Rattle.cache_tool.proofs.ForGood.{disk_drops, no_resume, stops_for_good}
 use Rattle.cache_tool.proofs.OneCommand.{came_ending, came_open, faulted_prints, not_begun, performed_prints, rose_twice}
 use Rattle.cache_tool.proofs.Puts.PutEnds.{put_stops}
 use Rattle.cache_tool.proofs.SessionEnds.{next_done, resumed_done}
@@ -46,6 +50,7 @@ returns-then-faulting-clause-answers g c = λ tells m is.
             mid (session g.D.Disk c.attempt-answered.new.self c.attempt-answered.new.disk) begins m is c.end_faulted.result (command.stays failed tells) (command.same_base failed) (c.end_faulted.ensures.ends tells)
             c.end_faulted.ensures.failed (omega (arith, calm, rose, later))
             (subst (λ taken. IsPart taken (g.K.Sink.taken c.end_faulted.new.sink) fault_line) same c.end_faulted.ensures.part)
+            (λ disk. subst (λ k. Appends (g.K.Sink.taken k) (g.K.Sink.taken c.end_faulted.new.sink) fault_line ⊎ Rose (g.K.Sink.faults k) (g.K.Sink.faults c.end_faulted.new.sink)) (command.silent failed) (c.end_faulted.ensures.said disk))
             (λ disk. rose_twice (g.D.Disk.faults c.args.disk.now) (g.D.Disk.faults c.begin.new.disk) (g.D.Disk.faults c.attempt-answered.new.disk) (g.D.Disk.faults c.end_faulted.new.disk) calm rose tells
             (c.end_faulted.ensures.closed disk))),
       ),
@@ -75,7 +80,13 @@ returns-clause-answers g c = λ tells m is.
             performed_prints (output g.K.Sink g.D.Disk c.args.sink.now c.args.disk.now) (output g.K.Sink g.D.Disk c.attempt-answered.new.sink c.end.new.disk) mid last begins m is c.end.result
                 does.0 (c.end.ensures.ends tells) c.attempt-answered.result c.map.result (done_spoken (Tells mid next) command next does.0 done c.requires.spoken) does.1.1.performs does.1.1.keeps
                 (λ had. stays_done (Tells mid next) command mid next last does.0 done (stays next (represents resumed.leads.keeps) had)) (c.attempt-answered.ensures.honest tells) c.map.ensures.cases c.end.ensures.same
-                (λ not. let kept = c.end.ensures.dropped not in (kept.0, ap (λ d. g.D.Disk.state d) kept.1)),
+                (λ not. let kept = c.end.ensures.dropped not in (kept.0, ap (λ d. g.D.Disk.state d) kept.1))
+                (λ closing disk. c.end.ensures.last closing disk tells)
+                (λ failed.
+                let kept = c.end.ensures.dropped (disk_drops c.attempt-answered.result c.map.result c.map.ensures.cases failed) in
+                stops_for_good (Tells mid next) command next does.0 done (g.D.Disk.counts c.end.new.disk) (g.K.Sink.taken c.args.sink.now) (g.K.Sink.taken c.attempt-answered.new.sink) (cache_of mid) (represents resumed.leads.keeps).stands
+                (subst (λ d. FailsForGood (g.D.Disk.counts d) command (cache_of mid) (g.K.Sink.taken c.args.sink.now) (g.K.Sink.taken c.attempt-answered.new.sink)) (sym kept.1)
+                (c.attempt-answered.ensures.fails (sym c.faulting.ensures ∙ c.if-faulting.false) (no_resume command c.requires.spoken) failed tells))),
           ),
         ),
       ),

@@ -141,3 +141,7 @@ returns-in-Refused-clause-bare g c = λ calm. c.append_piece.ensures.bare (c.pie
 
 pub returns-in_err-outcome-clause-open : goal.returns-in_err-outcome-clause-open
 returns-in_err-outcome-clause-open g c = λ told. handed_open c.from_residual.result c.in_err-outcome.field-0.0 (session g.D.Disk c.append_piece.new.store c.append_piece.new.disk) c.from_residual.ensures.1 (c.in_err-outcome.ensures.open told)
+
+pub returns-in_err-outcome-clause-change : goal.returns-in_err-outcome-clause-change
+returns-in_err-outcome-clause-change g c = λ calm.
+    rw (handed_on c.from_residual.result c.in_err-outcome.field-0.0 c.from_residual.ensures.1) (c.in_err-outcome.ensures.change (c.pieces.invariant.bare calm))

@@ -49,3 +49,7 @@ returns-in_err-outcome-clause-open g c = λ told. handed_open c.from_residual.re
 
 pub returns-then-is_empty-clause-honest : goal.returns-then-is_empty-clause-honest
 returns-then-is_empty-clause-honest g c = λ told. open_leaves_honest (session g.D.Disk c.args.store.now c.args.disk.now) (c.requires.told told)
+
+pub returns-in_err-outcome-clause-change : goal.returns-in_err-outcome-clause-change
+returns-in_err-outcome-clause-change g c = λ calm.
+    rw (handed_on c.from_residual.result c.in_err-outcome.field-0.0 c.from_residual.ensures.1) (c.in_err-outcome.ensures.change (c.send.ensures.bare tt) (λ r. refl) (λ e. cc))

@@ -18,6 +18,12 @@ use Rattle.cache_tool.proofs.RightLaws.{open_leaves_honest}
 use Rattle.cache_tool.proofs.Puts.PutWhole.{appended_failed, appended_other, close_failed, close_went, create_failed, create_refused, created, nothing_went, other_outcome}
 use Rattle.cache_tool.proofs.put.perform_put.Goals as goal
 
+no_look : (o : Verdict) (now : Bool) → (now ≡ true → ◌≡◌ {A = Result Verdict StoreFault} (Ok o) (Err fault.Disk)) → now ≡ false
+no_look o now failed = is_false now (λ e. absurd (let one = failed e in cc))
+
+same_fault : (f g : StoreFault) → ◌≡◌ {A = Result Verdict StoreFault} (Err f) (Err g) → f ≡ g
+same_fault f g is = cc
+
 pub returns-in_err-piece-clause-performs : goal.returns-in_err-piece-clause-performs
 returns-in_err-piece-clause-performs g c = λ told. record {
   each = λ some h stands.
@@ -109,10 +115,12 @@ returns g c = record {
   honest = search rules;
   no_sink = search rules;
   account = search rules;
+  faulted = λ failed. absurd (true≢false (sym failed ∙ c.append_all.ensures.bare (no_look c.in_ok-send.field-0 c.send.new.store.faulting c.in_ok-send.ensures.faulted)));
   looked = λ disk. absurd (let one : ◌≡◌ {A = Result Status StoreFault} (Ok c.in_ok-appended.appended) (Err fault.Disk) = disk in cc);
   stays = λ disk. absurd (let one : ◌≡◌ {A = Result Status StoreFault} (Ok c.in_ok-appended.appended) (Err fault.Disk) = disk in cc);
   same_base = λ disk. absurd (let one : ◌≡◌ {A = Result Status StoreFault} (Ok c.in_ok-appended.appended) (Err fault.Disk) = disk in cc);
   unread_fault = λ disk. absurd (let one : ◌≡◌ {A = Result Status StoreFault} (Ok c.in_ok-appended.appended) (Err fault.Disk) = disk in cc);
+  change = search rules;
 }
 
 pub returns-in_err-outcome-clause-open : goal.returns-in_err-outcome-clause-open
@@ -127,9 +135,6 @@ returns-in_err-send-clause-stays g c = λ disk failed. c.send.ensures.stays fail
 
 pub returns-in_err-send-clause-looked : goal.returns-in_err-send-clause-looked
 returns-in_err-send-clause-looked g c = λ disk failed. c.send.ensures.looked failed
-
-no_look : (o : Verdict) (now : Bool) → (now ≡ true → ◌≡◌ {A = Result Verdict StoreFault} (Ok o) (Err fault.Disk)) → now ≡ false
-no_look o now failed = is_false now (λ e. absurd (let one = failed e in cc))
 
 pub returns-in_err-appended-clause-looked : goal.returns-in_err-appended-clause-looked
 returns-in_err-appended-clause-looked g c = λ disk failed. absurd (true≢false (sym failed ∙ c.append_all.ensures.bare (no_look c.in_ok-send.field-0 c.send.new.store.faulting c.in_ok-send.ensures.faulted)))
@@ -157,3 +162,40 @@ returns-in_err-appended-clause-unread_fault g c = λ disk failed. absurd (true�
 
 pub returns-in_err-outcome-clause-unread_fault : goal.returns-in_err-outcome-clause-unread_fault
 returns-in_err-outcome-clause-unread_fault g c = λ disk failed. absurd (true≢false (sym failed ∙ c.send-in-Done.ensures.bare tt))
+
+-- the last call failed, where no look did
+
+pub returns-in_err-send-clause-change : goal.returns-in_err-send-clause-change
+returns-in_err-send-clause-change g c = λ calm.
+    rw (handed_on c.from_residual-in_err-send.result c.in_err-send.field-0.0 c.from_residual-in_err-send.ensures.1) (c.in_err-send.ensures.change calm (λ r. refl) (λ e. cc))
+
+pub returns-in_err-appended-clause-change : goal.returns-in_err-appended-clause-change
+returns-in_err-appended-clause-change g c = λ calm.
+    rw (handed_on c.from_residual-in_err-appended.result c.in_err-appended.field-0.0 c.from_residual-in_err-appended.ensures.1)
+    (c.in_err-appended.ensures.change (no_look c.in_ok-send.field-0 c.send.new.store.faulting c.in_ok-send.ensures.faulted))
+
+pub returns-in_err-outcome-clause-change : goal.returns-in_err-outcome-clause-change
+returns-in_err-outcome-clause-change g c = λ calm.
+    rw (handed_on c.from_residual-in_err-outcome.result c.in_err-outcome.field-0.0 c.from_residual-in_err-outcome.ensures.1) (c.in_err-outcome.ensures.change (c.send-in-Done.ensures.bare tt) (λ r. refl) (λ e. cc))
+
+-- and a look fails in the first command alone
+
+pub returns-in_err-send-clause-faulted : goal.returns-in_err-send-clause-faulted
+returns-in_err-send-clause-faulted g c = λ failed.
+    handed_on c.from_residual-in_err-send.result c.in_err-send.field-0.0 c.from_residual-in_err-send.ensures.1
+    ∙ ap (λ f. Err f) (same_fault c.in_err-send.field-0.0 fault.Disk (c.in_err-send.ensures.faulted failed))
+
+pub returns-in_err-appended-clause-faulted : goal.returns-in_err-appended-clause-faulted
+returns-in_err-appended-clause-faulted g c = λ failed. absurd (true≢false (sym failed ∙ c.append_all.ensures.bare (no_look c.in_ok-send.field-0 c.send.new.store.faulting c.in_ok-send.ensures.faulted)))
+
+pub returns-in_err-outcome-clause-faulted : goal.returns-in_err-outcome-clause-faulted
+returns-in_err-outcome-clause-faulted g c = λ failed. absurd (true≢false (sym failed ∙ c.send-in-Done.ensures.bare tt))
+
+pub returns-in-Done-clause-faulted : goal.returns-in-Done-clause-faulted
+returns-in-Done-clause-faulted g c = λ failed. absurd (true≢false (sym failed ∙ c.send-in-Done.ensures.bare tt))
+
+pub returns-in-Refused-clause-faulted : goal.returns-in-Refused-clause-faulted
+returns-in-Refused-clause-faulted g c = λ failed. absurd (let one = c.in_ok-send.ensures.faulted failed in cc)
+
+pub returns-in_err-piece-clause-faulted : goal.returns-in_err-piece-clause-faulted
+returns-in_err-piece-clause-faulted g c = λ failed. absurd (true≢false (sym failed ∙ c.requires.calm))

@@ -1,6 +1,5 @@
 use Rattle.std.proofs.Common.{◌≡◌, ◌∙◌, arith, inl, inr, refl, sym, ap, subst}
 use Rattle.std.specs.Io.KnownBytes.{Appends}
-use Rattle.std.specs.Prelude.{Err}
 use Rattle.cache_store.specs.Saying.{IsPart}
 use Rattle.cache_store.specs.Session.{session}
 use Rattle.cache_theory.specs.History.{acked, settled_at}
@@ -8,6 +7,7 @@ use Rattle.cache_tool.specs.HeldReply.{said_in}
 use Rattle.cache_tool.specs.Statuses.{status_in}
 use Rattle.cache_tool.specs.World.{output, supply}
 use Rattle.cache_tool.proofs.Growing.{takes_none, takes_part}
+use Rattle.cache_tool.proofs.ForGood.{ended_last, only_came}
 use Rattle.cache_tool.proofs.OneCommand.{faulted_prints, not_begun, rose_twice}
 use Rattle.cache_tool.proofs.Puts.PutEnds.{Printed, answered, disk_cause, ended_no_sink, never_others, never_sink, not_answered, put_refuses, put_stops, source_came, stops_after}
 use Rattle.cache_tool.proofs.SessionEnds.{resumed_done}
@@ -81,15 +81,18 @@ returns g c =
                   mid (session g.D.Disk c.perform_put-came.new.store c.perform_put-came.new.disk) (g.D.Disk.state c.end.new.disk) (said_in c.perform_put-came.new.said) begins m is
                   ((c.perform_put-came.ensures.performs told).each some (acked resumed.done (settled_at m)) resumed.leads.keeps) (c.end.ensures.ends told) c.end.ensures.same
                   (c.perform_put-came.ensures.honest told) (λ dropped. ap g.D.Disk.state (c.end.ensures.dropped dropped).1)
-                  (no_answer c.end.result c.in_default-end.not-Done c.in_default-end.not-No) (ended_no_sink c.end.result (status_in c.perform_put-came.result) (never_sink c.perform_put-came.result c.perform_put-came.ensures.only c.perform_put-came.ensures.no_sink) c.end.ensures.same)),
+                  (ended_last c.perform_put-came.result c.end.result (g.D.Disk.counts c.perform_put-came.new.disk) (g.D.Disk.counts c.end.new.disk) (only_came c.perform_put-came.result c.perform_put-came.ensures.only)
+                  (λ closing disk. c.end.ensures.last closing disk told) (λ not. let left = c.end.ensures.dropped not in (left.0, ap g.D.Disk.counts left.1))
+                  (λ failed. c.perform_put-came.ensures.change (sym c.faulting.ensures ∙ c.if-faulting.false) failed told))
+                  (no_answer c.end.result c.in_default.not-Done c.in_default.not-No) (ended_no_sink c.end.result (status_in c.perform_put-came.result) (never_sink c.perform_put-came.result c.perform_put-came.ensures.only c.perform_put-came.ensures.no_sink) c.end.ensures.same)),
             ),
           );
       grows = takes_none (g.K.Sink.taken c.args.sink.now);
-      read = λ done. absurd (c.in_default-end.not-Done done);
+      read = λ done. absurd (c.in_default.not-Done done);
       unread = c.perform_put-came.ensures.unread;
       taken = c.perform_put-came.ensures.taken;
-      done = λ is. absurd (c.in_default-end.not-Done is);
-      refused = λ is. absurd (c.in_default-end.not-No is);
+      done = λ is. absurd (c.in_default.not-Done is);
+      refused = λ is. absurd (c.in_default.not-No is);
       others = never_others c.perform_put-came.result c.end.result c.perform_put-came.ensures.only c.perform_put-came.ensures.no_sink c.end.ensures.same;
       quiet = c.end.ensures.quiet;
       stops = λ told.
@@ -98,7 +101,7 @@ returns g c =
           (c.perform_put-came.ensures.account.stops told) (c.end.ensures.stops told) (λ dropped. ap g.D.Disk.counts (c.end.ensures.dropped dropped).1);
       source = λ source. c.perform_put-came.ensures.source (source_came c.perform_put-came.result c.end.result c.end.ensures.same source);
       sink = λ sink. absurd (ended_no_sink c.end.result (status_in c.perform_put-came.result) (never_sink c.perform_put-came.result c.perform_put-came.ensures.only c.perform_put-came.ensures.no_sink) c.end.ensures.same sink);
-      calm = λ answer. absurd (no_answer c.end.result c.in_default-end.not-Done c.in_default-end.not-No answer);
+      calm = λ answer. absurd (no_answer c.end.result c.in_default.not-Done c.in_default.not-No answer);
       disk = cause.rose;
       disk_first = λ other no_memory. cause.kept other;
     }
@@ -108,13 +111,13 @@ pub end_faulted-requires : goal.end_faulted-requires
 end_faulted-requires g c = record {
   told = λ told.
       let some = c.in-Ok.ensures.open told in
-      (some.0, (c.perform_put-came.ensures.stays (c.in-Err-Disk.is ∙ ap (λ f. Err f) (rw c.in-Err-Disk.is at c.in-Err-Disk.field-0-is)) (sym c.faulting.ensures ∙ c.if-faulting.true) told).stands some.0 some.1);
+      (some.0, (let failed = sym c.faulting.ensures ∙ c.if-faulting.true in c.perform_put-came.ensures.stays (c.perform_put-came.ensures.faulted failed) failed told).stands some.0 some.1);
 }
 
 pub returns-then-faulting-clause-stores : goal.returns-then-faulting-clause-stores
 returns-then-faulting-clause-stores g c = λ told some m is.
-    let disk = c.in-Err-Disk.is ∙ ap (λ f. Err f) (rw c.in-Err-Disk.is at c.in-Err-Disk.field-0-is) in
     let failed = sym c.faulting.ensures ∙ c.if-faulting.true in
+    let disk = c.perform_put-came.ensures.faulted failed in
     let put = c.perform_put-came.ensures in
     let calm : g.D.Disk.faults c.begin.new.disk ≡ g.D.Disk.faults c.args.disk.now = c.in-Ok.ensures.account.cause.kept (λ e. cc e) in
     let rose = (put.looked disk failed).cause.rose refl in
@@ -129,7 +132,7 @@ returns-then-faulting-clause-stores g c = λ told some m is.
         inr (
           faulted_prints (output g.K.Sink g.D.Disk c.args.sink.now c.args.disk.now) (output g.K.Sink g.D.Disk c.end_faulted.new.sink c.end_faulted.new.disk)
               mid (session g.D.Disk c.perform_put-came.new.store c.perform_put-came.new.disk) begins m is c.end_faulted.result (put.stays disk failed told) (put.same_base disk failed) (c.end_faulted.ensures.ends told)
-              c.end_faulted.ensures.failed (omega (arith, calm, rose, later)) c.end_faulted.ensures.part
+              c.end_faulted.ensures.failed (omega (arith, calm, rose, later)) c.end_faulted.ensures.part c.end_faulted.ensures.said
               (λ is_disk. rose_twice (g.D.Disk.faults c.args.disk.now) (g.D.Disk.faults c.begin.new.disk) (g.D.Disk.faults c.perform_put-came.new.disk) (g.D.Disk.faults c.end_faulted.new.disk) calm rose told
               (c.end_faulted.ensures.closed is_disk)),
           ap (supply g.S.Source) (put.unread_fault disk failed),
@@ -139,7 +142,8 @@ returns-then-faulting-clause-stores g c = λ told some m is.
 
 pub returns-then-faulting-clause-stops : goal.returns-then-faulting-clause-stops
 returns-then-faulting-clause-stops g c = λ told.
-    let looked = c.perform_put-came.ensures.looked (c.in-Err-Disk.is ∙ ap (λ f. Err f) (rw c.in-Err-Disk.is at c.in-Err-Disk.field-0-is)) (sym c.faulting.ensures ∙ c.if-faulting.true) in
+    let failed = sym c.faulting.ensures ∙ c.if-faulting.true in
+    let looked = c.perform_put-came.ensures.looked (c.perform_put-came.ensures.faulted failed) failed in
     stops_after (g.D.Disk.counts c.args.disk.now) (g.D.Disk.counts c.begin.new.disk) (c.in-Ok.ensures.account.went_on refl told) (g.D.Disk.counts c.perform_put-came.new.disk) (g.D.Disk.counts c.end_faulted.new.disk)
     (looked.no_change told) (c.end_faulted.ensures.stops told)
 

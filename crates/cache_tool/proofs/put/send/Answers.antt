@@ -4,6 +4,7 @@ use Rattle.cache_store.specs.Session.{session}
 use Rattle.cache_store.proofs.Performing.Represented.{represents}
 use Rattle.cache_tool.specs.HeldReply.{said_in}
 use Rattle.cache_tool.proofs.DoneLaws.{done_right}
+use Rattle.cache_tool.proofs.ForGood.{disk_of, no_front}
 use Rattle.cache_tool.proofs.Puts.PutReplies.{sends_of}
 use Rattle.cache_tool.proofs.StayingLaws.{stays_done, stays_for}
 use Rattle.cache_tool.proofs.put.send.Goals as goal
@@ -24,3 +25,8 @@ returns-clause-sends g c = λ told. record {
         ),
       );
 }
+
+pub returns-clause-change : goal.returns-clause-change
+returns-clause-change g c = λ calm bare other failed told.
+    no_front (g.D.Disk.counts c.attempt.new.disk) (command_of c.args.c.now) (session g.D.Disk c.args.store.now c.args.disk.now) _ _ bare (c.requires.told told)
+    (c.attempt.ensures.fails calm other (disk_of c.attempt.result failed) told)

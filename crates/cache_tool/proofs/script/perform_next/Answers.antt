@@ -21,7 +21,7 @@ returns-in_err-command-in-Ok-Some-clause-performs g c =
     let answers = answers_next g.D.Disk (Err c.in_err-command-in-Ok-Some.field-0.0) c.args.store.now c.command.new.self c.args.disk.now c.command.new.disk (g.K.Sink.taken c.args.sink.now) (g.K.Sink.taken c.command.new.sink)
     command.faults command.account (command_of c.in-Ok-Some.command) command.performs
     (λ calm told. stays_for {T = Verdict} (command_of c.in-Ok-Some.command) (Err c.in_err-command-in-Ok-Some.field-0.0) (session g.D.Disk c.args.store.now c.args.disk.now) (session g.D.Disk c.command.new.self c.command.new.disk)
-    (λ spares. command.index calm spares told) command.base) in
+    (λ spares. command.index calm spares told) command.base) command.fails in
     turn_err g.D.Disk.tells c.args.reader.now c.next_command.follows.lender-at-none _ _ (command_of c.in-Ok-Some.command) gives answers.0 c.in_err-command-in-Ok-Some.field-0.0
     c.from_residual.result c.from_residual.ensures.1 answers
 
@@ -34,7 +34,7 @@ returns-in_ok-command-in-Ok-Some-clause-performs g c =
     let answers = answers_next g.D.Disk (Ok c.in_ok-command-in-Ok-Some.field-0) c.args.store.now c.command.new.self c.args.disk.now c.command.new.disk (g.K.Sink.taken c.args.sink.now) (g.K.Sink.taken c.command.new.sink)
     command.faults command.account (command_of c.in-Ok-Some.command) command.performs
     (λ calm told. stays_for {T = Verdict} (command_of c.in-Ok-Some.command) (Ok v) (session g.D.Disk c.args.store.now c.args.disk.now) (session g.D.Disk c.command.new.self c.command.new.disk)
-    (λ spares. command.index calm spares told) command.base) in
+    (λ spares. command.index calm spares told) command.base) command.fails in
     turn_on g.D.Disk.tells c.args.reader.now c.next_command.follows.lender-at-none _ _ (command_of c.in-Ok-Some.command) gives answers.0 v answers
 
 pub returns-in-Ok-None-clause-performs : goal.returns-in-Ok-None-clause-performs

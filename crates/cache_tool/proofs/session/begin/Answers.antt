@@ -1,12 +1,16 @@
 -- A run began: the store was opened, and what is done for `Resume` was done; or one of them failed.
-use Rattle.std.proofs.Common.{Ok, arith, refl}
+use Rattle.std.proofs.Common.{Ok, ap, arith, refl, subst, sym}
+use Rattle.cache_store.specs.Faults.{ending, fault_ending}
 use Rattle.cache_store.specs.IndexCalls.{ReadsEntriesOf}
 use Rattle.cache_store.specs.Session.{session}
 use Rattle.cache_theory.specs.Command.Command.{Resume}
 use Rattle.cache_tool.proofs.EntryLooks.{resume_reads}
+use Rattle.cache_tool.proofs.Handed.{handed_on}
 use Rattle.cache_tool.proofs.RunBegins.{never_opened, on_err, resume_done, resume_fails}
 use Rattle.cache_tool.proofs.StayingLaws.{stays_for}
 use Rattle.cache_tool.proofs.session.begin.Goals as goal
+use Rattle.disk_model.specs.Account.{Accounts}
+use Rattle.file_handles.proofs.Accounting.{accounts_then}
 
 pub returns-in_err-store-clause-fails : goal.returns-in_err-store-clause-fails
 returns-in_err-store-clause-fails g c = on_err c.from_residual.result _ (λ told.
@@ -23,6 +27,12 @@ returns-in_err-attempt-clause-looks g c = λ told none again.
     let performed = resume_reads c.args.now (g.D.Disk.state c.args.disk.now) (session g.D.Disk c.in_ok-store.store c.open.new.disk) (λ names. ReadsEntriesOf g.D.Disk names c.open.new.disk c.attempt.new.disk)
     (g.met.D.Disk.finite c.args.disk.now told) (c.in_ok-store.ensures.opens told) none c.attempt.ensures.looks told in
     omega (arith, opened, performed)
+
+pub returns-in_err-attempt-clause-account : goal.returns-in_err-attempt-clause-account
+returns-in_err-attempt-clause-account g c =
+    let f = c.in_err-attempt.field-0.0 in
+    subst (λ e. Accounts g.D.Disk e c.args.disk.now c.attempt.new.disk) (sym (ap (λ r. ending r) (handed_on c.from_residual-in_err-attempt.result f c.from_residual-in_err-attempt.ensures.1)))
+    (accounts_then g.D.Disk (fault_ending f) c.args.disk.now c.open.new.disk c.attempt.new.disk c.in_ok-store.ensures.account c.in_err-attempt.ensures.account)
 
 pub returns-clause-looks : goal.returns-clause-looks
 returns-clause-looks g c = λ told none again.

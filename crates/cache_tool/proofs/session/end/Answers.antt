@@ -1,7 +1,8 @@
 -- What the store's closing ensures is what the end of a session ensures.
-use Rattle.std.proofs.Common.{◌≡◌, ◌≢◌, Err, Result, subst}
+use Rattle.std.proofs.Common.{◌≡◌, ◌≢◌, ◌∙◌, Err, Result, ap, subst}
 use Rattle.cache_base.specs.declared.status.Status.{Status}
 use Rattle.cache_base.specs.declared.status.Status.TheVariants as status
+use Rattle.cache_store.specs.Faults.{ending, fault_ending}
 use Rattle.cache_store.specs.Open.{KeepsTo}
 use Rattle.cache_store.specs.Session.{Session}
 use Rattle.cache_store.specs.declared.fault.StoreFault.{StoreFault}
@@ -10,9 +11,11 @@ use Rattle.cache_store.proofs.Performing.Represented.{represents}
 use Rattle.cache_theory.specs.History.{History}
 use Rattle.cache_tool.specs.Ending.{IsEnded}
 use Rattle.cache_tool.specs.Statuses.{IsClosing, status_in}
+use Rattle.cache_tool.proofs.OneCommand.{disk_failed}
 use Rattle.cache_tool.proofs.RightLaws.{open_leaves_honest}
 use Rattle.cache_tool.proofs.StayingLaws.{ends_in_use, ends_short, rest_left}
 use Rattle.cache_tool.proofs.session.end.Goals as goal
+use Rattle.cache_tool.proofs.session.end.Goals.{in-Err-Sink, in-Ok}
 
 -- a store that failed to close was not closed
 not_closed : (answer : Result (Unit {0}) StoreFault) (f : StoreFault) (ended : Status) → answer ≡ Err f → answer ≢ Err fault.Sink → ended ≡ status_in (Err f) → IsClosing ended → ⊥
@@ -36,6 +39,16 @@ dropped ended still now h keeps = record {
   journal = λ closing over. absurd (still closing);
   in_use = λ records closing. absurd (still closing);
   unended = λ closing. absurd (still closing);
+}
+
+pub close-requires : goal.close-requires
+close-requires g c = record {
+  told = λ told. elim c.match-came.branch [
+    | in-Ok w ↦ c.requires.told told (ap ending w.in-Ok.is)
+    | in-Err-Sink w ↦
+        let sink : w.in-Err-Sink.field-0 ≡ fault.Sink = rw w.in-Err-Sink.is at w.in-Err-Sink.field-0-is in
+        c.requires.told told (ap ending w.in-Err-Sink.is ∙ ap fault_ending sink)
+  ];
 }
 
 pub returns-in-Err-Disk-clause-ends : goal.returns-in-Err-Disk-clause-ends
@@ -85,3 +98,6 @@ returns-in-Err-clause-quiet g c = λ closing.
 pub returns-in-Err-clause-went_on : goal.returns-in-Err-clause-went_on
 returns-in-Err-clause-went_on g c = λ not_disk not_memory.
     absurd (not_other c.close.result c.in-Err.fault c.status_of_fault.result c.in-Err.is c.close.ensures.no_sink c.status_of_fault.ensures not_disk not_memory)
+
+pub returns-in-Err-clause-last : goal.returns-in-Err-clause-last
+returns-in-Err-clause-last g c = λ closing disk. c.in-Err.ensures.change (disk_failed c.in-Err.fault c.status_of_fault.result c.status_of_fault.ensures disk)

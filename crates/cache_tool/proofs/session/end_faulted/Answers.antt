@@ -1,10 +1,12 @@
 -- The line that tells of a failed look is printed, and the store is closed.
-use Rattle.std.proofs.Common.{inl, refl, subst}
+use Rattle.std.proofs.Common.{◌∙◌, ap, inl, refl, subst}
 use Rattle.cache_base.specs.declared.status.Status.TheVariants as status
 use Rattle.cache_store.specs.Session.{Open, open_of}
 use Rattle.cache_theory.specs.Faulted.{fault_line}
 use Rattle.cache_tool.specs.Ending.{EndsSession}
+use Rattle.cache_tool.specs.Statuses.{IsClosing, status_in}
 use Rattle.cache_tool.proofs.Faulting.{closed_or, ends_by_disk}
+use Rattle.cache_tool.proofs.ForGood.{line_said}
 use Rattle.cache_tool.proofs.OneCommand.{said_part}
 use Rattle.cache_tool.proofs.session.end_faulted.Goals as goal
 
@@ -16,11 +18,14 @@ returns-in_default g c = record {
   failed = inl refl;
   ends = λ told. subst (λ (x : Open). EndsSession status.Disk (record { open_store = x; disk = g.D.Disk.state c.args.disk.now }) (g.D.Disk.state c.end.new.disk)) c.say_fault.ensures.open
       (ends_by_disk c.end.result (record { open_store = open_of c.say_fault.new.self; disk = g.D.Disk.state c.args.disk.now }) (g.D.Disk.state c.end.new.disk) (c.end.ensures.ends told));
-  closed = λ is. closed_or c.after_line-came.result c.end.result c.after_line-came.ensures c.end.ensures.same c.in_default.not-Memory (λ not_closing. (c.end.ensures.dropped not_closing).0)
+  closed = λ is. closed_or c.after_line-came.result c.end.result c.after_line-came.ensures.cases c.end.ensures.same c.in_default.not-Memory (λ not_closing. (c.end.ensures.dropped not_closing).0)
       (λ no told. subst (λ (x : Open). EndsSession status.No (record { open_store = x; disk = g.D.Disk.state c.args.disk.now }) (g.D.Disk.state c.end.new.disk)) c.say_fault.ensures.open
       (subst (λ s. EndsSession s (record { open_store = open_of c.say_fault.new.self; disk = g.D.Disk.state c.args.disk.now }) (g.D.Disk.state c.end.new.disk)) no (c.end.ensures.ends told)))
       (λ closing disk. (c.end.ensures.cause closing).rose disk);
   part = said_part c.say_fault.result (g.K.Sink.taken c.args.sink.now) (g.K.Sink.taken c.say_fault.new.sink) fault_line c.say_fault.ensures.printed c.say_fault.ensures.cut;
+  said = λ is. line_said c.say_fault.result c.after_line-came.result (g.K.Sink.taken c.args.sink.now) (g.K.Sink.taken c.say_fault.new.sink) fault_line (g.K.Sink.faults c.args.sink.now) (g.K.Sink.faults c.say_fault.new.sink)
+      c.say_fault.ensures.printed c.say_fault.ensures.sink.no_disk c.say_fault.ensures.sink.cause c.after_line-came.ensures.memory
+      (λ memory. c.in_default.not-Memory ((c.end.ensures.dropped (subst (λ x. IsClosing (status_in x)) memory)).0 ∙ ap status_in memory));
   no_entry = c.end.ensures.no_entry;
   later = c.end.ensures.later;
   stops = c.end.ensures.stops;

@@ -1,7 +1,7 @@
 use Rattle.cache_theory.proofs.CrashImages.Crashes.{safe_is_crash_safe}
 use Rattle.cache_store.specs.Session.{session}
 use Rattle.cache_store.proofs.Sessions.Closed.{closes_failed, failed_honestly, images_honest, is_honest, left_honest, shut, spared_crash}
-use Rattle.cache_store.proofs.Sessions.ClosedInUse.{closed_in_use, not_ended, synced_left}
+use Rattle.cache_store.proofs.Sessions.ClosedInUse.{closed_in_use, not_ended, synced_done, synced_left}
 use Rattle.cache_store.proofs.store.Store.close.Goals as goal
 
 pub returns-in_err-closed-clause-crash : goal.returns-in_err-closed-clause-crash
@@ -44,7 +44,7 @@ returns-clause-closes g c = λ told.
     let d = g.D.Disk.state c.close_all-closed.new.disk in
     let t = g.D.Disk.state c.close_index.new.disk in
     record {
-      shut = λ m is. shut before d (c.close_all-closed.ensures.index told).index t (c.close_index.ensures.entries told) (c.in_ok-close_index.ensures.quiet told) m is ((c.in_ok-closed.ensures.closes told).closed m is.stands);
+      shut = λ m is. shut before d (c.close_all-closed.ensures.index told).index t (c.close_index.ensures.entries told) (c.close_all-closed.ensures.index told).mark (c.in_ok-close_index.ensures.quiet told) m is ((c.in_ok-closed.ensures.closes told).closed m is.stands);
       crash = spared_crash before d (c.close_all-closed.ensures.index told).index t (c.close_index.ensures.entries told) c.close_all-closed.result (c.close_all-closed.ensures.closes told);
     }
 
@@ -83,5 +83,9 @@ returns-clause-spares g c = λ left told.
 
 pub returns-clause-whole : goal.returns-clause-whole
 returns-clause-whole g c = λ told. record {
-  whole = λ none. (g.D.Disk.state c.close_all-closed.new.disk, ((c.close_all-closed.ensures.index told).index, c.in_ok-close_index.ensures.closed (c.ended.ensures.ended.1 none) told));
+  removed = g.D.Disk.state c.close_all-closed.new.disk;
+  removes = c.close_all-closed.ensures.removes told;
+  whole = λ none. c.in_ok-close_index.ensures.closed (c.ended.ensures.ended.1 none) told;
+  synced = λ left. synced_done (g.D.Disk.state c.close_all-closed.new.disk) (g.D.Disk.state c.close_index.new.disk) c.close_index.result c.in_ok-close_index.was
+      (c.close_index.ensures.synced (not_ended c.ended.result c.args.self.index.update c.ended.ensures.ended left) told);
 }

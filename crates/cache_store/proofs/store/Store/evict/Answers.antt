@@ -11,6 +11,7 @@ use Rattle.cache_store.proofs.Records.ListDoes.{no_sink}
 use Rattle.cache_store.proofs.Performing.Stays.{ended_apart, look_stays, noted_disk}
 use Rattle.cache_store.proofs.Saying.TakenMore.{cuts_takes, says_takes}
 use Rattle.cache_store.proofs.Evicting.VictimsApart.{files_hold, picked_unused}
+use Rattle.file_handles.proofs.TakingSteps.{takes_same, takes_then}
 use Rattle.file_handles.proofs.UnsyncedLaws.{same_unsynced, then_unsynced}
 use Rattle.cache_store.proofs.store.Store.evict.Goals as goal
 
@@ -157,3 +158,21 @@ returns-in_err-say_listing-clause-unsynced g c = λ told. then_unsynced _ _ _ (s
 
 pub returns-clause-unsynced : goal.returns-clause-unsynced
 returns-clause-unsynced g c = λ told. then_unsynced _ _ _ (same_unsynced (c.in-Ok-standing.ensures.looks.state told ∙ c.in-Ok.ensures.looks.state told)) (c.remove_files.ensures.unsynced told)
+
+pub returns-in-Err-clause-takes : goal.returns-in-Err-clause-takes
+returns-in-Err-clause-takes g c = λ told. takes_same (c.in-Err.ensures.looks.state told)
+
+pub returns-in_err-names-clause-takes : goal.returns-in_err-names-clause-takes
+returns-in_err-names-clause-takes g c = λ told. takes_same (c.in-Ok.ensures.looks.state told)
+
+pub returns-in-Err-standing-clause-takes : goal.returns-in-Err-standing-clause-takes
+returns-in-Err-standing-clause-takes g c = λ told. takes_same (c.in-Err-standing.ensures.looks.state told ∙ c.in-Ok.ensures.looks.state told)
+
+pub returns-in_err-remove_files-clause-takes : goal.returns-in_err-remove_files-clause-takes
+returns-in_err-remove_files-clause-takes g c = λ told. takes_then _ _ _ (takes_same (c.in-Ok-standing.ensures.looks.state told ∙ c.in-Ok.ensures.looks.state told)) (c.remove_files.ensures.takes told)
+
+pub returns-in_err-say_listing-clause-takes : goal.returns-in_err-say_listing-clause-takes
+returns-in_err-say_listing-clause-takes g c = λ told. takes_then _ _ _ (takes_same (c.in-Ok-standing.ensures.looks.state told ∙ c.in-Ok.ensures.looks.state told)) (c.remove_files.ensures.takes told)
+
+pub returns-clause-takes : goal.returns-clause-takes
+returns-clause-takes g c = λ told. takes_then _ _ _ (takes_same (c.in-Ok-standing.ensures.looks.state told ∙ c.in-Ok.ensures.looks.state told)) (c.remove_files.ensures.takes told)

@@ -10,5 +10,5 @@ returns c =
     let records = c.in_ok-records.records in
     let in_use = c.in_ok-in_use.in_use in
     chooses c.args.self.now.index.map (kept c.args.self.now.handles) c.args.kb records in_use c.in_ok-records.ensures.known c.in_ok-records.ensures.records
-    c.in_ok-in_use.ensures.names c.in_ok-in_use.ensures.unused c.victims.result
-    (subst (λ (n : ℕ). IfOk c.victims.result (λ (names : List Name). names ≡ victims records in_use n)) c.from.ensures c.victims.ensures)
+    c.in_ok-in_use.ensures.names c.in_ok-in_use.ensures.unused c.victims_of.result
+    (subst (λ (n : ℕ). IfOk c.victims_of.result (λ (names : List Name). names ≡ victims records in_use n)) c.from.ensures c.victims_of.ensures)

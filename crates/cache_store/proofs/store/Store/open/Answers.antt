@@ -89,3 +89,6 @@ pub returns-clause-begins : goal.returns-clause-begins
 returns-clause-begins g c = λ told.
     begins_along (g.D.Disk.state c.args.disk.now) (g.D.Disk.state c.clear.new.disk) (cleared_left (g.D.Disk.state c.args.disk.now) (g.D.Disk.state c.clear.new.disk) (c.clear.ensures.removes told)).index.stands
     c.in_ok-index.index.map (c.in_ok-index.ensures.begins told)
+
+pub returns-clause-ordered : goal.returns-clause-ordered
+returns-clause-ordered g c = λ told. (g.D.Disk.state c.clear.new.disk, (c.clear.ensures.removes told, c.in_ok-index.ensures.opened told))

@@ -4,6 +4,8 @@ use Rattle.cache_store.specs.Session.{session}
 use Rattle.cache_store.specs.StoppedClearing.{ClearsUnderMark}
 use Rattle.cache_store.proofs.Clearing.ClearCommands.{cleared_from, ended_index, found_mark, mark_not_resumed, mark_resumed, no_size, none_told, nothing_resumed, of_each, of_marked, other_removed, other_stays, resume_looks, stopped_from, uncleared_from}
 use Rattle.cache_store.proofs.Clearing.ClearDoes.{looks_stopped}
+use Rattle.cache_store.proofs.Clearing.LooksFirst.{changed_last, looked_then, only_looked}
+use Rattle.cache_store.proofs.Performing.Stays.{change_handed}
 use Rattle.context_clear.specs.Mark.{mark_of}
 use Rattle.disk_model.specs.State.{standing}
 use Rattle.disk_model.specs.declared.place.Place.TheVariants.{Clear}
@@ -147,3 +149,22 @@ returns-in_err-end-in-None-clause-once g c = λ told none.
 pub returns-in_ok-end-in-None-clause-once : goal.returns-in_ok-end-in-None-clause-once
 returns-in_ok-end-in-None-clause-once g c = λ told none.
     absurd (none_told (standing (g.D.Disk.state c.args.disk.now) Clear) c.in_ok-size.field-0 (c.in_ok-size.ensures.size told) (c.is_none.ensures ∙ ap not c.if-is_none.false) none)
+
+-- ---- no look follows a change
+
+pub returns-in_err-size-clause-looks_first : goal.returns-in_err-size-clause-looks_first
+returns-in_err-size-clause-looks_first g c = only_looked g.D.Disk _ c.args.disk.now c.size.new.self c.size.ensures.state
+
+pub returns-in_err-origin-clause-looks_first : goal.returns-in_err-origin-clause-looks_first
+returns-in_err-origin-clause-looks_first g c =
+    only_looked g.D.Disk _ c.args.disk.now c.stored.new.disk (λ told. c.stored.ensures.looks.state told ∙ c.size.ensures.state told)
+
+pub returns-in_err-cleared-in-Some-clause-looks_first : goal.returns-in_err-cleared-in-Some-clause-looks_first
+returns-in_err-cleared-in-Some-clause-looks_first g c =
+    looked_then g.D.Disk c.from_residual-in_err-cleared-in-Some.result c.in_err-cleared-in-Some.field-0.0 c.clear_origin-cleared.new.self.faulting c.args.disk.now c.stored.new.disk c.clear_origin-cleared.new.disk
+    c.from_residual-in_err-cleared-in-Some.ensures.1 (λ told. c.stored.ensures.looks.state told ∙ c.size.ensures.state told) c.in_err-cleared-in-Some.ensures.looked c.in_err-cleared-in-Some.ensures.change
+
+pub returns-in_err-end-in-None-clause-looks_first : goal.returns-in_err-end-in-None-clause-looks_first
+returns-in_err-end-in-None-clause-looks_first g c =
+    changed_last g.D.Disk _ c.args.disk.now c.end.new.disk
+    (change_handed g.D.Disk c.from_residual-in_err-end-in-None.result c.in_err-end-in-None.field-0.0 c.end.new.disk c.from_residual-in_err-end-in-None.ensures.1 c.in_err-end-in-None.ensures.change)

@@ -1,10 +1,11 @@
 use Rattle.std.proofs.Common.{◌<◌, ◌≤◌, length, Ok, sym, ap, subst, ◌∙◌, arith}
 use Rattle.std.proofs.lemmas.Result.{IfOk-from_err}
 use Rattle.disk_model.specs.Account.{IsCalm}
+use Rattle.doom_area.specs.DoomArea.{RemovesDoomed}
 use Rattle.index_theory.specs.Leaves.{LeavesBeside}
 use Rattle.file_handles.specs.Kept.{kept}
 use Rattle.file_handles.proofs.Accounting.{calm_then, calm_then_handed_on, fault_handed_on}
-use Rattle.file_handles.proofs.Closing.ClosedAll.{IsDroppedTo, all_closed, all_failed, item_at, next_somehow, none_dropped, one_dropped}
+use Rattle.file_handles.proofs.Closing.ClosedAll.{IsDroppedTo, all_closed, all_failed, item_at, let_go_removes, next_somehow, none_dropped, one_dropped}
 use Rattle.file_handles.proofs.IndexLeft.{let_go_left, then_left}
 use Rattle.file_handles.proofs.handles.Handles.close_all.Goals.{in-Some+in_ok-let_go, in_default}
 use Rattle.file_handles.proofs.handles.Handles.close_all.Goals as goal
@@ -39,6 +40,7 @@ loop-object-preserved g c =
             (ap g.D.Disk.state w.disk-is ∙ w.in_ok-let_go.ensures.state told) (before.to told);
         left = λ told. then_left s t (g.D.Disk.state c.match-object.disk) (before.left told)
             (let_go_left {T = Unit {0}} (Ok tt) t (g.D.Disk.state c.match-object.disk) w.in-Some.object (ap g.D.Disk.state w.disk-is ∙ w.in_ok-let_go.ensures.state told));
+        gone = λ told. let_go_removes {T = Unit {0}} (Ok tt) w.in-Some.object s t (g.D.Disk.state c.match-object.disk) (before.gone told) (ap g.D.Disk.state w.disk-is ∙ w.in_ok-let_go.ensures.state told);
         calm = subst (IsCalm g.D.Disk c.args.disk.now) (sym w.disk-is) (calm_then g.D.Disk _ _ _ before.calm w.in_ok-let_go.ensures.account);
         looks = λ told. ap (λ d. (g.D.Disk.counts d).entry_reads) w.disk-is ∙ w.in_ok-let_go.ensures.no_entry told ∙ before.looks told;
       }
@@ -47,6 +49,7 @@ loop-object-preserved g c =
         to = λ told. none_dropped k i s (g.D.Disk.state c.match-object.disk) (item_at k i c.object-item.result _ within w.in_default.is)
             (subst (λ d. IsDroppedTo k i s (g.D.Disk.state d)) (sym w.disk-is) (before.to told));
         left = λ told. subst (λ d. LeavesBeside s (g.D.Disk.state d)) (sym w.disk-is) (before.left told);
+        gone = λ told. subst (λ d. RemovesDoomed s (g.D.Disk.state d)) (sym w.disk-is) (before.gone told);
         calm = subst (IsCalm g.D.Disk c.args.disk.now) (sym w.disk-is) before.calm;
         looks = λ told. ap (λ d. (g.D.Disk.counts d).entry_reads) w.disk-is ∙ before.looks told;
       }
@@ -78,3 +81,10 @@ returns-in_err-let_go-clause-account g c =
 pub returns-in_err-let_go-clause-change : goal.returns-in_err-let_go-clause-change
 returns-in_err-let_go-clause-change g c = λ failed.
     c.let_go.ensures.change (sym (fault_handed_on c.let_go.result c.in_err-let_go.field-0.0 c.from_residual.result c.in_err-let_go.was c.from_residual.ensures.1) ∙ failed)
+
+pub returns-in_err-let_go-clause-removes : goal.returns-in_err-let_go-clause-removes
+returns-in_err-let_go-clause-removes g c told =
+    let_go_removes c.let_go.result c.in-Some.object (g.D.Disk.state c.args.disk.now) (g.D.Disk.state c.loop-object.disk) (g.D.Disk.state c.let_go.new.disk) (c.loop-object.invariant.gone told) (c.let_go.ensures.state told)
+
+pub returns-clause-removes : goal.returns-clause-removes
+returns-clause-removes g c told = c.loop-object.invariant.gone told

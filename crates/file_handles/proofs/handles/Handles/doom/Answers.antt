@@ -7,6 +7,7 @@ use Rattle.file_handles.specs.declared.fault.Effect.TheVariants.{Gone}
 use Rattle.file_handles.proofs.Dooming.DoomedCommand.{dooming_leaves, refused_on_leaves, still_represents, unused_stands}
 use Rattle.file_handles.proofs.Where.{carries_out}
 use Rattle.file_handles.proofs.IndexLeft.{same_left, then_left}
+use Rattle.file_handles.proofs.TakingSteps.{takes_same, takes_then}
 use Rattle.file_handles.proofs.UnsyncedLaws.{same_unsynced, then_unsynced}
 use Rattle.file_handles.proofs.handles.Handles.doom.Goals as goal
 
@@ -53,3 +54,10 @@ pub returns-clause-effect : goal.returns-clause-effect
 returns-clause-effect g c =
     IfOk-weaker c.doom_name.result (λ e. e ≡ Gone c.in_ok-name.name) (HasEffect (kept c.args.self.now) (Doom c.args.key.now)) (λ e is.
     λ m number proper stand. is ∙ ap (λ n. Gone (record { 0 = n })) c.in_ok-name.ensures.named) c.doom_name.ensures.effect
+
+pub returns-in_err-name-clause-takes : goal.returns-in_err-name-clause-takes
+returns-in_err-name-clause-takes g c told = takes_same (c.may_doom.ensures.looks.state told)
+
+pub returns-clause-takes : goal.returns-clause-takes
+returns-clause-takes g c told =
+    takes_then (g.D.Disk.state c.args.disk.now) (g.D.Disk.state c.may_doom.new.disk) (g.D.Disk.state c.doom_name.new.disk) (takes_same (c.may_doom.ensures.looks.state told)) (c.doom_name.ensures.takes told)

@@ -17,8 +17,8 @@ returns-then-is_some-clause-holds g c = λ place x from len told at is m number 
     let n = c.args.chunk.now.number in
     let i = c.args.chunk.now.index in
     let P = IsChunkInUse k m in
-    list_stands k m number stands.handles.chunks c.get.follows.lender-at-none
-    (subst (All P) (sym c.get.follows.holds-at-none) (All-looked_at P n i k.chunks stands.handles.chunks.held))
+    list_stands k m number stands.handles.chunks c.look.follows.lender-at-none
+    (subst (All P) (sym c.look.follows.holds-at-none) (All-looked_at P n i k.chunks stands.handles.chunks.held))
 
 pub returns-then-is_some-clause-held : goal.returns-then-is_some-clause-held
 returns-then-is_some-clause-held g c = λ some.
@@ -27,7 +27,7 @@ returns-then-is_some-clause-held g c = λ some.
       (
         refl,
         λ n i found.
-            subst (λ chunks. IsSome (bytes_of n i chunks)) (sym c.get.follows.holds-at-none)
+            subst (λ chunks. IsSome (bytes_of n i chunks)) (sym c.look.follows.holds-at-none)
             (looked_finds c.args.chunk.now.number c.args.chunk.now.index n i k.chunks found),
       ),
     )
@@ -38,8 +38,8 @@ returns-in_err-read_over-clause-holds g c = λ place x from len told at is m num
     let n = c.args.chunk.now.number in
     let i = c.args.chunk.now.index in
     let P = IsChunkInUse k m in
-    list_stands k m number stands.handles.chunks c.get.follows.lender-at-none
-    (subst (All P) (sym c.get.follows.holds-at-none) (All-looked_at P n i k.chunks stands.handles.chunks.held))
+    list_stands k m number stands.handles.chunks c.look.follows.lender-at-none
+    (subst (All P) (sym c.look.follows.holds-at-none) (All-looked_at P n i k.chunks stands.handles.chunks.held))
 
 pub returns-in_err-keep-clause-holds : goal.returns-in_err-keep-clause-holds
 returns-in_err-keep-clause-holds g c = λ place x from len told at is m number stands.
@@ -48,7 +48,7 @@ returns-in_err-keep-clause-holds g c = λ place x from len told at is m number s
     let i = c.args.chunk.now.index in
     let P = IsChunkInUse k m in
     list_stands k m number stands.handles.chunks c.keep.new.self
-    (subst (All P) (sym (c.in_err-keep.ensures.err ∙ c.evict.ensures.chunks)) (All-take P 31 _ (subst (All P) (sym c.get.follows.holds-at-none) (All-looked_at P n i k.chunks stands.handles.chunks.held))))
+    (subst (All P) (sym (c.in_err-keep.ensures.err ∙ c.evict.ensures.chunks)) (All-take P 31 _ (subst (All P) (sym c.look.follows.holds-at-none) (All-looked_at P n i k.chunks stands.handles.chunks.held))))
 
 pub returns-clause-holds : goal.returns-clause-holds
 returns-clause-holds g c = λ place x from len told at is m number stands.
@@ -57,7 +57,7 @@ returns-clause-holds g c = λ place x from len told at is m number stands.
     let n = c.args.chunk.now.number in
     let i = c.args.chunk.now.index in
     let P = IsChunkInUse k m in
-    let room : All P c.evict.new.self = subst (All P) (sym c.evict.ensures.chunks) (All-take P 31 _ (subst (All P) (sym c.get.follows.holds-at-none) (All-looked_at P n i k.chunks stands.handles.chunks.held))) in
+    let room : All P c.evict.new.self = subst (All P) (sym c.evict.ensures.chunks) (All-take P 31 _ (subst (All P) (sym c.look.follows.holds-at-none) (All-looked_at P n i k.chunks stands.handles.chunks.held))) in
     list_stands k m number stands.handles.chunks c.keep.new.self
     (subst (All P) (sym c.in_ok-keep.ensures.ok)
     (All-with_chunk P n i c.read_over.new.bytes c.evict.new.self room
@@ -68,5 +68,5 @@ returns-clause-put g c =
     let n = c.args.chunk.now.number in
     let i = c.args.chunk.now.index in
     let bytes = c.read_over.new.bytes in
-    kept_put n i c.args.self.now.chunks c.keep.new.self bytes (mapped_none _ c.get.result _ c.get.ensures.bytes (sym c.if-is_some.ensures))
-    (c.in_ok-keep.ensures.ok ∙ ap (with_chunk n i bytes) (c.evict.ensures.chunks ∙ ap with_room c.get.follows.holds-at-none))
+    kept_put n i c.args.self.now.chunks c.keep.new.self bytes (mapped_none _ c.look.result _ c.look.ensures.bytes (sym c.if-is_some.ensures))
+    (c.in_ok-keep.ensures.ok ∙ ap (with_chunk n i bytes) (c.evict.ensures.chunks ∙ ap with_room c.look.follows.holds-at-none))
