@@ -1,5 +1,6 @@
 //! The disk over the folder that a test runs in, beside std's own calls on it: tables of calls, each with its answer.
 
+mod claims;
 mod earlier;
 mod files;
 mod names;

@@ -1,3 +1,4 @@
+pub mod Claims
 pub mod Areas
 pub mod Folders
 pub mod Files

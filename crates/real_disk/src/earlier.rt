@@ -11,7 +11,7 @@ use crate::contents::read_whole;
 use crate::paths::{INDEX, LOG, TMP, path_in};
 use crate::standing::Standing;
 use crate::sync_note;
-use crate::tree::{file_len, open_regular, read_only};
+use crate::tree::{open_regular, read_only, seen_at};
 use index_file::FLAG_AT;
 use std::fs;
 use std::io::{self, ErrorKind};
@@ -31,12 +31,19 @@ enum Cover {
     Note,
     // This process synced all that stood.
     Sync,
+    // It did, but for what it may not open.
+    Part,
 }
 
 impl Covered {
-    /// All that stood was synced by this process.
-    pub(crate) fn by_sync(_standing: Standing) -> Self {
-        Covered { by: Cover::Sync }
+    /// All that stood, as far as it may be opened, was synced by this process.
+    pub(crate) fn by_sync(standing: Standing) -> Self {
+        let by = if standing.is_whole() {
+            Cover::Sync
+        } else {
+            Cover::Part
+        };
+        Covered { by }
     }
 }
 
@@ -74,14 +81,17 @@ impl Earlier {
         }
     }
 
-    /// Whether a note is to be left when all is synced: the cache was not closed when this process came.
+    /// Whether a note is to be left when all is synced: the cache was not closed when this process came, and no file was
+    /// passed over.
     pub(crate) fn wants_note(self) -> bool
         ensures { IsTrue result → IsSynced self }
     {
         match self {
             Earlier::Unknown => false,
             Earlier::Unsynced => false,
-            Earlier::Synced(covered) => covered.by != Cover::Closing,
+            Earlier::Synced(covered) => {
+                covered.by != Cover::Closing && covered.by != Cover::Part
+            }
         }
     }
 }
@@ -106,11 +116,12 @@ pub(crate) fn was_closed<R: Files + AllocGlobal>(rt: &R, dir: &str) -> io::Resul
     let index = path_in(rt, dir, INDEX)?;
     let log = path_in(rt, dir, LOG)?;
     let tmp = path_in(rt, dir, TMP)?;
-    file_len(rt, log.as_str())?;
+    seen_at(rt, log.as_str())?;
     Ok(is_missing(rt, tmp.as_str())? && is_flag_clear(rt, index.as_str())?)
 }
 
-fn is_missing<R: Files>(rt: &R, path: &str) -> io::Result<bool> {
+/// Whether nothing stands there.
+pub(crate) fn is_missing<R: Files>(rt: &R, path: &str) -> io::Result<bool> {
     match fs::symlink_metadata(rt, path) {
         Ok(_) => Ok(false),
         Err(error) if error.kind() == ErrorKind::NotFound => Ok(true),

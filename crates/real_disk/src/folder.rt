@@ -7,35 +7,36 @@ ghost use Rattle.real_disk.specs.Areas.{area_in};
 ghost use Rattle.real_disk.specs.Files.{IsNoted, NotesNew, PutsBack, KeepsNote, KeepsOthers, KeepsAllBut, KeepsAll, MovesNote, Owes};
 ghost use Rattle.real_disk.specs.Folders.{NoneLost, NoneLeft, HasNote, AllNoted};
 ghost use Rattle.real_disk.specs.Settled.{IsAllSynced};
+ghost use Rattle.real_disk.specs.Claims.{IsAsked, IsClaimed};
 ghost use Rattle.real_disk.specs.Earlier.{HasLooked, IsSynced};
 ghost use Rattle.real_disk.specs.declared.earlier.Earlier.TheVariants.{Unsynced};
 
+use crate::claim::{Claim, ask, ask_made};
 use crate::contents::{after_change, read_at, write_end, write_over};
 use crate::earlier::{Covered, Earlier, was_closed};
 use crate::kept::{Kept, Opened};
-use crate::listed::Listed;
 use crate::paths::{Area, area_of};
 use crate::standing::sync_at;
 use crate::sync_note;
 use crate::syncing::sync_each;
-use crate::tree::{Tree, file_len, read_and_write, read_only};
+use crate::tree::{Seen, Tree, read_and_write, read_only, same_opened, seen_at};
 use cache_base::Name;
 use disk_model::Place;
 use std::alloc::{AllocError, Global};
 use std::cmp::Ordering;
 use std::collections::BTreeSet;
-use std::fs::OpenFile;
+use std::fs::{File, OpenFile};
 use std::io::{self, ErrorKind};
-use std::rt::Files;
+use std::rt::{Clock, Files};
 
 /// The folder, and what is to be synced of it.
 #[derive(Drop)]
 pub(crate) struct Folder<'a, R: Files + AllocGlobal> {
     tree: Tree<'a, R>,
+    claim: Claim<R::File>,
     // The places whose files were made or written since the last sync.
     files: BTreeSet<Place, Global>,
     kept: Kept<R::File>,
-    listed: Listed,
     // What waits for a sync without a note here.
     earlier: Earlier,
     // Whether the note that all was synced may stand in the folder.
@@ -46,18 +47,52 @@ impl<'a, R: Files + AllocGlobal> Folder<'a, R> {
     pub(crate) fn new(rt: &'a R, dir: String) -> Self {
         Folder {
             tree: Tree::new(rt, dir),
+            claim: Claim::Unasked,
             files: BTreeSet::new(rt.alloc()),
             kept: Kept::none(rt.alloc()),
-            listed: Listed::none(rt.alloc()),
             earlier: Earlier::Unknown,
             has_sync_note: true,
         }
     }
 }
 
-impl<R: Files + AllocGlobal> Folder<'_, R> {
+impl<R: Files<File = File> + AllocGlobal + Clock> Folder<'_, R> {
     pub(crate) fn alloc(&self) -> Global {
         self.tree.rt.alloc()
+    }
+
+    // Each call begins so: the folder is asked for, unless that was done.
+    fn claim(&mut self) -> io::Result<()>
+        ensures asked { OnOk result (IsAsked self.new.claim) }
+        ensures failed { OnErr result (IsAsked self.new.claim → ⊥) }
+        ensures unclaimed { OnErr result (IsClaimed self.new.claim → ⊥) }
+        ensures files { self.new.files ≡ self.old.files }
+        ensures folders { self.new.tree ≡ self.old.tree }
+        ensures note { self.new.has_sync_note ≡ self.old.has_sync_note }
+        ensures earlier { self.new.earlier ≡ self.old.earlier }
+    {
+        if !self.claim.is_asked() {
+            self.claim = ask(self.tree.rt, self.tree.dir.as_str())?;
+        }
+        Ok(())
+    }
+
+    // A call that makes a file begins so: the folder is made where it is missing, and is then this run's own.
+    fn claim_made(&mut self) -> io::Result<()>
+        ensures claimed { OnOk result (IsClaimed self.new.claim) }
+        ensures failed { OnErr result (IsClaimed self.new.claim → ⊥) }
+        ensures files { self.new.files ≡ self.old.files }
+        ensures folders { NoneLost self.old.tree.folders self.new.tree.folders }
+        ensures note { self.new.has_sync_note ≡ self.old.has_sync_note }
+        ensures earlier { self.new.earlier ≡ self.old.earlier }
+    {
+        self.claim()?;
+        if self.claim.is_held() {
+            return Ok(());
+        }
+        self.tree.make_area(Area::Top)?;
+        self.claim = ask_made(self.tree.rt, self.tree.dir.as_str())?;
+        Ok(())
     }
 
     /// The length of the file, which is then kept open, since it is mostly read next. A missing file has none.
@@ -66,40 +101,20 @@ impl<R: Files + AllocGlobal> Folder<'_, R> {
         ensures folders { self.new.tree ≡ self.old.tree }
         ensures earlier { self.new.earlier ≡ self.old.earlier }
     {
+        self.claim()?;
         let path = self.tree.path(place)?;
-        if self.listed.has(place)
-            && let Some(len) = self.open_listed(place, path.as_str())
-        {
-            return Ok(Some(len));
-        }
-        let len = match file_len(self.tree.rt, path.as_str()) {
-            Ok(len) => len,
+        let seen = match seen_at(self.tree.rt, path.as_str()) {
+            Ok(seen) => seen,
             Err(error) if error.kind() == ErrorKind::NotFound => return Ok(None),
             Err(error) => return Err(error),
         };
-        self.keep_to_read(place, path.as_str());
-        Ok(Some(len))
+        self.keep_to_read(place, path.as_str(), &seen);
+        Ok(Some(seen.len))
     }
 
-    // Opens a file that was listed, and answers its length. None where it has gone since, or is no regular file any
-    // more.
-    fn open_listed(&mut self, place: &Place, path: &str) -> Option<u64>
-        ensures files { self.new.files ≡ self.old.files }
-        ensures folders { self.new.tree ≡ self.old.tree }
-        ensures earlier { self.new.earlier ≡ self.old.earlier }
-    {
-        let file = read_only().open(self.tree.rt, path).ok()?;
-        let found = file.metadata().ok()?;
-        if !found.is_file() {
-            return None;
-        }
-        self.kept.keep(Opened::to_read(place, file));
-        Some(found.len())
-    }
-
-    // Opens the file at the path of the place, unless it is kept already. One that cannot be opened has a length all
-    // the same, and the call that reads it fails.
-    fn keep_to_read(&mut self, place: &Place, path: &str)
+    // Opens the file that was seen at the path of the place, unless it is kept already. One that cannot be opened has a
+    // length all the same, and the call that reads it fails.
+    fn keep_to_read(&mut self, place: &Place, path: &str, seen: &Seen)
         ensures files { self.new.files ≡ self.old.files }
         ensures folders { self.new.tree ≡ self.old.tree }
         ensures earlier { self.new.earlier ≡ self.old.earlier }
@@ -107,13 +122,13 @@ impl<R: Files + AllocGlobal> Folder<'_, R> {
         if self.kept.file_of(place).is_some() {
             return;
         }
-        if let Ok(file) = read_only().open(self.tree.rt, path) {
+        if let Ok(file) = same_opened(self.tree.rt, &read_only(), path, seen) {
             self.kept.keep(Opened::to_read(place, file));
         }
     }
 
     /// Fills the buffer from the offset on, and tells how many bytes that are. It fails where the file does not have
-    /// them all; but what stands at `clear` is read as far as it goes.
+    /// them all; but what stands at `clear` is read as far as it goes, and where no file stands there, that is nowhere.
     pub(crate) fn read(&mut self, place: &Place, from: u64, buf: &mut [u8]) -> io::Result<usize>
         ensures len { IfOk result (λ n. n ≤ length buf.old) }
         ensures whole { place.now ≢ Clear → IfOk result (λ n. n ≡ length buf.old) }
@@ -121,17 +136,30 @@ impl<R: Files + AllocGlobal> Folder<'_, R> {
         ensures folders { self.new.tree ≡ self.old.tree }
         ensures earlier { self.new.earlier ≡ self.old.earlier }
     {
-        let mut opened = match self.kept.take(place) {
-            Some(opened) => opened,
-            None => {
-                let path = self.tree.path(place)?;
-                Opened::to_read(place, self.tree.open(&read_only(), path.as_str())?)
+        self.claim()?;
+        let mut opened = match self.open_to_read(place) {
+            Err(error) if *place == Place::Clear && error.kind() == ErrorKind::NotFound => {
+                return Ok(0);
             }
+            outcome => outcome?,
         };
         opened.is_new = false;
         let outcome = read_at(place, &mut opened.file, from, buf);
         self.kept.keep(opened);
         outcome
+    }
+
+    fn open_to_read(&mut self, place: &Place) -> io::Result<Opened<R::File>>
+        ensures files { self.new.files ≡ self.old.files }
+        ensures folders { self.new.tree ≡ self.old.tree }
+        ensures earlier { self.new.earlier ≡ self.old.earlier }
+    {
+        if let Some(opened) = self.kept.take(place) {
+            return Ok(opened);
+        }
+        let path = self.tree.path(place)?;
+        let file = self.tree.open(&read_only(), path.as_str())?;
+        Ok(Opened::to_read(place, file))
     }
 
     /// A file that stood there loses its name and is not cut, so that a crash may still show all of it.
@@ -141,12 +169,14 @@ impl<R: Files + AllocGlobal> Folder<'_, R> {
         ensures owed { Owes place.now self.old.files self.new.files self.new.tree.folders }
         ensures others { KeepsOthers place.now self.old.files self.new.files }
         ensures folders { NoneLost self.old.tree.folders self.new.tree.folders }
+        ensures claimed { OnOk result (IsClaimed self.new.claim) }
         ensures unnoted { OnOk result (self.new.has_sync_note ≡ false) }
-        ensures looked { HasLooked self.old.earlier self.new.earlier }
+        ensures looked { IsClaimed self.new.claim → HasLooked self.old.earlier self.new.earlier }
     {
+        self.claim_made()?;
         self.begin_change()?;
         let path = self.tree.path(place)?;
-        self.kept.make_room()?;
+        self.kept.make_room(place)?;
         self.kept.forget(place);
         let file = match self.make_where_none(place, path.as_str()) {
             Err(error) if error.kind() == ErrorKind::AlreadyExists => {
@@ -166,6 +196,7 @@ impl<R: Files + AllocGlobal> Folder<'_, R> {
         ensures others { KeepsOthers place.now self.old.files self.new.files }
         ensures folders { NoneLost self.old.tree.folders self.new.tree.folders }
         ensures note { self.new.has_sync_note ≡ self.old.has_sync_note }
+        ensures claim { self.new.claim ≡ self.old.claim }
         ensures earlier { self.new.earlier ≡ self.old.earlier }
     {
         let is_new = note_if(&mut self.files, place, true)?;
@@ -186,6 +217,7 @@ impl<R: Files + AllocGlobal> Folder<'_, R> {
         ensures others { KeepsOthers place.now self.old.files self.new.files }
         ensures folders { NoneLost self.old.tree.folders self.new.tree.folders }
         ensures note { self.new.has_sync_note ≡ self.old.has_sync_note }
+        ensures claim { self.new.claim ≡ self.old.claim }
         ensures earlier { self.new.earlier ≡ self.old.earlier }
     {
         let area = area_of(place);
@@ -208,6 +240,7 @@ impl<R: Files + AllocGlobal> Folder<'_, R> {
         ensures others { KeepsOthers place.now self.old.files self.new.files }
         ensures folders { NoneLost self.old.tree.folders self.new.tree.folders }
         ensures note { self.new.has_sync_note ≡ self.old.has_sync_note }
+        ensures claim { self.new.claim ≡ self.old.claim }
         ensures earlier { self.new.earlier ≡ self.old.earlier }
     {
         self.files.insert(*place)?;
@@ -220,8 +253,9 @@ impl<R: Files + AllocGlobal> Folder<'_, R> {
         ensures kept { KeepsNote place.now self.old.files self.new.files }
         ensures others { KeepsOthers place.now self.old.files self.new.files }
         ensures folders { self.new.tree ≡ self.old.tree }
+        ensures claimed { OnOk result (IsClaimed self.new.claim) }
         ensures unnoted { OnOk result (self.new.has_sync_note ≡ false) }
-        ensures looked { HasLooked self.old.earlier self.new.earlier }
+        ensures looked { IsClaimed self.new.claim → HasLooked self.old.earlier self.new.earlier }
     {
         self.begin_change()?;
         let Opened {
@@ -240,8 +274,9 @@ impl<R: Files + AllocGlobal> Folder<'_, R> {
         ensures kept { KeepsNote place.now self.old.files self.new.files }
         ensures others { KeepsOthers place.now self.old.files self.new.files }
         ensures folders { self.new.tree ≡ self.old.tree }
+        ensures claimed { OnOk result (IsClaimed self.new.claim) }
         ensures unnoted { OnOk result (self.new.has_sync_note ≡ false) }
-        ensures looked { HasLooked self.old.earlier self.new.earlier }
+        ensures looked { IsClaimed self.new.claim → HasLooked self.old.earlier self.new.earlier }
     {
         self.begin_change()?;
         let mut file = self.open_to_write(place)?.file;
@@ -257,9 +292,10 @@ impl<R: Files + AllocGlobal> Folder<'_, R> {
         ensures others { KeepsOthers place.now self.old.files self.new.files }
         ensures folders { self.new.tree ≡ self.old.tree }
         ensures note { self.new.has_sync_note ≡ self.old.has_sync_note }
+        ensures claim { self.new.claim ≡ self.old.claim }
         ensures earlier { self.new.earlier ≡ self.old.earlier }
     {
-        self.kept.make_room()?;
+        self.kept.make_room(place)?;
         let opened = match self.kept.take_to_write(place) {
             Some(opened) => opened,
             None => {
@@ -280,8 +316,9 @@ impl<R: Files + AllocGlobal> Folder<'_, R> {
         ensures kept { OnErr result (KeepsAll self.old.files self.new.files) }
         ensures others { KeepsAllBut from.now to.now self.old.files self.new.files }
         ensures folders { NoneLost self.old.tree.folders self.new.tree.folders }
+        ensures claimed { OnOk result (IsClaimed self.new.claim) }
         ensures unnoted { OnOk result (self.new.has_sync_note ≡ false) }
-        ensures looked { HasLooked self.old.earlier self.new.earlier }
+        ensures looked { IsClaimed self.new.claim → HasLooked self.old.earlier self.new.earlier }
     {
         self.begin_change()?;
         let old = self.tree.path(from)?;
@@ -304,8 +341,9 @@ impl<R: Files + AllocGlobal> Folder<'_, R> {
         ensures kept { OnErr result (KeepsAll self.old.files self.new.files) }
         ensures others { KeepsOthers place.now self.old.files self.new.files }
         ensures folders { NoneLost self.old.tree.folders self.new.tree.folders }
+        ensures claimed { OnOk result (IsClaimed self.new.claim) }
         ensures unnoted { OnOk result (self.new.has_sync_note ≡ false) }
-        ensures looked { HasLooked self.old.earlier self.new.earlier }
+        ensures looked { IsClaimed self.new.claim → HasLooked self.old.earlier self.new.earlier }
     {
         self.begin_change()?;
         let path = self.tree.path(place)?;
@@ -315,15 +353,20 @@ impl<R: Files + AllocGlobal> Folder<'_, R> {
         Ok(())
     }
 
-    // Each call that changes something begins so: the note that all was synced is taken away.
+    // Each call that changes something begins so: the folder is this run's own, and the note that all was synced is taken
+    // away. Where the folder is missing there is nothing to be changed.
     fn begin_change(&mut self) -> io::Result<()>
+        ensures claimed { OnOk result (IsClaimed self.new.claim) }
         ensures unnoted { OnOk result (self.new.has_sync_note ≡ false) }
-        ensures looked { HasLooked self.old.earlier self.new.earlier }
+        ensures looked { IsClaimed self.new.claim → HasLooked self.old.earlier self.new.earlier }
         ensures files { self.new.files ≡ self.old.files }
         ensures folders { self.new.tree ≡ self.old.tree }
     {
+        self.claim()?;
+        if !self.claim.is_held() {
+            return Err(ErrorKind::NotFound.into());
+        }
         self.look_for_earlier();
-        self.listed.forget();
         if self.has_sync_note {
             sync_note::take_away(self.tree.rt, self.tree.dir.as_str())?;
             self.has_sync_note = false;
@@ -333,6 +376,7 @@ impl<R: Files + AllocGlobal> Folder<'_, R> {
 
     // Looks what an earlier process has left, unless that was done.
     fn look_for_earlier(&mut self)
+        ensures claim { self.new.claim ≡ self.old.claim }
         ensures looked { HasLooked self.old.earlier self.new.earlier }
         ensures files { self.new.files ≡ self.old.files }
         ensures folders { self.new.tree ≡ self.old.tree }
@@ -355,13 +399,16 @@ impl<R: Files + AllocGlobal> Folder<'_, R> {
         }
     }
 
-    // One that could not be made whole is not believed.
+    // One that could not be made whole is not believed. Where the folder is not this run's own nothing is made in it.
     fn make_note(&mut self)
         requires { IsAllSynced self.old.files self.old.tree.folders self.old.earlier }
         ensures files { self.new.files ≡ self.old.files }
         ensures folders { self.new.tree ≡ self.old.tree }
         ensures earlier { self.new.earlier ≡ self.old.earlier }
     {
+        if !self.claim.is_held() {
+            return;
+        }
         if let Ok(true) = was_closed(self.tree.rt, self.tree.dir.as_str()) {
             return;
         }
@@ -378,15 +425,17 @@ impl<R: Files + AllocGlobal> Folder<'_, R> {
     }
 }
 
-impl<R: Files + AllocGlobal + Clone + Drop> Folder<'_, R> {
+impl<R: Files<File = File> + AllocGlobal + Clock + Clone + Drop> Folder<'_, R> {
     /// The files before the names that lead to them.
     pub(crate) fn sync(&mut self) -> io::Result<()>
         ensures files { OnOk result (btree_set_len self.new.files ≡ 0) }
         ensures names { OnOk result (NoneLeft self.new.tree.folders) }
         ensures order { (btree_set_len self.new.files ≡ 0) ⊎ (self.new.tree ≡ self.old.tree) }
         ensures earlier { OnOk result (IsSynced self.new.earlier) }
-        ensures owed { OnErr result (HasLooked self.old.earlier self.new.earlier) }
+        ensures owed { OnErr result
+            (IsAsked self.new.claim → HasLooked self.old.earlier self.new.earlier) }
     {
+        self.claim()?;
         self.look_for_earlier();
         let tree = &self.tree;
         let kept = &self.kept;
@@ -396,7 +445,7 @@ impl<R: Files + AllocGlobal + Clone + Drop> Folder<'_, R> {
         let covered = self.cover_earlier()?;
         self.tree.sync()?;
         self.earlier = Earlier::Synced(covered);
-        if !was_synced {
+        if !was_synced && self.earlier.wants_note() {
             self.make_note();
         }
         Ok(())
@@ -417,16 +466,13 @@ impl<R: Files + AllocGlobal + Clone + Drop> Folder<'_, R> {
         Ok(Covered::by_sync(standing))
     }
 
-    pub(crate) fn entries(&self) -> io::Result<BTreeSet<Name, Global>> {
+    pub(crate) fn entries(&mut self) -> io::Result<BTreeSet<Name, Global>> {
+        self.claim()?;
         self.tree.entries()
     }
 
-    /// These are the entries that stand, in name order.
-    pub(crate) fn keep_listed(&mut self, names: &[Name]) -> Result<(), AllocError> {
-        self.listed.keep(self.tree.rt.alloc(), names)
-    }
-
     pub(crate) fn doomed(&mut self) -> io::Result<BTreeSet<u32, Global>> {
+        self.claim()?;
         self.tree.list_doomed()
     }
 }

@@ -5,8 +5,8 @@ use std::alloc::Global;
 use std::fs::OpenFile;
 use std::io;
 
-// So many files that wait for a sync are kept open at most. A process may mostly have 1,024 open.
-const WRITTEN_MAX: usize = 128;
+// So many files that wait for a sync are kept open at most. A process may have few open: some systems allow 128.
+const WRITTEN_MAX: usize = 32;
 
 /// The open file of a place.
 #[derive(Drop)]
@@ -148,9 +148,11 @@ impl<F: Drop> Kept<F> {
 }
 
 impl<F: OpenFile + Drop> Kept<F> {
-    /// Makes room for one more file that is written. Where too many are open, one of them is synced and closed.
-    pub(crate) fn make_room(&mut self) -> io::Result<()> {
+    /// Makes room for the file of the place, which is about to be written. Where too many others are open, one of them
+    /// is synced and closed.
+    pub(crate) fn make_room(&mut self, place: &Place) -> io::Result<()> {
         if self.written.len() >= WRITTEN_MAX
+            && self.written_at(place).is_none()
             && let Some(opened) = self.written.first()
         {
             opened.file.sync_all()?;

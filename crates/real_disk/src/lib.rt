@@ -5,11 +5,11 @@
 //! is synced, and that lists of names rise.
 #![tactic(auto)]
 
+mod claim;
 mod contents;
 mod earlier;
 mod folder;
 mod kept;
-mod listed;
 mod listing;
 mod making;
 mod notes;

@@ -8,9 +8,9 @@ use disk_model::Place;
 use entry_name::text_of;
 use std::alloc::AllocError;
 
-const ENTRIES: &str = "entries";
+pub(crate) const ENTRIES: &str = "entries";
 
-const DOOMED: &str = "doomed";
+pub(crate) const DOOMED: &str = "doomed";
 
 /// The files of the index.
 pub(crate) const INDEX: &str = "index";
@@ -22,15 +22,16 @@ pub(crate) const TMP: &str = "index.tmp";
 /// The mark of a clearing.
 pub(crate) const CLEAR: &str = "clear";
 
-/// A folder that places lie in.
+/// A folder that places lie in. The folders are synced in this order, the one above last: a mark that guards changes
+/// in the others stands or goes with them.
 #[derive(Clone, Copy, Debug, PartialEq, Eq, PartialOrd, Ord)]
 pub(crate) enum Area {
-    /// The folder of the cache, with the files of the index and the mark of a clearing.
-    Top,
     /// The folder of entries.
     Entries,
     /// The folder of doomed entries.
     Doomed,
+    /// The folder of the cache, with the files of the index and the mark of a clearing.
+    Top,
 }
 
 /// The folder that a place lies in.

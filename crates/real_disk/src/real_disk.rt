@@ -9,8 +9,9 @@ use crate::folder::Folder;
 use crate::listing::rising;
 use cache_base::{Names, Numbers};
 use disk_model::{Disk, DiskFault, Place};
+use std::fs::File;
 use std::io::{self, ErrorKind};
-use std::rt::Files;
+use std::rt::{Clock, Files};
 
 /// A folder of the machine, with the folders `entries` and `doomed` and the files of the index in it.
 ///
@@ -22,9 +23,15 @@ use std::rt::Files;
 /// every file that stands and every folder, unless the index tells that the cache was closed, or an earlier process has
 /// left the note, the file `synced`, that all was synced. A change takes the note away.
 ///
-/// An entry that was listed is known to be a regular file, and is opened without another look until something changes.
+/// What stands at a place is looked at before it is opened and once more when it is open. So a link that was put there
+/// is not followed, and a pipe is not waited for.
 ///
-/// A read of bytes that the file does not have fails: who asks for them was told a size that had them.
+/// A read of bytes that the file does not have fails: who asks for them was told a size that had them. At `clear` alone,
+/// where a mark may be shorter or missing, fewer bytes are read, or none.
+///
+/// One run at a time has the folder. The first call asks for its lock, for some ten seconds where another run has it, and
+/// fails then, having touched nothing. The lock is held until the disk is dropped or the process ends. Where the file
+/// system has no locks the run goes on without.
 ///
 /// Each call that fails raises the count of faults by one. Where the system has no memory the call answers so, and
 /// no fault is counted. Contracts are told nothing of what the folder holds, but that after a sync no change waits.
@@ -34,7 +41,7 @@ pub struct RealDisk<'a, R: Files + AllocGlobal> {
     faults: u64,
 }
 
-impl<'a, R: Files + AllocGlobal + Clone + Drop> RealDisk<'a, R> {
+impl<'a, R: Files<File = File> + AllocGlobal + Clock + Clone + Drop> RealDisk<'a, R> {
     /// Makes no call of the machine.
     pub fn new(rt: &'a R, dir: String) -> Self
         ensures faults { ⟦<RealDisk<'a, R> as Disk>⟧.faults result ≡ 0 }
@@ -72,7 +79,7 @@ impl<R: Files + AllocGlobal> RealDisk<'_, R> {
     }
 }
 
-impl<R: Files + AllocGlobal + Clone + Drop> Disk for RealDisk<'_, R> {
+impl<R: Files<File = File> + AllocGlobal + Clock + Clone + Drop> Disk for RealDisk<'_, R> {
     ghost use Rattle.std.specs.Prelude.{IsTrue};
     ghost use Rattle.disk_model.specs.State.{settled};
     ghost use Rattle.disk_model.specs.Calls.{if_ok, counted_sync};
@@ -139,7 +146,6 @@ impl<R: Files + AllocGlobal + Clone + Drop> Disk for RealDisk<'_, R> {
         let outcome = self.folder.entries();
         let names = self.answer(outcome)?;
         *out = rising(self.folder.alloc(), names)?;
-        self.folder.keep_listed(out.as_slice())?;
         Ok(())
     }
 

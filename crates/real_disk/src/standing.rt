@@ -6,7 +6,7 @@ use crate::listing::{Found, read_names};
 use crate::notes::sync_folder;
 use crate::numbers::Folders;
 use crate::paths::{Area, path_of, path_of_area};
-use crate::syncing::{AllSynced, sync_listed};
+use crate::syncing::{AllSynced, PermittedSynced, is_permitted, sync_listed, sync_permitted};
 use crate::tree::{Tree, open_regular, read_only};
 use cache_base::{Name, number};
 use disk_model::Place;
@@ -15,14 +15,22 @@ use std::alloc::Global;
 use std::collections::BTreeSet;
 use std::fs::{self, OpenFile};
 use std::io::{self, ErrorKind};
+use std::os::unix::fs::MetadataExt;
 use std::rt::Files;
 
 /// Says that all that stands was synced. Only `Tree::sync_standing` makes it.
 #[derive(Drop)]
 pub(crate) struct Standing {
-    entries: AllSynced<Name>,
+    entries: PermittedSynced<Name>,
     doomed: AllSynced<u32>,
     top: AllSynced<Place>,
+}
+
+impl Standing {
+    /// Whether no file was passed over.
+    pub(crate) fn is_whole(&self) -> bool {
+        self.entries.is_whole
+    }
 }
 
 impl<R: Files + AllocGlobal + Clone + Drop> Tree<'_, R> {
@@ -47,11 +55,24 @@ impl<R: Files + AllocGlobal + Clone + Drop> Tree<'_, R> {
 
     // What stands there, by the numbers in the names.
     fn find_doomed(&self) -> io::Result<Found<u32>> {
-        let entries = path_of_area(self.rt, self.dir.as_str(), &Area::Entries)?;
+        self.refuse_foreign()?;
         let path = path_of_area(self.rt, self.dir.as_str(), &Area::Doomed)?;
-        refuse_link(self.rt, entries.as_str())?;
-        refuse_link(self.rt, path.as_str())?;
         read_names(self.rt, path.as_str(), |text| number(text.as_bytes()))
+    }
+
+    // Refuses a folder that is none of the cache's. One of another file system is none: no file moves there.
+    fn refuse_foreign(&self) -> io::Result<()> {
+        let top = path_of_area(self.rt, self.dir.as_str(), &Area::Top)?;
+        let device = match fs::metadata(self.rt, top.as_str()) {
+            Ok(found) => found.dev(),
+            Err(error) if error.kind() == ErrorKind::NotFound => return Ok(()),
+            Err(error) => return Err(error),
+        };
+        'areas: for area in [Area::Entries, Area::Doomed] {
+            let path = path_of_area(self.rt, self.dir.as_str(), &area)?;
+            refuse_elsewhere(self.rt, path.as_str(), device)?;
+        }
+        Ok(())
     }
 
     fn numbers_of(&self, named: BTreeSet<u32, Global>) -> io::Result<BTreeSet<u32, Global>> {
@@ -81,14 +102,14 @@ impl<R: Files + AllocGlobal + Clone + Drop> Tree<'_, R> {
     }
 
     /// Syncs each file that stands, and the folders that lead to that of the cache. It holds the names of one folder at
-    /// a time.
+    /// a time. An entry's file that may not be opened is passed over: no process of this user has changed it.
     pub(crate) fn sync_standing(&self) -> io::Result<Standing> {
         let rt = self.rt;
         let dir = self.dir.as_str();
         let numbers = &self.numbers;
         let standing = Standing {
-            entries: sync_listed(self.entries()?, |name| {
-                sync_at(rt, dir, numbers, &Place::Entry(*name))
+            entries: sync_permitted(self.entries()?, |name| {
+                is_permitted(sync_at(rt, dir, numbers, &Place::Entry(*name)))
             })?,
             doomed: sync_listed(self.doomed()?, |number| {
                 sync_at(rt, dir, numbers, &Place::Doomed(*number))
@@ -117,9 +138,10 @@ impl<R: Files + AllocGlobal + Clone + Drop> Tree<'_, R> {
 }
 
 // Where a link stands in the place of a folder of the cache, the files that it leads to are not the cache's.
-fn refuse_link<R: Files>(rt: &R, path: &str) -> io::Result<()> {
+fn refuse_elsewhere<R: Files>(rt: &R, path: &str, device: u64) -> io::Result<()> {
     match fs::symlink_metadata(rt, path) {
         Ok(found) if found.is_symlink() => Err(ErrorKind::Other.into()),
+        Ok(found) if found.dev() != device => Err(ErrorKind::CrossesDevices.into()),
         Ok(_) => Ok(()),
         Err(error) if error.kind() == ErrorKind::NotFound => Ok(()),
         Err(error) => Err(error),

@@ -1,14 +1,15 @@
 //! What has changed and is to be synced.
 
-ghost use Rattle.std.specs.Prelude.{◌≡◌, OnOk, Ok};
+ghost use Rattle.std.specs.Prelude.{◌≡◌, OnOk, IfOk, IfErr, IsTrue, Ok, true};
+ghost use Rattle.std.specs.IoError.{error_kind};
 ghost use Rattle.std.specs.BTreeSet.{btree_set_len};
 ghost use Rattle.std.specs.Fn.{FnReturnsAt};
 ghost use Rattle.std.specs.List.{All};
-ghost use Rattle.real_disk.specs.Taken.{TakesOff};
+ghost use Rattle.real_disk.specs.Taken.{TakesOff, Succeeds};
 
 use std::alloc::Global;
 use std::collections::BTreeSet;
-use std::io;
+use std::io::{self, ErrorKind};
 
 /// Syncs each and takes it off. One that fails stays, with all after it.
 pub(crate) fn sync_each<K: Ord + Drop, S: Fn(&K) -> io::Result<()>>(
@@ -43,4 +44,50 @@ pub(crate) fn sync_listed<K: Ord + Drop, S: Fn(&K) -> io::Result<()>>(
     let mut left = listed;
     sync_each(&mut left, sync)?;
     Ok(AllSynced { left })
+}
+
+/// Says that each of a list was synced, or may not be. Only `sync_permitted` makes it.
+#[derive(Drop)]
+pub(crate) struct PermittedSynced<K: Ord + Drop> {
+    left: BTreeSet<K, Global>,
+    /// Each was synced.
+    pub(crate) is_whole: bool,
+}
+
+/// Syncs each that is listed. The call answers whether it was synced: one that may not be is passed over.
+pub(crate) fn sync_permitted<K: Ord + Drop, S: Fn(&K) -> io::Result<bool>>(
+    listed: BTreeSet<K, Global>,
+    sync: S,
+) -> io::Result<PermittedSynced<K>>
+    requires { S.IsAlwaysCallable sync }
+    ensures each { OnOk result (All (λ key. Succeeds S.Fn sync key) listed.keys) }
+    ensures whole { IfOk result (λ synced. IsTrue synced.is_whole →
+        All (λ key. FnReturnsAt S.Fn sync key (Ok true)) listed.keys) }
+{
+    let mut left = listed;
+    let mut is_whole = true;
+    while let Some(first) = left.first() {
+        let is_synced = sync(first)?;
+        is_whole = both(is_whole, is_synced);
+        left.pop_first();
+    }
+    Ok(PermittedSynced { left, is_whole })
+}
+
+fn both(one: bool, other: bool) -> bool
+    ensures { IsTrue result → IsTrue one × IsTrue other }
+{
+    one && other
+}
+
+/// Whether a sync succeeded. It did not where it may not be made; another failure stays one.
+pub(crate) fn is_permitted(outcome: io::Result<()>) -> io::Result<bool>
+    ensures synced { IfOk result (λ is_synced. IsTrue is_synced → outcome ≡ Ok tt) }
+    ensures denied { IfErr outcome (λ e. OnOk result (error_kind e ≡ ErrorKind.PermissionDenied)) }
+{
+    match outcome {
+        Ok(()) => Ok(true),
+        Err(error) if error.kind() == ErrorKind::PermissionDenied => Ok(false),
+        Err(error) => Err(error),
+    }
 }

@@ -9,9 +9,9 @@ use crate::open_folders::OpenFolders;
 use crate::paths::{Area, path_of};
 use disk_model::Place;
 use std::alloc::AllocError;
-use std::fs::{self, OpenOptions};
+use std::fs::{self, Metadata, OpenFile, OpenOptions};
 use std::io::{self, ErrorKind};
-use std::os::unix::fs::OpenOptionsExt;
+use std::os::unix::fs::{MetadataExt, OpenOptionsExt};
 use std::rt::Files;
 
 /// A cache tells where its user has been, so nobody else may read it.
@@ -117,17 +117,47 @@ impl<'a, R: Files + AllocGlobal> Tree<'a, R> {
     }
 }
 
-/// Opens the file that stands at the path, if it is a regular one.
-pub(crate) fn open_regular<R: Files>(rt: &R, how: &OpenOptions, path: &str) -> io::Result<R::File> {
-    file_len(rt, path)?;
-    how.open(rt, path)
+/// A regular file, as a look at it found it.
+#[derive(Clone, Copy, Debug, PartialEq, Eq)]
+pub(crate) struct Seen {
+    pub(crate) len: u64,
+    device: u64,
+    inode: u64,
 }
 
-/// The length of the file that stands there. At a link too there is none.
-pub(crate) fn file_len<R: Files>(rt: &R, path: &str) -> io::Result<u64> {
-    let found = fs::symlink_metadata(rt, path)?;
-    if found.is_file() {
-        Ok(found.len())
+/// The regular file that stands at the path. A link is none.
+pub(crate) fn seen_at<R: Files>(rt: &R, path: &str) -> io::Result<Seen> {
+    seen_in(&fs::symlink_metadata(rt, path)?)
+}
+
+fn seen_in(found: &Metadata) -> io::Result<Seen> {
+    if !found.is_file() {
+        return Err(ErrorKind::Other.into());
+    }
+    Ok(Seen {
+        len: found.len(),
+        device: found.dev(),
+        inode: found.ino(),
+    })
+}
+
+/// Opens the file that stands at the path, if it is a regular one.
+pub(crate) fn open_regular<R: Files>(rt: &R, how: &OpenOptions, path: &str) -> io::Result<R::File> {
+    let seen = seen_at(rt, path)?;
+    same_opened(rt, how, path, &seen)
+}
+
+/// Opens the file that was seen at the path. Where another one is open then, as that which a link leads to, it fails.
+pub(crate) fn same_opened<R: Files>(
+    rt: &R,
+    how: &OpenOptions,
+    path: &str,
+    seen: &Seen,
+) -> io::Result<R::File> {
+    let file = how.open(rt, path)?;
+    let opened = seen_in(&file.metadata()?)?;
+    if (opened.device, opened.inode) == (seen.device, seen.inode) {
+        Ok(file)
     } else {
         Err(ErrorKind::Other.into())
     }

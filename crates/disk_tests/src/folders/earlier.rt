@@ -179,5 +179,39 @@ fn a_copied_note_is_not_believed(rt: HostRuntime) -> Result<(), Fail> {
     assert!(rt; fs::copy(&rt, "copied/synced", "copy/synced").is_ok());
     assert!(rt; fs::write(&rt, "copy/doomed", b"no folder").is_ok());
     assert!(rt; goes_over_all(&rt, "copy")?);
+    assert_eq!(rt;
+        rows_answered(&rt, "copy", COPY_CHANGED)?,
+        COPY_CHANGED.len()
+    );
+    Ok(())
+}
+
+const COPY_CHANGED: &[Row<'static>] = &[
+    (Call::Patch(Place::Index, 0, b"0"), Answer::Done),
+    (Call::File("copy/synced"), Answer::Nothing),
+];
+
+const FOREIGN: &[Row<'static>] = &[
+    (Call::MakeFolder("foreign"), Answer::Done),
+    (Call::MakeFolder("foreign/entries"), Answer::Done),
+    (Call::WriteFile("foreign/index", &DIRTY), Answer::Done),
+    (
+        Call::WriteFile("foreign/synced", b"synced 1 2 3 4 5 six\n"),
+        Answer::Done,
+    ),
+    (Call::Sync, Answer::Done),
+    (Call::Patch(Place::Index, 0, b"0"), Answer::Done),
+    (Call::Sync, Answer::Done),
+    (Call::Leave, Answer::Done),
+    (
+        Call::File("foreign/synced"),
+        Answer::Bytes(b"synced 1 2 3 4 5 six\n"),
+    ),
+];
+
+// A file of the note's name that has not the form of a note.
+#[test]
+fn a_foreign_file_is_no_note_and_stays(rt: HostRuntime) -> Result<(), Fail> {
+    assert_eq!(rt; rows_answered(&rt, "foreign", FOREIGN)?, FOREIGN.len());
     Ok(())
 }

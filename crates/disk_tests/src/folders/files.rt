@@ -171,6 +171,7 @@ fn a_rename_makes_the_folder(rt: HostRuntime) -> Result<(), Fail> {
 
 const MARKED: &[Row<'static>] = &[
     (Call::Size(Place::Clear), Answer::Nothing),
+    (Call::Read(Place::Clear, 0), Answer::Bytes(b"")),
     (Call::Make(Place::Clear, b"older"), Answer::Done),
     (Call::Make(Place::Doomed(64), b"mark"), Answer::Done),
     (Call::Sync, Answer::Done),
@@ -185,6 +186,7 @@ const MARKED: &[Row<'static>] = &[
     (Call::Remove(Place::Clear), Answer::Done),
     (Call::Sync, Answer::Done),
     (Call::File("marked/clear"), Answer::Nothing),
+    (Call::Read(Place::Clear, 0), Answer::Bytes(b"")),
 ];
 
 // As a mark is stored over an older one, read as far as it goes, and removed.

@@ -104,6 +104,18 @@ fn what_is_no_file_is_not_listed(rt: HostRuntime) -> Result<(), Fail> {
     Ok(())
 }
 
+// Whether a disk makes two files there, beside the folders.
+fn two_are_made(rt: &HostRuntime, dir: &str) -> Result<bool, AllocError> {
+    let mut disk = disk_in(rt, dir)?;
+    let is_empty = doomed_of(rt, &mut disk).is_ok_and(|found| found.as_slice().is_empty());
+    Ok(
+        is_empty
+            && make(&mut disk, &Place::Doomed(0), b"first") == Ok(())
+            && make(&mut disk, &Place::Doomed(1), b"second") == Ok(())
+            && disk.sync() == Ok(()),
+    )
+}
+
 // Whether a second disk lists these two, and removes the first.
 fn two_are_listed(rt: &HostRuntime, dir: &str) -> Result<bool, AllocError> {
     let mut disk = disk_in(rt, dir)?;
@@ -121,11 +133,7 @@ fn doomed_files_pass_over_the_numbers_of_folders(rt: HostRuntime) -> Result<(), 
     ] {
         assert!(rt; fs::create_dir(&rt, path).is_ok());
     }
-    let mut disk = disk_in(&rt, "passed")?;
-    assert!(rt; doomed_of(&rt, &mut disk).is_ok_and(|found| found.as_slice().is_empty()));
-    assert_eq!(rt; make(&mut disk, &Place::Doomed(0), b"first"), Ok(()));
-    assert_eq!(rt; make(&mut disk, &Place::Doomed(1), b"second"), Ok(()));
-    assert_eq!(rt; disk.sync(), Ok(()));
+    assert!(rt; two_are_made(&rt, "passed")?);
     assert!(rt; holds(&rt, "passed/doomed/1", b"first"));
     assert!(rt; holds(&rt, "passed/doomed/3", b"second"));
     assert!(rt; two_are_listed(&rt, "passed")?);
