@@ -5,39 +5,18 @@
 use cache_base::Status;
 use cache_io::{StdSink, StdSource};
 use cache_tool::run;
+use command_line::{NOT_BEGUN, hold_streams, words_of};
 use real_disk::RealDisk;
+use std::io;
 use std::process::ExitCode;
-use std::{env, fs, io};
-
-// The status where the system does not give what `main` begins with. `run` never ends so.
-const NOT_BEGUN: u8 = 8;
-
-// A folder that is there everywhere. As a stream it gives no bytes and takes none: each read and write of it fails.
-const ROOT: &str = "/";
 
 fn main(rt: HostRuntime) -> ExitCode {
-    // A file that is opened takes the lowest free number. Where a standard stream is closed, its number is taken here,
-    // so that no file of the cache is read or written as that stream.
-    let held = (
-        fs::open(&rt, ROOT),
-        fs::open(&rt, ROOT),
-        fs::open(&rt, ROOT),
-    );
-    let (Ok(_first), Ok(_second), Ok(_third)) = held else {
+    let Some(_streams) = hold_streams(&rt) else {
         return ExitCode::from(NOT_BEGUN);
     };
-    let Ok(mut args) = env::args(&rt) else {
-        return ExitCode::from(NOT_BEGUN);
-    };
-    let _program = args.next();
-    let Some(dir) = args
-        .next()
-        .map_or_else(|| String::from_str(rt.alloc(), ".").ok(), Some)
-    else {
-        return ExitCode::from(Status::Memory.code());
-    };
-    let Ok(words) = args.collect::<Vec<String>>(rt.alloc()) else {
-        return ExitCode::from(Status::Memory.code());
+    let (dir, words) = match words_of(&rt) {
+        Ok(line) => line,
+        Err(status) => return ExitCode::from(status),
     };
     let mut disk = RealDisk::new(&rt, dir);
     let mut source = StdSource::new(rt.reader());

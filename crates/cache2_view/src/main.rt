@@ -1,0 +1,26 @@
+//! The program `cache2_view`: the words of the command line over a folder of the machine that is only looked at,
+//! standard input and standard output. What the words change is held in memory, and gone at the end.
+#![tactic(auto)]
+
+use cache_io::{StdSink, StdSource};
+use cache_tool::run;
+use command_line::{NOT_BEGUN, hold_streams, words_of};
+use overlay_disk::OverlayDisk;
+use real_disk::RealDisk;
+use std::io;
+use std::process::ExitCode;
+
+fn main(rt: HostRuntime) -> ExitCode {
+    let Some(_streams) = hold_streams(&rt) else {
+        return ExitCode::from(NOT_BEGUN);
+    };
+    let (dir, words) = match words_of(&rt) {
+        Ok(line) => line,
+        Err(status) => return ExitCode::from(status),
+    };
+    let mut disk = OverlayDisk::new(rt.alloc(), RealDisk::new(&rt, dir));
+    let mut source = StdSource::new(rt.reader());
+    let mut sink = StdSink::new(io::writer(&rt));
+    let status = run(rt.alloc(), &words, &mut source, &mut sink, &mut disk);
+    ExitCode::from(status.code())
+}

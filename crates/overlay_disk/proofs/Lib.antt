@@ -1,0 +1,4 @@
+pub mod SlotLaws
+pub mod OverLaws
+pub mod LayerLaws
+pub mod ListLaws

@@ -1,0 +1,4 @@
+pub mod OnlySeen
+pub mod Seen
+pub mod Shown
+pub mod Listed
