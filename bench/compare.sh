@@ -2,12 +2,12 @@
 # Sourced by the scripts that measure whole runs on a folder in $work, and that stand in the folder $here.
 : "${work:?}" "${here:?}"
 
-# take_program [PROGRAM]: puts a copy of the program that is measured into $work: this one, or that of the launcher, which builds
-# it where it is missing.
+# take_program [PROGRAM]: puts a copy of the program that is measured into $work: this one, or the proved one, which the
+# launcher builds where it is missing.
 take_program() {
     local made=${1-}
     if [[ ! $made ]]; then
-        "$here/../cache2" "$work/first" 1000 list >/dev/null
+        "$here/../cache2" --proved
         made=$here/../crates/cache2/out/cache2
     fi
     cp "$made" "$work/cache2"
