@@ -1,47 +1,29 @@
-"""The items of a dump, for the tools beside this module. It is no tool.
-
-It follows "The dump" in docs/FORMATS.md, and nothing of the program.
-"""
-import dataclasses
+"""The items of a dump, as "The dump" in docs/FORMATS.md has them: read, checked and written."""
 import hashlib
 import struct
 
-from formats_module import CHUNK, MAX_BLOCK, MAX_KEY, alternative_place, are_elements, elements_in, low_hash, lookup2, may_write
+from cachelib.elements import are_elements
+from cachelib.entries import HEADER_BYTES, MAX_BLOCK, MAX_BODY, Metadata, header_place
+from cachelib.hashes import CHUNK, low_hash, lookup2
+from cachelib.keys import MAX_KEY, may_write
 
 HEAD = b"C2DUMP01"
-MAX_BODY = 52428800
 MAX_DUMP = 1 << 40
 
 
 class BadItem(Exception):
     """An item is bad: its number, counted from 1, and why."""
 
-
-@dataclasses.dataclass
-class Item:
-    """What an item says, with the 20 bytes of its name."""
-    name: bytes
-    key: bytes
-    body_len: int
-    fetch_count: int
-    fetched: int
-    modified: int
-    frecency: int
-    expires: int
-    flags: int
-    elements: bytes
-
-    def alternative_at(self):
-        """Where the alternative data begin in the body, or None where there are none."""
-        place = alternative_place(elements_in(self.elements).get(b"alt-data", b""), self.body_len)
-        return place and place[0]
+    def __str__(self):
+        return f"item {self.args[0]}: {self.args[1]}"
 
 
 class Dump:
-    """A dump that is read from an open file."""
+    """A dump that is read from an open file. To check the hashes takes most of the time, and may be left out."""
 
-    def __init__(self, file):
+    def __init__(self, file, is_hashed=True):
         self.file = file
+        self.is_hashed = is_hashed
         self.used = 0
         self.number = 1
 
@@ -74,26 +56,27 @@ class Dump:
         return key
 
     def body(self, keep):
-        """The length of a body and the hashes of its chunks. Each chunk is handed on."""
+        """The length of a body and the hashes of its chunks, where these are asked for. Each chunk is handed on."""
         left = length = self.length(0, MAX_BODY, "a body")
         hashes = []
         while left:
             piece = self.take(min(CHUNK, left))
             left -= len(piece)
-            hashes.append(low_hash(piece))
+            if self.is_hashed:
+                hashes.append(low_hash(piece))
             keep(piece)
         return length, b"".join(hashes)
 
-    def meta(self, key, hashes):
-        """What the block of this key and these hashes says: the header's numbers but the version and the key's length, and the elements."""
+    def metadata(self, key, body_len, hashes):
+        """What the block of this key and of a body with this length and these hashes says."""
         block = self.take(self.length(0, MAX_BLOCK, "a block"))
-        header = 4 + len(hashes)
-        key_at = header + 32
+        header = header_place(body_len)
+        key_at = header + HEADER_BYTES[3]
         if len(block) <= key_at + len(key):
             raise self.bad("its block is short")
-        if block[:4] != struct.pack(">I", lookup2(block[4:])):
+        if self.is_hashed and block[:4] != struct.pack(">I", lookup2(block[4:])):
             raise self.bad("its block is damaged")
-        if block[4:header] != hashes:
+        if self.is_hashed and block[4:header] != hashes:
             raise self.bad("its body is damaged")
         version, *numbers, key_len, flags = struct.unpack_from(">8I", block, header)
         if version != 3:
@@ -103,18 +86,20 @@ class Dump:
         elements = block[key_at + key_len + 1:]
         if not are_elements(elements):
             raise self.bad("its elements are malformed")
-        return *numbers, flags, elements
+        return Metadata(version, key, body_len, block[4:header], tuple(numbers), flags, elements)
 
     def items(self, begin=lambda name: lambda piece: None):
-        """Each item, once it is read whole. `begin` is called with its name, and what it gives with each piece of its body."""
+        """The metadata of each item, once it is read whole. `begin` is called with its name, and what it gives with
+        each piece of its body.
+        """
         if self.take(len(HEAD)) != HEAD:
             raise self.bad("this is no dump")
         before = b""
         while (tag := self.take(1)) == b"\1":
             key = self.key(before)
-            name = before = hashlib.sha1(key).digest()
-            body_len, hashes = self.body(begin(name))
-            yield Item(name, key, body_len, *self.meta(key, hashes))
+            before = hashlib.sha1(key).digest()
+            body_len, hashes = self.body(begin(before.hex().upper()))
+            yield self.metadata(key, body_len, hashes)
             self.number += 1
         if tag != b"\0":
             raise self.bad("it begins with another byte")
@@ -122,8 +107,20 @@ class Dump:
             raise self.bad("a byte comes after the end")
 
 
+def item_parts(key, body, block):
+    """The bytes of an item in parts, of which none is copied."""
+    front = b"\1" + struct.pack(">I", len(key)) + key + struct.pack(">I", len(body))
+    return front, body, struct.pack(">I", len(block)), block
+
+
+def dump_bytes(*items):
+    """A dump of items, each the bytes of one."""
+    return HEAD + b"".join(items) + b"\0"
+
+
 class Writer:
-    """Writes a dump to an open file: items in the order of their names, and then the end. It has at most so many bytes."""
+    """Writes a dump to an open file: items in the order of their names, and then the end. It has at most so many bytes.
+    """
 
     def __init__(self, file, most=MAX_DUMP):
         self.file = file
@@ -132,12 +129,12 @@ class Writer:
 
     def add(self, key, body, block):
         """Whether there was room for an item; nothing of it is written otherwise. A byte is kept for the end."""
-        front = b"\1" + struct.pack(">I", len(key)) + key + struct.pack(">I", len(body))
-        size = len(front) + len(body) + 4 + len(block)
+        parts = item_parts(key, body, block)
+        size = sum(map(len, parts))
         if size + 1 > self.left:
             return False
         self.left -= size
-        for part in (front, body, struct.pack(">I", len(block)), block):
+        for part in parts:
             self.file.write(part)
         return True
 

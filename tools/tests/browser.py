@@ -1,7 +1,8 @@
 """Drives a Firefox without a window, for the tools beside this module that try pages and caches. It is no tool.
 
-Firefox listens on a socket of this machine (Marionette, its own protocol for tests): a message is its length in bytes, a colon, and
-a list in JSON. So no package is needed but Firefox itself. A profile is a folder of the tool's own.
+Firefox listens on a socket of this machine (Marionette, its own protocol for tests): a message is its length in
+bytes, a colon, and a list in JSON. So no package is needed but Firefox itself. A profile is a folder of the tool's
+own.
 """
 import base64
 import json
@@ -13,7 +14,8 @@ import time
 
 NAMES = ("firefox-esr", "firefox")
 SECONDS = 60
-# Nothing but the pages of the tool is to be fetched, and nothing is to be asked of the network before the cache has answered.
+# Nothing but the pages of the tool is to be fetched, and nothing is to be asked of the network before the cache has
+# answered.
 PREFS = {
     "marionette.port": 0,
     "app.normandy.enabled": False,
@@ -85,7 +87,8 @@ class Browser:
         home = os.path.join(profile, "home")
         os.makedirs(home, exist_ok=True)
         self.log = open(os.path.join(profile, "firefox.log"), "ab")
-        words = ["--headless", "--no-remote", "--marionette", "--remote-allow-system-access", "--profile", profile, "about:blank"]
+        words = ["--headless", "--no-remote", "--marionette", "--remote-allow-system-access", "--profile", profile,
+                 "about:blank"]
         self.process = subprocess.Popen(
             [browser, *words],
             stdin=subprocess.DEVNULL, stdout=self.log, stderr=self.log, start_new_session=True,
@@ -164,7 +167,8 @@ class Browser:
         """What the console says of pages from files: errors and warnings, of scripts and of what a page may not do."""
         return self.run_inside(LOGGED + """
             const isOfPage = one => one instanceof Ci.nsIScriptError
-                && (`${one.sourceName} ${one.errorMessage}`.includes("file://") || /CSP|Content.Security/i.test(one.category + one.errorMessage));
+                && (`${one.sourceName} ${one.errorMessage}`.includes("file://")
+                    || /CSP|Content.Security/i.test(one.category + one.errorMessage));
             const told = Services.console.getMessageArray().filter(isOfPage).map(one => one.errorMessage);
             const written = logged.getEvents().filter(one => String(one.filename).startsWith("file:"));
             return told.concat(written.map(one => String(one.arguments[0])));
@@ -173,7 +177,8 @@ class Browser:
     def resize(self, width, height):
         """Gives a page this room. A window has at least 500 points, so for less the page is made narrower within it."""
         self.ask("WebDriver:SetWindowRect", width=max(width, 500), height=height)
-        self.run_inside("window.gBrowser.selectedBrowser.style.maxWidth = arguments[0]", f"{width}px" if width < 500 else "")
+        self.run_inside("window.gBrowser.selectedBrowser.style.maxWidth = arguments[0]", f"{width}px" if width < 500
+                        else "")
 
     def picture(self, whole=False):
         """A PNG of what is seen, or of the whole page."""
