@@ -7,7 +7,9 @@ differ, so that a key stands for its name.
 import dataclasses
 import hashlib
 
-from formats_module import CHUNK, NO_EXPIRATION, WORD, name_of
+from cachelib.entries import NO_EXPIRATION
+from cachelib.hashes import CHUNK, WORD
+from cachelib.keys import name_of
 
 STEP, REACH = 21600, 172800
 POINTS = (121, 243, 483, 959, 1889, 3670, 6954, 12635, 21600, 34235, 50154, 68470, 88289, 108959, 130083, 151443, 172921, 172921)
