@@ -269,11 +269,9 @@ fn a_journal_changes_the_base(rt: HostRuntime) {
     assert_eq!(rt; held, Ok(steps.len()));
 }
 
-// The number that stands at a place of a journal of 300 names in no order.
-fn shuffled(place: u16) -> u16
-    requires { place < 300 }
-{
-    place * 77 % 300
+// The number that stands at a place of a journal of 300 names in no order: none of them is so large that it wraps.
+fn shuffled(place: u16) -> u16 {
+    place.wrapping_mul(77) % 300
 }
 
 // What that journal says of a number: each fourth name is gone.
