@@ -7,6 +7,7 @@ pub mod Honest
 pub mod Base
 pub mod Unclean
 pub mod Apart
+pub mod AtClear
 pub mod Leaves
 pub mod Writing
 pub mod Opening

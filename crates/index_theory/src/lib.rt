@@ -9,7 +9,7 @@ mod laws;
 
 pub use kinds::{IndexKind, LogKind, Start};
 pub use laws::{
-    changes_keep_apart, changes_keep_unclean, changes_leave_beside, changes_leave_entries,
-    changes_leave_index, closing_leaves_honest, opening_leaves_honest, ready_is_scan, scan_is_one,
-    spelled_has_kind, unclean_leaves_honest, whole_keeps_unclean,
+    changes_at_clear, changes_keep_apart, changes_keep_unclean, changes_leave_beside,
+    changes_leave_entries, changes_leave_index, closing_leaves_honest, opening_leaves_honest,
+    ready_is_scan, scan_is_one, spelled_has_kind, unclean_leaves_honest, whole_keeps_unclean,
 };

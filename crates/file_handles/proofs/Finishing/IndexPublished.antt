@@ -10,6 +10,7 @@ use Rattle.disk_model.proofs.Standing.{settled_same}
 use Rattle.index_theory.specs.Apart.{IsEntry, IsOfIndex}
 use Rattle.index_theory.specs.Ever.{EverAt}
 use Rattle.index_theory.specs.Leaves.{LeavesBeside, LeavesIndex}
+use Rattle.index_theory.proofs.AtClearLaws.{both_keep_clear, rename_keeps_clear, sync_keeps_clear}
 use Rattle.index_theory.proofs.EverSteps.{ever_renamed, ever_settled}
 use Rattle.index_theory.proofs.LeavesLaws.{moved_stands, sync_leaves_index}
 use Rattle.index_theory.proofs.UncleanLaws.{move_keeps_unclean}
@@ -71,4 +72,7 @@ module _ (s : State) (d : ℕ) (name : Name) (sound : IsSound s) where
   published_leaves_beside = record {
     index = published_leaves_index;
     mark = moved_stands (settled s) (Doomed d) (Entry name) Clear (λ e. cc) (λ e. cc) ∙ settled_same s Clear;
+    clear = λ a.
+        let synced = sync_keeps_clear s a in
+        both_keep_clear s (settled s) moved synced (rename_keeps_clear (settled s) (Doomed d) (Entry name) (λ e. cc) (λ e. cc) synced.apart);
   }
