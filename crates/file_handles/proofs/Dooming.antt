@@ -13,3 +13,4 @@ pub mod GoneUnder
 pub mod LowNumbers
 pub mod MarkLeft
 pub mod SlotUsers
+pub mod Unmoved

@@ -1,6 +1,6 @@
 -- How an object loses its name.
 use Rattle.std.specs.List.{AllByRecursion}
-use Rattle.std.specs.Prelude.{Bool, IfOk, IsSome, List, None, Ok, Option, Result, Some, filter_map, option_and_then, true, ℕ, ⊤, ◌++◌, ◌<◌, ◌≡◌}
+use Rattle.std.specs.Prelude.{Bool, IfOk, IsSome, List, None, Ok, Option, Result, Some, [], filter_map, option_and_then, true, ℕ, ⊤, ◌++◌, ◌<◌, ◌∷◌, ◌≡◌, ◌⊎◌}
 use Rattle.cache_base.specs.Checks.{first_failing}
 use Rattle.cache_base.specs.declared.limits.TheConstants.{SLOTS}
 use Rattle.cache_theory.specs.Checks.{checks}
@@ -18,7 +18,10 @@ use Rattle.disk_model.specs.declared.place.NameStep.{NameStep}
 use Rattle.disk_model.specs.declared.place.NameStep.TheVariants.{Remove, Rename}
 use Rattle.disk_model.specs.declared.place.Place.TheVariants.{Clear, Doomed, Entry}
 use Rattle.doom_area.specs.DoomArea.{IsLeastFree}
+use Rattle.entry_name.specs.EntryName.{file_name}
 use Rattle.file_handles.specs.Cache.{Cache}
+use Rattle.file_handles.specs.Kept.{Kept, object_at}
+use Rattle.file_handles.specs.Loading.{used_place, user_place}
 use Rattle.file_handles.specs.Stands.{KeepsWhere, ReachesHistory, Represents}
 use Rattle.file_handles.specs.declared.object.Object.{Object}
 
@@ -59,6 +62,16 @@ pub record SetsAside (name : Name) (aside : Option ℕ) (in_use : List ℕ)
   pub moves : aside ≡ None → (number : ℕ) → IsLeastFree in_use number
       → t ≡ if_done answer (renamed (Entry name) (Doomed number) s) s
 
+-- the undoomed entry of a name is in use at this place, and its file stands aside under this number: it is not finished
+pub record IsUnfinishedAt (k : Kept) (name : Name) (place number : ℕ) : Type 0 where
+  pub user : user_place k name ≡ Some place
+  pub aside : number_in (object_at k place) ≡ Some number
+
+-- the entry of a key, likewise
+pub record IsUnfinishedFor (k : Kept) (key : List ℕ) (place number : ℕ) : Type 0 where
+  pub used : used_place k (record { 0 = file_name key }) key ≡ Some place
+  pub aside : number_in (object_at k place) ≡ Some number
+
 -- what stands at `clear` is unchanged
 abbrev pub LeavesMark : State → State → Type 0
 LeavesMark s t = standing t Clear ≡ standing s Clear
@@ -68,6 +81,22 @@ abbrev pub IsTaking : NameStep → Type 0
 IsTaking (Remove (Entry name)) = ⊤
 IsTaking (Rename (Entry name) (Doomed number)) = ⊤
 IsTaking _ = ⊥
+
+-- and that of the entry of this name
+abbrev pub IsTakingOf : Name → NameStep → Type 0
+IsTakingOf name (Remove from) = from ≡ Entry name
+IsTakingOf name (Rename from (Doomed number)) = from ≡ Entry name
+IsTakingOf name _ = ⊥
+
+-- one such step was made at most, and nothing else was done
+abbrev pub TakesEntry : Name → State → State → Type 0
+TakesEntry name s t =
+    (t ≡ s) ⊎ ((step : NameStep) × (IsTakingOf name step × (t ≡ record s { steps = step ∷ s.steps })))
+
+-- so for each of these names, one after the other from the first on
+abbrev pub TakesInOrder : List Name → State → State → Type 0
+TakesInOrder [] s t = t ≡ s
+TakesInOrder (name ∷ rest) s t = (u : State) × (TakesEntry name s u × TakesInOrder rest u t)
 
 -- such steps were made, and nothing else was done: no file was written, and nothing synced
 pub record TakesEntries (s t : State) : Type 0 where

@@ -1,6 +1,6 @@
 //! Dooms an entry: it loses its name, and its file is removed or moved among the doomed.
 
-ghost use Rattle.std.specs.Prelude.{◌≡◌, ◌≢◌, ◌<◌, ◌≤◌, Err, false, IfOk, IsSome, IsTrue, None, Ok, OnOk, Some, is_some, length, take};
+ghost use Rattle.std.specs.Prelude.{◌≡◌, ◌≢◌, ◌<◌, ◌≤◌, ℕ, Err, false, IfOk, IsSome, IsTrue, None, Ok, OnOk, Some, is_some, length, take};
 ghost use Rattle.cache_base.specs.declared.limits.TheConstants.{SLOTS};
 ghost use Rattle.cache_theory.specs.Command.Command.{Doom};
 ghost use Rattle.cache_theory.specs.Machine.{Machine};
@@ -10,7 +10,7 @@ ghost use Rattle.entry_name.specs.EntryName.{file_name};
 ghost use Rattle.file_handles.specs.Answers.{OnRead, OnRefused, done_or, ending};
 ghost use Rattle.disk_model.specs.State.{State, standing};
 ghost use Rattle.disk_model.specs.declared.place.Place.TheVariants.{Doomed as DoomedAt, Entry as EntryAt};
-ghost use Rattle.file_handles.specs.Dooming.{LeavesMark, SetsAside, TakesEntries, TakesFirstFree, numbers_in};
+ghost use Rattle.file_handles.specs.Dooming.{IsUnfinishedAt, IsUnfinishedFor, LeavesMark, SetsAside, TakesEntry, TakesFirstFree, number_in, numbers_in};
 ghost use Rattle.file_handles.specs.Effects.{HasEffect, IsPlainEffect};
 ghost use Rattle.file_handles.specs.Seats.{IsLow};
 ghost use Rattle.file_handles.specs.Unsynced.{SyncsNothing};
@@ -64,7 +64,9 @@ fn set_aside<D: Disk>(
     requires told { IsTrue D.tells → aside ≡ None →
         IsSome (standing (D.state disk.old) (EntryAt name.now)) }
     ensures moves { Told D.Disk (SetsAside name.now aside in_use.now result) disk.old disk.new }
-    ensures takes { Told D.Disk TakesEntries disk.old disk.new }
+    ensures stays { (number : ℕ) → aside ≡ Some number →
+        (result ≡ Ok number) × (disk.new ≡ disk.old) }
+    ensures takes { Told D.Disk (TakesEntry name.now) disk.old disk.new }
     ensures low { IsLow aside → IfOk result (λ number. number < SLOTS) }
     ensures no_entry { LooksAtNoEntry D.Disk disk.old disk.new }
     ensures account { Accounts D.Disk (disk_ending result) disk.old disk.new }
@@ -81,9 +83,9 @@ impl Handles {
     ghost use Rattle.file_handles.specs.Carries.{CarriesOut};
     ghost use Rattle.file_handles.specs.Dooming.{DoomsUnder, EndsOn};
     ghost use Rattle.file_handles.specs.HeldChunks.{SameChunks};
-    ghost use Rattle.file_handles.specs.Kept.{kept};
+    ghost use Rattle.file_handles.specs.Kept.{kept, object_at as object_kept_at};
     ghost use Rattle.file_handles.specs.Failing.{LeavesAll};
-    ghost use Rattle.file_handles.specs.Loading.{user_place};
+    ghost use Rattle.file_handles.specs.Loading.{used_place, user_place};
     ghost use Rattle.file_handles.specs.Stands.{Represents, RepresentsSome};
     ghost use Rattle.file_handles.specs.Users.{users_of};
 
@@ -102,7 +104,11 @@ impl Handles {
             DoomsUnder name.now.0 result (at self.old disk.old) (at self.new disk.new) }
         ensures numbered { Told D.Disk TakesFirstFree disk.old disk.new }
         ensures mark { Told D.Disk LeavesMark disk.old disk.new }
-        ensures takes { Told D.Disk TakesEntries disk.old disk.new }
+        ensures unmoved { (place number : ℕ) →
+            IsUnfinishedAt (kept self.old) name.now place number →
+            (disk.new ≡ disk.old)
+            × (number_in (object_kept_at (kept self.new) place) ≡ Some number) }
+        ensures takes { Told D.Disk (TakesEntry name.now) disk.old disk.new }
         ensures slots { (kept self.new).slots ≡ (kept self.old).slots }
         ensures chunks { SameChunks (kept self.old) (kept self.new) }
         ensures refused { OnRefused result (λ _. ⊥) }
@@ -138,7 +144,11 @@ impl Handles {
             DoomsUnder name.now.0 result (at self.old disk.old) (at self.new disk.new) }
         ensures numbered { Told D.Disk TakesFirstFree disk.old disk.new }
         ensures mark { Told D.Disk LeavesMark disk.old disk.new }
-        ensures takes { Told D.Disk TakesEntries disk.old disk.new }
+        ensures unmoved { (place number : ℕ) →
+            IsUnfinishedAt (kept self.old) name.now place number →
+            (disk.new ≡ disk.old)
+            × (number_in (object_kept_at (kept self.new) place) ≡ Some number) }
+        ensures takes { Told D.Disk (TakesEntry name.now) disk.old disk.new }
         ensures none { user_place (kept self.old) name.now ≡ None → (result ≡ Ok false)
             × ((disk.new ≡ disk.old) × (kept self.new ≡ kept self.old)) }
         ensures some { IfOk result (λ doomed.
@@ -168,7 +178,8 @@ impl Handles {
             standing s (DoomedAt SLOTS) ≡ None }
     {}
 
-    /// Dooms what stands under a name. Its file moves among the doomed where a slot has it, and otherwise is removed.
+    /// Dooms what stands under a name. Its file moves among the doomed where a slot has it, and otherwise is removed. The
+    /// file of an entry that is not finished stands among the doomed already, and keeps its number there.
     pub fn doom_name<D: Disk>(&mut self, disk: &mut D, name: &Name) -> Result<Effect, HandleFault>
         requires told { IsTrue D.tells → RepresentsSome (cache D.Disk self.old disk.old)
             × (users_of (kept self.old) name.now ≡ 0 →
@@ -178,7 +189,11 @@ impl Handles {
         ensures effect { IfOk result (λ e. e ≡ Effect.Gone name.now) }
         ensures numbered { Told D.Disk TakesFirstFree disk.old disk.new }
         ensures mark { Told D.Disk LeavesMark disk.old disk.new }
-        ensures takes { Told D.Disk TakesEntries disk.old disk.new }
+        ensures unmoved { (place number : ℕ) →
+            IsUnfinishedAt (kept self.old) name.now place number →
+            (disk.new ≡ disk.old)
+            × (number_in (object_kept_at (kept self.new) place) ≡ Some number) }
+        ensures takes { Told D.Disk (TakesEntry name.now) disk.old disk.new }
         ensures slots { (kept self.new).slots ≡ (kept self.old).slots }
         ensures chunks { SameChunks (kept self.old) (kept self.new) }
         ensures refused { OnRefused result (λ _. ⊥) }
@@ -208,6 +223,9 @@ impl Handles {
         ensures named { IfOk result (λ name. name.0 ≡ file_name key.now) }
         ensures passes { OnOk result (IsTrue D.tells →
             EndsOn (cache D.Disk self.now disk.old) (Doom key.now) None) }
+        ensures in_use { (place : ℕ) →
+            used_place (kept self.now) (record { 0 = file_name key.now }) key.now ≡ Some place →
+            disk.new ≡ disk.old }
         ensures no_change { result ≢ Err HandleFault.Disk }
         ensures looks { Looks D.Disk (ending result) disk.old disk.new }
     {
@@ -222,7 +240,8 @@ impl Handles {
         Ok(name)
     }
 
-    /// Dooms the entry of a key. Its file moves among the doomed where a slot has it, and otherwise is removed.
+    /// Dooms the entry of a key. Its file moves among the doomed where a slot has it, and otherwise is removed. That of an
+    /// entry that is not finished stands there already, so that no call is made.
     pub fn doom<D: Disk>(
         &mut self,
         alloc: Global,
@@ -236,7 +255,12 @@ impl Handles {
         ensures effect { IfOk result (HasEffect (kept self.old) (Doom key.now)) }
         ensures plain { IfOk result IsPlainEffect }
         ensures numbered { Told D.Disk TakesFirstFree disk.old disk.new }
-        ensures takes { Told D.Disk TakesEntries disk.old disk.new }
+        ensures unmoved { (place number : ℕ) →
+            IsUnfinishedFor (kept self.old) key.now place number →
+            (disk.new ≡ disk.old)
+            × (number_in (object_kept_at (kept self.new) place) ≡ Some number) }
+        ensures takes { Told D.Disk (TakesEntry (record { 0 = file_name key.now }))
+            disk.old disk.new }
         ensures chunks { SameChunks (kept self.old) (kept self.new) }
         ensures unchanged { OnRefused result (λ _. Told D.Disk (λ s t. t ≡ s) disk.old disk.new) }
         ensures read { OnRead result

@@ -14,7 +14,7 @@ use disk_model::{Disk, DiskFault, Place};
 
 impl Handles {
     ghost use Rattle.file_handles.specs.Cache.{cache};
-    ghost use Rattle.file_handles.specs.Dooming.{DoomsUnder, TakesEntries};
+    ghost use Rattle.file_handles.specs.Dooming.{DoomsUnder, TakesEntry};
     ghost use Rattle.file_handles.specs.Kept.{kept};
     ghost use Rattle.file_handles.specs.Removing.{FailsInRemoval};
     ghost use Rattle.file_handles.specs.Stands.{RepresentsSome};
@@ -27,7 +27,7 @@ impl Handles {
             × IsSome (standing (D.state disk.old) (EntryAt name.now)) }
         ensures evicts { let at = cache D.Disk in IsTrue D.tells →
             DoomsUnder name.now.0 result (at self.old disk.old) (at self.new disk.new) }
-        ensures takes { Told D.Disk TakesEntries disk.old disk.new }
+        ensures takes { Told D.Disk (TakesEntry name.now) disk.old disk.new }
         ensures kept { kept self.new ≡ kept self.old }
         ensures unsynced { Told D.Disk SyncsNothing disk.old disk.new }
         ensures index { Told D.Disk LeavesBeside disk.old disk.new }

@@ -1,9 +1,9 @@
-use Rattle.std.proofs.Common.{◌<◌}
+use Rattle.std.proofs.Common.{◌<◌, inl, refl}
 use Rattle.std.proofs.lemmas.Result.{IfOk-weaker}
 use Rattle.cache_base.specs.declared.limits.TheConstants.{SLOTS}
 use Rattle.doom_area.specs.DoomArea.{IsLeastFree}
 use Rattle.file_handles.proofs.Dooming.LowNumbers.{least_low}
-use Rattle.file_handles.proofs.TakingSteps.{moved_takes, takes_none}
+use Rattle.file_handles.proofs.TakingSteps.{moved_takes}
 use Rattle.file_handles.proofs.doom.set_aside.Goals as goal
 
 pub returns-in-None-clause-low : goal.returns-in-None-clause-low
@@ -15,4 +15,4 @@ returns-in-None-clause-takes g c told =
     moved_takes c.doom.result (g.D.Disk.state c.args.disk.now) (g.D.Disk.state c.doom.new.disk) c.args.name.now c.args.in_use.now (λ number least. c.doom.ensures.state number least told)
 
 pub returns-in-Some-clause-takes : goal.returns-in-Some-clause-takes
-returns-in-Some-clause-takes g c told = takes_none (g.D.Disk.state c.args.disk.now)
+returns-in-Some-clause-takes g c told = inl refl

@@ -1,13 +1,14 @@
-use Rattle.std.proofs.Common.{◌≡◌, ap, ◌∙◌}
+use Rattle.std.proofs.Common.{◌≡◌, ap, inl, ◌∙◌}
 use Rattle.std.proofs.lemmas.Result.{IfOk-weaker}
 use Rattle.cache_theory.specs.Command.Command.{Doom}
 use Rattle.file_handles.specs.Effects.{HasEffect}
 use Rattle.file_handles.specs.Kept.{kept}
 use Rattle.file_handles.specs.declared.fault.Effect.TheVariants.{Gone}
 use Rattle.file_handles.proofs.Dooming.DoomedCommand.{dooming_leaves, refused_on_leaves, still_represents, unused_stands}
+use Rattle.file_handles.proofs.Dooming.Unmoved.{takes_of, unfinished_at}
 use Rattle.file_handles.proofs.Where.{carries_out}
 use Rattle.file_handles.proofs.IndexLeft.{same_left, then_left}
-use Rattle.file_handles.proofs.TakingSteps.{takes_same, takes_then}
+use Rattle.file_handles.proofs.TakingSteps.{takes_after}
 use Rattle.file_handles.proofs.UnsyncedLaws.{same_unsynced, then_unsynced}
 use Rattle.file_handles.proofs.handles.Handles.doom.Goals as goal
 
@@ -56,8 +57,20 @@ returns-clause-effect g c =
     λ m number proper stand. is ∙ ap (λ n. Gone (record { 0 = n })) c.in_ok-name.ensures.named) c.doom_name.ensures.effect
 
 pub returns-in_err-name-clause-takes : goal.returns-in_err-name-clause-takes
-returns-in_err-name-clause-takes g c told = takes_same (c.may_doom.ensures.looks.state told)
+returns-in_err-name-clause-takes g c told = inl (c.may_doom.ensures.looks.state told)
 
 pub returns-clause-takes : goal.returns-clause-takes
 returns-clause-takes g c told =
-    takes_then (g.D.Disk.state c.args.disk.now) (g.D.Disk.state c.may_doom.new.disk) (g.D.Disk.state c.doom_name.new.disk) (takes_same (c.may_doom.ensures.looks.state told)) (c.doom_name.ensures.takes told)
+    let s = g.D.Disk.state c.may_doom.new.disk in
+    let t = g.D.Disk.state c.doom_name.new.disk in
+    takes_of c.args.key.now c.in_ok-name.name c.in_ok-name.ensures.named (g.D.Disk.state c.args.disk.now) t
+    (takes_after c.in_ok-name.name (g.D.Disk.state c.args.disk.now) s t (c.may_doom.ensures.looks.state told) (c.doom_name.ensures.takes told))
+
+pub returns-in_err-name-clause-unmoved : goal.returns-in_err-name-clause-unmoved
+returns-in_err-name-clause-unmoved g c place number is = (c.may_doom.ensures.in_use place is.used, is.aside)
+
+pub returns-clause-unmoved : goal.returns-clause-unmoved
+returns-clause-unmoved g c place number is =
+    let there = unfinished_at (kept c.args.self.now) c.args.key.now c.in_ok-name.name c.in_ok-name.ensures.named place number is in
+    let moved = c.doom_name.ensures.unmoved place number there in
+    (moved.0 ∙ c.may_doom.ensures.in_use place is.used, moved.1)

@@ -14,7 +14,7 @@ use Rattle.file_handles.proofs.Dooming.GoneUnder.{gone_done_by, gone_fails_by, g
 use Rattle.file_handles.proofs.Histories.{history_of}
 use Rattle.file_handles.proofs.IndexLeft.{removed_left, then_left}
 use Rattle.file_handles.proofs.Dooming.MarkLeft.{removed_marked, then_marked}
-use Rattle.file_handles.proofs.TakingSteps.{removed_takes, takes_then}
+use Rattle.file_handles.proofs.TakingSteps.{removed_takes, takes_after}
 use Rattle.file_handles.proofs.handles.Handles.doom_name.Goals as goal
 
 pub returns-in_err-doom_user-clause-dooms : goal.returns-in_err-doom_user-clause-dooms
@@ -88,10 +88,24 @@ pub returns-in_err-remove-clause-takes : goal.returns-in_err-remove-clause-takes
 returns-in_err-remove-clause-takes g c told =
     let s = g.D.Disk.state c.doom_user.new.disk in
     let t = g.D.Disk.state c.remove.new.self in
-    takes_then (g.D.Disk.state c.args.disk.now) s t (c.doom_user.ensures.takes told) (removed_takes c.remove.result s t c.args.name.now (c.remove.ensures.state told))
+    let bare = none_if _ c.in_ok-doom_user.field-0 c.in_ok-doom_user.ensures.some c.if-branch.false in
+    takes_after c.args.name.now (g.D.Disk.state c.args.disk.now) s t (ap g.D.Disk.state (c.in_ok-doom_user.ensures.none bare).1.0) (removed_takes c.remove.result s t c.args.name.now (c.remove.ensures.state told))
 
 pub returns-clause-takes : goal.returns-clause-takes
 returns-clause-takes g c told =
     let s = g.D.Disk.state c.doom_user.new.disk in
     let t = g.D.Disk.state c.remove.new.self in
-    takes_then (g.D.Disk.state c.args.disk.now) s t (c.doom_user.ensures.takes told) (removed_takes c.remove.result s t c.args.name.now (c.remove.ensures.state told))
+    let bare = none_if _ c.in_ok-doom_user.field-0 c.in_ok-doom_user.ensures.some c.if-branch.false in
+    takes_after c.args.name.now (g.D.Disk.state c.args.disk.now) s t (ap g.D.Disk.state (c.in_ok-doom_user.ensures.none bare).1.0) (removed_takes c.remove.result s t c.args.name.now (c.remove.ensures.state told))
+
+pub returns-in_err-remove-clause-unmoved : goal.returns-in_err-remove-clause-unmoved
+returns-in_err-remove-clause-unmoved g c place number is =
+    let bare = none_if _ c.in_ok-doom_user.field-0 c.in_ok-doom_user.ensures.some c.if-branch.false in
+    let user = is.user in
+    absurd (cc)
+
+pub returns-clause-unmoved : goal.returns-clause-unmoved
+returns-clause-unmoved g c place number is =
+    let bare = none_if _ c.in_ok-doom_user.field-0 c.in_ok-doom_user.ensures.some c.if-branch.false in
+    let user = is.user in
+    absurd (cc)

@@ -1,6 +1,8 @@
+use Rattle.std.proofs.Common.{ap}
 use Rattle.std.proofs.lemmas.Result.{IfOk-from_err}
 use Rattle.file_handles.specs.Kept.{kept}
 use Rattle.file_handles.proofs.Dooming.DoomedCommand.{none_if, some_if}
+use Rattle.file_handles.proofs.Dooming.Unmoved.{gone_numbered}
 use Rattle.file_handles.proofs.Dooming.GoneUnder.{gone_done_by, gone_fails_by}
 use Rattle.file_handles.proofs.IndexLeft.{gone_left, then_left}
 use Rattle.file_handles.proofs.UnsyncedLaws.{gone_unsynced, then_unsynced}
@@ -53,3 +55,15 @@ pub returns-clause-unsynced : goal.returns-clause-unsynced
 returns-clause-unsynced g c told =
     then_unsynced (g.D.Disk.state c.args.disk.now) (g.D.Disk.state c.doom_user.new.disk) (g.D.Disk.state c.remove_file.new.disk) (c.doom_user.ensures.unsynced told)
     (gone_unsynced c.remove_file.result _ _ c.args.name.now (c.remove_file.ensures.state told))
+
+pub returns-in_err-remove_file-clause-numbered : goal.returns-in_err-remove_file-clause-numbered
+returns-in_err-remove_file-clause-numbered g c told =
+    let bare = none_if _ c.in_ok-doom_user.field-0 c.in_ok-doom_user.ensures.some c.if-branch.false in
+    gone_numbered c.remove_file.result (g.D.Disk.state c.args.disk.now) (g.D.Disk.state c.doom_user.new.disk) (g.D.Disk.state c.remove_file.new.disk) c.args.name.now
+    (ap g.D.Disk.state (c.in_ok-doom_user.ensures.none bare).1.0) (c.remove_file.ensures.state told)
+
+pub returns-clause-numbered : goal.returns-clause-numbered
+returns-clause-numbered g c told =
+    let bare = none_if _ c.in_ok-doom_user.field-0 c.in_ok-doom_user.ensures.some c.if-branch.false in
+    gone_numbered c.remove_file.result (g.D.Disk.state c.args.disk.now) (g.D.Disk.state c.doom_user.new.disk) (g.D.Disk.state c.remove_file.new.disk) c.args.name.now
+    (ap g.D.Disk.state (c.in_ok-doom_user.ensures.none bare).1.0) (c.remove_file.ensures.state told)

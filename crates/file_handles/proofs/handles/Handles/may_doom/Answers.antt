@@ -4,6 +4,7 @@ use Rattle.entry_key.specs.Writing.{may_write}
 use Rattle.file_handles.specs.Kept.{kept}
 use Rattle.file_handles.specs.Loading.{used_place}
 use Rattle.file_handles.proofs.Dooming.DoomedChecks.{doom_absent, doom_bad_key, doom_read, doom_used, refused_on}
+use Rattle.file_handles.proofs.Dooming.Unmoved.{is_used}
 use Rattle.file_handles.proofs.handles.Handles.may_doom.Goals as goal
 
 pub returns-then-not-may_write-clause-refuses : goal.returns-then-not-may_write-clause-refuses
@@ -31,3 +32,11 @@ pub returns-clause-passes : goal.returns-clause-passes
 returns-clause-passes g c = λ tells.
     let good : may_write c.args.key.now ≡ true = sym c.may_write.ensures ∙ c.if-not-may_write.false in
     doom_read (g.D.Disk.state c.args.disk.now) (kept c.args.self.now) c.args.key.now c.name_of-name.result c.name_of-name.ensures good c.in_ok-read_metadata.field-0 (c.in_ok-read_metadata.ensures.found tells)
+
+pub returns-in_err-read_metadata-clause-in_use : goal.returns-in_err-read_metadata-clause-in_use
+returns-in_err-read_metadata-clause-in_use g c place used =
+    absurd (is_used (kept c.args.self.now) c.args.key.now c.name_of-name.result c.name_of-name.ensures place used (sym (ap is_some (sym c.used_by.ensures.found) ∙ sym c.is_some.ensures ∙ c.if-is_some.false)))
+
+pub returns-clause-in_use : goal.returns-clause-in_use
+returns-clause-in_use g c place used =
+    absurd (is_used (kept c.args.self.now) c.args.key.now c.name_of-name.result c.name_of-name.ensures place used (sym (ap is_some (sym c.used_by.ensures.found) ∙ sym c.is_some.ensures ∙ c.if-is_some.false)))
