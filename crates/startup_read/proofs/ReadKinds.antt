@@ -54,7 +54,7 @@ faulty_index c index_faults.Repeated rs check first = bad_index c index_faults.R
 faulty_index c index_faults.Memory rs check first = absurd (check refl)
 
 -- where the first of two checks fails, or both hold and what comes after them has a fault, there is a fault
-a_check_fails : {F : Type 0} (x y : Bool) (f g : F) (more : Option F) → (x ≡ true → (h : F) × (more ≡ Some h))
+pub a_check_fails : {F : Type 0} (x y : Bool) (f g : F) (more : Option F) → (x ≡ true → (h : F) × (more ≡ Some h))
     → (h : F) × (option_or (if x then (if y then None else Some g) else Some f) more ≡ Some h)
 a_check_fails false y f g more rest = (f, refl)
 a_check_fails true false f g more rest = (g, refl)
@@ -92,10 +92,10 @@ abbrev IsThere : Option ℕ → Type 0
 IsThere None = ⊥
 IsThere (Some n) = ⊤
 
-some_is_one : (n : ℕ) → Some n ≡ None → ⊥
+pub some_is_one : (n : ℕ) → Some n ≡ None → ⊥
 some_is_one n e = subst IsThere e tt
 
-abbrev inside : Option ℕ → ℕ
+abbrev pub inside : Option ℕ → ℕ
 inside None = 0
 inside (Some n) = n
 

@@ -1,5 +1,6 @@
 pub mod Kept
 pub mod Reads
+pub mod Large
 pub mod Starts
 pub mod Spares
 pub mod Opening

@@ -7,6 +7,7 @@ mod index_close;
 mod index_open;
 mod index_refresh;
 mod index_write;
+mod large_file;
 mod laws;
 mod records;
 mod start_table;

@@ -1,15 +1,20 @@
 //! What the files of the index say: their kinds and their records.
 
-ghost use Rattle.std.specs.Prelude.{◌≡◌, IfOk, IsTrue, Some, if◌then◌else◌};
+ghost use Rattle.std.specs.Prelude.{◌≡◌, IfOk, IsTrue, Some, if◌then◌else◌, length, true};
+ghost use Rattle.std.specs.Option.{option_map};
 ghost use Rattle.disk_model.specs.State.{standing};
 ghost use Rattle.disk_model.specs.declared.place.Place.TheVariants.{Index, Log};
-ghost use Rattle.index_theory.specs.declared.kinds.IndexKind.TheVariants.{Clean, Dirty};
+ghost use Rattle.index_theory.specs.IndexKind.{index_kind};
+ghost use Rattle.index_theory.specs.LogKind.{log_kind};
+ghost use Rattle.index_theory.specs.declared.kinds.IndexKind.TheVariants.{Clean, Dirty, Invalid};
+ghost use Rattle.index_theory.specs.declared.kinds.LogKind.TheVariants.{Invalid as BadLog};
 ghost use Rattle.record_list.specs.Change.{HasNoRemoved};
 ghost use Rattle.record_list.specs.Lists.{HasNames};
 ghost use Rattle.record_list.specs.Stored.{AreClean};
 ghost use Rattle.disk_model.specs.Account.{Looks, LooksAtNoEntry, ending};
 ghost use Rattle.startup_read.specs.Reads.{ReadsIndex, ReadsJournal};
 
+use crate::large_file::{LARGE, fails_check, number_at};
 use crate::whole_file::{has_whole_records, read_sized};
 use crate::{IndexKind, LogKind};
 use cache_base::NoMemory;
@@ -115,7 +120,43 @@ fn parse_log(alloc: Global, b: &[u8]) -> Result<LogRead, NoMemory>
     }
 }
 
-/// What stands at `index`.
+// Whether a file of `size` bytes at `index` is seen to be no index before it is read whole: where it is large, by its
+// version, and then by its records.
+fn is_no_index<D: Disk>(alloc: Global, disk: &mut D, size: u64) -> Result<bool, DiskFault>
+    requires { IsTrue D.tells →
+        Some size ≡ option_map length (standing (D.state disk.old) Index) }
+    ensures none { IfOk result (λ none. IsTrue D.tells → none ≡ true →
+        index_kind (standing (D.state disk.old) Index) ≡ Invalid) }
+    ensures looks { Looks D.Disk (ending result) disk.old disk.new }
+    ensures no_entry { LooksAtNoEntry D.Disk disk.old disk.new }
+{
+    if size <= LARGE {
+        return Ok(false);
+    }
+    let version = number_at(disk, &Place::Index, 0)?;
+    if version != index_file::VERSION {
+        return Ok(true);
+    }
+    fails_check(alloc, disk, &Place::Index, index_file::HEADER as u64, size)
+}
+
+// Whether a file of `size` bytes at `index.log` is seen to be no journal before it is read whole: where it is large, by
+// its records.
+fn is_no_log<D: Disk>(alloc: Global, disk: &mut D, size: u64) -> Result<bool, DiskFault>
+    requires { IsTrue D.tells →
+        Some size ≡ option_map length (standing (D.state disk.old) Log) }
+    ensures none { IfOk result (λ none. IsTrue D.tells → none ≡ true →
+        log_kind (standing (D.state disk.old) Log) ≡ BadLog) }
+    ensures looks { Looks D.Disk (ending result) disk.old disk.new }
+    ensures no_entry { LooksAtNoEntry D.Disk disk.old disk.new }
+{
+    if size <= LARGE {
+        return Ok(false);
+    }
+    fails_check(alloc, disk, &Place::Log, 0, size)
+}
+
+/// What stands at `index`. Of a large file that is none no memory is taken.
 pub(crate) fn read_index<D: Disk>(alloc: Global, disk: &mut D) -> Result<IndexRead, DiskFault>
     ensures reads { IfOk result (λ read. IsTrue D.tells →
         ReadsIndex (standing (D.state disk.old) Index) read.kind read.records) }
@@ -131,11 +172,14 @@ pub(crate) fn read_index<D: Disk>(alloc: Global, disk: &mut D) -> Result<IndexRe
     if !has_whole_records(size, index_file::LEAST as u64) {
         return Ok(no_index(alloc, IndexKind::Invalid));
     }
+    if is_no_index(alloc, disk, size)? {
+        return Ok(no_index(alloc, IndexKind::Invalid));
+    }
     let file = read_sized(alloc, disk, &Place::Index, size)?;
     Ok(parse_index(alloc, file.as_slice())?)
 }
 
-/// What stands at `index.log`.
+/// What stands at `index.log`. Of a large file that is no journal no memory is taken.
 pub(crate) fn read_log<D: Disk>(alloc: Global, disk: &mut D) -> Result<LogRead, DiskFault>
     ensures reads { IfOk result (λ read. IsTrue D.tells →
         ReadsJournal (standing (D.state disk.old) Log) read.kind read.records) }
@@ -148,6 +192,9 @@ pub(crate) fn read_log<D: Disk>(alloc: Global, disk: &mut D) -> Result<LogRead, 
         return Ok(no_log(alloc, LogKind::Missing));
     };
     if !has_whole_records(size, index_journal::LEAST as u64) {
+        return Ok(no_log(alloc, LogKind::Invalid));
+    }
+    if is_no_log(alloc, disk, size)? {
         return Ok(no_log(alloc, LogKind::Invalid));
     }
     let file = read_sized(alloc, disk, &Place::Log, size)?;
