@@ -1,6 +1,7 @@
 pub mod ClearCommands
 pub mod ClearDoes
 pub mod ClearNames
+pub mod ClearPart
 pub mod ClearedLaws
 pub mod FilesAmong
 pub mod HeldDoomed

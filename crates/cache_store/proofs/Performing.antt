@@ -5,6 +5,7 @@ pub mod PerformOpen
 pub mod PerformStands
 pub mod PerformSteps
 pub mod PerformWhole
+pub mod PutChunks
 pub mod RepliedInMemory
 pub mod Represented
 pub mod Stays

@@ -1,6 +1,6 @@
 -- How the entries of an origin are cleared by the records in memory.
 use Rattle.std.specs.List.{AllByRecursion, IsDistinct}
-use Rattle.std.specs.Prelude.{Bool, IfOk, IsSome, IsTrue, List, None, OnOk, Option, Result, Some, [], false, length, not, ℕ, ⊤, ◌==◌, ◌||◌, ◌≡◌}
+use Rattle.std.specs.Prelude.{Bool, IfOk, IsSome, IsTrue, List, None, OnOk, Option, Result, Some, false, length, not, ℕ, ⊤, ◌==◌, ◌||◌, ◌≡◌}
 use Rattle.cache_base.specs.Names.{AreRising, has_name}
 use Rattle.cache_base.specs.declared.name.Name.{Name}
 use Rattle.cache_store.specs.Evicting.{AreOthers, has_file}

@@ -1,4 +1,5 @@
 pub mod Answering
+pub mod AtClear
 pub mod Clearing
 pub mod DoneFor
 pub mod Dumping

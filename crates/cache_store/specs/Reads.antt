@@ -1,6 +1,8 @@
 -- What a `read` finds held, and what it leaves so.
 use Rattle.std.specs.Prelude.{Some, if◌then◌else◌, is_some, min, ℕ, ⊤, ◌+◌, ◌<◌, ◌≡◌, ◌≤◌, ◌⊎◌}
 use Rattle.chunk_cache.specs.Cached.{StandsFirst}
+use Rattle.cache_store.specs.declared.fault.Verdict.{Verdict}
+use Rattle.cache_store.specs.declared.fault.Verdict.TheVariants as outcome
 use Rattle.cache_theory.specs.Command.{Command}
 use Rattle.cache_theory.specs.Command.Command.{Close, PutAlt, ReadPart}
 use Rattle.file_handles.specs.Closing.{chunks_closed}
@@ -21,6 +23,11 @@ LastIsFirst before slot from len after =
     (x : Object) (at number index : ℕ) → object_in before slot ≡ Some x → from ≤ at
     → at + 1 ≡ min (from + len) (body_len_in x.entry) → IsOfChunk x at 1 number index
     → StandsFirst number index after.chunks
+
+-- a `putalt` with this outcome drops the chunks of its own entry alone, and one that is refused drops none
+abbrev pub PutsChunks : Verdict → ℕ → Kept → Kept → Type 0
+PutsChunks outcome.Ok slot before after = after.chunks ≡ chunks_but_own before slot
+PutsChunks outcome.Refused slot before after = SameChunks before after
 
 -- the chunks that are held after a command: those of before, but for a `read`; a `close` drops those of its own entry
 -- alone, with the last slot of the entry; and a `putalt` those of its own entry alone, or none

@@ -1,10 +1,11 @@
 -- What the records in memory say of the entries.
-use Rattle.std.specs.Prelude.{Bool, List, None, Some, [], is_some, ℕ, ◌≡◌, ◌≢◌}
+use Rattle.std.specs.Prelude.{Bool, List, None, Some, [], is_some, ℕ, ⊤, ◌≡◌, ◌≢◌}
 use Rattle.cache_base.specs.declared.name.Name.{Name}
 use Rattle.cache_store.specs.Replied.{reply_of}
 use Rattle.cache_store.specs.declared.answered.Answered.{Answered}
 use Rattle.cache_store.specs.declared.memory_index.MemoryIndex.{MemoryIndex}
-use Rattle.cache_theory.specs.Command.Command.{HasGiven}
+use Rattle.cache_theory.specs.Command.{Command}
+use Rattle.cache_theory.specs.Command.Command.{At, Dump, ElementOf, Get, GetAlt, HasEntry, HasGiven, ListRecords, MainBody, OpenKey, ReadPart, UpdateState, Verify}
 use Rattle.cache_theory.specs.Machine.{Machine}
 use Rattle.cache_theory.specs.Step.{step}
 use Rattle.cache_theory.specs.Table.{get}
@@ -86,3 +87,19 @@ abbrev pub AtEndIsOne : Type 0
 AtEndIsOne =
     (es : Entries) (index : MemoryIndex) (rs more : List IndexRecord)
     → AreAtEnd es index rs → AreAtEnd es index more → rs ≡ more
+
+-- the index in memory after a command that only looks: as before, or with the update ended, by what the files say
+abbrev pub KeepsRecords : Command → Entries → MemoryIndex → MemoryIndex → Type 0
+KeepsRecords (At now) es old new = new ≡ old
+KeepsRecords (OpenKey s key) es old new = new ≡ old
+KeepsRecords (ElementOf s name) es old new = new ≡ old
+KeepsRecords (ReadPart s from len) es old new = new ≡ old
+KeepsRecords (Get key) es old new = new ≡ old
+KeepsRecords (GetAlt key) es old new = new ≡ old
+KeepsRecords (MainBody key) es old new = new ≡ old
+KeepsRecords (HasEntry key) es old new = new ≡ old
+KeepsRecords UpdateState es old new = new ≡ old
+KeepsRecords ListRecords es old new = (new.update ≡ []) × EndsWith es old new.map.records
+KeepsRecords Verify es old new = (new.update ≡ []) × EndsWith es old new.map.records
+KeepsRecords Dump es old new = (new.update ≡ []) × EndsWith es old new.map.records
+KeepsRecords c es old new = ⊤

@@ -1,7 +1,9 @@
 //! What a command answers before its reply is out whole.
 
 ghost use Rattle.std.specs.Prelude.{◌≡◌, ◌≢◌, false, IfOk, Err, Ok};
+ghost use Rattle.cache_store.specs.Answering.{outcome_in};
 ghost use Rattle.cache_store.specs.Faults.{ending};
+ghost use Rattle.cache_store.specs.Learnt.{HasOutcomeOfFault};
 ghost use Rattle.cache_store.specs.Printed.{IsPlainAnswer, lists_findings};
 ghost use Rattle.cache_store.specs.Replied.{replied};
 ghost use Rattle.file_handles.specs.Answers.{done_or, ending as handle_ending, fault_ending as handle_fault_ending, reply_in};
@@ -44,6 +46,7 @@ pub(crate) enum Answered {
 /// The answer to a fault of the handles: a refusal is still to be said, and the others are faults of the store.
 pub(crate) fn fault_answer(fault: HandleFault) -> Result<Answered, StoreFault>
     ensures replies { replied result ≡ reply_in fault }
+    ensures went { IfOk result (λ a. HasOutcomeOfFault fault (outcome_in a)) }
     ensures not_said { result ≢ Ok Answered.All }
     ensures plain { IfOk result IsPlainAnswer }
     ensures unlisted { IfOk result (λ a. lists_findings a ≡ false) }

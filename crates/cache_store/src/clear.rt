@@ -1,10 +1,11 @@
 //! Clears the entries of an origin, so that no crash brings one of them back.
 
 ghost use Rattle.std.specs.BTreeSet.{contains};
-ghost use Rattle.std.specs.Prelude.{◌≡◌, ◌≢◌, ◌||◌, Err, false, true, IfOk, IsTrue, Ok, OnErr, OnOk, filter, length, map};
+ghost use Rattle.std.specs.Prelude.{◌≡◌, ◌≢◌, ◌||◌, Err, Some, false, true, IfOk, IsTrue, Ok, OnErr, OnOk, filter, length, map};
 ghost use Rattle.cache_base.specs.Names.{AreRising, has_name as has_name_of, name_cmp};
 ghost use Rattle.cache_base.specs.declared.name.Name.{Name as AName};
 ghost use Rattle.cache_store.specs.Answering.{SaysNothing};
+ghost use Rattle.cache_store.specs.AtClear.{ClearsAt, ClearsInOrder};
 ghost use Rattle.cache_store.specs.Clearing.{AreCleared, ClearsByRecords, HasNoMark, HoldsNames, LeavesUncleared, is_used_or_stands, is_user_or_among};
 ghost use Rattle.cache_store.specs.Evicting.{DoomsAll};
 ghost use Rattle.cache_store.specs.Faulting.{is_refusal, of_handles};
@@ -19,7 +20,7 @@ ghost use Rattle.disk_model.specs.Sound.{IsQuiet};
 ghost use Rattle.disk_model.specs.Told.{Told};
 ghost use Rattle.entry_key.specs.Tags.{value_hash};
 ghost use Rattle.file_handles.specs.Cache.{cache};
-ghost use Rattle.file_handles.specs.Dooming.{LeavesMark, TakesEntries};
+ghost use Rattle.file_handles.specs.Dooming.{LeavesMark, TakesInOrder};
 ghost use Rattle.file_handles.specs.HeldChunks.{SameChunks};
 ghost use Rattle.file_handles.specs.Kept.{kept};
 ghost use Rattle.index_map.specs.Known.{SameBase};
@@ -149,7 +150,7 @@ fn doom_names<D: Disk>(handles: &mut Handles, disk: &mut D, names: &[Name]) -> R
         DoomsAll names.now result (at handles.old disk.old) (at handles.new disk.new) }
     ensures chunks { SameChunks (kept handles.old) (kept handles.new) }
     ensures mark { OnOk result (Told D.Disk LeavesMark disk.old disk.new) }
-    ensures takes { Told D.Disk TakesEntries disk.old disk.new }
+    ensures takes { Told D.Disk (TakesInOrder names.now) disk.old disk.new }
     ensures index { Told D.Disk LeavesBeside disk.old disk.new }
     ensures account { Accounts D.Disk (disk_ending result) disk.old disk.new }
     ensures change { FailsInChange D.Disk (disk_ending result) disk.new }
@@ -183,7 +184,7 @@ impl Store {
     /// Ends the update, and dooms the entries of the origin with this hash that are not pinned, those in use and
     /// those that have a record; tells how many names they had. The names are gathered and the folder is listed
     /// before anything is changed. From before the first entry goes until all are gone and synced the mark of the
-    /// origin stands on the disk.
+    /// origin stands on the disk. They go by rising names.
     pub(crate) fn clear_origin<D: Disk>(
         &mut self,
         alloc: Global,
@@ -198,6 +199,8 @@ impl Store {
             LeavesUncleared (session D.Disk self.old disk.old) origin self.new.index.map) }
         ensures stopped { IsTrue D.tells →
             ClearsUnderMark origin (session D.Disk self.old disk.old) (D.state disk.new) }
+        ensures ordered { Told D.Disk (ClearsInOrder origin) disk.old disk.new }
+        ensures at_clear { Told D.Disk (ClearsAt (Some origin)) disk.old disk.new }
         ensures base { OnOk result (SameBase self.old.index.map self.new.index.map) }
         ensures index { Told D.Disk LeavesIndex disk.old disk.new }
         ensures quiet { OnOk result (IsTrue D.tells → IsQuiet (D.state disk.new)) }
@@ -253,6 +256,9 @@ impl Store {
         ensures stopped { IsTrue D.tells →
             ClearsUnderMark (value_hash origin.now)
             (session D.Disk self.old disk.old) (D.state disk.new) }
+        ensures ordered { Told D.Disk (ClearsInOrder (value_hash origin.now)) disk.old disk.new }
+        ensures at_clear { Told D.Disk (ClearsAt (Some (value_hash origin.now)))
+            disk.old disk.new }
         ensures base { HadEffect result → SameBase self.old.index.map self.new.index.map }
         ensures index { Told D.Disk LeavesIndex disk.old disk.new }
         ensures quiet { OnOk result (IsTrue D.tells → IsQuiet (D.state disk.new)) }

@@ -14,6 +14,8 @@ ghost use Rattle.cache_store.specs.Prefix.{ForPrefix};
 ghost use Rattle.cache_store.specs.Said.{saying};
 ghost use Rattle.cache_store.specs.Saying.{SaysMore, StopsIn, TakesMore};
 ghost use Rattle.cache_theory.specs.Command.Command.{Dump};
+ghost use Rattle.cache_store.specs.Records.{EndsWith};
+ghost use Rattle.index_theory.specs.Ever.{entries_on};
 ghost use Rattle.disk_model.specs.Account.{Looks};
 ghost use Rattle.disk_model.specs.State.{standing};
 ghost use Rattle.disk_model.specs.declared.place.Place.TheVariants.{Entry};
@@ -234,6 +236,9 @@ impl Store {
             (K.taken sink.old) (saying K.Sink self.new.reply sink.new) }
         ensures grows { IsTrue D.tells → TakesMore (K.taken sink.old) (K.taken sink.new) }
         ensures base { SameBase self.old.index.map self.new.index.map }
+        ensures ended { OnOk result (IsTrue D.tells → (self.new.index.update ≡ [])
+            × EndsWith (entries_on (D.state disk.old)) self.old.index
+            self.new.index.map.records) }
         ensures chunks { SameChunks (kept self.old.handles) (kept self.new.handles) }
         ensures unsaid { IsStillToSay Dump result sink.old sink.new self.new.reply }
         ensures all { IfOk result (λ a. a ≡ Answered.All) }

@@ -122,7 +122,7 @@ impl Store {
         ensures evicts { HadEffect result → IsTrue D.tells →
             LeavesOthers (session D.Disk self.old disk.old) kb self.new.index.map }
         ensures base { HadEffect result → SameBase self.old.index.map self.new.index.map }
-        ensures index { Told D.Disk LeavesIndex disk.old disk.new }
+        ensures index { Told D.Disk LeavesBeside disk.old disk.new }
         ensures takes { Told D.Disk TakesEntries disk.old disk.new }
         ensures unsynced { Told D.Disk SyncsNothing disk.old disk.new }
         ensures chunks { SameChunks (kept self.old.handles) (kept self.new.handles) }

@@ -1,6 +1,7 @@
 //! Performs the commands that go by the index.
 
 ghost use Rattle.std.specs.Prelude.{◌≡◌, ◌↔◌, [], Err, false, true, IfOk, IsTrue, Ok, OnOk, length, take};
+ghost use Rattle.cache_store.specs.AtClear.{KeepsAtClear};
 ghost use Rattle.cache_store.specs.Answering.{HasOutcome, IsStillToSay, SaysNothing};
 ghost use Rattle.cache_store.specs.Faults.{AccountsForSink, ending};
 ghost use Rattle.cache_store.specs.IndexCalls.{Flushes, IsFresh, IsWritten, ReadsEntriesOf, Rebuilds};
@@ -9,6 +10,8 @@ ghost use Rattle.cache_store.specs.Kept.{HoldsIndex};
 ghost use Rattle.cache_store.specs.Said.{saying};
 ghost use Rattle.cache_store.specs.Saying.{TakesMore};
 ghost use Rattle.cache_theory.specs.Command.Command.{Flush, ListRecords, Rebuild, StepUpdate};
+ghost use Rattle.cache_store.specs.Records.{EndsWith};
+ghost use Rattle.index_theory.specs.Ever.{entries_on};
 ghost use Rattle.disk_model.specs.Account.{Accounts, Ending, FailsInChange, Looks, LooksAtNoEntry, ending as disk_ending};
 ghost use Rattle.disk_model.specs.Sound.{IsQuiet};
 ghost use Rattle.disk_model.specs.Told.{Told};
@@ -87,6 +90,9 @@ impl Store {
             (K.taken sink.old) (saying K.Sink self.new.reply sink.new) }
         ensures grows { TakesMore (K.taken sink.old) (K.taken sink.new) }
         ensures base { SameBase self.old.index.map self.new.index.map }
+        ensures ended { OnOk result (IsTrue D.tells → (self.new.index.update ≡ [])
+            × EndsWith (entries_on (D.state disk.old)) self.old.index
+            self.new.index.map.records) }
         ensures chunks { SameChunks (kept self.old.handles) (kept self.new.handles) }
         ensures unsaid { IsStillToSay ListRecords result sink.old sink.new self.new.reply }
         ensures all { IfOk result (λ a. a ≡ Answered.All) }
@@ -152,6 +158,7 @@ impl Store {
             Told D.Disk LeavesIndex disk.old disk.new }
         ensures quiet { OnOk result (IsTrue D.tells → IsQuiet (D.state disk.new)) }
         ensures unclean { IsTrue D.tells → IsUnclean (D.state disk.new) }
+        ensures at_clear { Told D.Disk KeepsAtClear disk.old disk.new }
         ensures calm { self.new.faulting ≡ self.old.faulting }
         ensures change { FailsInChange D.Disk (ending result) disk.new }
         ensures account { Accounts D.Disk (ending result) disk.old disk.new }
@@ -180,6 +187,7 @@ impl Store {
             (Told D.Disk (Rebuilds self.new.index.map self.old.moment) disk.old disk.new) }
         ensures quiet { OnOk result (IsTrue D.tells → IsQuiet (D.state disk.new)) }
         ensures unclean { IsTrue D.tells → IsUnclean (D.state disk.new) }
+        ensures at_clear { Told D.Disk KeepsAtClear disk.old disk.new }
         ensures faulted { self.new.faulting ≡ true → result ≡ Err StoreFault.Disk }
         ensures looked { self.new.faulting ≡ true →
             Looks D.Disk Ending.OneFailed disk.old disk.new }

@@ -1,8 +1,9 @@
 //! Learns of a command on entries, for the index in memory.
 
 ghost use Rattle.std.specs.Prelude.{◌≡◌, false, IfErr, IfOk};
+ghost use Rattle.cache_store.specs.Answering.{outcome_in};
 ghost use Rattle.cache_store.specs.Faults.{EndsAs, ending};
-ghost use Rattle.cache_store.specs.Learnt.{IsLearnt, effect_of, effect_of_some};
+ghost use Rattle.cache_store.specs.Learnt.{HasOutcomeOf, IsLearnt, effect_of, effect_of_some};
 ghost use Rattle.cache_store.specs.Printed.{IsPlainAnswer, lists_findings};
 ghost use Rattle.file_handles.specs.Answers.{done_or, done_or_none, ending as handle_ending};
 ghost use Rattle.file_handles.specs.Effects.{IsPlainEffect};
@@ -23,6 +24,7 @@ impl MemoryIndex {
         ensures plain { IfOk result IsPlainAnswer }
         ensures unlisted { IfOk result (λ a. lists_findings a ≡ false) }
         ensures unlearnt { IfErr answer (λ f. self.new ≡ self.old) }
+        ensures went { IfOk result (λ a. HasOutcomeOf answer (outcome_in a)) }
         ensures ending { EndsAs (handle_ending answer) (ending result) }
     {
         match answer {

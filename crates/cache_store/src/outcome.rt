@@ -2,6 +2,7 @@
 
 ghost use Rattle.std.specs.Prelude.{List, ℕ, ◌≡◌, ◌≢◌, [], Err, Ok, true, false, IfOk, IfSome, IsSome, IsTrue, None, OnErr, OnOk};
 ghost use Rattle.cache_script.specs.Command.{command_of};
+ghost use Rattle.cache_store.specs.AtClear.{ChangesAtClear, ClearsInOrder};
 ghost use Rattle.cache_store.specs.Clearing.{HasNoMark, IsClearing, LeavesResumed, LeavesUncleared, origin_cleared};
 ghost use Rattle.cache_store.specs.Evicting.{IsEviction, LeavesOthers, LooksBeforeChanges};
 ghost use Rattle.cache_store.specs.Faulting.{FailsForGood, LooksAtNothing, LooksFirst};
@@ -10,9 +11,10 @@ ghost use Rattle.cache_store.specs.InUse.{SparesIndex};
 ghost use Rattle.cache_store.specs.IndexCalls.{Flushes, IsFresh, IsWritten, ReadsEntriesOf, LooksOnceAt, MakesNoCall, NeverSyncs, OnlyLooks, Rebuilds, SyncsAll, names_read};
 ghost use Rattle.cache_store.specs.Outcomes.{Faults, verdict_in, verdict_of};
 ghost use Rattle.cache_store.specs.Printed.{HasBadKey, Prints, is_plain};
-ghost use Rattle.cache_store.specs.Reads.{AreHeld, LastIsFirst, LeavesChunks};
+ghost use Rattle.cache_store.specs.Reads.{AreHeld, LastIsFirst, LeavesChunks, PutsChunks};
+ghost use Rattle.cache_store.specs.Records.{KeepsRecords};
 ghost use Rattle.cache_store.specs.Saying.{TakesMore};
-ghost use Rattle.cache_theory.specs.Command.Command.{Evict, Flush, ReadPart, Rebuild, Resume, Verify};
+ghost use Rattle.cache_theory.specs.Command.Command.{Doom, Evict, Flush, PutAlt, ReadPart, Rebuild, Resume, Verify};
 ghost use Rattle.cache_theory.specs.Given.{IsGiven};
 ghost use Rattle.context_clear.specs.Mark.{mark_of};
 ghost use Rattle.disk_model.specs.Account.{Accounts, Looks};
@@ -20,9 +22,10 @@ ghost use Rattle.disk_model.specs.Sound.{IsQuiet};
 ghost use Rattle.disk_model.specs.State.{standing};
 ghost use Rattle.disk_model.specs.Told.{Told};
 ghost use Rattle.disk_model.specs.declared.place.Place.TheVariants.{Clear};
-ghost use Rattle.file_handles.specs.Dooming.{TakesEntries};
+ghost use Rattle.file_handles.specs.Dooming.{IsUnfinishedFor, TakesEntries};
 ghost use Rattle.file_handles.specs.Unsynced.{SyncsNothing};
 ghost use Rattle.index_map.specs.Known.{SameBase};
+ghost use Rattle.index_theory.specs.Ever.{entries_on};
 ghost use Rattle.index_theory.specs.Honest.{LeavesHonest};
 ghost use Rattle.index_theory.specs.Leaves.{LeavesIndex};
 
@@ -139,6 +142,10 @@ impl Store {
             (origin_cleared (command_of c.now) (standing (D.state disk.old) Clear)) (λ origin.
             IsTrue D.tells →
             ClearsUnderMark origin (session D.Disk self.old disk.old) (D.state disk.new)) }
+        ensures ordered { IfSome
+            (origin_cleared (command_of c.now) (standing (D.state disk.old) Clear)) (λ origin.
+            Told D.Disk (ClearsInOrder origin) disk.old disk.new) }
+        ensures at_clear { Told D.Disk (ChangesAtClear (command_of c.now)) disk.old disk.new }
         ensures resumes { command_of c.now ≡ Resume → HadEffect result → IsTrue D.tells →
             let mark = mark_of (standing (D.state disk.old) Clear) in
             LeavesResumed mark (session D.Disk self.old disk.old) (open_of self.new).index }
@@ -161,12 +168,23 @@ impl Store {
             LastIsFirst (open_of self.old).handles slot from len (open_of self.new).handles }
         ensures chunks { let was = open_of self.old in let now = open_of self.new in
             LeavesChunks (command_of c.now) was.handles now.handles }
+        ensures alt_chunks { (slot : ℕ) (kind bytes : List ℕ) →
+            is_faulting self.new ≡ false → command_of c.now ≡ PutAlt slot kind bytes →
+            IfOk result (λ o. PutsChunks (verdict_of o) slot
+            (open_of self.old).handles (open_of self.new).handles) }
+
+        // The records in memory after a command that only looks.
+        ensures records { is_faulting self.new ≡ false → OnOk result (IsTrue D.tells →
+            KeepsRecords (command_of c.now) (entries_on (D.state disk.old))
+            (open_of self.old).index (open_of self.new).index) }
 
         // Calls and faults. Some commands make no call of the disk, and some only look at it. A command that goes by
         // the index looks at an entry for no name but those that it reads, and an eviction looks at the disk only
         // before its first removal, and does nothing but take files of entries away. Where the disk failed for good, it
         // was in a change or a sync, as the last call, or the reply is out up to its first chunk.
         ensures idle { MakesNoCall (command_of c.now) → disk.new ≡ disk.old }
+        ensures unfinished { (key : List ℕ) (place number : ℕ) → command_of c.now ≡ Doom key →
+            IsUnfinishedFor (open_of self.old).handles key place number → disk.new ≡ disk.old }
         ensures looking { is_faulting self.new ≡ false → OnlyLooks (command_of c.now) →
             Looks D.Disk (ending result) disk.old disk.new }
         ensures once { command_of c.now ≡ Resume → IsTrue D.tells →

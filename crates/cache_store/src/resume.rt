@@ -2,6 +2,7 @@
 
 ghost use Rattle.std.specs.Prelude.{◌≡◌, false, IfOk, IfSome, IsSome, IsTrue, None};
 ghost use Rattle.cache_store.specs.Answering.{SaysNothing};
+ghost use Rattle.cache_store.specs.AtClear.{ClearsAt, ClearsInOrder};
 ghost use Rattle.cache_store.specs.Clearing.{HasNoMark, LeavesResumed};
 ghost use Rattle.cache_store.specs.Faulting.{LooksFirst};
 ghost use Rattle.cache_store.specs.Faults.{ending};
@@ -50,6 +51,10 @@ impl Store {
         ensures stopped { let mark = mark_of (standing (D.state disk.old) Clear) in
             IfSome mark (λ origin. IsTrue D.tells →
             ClearsUnderMark origin (session D.Disk self.old disk.old) (D.state disk.new)) }
+        ensures ordered { let mark = mark_of (standing (D.state disk.old) Clear) in
+            IfSome mark (λ origin. Told D.Disk (ClearsInOrder origin) disk.old disk.new) }
+        ensures at_clear { let mark = mark_of (standing (D.state disk.old) Clear) in
+            Told D.Disk (ClearsAt mark) disk.old disk.new }
         ensures base { HadEffect result → SameBase self.old.index.map self.new.index.map }
         ensures index { Told D.Disk LeavesIndex disk.old disk.new }
         ensures unmarked { HadEffect result → IsTrue D.tells → HasNoMark (D.state disk.new) }

@@ -5,6 +5,8 @@ ghost use Rattle.disk_model.specs.Account.{Accounts, FailsInChange, LooksAtNoEnt
 ghost use Rattle.disk_model.specs.Sound.{IsQuiet};
 ghost use Rattle.disk_model.specs.State.{standing};
 ghost use Rattle.disk_model.specs.Told.{Told};
+ghost use Rattle.cache_store.specs.AtClear.{KeepsAtClear};
+ghost use Rattle.index_theory.specs.AtClear.{KeepsClear};
 ghost use Rattle.index_theory.specs.Leaves.{LeavesIndex};
 
 use crate::StoreFault;
@@ -58,6 +60,7 @@ impl Store {
         ensures safe { Told D.Disk (OpensSafely now) disk.old disk.new }
         ensures reopens { Told D.Disk KeepsFound disk.old disk.new }
         ensures honest { Told D.Disk OpensHonestly disk.old disk.new }
+        ensures at_clear { Told D.Disk (λ s t. IsQuiet s → KeepsClear s t) disk.old disk.new }
 
         // Calls and faults.
         ensures no_sink { result ≢ Err StoreFault.Sink }
@@ -111,6 +114,7 @@ impl Store {
             ClosesSafely (session D.Disk self disk.old) (D.state disk.new) }
         ensures honest { IsTrue D.tells →
             ClosesHonestly result (session D.Disk self disk.old) (D.state disk.new) }
+        ensures at_clear { Told D.Disk KeepsAtClear disk.old disk.new }
 
         // Calls and faults. No entry is looked at, and where the disk failed it was in a change or a sync.
         ensures no_sink { result ≢ Err StoreFault.Sink }

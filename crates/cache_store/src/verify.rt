@@ -7,6 +7,8 @@ ghost use Rattle.cache_store.specs.Said.{saying};
 ghost use Rattle.cache_store.specs.Saying.{CutsIn, SaysMore};
 ghost use Rattle.cache_theory.specs.Command.Reply.{Findings};
 ghost use Rattle.cache_theory.specs.Text.{findings_text};
+ghost use Rattle.cache_store.specs.Records.{EndsWith};
+ghost use Rattle.index_theory.specs.Ever.{entries_on};
 ghost use Rattle.disk_model.specs.Account.{Looks};
 ghost use Rattle.index_map.specs.Known.{SameBase};
 
@@ -66,6 +68,9 @@ impl Store {
         ensures found { IfOk result (λ a. IsTrue D.tells →
             IsFoundIn (session D.Disk self.old disk.old) self.new.index.map a) }
         ensures base { SameBase self.old.index.map self.new.index.map }
+        ensures ended { OnOk result (IsTrue D.tells → (self.new.index.update ≡ [])
+            × EndsWith (entries_on (D.state disk.old)) self.old.index
+            self.new.index.map.records) }
         ensures faulted { (self.new.faulting ≡ true) ↔ (result ≡ Err StoreFault.Disk) }
         ensures stays { let at = session D.Disk in self.new.faulting ≡ true → IsTrue D.tells →
             StaysAs (at self.old disk.old) (at self.new disk.new) }

@@ -13,7 +13,7 @@ use Rattle.cache_store.specs.declared.answered.Answered.{Answered}
 use Rattle.cache_store.specs.declared.answered.Answered.TheVariants as answered
 use Rattle.cache_store.specs.declared.fault.StoreFault.{StoreFault}
 use Rattle.cache_store.specs.declared.memory_index.MemoryIndex.{MemoryIndex}
-use Rattle.cache_store.proofs.Records.IndexAchieves.{begun_spared, comes_from, fails_sparing, session_at, spares_same}
+use Rattle.cache_store.proofs.Records.IndexAchieves.{comes_from, fails_sparing, session_at, spares_same}
 use Rattle.cache_store.proofs.Records.LearntAchieves.{holds_on}
 use Rattle.cache_store.proofs.Clearing.MarkKept.{amid_ending_safe, ended_goes_on, ended_stands, ending_index}
 use Rattle.cache_store.proofs.Records.RecordsAtEnd.{goes_by, some_at_end}

@@ -1,11 +1,10 @@
 -- How all entries are dumped.
-use Rattle.std.proofs.Common.{◌≡◌, ◌≢◌, ◌++◌, ◌∷◌, ◌∙◌, ℕ, List, [], Option, Some, Result, Ok, Err, IsErrAnd, append-nil, arith, take, refl, sym, ap, subst}
+use Rattle.std.proofs.Common.{◌≡◌, ◌≢◌, ◌++◌, ◌∷◌, ◌∙◌, ℕ, List, [], Option, Result, Ok, Err, IsErrAnd, append-nil, arith, take, refl, sym, ap, subst}
 use Rattle.std.specs.Io.KnownBytes.{Appends}
 use Rattle.std.proofs.KnownBytes.{Appends-trans}
 use Rattle.cache_base.specs.Names.{AreRising}
 use Rattle.cache_base.specs.declared.name.Name.{Name}
 use Rattle.cache_check.specs.Checks.{files_of}
-use Rattle.cache_check.specs.Findings.{IsTableOf}
 use Rattle.cache_check.proofs.Tables.{is_table_of, only_one_table}
 use Rattle.cache_export.specs.Dump.{dump_bytes, head}
 use Rattle.cache_export.specs.Dumped.{dumped}
@@ -15,8 +14,8 @@ use Rattle.cache_store.specs.Faulting.{SendsFrontFor, reply_front}
 use Rattle.cache_store.specs.Kept.{HoldsIndex}
 use Rattle.cache_store.specs.Open.{KeepsWhere}
 use Rattle.cache_store.specs.Performing.{DoesFor}
-use Rattle.cache_store.specs.Said.{Said, Saying}
-use Rattle.cache_store.specs.Saying.{CutsAll, CutsIn, SaysMore, SendsAll, StopsIn, TakesMore}
+use Rattle.cache_store.specs.Said.{Saying}
+use Rattle.cache_store.specs.Saying.{CutsAll, CutsIn, SaysMore, SendsAll, StopsIn}
 use Rattle.cache_store.specs.declared.answered.Answered.{Answered}
 use Rattle.cache_store.specs.declared.answered.Answered.TheVariants as answered
 use Rattle.cache_store.specs.declared.fault.StoreFault.{StoreFault}
@@ -24,19 +23,17 @@ use Rattle.cache_store.specs.declared.fault.StoreFault.TheVariants as fault
 use Rattle.cache_store.specs.declared.memory_index.MemoryIndex.{MemoryIndex}
 use Rattle.cache_store.proofs.Records.IndexAchieves.{RestsWith, begun_spared, comes_from, goes_on_telling, holds_same_base, rests_next, rests_tells, session_at, spares_same}
 use Rattle.cache_store.proofs.Records.ListDoes.{Finishes}
-use Rattle.cache_store.proofs.Saying.SaidMore.{cut_more}
 use Rattle.cache_store.proofs.Saying.SaidWhole.{fails_unsaid, if_err, on_ok, whole_cut, whole_said}
-use Rattle.cache_store.proofs.Saying.SayingLaws.{cuts_front, cuts_then, said_nothing, says_then, stops_cut, stops_then}
+use Rattle.cache_store.proofs.Saying.SayingLaws.{cuts_front, cuts_then, said_nothing, says_then, stops_cut}
 use Rattle.cache_theory.specs.Checks.{checks}
 use Rattle.cache_theory.specs.Command.Command.{Dump}
 use Rattle.cache_theory.specs.Command.Reply.{Dumped}
 use Rattle.cache_theory.specs.History.{acked}
 use Rattle.cache_theory.specs.Machine.{Machine}
 use Rattle.cache_theory.specs.Step.{effect, step}
-use Rattle.cache_theory.specs.Table.{get}
 use Rattle.cache_theory.specs.Text.{reply_text}
 use Rattle.disk_model.specs.Listing.{AreEntries}
-use Rattle.disk_model.specs.State.{State, standing}
+use Rattle.disk_model.specs.State.{State}
 use Rattle.file_handles.specs.Cache.{Cache, cache_at}
 use Rattle.file_handles.specs.Kept.{Kept}
 use Rattle.file_handles.specs.Stands.{Represents as CacheRepresents}

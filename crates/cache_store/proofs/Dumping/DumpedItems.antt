@@ -1,5 +1,5 @@
 -- What files add to a dump, one after another.
-use Rattle.std.proofs.Common.{◌≡◌, ◌≤◌, ◌+◌, ◌-◌, ◌++◌, ◌∷◌, ◌∙◌, ℕ, Bool, true, false, cond, List, [], Option, Some, None, length, length-append, ◌^◌, IsSome, take, drop, take-take, length-take-le, append-nil, append_assoc, flat_map, not, refl, sym, ap, subst, arith, ◌&&◌}
+use Rattle.std.proofs.Common.{◌≡◌, ◌≤◌, ◌+◌, ◌-◌, ◌++◌, ◌∷◌, ◌∙◌, ℕ, Bool, true, false, cond, List, [], Option, Some, None, length, length-append, ◌^◌, IsSome, take, take-take, length-take-le, append-nil, append_assoc, flat_map, not, refl, sym, ap, subst, arith, ◌&&◌}
 use Rattle.std.specs.Prelude.{filter, nat_le, nat_lt, unwrap_or}
 use Rattle.std.specs.List.{cons_option}
 use Rattle.cache_base.specs.Bytes.{be32}
@@ -21,9 +21,8 @@ use Rattle.disk_model.specs.Image.{Files}
 use Rattle.disk_model.specs.State.{State, standing}
 use Rattle.disk_model.specs.declared.place.Place.TheVariants.{Entry}
 use Rattle.entry_file.specs.EntryFile.{read, whole_in}
-use Rattle.entry_file.specs.EntryFile.Reading.{Whole}
 use Rattle.entry_file.specs.Rewriting.{rewritten}
-use Rattle.entry_file.specs.Version.{Version, version_meta}
+use Rattle.entry_file.specs.Version.{Version}
 use Rattle.entry_key.specs.Writing.{may_write}
 use Rattle.entry_metadata.specs.Meta.{meta_of}
 use Rattle.entry_metadata.specs.Metadata.{Meta, block_bytes}

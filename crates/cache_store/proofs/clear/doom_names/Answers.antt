@@ -2,11 +2,11 @@ use Rattle.std.proofs.Common.{◌+◌, ◌∙◌, Err, List, arith, drop, drop_o
 use Rattle.std.proofs.lemmas.List.{drop_more}
 use Rattle.cache_base.specs.declared.name.Name.{Name}
 use Rattle.cache_store.specs.Clearing.{HoldsNames}
+use Rattle.cache_store.proofs.Clearing.ClearPart.{in_order_next, in_order_stops}
 use Rattle.cache_store.proofs.Clearing.HeldDoomed.{dooms_done, dooms_failed, handed_account, handed_change, rest_held}
 use Rattle.cache_store.proofs.Clearing.NamesDoomed.{Completes, next_done, next_fails, none_left}
 use Rattle.file_handles.specs.Cache.{cache}
 use Rattle.file_handles.proofs.Dooming.MarkLeft.{then_marked}
-use Rattle.file_handles.proofs.TakingSteps.{takes_then}
 use Rattle.index_theory.proofs.LeavesLaws.{both_leave_beside}
 use Rattle.cache_store.proofs.clear.doom_names.Goals as goal
 
@@ -33,7 +33,7 @@ loop-name-preserved g c =
           tt (dooms_done _ (c.in-Ok.ensures.dooms told));
       chunks = c.doom_name.ensures.chunks ∙ c.loop-name.invariant.chunks;
       mark = λ told. then_marked (g.D.Disk.state c.args.disk.now) (g.D.Disk.state c.loop-name.disk) (g.D.Disk.state c.doom_name.new.disk) (c.loop-name.invariant.mark told) (c.doom_name.ensures.mark told);
-      takes = λ told. takes_then (g.D.Disk.state c.args.disk.now) (g.D.Disk.state c.loop-name.disk) (g.D.Disk.state c.doom_name.new.disk) (c.loop-name.invariant.takes told) (c.doom_name.ensures.takes told);
+      takes = λ told. in_order_next names i _ c.loop-name-test.true (g.D.Disk.state c.args.disk.now) (g.D.Disk.state c.loop-name.disk) (g.D.Disk.state c.doom_name.new.disk) (c.loop-name.invariant.takes told) (c.doom_name.ensures.takes told);
       index = λ told. both_leave_beside _ _ _ (c.loop-name.invariant.index told) (c.doom_name.ensures.index told);
       calm = search rules;
       looks = search rules;
@@ -66,7 +66,13 @@ returns-clause-dooms g c = λ told.
 
 pub returns-in-Err-clause-takes : goal.returns-in-Err-clause-takes
 returns-in-Err-clause-takes g c = λ told.
-    takes_then (g.D.Disk.state c.args.disk.now) (g.D.Disk.state c.loop-name.disk) (g.D.Disk.state c.doom_name.new.disk) (c.loop-name.invariant.takes told) (c.doom_name.ensures.takes told)
+    let names = c.args.names.now in
+    let i = c.loop-name.name-index in
+    in_order_stops names (i + 1) (g.D.Disk.state c.args.disk.now) (g.D.Disk.state c.doom_name.new.disk)
+    (in_order_next names i _ c.loop-name-test.true (g.D.Disk.state c.args.disk.now) (g.D.Disk.state c.loop-name.disk) (g.D.Disk.state c.doom_name.new.disk) (c.loop-name.invariant.takes told) (c.doom_name.ensures.takes told))
+
+pub returns-clause-takes : goal.returns-clause-takes
+returns-clause-takes g c = λ told. in_order_stops c.args.names.now c.loop-name.name-index (g.D.Disk.state c.args.disk.now) (g.D.Disk.state c.loop-name.disk) (c.loop-name.invariant.takes told)
 
 pub returns-in-Err-clause-index : goal.returns-in-Err-clause-index
 returns-in-Err-clause-index g c = λ told. both_leave_beside _ _ _ (c.loop-name.invariant.index told) (c.doom_name.ensures.index told)

@@ -1,10 +1,10 @@
-use Rattle.std.proofs.Common.{IsTrue, drop}
+use Rattle.std.proofs.Common.{IsTrue, drop, take}
 use Rattle.cache_store.specs.Clearing.{HoldsNames}
 use Rattle.cache_store.proofs.Clearing.NamesDoomed.{Completes}
 use Rattle.disk_model.specs.Account.{IsCalm, LooksAtNoEntry}
 use Rattle.disk_model.specs.Told.{Told}
 use Rattle.file_handles.specs.Cache.{cache}
-use Rattle.file_handles.specs.Dooming.{LeavesMark, TakesEntries}
+use Rattle.file_handles.specs.Dooming.{LeavesMark, TakesInOrder}
 use Rattle.file_handles.specs.HeldChunks.{SameChunks}
 use Rattle.file_handles.specs.Kept.{kept}
 use Rattle.index_theory.specs.Leaves.{LeavesBeside}
@@ -18,7 +18,7 @@ invariant-loop-name g l = record {
       → Completes (drop l.name-index l.names) l.fn.names (cache g.D.Disk l.fn.handles l.fn.disk) (cache g.D.Disk l.handles l.disk);
   chunks : SameChunks (kept l.fn.handles) (kept l.handles);
   mark : Told g.D.Disk LeavesMark l.fn.disk l.disk;
-  takes : Told g.D.Disk TakesEntries l.fn.disk l.disk;
+  takes : Told g.D.Disk (TakesInOrder (take l.name-index l.names)) l.fn.disk l.disk;
   index : Told g.D.Disk LeavesBeside l.fn.disk l.disk;
   calm : IsCalm g.D.Disk l.fn.disk l.disk;
   looks : LooksAtNoEntry g.D.Disk l.fn.disk l.disk;

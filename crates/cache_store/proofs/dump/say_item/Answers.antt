@@ -1,9 +1,7 @@
 use Rattle.std.proofs.Common.{List, ℕ, ◌∙◌, ap, subst}
-use Rattle.std.specs.Prelude.{take}
 use Rattle.disk_model.specs.State.{standing}
 use Rattle.disk_model.specs.declared.place.Place.TheVariants.{Entry}
 use Rattle.entry_metadata.specs.Meta.{meta_of}
-use Rattle.cache_store.specs.Dumping.{item_with}
 use Rattle.cache_store.specs.Said.{saying}
 use Rattle.cache_store.specs.Saying.{SaysMore, StopsIn}
 use Rattle.cache_store.proofs.Dumping.DumpedItems.{item_text}

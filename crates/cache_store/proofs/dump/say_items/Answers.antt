@@ -1,14 +1,13 @@
-use Rattle.std.proofs.Common.{◌≤◌, ◌+◌, ◌∙◌, List, ℕ, [], None, Some, ap, arith, drop, drop_of_length-le, rules, subst, sym}
+use Rattle.std.proofs.Common.{◌≤◌, ◌+◌, List, drop, rules, subst, sym}
 use Rattle.std.specs.Prelude.{IfSome}
 use Rattle.std.proofs.lemmas.List.{drop_more}
 use Rattle.cache_base.specs.declared.name.Name.{Name}
 use Rattle.cache_check.specs.Checks.{AllStand, files_of}
 use Rattle.cache_export.specs.declared.limits.TheConstants.{DUMP_MAX}
 use Rattle.disk_model.specs.State.{State}
-use Rattle.cache_store.specs.Dumping.{TakesTurn, items_from, turn_at}
+use Rattle.cache_store.specs.Dumping.{items_from}
 use Rattle.cache_store.specs.Said.{saying}
-use Rattle.cache_store.specs.Saying.{StopsIn}
-use Rattle.cache_store.proofs.Dumping.DumpedItems.{IsLeft, after_turn, cut_turn, none_left, stops_on, takes_on, took_turn}
+use Rattle.cache_store.proofs.Dumping.DumpedItems.{IsLeft, after_turn, cut_turn, stops_on, takes_on, took_turn}
 use Rattle.cache_store.proofs.Saying.SaidMore.{when_err}
 use Rattle.cache_store.proofs.dump.say_items.Goals as goal
 

@@ -1,4 +1,4 @@
-use Rattle.std.proofs.Common.{◌≡◌, ◌≤◌, ◌∙◌, ◌^◌, List, [], ℕ, None, Some, IsTrue, ap, arith, refl, subst, sym, true, false}
+use Rattle.std.proofs.Common.{◌∙◌, [], None, Some, ap, arith, refl, subst, sym}
 use Rattle.std.proofs.lemmas.Bool.{and_parts, le-ltb, lt-ltb}
 use Rattle.std.specs.Prelude.{nat_le, take}
 use Rattle.cache_base.specs.declared.limits.TheConstants.{BODY_MAX}
@@ -8,11 +8,11 @@ use Rattle.entry_key.specs.Writing.{may_write}
 use Rattle.entry_metadata.specs.Meta.{meta_of}
 use Rattle.file_handles.specs.Found.{IsFoundUnder}
 use Rattle.cache_export.specs.declared.limits.TheConstants.{DUMP_MAX}
-use Rattle.cache_store.specs.Dumping.{TakesTurn, adds_nothing, item_length, item_with, turn_at}
+use Rattle.cache_store.specs.Dumping.{adds_nothing, item_length, item_with, turn_at}
 use Rattle.cache_store.specs.Said.{saying}
-use Rattle.cache_store.specs.Saying.{SaysMore, StopsIn}
-use Rattle.cache_store.proofs.Dumping.DumpedItems.{found_file, item_added, item_short, none_there, not_dumped, says_nothing, takes_turn, too_long}
-use Rattle.cache_store.proofs.Saying.SaidMore.{of_err, when_err}
+use Rattle.cache_store.specs.Saying.{StopsIn}
+use Rattle.cache_store.proofs.Dumping.DumpedItems.{found_file, item_added, item_short, not_dumped, says_nothing, takes_turn, too_long}
+use Rattle.cache_store.proofs.Saying.SaidMore.{when_err}
 use Rattle.cache_store.proofs.Saying.SayingLaws.{stops_here}
 use Rattle.cache_store.proofs.dump.say_named.Goals as goal
 

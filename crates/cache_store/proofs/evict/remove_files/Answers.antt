@@ -6,7 +6,7 @@ use Rattle.cache_store.proofs.Performing.CalmAccounts.{fault_handed_on}
 use Rattle.cache_store.proofs.Clearing.NamesDoomed.{Completes, next_done, next_fails, none_left, rest_holds, rest_unused}
 use Rattle.file_handles.specs.Cache.{cache}
 use Rattle.file_handles.specs.Kept.{Kept, kept}
-use Rattle.file_handles.proofs.TakingSteps.{takes_then}
+use Rattle.file_handles.proofs.TakingSteps.{one_takes, takes_then}
 use Rattle.file_handles.proofs.UnsyncedLaws.{then_unsynced}
 use Rattle.index_theory.proofs.LeavesLaws.{both_leave_beside}
 use Rattle.cache_store.proofs.evict.remove_files.Goals as goal
@@ -42,7 +42,7 @@ loop-name-preserved g c =
           _ (c.in_ok-evict.ensures.evicts told);
       kept = search rules;
       index = λ told. both_leave_beside _ _ _ (c.loop-name.invariant.index told) (c.evict.ensures.index told);
-      takes = λ told. takes_then _ _ _ (c.loop-name.invariant.takes told) (c.evict.ensures.takes told);
+      takes = λ told. takes_then _ _ _ (c.loop-name.invariant.takes told) (one_takes _ _ _ (c.evict.ensures.takes told));
       unsynced = λ told. then_unsynced _ _ _ (c.loop-name.invariant.unsynced told) (c.evict.ensures.unsynced told);
       calm = search rules;
       looks = search rules;
@@ -77,4 +77,4 @@ pub returns-in_err-evict-clause-index : goal.returns-in_err-evict-clause-index
 returns-in_err-evict-clause-index g c = λ told. both_leave_beside _ _ _ (c.loop-name.invariant.index told) (c.evict.ensures.index told)
 
 pub returns-in_err-evict-clause-takes : goal.returns-in_err-evict-clause-takes
-returns-in_err-evict-clause-takes g c = λ told. takes_then _ _ _ (c.loop-name.invariant.takes told) (c.evict.ensures.takes told)
+returns-in_err-evict-clause-takes g c = λ told. takes_then _ _ _ (c.loop-name.invariant.takes told) (one_takes _ _ _ (c.evict.ensures.takes told))

@@ -1,4 +1,4 @@
-use Rattle.std.proofs.Common.{◌≡◌, ◌∙◌, [], Err, IsTrue, Ok, Result, ap, subst, sym}
+use Rattle.std.proofs.Common.{◌≡◌, ◌∙◌, [], Err, IfOk, IsTrue, Ok, Result, ap, subst, sym}
 use Rattle.cache_script.specs.Command.{command_of}
 use Rattle.index_theory.proofs.UncleanLaws.{unclean_leaves_honest}
 use Rattle.cache_store.specs.Answering.{left_to_say}
@@ -32,6 +32,11 @@ use Rattle.cache_store.proofs.Performing.RepliedInMemory.{cut_in_memory, cut_of,
 use Rattle.cache_store.proofs.Saying.SaidMore.{of_ok, when_ok}
 use Rattle.cache_store.proofs.Saying.TakenMore.{rest_takes}
 use Rattle.cache_store.proofs.Reading.ReadsHeld.{outcome_ok}
+use Rattle.cache_store.specs.Answering.{outcome_in}
+use Rattle.cache_store.specs.Reads.{PutsChunks}
+use Rattle.cache_store.specs.Records.{KeepsRecords}
+use Rattle.cache_store.proofs.Performing.PutChunks.{sent_chunks}
+use Rattle.index_theory.specs.Ever.{entries_on}
 use Rattle.cache_store.proofs.store.Store.attempt.Goals as goal
 
 pub returns-in_err-answered-clause-performs : goal.returns-in_err-answered-clause-performs
@@ -160,3 +165,14 @@ returns-clause-wordless g c is =
     let held = c.in_ok-answered.ensures.unsaid.held (λ all. let no : answered.Resumed ≡ answered.All = sym resumed ∙ all in cc) in
     let done = c.finish_reply.ensures.resumed resumed held in
     (done.1 ∙ words.0, λ failed. let no : ◌≡◌ {A = Result Verdict StoreFault} (Ok outcome.Ok) (Err fault.Sink) = sym done.0 ∙ failed in cc)
+
+pub returns-clause-alt_chunks : goal.returns-clause-alt_chunks
+returns-clause-alt_chunks g c slot kind bytes is =
+    subst (λ (o : Open). IfOk c.finish_reply.result (λ v. PutsChunks v slot (kept c.args.self.now.handles) o.handles)) (sym c.finish_reply.ensures.open)
+    (sent_chunks c.finish_reply.result (outcome_in c.in_ok-answered.answered) slot (kept c.args.self.now.handles) (kept c.perform.new.self.handles) c.finish_reply.ensures.outcome
+    (c.in_ok-answered.ensures.alt_chunks slot kind bytes is))
+
+pub returns-clause-records : goal.returns-clause-records
+returns-clause-records g c =
+    when_ok c.finish_reply.result _ (λ told.
+    subst (λ (o : Open). KeepsRecords (command_of c.args.c.now) (entries_on (g.D.Disk.state c.args.disk.now)) c.args.self.now.index o.index) (sym c.finish_reply.ensures.open) (c.in_ok-answered.ensures.records told))

@@ -1,8 +1,9 @@
-use Rattle.std.proofs.Common.{subst}
+use Rattle.std.proofs.Common.{Some, subst}
 use Rattle.cache_store.specs.Clearing.{LeavesUncleared}
 use Rattle.cache_store.specs.Session.{session}
 use Rattle.cache_store.specs.StoppedClearing.{ClearsUnderMark}
 use Rattle.cache_store.proofs.Clearing.ClearCommands.{origin_cleared, origin_not_cleared}
+use Rattle.cache_store.specs.AtClear.{ClearsAt, ClearsInOrder}
 use Rattle.cache_store.proofs.store.Store.clear.Goals as goal
 
 pub returns-in_err-names-clause-does : goal.returns-in_err-names-clause-does
@@ -25,3 +26,15 @@ returns-in_err-names-clause-stopped g c = λ told.
 pub returns-clause-stopped : goal.returns-clause-stopped
 returns-clause-stopped g c = λ told.
     subst (λ n. ClearsUnderMark n (session g.D.Disk c.args.self.now c.args.disk.now) (g.D.Disk.state c.clear_origin.new.disk)) c.hash_of_origin.ensures (c.clear_origin.ensures.stopped told)
+
+pub returns-in_err-names-clause-ordered : goal.returns-in_err-names-clause-ordered
+returns-in_err-names-clause-ordered g c = λ told. subst (λ n. ClearsInOrder n (g.D.Disk.state c.args.disk.now) (g.D.Disk.state c.clear_origin.new.disk)) c.hash_of_origin.ensures (c.clear_origin.ensures.ordered told)
+
+pub returns-in_err-names-clause-at_clear : goal.returns-in_err-names-clause-at_clear
+returns-in_err-names-clause-at_clear g c = λ told. subst (λ n. ClearsAt (Some n) (g.D.Disk.state c.args.disk.now) (g.D.Disk.state c.clear_origin.new.disk)) c.hash_of_origin.ensures (c.clear_origin.ensures.at_clear told)
+
+pub returns-clause-ordered : goal.returns-clause-ordered
+returns-clause-ordered g c = λ told. subst (λ n. ClearsInOrder n (g.D.Disk.state c.args.disk.now) (g.D.Disk.state c.clear_origin.new.disk)) c.hash_of_origin.ensures (c.clear_origin.ensures.ordered told)
+
+pub returns-clause-at_clear : goal.returns-clause-at_clear
+returns-clause-at_clear g c = λ told. subst (λ n. ClearsAt (Some n) (g.D.Disk.state c.args.disk.now) (g.D.Disk.state c.clear_origin.new.disk)) c.hash_of_origin.ensures (c.clear_origin.ensures.at_clear told)

@@ -7,6 +7,8 @@ use Rattle.file_handles.specs.Kept.{kept}
 use Rattle.cache_store.proofs.Clearing.ClearDoes.{clear_does, clear_leaves, clear_looks, doom_fails, end_fails, files_from, index_ended, index_stored, names_held, number_free, store_fails, doom_stopped, end_stopped, looks_stopped, store_stopped}
 use Rattle.cache_store.proofs.Performing.Stays.{ended_apart, look_stays, noted_disk}
 use Rattle.index_theory.proofs.LeavesLaws.{both_leave_index}
+use Rattle.cache_store.specs.Clearing.{is_used_or_stands}
+use Rattle.cache_store.proofs.Clearing.ClearPart.{ending_in_order, none_in_order, order_takes, ordered_at, storing_in_order, taking_in_order}
 use Rattle.cache_store.proofs.store.Store.clear_origin.Goals as goal
 
 pub returns-in-Err-clause-does : goal.returns-in-Err-clause-does
@@ -209,7 +211,7 @@ returns-in_err-doom_names-clause-stopped g c = λ told.
     c.in-Ok.ensures.ended c.in-Ok.ensures.base (c.in-Ok.ensures.records told) (c.in-Ok.ensures.tells told))
     c.in_ok-names.ensures 64 (mark_bytes c.args.origin) v same (g.met.D.Disk.sound c.held.new.disk told)
     (g.D.Disk.state c.store.new.disk) free (c.in_ok-store.ensures.placed told) refl
-    (g.D.Disk.state c.doom_names.new.disk) (c.doom_names.ensures.takes told)
+    (g.D.Disk.state c.doom_names.new.disk) (order_takes c.as_slice-2.result.now (g.D.Disk.state c.store.new.disk) (g.D.Disk.state c.doom_names.new.disk) (c.doom_names.ensures.takes told))
 
 pub returns-in_err-end-clause-stopped : goal.returns-in_err-end-clause-stopped
 returns-in_err-end-clause-stopped g c = λ told.
@@ -226,7 +228,7 @@ returns-in_err-end-clause-stopped g c = λ told.
     (g.D.Disk.state c.store.new.disk) free (c.in_ok-store.ensures.placed told) c.as_slice-2.result.now
     (files_from k s (g.D.Disk.state c.finish_apart.new.disk) c.in_ok-names.names c.as_slice.result.now c.in-Ok-held.there c.as_slice-2.result.now c.as_slice.ensures c.as_slice-2.ensures (c.in-Ok.ensures.looks.state told) (c.in-Ok-held.ensures.held told))
     (Ok tt) (g.D.Disk.state c.doom_names.new.disk) (c.in_ok-doom_names.ensures.dooms told) tt refl
-    refl (c.doom_names.ensures.takes told) (g.D.Disk.state c.end.new.disk) (c.end.ensures.amid told)
+    refl (order_takes c.as_slice-2.result.now (g.D.Disk.state c.store.new.disk) (g.D.Disk.state c.doom_names.new.disk) (c.doom_names.ensures.takes told)) (g.D.Disk.state c.end.new.disk) (c.end.ensures.amid told)
 
 pub returns-clause-stopped : goal.returns-clause-stopped
 returns-clause-stopped g c = λ told.
@@ -243,4 +245,48 @@ returns-clause-stopped g c = λ told.
     (g.D.Disk.state c.store.new.disk) free (c.in_ok-store.ensures.placed told) c.as_slice-2.result.now
     (files_from k s (g.D.Disk.state c.finish_apart.new.disk) c.in_ok-names.names c.as_slice.result.now c.in-Ok-held.there c.as_slice-2.result.now c.as_slice.ensures c.as_slice-2.ensures (c.in-Ok.ensures.looks.state told) (c.in-Ok-held.ensures.held told))
     (Ok tt) (g.D.Disk.state c.doom_names.new.disk) (c.in_ok-doom_names.ensures.dooms told) tt refl
-    refl (c.doom_names.ensures.takes told) (g.D.Disk.state c.end.new.disk) (c.end.ensures.amid told)
+    refl (order_takes c.as_slice-2.result.now (g.D.Disk.state c.store.new.disk) (g.D.Disk.state c.doom_names.new.disk) (c.doom_names.ensures.takes told)) (g.D.Disk.state c.end.new.disk) (c.end.ensures.amid told)
+
+-- ---- the changes in their order, and what they leave at `clear`
+
+pub returns-in-Err-clause-ordered : goal.returns-in-Err-clause-ordered
+returns-in-Err-clause-ordered g c = λ told. none_in_order c.args.origin (g.D.Disk.state c.args.disk.now) (g.D.Disk.state c.finish_apart.new.disk) (c.in-Err.ensures.looks.state told)
+
+pub returns-in-Err-clause-at_clear : goal.returns-in-Err-clause-at_clear
+returns-in-Err-clause-at_clear g c = λ told. ordered_at c.args.origin (g.D.Disk.state c.args.disk.now) (g.D.Disk.state c.finish_apart.new.disk) (g.met.D.Disk.sound c.args.disk.now told) (returns-in-Err-clause-ordered g c told)
+
+pub returns-in_err-names-clause-ordered : goal.returns-in_err-names-clause-ordered
+returns-in_err-names-clause-ordered g c = λ told. none_in_order c.args.origin (g.D.Disk.state c.args.disk.now) (g.D.Disk.state c.finish_apart.new.disk) (c.in-Ok.ensures.looks.state told)
+
+pub returns-in_err-names-clause-at_clear : goal.returns-in_err-names-clause-at_clear
+returns-in_err-names-clause-at_clear g c = λ told. ordered_at c.args.origin (g.D.Disk.state c.args.disk.now) (g.D.Disk.state c.finish_apart.new.disk) (g.met.D.Disk.sound c.args.disk.now told) (returns-in_err-names-clause-ordered g c told)
+
+pub returns-in-Err-held-clause-ordered : goal.returns-in-Err-held-clause-ordered
+returns-in-Err-held-clause-ordered g c = λ told. none_in_order c.args.origin (g.D.Disk.state c.args.disk.now) (g.D.Disk.state c.held.new.disk) (c.in-Err-held.ensures.looks.state told ∙ c.in-Ok.ensures.looks.state told)
+
+pub returns-in-Err-held-clause-at_clear : goal.returns-in-Err-held-clause-at_clear
+returns-in-Err-held-clause-at_clear g c = λ told. ordered_at c.args.origin (g.D.Disk.state c.args.disk.now) (g.D.Disk.state c.held.new.disk) (g.met.D.Disk.sound c.args.disk.now told) (returns-in-Err-held-clause-ordered g c told)
+
+pub returns-in_err-store-clause-ordered : goal.returns-in_err-store-clause-ordered
+returns-in_err-store-clause-ordered g c = λ told. storing_in_order c.args.origin (g.D.Disk.state c.args.disk.now) (g.D.Disk.state c.held.new.disk) (g.D.Disk.state c.store.new.disk) (c.in-Ok-held.ensures.looks.state told ∙ c.in-Ok.ensures.looks.state told) (c.in_err-store.ensures.amid told)
+
+pub returns-in_err-store-clause-at_clear : goal.returns-in_err-store-clause-at_clear
+returns-in_err-store-clause-at_clear g c = λ told. ordered_at c.args.origin (g.D.Disk.state c.args.disk.now) (g.D.Disk.state c.store.new.disk) (g.met.D.Disk.sound c.args.disk.now told) (returns-in_err-store-clause-ordered g c told)
+
+pub returns-in_err-doom_names-clause-ordered : goal.returns-in_err-doom_names-clause-ordered
+returns-in_err-doom_names-clause-ordered g c = λ told. taking_in_order c.args.origin (is_used_or_stands (kept c.args.self.now.handles) (g.D.Disk.state c.args.disk.now)) c.in_ok-names.names c.as_slice-2.result.now (files_from (kept c.args.self.now.handles) (g.D.Disk.state c.args.disk.now) (g.D.Disk.state c.finish_apart.new.disk) c.in_ok-names.names c.as_slice.result.now c.in-Ok-held.there c.as_slice-2.result.now c.as_slice.ensures c.as_slice-2.ensures (c.in-Ok.ensures.looks.state told) (c.in-Ok-held.ensures.held told)) c.in_ok-names.ensures.rising (g.D.Disk.state c.args.disk.now) (g.D.Disk.state c.held.new.disk) (g.D.Disk.state c.store.new.disk) (g.D.Disk.state c.doom_names.new.disk) (c.in-Ok-held.ensures.looks.state told ∙ c.in-Ok.ensures.looks.state told) (c.in_ok-store.ensures.placed told) (c.doom_names.ensures.takes told)
+
+pub returns-in_err-doom_names-clause-at_clear : goal.returns-in_err-doom_names-clause-at_clear
+returns-in_err-doom_names-clause-at_clear g c = λ told. ordered_at c.args.origin (g.D.Disk.state c.args.disk.now) (g.D.Disk.state c.doom_names.new.disk) (g.met.D.Disk.sound c.args.disk.now told) (returns-in_err-doom_names-clause-ordered g c told)
+
+pub returns-in_err-end-clause-ordered : goal.returns-in_err-end-clause-ordered
+returns-in_err-end-clause-ordered g c = λ told. ending_in_order c.args.origin (is_used_or_stands (kept c.args.self.now.handles) (g.D.Disk.state c.args.disk.now)) c.in_ok-names.names c.as_slice-2.result.now (files_from (kept c.args.self.now.handles) (g.D.Disk.state c.args.disk.now) (g.D.Disk.state c.finish_apart.new.disk) c.in_ok-names.names c.as_slice.result.now c.in-Ok-held.there c.as_slice-2.result.now c.as_slice.ensures c.as_slice-2.ensures (c.in-Ok.ensures.looks.state told) (c.in-Ok-held.ensures.held told)) c.in_ok-names.ensures.rising (g.D.Disk.state c.args.disk.now) (g.D.Disk.state c.held.new.disk) (g.D.Disk.state c.store.new.disk) (g.D.Disk.state c.doom_names.new.disk) (g.D.Disk.state c.end.new.disk) (c.in-Ok-held.ensures.looks.state told ∙ c.in-Ok.ensures.looks.state told) (c.in_ok-store.ensures.placed told) (c.doom_names.ensures.takes told) (c.end.ensures.amid told)
+
+pub returns-in_err-end-clause-at_clear : goal.returns-in_err-end-clause-at_clear
+returns-in_err-end-clause-at_clear g c = λ told. ordered_at c.args.origin (g.D.Disk.state c.args.disk.now) (g.D.Disk.state c.end.new.disk) (g.met.D.Disk.sound c.args.disk.now told) (returns-in_err-end-clause-ordered g c told)
+
+pub returns-clause-ordered : goal.returns-clause-ordered
+returns-clause-ordered g c = λ told. ending_in_order c.args.origin (is_used_or_stands (kept c.args.self.now.handles) (g.D.Disk.state c.args.disk.now)) c.in_ok-names.names c.as_slice-2.result.now (files_from (kept c.args.self.now.handles) (g.D.Disk.state c.args.disk.now) (g.D.Disk.state c.finish_apart.new.disk) c.in_ok-names.names c.as_slice.result.now c.in-Ok-held.there c.as_slice-2.result.now c.as_slice.ensures c.as_slice-2.ensures (c.in-Ok.ensures.looks.state told) (c.in-Ok-held.ensures.held told)) c.in_ok-names.ensures.rising (g.D.Disk.state c.args.disk.now) (g.D.Disk.state c.held.new.disk) (g.D.Disk.state c.store.new.disk) (g.D.Disk.state c.doom_names.new.disk) (g.D.Disk.state c.end.new.disk) (c.in-Ok-held.ensures.looks.state told ∙ c.in-Ok.ensures.looks.state told) (c.in_ok-store.ensures.placed told) (c.doom_names.ensures.takes told) (c.end.ensures.amid told)
+
+pub returns-clause-at_clear : goal.returns-clause-at_clear
+returns-clause-at_clear g c = λ told. ordered_at c.args.origin (g.D.Disk.state c.args.disk.now) (g.D.Disk.state c.end.new.disk) (g.met.D.Disk.sound c.args.disk.now told) (returns-clause-ordered g c told)

@@ -2,6 +2,8 @@ use Rattle.cache_theory.proofs.CrashImages.Crashes.{safe_is_crash_safe}
 use Rattle.cache_store.specs.Session.{session}
 use Rattle.cache_store.proofs.Sessions.Closed.{closes_failed, failed_honestly, images_honest, is_honest, left_honest, shut, spared_crash}
 use Rattle.cache_store.proofs.Sessions.ClosedInUse.{closed_in_use, not_ended, synced_done, synced_left}
+use Rattle.cache_store.proofs.Clearing.ClearPart.{opened_keeps}
+use Rattle.std.proofs.Common.{rules}
 use Rattle.cache_store.proofs.store.Store.close.Goals as goal
 
 pub returns-in_err-closed-clause-crash : goal.returns-in_err-closed-clause-crash
@@ -89,3 +91,25 @@ returns-clause-whole g c = λ told. record {
   synced = λ left. synced_done (g.D.Disk.state c.close_all-closed.new.disk) (g.D.Disk.state c.close_index.new.disk) c.close_index.result c.in_ok-close_index.was
       (c.close_index.ensures.synced (not_ended c.ended.result c.args.self.index.update c.ended.ensures.ended left) told);
 }
+
+-- ---- what a crash may leave at `clear`
+
+pub returns-in_err-closed-clause-at_clear : goal.returns-in_err-closed-clause-at_clear
+returns-in_err-closed-clause-at_clear g c = λ told. (c.close_all-closed.ensures.index told).clear
+
+pub returns-in_err-close_index-clause-at_clear : goal.returns-in_err-close_index-clause-at_clear
+returns-in_err-close_index-clause-at_clear g c = λ told.
+    opened_keeps (g.D.Disk.state c.args.disk.now) (g.D.Disk.state c.close_all-closed.new.disk) (g.D.Disk.state c.close_index.new.disk) (c.close_all-closed.ensures.index told) (c.requires.told told).1.matches.holds.apart (c.close_index.ensures.entries told)
+
+pub returns-clause-at_clear : goal.returns-clause-at_clear
+returns-clause-at_clear g c = λ told.
+    opened_keeps (g.D.Disk.state c.args.disk.now) (g.D.Disk.state c.close_all-closed.new.disk) (g.D.Disk.state c.close_index.new.disk) (c.close_all-closed.ensures.index told) (c.requires.told told).1.matches.holds.apart (c.close_index.ensures.entries told)
+
+pub returns-in_err-closed-clause-closes : goal.returns-in_err-closed-clause-closes
+returns-in_err-closed-clause-closes g c = λ told.
+    let before = session g.D.Disk c.args.self c.args.disk.now in
+    let d = g.D.Disk.state c.close_all-closed.new.disk in
+    closes_failed c.from_residual.result _ before d c.from_residual.ensures.1 (λ h is. (c.close_all-closed.ensures.closes told).crash h is.stands)
+
+pub returns-in_err-close_index-clause-account : goal.returns-in_err-close_index-clause-account
+returns-in_err-close_index-clause-account g c = record { cause = search rules; went_on = search rules; stops = search rules }

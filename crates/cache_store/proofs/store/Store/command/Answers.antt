@@ -1,15 +1,17 @@
-use Rattle.std.proofs.Common.{◌∙◌, Err, IsTrue, Ok, sym, true≢false, ℕ}
+use Rattle.std.proofs.Common.{◌≡◌, ◌∙◌, ap, Err, IsTrue, Ok, subst, sym, true≢false, ℕ}
 use Rattle.std.proofs.lemmas.Option.{IfSome_then}
 use Rattle.cache_script.specs.Command.{command_of}
 use Rattle.cache_store.specs.Clearing.{LeavesUncleared, origin_cleared}
 use Rattle.cache_store.specs.Performing.{HadEffect}
 use Rattle.cache_store.specs.Session.{open_of, session}
 use Rattle.cache_store.specs.declared.fault.Outcome.{Outcome}
+use Rattle.cache_store.specs.declared.fault.StoreFault.TheVariants as fault
 use Rattle.cache_store.specs.declared.fault.Verdict.{Verdict}
 use Rattle.disk_model.specs.State.{standing}
 use Rattle.disk_model.specs.declared.place.Place.TheVariants.{Clear}
 use Rattle.cache_store.proofs.Performing.RepliedInMemory.{makes_no_look}
 use Rattle.cache_store.proofs.Performing.Stays.{open_still}
+use Rattle.cache_store.specs.Reads.{PutsChunks}
 use Rattle.cache_store.proofs.store.Store.command.Goals as goal
 
 pub returns-in_err-say_fault-clause-open : goal.returns-in_err-say_fault-clause-open
@@ -66,3 +68,13 @@ returns-in-Err-clause-clears g c calm =
     {P = λ origin. HadEffect {T = Verdict} (Err c.in-Err.fault) → IsTrue g.D.Disk.tells → leaves origin}
     {Q = λ origin. HadEffect {T = Outcome} (Err c.in-Err.fault) → IsTrue g.D.Disk.tells → leaves origin}
     c.in-Err.ensures.clears (λ origin clears had told. clears had told)
+
+-- the outcome is the verdict
+pub returns-in-Ok-clause-alt_chunks : goal.returns-in-Ok-clause-alt_chunks
+returns-in-Ok-clause-alt_chunks g c slot kind bytes calm is =
+    subst (λ (v : Verdict). PutsChunks v slot (open_of c.args.self.now).handles (open_of c.attempt-answered.new.self).handles) (sym c.outcome_of.ensures.same) (c.in-Ok.ensures.alt_chunks slot kind bytes is)
+
+pub returns-in-Err-clause-fails : goal.returns-in-Err-clause-fails
+returns-in-Err-clause-fails g c other failed told =
+    let same : c.in-Err.fault ≡ fault.Disk = cc in
+    c.in-Err.ensures.fails c.if-self.false other (ap Err same) told

@@ -1,4 +1,4 @@
-use Rattle.std.proofs.Common.{◌≡◌, ◌∙◌, ◌∷◌, [], Err, List, ap, refl, subst, sym}
+use Rattle.std.proofs.Common.{◌≡◌, ◌∙◌, [], Err, List, subst, sym}
 use Rattle.cache_base.specs.declared.name.Name.{Name}
 use Rattle.cache_check.specs.Checks.{AllStand, files_of}
 use Rattle.cache_check.proofs.Tables.{entries_stand}
@@ -13,7 +13,6 @@ use Rattle.cache_store.specs.Said.{saying}
 use Rattle.cache_store.specs.Saying.{SaysMore, StopsIn}
 use Rattle.cache_store.specs.declared.memory_index.MemoryIndex.{MemoryIndex}
 use Rattle.cache_store.proofs.Dumping.DumpDoes.{all_said, cuts_sent, does_keeping, dump_does, dump_fails, dump_stops, end_cut, front_sent, items_cut, sent_says}
-use Rattle.cache_store.proofs.Performing.HandedFaults.{handed_disk, sink_not_disk}
 use Rattle.cache_store.proofs.Records.ListDoes.{no_sink}
 use Rattle.cache_store.proofs.Saying.SayingLaws.{cuts_front}
 use Rattle.cache_store.proofs.Performing.Stays.{ended_apart, look_stays, noted_disk}

@@ -13,6 +13,7 @@ use Rattle.cache_store.proofs.Saying.TakenMore.{cuts_takes, says_takes}
 use Rattle.cache_store.proofs.Evicting.VictimsApart.{files_hold, picked_unused}
 use Rattle.file_handles.proofs.TakingSteps.{takes_same, takes_then}
 use Rattle.file_handles.proofs.UnsyncedLaws.{same_unsynced, then_unsynced}
+use Rattle.file_handles.proofs.IndexLeft.{same_left}
 use Rattle.cache_store.proofs.store.Store.evict.Goals as goal
 
 pub returns-in-Err-clause-does : goal.returns-in-Err-clause-does
@@ -176,3 +177,12 @@ returns-in_err-say_listing-clause-takes g c = λ told. takes_then _ _ _ (takes_s
 
 pub returns-clause-takes : goal.returns-clause-takes
 returns-clause-takes g c = λ told. takes_then _ _ _ (takes_same (c.in-Ok-standing.ensures.looks.state told ∙ c.in-Ok.ensures.looks.state told)) (c.remove_files.ensures.takes told)
+
+pub returns-in-Err-clause-index : goal.returns-in-Err-clause-index
+returns-in-Err-clause-index g c = λ told. same_left (c.in-Err.ensures.looks.state told)
+
+pub returns-in_err-names-clause-index : goal.returns-in_err-names-clause-index
+returns-in_err-names-clause-index g c = λ told. same_left (c.in-Ok.ensures.looks.state told)
+
+pub returns-in-Err-standing-clause-index : goal.returns-in-Err-standing-clause-index
+returns-in-Err-standing-clause-index g c = λ told. same_left (c.in-Err-standing.ensures.looks.state told ∙ c.in-Ok.ensures.looks.state told)

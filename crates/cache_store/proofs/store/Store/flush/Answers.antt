@@ -8,6 +8,7 @@ use Rattle.cache_store.proofs.Records.IndexAchieves.{fails_sparing, spared_in_sa
 use Rattle.cache_store.proofs.Records.IndexWrites.{flush_achieves, synced_unclean}
 use Rattle.cache_store.proofs.Performing.CalmAccounts.{sync_stops}
 use Rattle.cache_store.proofs.Performing.Stays.{change_handed}
+use Rattle.cache_store.proofs.Clearing.ClearPart.{spared_keeps, then_same, then_synced}
 use Rattle.cache_store.proofs.store.Store.flush.Goals as goal
 
 pub returns-in_err-refresh-clause-does : goal.returns-in_err-refresh-clause-does
@@ -52,3 +53,17 @@ returns-clause-flushes g c = λ told. record {
   ended = λ none. (g.D.Disk.state c.refresh.new.disk, (c.in_ok-refresh.ensures.written none told, c.in_ok-sync.ensures.state told));
   going_on = λ left. c.in_ok-sync.ensures.state told ∙ ap settled (c.in_ok-refresh.ensures.unwritten (λ none. absurd (left none)) told);
 }
+
+pub returns-in_err-refresh-clause-at_clear : goal.returns-in_err-refresh-clause-at_clear
+returns-in_err-refresh-clause-at_clear g c = λ told.
+    spared_keeps (g.D.Disk.state c.args.disk.now) (g.D.Disk.state c.refresh.new.disk) (c.in_err-refresh.ensures.entries told (c.requires.told told).1.matches.holds.apart)
+
+pub returns-in_err-sync-clause-at_clear : goal.returns-in_err-sync-clause-at_clear
+returns-in_err-sync-clause-at_clear g c = λ told.
+    then_same (g.D.Disk.state c.args.disk.now) (g.D.Disk.state c.refresh.new.disk) (g.D.Disk.state c.sync.new.self)
+    (spared_keeps (g.D.Disk.state c.args.disk.now) (g.D.Disk.state c.refresh.new.disk) (c.in_ok-refresh.ensures.entries told (c.requires.told told).1.matches.holds.apart)) (c.in_err-sync.ensures.state told)
+
+pub returns-clause-at_clear : goal.returns-clause-at_clear
+returns-clause-at_clear g c = λ told.
+    then_synced (g.D.Disk.state c.args.disk.now) (g.D.Disk.state c.refresh.new.disk) (g.D.Disk.state c.sync.new.self)
+    (spared_keeps (g.D.Disk.state c.args.disk.now) (g.D.Disk.state c.refresh.new.disk) (c.in_ok-refresh.ensures.entries told (c.requires.told told).1.matches.holds.apart)) (c.in_ok-sync.ensures.state told)

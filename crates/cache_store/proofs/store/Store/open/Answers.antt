@@ -4,6 +4,9 @@ use Rattle.cache_store.proofs.Sessions.Opened.{begun_honest, begun_safe, cleared
 use Rattle.cache_store.proofs.Sessions.StartAlong.{begins_along, in_use_along}
 use Rattle.file_handles.proofs.IndexLeft.{cleared_left}
 use Rattle.cache_store.proofs.Shelves.{shelf_exists}
+use Rattle.cache_store.proofs.Clearing.ClearPart.{opened_keeps}
+use Rattle.index_theory.proofs.ApartLaws.{quiet_is_apart}
+use Rattle.index_theory.proofs.AtClearLaws.{nothing_keeps_clear, quiet_is_clear_apart}
 use Rattle.cache_store.proofs.store.Store.open.Goals as goal
 
 pub returns-in_err-handles-clause-safe : goal.returns-in_err-handles-clause-safe
@@ -92,3 +95,20 @@ returns-clause-begins g c = λ told.
 
 pub returns-clause-ordered : goal.returns-clause-ordered
 returns-clause-ordered g c = λ told. (g.D.Disk.state c.clear.new.disk, (c.clear.ensures.removes told, c.in_ok-index.ensures.opened told))
+
+-- ---- what a crash may leave at `clear`
+
+pub returns-in_err-handles-clause-at_clear : goal.returns-in_err-handles-clause-at_clear
+returns-in_err-handles-clause-at_clear g c = λ told quiet. nothing_keeps_clear (g.D.Disk.state c.args.disk.now) (quiet_is_clear_apart (g.D.Disk.state c.args.disk.now) quiet (g.met.D.Disk.sound c.args.disk.now told))
+
+pub returns-in_err-reply-clause-at_clear : goal.returns-in_err-reply-clause-at_clear
+returns-in_err-reply-clause-at_clear g c = λ told quiet. nothing_keeps_clear (g.D.Disk.state c.args.disk.now) (quiet_is_clear_apart (g.D.Disk.state c.args.disk.now) quiet (g.met.D.Disk.sound c.args.disk.now told))
+
+pub returns-in_err-clear-clause-at_clear : goal.returns-in_err-clear-clause-at_clear
+returns-in_err-clear-clause-at_clear g c = λ told quiet. (cleared_left (g.D.Disk.state c.args.disk.now) (g.D.Disk.state c.clear.new.disk) (c.clear.ensures.removes told)).clear (quiet_is_clear_apart (g.D.Disk.state c.args.disk.now) quiet (g.met.D.Disk.sound c.args.disk.now told))
+
+pub returns-in_err-index-clause-at_clear : goal.returns-in_err-index-clause-at_clear
+returns-in_err-index-clause-at_clear g c = λ told quiet. opened_keeps (g.D.Disk.state c.args.disk.now) (g.D.Disk.state c.clear.new.disk) (g.D.Disk.state c.begin_index.new.disk) (cleared_left (g.D.Disk.state c.args.disk.now) (g.D.Disk.state c.clear.new.disk) (c.clear.ensures.removes told)) (quiet_is_apart (g.D.Disk.state c.args.disk.now) quiet (g.met.D.Disk.sound c.args.disk.now told)) (c.begin_index.ensures.entries told) (quiet_is_clear_apart (g.D.Disk.state c.args.disk.now) quiet (g.met.D.Disk.sound c.args.disk.now told))
+
+pub returns-clause-at_clear : goal.returns-clause-at_clear
+returns-clause-at_clear g c = λ told quiet. opened_keeps (g.D.Disk.state c.args.disk.now) (g.D.Disk.state c.clear.new.disk) (g.D.Disk.state c.begin_index.new.disk) (cleared_left (g.D.Disk.state c.args.disk.now) (g.D.Disk.state c.clear.new.disk) (c.clear.ensures.removes told)) (quiet_is_apart (g.D.Disk.state c.args.disk.now) quiet (g.met.D.Disk.sound c.args.disk.now told)) (c.begin_index.ensures.entries told) (quiet_is_clear_apart (g.D.Disk.state c.args.disk.now) quiet (g.met.D.Disk.sound c.args.disk.now told))

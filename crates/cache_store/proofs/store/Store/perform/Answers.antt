@@ -28,6 +28,15 @@ use Rattle.cache_store.proofs.Saying.TakenMore.{open_takes}
 use Rattle.file_handles.proofs.IndexLeft.{same_left}
 use Rattle.cache_store.proofs.Reading.ReadsHeld.{same_read}
 use Rattle.cache_store.proofs.Performing.RepliedInMemory.{at_in_memory, element_in_memory, has_in_memory, state_in_memory}
+use Rattle.cache_store.specs.AtClear.{ChangesAtClear, ClearsInOrder}
+use Rattle.cache_store.specs.Reads.{PutsChunks}
+use Rattle.cache_store.specs.Records.{KeepsRecords}
+use Rattle.cache_store.specs.Session.{Open}
+use Rattle.cache_store.proofs.Clearing.ClearPart.{kept_at, same_keeps}
+use Rattle.cache_store.proofs.Performing.PutChunks.{key_doomed, puts_chunks, slot_put}
+use Rattle.cache_store.proofs.Saying.SaidMore.{of_ok, when_ok}
+use Rattle.file_handles.specs.Dooming.{IsUnfinishedFor}
+use Rattle.index_theory.specs.Ever.{entries_on}
 use Rattle.cache_store.proofs.store.Store.perform.Goals as goal
 
 pub returns-in-At-clause-does : goal.returns-in-At-clause-does
@@ -317,3 +326,171 @@ returns-in-FinishAs-clause-does g c = λ told.
 pub returns-in-Dump-clause-does : goal.returns-in-Dump-clause-does
 returns-in-Dump-clause-does g c = λ told.
     as_command _ Dump _ _ _ _ _ (ap command_of c.in-Dump.is) (λ m. refl) (c.dump.ensures.does told)
+
+-- ---- what a crash may leave at `clear`
+
+pub returns-in-Create-clause-at_clear : goal.returns-in-Create-clause-at_clear
+returns-in-Create-clause-at_clear g c = λ told. kept_at (command_of c.args.c.now) (g.D.Disk.state c.args.disk.now) (g.D.Disk.state c.create-answer.new.disk) (c.create-answer.ensures.index told).clear
+
+pub returns-in-Append-clause-at_clear : goal.returns-in-Append-clause-at_clear
+returns-in-Append-clause-at_clear g c = λ told. kept_at (command_of c.args.c.now) (g.D.Disk.state c.args.disk.now) (g.D.Disk.state c.append.new.disk) (c.append.ensures.index told).clear
+
+pub returns-in-Finish-clause-at_clear : goal.returns-in-Finish-clause-at_clear
+returns-in-Finish-clause-at_clear g c = λ told. kept_at (command_of c.args.c.now) (g.D.Disk.state c.args.disk.now) (g.D.Disk.state c.finish-answer.new.disk) (c.finish-answer.ensures.index told).clear
+
+pub returns-in-SetElement-clause-at_clear : goal.returns-in-SetElement-clause-at_clear
+returns-in-SetElement-clause-at_clear g c = λ told. kept_at (command_of c.args.c.now) (g.D.Disk.state c.args.disk.now) (g.D.Disk.state c.set_element-answer.new.disk) (c.set_element-answer.ensures.index told).clear
+
+pub returns-in-UnsetElement-clause-at_clear : goal.returns-in-UnsetElement-clause-at_clear
+returns-in-UnsetElement-clause-at_clear g c = λ told. kept_at (command_of c.args.c.now) (g.D.Disk.state c.args.disk.now) (g.D.Disk.state c.unset_element-answer.new.disk) (c.unset_element-answer.ensures.index told).clear
+
+pub returns-in-PutAlt-clause-at_clear : goal.returns-in-PutAlt-clause-at_clear
+returns-in-PutAlt-clause-at_clear g c = λ told. kept_at (command_of c.args.c.now) (g.D.Disk.state c.args.disk.now) (g.D.Disk.state c.put_alt-answer.new.disk) (c.put_alt-answer.ensures.index told).clear
+
+pub returns-in-UseEntry-clause-at_clear : goal.returns-in-UseEntry-clause-at_clear
+returns-in-UseEntry-clause-at_clear g c = λ told. kept_at (command_of c.args.c.now) (g.D.Disk.state c.args.disk.now) (g.D.Disk.state c.use_entry-answer.new.disk) (c.use_entry-answer.ensures.index told).clear
+
+pub returns-in-Pin-clause-at_clear : goal.returns-in-Pin-clause-at_clear
+returns-in-Pin-clause-at_clear g c = λ told. kept_at (command_of c.args.c.now) (g.D.Disk.state c.args.disk.now) (g.D.Disk.state c.set_pin-answer.new.disk) (c.set_pin-answer.ensures.index told).clear
+
+pub returns-in-Unpin-clause-at_clear : goal.returns-in-Unpin-clause-at_clear
+returns-in-Unpin-clause-at_clear g c = λ told. kept_at (command_of c.args.c.now) (g.D.Disk.state c.args.disk.now) (g.D.Disk.state c.set_pin-answer-in-Unpin.new.disk) (c.set_pin-answer-in-Unpin.ensures.index told).clear
+
+pub returns-in-Close-clause-at_clear : goal.returns-in-Close-clause-at_clear
+returns-in-Close-clause-at_clear g c = λ told. kept_at (command_of c.args.c.now) (g.D.Disk.state c.args.disk.now) (g.D.Disk.state c.close-answer.new.disk) (c.close-answer.ensures.index told).clear
+
+pub returns-in-Doom-clause-at_clear : goal.returns-in-Doom-clause-at_clear
+returns-in-Doom-clause-at_clear g c = λ told. kept_at (command_of c.args.c.now) (g.D.Disk.state c.args.disk.now) (g.D.Disk.state c.doom-answer.new.disk) (c.doom-answer.ensures.index told).clear
+
+pub returns-in-FinishAs-clause-at_clear : goal.returns-in-FinishAs-clause-at_clear
+returns-in-FinishAs-clause-at_clear g c = λ told. kept_at (command_of c.args.c.now) (g.D.Disk.state c.args.disk.now) (g.D.Disk.state c.finish_as.new.disk) (c.finish_as.ensures.index told).clear
+
+pub returns-in-Evict-clause-at_clear : goal.returns-in-Evict-clause-at_clear
+returns-in-Evict-clause-at_clear g c = λ told. kept_at (command_of c.args.c.now) (g.D.Disk.state c.args.disk.now) (g.D.Disk.state c.evict.new.disk) (c.evict.ensures.index told).clear
+
+pub returns-in-OpenKey-clause-at_clear : goal.returns-in-OpenKey-clause-at_clear
+returns-in-OpenKey-clause-at_clear g c = λ told. kept_at (command_of c.args.c.now) (g.D.Disk.state c.args.disk.now) (g.D.Disk.state c.open-answer.new.disk) (same_keeps (c.open-answer.ensures.looks.state told))
+
+pub returns-in-ReadPart-clause-at_clear : goal.returns-in-ReadPart-clause-at_clear
+returns-in-ReadPart-clause-at_clear g c = λ told. kept_at (command_of c.args.c.now) (g.D.Disk.state c.args.disk.now) (g.D.Disk.state c.say_read.new.disk) (same_keeps (c.say_read.ensures.looks.state told))
+
+pub returns-in-Get-clause-at_clear : goal.returns-in-Get-clause-at_clear
+returns-in-Get-clause-at_clear g c = λ told. kept_at (command_of c.args.c.now) (g.D.Disk.state c.args.disk.now) (g.D.Disk.state c.say_shown.new.disk) (same_keeps (c.say_shown.ensures.looks.state told))
+
+pub returns-in-GetAlt-clause-at_clear : goal.returns-in-GetAlt-clause-at_clear
+returns-in-GetAlt-clause-at_clear g c = λ told. kept_at (command_of c.args.c.now) (g.D.Disk.state c.args.disk.now) (g.D.Disk.state c.say_shown-in-GetAlt.new.disk) (same_keeps (c.say_shown-in-GetAlt.ensures.looks.state told))
+
+pub returns-in-MainBody-clause-at_clear : goal.returns-in-MainBody-clause-at_clear
+returns-in-MainBody-clause-at_clear g c = λ told. kept_at (command_of c.args.c.now) (g.D.Disk.state c.args.disk.now) (g.D.Disk.state c.say_shown-in-MainBody.new.disk) (same_keeps (c.say_shown-in-MainBody.ensures.looks.state told))
+
+pub returns-in-List-clause-at_clear : goal.returns-in-List-clause-at_clear
+returns-in-List-clause-at_clear g c = λ told. kept_at (command_of c.args.c.now) (g.D.Disk.state c.args.disk.now) (g.D.Disk.state c.say_list.new.disk) (same_keeps (c.say_list.ensures.looks.state told))
+
+pub returns-in-Step-clause-at_clear : goal.returns-in-Step-clause-at_clear
+returns-in-Step-clause-at_clear g c = λ told. kept_at (command_of c.args.c.now) (g.D.Disk.state c.args.disk.now) (g.D.Disk.state c.step.new.disk) (same_keeps (c.step.ensures.looks.state told))
+
+pub returns-in-Verify-clause-at_clear : goal.returns-in-Verify-clause-at_clear
+returns-in-Verify-clause-at_clear g c = λ told. kept_at (command_of c.args.c.now) (g.D.Disk.state c.args.disk.now) (g.D.Disk.state c.verify.new.disk) (same_keeps (c.verify.ensures.looks.state told))
+
+pub returns-in-Dump-clause-at_clear : goal.returns-in-Dump-clause-at_clear
+returns-in-Dump-clause-at_clear g c = λ told. kept_at (command_of c.args.c.now) (g.D.Disk.state c.args.disk.now) (g.D.Disk.state c.dump.new.disk) (same_keeps (c.dump.ensures.looks.state told))
+
+pub returns-in-At-clause-at_clear : goal.returns-in-At-clause-at_clear
+returns-in-At-clause-at_clear g c = λ told. kept_at (command_of c.args.c.now) (g.D.Disk.state c.args.disk.now) (g.D.Disk.state c.args.disk.now) (same_keeps refl)
+
+pub returns-in-Element-clause-at_clear : goal.returns-in-Element-clause-at_clear
+returns-in-Element-clause-at_clear g c = λ told. kept_at (command_of c.args.c.now) (g.D.Disk.state c.args.disk.now) (g.D.Disk.state c.args.disk.now) (same_keeps refl)
+
+pub returns-in-Has-clause-at_clear : goal.returns-in-Has-clause-at_clear
+returns-in-Has-clause-at_clear g c = λ told. kept_at (command_of c.args.c.now) (g.D.Disk.state c.args.disk.now) (g.D.Disk.state c.args.disk.now) (same_keeps refl)
+
+pub returns-in-State-clause-at_clear : goal.returns-in-State-clause-at_clear
+returns-in-State-clause-at_clear g c = λ told. kept_at (command_of c.args.c.now) (g.D.Disk.state c.args.disk.now) (g.D.Disk.state c.args.disk.now) (same_keeps refl)
+
+pub returns-in-Flush-clause-at_clear : goal.returns-in-Flush-clause-at_clear
+returns-in-Flush-clause-at_clear g c = λ told. kept_at (command_of c.args.c.now) (g.D.Disk.state c.args.disk.now) (g.D.Disk.state c.flush.new.disk) (c.flush.ensures.at_clear told)
+
+pub returns-in-Rebuild-clause-at_clear : goal.returns-in-Rebuild-clause-at_clear
+returns-in-Rebuild-clause-at_clear g c = λ told. kept_at (command_of c.args.c.now) (g.D.Disk.state c.args.disk.now) (g.D.Disk.state c.rebuild.new.disk) (c.rebuild.ensures.at_clear told)
+
+pub returns-in-Clear-clause-at_clear : goal.returns-in-Clear-clause-at_clear
+returns-in-Clear-clause-at_clear g c = λ told.
+    subst (λ (x : Command). ChangesAtClear x (g.D.Disk.state c.args.disk.now) (g.D.Disk.state c.clear.new.disk)) (sym (ap command_of c.in-Clear.is)) (c.clear.ensures.at_clear told)
+
+pub returns-in-Resume-clause-at_clear : goal.returns-in-Resume-clause-at_clear
+returns-in-Resume-clause-at_clear g c = λ told.
+    subst (λ (x : Command). ChangesAtClear x (g.D.Disk.state c.args.disk.now) (g.D.Disk.state c.resume.new.disk)) (sym (ap command_of c.in-Resume.is)) (c.resume.ensures.at_clear told)
+
+-- ---- the order of a clearing
+
+pub returns-in-Clear-clause-ordered : goal.returns-in-Clear-clause-ordered
+returns-in-Clear-clause-ordered g c =
+    subst (λ (x : Command). IfSome (origin_cleared x (standing (g.D.Disk.state c.args.disk.now) Clear)) (λ origin. IsTrue g.D.Disk.tells → ClearsInOrder origin (g.D.Disk.state c.args.disk.now) (g.D.Disk.state c.clear.new.disk)))
+    (sym (ap command_of c.in-Clear.is)) c.clear.ensures.ordered
+
+pub returns-in-Resume-clause-ordered : goal.returns-in-Resume-clause-ordered
+returns-in-Resume-clause-ordered g c =
+    subst (λ (x : Command). IfSome (origin_cleared x (standing (g.D.Disk.state c.args.disk.now) Clear)) (λ origin. IsTrue g.D.Disk.tells → ClearsInOrder origin (g.D.Disk.state c.args.disk.now) (g.D.Disk.state c.resume.new.disk)))
+    (sym (ap command_of c.in-Resume.is)) c.resume.ensures.ordered
+
+-- ---- chunks, files and records
+
+pub returns-in-PutAlt-clause-alt_chunks : goal.returns-in-PutAlt-clause-alt_chunks
+returns-in-PutAlt-clause-alt_chunks g c slot kind bytes is =
+    let k = kept c.args.self.now.handles in
+    let after = kept c.put_alt-answer.new.self in
+    subst (λ (s : ℕ). IfOk c.learn_of-in-PutAlt.result (λ a. PutsChunks (outcome_in a) s k after)) (ap slot_put (sym (ap command_of c.in-PutAlt.is) ∙ is))
+    (puts_chunks c.put_alt-answer.result c.learn_of-in-PutAlt.result c.in-PutAlt.slot k after c.put_alt-answer.ensures.chunks c.put_alt-answer.ensures.other_chunks c.learn_of-in-PutAlt.ensures.went)
+
+pub returns-in-Doom-clause-unfinished : goal.returns-in-Doom-clause-unfinished
+returns-in-Doom-clause-unfinished g c key place number is there =
+    let same : c.in-Doom.key.now ≡ key = ap key_doomed (sym (ap command_of c.in-Doom.is) ∙ is) in
+    (c.doom-answer.ensures.unmoved place number (subst (λ (k : List ℕ). IsUnfinishedFor (kept c.args.self.now.handles) k place number) (sym same) there)).0
+
+pub returns-in-At-clause-records : goal.returns-in-At-clause-records
+returns-in-At-clause-records g c =
+    λ told. subst (λ (x : Command). KeepsRecords x (entries_on (g.D.Disk.state c.args.disk.now)) c.args.self.now.index c.args.self.now.index) (sym (ap command_of c.in-At.is)) refl
+
+pub returns-in-OpenKey-clause-records : goal.returns-in-OpenKey-clause-records
+returns-in-OpenKey-clause-records g c =
+    when_ok c.answer_of.result _ (λ told. subst (λ (x : Command). KeepsRecords x (entries_on (g.D.Disk.state c.args.disk.now)) c.args.self.now.index c.args.self.now.index) (sym (ap command_of c.in-OpenKey.is)) refl)
+
+pub returns-in-Element-clause-records : goal.returns-in-Element-clause-records
+returns-in-Element-clause-records g c =
+    when_ok c.say_element.result _ (λ told. subst (λ (x : Command). KeepsRecords x (entries_on (g.D.Disk.state c.args.disk.now)) c.args.self.now.index c.say_element.new.self.index) (sym (ap command_of c.in-Element.is)) (ap (λ (o : Open). o.index) c.say_element.ensures.open))
+
+pub returns-in-ReadPart-clause-records : goal.returns-in-ReadPart-clause-records
+returns-in-ReadPart-clause-records g c =
+    when_ok c.say_read.result _ (λ told. subst (λ (x : Command). KeepsRecords x (entries_on (g.D.Disk.state c.args.disk.now)) c.args.self.now.index c.say_read.new.self.index) (sym (ap command_of c.in-ReadPart.is)) (ap (λ (o : Open). o.index) c.say_read.ensures.open))
+
+pub returns-in-Get-clause-records : goal.returns-in-Get-clause-records
+returns-in-Get-clause-records g c =
+    when_ok c.say_shown.result _ (λ told. subst (λ (x : Command). KeepsRecords x (entries_on (g.D.Disk.state c.args.disk.now)) c.args.self.now.index c.say_shown.new.self.index) (sym (ap command_of c.in-Get.is)) (ap (λ (o : Open). o.index) c.say_shown.ensures.open))
+
+pub returns-in-GetAlt-clause-records : goal.returns-in-GetAlt-clause-records
+returns-in-GetAlt-clause-records g c =
+    when_ok c.say_shown-in-GetAlt.result _ (λ told. subst (λ (x : Command). KeepsRecords x (entries_on (g.D.Disk.state c.args.disk.now)) c.args.self.now.index c.say_shown-in-GetAlt.new.self.index) (sym (ap command_of c.in-GetAlt.is)) (ap (λ (o : Open). o.index) c.say_shown-in-GetAlt.ensures.open))
+
+pub returns-in-MainBody-clause-records : goal.returns-in-MainBody-clause-records
+returns-in-MainBody-clause-records g c =
+    when_ok c.say_shown-in-MainBody.result _ (λ told. subst (λ (x : Command). KeepsRecords x (entries_on (g.D.Disk.state c.args.disk.now)) c.args.self.now.index c.say_shown-in-MainBody.new.self.index) (sym (ap command_of c.in-MainBody.is)) (ap (λ (o : Open). o.index) c.say_shown-in-MainBody.ensures.open))
+
+pub returns-in-Has-clause-records : goal.returns-in-Has-clause-records
+returns-in-Has-clause-records g c =
+    λ told. subst (λ (x : Command). KeepsRecords x (entries_on (g.D.Disk.state c.args.disk.now)) c.args.self.now.index c.args.self.now.index) (sym (ap command_of c.in-Has.is)) refl
+
+pub returns-in-State-clause-records : goal.returns-in-State-clause-records
+returns-in-State-clause-records g c =
+    λ told. subst (λ (x : Command). KeepsRecords x (entries_on (g.D.Disk.state c.args.disk.now)) c.args.self.now.index c.args.self.now.index) (sym (ap command_of c.in-State.is)) refl
+
+pub returns-in-List-clause-records : goal.returns-in-List-clause-records
+returns-in-List-clause-records g c =
+    of_ok c.say_list.result _ _ (λ ended told. subst (λ (x : Command). KeepsRecords x (entries_on (g.D.Disk.state c.args.disk.now)) c.args.self.now.index c.say_list.new.self.index) (sym (ap command_of c.in-List.is)) (ended told)) c.say_list.ensures.ended
+
+pub returns-in-Verify-clause-records : goal.returns-in-Verify-clause-records
+returns-in-Verify-clause-records g c =
+    of_ok c.verify.result _ _ (λ ended told. subst (λ (x : Command). KeepsRecords x (entries_on (g.D.Disk.state c.args.disk.now)) c.args.self.now.index c.verify.new.self.index) (sym (ap command_of c.in-Verify.is)) (ended told)) c.verify.ensures.ended
+
+pub returns-in-Dump-clause-records : goal.returns-in-Dump-clause-records
+returns-in-Dump-clause-records g c =
+    of_ok c.dump.result _ _ (λ ended told. subst (λ (x : Command). KeepsRecords x (entries_on (g.D.Disk.state c.args.disk.now)) c.args.self.now.index c.dump.new.self.index) (sym (ap command_of c.in-Dump.is)) (ended told)) c.dump.ensures.ended

@@ -11,6 +11,7 @@ use Rattle.cache_store.specs.Session.{session}
 use Rattle.cache_store.proofs.Records.IndexAchieves.{fails_sparing, spared_in_same, spares_from, spares_same}
 use Rattle.cache_store.proofs.Records.IndexWrites.{rebuild_achieves, rebuild_outcome, rebuilds, synced_unclean, unclean_from, written_records}
 use Rattle.cache_store.proofs.Performing.Stays.{noted_disk}
+use Rattle.cache_store.proofs.Clearing.ClearPart.{same_keeps, spared_keeps, then_same, then_synced}
 use Rattle.cache_store.proofs.store.Store.rebuild.Goals as goal
 
 pub returns-in-Err-clause-does : goal.returns-in-Err-clause-does
@@ -68,3 +69,17 @@ returns-clause-rebuilds g c = λ told.
         c.in_ok-sync.ensures.state told,
       ),
     )
+
+pub returns-in-Err-clause-at_clear : goal.returns-in-Err-clause-at_clear
+returns-in-Err-clause-at_clear g c = λ told. same_keeps (c.in-Err.ensures.looks.state told)
+
+pub returns-in_err-write_index-clause-at_clear : goal.returns-in_err-write_index-clause-at_clear
+returns-in_err-write_index-clause-at_clear g c = λ told. spared_keeps (g.D.Disk.state c.args.disk.now) (g.D.Disk.state c.write_index.new.disk) (spares_from _ _ _ (c.in-Ok.ensures.looks.state told) (c.in_err-write_index.ensures.entries told) (c.requires.told told).1.matches.holds.apart)
+
+pub returns-in_err-sync-clause-at_clear : goal.returns-in_err-sync-clause-at_clear
+returns-in_err-sync-clause-at_clear g c = λ told.
+    then_same (g.D.Disk.state c.args.disk.now) (g.D.Disk.state c.write_index.new.disk) (g.D.Disk.state c.sync.new.self) (spared_keeps (g.D.Disk.state c.args.disk.now) (g.D.Disk.state c.write_index.new.disk) (spares_from _ _ _ (c.in-Ok.ensures.looks.state told) (c.in_ok-write_index.ensures.entries told) (c.requires.told told).1.matches.holds.apart)) (c.in_err-sync.ensures.state told)
+
+pub returns-clause-at_clear : goal.returns-clause-at_clear
+returns-clause-at_clear g c = λ told.
+    then_synced (g.D.Disk.state c.args.disk.now) (g.D.Disk.state c.write_index.new.disk) (g.D.Disk.state c.sync.new.self) (spared_keeps (g.D.Disk.state c.args.disk.now) (g.D.Disk.state c.write_index.new.disk) (spares_from _ _ _ (c.in-Ok.ensures.looks.state told) (c.in_ok-write_index.ensures.entries told) (c.requires.told told).1.matches.holds.apart)) (c.in_ok-sync.ensures.state told)

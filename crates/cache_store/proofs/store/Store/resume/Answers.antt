@@ -1,4 +1,4 @@
-use Rattle.std.proofs.Common.{◌≡◌, ◌∙◌, ap, not, subst, sym}
+use Rattle.std.proofs.Common.{◌∙◌, ap, not, subst, sym}
 use Rattle.cache_store.specs.Clearing.{LeavesResumed}
 use Rattle.cache_store.specs.Session.{session}
 use Rattle.cache_store.specs.StoppedClearing.{ClearsUnderMark}
@@ -10,6 +10,8 @@ use Rattle.context_clear.specs.Mark.{mark_of}
 use Rattle.disk_model.specs.State.{standing}
 use Rattle.disk_model.specs.declared.place.Place.TheVariants.{Clear}
 use Rattle.file_handles.specs.Kept.{kept}
+use Rattle.cache_store.specs.AtClear.{ClearsAt, ClearsInOrder}
+use Rattle.cache_store.proofs.Clearing.ClearPart.{clears_from, none_at, none_in_order, of_unmarked, ordered_from, removed_at}
 use Rattle.cache_store.proofs.store.Store.resume.Goals as goal
 
 -- ---- a look failed, or no file stands
@@ -168,3 +170,59 @@ pub returns-in_err-end-in-None-clause-looks_first : goal.returns-in_err-end-in-N
 returns-in_err-end-in-None-clause-looks_first g c =
     changed_last g.D.Disk _ c.args.disk.now c.end.new.disk
     (change_handed g.D.Disk c.from_residual-in_err-end-in-None.result c.in_err-end-in-None.field-0.0 c.end.new.disk c.from_residual-in_err-end-in-None.ensures.1 c.in_err-end-in-None.ensures.change)
+
+-- ---- the changes in their order, and what they leave at `clear`
+
+pub returns-in_err-size-clause-ordered : goal.returns-in_err-size-clause-ordered
+returns-in_err-size-clause-ordered g c = of_each (mark_of (standing (g.D.Disk.state c.args.disk.now) Clear)) (λ origin told. none_in_order origin (g.D.Disk.state c.args.disk.now) (g.D.Disk.state c.size.new.self) (c.size.ensures.state told))
+
+pub returns-in_err-size-clause-at_clear : goal.returns-in_err-size-clause-at_clear
+returns-in_err-size-clause-at_clear g c = λ told. none_at (mark_of (standing (g.D.Disk.state c.args.disk.now) Clear)) (g.D.Disk.state c.args.disk.now) (g.D.Disk.state c.size.new.self) (c.size.ensures.state told)
+
+pub returns-then-is_none-clause-ordered : goal.returns-then-is_none-clause-ordered
+returns-then-is_none-clause-ordered g c = of_each (mark_of (standing (g.D.Disk.state c.args.disk.now) Clear)) (λ origin told. none_in_order origin (g.D.Disk.state c.args.disk.now) (g.D.Disk.state c.size.new.self) (c.size.ensures.state told))
+
+pub returns-then-is_none-clause-at_clear : goal.returns-then-is_none-clause-at_clear
+returns-then-is_none-clause-at_clear g c = λ told. none_at (mark_of (standing (g.D.Disk.state c.args.disk.now) Clear)) (g.D.Disk.state c.args.disk.now) (g.D.Disk.state c.size.new.self) (c.size.ensures.state told)
+
+pub returns-in_err-origin-clause-ordered : goal.returns-in_err-origin-clause-ordered
+returns-in_err-origin-clause-ordered g c = of_each (mark_of (standing (g.D.Disk.state c.args.disk.now) Clear)) (λ origin told. none_in_order origin (g.D.Disk.state c.args.disk.now) (g.D.Disk.state c.stored.new.disk) (c.stored.ensures.looks.state told ∙ c.size.ensures.state told))
+
+pub returns-in_err-origin-clause-at_clear : goal.returns-in_err-origin-clause-at_clear
+returns-in_err-origin-clause-at_clear g c = λ told. none_at (mark_of (standing (g.D.Disk.state c.args.disk.now) Clear)) (g.D.Disk.state c.args.disk.now) (g.D.Disk.state c.stored.new.disk) (c.stored.ensures.looks.state told ∙ c.size.ensures.state told)
+
+pub returns-in_err-cleared-in-Some-clause-ordered : goal.returns-in_err-cleared-in-Some-clause-ordered
+returns-in_err-cleared-in-Some-clause-ordered g c =
+    of_marked (mark_of (standing (g.D.Disk.state c.args.disk.now) Clear)) c.in-Some.origin _ (λ origin. ClearsInOrder origin (g.D.Disk.state c.args.disk.now) (g.D.Disk.state c.clear_origin-cleared.new.disk))
+    (λ told. found_mark (kept c.args.self.now.handles) c.args.self.now.moment (g.D.Disk.state c.args.disk.now) (g.D.Disk.state c.size.new.self) c.args.self.now.index (c.size.ensures.state told) c.in_ok-origin.field-0 _ (c.in_ok-origin.ensures.origin told) c.in-Some.is)
+    (λ told. ordered_from c.in-Some.origin (g.D.Disk.state c.args.disk.now) (g.D.Disk.state c.stored.new.disk) (g.D.Disk.state c.clear_origin-cleared.new.disk) (c.stored.ensures.looks.state told ∙ c.size.ensures.state told) (c.clear_origin-cleared.ensures.ordered told))
+
+pub returns-in_err-cleared-in-Some-clause-at_clear : goal.returns-in_err-cleared-in-Some-clause-at_clear
+returns-in_err-cleared-in-Some-clause-at_clear g c = λ told.
+    subst (λ mark. ClearsAt mark (g.D.Disk.state c.args.disk.now) (g.D.Disk.state c.clear_origin-cleared.new.disk)) (sym (found_mark (kept c.args.self.now.handles) c.args.self.now.moment (g.D.Disk.state c.args.disk.now) (g.D.Disk.state c.size.new.self) c.args.self.now.index (c.size.ensures.state told) c.in_ok-origin.field-0 _ (c.in_ok-origin.ensures.origin told) c.in-Some.is))
+    (clears_from c.in-Some.origin (g.D.Disk.state c.args.disk.now) (g.D.Disk.state c.stored.new.disk) (g.D.Disk.state c.clear_origin-cleared.new.disk) (c.stored.ensures.looks.state told ∙ c.size.ensures.state told) (c.clear_origin-cleared.ensures.at_clear told))
+
+pub returns-in_ok-cleared-in-Some-clause-ordered : goal.returns-in_ok-cleared-in-Some-clause-ordered
+returns-in_ok-cleared-in-Some-clause-ordered g c =
+    of_marked (mark_of (standing (g.D.Disk.state c.args.disk.now) Clear)) c.in-Some.origin _ (λ origin. ClearsInOrder origin (g.D.Disk.state c.args.disk.now) (g.D.Disk.state c.clear_origin-cleared.new.disk))
+    (λ told. found_mark (kept c.args.self.now.handles) c.args.self.now.moment (g.D.Disk.state c.args.disk.now) (g.D.Disk.state c.size.new.self) c.args.self.now.index (c.size.ensures.state told) c.in_ok-origin.field-0 _ (c.in_ok-origin.ensures.origin told) c.in-Some.is)
+    (λ told. ordered_from c.in-Some.origin (g.D.Disk.state c.args.disk.now) (g.D.Disk.state c.stored.new.disk) (g.D.Disk.state c.clear_origin-cleared.new.disk) (c.stored.ensures.looks.state told ∙ c.size.ensures.state told) (c.clear_origin-cleared.ensures.ordered told))
+
+pub returns-in_ok-cleared-in-Some-clause-at_clear : goal.returns-in_ok-cleared-in-Some-clause-at_clear
+returns-in_ok-cleared-in-Some-clause-at_clear g c = λ told.
+    subst (λ mark. ClearsAt mark (g.D.Disk.state c.args.disk.now) (g.D.Disk.state c.clear_origin-cleared.new.disk)) (sym (found_mark (kept c.args.self.now.handles) c.args.self.now.moment (g.D.Disk.state c.args.disk.now) (g.D.Disk.state c.size.new.self) c.args.self.now.index (c.size.ensures.state told) c.in_ok-origin.field-0 _ (c.in_ok-origin.ensures.origin told) c.in-Some.is))
+    (clears_from c.in-Some.origin (g.D.Disk.state c.args.disk.now) (g.D.Disk.state c.stored.new.disk) (g.D.Disk.state c.clear_origin-cleared.new.disk) (c.stored.ensures.looks.state told ∙ c.size.ensures.state told) (c.clear_origin-cleared.ensures.at_clear told))
+
+pub returns-in_err-end-in-None-clause-ordered : goal.returns-in_err-end-in-None-clause-ordered
+returns-in_err-end-in-None-clause-ordered g c =
+    of_unmarked (mark_of (standing (g.D.Disk.state c.args.disk.now) Clear)) _ (λ origin. ClearsInOrder origin (g.D.Disk.state c.args.disk.now) (g.D.Disk.state c.end.new.disk)) (λ told. found_mark (kept c.args.self.now.handles) c.args.self.now.moment (g.D.Disk.state c.args.disk.now) (g.D.Disk.state c.size.new.self) c.args.self.now.index (c.size.ensures.state told) c.in_ok-origin.field-0 _ (c.in_ok-origin.ensures.origin told) c.in-None.is)
+
+pub returns-in_err-end-in-None-clause-at_clear : goal.returns-in_err-end-in-None-clause-at_clear
+returns-in_err-end-in-None-clause-at_clear g c = λ told. removed_at (mark_of (standing (g.D.Disk.state c.args.disk.now) Clear)) (g.D.Disk.state c.args.disk.now) (g.D.Disk.state c.stored.new.disk) (g.D.Disk.state c.end.new.disk) (c.stored.ensures.looks.state told ∙ c.size.ensures.state told) (c.end.ensures.amid told)
+
+pub returns-in_ok-end-in-None-clause-ordered : goal.returns-in_ok-end-in-None-clause-ordered
+returns-in_ok-end-in-None-clause-ordered g c =
+    of_unmarked (mark_of (standing (g.D.Disk.state c.args.disk.now) Clear)) _ (λ origin. ClearsInOrder origin (g.D.Disk.state c.args.disk.now) (g.D.Disk.state c.end.new.disk)) (λ told. found_mark (kept c.args.self.now.handles) c.args.self.now.moment (g.D.Disk.state c.args.disk.now) (g.D.Disk.state c.size.new.self) c.args.self.now.index (c.size.ensures.state told) c.in_ok-origin.field-0 _ (c.in_ok-origin.ensures.origin told) c.in-None.is)
+
+pub returns-in_ok-end-in-None-clause-at_clear : goal.returns-in_ok-end-in-None-clause-at_clear
+returns-in_ok-end-in-None-clause-at_clear g c = λ told. removed_at (mark_of (standing (g.D.Disk.state c.args.disk.now) Clear)) (g.D.Disk.state c.args.disk.now) (g.D.Disk.state c.stored.new.disk) (g.D.Disk.state c.end.new.disk) (c.stored.ensures.looks.state told ∙ c.size.ensures.state told) (c.end.ensures.amid told)
