@@ -16,7 +16,7 @@ all_by : (P : Command → Type 0) (left_out : Bool) (c : Command) (cs : List Com
 all_by P true c cs one all = all
 all_by P false c cs one all = (one, all)
 
-all_kept : (P : Command → Type 0) (faults : List ℕ) (n b : ℕ) (cs : List Command) → AllByRecursion P cs → AllByRecursion P (unfaulted_from n faults (take b cs))
+pub all_kept : (P : Command → Type 0) (faults : List ℕ) (n b : ℕ) (cs : List Command) → AllByRecursion P cs → AllByRecursion P (unfaulted_from n faults (take b cs))
 all_kept P faults n zero cs all = tt
 all_kept P faults n (suc b) [] all = tt
 all_kept P faults n (suc b) (c ∷ cs) all = all_by P (is_faulted faults n) c (unfaulted_from (suc n) faults (take b cs)) all.0 (all_kept P faults (suc n) b cs all.1)
@@ -26,7 +26,7 @@ more_by true c cs ds more = more
 more_by false c cs ds more = omega (arith, more)
 
 -- more commands, and no fewer are kept
-more_kept : (faults : List ℕ) (n a b : ℕ) (cs : List Command) → min a (length cs) ≤ b → length (unfaulted_from n faults (take a cs)) ≤ length (unfaulted_from n faults (take b cs))
+pub more_kept : (faults : List ℕ) (n a b : ℕ) (cs : List Command) → min a (length cs) ≤ b → length (unfaulted_from n faults (take a cs)) ≤ length (unfaulted_from n faults (take b cs))
 more_kept faults n zero b cs within = omega arith
 more_kept faults n (suc a) b [] within = none b
   where

@@ -38,7 +38,7 @@ use Rattle.index_theory.specs.declared.kinds.Start.TheVariants.{Ready}
 -- ---- for one command
 
 -- a clearing that is resumed may go by more records
-resumed_where : (Holds Others : List IndexRecord → Type 0) → ((records : List IndexRecord) → Holds records → Others records) → (mark : Option ℕ) (m : Machine) (d : Command) → IsResumedBy Holds mark m d → IsResumedBy Others mark m d
+pub resumed_where : (Holds Others : List IndexRecord → Type 0) → ((records : List IndexRecord) → Holds records → Others records) → (mark : Option ℕ) (m : Machine) (d : Command) → IsResumedBy Holds mark m d → IsResumedBy Others mark m d
 resumed_where Holds Others so None m d is = is
 resumed_where Holds Others so (Some origin) m d is = (is.0, (is.1.0, so is.0 is.1.1))
 

@@ -25,4 +25,5 @@ pub mod Scripts
 pub mod SessionEnds
 pub mod StatusLaws
 pub mod StayingLaws
+pub mod Stops
 pub mod WordsTable

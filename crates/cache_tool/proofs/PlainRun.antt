@@ -72,7 +72,7 @@ left_more s image m c w left = go (first_failing (checks m c))
     go None = left_later w (touches m c) (put_out w (effect m c).next (rewritten m c)) (unburied_name w m (rewritten_in_place m c)) s image left
     go (Some r) = left
 
-crash_more : (s : State) (m : Machine) (cs : List Command) (w : Marks) → IsCrashSafe s w → IsCrashSafe s (all_begun m cs w)
+pub crash_more : (s : State) (m : Machine) (cs : List Command) (w : Marks) → IsCrashSafe s w → IsCrashSafe s (all_begun m cs w)
 crash_more s m [] w safe = safe
 crash_more s m (c ∷ cs) w safe = crash_more s (step m c).next cs (begun m c w) (λ image is. left_more s image m c w (safe image is))
 

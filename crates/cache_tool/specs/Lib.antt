@@ -24,6 +24,7 @@ pub mod ScriptProgress
 pub mod Statuses
 pub mod Staying
 pub mod Tally
+pub mod Theorem
 pub mod Verbs
 pub mod Words
 pub mod World

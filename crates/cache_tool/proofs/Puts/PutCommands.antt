@@ -27,10 +27,10 @@ unanswered-append [] ds h = refl
 unanswered-append (c ∷ cs) ds h = unanswered-append cs ds (unanswered c h)
 
 -- after a command that is done the others follow, and after one that is not none does
-until_done : (m : Machine) (c : Command) (cs : List Command) → is_done (step m c).reply ≡ true → until_refused m (c ∷ cs) ≡ c ∷ until_refused (step m c).next cs
+pub until_done : (m : Machine) (c : Command) (cs : List Command) → is_done (step m c).reply ≡ true → until_refused m (c ∷ cs) ≡ c ∷ until_refused (step m c).next cs
 until_done m c cs done = ap (λ b. c ∷ cond b (until_refused (step m c).next cs) []) done
 
-until_not : (m : Machine) (c : Command) (cs : List Command) → is_done (step m c).reply ≡ false → until_refused m (c ∷ cs) ≡ c ∷ []
+pub until_not : (m : Machine) (c : Command) (cs : List Command) → is_done (step m c).reply ≡ false → until_refused m (c ∷ cs) ≡ c ∷ []
 until_not m c cs not_done = ap (λ b. c ∷ cond b (until_refused (step m c).next cs) []) not_done
 
 until_one : (m : Machine) (c : Command) → until_refused m (c ∷ []) ≡ c ∷ []

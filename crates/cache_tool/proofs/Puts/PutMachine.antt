@@ -63,11 +63,11 @@ passes m c = go (first_failing (checks m c))
     go (Some r) done = absurd (cc)
 
 -- and the machine does what the command says
-does : (m : Machine) (c : Command) → is_done (step m c).reply ≡ true → (step m c).next ≡ (effect m c).next
+pub does : (m : Machine) (c : Command) → is_done (step m c).reply ≡ true → (step m c).next ≡ (effect m c).next
 does m c done = ap (λ r. (stepped m c r).next) (passes m c done)
 
 -- the reply to such a command is `ok`, or it is refused
-done_by : (m : Machine) (c : Command) → IsPlain c → outcome_of (step m c).reply ≡ outcome.Ok → is_done (step m c).reply ≡ true
+pub done_by : (m : Machine) (c : Command) → IsPlain c → outcome_of (step m c).reply ≡ outcome.Ok → is_done (step m c).reply ≡ true
 done_by m c plain = go (first_failing (checks m c))
   where
     go : (r : Option Refusal) → outcome_of (stepped m c r).reply ≡ outcome.Ok → is_done (stepped m c r).reply ≡ true

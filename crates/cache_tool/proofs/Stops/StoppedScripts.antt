@@ -1,0 +1,140 @@
+-- Wherever a script stopped, a crash leaves what the marks of its own commands allow.
+use Rattle.std.proofs.Common.{◌≡◌, inl, inr, ℕ, ◌+◌, ◌<◌, ◌^◌, ◌≤◌, List, [], ◌∷◌, length, take, Option, Some, None, refl, sym, ap, subst, ◌∙◌, arith}
+use Rattle.std.specs.List.{AllByRecursion}
+use Rattle.std.specs.Prelude.{IfSome, IsSome, IsSomeAnd, min}
+use Rattle.std.specs.Io.KnownBytes.{Appends, Keeps}
+use Rattle.std.proofs.lemmas.List.{append_cancel_left, append-nil}
+use Rattle.cache_base.specs.declared.status.Status.TheVariants as status
+use Rattle.cache_store.specs.DoneFor.{AreOfShelf, IsResumedBy}
+use Rattle.cache_store.specs.Open.{StartsOn}
+use Rattle.cache_theory.specs.Command.{Command}
+use Rattle.cache_theory.specs.Command.Command.{Resume}
+use Rattle.cache_theory.specs.Crash.{IsCrashSafe}
+use Rattle.cache_theory.specs.Faulted.{Faulted, faulted, unfaulted}
+use Rattle.cache_theory.specs.Given.{IsGiven}
+use Rattle.cache_theory.specs.Machine.{Machine, opened}
+use Rattle.cache_theory.specs.Marks.{Marks, acked as acked_marks, marks_of}
+use Rattle.cache_theory.specs.Proper.{IsProper, OpensProper}
+use Rattle.cache_theory.specs.Session.{marks_between}
+use Rattle.cache_theory.specs.Step.{step}
+use Rattle.cache_theory.specs.Text.{CommandsIn, IsCommand}
+use Rattle.cache_theory.proofs.Faults.FaultedTold.{faulted_is_told}
+use Rattle.cache_script.proofs.ReaderLaws.{is_given}
+use Rattle.cache_tool.specs.Beginning.{AreAtOpening}
+use Rattle.cache_tool.specs.SameAsScript.{acked_in, begun_in}
+use Rattle.cache_tool.specs.Theorem.{ScriptCall, acked, told}
+use Rattle.cache_tool.specs.Verbs.{HasNotBegun, PrintsReplies}
+use Rattle.cache_tool.specs.World.{World, output_of}
+use Rattle.cache_tool.proofs.ClearedInRun.{more_kept}
+use Rattle.cache_tool.proofs.DoneLaws.{resumed_where, script_is_spoken}
+use Rattle.cache_tool.proofs.PlainRun.{crash_more, run_says_plainly}
+use Rattle.cache_tool.proofs.SameLaws.{done_is_same, run_is_of_script}
+use Rattle.cache_tool.proofs.Stops.ToldScripts.{told_of_script}
+use Rattle.context_clear.specs.Mark.{mark_of}
+use Rattle.disk_model.specs.State.{State, standing}
+use Rattle.index_theory.specs.Honest.{Honest}
+
+-- ---- the machine at an opening, and the commands of a script
+
+opens_proper : OpensProper
+opens_proper now shelf mark rest small table bytes = record {
+  moment = small;
+  shelf = table;
+  users = record { rising = tt };
+  contents = bytes;
+  objects = λ i o at. absurd (cc);
+  slots = λ s slot at. absurd (cc);
+  user = λ name i at. absurd (cc);
+  only_user = λ name i user. absurd (let none = user.in_use.number in omega (arith, none));
+  stored = λ name i at finished. absurd (cc);
+  unstored = λ name i at unfinished. absurd (cc);
+  writer = λ i in_use unfinished. absurd (let none = in_use.number in omega (arith, none));
+}
+
+pub starts_proper : (now : ℕ) (s : State) (m : Machine) → now < 2 ^ 32 → StartsOn now s m → IsProper m
+starts_proper now s m small starts =
+    subst IsProper (sym starts.is_opened) (opens_proper now starts.shelf (standing s _) _ small starts.is_shelf.table starts.is_shelf.bytes)
+
+pub all_given : (cs : List Command) → AllByRecursion IsCommand cs → AllByRecursion IsGiven cs
+all_given [] are = tt
+all_given (c ∷ cs) are = (is_given c are.0.fields, all_given cs are.1)
+
+-- ---- what a caller has
+
+-- what was printed is one
+pub out_is_one : (was is : Option (List ℕ)) (a b : List ℕ) → IsSome was → Appends was is a → Appends was is b → a ≡ b
+out_is_one None is a b some first second = absurd (cc)
+out_is_one (Some xs) None a b some first second = absurd first
+out_is_one (Some xs) (Some ys) a b some first second = append_cancel_left xs a b (sym first ∙ second)
+
+none_out : (was is : Option (List ℕ)) (a : List ℕ) → IsSome was → Appends was is a → Keeps was is → a ≡ []
+none_out None is a some first keeps = absurd (cc)
+none_out (Some xs) None a some first keeps = absurd first
+none_out (Some xs) (Some ys) a some first keeps = append_cancel_left xs a [] (sym first ∙ keeps ∙ sym (append-nil xs))
+
+-- the bytes of the source, and what the clause says of them
+pub of_source : (o : Option (List ℕ)) (P Q : List ℕ → Type 0) → IfSome o P → IsSomeAnd o Q → (bytes : List ℕ) × (P bytes × Q bytes)
+of_source None P Q all some = absurd some
+of_source (Some bytes) P Q all some = (bytes, (all, some))
+
+-- ---- the marks
+
+-- the marks of the script's own commands, where so many are answered, and these by `fault`
+abbrev marks_told : Machine → List Command → Faulted → Marks
+marks_told m cs t = marks_between m (begun_in cs t.faults t.answered) (acked_in cs t.faults t.answered) (length (begun_in cs t.faults t.answered))
+
+pub acked_within : (cs : List Command) (t : Faulted) → acked_in cs t.faults t.answered ≤ length (begun_in cs t.faults t.answered)
+acked_within cs t = let more = more_kept t.faults 1 t.answered (min (t.answered + 1) (length cs)) cs (omega arith) in omega (arith, more)
+
+module _ (m : Machine) (cs : List Command) (out : List ℕ) (before now : World) (script : ScriptCall m cs out before now) where
+  abbrev honest : Honest (standing before.disk)
+  honest = script.clean.honest
+
+  -- the run did not begin
+  module _ (none : out ≡ []) (commands : AllByRecursion IsCommand cs) where
+    none_told : told m cs out ≡ record { answered = 0; faults = [] }
+    none_told =
+        ap (faulted (step m Resume).next cs) none
+        ∙ faulted_is_told (step m Resume).next cs 0 [] [] (script_is_spoken cs commands) (omega arith) tt (λ c at. inl refl)
+
+    -- more may have begun
+    abbrev next : List Command
+    next = unfaulted [] (take (min 1 (length cs)) cs)
+
+    unbegun : HasNotBegun m script.ended (output_of before) (output_of now) → IsCrashSafe now.disk (marks_told m cs (record { answered = 0; faults = [] }))
+    unbegun failed = elim failed.leaves [
+      | inl leaves ↦ crash_more now.disk m (Resume ∷ take (length next) next) (marks_of m) (leaves.crash script.clean.quiet)
+      | inr first ↦
+          let d : Command = first.0 in
+          let are = resumed_where (AreAtOpening before.disk m) (AreOfShelf (Honest (standing before.disk)) m) (λ records at. at.honest) (mark_of m.mark) m d first.1.0 in
+          let same = (done_is_same before.disk m (Resume ∷ []) (d ∷ []) honest (are, tt)).marks 1 1 in
+          crash_more now.disk (step m Resume).next (take (length next) next) (acked_marks m Resume (marks_of m)) (subst (IsCrashSafe now.disk) same (first.1.1.crash script.clean.quiet))
+    ]
+
+  -- it began
+  begun_marks : (bytes : List ℕ) (d : Command) → IsResumedBy (AreAtOpening before.disk m) (mark_of m.mark) m d
+      → (run : PrintsReplies m d bytes cs script.ended before now) → IsCrashSafe now.disk (marks_told m cs (record { answered = run.acked; faults = run.faults }))
+  begun_marks bytes d resumed run =
+      let plain = run_says_plainly m d bytes cs script.ended before now run in
+      subst (IsCrashSafe now.disk) (run_is_of_script before.disk m d cs plain.done run.faults honest resumed plain.as_many plain.are_done status.Done run.acked).marks (plain.crash script.clean.quiet)
+
+  pub stopped_marks : IsCrashSafe now.disk (marks_told m cs (told m cs out))
+  stopped_marks =
+      let came = of_source before.source.left _ (λ bytes. CommandsIn bytes cs) script.clean.call.performs script.spelled in
+      let commands = came.1.1.front.commands in
+      elim (came.1.0 m cs script.clean.call.opened came.1.1) [
+        | inl ran ↦
+            let run = ran.1.1 in
+            let same : out ≡ run.replies.out = out_is_one before.taken now.taken out run.replies.out script.sink script.printed run.replies.printed in
+            let told_is = ap (faulted (step m Resume).next cs) same ∙ told_of_script m ran.0 came.0 cs script.ended before now run honest ran.1.0 (script_is_spoken cs commands) in
+            subst (λ t. IsCrashSafe now.disk (marks_told m cs t)) (sym told_is) (begun_marks came.0 ran.0 ran.1.0 run)
+        | inr failed ↦
+            let none = none_out before.taken now.taken out script.sink script.printed failed.0.silent in
+            subst (λ t. IsCrashSafe now.disk (marks_told m cs t)) (sym (none_told none commands)) (unbegun none commands failed.0)
+      ]
+
+  pub script_proper : IsProper m
+  script_proper = starts_proper script.moment before.disk m script.clean.call.small script.clean.call.opened
+
+  pub script_commands : AllByRecursion IsCommand cs
+  script_commands = (of_source before.source.left _ (λ bytes. CommandsIn bytes cs) script.clean.call.performs script.spelled).1.1.front.commands
