@@ -1,5 +1,6 @@
 pub mod PutFiled
 pub mod PutGot
+pub mod PutOnly
 pub mod RunLeaves
 pub mod ShutScripts
 pub mod StoppedLaws

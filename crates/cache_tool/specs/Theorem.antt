@@ -1,6 +1,7 @@
--- The theorem on one page: six laws. Each goes by what `run` ensures by its clause `performs`, and by nothing else of it.
+-- The theorem on one page: six laws, and one of a `put` that stops. Each goes by what `run` ensures by its clause
+-- `performs`, and by nothing else of it.
 use Rattle.std.specs.Io.KnownBytes.{Appends}
-use Rattle.std.specs.Prelude.{IsSome, IsSomeAnd, List, None, Some, [], length, suc, false, true, ℕ, ◌<◌, ◌≡◌, ◌^◌, ◌⊎◌}
+use Rattle.std.specs.Prelude.{IfSome, IsSome, IsSomeAnd, List, None, Some, [], length, suc, false, true, ℕ, ◌<◌, ◌≡◌, ◌^◌, ◌⊎◌}
 use Rattle.cache_base.specs.Bytes.{AreBytes}
 use Rattle.cache_base.specs.declared.status.Status.{Status}
 use Rattle.cache_base.specs.declared.status.Status.TheVariants as status
@@ -215,3 +216,25 @@ PutIsGot = (key body : List ℕ) (ended : Status) (w x y z : World)
     → PutThenGet key body ended w x y z → IsAnswer ended
     → (ended ≡ status.Done) × ((v : Version) × ((v.key ≡ key) × ((v.body ≡ body)
     × Appends y.taken z.taken (version_text v))))
+
+-- a `put` of this body stopped at any point, and a crash left these files; nothing was pending before, and no clearing
+-- was left to be done
+pub record StoppedPut (key body : List ℕ) (image : Files) (w x : World) : Type 0 where
+  pub now : ℕ
+  pub ended : Status
+  pub opens : Machine
+  pub call : Call (Asked.Put now key) opens ended w x
+  pub given : w.source.left ≡ Some body
+  pub bytes : AreBytes key × AreBytes body
+  pub quiet : IsQuiet w.disk
+  pub unmarked : mark_of (standing w.disk Clear) ≡ None
+  pub left : IsImage x.disk image
+
+-- And a `put` that stops leaves each key as it was, but for its own: that may be gone, or have the whole body.
+abbrev pub PutIsAllOrNothing : Type 0
+PutIsAllOrNothing = (key body : List ℕ) (image : Files) (w x : World)
+    → StoppedPut key body image w x
+    → (other : List ℕ) → let was = found (entries (standing w.disk)) other in
+    let is = found (entries image) other in
+    (is ≡ was) ⊎ ((file_name other ≡ file_name key)
+    × IfSome is (λ v. (v.key ≡ key) × (v.body ≡ body)))

@@ -18,6 +18,6 @@ mod words;
 pub use laws::{lies_are_no_faults, words_are_of_table};
 pub use program::run;
 pub use theorem::{
-    cleared_stays_gone, put_is_got, stopped_clearing_is_done, touched_is_gone_or_whole,
-    trusted_index_agrees, untouched_is_intact,
+    cleared_stays_gone, put_is_all_or_nothing, put_is_got, stopped_clearing_is_done,
+    touched_is_gone_or_whole, trusted_index_agrees, untouched_is_intact,
 };

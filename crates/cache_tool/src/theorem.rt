@@ -1,7 +1,7 @@
 //! The theorem on one page: what follows from the contract of `run`, in the words of a reader. Each law goes by the
 //! clause `performs` alone, so a caller of `run` has it in one step.
 
-ghost use Rattle.cache_tool.specs.Theorem.{ClearedStaysGone, PutIsGot, ScriptDoesStoppedClearing, ScriptUpdatesIndex, StoppedClearingIsDone, TouchedIsGoneOrWhole, TrustedIndexIsScan, UntouchedIsIntact, UpdatedIndexIsTrusted};
+ghost use Rattle.cache_tool.specs.Theorem.{ClearedStaysGone, PutIsAllOrNothing, PutIsGot, ScriptDoesStoppedClearing, ScriptUpdatesIndex, StoppedClearingIsDone, TouchedIsGoneOrWhole, TrustedIndexIsScan, UntouchedIsIntact, UpdatedIndexIsTrusted};
 
 /// Wherever a script stopped, an entry that no command touched since the last acknowledged flush or clearing is intact.
 pub fn untouched_is_intact()
@@ -35,4 +35,9 @@ pub fn trusted_index_agrees()
 /// What a `put` that ended with 0 stored is what a later `get` of the key prints, if nothing touched it in between.
 pub fn put_is_got()
     ensures { PutIsGot }
+{}
+
+/// Wherever a `put` stops, its key has nothing, what it had before, or the whole body; and keys of other names are intact.
+pub fn put_is_all_or_nothing()
+    ensures { PutIsAllOrNothing }
 {}

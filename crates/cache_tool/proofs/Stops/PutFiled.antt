@@ -61,16 +61,16 @@ plain_appends (piece ∷ pieces) more plain = (append_is_plain 0 piece, plain_ap
 -- ---- the entry as it is written
 
 -- slot 0 writes an unfinished entry of the key, with this body so far, and no mark of a clearing stands
-record IsDrafted (t : Machine) (key body : List ℕ) : Type 0 where
-  proper : IsProper t
-  writes : is_writer t 0 ≡ true
-  unfinished : (object_of t 0).finished ≡ false
-  undoomed : (object_of t 0).doomed ≡ false
-  key_is : (object_of t 0).version.key ≡ key
-  body_is : (object_of t 0).version.body ≡ body
-  unmarked : t.mark ≡ None
+pub record IsDrafted (t : Machine) (key body : List ℕ) : Type 0 where
+  pub proper : IsProper t
+  pub writes : is_writer t 0 ≡ true
+  pub unfinished : (object_of t 0).finished ≡ false
+  pub undoomed : (object_of t 0).doomed ≡ false
+  pub key_is : (object_of t 0).version.key ≡ key
+  pub body_is : (object_of t 0).version.body ≡ body
+  pub unmarked : t.mark ≡ None
 
-drafted_create : (m : Machine) (key : List ℕ) → IsProper m → AreBytes key → m.mark ≡ None → is_done (step m (Create 0 key)).reply ≡ true → IsDrafted (step m (Create 0 key)).next key []
+pub drafted_create : (m : Machine) (key : List ℕ) → IsProper m → AreBytes key → m.mark ≡ None → is_done (step m (Create 0 key)).reply ≡ true → IsDrafted (step m (Create 0 key)).next key []
 unfolding effect
 drafted_create m key proper bytes unmarked done =
     let d : Machine = doomed_under m (file_name key) in
@@ -92,7 +92,7 @@ module _ (t : Machine) (key body : List ℕ) (w : IsDrafted t key body) where
   within : number_of t 0 < length t.objects
   within = (slot_in_use t w.proper 0 (writer_is_slot t 0 w.writes)).number
 
-  drafted_append : (piece : List ℕ) → AreBytes piece → is_done (step t (Append 0 piece)).reply ≡ true → IsDrafted (step t (Append 0 piece)).next key (body ++ piece)
+  pub drafted_append : (piece : List ℕ) → AreBytes piece → is_done (step t (Append 0 piece)).reply ≡ true → IsDrafted (step t (Append 0 piece)).next key (body ++ piece)
   unfolding effect
   drafted_append piece bytes done =
       let longer : Version → Version = λ v. record v { body = v.body ++ piece } in
@@ -110,7 +110,7 @@ module _ (t : Machine) (key body : List ℕ) (w : IsDrafted t key body) where
         unmarked = w.unmarked;
       })
 
-less_left : (n size long left : ℕ) → 1 ≤ size → left ≡ long - size → long ≤ suc n → left ≤ n
+pub less_left : (n size long left : ℕ) → 1 ≤ size → left ≡ long - size → long ≤ suc n → left ≤ n
 less_left n size long left some is most = omega (arith, some, is, most)
 
 drafted_appends : (size : ℕ) → 1 ≤ size → (n : ℕ) (xs : List ℕ) (t : Machine) (key body : List ℕ) → length xs ≤ n → AreBytes xs → IsDrafted t key body
@@ -141,22 +141,22 @@ pub record IsFiledFor (t : Machine) (key body : List ℕ) : Type 0 where
   pub filed : get t.shelf (file_name key) ≡ Some (file_of version)
   pub unmarked : t.mark ≡ None
 
-module _ (t : Machine) (key body : List ℕ) (w : IsDrafted t key body) (done : is_done (step t (Close 0)).reply ≡ true) where
-  abbrev o : Object
+module _ (t : Machine) (key body : List ℕ) (w : IsDrafted t key body) where
+  abbrev pub o : Object
   o = record (object_of t 0) { finished = true }
 
-  abbrev v : Version
+  abbrev pub v : Version
   v = (object_of t 0).version
 
-  abbrev filed_in : Machine
+  abbrev pub filed_in : Machine
   filed_in = stored t (number_of t 0) o
 
-  abbrev last : Machine
+  abbrev pub last : Machine
   last = released (finished_by t 0) 0
 
-  next_is : (step t (Close 0)).next ≡ last
+  next_is : is_done (step t (Close 0)).reply ≡ true → (step t (Close 0)).next ≡ last
   unfolding effect
-  next_is = does t (Close 0) done
+  next_is done = does t (Close 0) done
 
   finished_is : finished_by t 0 ≡ filed_in
   finished_is = ap (λ b. cond b filed_in t) (λ i. w.writes i && not (w.unfinished i))
@@ -169,7 +169,7 @@ module _ (t : Machine) (key body : List ℕ) (w : IsDrafted t key body) (done : 
       ap (λ (s : Table (List ℕ)). get s (file_name key)) ((is_released (finished_by t 0) 0).shelf ∙ ap (λ (u : Machine). u.shelf) finished_is ∙ shelf_is)
       ∙ get-insert_same t.shelf (file_name v.key) (file_of v) (file_name key) (ap file_name (sym w.key_is))
 
-  object_there : slice_get last.objects (number_of t 0) ≡ Some o
+  pub object_there : slice_get last.objects (number_of t 0) ≡ Some o
   object_there =
       let objects : last.objects ≡ slice_set t.objects (number_of t 0) o = (is_released (finished_by t 0) 0).objects ∙ ap (λ (u : Machine). u.objects) finished_is in
       let there = within t key body w in
@@ -180,17 +180,17 @@ module _ (t : Machine) (key body : List ℕ) (w : IsDrafted t key body) (done : 
   draft : IsDraft v
   draft = (w.proper.objects (number_of t 0) (object_of t 0) (nth_there t.objects (number_of t 0) (within t key body w))).draft w.unfinished
 
-  filed_closed : IsFiledFor (step t (Close 0)).next key body
-  filed_closed =
-      let proper : IsProper last = subst IsProper next_is (stays_proper t (Close 0) (omega arith) w.proper) in
-      subst (λ u. IsFiledFor u key body) (sym next_is) (record {
+  filed_closed : is_done (step t (Close 0)).reply ≡ true → IsFiledFor (step t (Close 0)).next key body
+  filed_closed done =
+      let proper : IsProper last = subst IsProper (next_is done) (stays_proper t (Close 0) (omega arith) w.proper) in
+      subst (λ u. IsFiledFor u key body) (sym (next_is done)) (record {
         version = v;
         is = (proper.objects (number_of t 0) o object_there).version refl;
         key_is = w.key_is;
         body_is = w.body_is;
         may = ap may_write (sym w.key_is) ∙ draft.key;
         filed = filed_there;
-        unmarked = ap (λ (u : Machine). u.mark) (sym next_is) ∙ mark_stays t (Close 0) tt ∙ w.unmarked;
+        unmarked = ap (λ (u : Machine). u.mark) (sym (next_is done)) ∙ mark_stays t (Close 0) tt ∙ w.unmarked;
       })
 
 pub put_is_filed : (m : Machine) (key body : List ℕ) → IsProper m → m.mark ≡ None → AreBytes key → AreBytes body

@@ -82,16 +82,16 @@ ok_of outcome.Ok is = refl
 ok_of outcome.Refused is = absurd (cc)
 
 -- where no mark stands nothing is cleared
-resumed_itself : (Holds : List IndexRecord → Type 0) (o : Option ℕ) (m : Machine) (d : Command) → o ≡ None → IsResumedBy Holds o m d → d ≡ Resume
+pub resumed_itself : (Holds : List IndexRecord → Type 0) (o : Option ℕ) (m : Machine) (d : Command) → o ≡ None → IsResumedBy Holds o m d → d ≡ Resume
 resumed_itself Holds None m d none is = is
 resumed_itself Holds (Some origin) m d none is = absurd (cc)
 
 -- in any case what was done for `Resume` leaves a proper machine, and no mark
-record Resumed (m : Machine) (d : Command) : Type 0 where
-  proper : IsProper (step m d).next
-  unmarked : (step m d).next.mark ≡ None
+pub record Resumed (m : Machine) (d : Command) : Type 0 where
+  pub proper : IsProper (step m d).next
+  pub unmarked : (step m d).next.mark ≡ None
 
-is_resumed : (Holds : List IndexRecord → Type 0) (o : Option ℕ) (m : Machine) (d : Command) → IsProper m → IsResumedBy Holds o m d → Resumed m d
+pub is_resumed : (Holds : List IndexRecord → Type 0) (o : Option ℕ) (m : Machine) (d : Command) → IsProper m → IsResumedBy Holds o m d → Resumed m d
 is_resumed Holds None m d proper is =
     subst (Resumed m) (sym is) (record { proper = stays_proper m Resume tt proper; unmarked = no_mark_is_left m Resume (λ keeps. keeps) })
 is_resumed Holds (Some origin) m d proper is =
