@@ -1,3 +1,4 @@
+pub mod PutClears
 pub mod PutFiled
 pub mod PutGot
 pub mod PutOnly

@@ -161,6 +161,15 @@ ScriptDoesStoppedClearing = (m : Machine) (cs : List Command) (out : List ℕ) (
     → covers origin v.key v.header ≡ true → let done = begun m cs out in
     IsWrittenIn m done 1 (length done) (file_name key) v)
 
+-- And after a `put`, but for the key of the `put`.
+abbrev pub PutDoesStoppedClearing : Type 0
+PutDoesStoppedClearing = (key : List ℕ) (moment : ℕ) (m : Machine) (ended : Status) (before now : World)
+    → CleanCall (Asked.Put moment key) m ended before now → AreBytes key → IsClosing ended
+    → (origin : ℕ) → mark_of (standing before.disk Clear) ≡ Some origin
+    → (standing now.disk Clear ≡ None)
+    × ((other : List ℕ) (v : Version) → found (entries (standing now.disk)) other ≡ Some v
+    → covers origin v.key v.header ≡ true → file_name other ≡ file_name key)
+
 -- the records of the index, with its journal applied, are those of a full scan of the entries
 abbrev pub IndexIsScan : Files → Type 0
 IndexIsScan files = (records : List IndexRecord)

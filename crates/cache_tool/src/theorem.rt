@@ -1,7 +1,7 @@
 //! The theorem on one page: what follows from the contract of `run`, in the words of a reader. Each law goes by the
 //! clause `performs` alone, so a caller of `run` has it in one step.
 
-ghost use Rattle.cache_tool.specs.Theorem.{ClearedStaysGone, PutIsAllOrNothing, PutIsGot, ScriptDoesStoppedClearing, ScriptUpdatesIndex, StoppedClearingIsDone, TouchedIsGoneOrWhole, TrustedIndexIsScan, UntouchedIsIntact, UpdatedIndexIsTrusted};
+ghost use Rattle.cache_tool.specs.Theorem.{ClearedStaysGone, PutDoesStoppedClearing, PutIsAllOrNothing, PutIsGot, ScriptDoesStoppedClearing, ScriptUpdatesIndex, StoppedClearingIsDone, TouchedIsGoneOrWhole, TrustedIndexIsScan, UntouchedIsIntact, UpdatedIndexIsTrusted};
 
 /// Wherever a script stopped, an entry that no command touched since the last acknowledged flush or clearing is intact.
 pub fn untouched_is_intact()
@@ -23,6 +23,7 @@ pub fn cleared_stays_gone()
 pub fn stopped_clearing_is_done()
     ensures one { StoppedClearingIsDone }
     ensures script { ScriptDoesStoppedClearing }
+    ensures put { PutDoesStoppedClearing }
 {}
 
 /// An index that is trusted agrees with the files, and so does one after an update.

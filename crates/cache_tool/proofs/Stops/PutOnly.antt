@@ -66,6 +66,11 @@ any_of_one P false x any = subst P (sym (only_of any.0 x any.1 any.2 any.3)) any
 any_of_none : {X : Type 0} (P : X → Type 0) → Any P [] → ⊥
 any_of_none P any = let lt = any.2 in omega (arith, lt)
 
+-- a `put` whose source did not fail closes the entry
+abbrev pub tail_of : Bool → List Command
+tail_of true = Close 0 ∷ []
+tail_of false = []
+
 -- the version was written under the name
 abbrev IsWritten : List ℕ → Version → Written → Type 0
 IsWritten name v = λ written. (written.name ≡ name) × (written.version ≡ v)
@@ -82,10 +87,10 @@ module _ (m : Machine) (key body : List ℕ) where
   none_touched = record { marked = refl; others = λ name apart. refl; in_place = refl; since = λ name v any. absurd (any_of_none _ any) }
 
   -- such a command
-  record IsOnly (t : Machine) (c : Command) : Type 0 where
-    names : (name : List ℕ) → name ≢ file_name key → list_any (bytes_eq name) (touches t c) ≡ false
-    in_place : rewritten_in_place t c ≡ None
-    writes : (w : Marks) (name : List ℕ) (v : Version) → Any (IsWritten name v) (put_out w (effect t c).next (rewritten t c)) → (v.key ≡ key) × (v.body ≡ body)
+  pub record IsOnly (t : Machine) (c : Command) : Type 0 where
+    pub names : (name : List ℕ) → name ≢ file_name key → list_any (bytes_eq name) (touches t c) ≡ false
+    pub in_place : rewritten_in_place t c ≡ None
+    pub writes : (w : Marks) (name : List ℕ) (v : Version) → Any (IsWritten name v) (put_out w (effect t c).next (rewritten t c)) → (v.key ≡ key) × (v.body ≡ body)
 
   only_begun : (t : Machine) (c : Command) (w : Marks) → IsOnly t c → TouchesOnly w → TouchesOnly (begun_marks t c w)
   only_begun t c w one only = go (first_failing (checks t c))
@@ -112,7 +117,7 @@ module _ (m : Machine) (key body : List ℕ) where
     writes = λ w name v any. absurd (any_of_none _ any);
   }
 
-  only_create : (t : Machine) → IsOnly t (Create 0 key)
+  pub only_create : (t : Machine) → IsOnly t (Create 0 key)
   only_create t = record {
     names = one_name_only (file_name key ∷ []) refl;
     in_place = refl;
@@ -123,7 +128,7 @@ module _ (m : Machine) (key body : List ℕ) where
     named : (if (object_of t 0).doomed then [] else file_name (object_of t 0).version.key ∷ []) ≡ file_name key ∷ []
     named = λ i. if d.undoomed i then [] else file_name (d.key_is i) ∷ []
 
-    only_append : (piece : List ℕ) → IsOnly t (Append 0 piece)
+    pub only_append : (piece : List ℕ) → IsOnly t (Append 0 piece)
     only_append piece = record {
       names = one_name_only (touches t (Append 0 piece)) named;
       in_place = refl;
@@ -141,7 +146,7 @@ module _ (m : Machine) (key body : List ℕ) where
         let same : (object_of t 0).version ≡ v = sym (ap (λ (o : Object). o.version) is) ∙ version in
         (ap (λ (u : Version). u.key) (sym same) ∙ d.key_is, ap (λ (u : Version). u.body) (sym same) ∙ d.body_is ∙ whole)
 
-    only_close : before ≡ body → IsOnly t (Close 0)
+    pub only_close : before ≡ body → IsOnly t (Close 0)
     unfolding effect
     only_close whole = record {
       names = one_name_only (touches t (Close 0)) (ap (name_of_some t) closes ∙ named);
@@ -150,11 +155,6 @@ module _ (m : Machine) (key body : List ℕ) where
     }
 
   -- ---- the commands of a `put`
-
-  -- a `put` whose source did not fail closes the entry
-  abbrev tail_of : Bool → List Command
-  tail_of true = Close 0 ∷ []
-  tail_of false = []
 
   -- those after a command come only where it is done
   if_done : (b : Bool) (next : Machine) (rest : List Command) (w : Marks) → TouchesOnly w → (b ≡ true → TouchesOnly (all_begun next rest w)) → TouchesOnly (all_begun next (cond b rest []) w)
@@ -196,7 +196,7 @@ module _ (m : Machine) (key body : List ℕ) where
 -- ---- the call
 
 -- what a source gave before it failed are bytes as well
-given_bytes : (was is : Option (List ℕ)) (body given : List ℕ) → was ≡ Some body → AreBytes body → Consumes was is given → AreBytes given
+pub given_bytes : (was is : Option (List ℕ)) (body given : List ℕ) → was ≡ Some body → AreBytes body → Consumes was is given → AreBytes given
 given_bytes None is body given whole bytes taken = absurd (cc)
 given_bytes (Some all) None body given whole bytes taken = absurd taken
 given_bytes (Some all) (Some left) body given whole bytes taken =

@@ -58,7 +58,7 @@ of_some : {P : List ℕ → Type 0} (o : Option (List ℕ)) → IsSomeAnd o AreB
 of_some None some all = absurd some
 of_some (Some bytes) some all = (bytes, (some, all))
 
-is_some_of : (o : Option (List ℕ)) → IsSomeAnd o AreBytes → IsSome o
+pub is_some_of : (o : Option (List ℕ)) → IsSomeAnd o AreBytes → IsSome o
 is_some_of None some = absurd some
 is_some_of (Some bytes) some = refl
 

@@ -1,6 +1,7 @@
+use Rattle.cache_tool.proofs.Stops.PutClears.{put_does_stopped_clearing}
 use Rattle.cache_tool.proofs.Stops.RunLeaves.{stopped_clearing_is_done}
 use Rattle.cache_tool.proofs.Stops.ShutScripts.{script_does_stopped_clearing}
 use Rattle.cache_tool.proofs.theorem.stopped_clearing_is_done.Goals as goal
 
 pub returns : goal.returns
-returns c = record { one = stopped_clearing_is_done; script = script_does_stopped_clearing }
+returns c = record { one = stopped_clearing_is_done; script = script_does_stopped_clearing; put = put_does_stopped_clearing }
