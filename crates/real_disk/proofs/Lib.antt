@@ -1,3 +1,4 @@
 pub mod TakenLaws
 pub mod NoteLaws
 pub mod AnswerLaws
+pub mod KeptLaws

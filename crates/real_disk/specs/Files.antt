@@ -1,11 +1,16 @@
 -- The notes of files that are to be synced, by their places.
-use Rattle.std.specs.Prelude.{◌≡◌, ◌⊎◌, IsTrue, Bool, false}
+use Rattle.std.specs.Prelude.{◌≡◌, ◌⊎◌, IsTrue, Bool, false, ℕ, List, Some, None}
 use Rattle.std.specs.BTreeMap.{is_at}
 use Rattle.std.specs.BTreeSet.{BTreeSet, contains, IsSubset}
 use Rattle.disk_model.specs.declared.place.Place.{Place}
 use Rattle.disk_model.specs.contracts.place.PlaceOrd.TheImpl as place_ord
 use Rattle.real_disk.specs.declared.notes.FolderNotes.{FolderNotes}
 use Rattle.real_disk.specs.Areas.{area_in}
+use Rattle.real_disk.specs.Called.{SyncedAt}
+use Rattle.real_disk.specs.Kept.{file_at}
+use Rattle.real_disk.specs.Paths.{IsPathOf}
+use Rattle.real_disk.specs.declared.kept.Kept.{Kept}
+use Rattle.real_disk.specs.declared.machine.Machine.{Ghosts}
 use Rattle.real_disk.specs.Folders.{HasNote}
 
 -- the places whose files are noted
@@ -49,3 +54,15 @@ pub record NotesNew (is_new : Bool) (place : Place) (before now : FileNotes) : T
 -- whatever the notes were to which the place was added, none of them is lost
 abbrev pub PutsBack : Bool → Place → FileNotes → FileNotes → Type 0
 PutsBack is_new place before now = (earlier : FileNotes) → NotesNew is_new place earlier before → KeepsAll earlier now
+
+module _ {R File Dir : Type 0} (M : Ghosts R File Dir) (rt : R) (dir : List ℕ) where
+  -- the file that was opened at the path of the place was synced
+  pub record SyncsPlace (place : Place) : Type 0 where
+    pub path : List ℕ
+    pub is : IsPathOf dir place path
+    pub synced : SyncedAt M rt path
+
+  -- the file that is kept open of the place was synced, or else the one at its path
+  abbrev pub SyncsFile : Kept File → Place → Type 0
+  SyncsFile kept place = ((file : File) × (file_at kept place ≡ Some file) × M.synced rt file)
+      ⊎ ((file_at kept place ≡ None) × SyncsPlace place)

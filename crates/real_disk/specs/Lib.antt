@@ -1,5 +1,11 @@
 pub mod Claims
 pub mod Areas
+pub mod Called
+pub mod Paths
+pub mod Kept
+pub mod OpenFolders
+pub mod Opening
+pub mod Reasons
 pub mod Folders
 pub mod Files
 pub mod Taken

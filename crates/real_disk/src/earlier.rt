@@ -4,18 +4,18 @@
 //! first sync goes over all that stands, unless the cache was closed, since a closing syncs it all, or an earlier
 //! process left the note that all was synced.
 
-ghost use Rattle.std.specs.Prelude.{◌≡◌, ◌↔◌, IsTrue};
+ghost use Rattle.std.specs.Prelude.{◌≡◌, ◌↔◌, IfOk, OnOk, IsTrue, codes};
 ghost use Rattle.real_disk.specs.Earlier.{IsKnown, IsSynced};
+ghost use Rattle.real_disk.specs.Called.{FoundFileAt};
+ghost use Rattle.real_disk.specs.Reasons.{HasReason, HoldsAt, IsFlagClear, WasClosed};
 
-use crate::contents::read_whole;
+use crate::machine::Machine;
 use crate::paths::{INDEX, LOG, TMP, path_in};
 use crate::standing::Standing;
 use crate::sync_note;
 use crate::tree::{open_regular, read_only, seen_at};
 use index_file::FLAG_AT;
-use std::fs;
 use std::io::{self, ErrorKind};
-use std::rt::Files;
 
 /// Why no change of an earlier process waits. Only the functions here make it.
 #[derive(Clone, Copy, Debug, PartialEq, Eq)]
@@ -60,9 +60,10 @@ pub(crate) enum Earlier {
 
 impl Earlier {
     /// What is known after a look, which is made once, before the first change of this process.
-    pub(crate) fn after_look<R: Files + AllocGlobal>(self, rt: &R, dir: &str) -> Earlier
+    pub(crate) fn after_look<R: Machine + AllocGlobal>(self, rt: &R, dir: &str) -> Earlier
         ensures known { IsKnown result }
         ensures once { IsKnown self → result ≡ self }
+        ensures reason { (IsKnown self → ⊥) → IsSynced result → HasReason R.Machine rt.now dir.now }
     {
         match self {
             Earlier::Unknown => left_in(rt, dir),
@@ -97,8 +98,9 @@ impl Earlier {
 }
 
 /// What stands in the folder tells. Where a part of it cannot be read, changes may wait: a needless sync loses nothing.
-pub(crate) fn left_in<R: Files + AllocGlobal>(rt: &R, dir: &str) -> Earlier
-    ensures { IsKnown result }
+pub(crate) fn left_in<R: Machine + AllocGlobal>(rt: &R, dir: &str) -> Earlier
+    ensures known { IsKnown result }
+    ensures reason { IsSynced result → HasReason R.Machine rt.now dir.now }
 {
     let by = match was_closed(rt, dir) {
         Ok(true) => Cover::Closing,
@@ -112,17 +114,47 @@ pub(crate) fn left_in<R: Files + AllocGlobal>(rt: &R, dir: &str) -> Earlier
 
 /// Whether the cache is closed. A closing clears the flag when all else is synced. An opening moves the journal to
 /// `index.tmp` and sets the flag.
-pub(crate) fn was_closed<R: Files + AllocGlobal>(rt: &R, dir: &str) -> io::Result<bool> {
-    let index = path_in(rt, dir, INDEX)?;
+pub(crate) fn was_closed<R: Machine + AllocGlobal>(rt: &R, dir: &str) -> io::Result<bool>
+    ensures { IfOk result (λ is. IsTrue is → WasClosed R.Machine rt.now dir.now) }
+{
+    find_journal(rt, dir)?;
+    if !is_without_tmp(rt, dir)? {
+        return Ok(false);
+    }
+    Ok(is_index_clear(rt, dir)?)
+}
+
+// Where no journal stands it is an error.
+fn find_journal<R: Machine + AllocGlobal>(rt: &R, dir: &str) -> io::Result<()>
+    ensures { OnOk result (HoldsAt dir.now (codes "index.log")
+        (FoundFileAt R.Machine rt.now)) }
+{
     let log = path_in(rt, dir, LOG)?;
-    let tmp = path_in(rt, dir, TMP)?;
     seen_at(rt, log.as_str())?;
-    Ok(is_missing(rt, tmp.as_str())? && is_flag_clear(rt, index.as_str())?)
+    Ok(())
+}
+
+fn is_without_tmp<R: Machine + AllocGlobal>(rt: &R, dir: &str) -> io::Result<bool>
+    ensures { IfOk result (λ is. IsTrue is → HoldsAt dir.now (codes "index.tmp")
+        (R.Machine.missing rt.now)) }
+{
+    let tmp = path_in(rt, dir, TMP)?;
+    Ok(is_missing(rt, tmp.as_str())?)
+}
+
+fn is_index_clear<R: Machine + AllocGlobal>(rt: &R, dir: &str) -> io::Result<bool>
+    ensures { IfOk result (λ is. IsTrue is → HoldsAt dir.now (codes "index")
+        (IsFlagClear R.Machine rt.now)) }
+{
+    let index = path_in(rt, dir, INDEX)?;
+    Ok(is_flag_clear(rt, index.as_str())?)
 }
 
 /// Whether nothing stands there.
-pub(crate) fn is_missing<R: Files>(rt: &R, path: &str) -> io::Result<bool> {
-    match fs::symlink_metadata(rt, path) {
+pub(crate) fn is_missing<R: Machine>(rt: &R, path: &str) -> io::Result<bool>
+    ensures { IfOk result (λ is. IsTrue is → R.Machine.missing rt.now path.now) }
+{
+    match rt.look_at(path) {
         Ok(_) => Ok(false),
         Err(error) if error.kind() == ErrorKind::NotFound => Ok(true),
         Err(error) => Err(error),
@@ -130,9 +162,11 @@ pub(crate) fn is_missing<R: Files>(rt: &R, path: &str) -> io::Result<bool> {
 }
 
 // A file that ends before its flag does is an error.
-fn is_flag_clear<R: Files>(rt: &R, path: &str) -> io::Result<bool> {
+fn is_flag_clear<R: Machine>(rt: &R, path: &str) -> io::Result<bool>
+    ensures { IfOk result (λ is. IsTrue is → IsFlagClear R.Machine rt.now path.now) }
+{
     let mut file = open_regular(rt, &read_only(), path)?;
     let mut flag = [0; 4];
-    read_whole(&mut file, FLAG_AT as u64, &mut flag)?;
+    rt.read_from(&mut file, FLAG_AT as u64, &mut flag)?;
     Ok(u32::from_be_bytes(flag) == 0)
 }

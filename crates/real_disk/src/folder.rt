@@ -1,20 +1,26 @@
 //! The folder by its places, and the files in it that have changed since the last sync.
 
-ghost use Rattle.std.specs.Prelude.{◌≡◌, ◌⊎◌, IfOk, OnOk, OnErr, IsTrue, false, length, ◌≢◌, ◌≤◌};
+ghost use Rattle.std.specs.Prelude.{◌≡◌, ◌⊎◌, IfOk, OnOk, OnErr, IsTrue, false, length, ◌≢◌, ◌≤◌, string_bytes};
 ghost use Rattle.disk_model.specs.declared.place.Place.TheVariants.{Clear};
 ghost use Rattle.std.specs.BTreeSet.{btree_set_len, IsUnchanged};
 ghost use Rattle.real_disk.specs.Areas.{area_in};
-ghost use Rattle.real_disk.specs.Files.{IsNoted, NotesNew, PutsBack, KeepsNote, KeepsOthers, KeepsAllBut, KeepsAll, MovesNote, Owes};
+ghost use Rattle.real_disk.specs.Opening.{IsFileOf};
+ghost use Rattle.real_disk.specs.Files.{SyncsFile, IsNoted, NotesNew, PutsBack, KeepsNote, KeepsOthers, KeepsAllBut, KeepsAll, MovesNote, Owes};
 ghost use Rattle.real_disk.specs.Folders.{NoneLost, NoneLeft, HasNote, AllNoted};
 ghost use Rattle.real_disk.specs.Settled.{IsAllSynced};
+ghost use Rattle.real_disk.specs.Taken.{TakesOff};
+ghost use Rattle.std.specs.List.{All};
 ghost use Rattle.real_disk.specs.Claims.{IsAsked, IsClaimed};
-ghost use Rattle.real_disk.specs.Earlier.{HasLooked, IsSynced};
+ghost use Rattle.real_disk.specs.Earlier.{HasLooked, IsKnown, IsSynced};
+ghost use Rattle.real_disk.specs.Reasons.{HasReason};
+ghost use Rattle.real_disk.specs.OpenFolders.{SyncsNoted};
 ghost use Rattle.real_disk.specs.declared.earlier.Earlier.TheVariants.{Unsynced};
 
 use crate::claim::{Claim, ask, ask_made};
 use crate::contents::{after_change, read_at, write_end, write_over};
 use crate::earlier::{Covered, Earlier, was_closed};
 use crate::kept::{Kept, Opened};
+use crate::machine::Machine;
 use crate::paths::{Area, area_of};
 use crate::standing::sync_at;
 use crate::sync_note;
@@ -25,7 +31,7 @@ use disk_model::Place;
 use std::alloc::{AllocError, Global};
 use std::cmp::Ordering;
 use std::collections::BTreeSet;
-use std::fs::{File, OpenFile};
+use std::fs::File;
 use std::io::{self, ErrorKind};
 use std::rt::{Clock, Files};
 
@@ -43,7 +49,7 @@ pub(crate) struct Folder<'a, R: Files + AllocGlobal> {
     has_sync_note: bool,
 }
 
-impl<'a, R: Files + AllocGlobal> Folder<'a, R> {
+impl<'a, R: Machine + AllocGlobal> Folder<'a, R> {
     pub(crate) fn new(rt: &'a R, dir: String) -> Self {
         Folder {
             tree: Tree::new(rt, dir),
@@ -56,7 +62,7 @@ impl<'a, R: Files + AllocGlobal> Folder<'a, R> {
     }
 }
 
-impl<R: Files<File = File> + AllocGlobal + Clock> Folder<'_, R> {
+impl<R: Machine<File = File> + AllocGlobal + Clock> Folder<'_, R> {
     pub(crate) fn alloc(&self) -> Global {
         self.tree.rt.alloc()
     }
@@ -66,6 +72,7 @@ impl<R: Files<File = File> + AllocGlobal + Clock> Folder<'_, R> {
         ensures asked { OnOk result (IsAsked self.new.claim) }
         ensures failed { OnErr result (IsAsked self.new.claim → ⊥) }
         ensures unclaimed { OnErr result (IsClaimed self.new.claim → ⊥) }
+        ensures kept { self.new.kept ≡ self.old.kept }
         ensures files { self.new.files ≡ self.old.files }
         ensures folders { self.new.tree ≡ self.old.tree }
         ensures note { self.new.has_sync_note ≡ self.old.has_sync_note }
@@ -123,7 +130,8 @@ impl<R: Files<File = File> + AllocGlobal + Clock> Folder<'_, R> {
             return;
         }
         if let Ok(file) = same_opened(self.tree.rt, &read_only(), path, seen) {
-            self.kept.keep(Opened::to_read(place, file));
+            // Where there is no memory to keep it, it is opened once more.
+            let _outcome = self.kept.keep(place, Opened::to_read(file));
         }
     }
 
@@ -145,11 +153,14 @@ impl<R: Files<File = File> + AllocGlobal + Clock> Folder<'_, R> {
         };
         opened.is_new = false;
         let outcome = read_at(place, &mut opened.file, from, buf);
-        self.kept.keep(opened);
+        let _outcome = self.kept.keep(place, opened);
         outcome
     }
 
+    // The file that is kept of the place, or else the one at its path.
     fn open_to_read(&mut self, place: &Place) -> io::Result<Opened<R::File>>
+        ensures file { IfOk result (λ opened. IsFileOf R.Machine self.old.tree.rt.now
+            (string_bytes self.old.tree.dir) self.old.kept place.now opened) }
         ensures files { self.new.files ≡ self.old.files }
         ensures folders { self.new.tree ≡ self.old.tree }
         ensures earlier { self.new.earlier ≡ self.old.earlier }
@@ -159,7 +170,7 @@ impl<R: Files<File = File> + AllocGlobal + Clock> Folder<'_, R> {
         }
         let path = self.tree.path(place)?;
         let file = self.tree.open(&read_only(), path.as_str())?;
-        Ok(Opened::to_read(place, file))
+        Ok(Opened::to_read(file))
     }
 
     /// A file that stood there loses its name and is not cut, so that a crash may still show all of it.
@@ -176,7 +187,7 @@ impl<R: Files<File = File> + AllocGlobal + Clock> Folder<'_, R> {
         self.claim_made()?;
         self.begin_change()?;
         let path = self.tree.path(place)?;
-        self.kept.make_room(place)?;
+        self.kept.make_room(self.tree.rt, place)?;
         self.kept.forget(place);
         let file = match self.make_where_none(place, path.as_str()) {
             Err(error) if error.kind() == ErrorKind::AlreadyExists => {
@@ -184,8 +195,7 @@ impl<R: Files<File = File> + AllocGlobal + Clock> Folder<'_, R> {
             }
             outcome => outcome?,
         };
-        self.kept.keep(Opened::made(place, file));
-        Ok(())
+        self.keep_changed(place, Opened::made(file))
     }
 
     // A new file where none stands, which is noted before. Where that fails the notes are as they were.
@@ -264,8 +274,9 @@ impl<R: Files<File = File> + AllocGlobal + Clock> Folder<'_, R> {
             ..
         } = self.open_to_write(place)?;
         let outcome = write_end(&mut file, is_new, from, bytes);
-        self.kept.keep(Opened::to_write(place, file));
-        outcome
+        let kept = self.keep_changed(place, Opened::to_write(file));
+        outcome?;
+        kept
     }
 
     /// The file keeps what lies after the bytes.
@@ -281,8 +292,23 @@ impl<R: Files<File = File> + AllocGlobal + Clock> Folder<'_, R> {
         self.begin_change()?;
         let mut file = self.open_to_write(place)?.file;
         let outcome = write_over(&mut file, from, bytes);
-        self.kept.keep(Opened::to_write(place, file));
-        outcome
+        let kept = self.keep_changed(place, Opened::to_write(file));
+        outcome?;
+        kept
+    }
+
+    // Keeps open the file that was made or written. Where that finds no memory the call has failed.
+    fn keep_changed(&mut self, place: &Place, opened: Opened<R::File>) -> io::Result<()>
+        ensures files { self.new.files ≡ self.old.files }
+        ensures folders { self.new.tree ≡ self.old.tree }
+        ensures note { self.new.has_sync_note ≡ self.old.has_sync_note }
+        ensures claim { self.new.claim ≡ self.old.claim }
+        ensures earlier { self.new.earlier ≡ self.old.earlier }
+    {
+        match self.kept.keep(place, opened) {
+            Ok(()) => Ok(()),
+            Err(_) => Err(ErrorKind::Other.into()),
+        }
     }
 
     // The file of the place, which is noted as changed before it is written.
@@ -295,12 +321,12 @@ impl<R: Files<File = File> + AllocGlobal + Clock> Folder<'_, R> {
         ensures claim { self.new.claim ≡ self.old.claim }
         ensures earlier { self.new.earlier ≡ self.old.earlier }
     {
-        self.kept.make_room(place)?;
+        self.kept.make_room(self.tree.rt, place)?;
         let opened = match self.kept.take_to_write(place) {
             Some(opened) => opened,
             None => {
                 let path = self.tree.path(place)?;
-                Opened::to_write(place, self.tree.open(&read_and_write(), path.as_str())?)
+                Opened::to_write(self.tree.open(&read_and_write(), path.as_str())?)
             }
         };
         self.files.insert(*place)?;
@@ -378,6 +404,9 @@ impl<R: Files<File = File> + AllocGlobal + Clock> Folder<'_, R> {
     fn look_for_earlier(&mut self)
         ensures claim { self.new.claim ≡ self.old.claim }
         ensures looked { HasLooked self.old.earlier self.new.earlier }
+        ensures reason { (IsKnown self.old.earlier → ⊥) → IsSynced self.new.earlier
+            → HasReason R.Machine self.old.tree.rt.now (string_bytes self.old.tree.dir) }
+        ensures kept { self.new.kept ≡ self.old.kept }
         ensures files { self.new.files ≡ self.old.files }
         ensures folders { self.new.tree ≡ self.old.tree }
     {
@@ -425,11 +454,15 @@ impl<R: Files<File = File> + AllocGlobal + Clock> Folder<'_, R> {
     }
 }
 
-impl<R: Files<File = File> + AllocGlobal + Clock + Clone + Drop> Folder<'_, R> {
+impl<R: Machine<File = File> + AllocGlobal + Clock + Clone + Drop> Folder<'_, R> {
     /// The files before the names that lead to them.
     pub(crate) fn sync(&mut self) -> io::Result<()>
         ensures files { OnOk result (btree_set_len self.new.files ≡ 0) }
+        ensures synced { OnOk result (All (SyncsFile R.Machine self.old.tree.rt.now
+            (string_bytes self.old.tree.dir) self.old.kept) self.old.files.keys) }
         ensures names { OnOk result (NoneLeft self.new.tree.folders) }
+        ensures folders { OnOk result (SyncsNoted R.Machine self.old.tree.rt.now
+            (string_bytes self.old.tree.dir) self.new.tree.opened self.old.tree.folders) }
         ensures order { (btree_set_len self.new.files ≡ 0) ⊎ (self.new.tree ≡ self.old.tree) }
         ensures earlier { OnOk result (IsSynced self.new.earlier) }
         ensures owed { OnErr result
@@ -439,7 +472,7 @@ impl<R: Files<File = File> + AllocGlobal + Clock + Clone + Drop> Folder<'_, R> {
         self.look_for_earlier();
         let tree = &self.tree;
         let kept = &self.kept;
-        sync_each(&mut self.files, |place| sync_file(tree, kept, place))?;
+        sync_files(&mut self.files, tree, kept)?;
         self.kept.close_synced();
         let was_synced = self.earlier.is_synced();
         let covered = self.cover_earlier()?;
@@ -454,6 +487,8 @@ impl<R: Files<File = File> + AllocGlobal + Clock + Clone + Drop> Folder<'_, R> {
     // Syncs the files of an earlier process, and notes its folders.
     fn cover_earlier(&mut self) -> io::Result<Covered>
         ensures noted { OnOk result (self.old.earlier ≡ Unsynced → AllNoted self.new.tree.folders) }
+        ensures rt { self.new.tree.rt ≡ self.old.tree.rt }
+        ensures dir { self.new.tree.dir ≡ self.old.tree.dir }
         ensures files { self.new.files ≡ self.old.files }
         ensures folders { NoneLost self.old.tree.folders self.new.tree.folders }
         ensures earlier { self.new.earlier ≡ self.old.earlier }
@@ -518,13 +553,29 @@ fn move_note(files: &mut BTreeSet<Place, Global>, from: &Place, to: &Place, has_
     }
 }
 
-fn sync_file<R: Files + AllocGlobal>(
+// Syncs each noted file.
+fn sync_files<R: Machine + AllocGlobal>(
+    files: &mut BTreeSet<Place, Global>,
+    tree: &Tree<'_, R>,
+    kept: &Kept<R::File>,
+) -> io::Result<()>
+    ensures all { OnOk result (btree_set_len files.new ≡ 0) }
+    ensures synced { TakesOff (SyncsFile R.Machine tree.now.rt.now (string_bytes tree.now.dir)
+        kept.now) files.old files.new }
+{
+    sync_each(files, |place| sync_file(tree, kept, place))
+}
+
+fn sync_file<R: Machine + AllocGlobal>(
     tree: &Tree<'_, R>,
     kept: &Kept<R::File>,
     place: &Place,
-) -> io::Result<()> {
+) -> io::Result<()>
+    ensures { OnOk result (SyncsFile R.Machine tree.now.rt.now (string_bytes tree.now.dir)
+        kept.now place.now) }
+{
     match kept.file_of(place) {
-        Some(file) => file.sync_all(),
+        Some(file) => tree.rt.sync(file),
         None => sync_at(tree.rt, tree.dir.as_str(), &tree.numbers, place),
     }
 }

@@ -1,17 +1,24 @@
 //! The files that are kept open.
 
+ghost use Rattle.std.specs.Prelude.{◌≡◌, ◌⊎◌, IfSome, OnOk, OnErr, None, Some, false};
+ghost use Rattle.std.specs.Option.{option_copied};
+ghost use Rattle.std.specs.BTreeMap.{is_at};
+ghost use Rattle.disk_model.specs.declared.place.Place.{Place as Where};
+ghost use Rattle.disk_model.specs.contracts.place.PlaceOrd.TheImpl as place_ord;
+ghost use Rattle.real_disk.specs.Kept.{opened_at, file_at, KeepsNone, Stays, StaysAll, StaysElsewhere, SameElsewhere, SameFiles};
+
+use crate::machine::Machine;
 use disk_model::Place;
-use std::alloc::Global;
-use std::fs::OpenFile;
+use std::alloc::{AllocError, Global};
+use std::collections::BTreeMap;
 use std::io;
 
 // So many files that wait for a sync are kept open at most. A process may have few open: some systems allow 128.
 const WRITTEN_MAX: usize = 32;
 
-/// The open file of a place.
+/// An open file.
 #[derive(Drop)]
 pub(crate) struct Opened<F: Drop> {
-    pub(crate) place: Place,
     pub(crate) file: F,
     pub(crate) writable: bool,
     // It was written and not synced since.
@@ -21,9 +28,10 @@ pub(crate) struct Opened<F: Drop> {
 }
 
 impl<F: Drop> Opened<F> {
-    pub(crate) fn to_read(place: &Place, file: F) -> Self {
+    pub(crate) fn to_read(file: F) -> Self
+        ensures { result.file ≡ file }
+    {
         Opened {
-            place: *place,
             file,
             writable: false,
             unsynced: false,
@@ -32,9 +40,10 @@ impl<F: Drop> Opened<F> {
     }
 
     /// One that is about to be written.
-    pub(crate) fn to_write(place: &Place, file: F) -> Self {
+    pub(crate) fn to_write(file: F) -> Self
+        ensures { result.file ≡ file }
+    {
         Opened {
-            place: *place,
             file,
             writable: true,
             unsynced: true,
@@ -43,122 +52,173 @@ impl<F: Drop> Opened<F> {
     }
 
     /// One that was just made, and has no bytes.
-    pub(crate) fn made(place: &Place, file: F) -> Self {
+    pub(crate) fn made(file: F) -> Self
+        ensures { result.file ≡ file }
+    {
         Opened {
-            place: *place,
             file,
             writable: true,
             unsynced: true,
             is_new: true,
         }
     }
+
+    // The same, once it was synced.
+    fn once_synced(self) -> Self
+        ensures { result.file ≡ self.file }
+    {
+        Opened {
+            file: self.file,
+            writable: self.writable,
+            unsynced: false,
+            is_new: self.is_new,
+        }
+    }
 }
 
-/// The file that was last used, so that it is opened once, and those that wait for a sync: a file is synced by the
-/// descriptor that wrote it, so that no error of an earlier write is lost.
+/// The open files by their places: the one that was last used, so that it is opened once, and those that wait for a
+/// sync. A file is synced by the descriptor that wrote it, so that no error of an earlier write is lost.
 #[derive(Drop)]
 pub(crate) struct Kept<F: Drop> {
-    last: Option<Opened<F>>,
-    written: Vec<Opened<F>, Global>,
+    files: BTreeMap<Place, Opened<F>, Global>,
+    // The place of the one that was last used and may not wait for a sync.
+    idle: Option<Place>,
 }
 
 impl<F: Drop> Kept<F> {
-    pub(crate) fn none(alloc: Global) -> Self {
+    pub(crate) fn none(alloc: Global) -> Self
+        ensures { KeepsNone result }
+    {
         Kept {
-            last: None,
-            written: Vec::new(alloc),
+            files: BTreeMap::new(alloc),
+            idle: None,
         }
     }
 
-    fn written_at(&self, place: &Place) -> Option<usize> {
-        self.written
-            .iter()
-            .position(|opened| opened.place == *place)
-    }
-
-    /// Keeps the file. One that is to be written has room, where `make_room` was called before.
-    pub(crate) fn keep(&mut self, opened: Opened<F>) {
+    /// Keeps the file, which is the caller's to put back, in the place of what is kept. Where there is no memory for it,
+    /// it is closed.
+    pub(crate) fn keep(&mut self, place: &Place, opened: Opened<F>) -> Result<(), AllocError>
+        ensures kept { OnOk result (opened_at self.new place.now ≡ Some opened) }
+        ensures closed { OnErr result (opened_at self.new place.now ≡ None) }
+        ensures others { StaysElsewhere place.now self.old self.new }
+    {
         if !opened.unsynced {
-            self.last = Some(opened);
-        } else if self.written.push(opened).is_err() {
-            self.last = None;
+            self.close_idle();
+            self.idle = Some(*place);
         }
+        self.files.insert(*place, opened)?;
+        Ok(())
     }
 
-    /// Lends the file, if it is that of the place.
-    pub(crate) fn file_of(&self, place: &Place) -> Option<&F> {
-        'written: for opened in &self.written {
-            if opened.place == *place {
-                return Some(&opened.file);
-            }
-        }
-        match &self.last {
-            Some(opened) if opened.place == *place => Some(&opened.file),
-            _ => None,
-        }
-    }
-
-    /// Takes the file, if it is that of the place. The caller puts it back.
-    pub(crate) fn take(&mut self, place: &Place) -> Option<Opened<F>> {
-        if let Some(at) = self.written_at(place)
-            && at < self.written.len()
+    // Closes the file that was used before, unless it waits for a sync.
+    fn close_idle(&mut self)
+        ensures { StaysAll self.old self.new }
+    {
+        if let Some(place) = self.idle
+            && !self.is_unsynced(&place)
         {
-            return Some(self.written.swap_remove(at));
+            self.files.remove(&place);
         }
-        match self.last.take() {
-            Some(opened) if opened.place == *place => Some(opened),
-            _ => None,
+    }
+
+    fn is_unsynced(&self, place: &Place) -> bool {
+        match self.files.get(place) {
+            Some(opened) => opened.unsynced,
+            None => false,
         }
+    }
+
+    /// Lends the file of the place.
+    pub(crate) fn file_of(&self, place: &Place) -> Option<&F>
+        ensures { option_copied result ≡ file_at self.now place.now }
+    {
+        match self.files.get(place) {
+            Some(opened) => Some(&opened.file),
+            None => None,
+        }
+    }
+
+    /// Takes the file of the place. The caller puts it back.
+    pub(crate) fn take(&mut self, place: &Place) -> Option<Opened<F>>
+        ensures taken { result ≡ opened_at self.old place.now }
+        ensures gone { opened_at self.new place.now ≡ None }
+        ensures others { SameElsewhere place.now self.old self.new }
+    {
+        self.files.remove(place)
     }
 
     /// The same, if it may be written.
-    pub(crate) fn take_to_write(&mut self, place: &Place) -> Option<Opened<F>> {
+    pub(crate) fn take_to_write(&mut self, place: &Place) -> Option<Opened<F>>
+        ensures taken { IfSome result (λ opened. opened_at self.old place.now ≡ Some opened) }
+        ensures gone { opened_at self.new place.now ≡ None }
+        ensures others { SameElsewhere place.now self.old self.new }
+    {
         match self.take(place) {
             Some(opened) if opened.writable => Some(opened),
             _ => None,
         }
     }
 
-    /// Closes the file, if it is that of the place.
-    pub(crate) fn forget(&mut self, place: &Place) {
-        if self.file_of(place).is_some() {
-            let _gone = self.take(place);
-        }
+    /// Closes the file of the place.
+    pub(crate) fn forget(&mut self, place: &Place)
+        ensures gone { opened_at self.new place.now ≡ None }
+        ensures others { SameElsewhere place.now self.old self.new }
+    {
+        let _gone = self.take(place);
     }
 
-    /// The file of the first place has taken the second.
-    pub(crate) fn follow(&mut self, from: &Place, to: &Place) {
+    /// The file of the first place has taken the second. Where there is no memory to keep it, it is closed, and is synced
+    /// by its path.
+    pub(crate) fn follow(&mut self, from: &Place, to: &Place)
+        ensures to { (opened_at self.new to.now ≡ opened_at self.old from.now)
+            ⊎ (opened_at self.new to.now ≡ None) }
+        ensures from { is_at (place_ord.ghosts.cmp to.now) from.now ≡ false
+            → opened_at self.new from.now ≡ None }
+        ensures others { (other : Where) → is_at (place_ord.ghosts.cmp from.now) other ≡ false
+            → is_at (place_ord.ghosts.cmp to.now) other ≡ false → Stays other self.old self.new }
+    {
+        let taken = self.take(from);
         self.forget(to);
-        if self.file_of(from).is_some()
-            && let Some(mut opened) = self.take(from)
-        {
-            opened.place = *to;
-            self.keep(opened);
+        if let Some(opened) = taken {
+            let _outcome = self.keep(to, opened);
         }
     }
 
-    /// All files were synced. Of them the last one stays open.
-    pub(crate) fn close_synced(&mut self) {
-        if let Some(mut opened) = self.written.pop() {
-            opened.unsynced = false;
-            self.last = Some(opened);
+    /// All files were synced. Of them one stays open.
+    pub(crate) fn close_synced(&mut self)
+        ensures { SameFiles self.old self.new }
+    {
+        let last = self.files.pop_last();
+        self.files.clear();
+        if let Some((place, opened)) = last {
+            let _outcome = self.keep(&place, opened.once_synced());
         }
-        self.written.clear();
     }
-}
 
-impl<F: OpenFile + Drop> Kept<F> {
-    /// Makes room for the file of the place, which is about to be written. Where too many others are open, one of them
-    /// is synced and closed.
-    pub(crate) fn make_room(&mut self, place: &Place) -> io::Result<()> {
-        if self.written.len() >= WRITTEN_MAX
-            && self.written_at(place).is_none()
-            && let Some(opened) = self.written.first()
-        {
-            opened.file.sync_all()?;
-            self.written.swap_remove(0);
+    /// Makes room for the file of the place, which is about to be written. Where too many others are open, one of them is
+    /// synced and closed.
+    pub(crate) fn make_room<R: Machine<File = F>>(
+        &mut self,
+        rt: &R,
+        place: &Place,
+    ) -> io::Result<()>
+        ensures { StaysAll self.old self.new }
+    {
+        if self.files.len() > WRITTEN_MAX && !self.files.contains_key(place) {
+            self.close_first(rt)?;
         }
-        self.written.reserve(1)?;
+        Ok(())
+    }
+
+    fn close_first<R: Machine<File = F>>(&mut self, rt: &R) -> io::Result<()>
+        ensures { StaysAll self.old self.new }
+    {
+        if let Some((_, opened)) = self.files.first_key_value()
+            && opened.unsynced
+        {
+            rt.sync(&opened.file)?;
+        }
+        self.files.pop_first();
         Ok(())
     }
 }

@@ -1,8 +1,8 @@
 //! The disk over a folder of the machine. Each place is a file there, and a sync makes durable what has changed: the
 //! files first, and then the folders that name them. The first one covers what an earlier process may have left.
 //!
-//! Nothing is told of contents. What is proved is that each failure is counted, that what changes is noted until it
-//! is synced, and that lists of names rise.
+//! Nothing is told of contents. What is proved is that each failure is counted, that what changes is noted until a call
+//! has synced it, that the file of a place is the one that is read and written, and that lists of names rise.
 #![tactic(auto)]
 
 mod claim;
@@ -11,6 +11,7 @@ mod earlier;
 mod folder;
 mod kept;
 mod listing;
+mod machine;
 mod making;
 mod notes;
 mod numbers;
@@ -22,4 +23,5 @@ mod sync_note;
 mod syncing;
 mod tree;
 
+pub use machine::Machine;
 pub use real_disk::RealDisk;

@@ -2,16 +2,16 @@
 
 ghost use Rattle.real_disk.specs.Folders.{NoneLost};
 
+use crate::machine::Machine;
 use crate::paths::{Area, parent_of, path_of_area};
 use crate::tree::Tree;
 use std::fs::{self, DirBuilder};
 use std::io::{self, ErrorKind};
 use std::os::unix::fs::DirBuilderExt;
-use std::rt::Files;
 
 const FOLDER_MODE: u32 = 0o700;
 
-impl<R: Files + AllocGlobal> Tree<'_, R> {
+impl<R: Machine + AllocGlobal> Tree<'_, R> {
     /// Makes a folder and those above it, where they are missing.
     pub(crate) fn make_area(&mut self, area: Area) -> io::Result<()>
         ensures kept { NoneLost self.old.folders self.new.folders }
@@ -76,13 +76,13 @@ impl<R: Files + AllocGlobal> Tree<'_, R> {
 }
 
 // A folder that is there already is as good.
-fn make_folder<R: Files>(rt: &R, folder: &str) -> io::Result<()> {
+fn make_folder<R: Machine>(rt: &R, folder: &str) -> io::Result<()> {
     match DirBuilder::new().mode(FOLDER_MODE).create(rt, folder) {
         Err(_) if is_folder(rt, folder) => Ok(()),
         outcome => outcome,
     }
 }
 
-fn is_folder<R: Files>(rt: &R, path: &str) -> bool {
+fn is_folder<R: Machine>(rt: &R, path: &str) -> bool {
     fs::metadata(rt, path).is_ok_and(|found| found.is_dir())
 }

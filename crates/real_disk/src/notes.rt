@@ -1,16 +1,19 @@
 //! The folders in which names have changed since the last sync.
 
-ghost use Rattle.std.specs.Prelude.{OnOk, IsTrue, ◌↔◌};
+ghost use Rattle.std.specs.Prelude.{OnOk, IsTrue, ◌↔◌, string_bytes};
+ghost use Rattle.real_disk.specs.Called.{IsSyncedOrMissing};
+ghost use Rattle.std.specs.List.{All};
+ghost use Rattle.real_disk.specs.OpenFolders.{SyncsFolder};
 ghost use Rattle.real_disk.specs.Folders.{NoneLost, NoneLeft, HasNote, AllNoted};
 
+use crate::machine::Machine;
 use crate::open_folders::OpenFolders;
 use crate::paths::Area;
 use crate::syncing::sync_each;
+use crate::tree::read_only;
 use std::alloc::{AllocError, Global};
 use std::collections::BTreeSet;
-use std::fs::{self, OpenFile};
 use std::io::{self, ErrorKind};
-use std::rt::Files;
 
 /// The folders that are to be synced.
 #[derive(Drop)]
@@ -67,13 +70,17 @@ impl FolderNotes {
     }
 
     /// Syncs each folder.
-    pub(crate) fn sync<R: Files + AllocGlobal>(
+    pub(crate) fn sync<R: Machine + AllocGlobal>(
         &mut self,
         rt: &R,
         dir: &str,
         opened: &OpenFolders<R::File>,
     ) -> io::Result<()>
-        ensures { OnOk result (NoneLeft self.new) }
+        ensures left { OnOk result (NoneLeft self.new) }
+        ensures areas { OnOk result (All (SyncsFolder R.Machine rt.now dir.now opened.now)
+            self.old.areas.keys) }
+        ensures above { OnOk result (All (λ folder. IsSyncedOrMissing R.Machine rt.now
+            (string_bytes folder)) self.old.above.keys) }
     {
         sync_each(&mut self.areas, |area| opened.sync(rt, dir, area))?;
         sync_each(&mut self.above, |folder| sync_folder(rt, folder.as_str()))
@@ -81,9 +88,11 @@ impl FolderNotes {
 }
 
 /// A folder is noted before a name in it is made, which may fail. Where it is missing there is no name to sync.
-pub(crate) fn sync_folder<R: Files>(rt: &R, path: &str) -> io::Result<()> {
-    match fs::open(rt, path) {
-        Ok(folder) => folder.sync_all(),
+pub(crate) fn sync_folder<R: Machine>(rt: &R, path: &str) -> io::Result<()>
+    ensures { OnOk result (IsSyncedOrMissing R.Machine rt.now path.now) }
+{
+    match rt.open_at(&read_only(), path) {
+        Ok(folder) => rt.sync(&folder),
         Err(error) if error.kind() == ErrorKind::NotFound => Ok(()),
         Err(error) => Err(error),
     }

@@ -1,83 +1,107 @@
 //! The folders of the cache that are kept open to be synced.
 
+ghost use Rattle.std.specs.Prelude.{◌≡◌, ◌⊎◌, OnOk, OnErr, None, Some};
+ghost use Rattle.std.specs.Option.{option_copied};
+ghost use Rattle.real_disk.specs.OpenFolders.{folder_at, IsClosed, KeepsOtherFolders, OpensNoted, OpensAt, SyncsFolder};
+
+use crate::machine::Machine;
 use crate::notes::{FolderNotes, sync_folder};
 use crate::paths::{Area, path_of_area};
-use std::fs::{self, OpenFile};
+use crate::tree::read_only;
+use std::alloc::{AllocError, Global};
+use std::collections::BTreeMap;
 use std::io::{self, ErrorKind};
-use std::rt::Files;
 
 /// The folders that were synced before, each open.
 #[derive(Drop)]
 pub(crate) struct OpenFolders<F: Drop> {
-    top: Option<F>,
-    entries: Option<F>,
-    doomed: Option<F>,
+    folders: BTreeMap<Area, F, Global>,
 }
 
 impl<F: Drop> OpenFolders<F> {
-    pub(crate) fn none() -> Self {
+    pub(crate) fn none(alloc: Global) -> Self
+        ensures { IsClosed result }
+    {
         OpenFolders {
-            top: None,
-            entries: None,
-            doomed: None,
+            folders: BTreeMap::new(alloc),
         }
     }
 
-    fn folder_of(&self, area: &Area) -> Option<&F> {
-        match area {
-            Area::Top => self.top.as_ref(),
-            Area::Entries => self.entries.as_ref(),
-            Area::Doomed => self.doomed.as_ref(),
-        }
+    fn folder_of(&self, area: &Area) -> Option<&F>
+        ensures { option_copied result ≡ folder_at self.now area.now }
+    {
+        self.folders.get(area)
     }
 
-    fn keep(&mut self, area: &Area, folder: F) {
-        match area {
-            Area::Top => self.top = Some(folder),
-            Area::Entries => self.entries = Some(folder),
-            Area::Doomed => self.doomed = Some(folder),
-        }
+    fn keep(&mut self, area: &Area, folder: F) -> Result<(), AllocError>
+        ensures kept { OnOk result (folder_at self.new area.now ≡ Some folder) }
+        ensures closed { OnErr result (folder_at self.new area.now ≡ None) }
+        ensures others { KeepsOtherFolders area.now self.old self.new }
+    {
+        self.folders.insert(*area, folder)?;
+        Ok(())
     }
 
-    /// A folder is about to be made there, so the one that is open is not the one that stands.
-    pub(crate) fn forget(&mut self, area: &Area) {
+    /// A folder is about to be made there, so the one that is open is not the one that stands, and nor are those in it.
+    pub(crate) fn forget(&mut self, area: &Area)
+        ensures { folder_at self.new area.now ≡ None }
+    {
         match area {
-            Area::Top => *self = OpenFolders::none(),
-            Area::Entries => self.entries = None,
-            Area::Doomed => self.doomed = None,
+            Area::Top => self.folders.clear(),
+            Area::Entries | Area::Doomed => {
+                self.folders.remove(area);
+            }
         }
     }
 }
 
-impl<F: OpenFile + Drop> OpenFolders<F> {
+impl<F: Drop> OpenFolders<F> {
     /// Opens each folder that is noted and not open yet.
-    pub(crate) fn open_noted<R: Files<File = F> + AllocGlobal>(
+    pub(crate) fn open_noted<R: Machine<File = F> + AllocGlobal>(
         &mut self,
         rt: &R,
         dir: &str,
         notes: &FolderNotes,
-    ) -> io::Result<()> {
-        'areas: for area in [Area::Top, Area::Entries, Area::Doomed] {
-            if notes.has(area) && self.folder_of(&area).is_none() {
-                match fs::open(rt, path_of_area(rt, dir, &area)?.as_str()) {
-                    Ok(folder) => self.keep(&area, folder),
-                    Err(error) if error.kind() == ErrorKind::NotFound => {}
-                    Err(error) => return Err(error),
-                }
-            }
+    ) -> io::Result<()>
+        ensures { OpensNoted R.Machine rt.now dir.now self.old self.new }
+    {
+        self.open_if_noted(rt, dir, notes, Area::Entries)?;
+        self.open_if_noted(rt, dir, notes, Area::Doomed)?;
+        self.open_if_noted(rt, dir, notes, Area::Top)
+    }
+
+    fn open_if_noted<R: Machine<File = F> + AllocGlobal>(
+        &mut self,
+        rt: &R,
+        dir: &str,
+        notes: &FolderNotes,
+        area: Area,
+    ) -> io::Result<()>
+        ensures opened { OpensAt R.Machine rt.now dir.now area self.old self.new }
+        ensures others { KeepsOtherFolders area self.old self.new }
+    {
+        if !notes.has(area) || self.folder_of(&area).is_some() {
+            return Ok(());
         }
-        Ok(())
+        let path = path_of_area(rt, dir, &area)?;
+        match rt.open_at(&read_only(), path.as_str()) {
+            Ok(folder) => Ok(self.keep(&area, folder)?),
+            Err(error) if error.kind() == ErrorKind::NotFound => Ok(()),
+            Err(error) => Err(error),
+        }
     }
 
     /// Syncs the folder, where it is open by the descriptor that is.
-    pub(crate) fn sync<R: Files + AllocGlobal>(
+    pub(crate) fn sync<R: Machine<File = F> + AllocGlobal>(
         &self,
         rt: &R,
         dir: &str,
         area: &Area,
-    ) -> io::Result<()> {
+    ) -> io::Result<()>
+        ensures { OnOk result (SyncsFolder R.Machine rt.now dir.now self.now area.now) }
+    {
         match self.folder_of(area) {
-            Some(folder) => folder.sync_all(),
+            Some(folder) => rt.sync(folder),
             None => sync_folder(rt, path_of_area(rt, dir, area)?.as_str()),
         }
     }

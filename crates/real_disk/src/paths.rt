@@ -1,9 +1,12 @@
 //! The folders of the cache, and paths of places.
 
-ghost use Rattle.std.specs.Prelude.{◌≡◌};
+ghost use Rattle.std.specs.Prelude.{◌≡◌, IfOk, string_bytes, codes, decimal};
+ghost use Rattle.disk_model.specs.declared.place.Place.TheVariants.{Entry};
 ghost use Rattle.real_disk.specs.Areas.{area_in};
+ghost use Rattle.real_disk.specs.Paths.{IsBase, IsIn, IsPathOf, IsPathOfArea, IsTop, below};
 
 use crate::numbers::Folders;
+use cache_base::Name;
 use disk_model::Place;
 use entry_name::text_of;
 use std::alloc::AllocError;
@@ -53,7 +56,9 @@ pub(crate) fn path_of_area<R: AllocGlobal>(
     rt: &R,
     dir: &str,
     area: &Area,
-) -> Result<String, AllocError> {
+) -> Result<String, AllocError>
+    ensures { IfOk result (λ path. IsPathOfArea dir.now area.now (string_bytes path)) }
+{
     match area {
         Area::Top => String::from_str(rt.alloc(), top_of(dir)),
         Area::Entries => path_in(rt, dir, ENTRIES),
@@ -67,23 +72,32 @@ pub(crate) fn path_of<R: AllocGlobal>(
     dir: &str,
     folders: &Folders,
     place: &Place,
-) -> Result<String, AllocError> {
-    let alloc = rt.alloc();
+) -> Result<String, AllocError>
+    ensures { IfOk result (λ path. IsPathOf dir.now place.now (string_bytes path)) }
+{
     match place {
-        Place::Entry(name) => {
-            let digits = text_of(alloc, name).map_err(|_| AllocError)?;
-            path_below(rt, dir, ENTRIES, digits.as_str())
-        }
-        Place::Doomed(number) => {
-            let dir = without_last_slashes(dir);
-            let named = folders.named(*number);
-            format!(in alloc; "{dir}/{DOOMED}/{named}")
-        }
+        Place::Entry(name) => path_of_entry(rt, dir, name),
+        Place::Doomed(number) => path_of_doomed(rt, dir, folders.named(*number)),
         Place::Index => path_in(rt, dir, INDEX),
         Place::Log => path_in(rt, dir, LOG),
         Place::Tmp => path_in(rt, dir, TMP),
         Place::Clear => path_in(rt, dir, CLEAR),
     }
+}
+
+fn path_of_entry<R: AllocGlobal>(rt: &R, dir: &str, name: &Name) -> Result<String, AllocError>
+    ensures { IfOk result (λ path. IsPathOf dir.now (Entry name.now) (string_bytes path)) }
+{
+    let digits = text_of(rt.alloc(), name).map_err(|_| AllocError)?;
+    path_below(rt, dir, ENTRIES, digits.as_str())
+}
+
+// The path of the doomed file with this number in its name.
+fn path_of_doomed<R: AllocGlobal>(rt: &R, dir: &str, named: u32) -> Result<String, AllocError>
+    ensures { IfOk result (λ path. IsIn dir.now (below (codes "doomed") (decimal named)) (string_bytes path)) }
+{
+    let digits = format!(in rt.alloc(); "{named}")?;
+    path_below(rt, dir, DOOMED, digits.as_str())
 }
 
 // The path of a name in a folder of the cache. Its memory is asked for once, since each call on an entry makes one.
@@ -92,30 +106,41 @@ fn path_below<R: AllocGlobal>(
     dir: &str,
     folder: &str,
     name: &str,
-) -> Result<String, AllocError> {
-    let dir = without_last_slashes(dir);
-    let len = dir
+) -> Result<String, AllocError>
+    ensures { IfOk result (λ path. IsIn dir.now (below folder.now name.now) (string_bytes path)) }
+{
+    let base = base_of(dir);
+    let len = base
         .len()
         .saturating_add(folder.len())
         .saturating_add(name.len())
         .saturating_add(2);
     let mut path = String::with_capacity(rt.alloc(), len)?;
-    path.push_str(dir)?;
-    path.push('/')?;
+    path.push_str(base)?;
+    path.push_str("/")?;
     path.push_str(folder)?;
-    path.push('/')?;
+    path.push_str("/")?;
     path.push_str(name)?;
     Ok(path)
 }
 
 /// The path of a name in the folder of the cache.
-pub(crate) fn path_in<R: AllocGlobal>(rt: &R, dir: &str, name: &str) -> Result<String, AllocError> {
-    let dir = without_last_slashes(dir);
-    format!(in rt.alloc(); "{dir}/{name}")
+pub(crate) fn path_in<R: AllocGlobal>(rt: &R, dir: &str, name: &str) -> Result<String, AllocError>
+    ensures { IfOk result (λ path. IsIn dir.now name.now (string_bytes path)) }
+{
+    let base = base_of(dir);
+    let len = base.len().saturating_add(name.len()).saturating_add(1);
+    let mut path = String::with_capacity(rt.alloc(), len)?;
+    path.push_str(base)?;
+    path.push_str("/")?;
+    path.push_str(name)?;
+    Ok(path)
 }
 
-// An empty `dir` is the current folder, and not the root.
-fn without_last_slashes(dir: &str) -> &str {
+// How paths in the folder begin: it has no slash at its end. An empty one is the current folder, and not the root.
+fn base_of(dir: &str) -> &str
+    ensures { IsBase dir.now result.now }
+{
     if dir.is_empty() {
         "."
     } else {
@@ -123,8 +148,10 @@ fn without_last_slashes(dir: &str) -> &str {
     }
 }
 
-fn top_of(dir: &str) -> &str {
-    let top = without_last_slashes(dir);
+fn top_of(dir: &str) -> &str
+    ensures { IsTop dir.now result.now }
+{
+    let top = base_of(dir);
     if top.is_empty() { "/" } else { top }
 }
 

@@ -7,6 +7,7 @@ ghost use Rattle.disk_model.specs.Silent.{nothing, never, never_finite};
 
 use crate::folder::Folder;
 use crate::listing::rising;
+use crate::machine::Machine;
 use cache_base::{Names, Numbers};
 use disk_model::{Disk, DiskFault, Place};
 use std::fs::File;
@@ -41,7 +42,7 @@ pub struct RealDisk<'a, R: Files + AllocGlobal> {
     faults: u64,
 }
 
-impl<'a, R: Files<File = File> + AllocGlobal + Clock + Clone + Drop> RealDisk<'a, R> {
+impl<'a, R: Machine<File = File> + AllocGlobal + Clock + Clone + Drop> RealDisk<'a, R> {
     /// Makes no call of the machine.
     pub fn new(rt: &'a R, dir: String) -> Self
         ensures faults { ⟦<RealDisk<'a, R> as Disk>⟧.faults result ≡ 0 }
@@ -79,7 +80,7 @@ impl<R: Files + AllocGlobal> RealDisk<'_, R> {
     }
 }
 
-impl<R: Files<File = File> + AllocGlobal + Clock + Clone + Drop> Disk for RealDisk<'_, R> {
+impl<R: Machine<File = File> + AllocGlobal + Clock + Clone + Drop> Disk for RealDisk<'_, R> {
     ghost use Rattle.std.specs.Prelude.{IsTrue};
     ghost use Rattle.disk_model.specs.State.{settled};
     ghost use Rattle.disk_model.specs.Calls.{if_ok, counted_sync};

@@ -1,8 +1,10 @@
 //! The files that stand in the folders of the cache, and the syncing of all of them.
 
-ghost use Rattle.std.specs.Prelude.{◌≡◌};
+ghost use Rattle.std.specs.Prelude.{◌≡◌, OnOk};
+ghost use Rattle.real_disk.specs.Files.{SyncsPlace};
 
 use crate::listing::{Found, read_names};
+use crate::machine::Machine;
 use crate::notes::sync_folder;
 use crate::numbers::Folders;
 use crate::paths::{Area, path_of, path_of_area};
@@ -13,10 +15,9 @@ use disk_model::Place;
 use entry_name::read_text;
 use std::alloc::Global;
 use std::collections::BTreeSet;
-use std::fs::{self, OpenFile};
+use std::fs;
 use std::io::{self, ErrorKind};
 use std::os::unix::fs::MetadataExt;
-use std::rt::Files;
 
 /// Says that all that stands was synced. Only `Tree::sync_standing` makes it.
 #[derive(Drop)]
@@ -33,7 +34,7 @@ impl Standing {
     }
 }
 
-impl<R: Files + AllocGlobal + Clone + Drop> Tree<'_, R> {
+impl<R: Machine + AllocGlobal + Clone + Drop> Tree<'_, R> {
     pub(crate) fn entries(&self) -> io::Result<BTreeSet<Name, Global>> {
         let path = path_of_area(self.rt, self.dir.as_str(), &Area::Entries)?;
         Ok(read_names(self.rt, path.as_str(), |text| read_text(text))?.files)
@@ -138,7 +139,7 @@ impl<R: Files + AllocGlobal + Clone + Drop> Tree<'_, R> {
 }
 
 // Where a link stands in the place of a folder of the cache, the files that it leads to are not the cache's.
-fn refuse_elsewhere<R: Files>(rt: &R, path: &str, device: u64) -> io::Result<()> {
+fn refuse_elsewhere<R: Machine>(rt: &R, path: &str, device: u64) -> io::Result<()> {
     match fs::symlink_metadata(rt, path) {
         Ok(found) if found.is_symlink() => Err(ErrorKind::Other.into()),
         Ok(found) if found.dev() != device => Err(ErrorKind::CrossesDevices.into()),
@@ -149,18 +150,21 @@ fn refuse_elsewhere<R: Files>(rt: &R, path: &str, device: u64) -> io::Result<()>
 }
 
 /// Syncs the file of the place. What is no regular file is not opened: that of a pipe would wait for a writer.
-pub(crate) fn sync_at<R: Files + AllocGlobal>(
+pub(crate) fn sync_at<R: Machine + AllocGlobal>(
     rt: &R,
     dir: &str,
     numbers: &Folders,
     place: &Place,
-) -> io::Result<()> {
+) -> io::Result<()>
+    ensures { OnOk result (SyncsPlace R.Machine rt.now dir.now place.now) }
+{
     let path = path_of(rt, dir, numbers, place)?;
-    open_regular(rt, &read_only(), path.as_str())?.sync_all()
+    let file = open_regular(rt, &read_only(), path.as_str())?;
+    rt.sync(&file)
 }
 
 // A folder above the cache may be nobody's to read, or lie on a file system that has no sync.
-fn sync_leading<R: Files>(rt: &R, folder: &str) -> io::Result<()> {
+fn sync_leading<R: Machine>(rt: &R, folder: &str) -> io::Result<()> {
     match sync_folder(rt, folder) {
         Err(error) if error.kind() == ErrorKind::PermissionDenied => Ok(()),
         Err(error) if error.kind() == ErrorKind::InvalidInput => Ok(()),

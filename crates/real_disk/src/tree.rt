@@ -1,17 +1,24 @@
 //! The calls of the machine that make, move and remove files by their paths.
 
-ghost use Rattle.std.specs.Prelude.{OnOk};
+ghost use Rattle.std.specs.Prelude.{◌≡◌, OnOk, IfOk, IfErr, string_bytes};
+ghost use Rattle.std.specs.IoError.{error_kind};
+ghost use Rattle.std.specs.Fs.{file_type, IsFile};
+ghost use Rattle.std.specs.List.{All};
+ghost use Rattle.real_disk.specs.OpenFolders.{SyncsFolder};
 ghost use Rattle.real_disk.specs.Folders.{NoneLost, NoneLeft, HasNote};
+ghost use Rattle.real_disk.specs.Paths.{IsPathOf};
+ghost use Rattle.real_disk.specs.Called.{FoundFileAt};
 
+use crate::machine::{Machine, Stamp};
 use crate::notes::FolderNotes;
 use crate::numbers::Folders;
 use crate::open_folders::OpenFolders;
 use crate::paths::{Area, path_of};
 use disk_model::Place;
 use std::alloc::AllocError;
-use std::fs::{self, Metadata, OpenFile, OpenOptions};
+use std::fs::{self, Metadata, OpenOptions};
 use std::io::{self, ErrorKind};
-use std::os::unix::fs::{MetadataExt, OpenOptionsExt};
+use std::os::unix::fs::OpenOptionsExt;
 use std::rt::Files;
 
 /// A cache tells where its user has been, so nobody else may read it.
@@ -27,18 +34,20 @@ pub(crate) struct Tree<'a, R: Files + AllocGlobal> {
     pub(crate) numbers: Folders,
 }
 
-impl<'a, R: Files + AllocGlobal> Tree<'a, R> {
+impl<'a, R: Machine + AllocGlobal> Tree<'a, R> {
     pub(crate) fn new(rt: &'a R, dir: String) -> Self {
         Tree {
             rt,
             dir,
             folders: FolderNotes::none(rt.alloc()),
-            opened: OpenFolders::none(),
+            opened: OpenFolders::none(rt.alloc()),
             numbers: Folders::unknown(),
         }
     }
 
-    pub(crate) fn path(&self, place: &Place) -> Result<String, AllocError> {
+    pub(crate) fn path(&self, place: &Place) -> Result<String, AllocError>
+        ensures { IfOk result (λ path. IsPathOf (string_bytes self.now.dir) place.now (string_bytes path)) }
+    {
         path_of(self.rt, self.dir.as_str(), &self.numbers, place)
     }
 
@@ -103,13 +112,17 @@ impl<'a, R: Files + AllocGlobal> Tree<'a, R> {
     }
 
     /// Opens the file that stands there. What is no regular file, such as a folder or a link, is not opened.
-    pub(crate) fn open(&self, how: &OpenOptions, path: &str) -> io::Result<R::File> {
+    pub(crate) fn open(&self, how: &OpenOptions, path: &str) -> io::Result<R::File>
+        ensures { IfOk result (λ file. R.Machine.opened self.now.rt.now path.now file) }
+    {
         open_regular(self.rt, how, path)
     }
 
     /// Syncs each folder.
     pub(crate) fn sync(&mut self) -> io::Result<()>
-        ensures { OnOk result (NoneLeft self.new.folders) }
+        ensures left { OnOk result (NoneLeft self.new.folders) }
+        ensures synced { OnOk result (All (SyncsFolder R.Machine self.old.rt.now
+            (string_bytes self.old.dir) self.new.opened) self.old.folders.areas.keys) }
     {
         let dir = self.dir.as_str();
         self.opened.open_noted(self.rt, dir, &self.folders)?;
@@ -121,42 +134,59 @@ impl<'a, R: Files + AllocGlobal> Tree<'a, R> {
 #[derive(Clone, Copy, Debug, PartialEq, Eq)]
 pub(crate) struct Seen {
     pub(crate) len: u64,
-    device: u64,
-    inode: u64,
+    stamp: Stamp,
+}
+
+impl Seen {
+    // Whether both are one file.
+    fn is_same(&self, other: &Seen) -> bool {
+        (self.stamp.device, self.stamp.inode) == (other.stamp.device, other.stamp.inode)
+    }
 }
 
 /// The regular file that stands at the path. A link is none.
-pub(crate) fn seen_at<R: Files>(rt: &R, path: &str) -> io::Result<Seen> {
-    seen_in(&fs::symlink_metadata(rt, path)?)
+pub(crate) fn seen_at<R: Machine>(rt: &R, path: &str) -> io::Result<Seen>
+    ensures found { OnOk result (FoundFileAt R.Machine rt.now path.now) }
+    ensures missing { IfErr result
+        (λ e. error_kind e ≡ ErrorKind.NotFound → R.Machine.missing rt.now path.now) }
+{
+    let found = rt.look_at(path)?;
+    seen_in(rt, &found)
 }
 
-fn seen_in(found: &Metadata) -> io::Result<Seen> {
+fn seen_in<R: Machine>(rt: &R, found: &Metadata) -> io::Result<Seen>
+    ensures file { OnOk result (IsFile (file_type found.now)) }
+    ensures other { IfErr result (λ e. error_kind e ≡ ErrorKind.Other) }
+{
     if !found.is_file() {
         return Err(ErrorKind::Other.into());
     }
     Ok(Seen {
         len: found.len(),
-        device: found.dev(),
-        inode: found.ino(),
+        stamp: rt.stamp(found),
     })
 }
 
 /// Opens the file that stands at the path, if it is a regular one.
-pub(crate) fn open_regular<R: Files>(rt: &R, how: &OpenOptions, path: &str) -> io::Result<R::File> {
+pub(crate) fn open_regular<R: Machine>(rt: &R, how: &OpenOptions, path: &str) -> io::Result<R::File>
+    ensures { IfOk result (λ file. R.Machine.opened rt.now path.now file) }
+{
     let seen = seen_at(rt, path)?;
     same_opened(rt, how, path, &seen)
 }
 
 /// Opens the file that was seen at the path. Where another one is open then, as that which a link leads to, it fails.
-pub(crate) fn same_opened<R: Files>(
+pub(crate) fn same_opened<R: Machine>(
     rt: &R,
     how: &OpenOptions,
     path: &str,
     seen: &Seen,
-) -> io::Result<R::File> {
-    let file = how.open(rt, path)?;
-    let opened = seen_in(&file.metadata()?)?;
-    if (opened.device, opened.inode) == (seen.device, seen.inode) {
+) -> io::Result<R::File>
+    ensures { IfOk result (λ file. R.Machine.opened rt.now path.now file) }
+{
+    let file = rt.open_at(how, path)?;
+    let opened = seen_in(rt, &rt.look_at_open(&file)?)?;
+    if opened.is_same(seen) {
         Ok(file)
     } else {
         Err(ErrorKind::Other.into())

@@ -1,0 +1,39 @@
+-- The files that are kept open, as a map from places.
+use Rattle.std.specs.Prelude.{◌≡◌, ◌⊎◌, Option, Some, None, option_map, false}
+use Rattle.std.specs.BTreeMap.{get, is_at}
+use Rattle.disk_model.specs.declared.place.Place.{Place}
+use Rattle.disk_model.specs.contracts.place.PlaceOrd.TheImpl as place_ord
+use Rattle.real_disk.specs.declared.kept.Kept.{Kept}
+use Rattle.real_disk.specs.declared.kept.Opened.{Opened}
+
+-- the open file that is kept of a place, with what is known of it
+abbrev pub opened_at : {F : Type 0} → Kept F → Place → Option (Opened F)
+opened_at kept place = get place_ord.ghosts.cmp kept.files place
+
+-- that file alone
+abbrev pub file_at : {F : Type 0} → Kept F → Place → Option F
+file_at kept place = option_map (λ opened. opened.file) (opened_at kept place)
+
+-- no file is kept of any place
+abbrev pub KeepsNone : {F : Type 0} → Kept F → Type 0
+KeepsNone kept = (place : Place) → opened_at kept place ≡ None
+
+-- what is kept of the place stays, or is closed
+abbrev pub Stays : {F : Type 0} → Place → Kept F → Kept F → Type 0
+Stays place before now = (opened_at now place ≡ opened_at before place) ⊎ (opened_at now place ≡ None)
+
+-- so it is at each place
+abbrev pub StaysAll : {F : Type 0} → Kept F → Kept F → Type 0
+StaysAll before now = (place : Place) → Stays place before now
+
+-- so it is at every other place
+abbrev pub StaysElsewhere : {F : Type 0} → Place → Kept F → Kept F → Type 0
+StaysElsewhere place before now = (other : Place) → is_at (place_ord.ghosts.cmp place) other ≡ false → Stays other before now
+
+-- what is kept of every other place stays
+abbrev pub SameElsewhere : {F : Type 0} → Place → Kept F → Kept F → Type 0
+SameElsewhere place before now = (other : Place) → is_at (place_ord.ghosts.cmp place) other ≡ false → opened_at now other ≡ opened_at before other
+
+-- of each place the same file is kept, or none any more
+abbrev pub SameFiles : {F : Type 0} → Kept F → Kept F → Type 0
+SameFiles before now = (place : Place) → (file_at now place ≡ file_at before place) ⊎ (file_at now place ≡ None)

@@ -1,0 +1,121 @@
+//! The calls of the machine whose outcomes contracts speak of.
+//!
+//! std says nothing of what such a call has done. Here each has a word for it, and code that is generic over a machine
+//! comes to the word by this call alone. So a body that leaves the call out, or makes it of something else, has no proof.
+
+ghost use Rattle.std.specs.Prelude.{◌≡◌, IfOk, IfErr, OnOk, List, ℕ};
+ghost use Rattle.std.specs.IoError.{error_kind};
+ghost use Rattle.std.specs.declared.fs.attrs.Metadata.{Metadata as Attributes};
+ghost use Rattle.real_disk.specs.declared.machine.Stamp.{Stamp as Stamped};
+
+use crate::contents::read_whole;
+use std::fs::{Metadata, OpenFile, OpenOptions, symlink_metadata};
+use std::io::{self, ErrorKind};
+use std::os::unix::fs::MetadataExt;
+use std::rt::Files;
+
+/// What tells a file or a folder from others, and when it was changed last.
+#[derive(Clone, Copy, Debug, PartialEq, Eq)]
+pub struct Stamp {
+    pub(crate) device: u64,
+    pub(crate) inode: u64,
+    pub(crate) seconds: i64,
+    pub(crate) nanoseconds: i64,
+}
+
+/// The file system of a machine.
+pub trait Machine: Files {
+    /// The file was opened at the path.
+    ghost opened: { Self → List ℕ → Self.File → Type 0 };
+
+    /// The file was synced, or the names in the folder were.
+    ghost synced: { Self → Self.File → Type 0 };
+
+    /// Nothing stood at the path.
+    ghost missing: { Self → List ℕ → Type 0 };
+
+    /// A look at the path, which followed no link, found this.
+    ghost found: { Self → List ℕ → Attributes → Type 0 };
+
+    /// A look at the open file found this.
+    ghost is_of: { Self → Self.File → Attributes → Type 0 };
+
+    /// What was found has this stamp.
+    ghost stamped: { Self → Attributes → Stamped → Type 0 };
+
+    /// From this offset on the file had these bytes.
+    ghost held: { Self → Self.File → ℕ → List ℕ → Type 0 };
+
+    /// Opens a file or a folder.
+    fn open_at(&self, how: &OpenOptions, path: &str) -> io::Result<Self::File>
+        ensures opened { IfOk result (λ file. opened self.now path.now file) }
+        ensures missing { IfErr result
+            (λ e. error_kind e ≡ ErrorKind.NotFound → missing self.now path.now) };
+
+    /// Makes the changes of the file, or of the names in the folder, durable.
+    fn sync(&self, file: &Self::File) -> io::Result<()>
+        ensures { OnOk result (synced self.now file.now) };
+
+    /// Looks at what stands at the path. A link is not followed.
+    fn look_at(&self, path: &str) -> io::Result<Metadata>
+        ensures found { IfOk result (λ seen. found self.now path.now seen) }
+        ensures missing { IfErr result
+            (λ e. error_kind e ≡ ErrorKind.NotFound → missing self.now path.now) };
+
+    /// Looks at an open file.
+    fn look_at_open(&self, file: &Self::File) -> io::Result<Metadata>
+        ensures { IfOk result (λ seen. is_of self.now file.now seen) };
+
+    /// The stamp of what was found.
+    fn stamp(&self, seen: &Metadata) -> Stamp
+        ensures { stamped self.now seen.now result };
+
+    /// Fills the buffer from the offset on. A file that does not have all these bytes is an error.
+    fn read_from(&self, file: &mut Self::File, from: u64, buf: &mut [u8]) -> io::Result<()>
+        ensures { OnOk result (held self.now file.old from buf.new) };
+}
+
+impl<R: Files> Machine for R {
+    ghost opened = { λ _ _ _. Unit {0} };
+
+    ghost synced = { λ _ _. Unit {0} };
+
+    ghost missing = { λ _ _. Unit {0} };
+
+    ghost found = { λ _ _ _. Unit {0} };
+
+    ghost is_of = { λ _ _ _. Unit {0} };
+
+    ghost stamped = { λ _ _ _. Unit {0} };
+
+    ghost held = { λ _ _ _ _. Unit {0} };
+
+    fn open_at(&self, how: &OpenOptions, path: &str) -> io::Result<R::File> {
+        how.open(self, path)
+    }
+
+    fn sync(&self, file: &R::File) -> io::Result<()> {
+        file.sync_all()
+    }
+
+    fn look_at(&self, path: &str) -> io::Result<Metadata> {
+        symlink_metadata(self, path)
+    }
+
+    fn look_at_open(&self, file: &R::File) -> io::Result<Metadata> {
+        file.metadata()
+    }
+
+    fn stamp(&self, seen: &Metadata) -> Stamp {
+        Stamp {
+            device: seen.dev(),
+            inode: seen.ino(),
+            seconds: seen.ctime(),
+            nanoseconds: seen.ctime_nsec(),
+        }
+    }
+
+    fn read_from(&self, file: &mut R::File, from: u64, buf: &mut [u8]) -> io::Result<()> {
+        read_whole(file, from, buf)
+    }
+}
