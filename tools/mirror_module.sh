@@ -23,12 +23,10 @@ checker() {
     printf '#!%s\n' "$BASH"
 }
 
-# `rt try` compiles with -O0, which is slow to run. The checks of memory and of numbers stay.
-# shellcheck disable=SC2016 # what stands here is a script
+# What compiles a module is the tool beside this file.
 compiler() {
-    printf '#!%s\nwords=()\n' "$BASH"
-    printf 'for word; do [[ $word != -O0 ]] || word=-O2; words+=("$word"); done\n'
-    printf 'exec %q "${words[@]}"\n' "$kit/toolchain/bin/clang"
+    printf '#!%s\nexec %q %q %q %q "$@"\n' "$BASH" "$BASH" "$(dirname -- "${BASH_SOURCE[0]}")/compile-module" \
+        "$kit/toolchain/bin/"{clang,ld.lld}
 }
 
 # What is linked is the file that follows the word -o. It gets no environment.
@@ -38,10 +36,10 @@ linker() {
     [[ ! $1 ]] || printf 'while [[ $1 != -o ]]; do shift; done\n%q -- "$2" %q\n' "$(type -P cp)" "$1"
 }
 
-# Says that there is no room in a folder, where there is none for what a compile writes, about 40 MB.
+# Says that there is no room in a folder, where there is none for what a compile writes, about 50 MB.
 is_full() {
     local free
     free=$(df -Pk -- "$1" 2>/dev/null | awk 'NR == 2 { print $4 }')
-    [[ $free ]] && ((free < 40000)) &&
-        say "there is no room in '$1': $((free / 1000)) MB are free, and a compile takes about 40 (TMPDIR names another folder)"
+    [[ $free ]] && ((free < 50000)) &&
+        say "there is no room in '$1': $((free / 1000)) MB are free, and a compile takes about 50 (TMPDIR names another folder)"
 }
