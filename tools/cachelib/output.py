@@ -3,6 +3,7 @@ import argparse
 import os
 import sys
 
+from cachelib import progress
 from cachelib.keys import shown
 
 DONE, PARTLY, REFUSED = 0, 1, 2
@@ -11,6 +12,7 @@ DONE, PARTLY, REFUSED = 0, 1, 2
 def say(line):
     """A line on standard error, and never on standard output. Where standard error is closed or full, a tool goes on.
     """
+    progress.hide()
     try:
         if sys.stderr:
             print(line, file=sys.stderr)
