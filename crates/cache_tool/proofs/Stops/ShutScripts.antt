@@ -26,7 +26,7 @@ use Rattle.cache_tool.specs.Beginning.{AreAtOpening}
 use Rattle.cache_tool.specs.SameAsScript.{begun_in}
 use Rattle.cache_tool.specs.Script.{performed}
 use Rattle.cache_tool.specs.Statuses.{IsClosing}
-use Rattle.cache_tool.specs.Theorem.{IndexIsScan, ScriptCall, ScriptDoesStoppedClearing, ScriptUpdatesIndex, acked, begun, told}
+use Rattle.cache_tool.specs.Theorem.{IndexIsScan, ScriptCall, ScriptDoesStoppedClearing, ScriptUpdatesIndex, begun, told}
 use Rattle.cache_tool.specs.Verbs.{PrintsReplies}
 use Rattle.cache_tool.specs.World.{World}
 use Rattle.cache_tool.proofs.ClearedInRun.{all_kept}

@@ -12,7 +12,7 @@ use Rattle.cache_theory.specs.Command.Command.{Resume}
 use Rattle.cache_theory.specs.Crash.{IsCrashSafe}
 use Rattle.cache_theory.specs.Faulted.{Faulted, faulted, unfaulted}
 use Rattle.cache_theory.specs.Given.{IsGiven}
-use Rattle.cache_theory.specs.Machine.{Machine, opened}
+use Rattle.cache_theory.specs.Machine.{Machine}
 use Rattle.cache_theory.specs.Marks.{Marks, acked as acked_marks, marks_of}
 use Rattle.cache_theory.specs.Proper.{IsProper, OpensProper}
 use Rattle.cache_theory.specs.Session.{marks_between}
@@ -22,7 +22,7 @@ use Rattle.cache_theory.proofs.Faults.FaultedTold.{faulted_is_told}
 use Rattle.cache_script.proofs.ReaderLaws.{is_given}
 use Rattle.cache_tool.specs.Beginning.{AreAtOpening}
 use Rattle.cache_tool.specs.SameAsScript.{acked_in, begun_in}
-use Rattle.cache_tool.specs.Theorem.{ScriptCall, acked, told}
+use Rattle.cache_tool.specs.Theorem.{ScriptCall, told}
 use Rattle.cache_tool.specs.Verbs.{HasNotBegun, PrintsReplies}
 use Rattle.cache_tool.specs.World.{World, output_of}
 use Rattle.cache_tool.proofs.ClearedInRun.{more_kept}
