@@ -1,9 +1,10 @@
 #!/usr/bin/python3
 """Compares the store with the caches that crawlers use now: those of Scrapy, and the FileCache of CacheControl.
 
-compare.py crawl PAGES ROUNDS   a crawl by each with an empty cache, and one more: time, processor time, bytes and files
-compare.py fetch PAGES ROUNDS   the same by requests with CacheControl
-compare.py kills COUNT [NAME]   each, or that one, is killed amid storing, so many times: what it serves afterwards
+compare.py crawl PAGES ROUNDS [NAME]  a crawl by each, or by that one, with an empty cache, and one more: time,
+                                      processor time, bytes and files
+compare.py fetch PAGES ROUNDS [NAME]  the same by requests with CacheControl
+compare.py kills COUNT [NAME]         each, or that one, is killed amid storing, so many times: what it serves then
 
 The program is found as by the client. Each line is a row of a table; of the rounds the least counts.
 """
@@ -58,13 +59,20 @@ class Server:
 
 
 def timed(words):
-    """The seconds of a process, and those of the processor for it and what it started."""
+    """The seconds of a process, those of the processor for it and what it started, and those in which the process could
+    have gone on and had no processor.
+    """
     begun = time.monotonic()
     child = subprocess.Popen(words, env=ENVIRONMENT)
+    # It is still there, so that the system tells of it.
+    os.waitid(os.P_PID, child.pid, os.WEXITED | os.WNOWAIT)
+    ended = time.monotonic()
+    with open(f"/proc/{child.pid}/schedstat", encoding="ascii") as file:
+        queued = int(file.read().split()[1]) / 1e9
     _, status, usage = os.wait4(child.pid, 0)
     child.returncode = os.waitstatus_to_exitcode(status)
     assert child.returncode == 0, words
-    return time.monotonic() - begun, usage.ru_utime + usage.ru_stime
+    return ended - begun, usage.ru_utime + usage.ru_stime, queued
 
 
 def on_disk(folder):
@@ -105,19 +113,20 @@ def fetch_words(name):
     return lambda url, folder, log: [sys.executable, os.path.join(HERE, "fetch.py"), url, folder, log, name]
 
 
-def compare_crawls(names, words, pages, rounds):
+def compare_crawls(names, words, pages, rounds, only=""):
     """A row for each: the least of each number."""
-    found = {name: [] for name in names}
+    pages, rounds = int(pages), int(rounds)
+    found = {name: [] for name in names if only in name}
     with Server(pages) as server, tempfile.TemporaryDirectory() as room:
         for _ in range(rounds):
-            for name in names:
+            for name in found:
                 found[name].append(crawl_twice(server, pages, os.path.join(room, "one"), words(name)))
     print(f"load {os.getloadavg()[0]:.1f}, least of {rounds} rounds")
     for name, each in found.items():
-        first, second = ([min(one[at][what] for one in each) for what in (0, 1)] for at in (0, 1))
+        columns = ["{:.1f} ({:.1f}, {:.1f})".format(*(min(one[at][what] for one in each) for what in range(3)))
+                   for at in (0, 1)]
         size, count = each[-1][2]
-        print(f"| {name} | {first[0]:.1f} ({first[1]:.1f}) | {second[0]:.1f} ({second[1]:.1f}) | {size / 1e6:.1f} "
-              f"| {count:,} |", flush=True)
+        print(f"| {name} | {' | '.join(columns)} | {size / 1e6:.1f} | {count:,} |", flush=True)
 
 
 # ---- kills
@@ -320,9 +329,9 @@ def main():
     warnings.simplefilter("ignore")
     what, *numbers = sys.argv[1:]
     if what == "crawl":
-        compare_crawls(list(STORAGES), scrapy_words, *map(int, numbers))
+        compare_crawls(list(STORAGES), scrapy_words, *numbers)
     elif what == "fetch":
-        compare_crawls(FETCHES, fetch_words, *map(int, numbers))
+        compare_crawls(FETCHES, fetch_words, *numbers)
     elif what == "kills":
         compare_kills(int(numbers[0]), *numbers[1:])
     else:

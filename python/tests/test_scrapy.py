@@ -18,7 +18,7 @@ CRAWL = os.path.join(ROOT, "bench", "crawl.py")
 # A run by hand may take a larger site.
 PAGES = int(os.environ.get("CACHE2_TEST_PAGES", "40"))
 KILLS = int(os.environ.get("CACHE2_TEST_KILLS", "2"))
-LONG = pytest.mark.seconds(600)
+LONG = pytest.mark.seconds(600 + PAGES)
 # How many responses are stored without waiting in the crawls that are killed, and how many may be lost: a log has them
 # in nearly the order in which they are stored.
 WAITING, UNANSWERED = 3, 8
@@ -115,11 +115,13 @@ def test_crawls_that_are_killed(crawls):
         while len(crawls.responses()) < wanted and crawl.poll() is None and time.monotonic() < until:
             time.sleep(0.01)
         time.sleep(chance.random() * 0.02)
-        programs = children_of(crawl.pid) if number % 2 else []
+        programs = children_of(crawl.pid) if number % 2 and crawl.poll() is None else []
         for one in programs:
             kill(one)
         kill(crawl.pid)
-        crawl.communicate()
+        said = crawl.communicate()[1]
+        # One that was done before ended well.
+        assert crawl.returncode == -signal.SIGKILL or crawls.reason() == "end finished", said
         served = crawls.responses()
         assert [path for path in before & set(served) if not served[path]] == []
         # What was stored last had no reply yet, and may be lost.
