@@ -70,11 +70,11 @@ fn every_verb_is_answered(rt: HostRuntime) -> Result<(), Fail> {
     Ok(())
 }
 
-// Memory ran out, and no answer in its place.
+// It is seen to be no index and no journal, before memory is taken for it.
 #[test]
 fn a_size_that_no_memory_holds(rt: HostRuntime) -> Result<(), Fail> {
     for byte in [0, 1, 255] {
-        assert!(rt; answered(rt.alloc(), NO_MEMORY, byte)? == (12, 12));
+        assert!(rt; answered(rt.alloc(), NO_MEMORY, byte)? == (12, 0));
     }
     Ok(())
 }
