@@ -204,7 +204,7 @@ impl<F: Drop> Kept<F> {
     ) -> io::Result<()>
         ensures { StaysAll self.old self.new }
     {
-        if self.files.len() > WRITTEN_MAX && !self.files.contains_key(place) {
+        if self.files.len() > WRITTEN_MAX && !self.is_unsynced(place) {
             self.close_first(rt)?;
         }
         Ok(())
