@@ -7,7 +7,7 @@ use Rattle.cache_store.specs.declared.fault.Outcome.{Outcome}
 use Rattle.cache_store.specs.declared.fault.StoreFault.{StoreFault}
 use Rattle.cache_store.specs.declared.fault.StoreFault.TheVariants as fault
 use Rattle.cache_tool.specs.Tally.{Failure, IsAccounted, Tally, fault_failure, turn_failure}
-use Rattle.cache_tool.specs.declared.script.Ended.{Ended}
+use Rattle.cache_tool.specs.declared.script.ScriptEnd.{ScriptEnd}
 use Rattle.disk_model.specs.Account.{Ending}
 use Rattle.disk_model.specs.Calls.{StopsAtFault}
 
@@ -47,7 +47,7 @@ module _ (before now : Tally) (calm : now.source ≡ before.source) where
   }
 
 -- a command failed, and that is what the turn answers
-pub command_accounted : (answer : Result (Option Ended) StoreFault) (f : StoreFault) (before now : Tally) → IsErrAnd answer (λ e. e ≡ f) → now.source ≡ before.source
+pub command_accounted : (answer : Result (Option ScriptEnd) StoreFault) (f : StoreFault) (before now : Tally) → IsErrAnd answer (λ e. e ≡ f) → now.source ≡ before.source
     → HasCause (IsErrOf {T = Outcome} (Err f) fault.Sink) before.sink now.sink → before.disk ≤ now.disk → (f ≡ fault.Disk → Rose before.disk now.disk)
     → (fault_ending f ≡ Ending.NoneFailed → IsTrue now.tells → now.calls.failed ≡ before.calls.failed) → (IsTrue now.tells → StopsAtFault before.calls now.calls) → IsAccounted (turn_failure answer) before now
 command_accounted (Ok x) f before now is calm sink later rose went_on stops = absurd is

@@ -44,6 +44,7 @@ ends_by_disk ended before now ends = record {
         in_use = λ records closing. absurd closing;
         unended = λ closing. absurd closing;
       };
+  mark = ends.mark;
 }
 
 -- the store was closed, or the disk failed in that

@@ -1,12 +1,14 @@
 -- What a `?` hands on.
-use Rattle.std.proofs.Common.{◌≡◌, sym, ap, ◌∙◌}
+use Rattle.std.proofs.Common.{◌≡◌, inl, sym, ap, subst, ◌∙◌}
 use Rattle.std.specs.Prelude.{Err, IsErrAnd, Result}
 use Rattle.std.proofs.lemmas.Result.{err_from_is_err_and}
 use Rattle.cache_store.specs.Faults.{ending, fault_ending}
 use Rattle.cache_store.specs.Open.{IsOpen, LeavesOpen}
 use Rattle.cache_store.specs.Session.{Session}
 use Rattle.cache_store.specs.declared.fault.StoreFault.{StoreFault}
-use Rattle.disk_model.specs.Account.{Ending}
+use Rattle.disk_model.specs.Account.{Accounts, Ending, Looks}
+use Rattle.disk_model.specs.declared.disk.Disk.{Ghosts}
+use Rattle.file_handles.proofs.Accounting.{accounts_then}
 
 -- the error
 pub handed_on : {T : Type 0} (r : Result T StoreFault) (f : StoreFault) → IsErrAnd r (λ e. e ≡ f) → r ≡ Err f
@@ -15,3 +17,11 @@ handed_on r f h = let e = err_from_is_err_and r h in e.1 ∙ ap (λ x. Err x) e.
 -- and what it says of the store
 pub handed_open : {T : Type 0} (r : Result T StoreFault) (f : StoreFault) (now : Session) → IsErrAnd r (λ e. e ≡ f) → (fault_ending f ≡ Ending.NoneFailed → IsOpen now) → LeavesOpen r now
 handed_open r f now h still none = still (sym (ap ending (handed_on r f h)) ∙ none)
+
+-- and of the calls, where no call before it failed
+pub handed_account : {T : Type 0} {Self : _} (D : Ghosts Self) (r : Result T StoreFault) (f : StoreFault) (a b c : Self) → IsErrAnd r (λ e. e ≡ f) → Accounts D Ending.NoneFailed a b → Accounts D (fault_ending f) b c → Accounts D (ending r) a c
+handed_account D r f a b c h first last = subst (λ e. Accounts D e a c) (sym (ap ending (handed_on r f h))) (accounts_then D (fault_ending f) a b c first last)
+
+-- a call that only looked and did not fail
+pub looks_account : {Self : _} (D : Ghosts Self) (a b : Self) → Looks D Ending.NoneFailed a b → Accounts D Ending.NoneFailed a b
+looks_account D a b looks = record { cause = looks.cause; went_on = λ none. looks.no_change; stops = λ told. inl (looks.no_change told) }

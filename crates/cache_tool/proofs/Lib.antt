@@ -13,6 +13,7 @@ pub mod Growing
 pub mod Handed
 pub mod Loads
 pub mod LoadTells
+pub mod MarkLeft
 pub mod Moments
 pub mod OneCommand
 pub mod PlainRun

@@ -35,6 +35,7 @@ use Rattle.cache_tool.specs.Staying.{StaysOnce}
 use Rattle.cache_tool.specs.Tally.{RoseBy}
 use Rattle.cache_tool.specs.Verbs.{HasNotBegun, LeavesDisk, PrintsFault, PrintsLast, StopsForGood, all_begun_none_acked, none_begun, none_performed}
 use Rattle.cache_tool.specs.World.{Output}
+use Rattle.cache_tool.proofs.MarkLeft.{leaves_mark}
 use Rattle.cache_tool.proofs.RightLaws.{leads_begun, leads_none, leads_one, leads_still}
 use Rattle.cache_tool.proofs.SessionEnds.{ends_leave, stops_leave}
 use Rattle.disk_model.specs.Account.{Ending}
@@ -119,6 +120,7 @@ not_begun before t faults answer f ended failed no_sink same rose fails m is =
       failed = stop;
       rose = λ disk. rose (ap ending failed ∙ disk_failed f ended same disk);
       silent = Keeps-refl before.taken;
+      mark = leaves_mark [] before.disk t fails.mark;
       leaves = elim (fails.crash m is) [
         | inl safe ↦ inl (stops_leave m (none_begun m) ended before.disk t (stop_closes_not ended stop) safe fails.images)
         | inr (d, (done, safe)) ↦ inr (d, (done, stops_leave m (none_performed m d) ended before.disk t (stop_closes_not ended stop) (λ quiet. safe) fails.images))

@@ -1,6 +1,7 @@
 -- How a run begins: the store opened, and a clearing was resumed.
-use Rattle.std.proofs.Common.{◌≡◌, inl, inr, ℕ, List, Option, None, Some, Result, Ok, Err, refl, sym, subst}
+use Rattle.std.proofs.Common.{◌≡◌, inl, inr, ℕ, List, Option, None, Some, Result, Ok, Err, refl, sym, subst, ap, ◌∙◌}
 use Rattle.std.specs.Prelude.{OnErr}
+use Rattle.cache_store.specs.AtClear.{ChangesAtClear}
 use Rattle.cache_store.specs.Clearing.{LeavesResumed}
 use Rattle.cache_store.specs.DoneFor.{IsResumedBy}
 use Rattle.cache_store.specs.InUse.{OpensInUse}
@@ -10,6 +11,7 @@ use Rattle.cache_store.specs.Session.{Session}
 use Rattle.cache_store.specs.declared.fault.StoreFault.{StoreFault}
 use Rattle.cache_store.specs.declared.fault.Verdict.{Verdict}
 use Rattle.cache_store.proofs.Performing.Represented.{represents}
+use Rattle.cache_store.proofs.Sessions.Opened.{starts_on}
 use Rattle.cache_theory.specs.Command.{Command}
 use Rattle.cache_theory.specs.Command.Command.{Resume}
 use Rattle.cache_theory.specs.Crash.{IsSafe}
@@ -20,6 +22,7 @@ use Rattle.cache_tool.specs.Beginning.{BeginsRun, FailsToBegin}
 use Rattle.cache_tool.specs.Staying.{StaysFor}
 use Rattle.cache_tool.proofs.DoneLaws.{done_right, resumed_at_opening}
 use Rattle.cache_tool.proofs.EntryLooks.{mark_opened, opened_to_read}
+use Rattle.cache_tool.proofs.MarkLeft.{opened_changes_mark, resumed_changes_mark}
 use Rattle.cache_tool.proofs.RightLaws.{leads_one}
 use Rattle.cache_tool.proofs.StayingLaws.{stays_done}
 use Rattle.context_clear.specs.Mark.{mark_of}
@@ -28,6 +31,7 @@ use Rattle.disk_model.specs.Sound.{IsQuiet}
 use Rattle.disk_model.specs.State.{State, standing}
 use Rattle.disk_model.specs.declared.place.Place.TheVariants.{Clear}
 use Rattle.index_record.specs.declared.record.IndexRecord.{IndexRecord}
+use Rattle.index_theory.specs.AtClear.{KeepsClear}
 use Rattle.index_theory.specs.Honest.{LeavesHonest}
 
 -- what is said of a fault is said of its answer
@@ -41,14 +45,22 @@ resumed_acked Holds None h d is = subst (λ c. (begun c h).marks ≡ (acked c h)
 resumed_acked Holds (Some origin) h d is = subst (λ c. (begun c h).marks ≡ (acked c h).marks) (sym is.1.0) refl
 
 -- the store did not open
-pub never_opened : (moment : ℕ) (s t : State) → OpensHonestly s t → ((m : Machine) → StartsOn moment s m → IsQuiet s → IsSafe t (marks_of m)) → FailsToBegin moment s t
-never_opened moment s t images safe = record { images = images; crash = λ m is. inl (safe m is) }
+pub never_opened : (moment : ℕ) (s t : State) → OpensHonestly s t → (IsQuiet s → KeepsClear s t) → ((m : Machine) → StartsOn moment s m → IsQuiet s → IsSafe t (marks_of m)) → FailsToBegin moment s t
+never_opened moment s t images kept safe = record { images = images; mark = opened_changes_mark s t kept; crash = λ m is. inl (safe m is) }
 
-module _ (moment : ℕ) (s : State) (first now : Session) (finite : IsFinite s) (opens : Opens moment s first) (begins : BeginsOn (standing s) first.open_store.index.map) (taken later : Option (List ℕ)) where
+module _ (moment : ℕ) (s : State) (first now : Session) (finite : IsFinite s) (opens : Opens moment s first) (begins : BeginsOn (standing s) first.open_store.index.map) (taken later : Option (List ℕ))
+    (opened : IsQuiet s → KeepsClear s first.disk) (resumed : ChangesAtClear Resume first.disk now.disk) where
+  -- a mark that stands once more after the opening stood before it
+  stood : standing first.disk Clear ≡ standing s Clear
+  stood =
+      let (m, is) = starts_on moment s finite in
+      sym (mark_opened moment s first opens m is) ∙ ap (λ (x : Machine). x.mark) is.is_opened
+
   -- the clearing failed
   pub resume_fails : (answer : Result Verdict StoreFault) → PerformsFor Resume answer first now taken later → LeavesHonest now.disk → FailsToBegin moment s now.disk
   resume_fails answer performs kept = record {
     images = λ quiet honest. kept;
+    mark = resumed_changes_mark s first.disk now.disk stood opened resumed;
     crash = λ m is.
         let keeps = opens.keeps m is in
         let does = performs.crash (settled_at m) keeps in
@@ -69,6 +81,7 @@ module _ (moment : ℕ) (s : State) (first now : Session) (finite : IsFinite s) 
     opens = opens;
     based = based;
     begins = begins;
+    mark = resumed_changes_mark s first.disk now.disk stood opened resumed;
     resumed = λ m is.
         let keeps = opens.keeps m is in
         let does = performs.crash (settled_at m) keeps in

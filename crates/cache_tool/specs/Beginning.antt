@@ -15,6 +15,7 @@ use Rattle.cache_theory.specs.History.{acked, settled_at}
 use Rattle.cache_theory.specs.Machine.{Machine}
 use Rattle.cache_theory.specs.Marks.{marks_of}
 use Rattle.cache_theory.specs.Step.{step}
+use Rattle.cache_tool.specs.MarkLeft.{ChangesMark}
 use Rattle.cache_tool.specs.Right.{LeadTo}
 use Rattle.context_clear.specs.Mark.{mark_of}
 use Rattle.disk_model.specs.Sound.{IsQuiet}
@@ -82,10 +83,12 @@ pub record BeginsRun (moment : ℕ) (s : State) (now : Session) : Type 0 where
   pub based : OpensInUse s first.open_store.index.map first.disk
   pub begins : BeginsOn (standing s) first.open_store.index.map
   pub resumed : (m : Machine) → StartsOn moment s m → IsResumed first m now
+  pub mark : ChangesMark [] s now.disk
 
 -- It failed. A crash loses nothing where the opening did, and else no more than this first command allows.
 pub record FailsToBegin (moment : ℕ) (s t : State) : Type 0 where
   pub images : OpensHonestly s t
+  pub mark : ChangesMark [] s t
   pub crash : (m : Machine) → StartsOn moment s m
       → (IsQuiet s → IsSafe t (marks_of m))
       ⊎ DoneAtOpening s m (λ d. IsSafe t (acked d (settled_at m)).marks)

@@ -6,6 +6,7 @@ use Rattle.cache_store.specs.Open.{IsHonest, IsShut, KeepsTo, Tells}
 use Rattle.cache_store.specs.Session.{Session}
 use Rattle.cache_theory.specs.Crash.{IsSafe}
 use Rattle.cache_theory.specs.History.{History}
+use Rattle.cache_tool.specs.MarkLeft.{KeepsMark}
 use Rattle.cache_tool.specs.Statuses.{IsClosing}
 use Rattle.cache_tool.specs.Staying.{EndsInUse}
 use Rattle.disk_model.specs.State.{State, standing}
@@ -32,3 +33,4 @@ pub record IsEnded (ended : Status) (h : History) (before : Session) (now : Stat
 -- whatever history the disk kept to
 pub record EndsSession (ended : Status) (before : Session) (now : State) : Type 0 where
   pub each : (h : History) → KeepsTo before h → IsEnded ended h before now
+  pub mark : KeepsMark before.disk now

@@ -13,6 +13,7 @@ use Rattle.cache_theory.specs.Step.{step}
 use Rattle.cache_theory.specs.Text.{reply_text}
 use Rattle.cache_tool.specs.Fill.{half_of}
 use Rattle.cache_tool.specs.Filled.{AreFilled, done_in, lines_in, status_in_check}
+use Rattle.cache_tool.specs.MarkLeft.{KeepsMark}
 use Rattle.cache_tool.specs.PutProgress.{all_unanswered}
 use Rattle.cache_tool.specs.Right.{LeadTo}
 use Rattle.evictor.specs.Evict.{total_kb}
@@ -29,6 +30,7 @@ pub record RunsAll {T : Type 0} (cs : List Command) (answer : Result T StoreFaul
     (before now : Session)
     : Type 0 where
   pub each : (h : History) → KeepsTo before h → AreRun cs h answer before now
+  pub mark : KeepsMark before.disk now.disk
 
 -- for a history: half of all was evicted, by a sum which is that of all entries where the records in memory are right
 pub record HalfIsEvicted {T : Type 0} (h : History) (answer : Result T StoreFault)
@@ -47,6 +49,7 @@ pub record EvictsHalf {T : Type 0} (answer : Result T StoreFault) (before now : 
     (said : List ℕ)
     : Type 0 where
   pub each : (h : History) → KeepsTo before h → HalfIsEvicted h answer before now said
+  pub mark : KeepsMark before.disk now.disk
 
 -- for a history: all of it
 pub record FillIsPerformed (moment count first : ℕ) (h : History) (came : Result Status StoreFault)
@@ -64,3 +67,4 @@ pub record PerformsFill (moment count first : ℕ) (came : Result Status StoreFa
     (lines : List ℕ) : Type 0 where
   pub each : (h : History) → KeepsTo before h
       → FillIsPerformed moment count first h came before now lines
+  pub mark : KeepsMark before.disk now.disk

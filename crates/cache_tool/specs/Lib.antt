@@ -12,6 +12,7 @@ pub mod HeldReply
 pub mod Load
 pub mod LoadProgress
 pub mod LoadTells
+pub mod MarkLeft
 pub mod Pieces
 pub mod PlainRun
 pub mod Put

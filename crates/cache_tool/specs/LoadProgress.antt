@@ -16,8 +16,8 @@ use Rattle.cache_theory.specs.Command.Command.{Append, Close, Create, FinishAs}
 use Rattle.cache_tool.specs.FillProgress.{RunsAll}
 use Rattle.cache_tool.specs.Load.{ArePartsTo, BeginsLoaded, GaveLoaded, IsBadBehind, IsNoDump, Loaded, bad_dump_line, begun_parts, loaded_commands, loaded_line}
 use Rattle.cache_tool.specs.Statuses.{status_in}
-use Rattle.cache_tool.specs.declared.load.Ended.{Ended}
-use Rattle.cache_tool.specs.declared.load.Ended.TheVariants as ended
+use Rattle.cache_tool.specs.declared.load.LoadEnd.{LoadEnd}
+use Rattle.cache_tool.specs.declared.load.LoadEnd.TheVariants as ended
 use Rattle.entry_file.specs.Version.{Version}
 use Rattle.entry_parts.specs.Elements.{Element}
 use Rattle.entry_parts.specs.declared.header.Header.{Header}
@@ -101,13 +101,13 @@ pub record ReadsLoaded (ended : Status) (from left : Option (List ℕ)) (l : Loa
   pub broken : ended ≡ status.Source → GaveLoaded from left l
 
 -- the status of an end
-abbrev pub status_of_end : Ended → Status
+abbrev pub status_of_end : LoadEnd → Status
 status_of_end (ended.Whole count) = status.Done
 status_of_end (ended.Bad number) = status.Script
 status_of_end ended.Failed = status.Source
 
 -- the status of what the parts came to
-abbrev pub status_at_end : Result Ended StoreFault → Status
+abbrev pub status_at_end : Result LoadEnd StoreFault → Status
 status_at_end (Ok e) = status_of_end e
 status_at_end (Err f) = status_in (Err f)
 
@@ -116,14 +116,14 @@ abbrev pub IsLine : Status → Type 0
 IsLine s = (s ≡ status.Done) ⊎ (s ≡ status.Script)
 
 -- the number that it tells is that of so many whole items, or of the one after them
-abbrev pub TellsNumber : Result Ended StoreFault → ℕ → Type 0
+abbrev pub TellsNumber : Result LoadEnd StoreFault → ℕ → Type 0
 TellsNumber (Ok (ended.Whole count)) n = count ≡ n
 TellsNumber (Ok (ended.Bad number)) n = number ≡ suc n
 TellsNumber (Ok ended.Failed) n = ⊤
 TellsNumber (Err f) n = ⊤
 
 -- this was read, and all of it was done as far as a fault let it
-pub record EndsLoaded (tells : Type 0) (answer : Result Ended StoreFault)
+pub record EndsLoaded (tells : Type 0) (answer : Result LoadEnd StoreFault)
     (from left : Option (List ℕ))
     (before now : Session) : Type 0 where
   pub loaded : Loaded
@@ -134,13 +134,13 @@ pub record EndsLoaded (tells : Type 0) (answer : Result Ended StoreFault)
 
 -- the same after one turn, after which there may be more
 abbrev pub LoadsSoFar :
-    Type 0 → Result (Option Ended) StoreFault → Option (List ℕ) → Session → Loading → Type 0
+    Type 0 → Result (Option LoadEnd) StoreFault → Option (List ℕ) → Session → Loading → Type 0
 LoadsSoFar tells (Ok None) from before now = HasLoaded tells from before now
 LoadsSoFar tells (Ok (Some e)) from before now = EndsLoaded tells (Ok e) from now.left before now.session
 LoadsSoFar tells (Err f) from before now = EndsLoaded tells (Err f) from now.left before now.session
 
 -- one turn, whatever the turns before it did
-pub record LoadsNext (tells : Type 0) (answer : Result (Option Ended) StoreFault)
+pub record LoadsNext (tells : Type 0) (answer : Result (Option LoadEnd) StoreFault)
     (mid now : Loading)
     : Type 0 where
   pub on : (from : Option (List ℕ)) (before : Session) → HasLoaded tells from before mid

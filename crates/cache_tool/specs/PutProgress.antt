@@ -20,6 +20,7 @@ use Rattle.cache_theory.specs.Machine.{Machine, Slot, object}
 use Rattle.cache_theory.specs.Marks.{all_begun}
 use Rattle.cache_theory.specs.Step.{after, step}
 use Rattle.cache_theory.specs.Text.{reply_text}
+use Rattle.cache_tool.specs.MarkLeft.{KeepsMark, MayMark}
 use Rattle.cache_tool.specs.Put.{ArePut, GivesPart, GivesWhole, appends}
 use Rattle.cache_tool.specs.Replies.{is_done, last_reply, until_refused}
 use Rattle.cache_tool.specs.Right.{LeadTo}
@@ -45,6 +46,7 @@ pub record SendsCommand (c : Command) (answer : Result Verdict StoreFault) (befo
     (said : List ℕ) : Type 0 where
   pub each : (h : History) → KeepsTo before h
       → DoneFor (Tells before h.machine) c h.machine (λ d. IsSent d h answer before now said)
+  pub mark : MayMark c before.disk now.disk
 
 -- Commands one after the other.
 
@@ -107,6 +109,7 @@ pub record AppendsPiece (piece : List ℕ) (room : ℕ) (answer : Result Verdict
     (before now : Session) (said : List ℕ) : Type 0 where
   pub each : (h : History) (body : List ℕ) → KeepsTo before h → IsWriting h.machine body
       → room + length body ≡ BODY_MAX → PieceIsSent body piece h answer before now said
+  pub mark : KeepsMark before.disk now.disk
 
 -- for a history: so far these commands were done, which append this body
 pub record BodyIsSent (body : List ℕ) (cs : List Command) (h : History)
@@ -125,6 +128,7 @@ pub record AppendsSoFar (tells : Type 0) (room : ℕ) (left left_now : Option (L
   pub room_is : room + length body ≡ BODY_MAX
   pub sent : tells → (h : History) → KeepsTo before h → IsWriting h.machine []
       → BodyIsSent body commands h before now
+  pub mark : tells → KeepsMark before.disk now.disk
 
 -- The whole body.
 
@@ -166,6 +170,7 @@ pub record AppendsBody (from to : Supply) (came : Result Status StoreFault) (bef
     (said : List ℕ) : Type 0 where
   pub each : IsSome from.left → (h : History) → KeepsTo before h → IsWriting h.machine []
       → BodyIsAppended h from to came before now said
+  pub mark : KeepsMark before.disk now.disk
 
 -- The whole put.
 
@@ -190,3 +195,4 @@ pub record PerformsPut (key : List ℕ) (from to : Supply) (came : Result Status
     (before now : Session) (said : List ℕ) : Type 0 where
   pub each : IsSome from.left → (h : History) → KeepsTo before h
       → PutIsPerformed key h from to (status_in came) before now said
+  pub mark : KeepsMark before.disk now.disk

@@ -20,14 +20,15 @@ use Rattle.cache_theory.specs.Marks.{Marks, all_acked, all_begun}
 use Rattle.cache_theory.specs.Step.{after, step}
 use Rattle.cache_theory.specs.Text.{AreSpoken, CommandsIn, IsCommand, ScriptSpells, SpellsFront, reply_text, script_bytes}
 use Rattle.cache_tool.specs.DoneFor.{AreDoneFor}
+use Rattle.cache_tool.specs.MarkLeft.{ChangeMark}
 use Rattle.cache_tool.specs.Right.{LeadTo}
 use Rattle.cache_tool.specs.Script.{AreTaken, performed}
 use Rattle.cache_tool.specs.Statuses.{IsClosing, status_in}
 use Rattle.cache_tool.specs.Tally.{RoseBy}
-use Rattle.cache_tool.specs.Verbs.{CountsFaults, Reach, SendsNextFront, TellsReplies}
+use Rattle.cache_tool.specs.Verbs.{CountsFaults, Reach, begun_of, SendsNextFront, TellsReplies}
 use Rattle.cache_tool.specs.World.{Progress}
-use Rattle.cache_tool.specs.declared.script.Ended.{Ended}
-use Rattle.cache_tool.specs.declared.script.Ended.TheVariants as ended
+use Rattle.cache_tool.specs.declared.script.ScriptEnd.{ScriptEnd}
+use Rattle.cache_tool.specs.declared.script.ScriptEnd.TheVariants as ended
 use Rattle.disk_model.specs.Calls.{LastFails}
 use Rattle.disk_model.specs.State.{State}
 
@@ -130,6 +131,11 @@ pub record FailsAfter (cs : List Command) (faults : List ℕ) (c : Command) (f :
 pub record FaultsAfter (cs : List Command) (faults : List ℕ) (before now : Progress) : Type 0 where
   pub each : (h : History) → KeepsTo before.session h → SomeFaultCut cs faults h before now
 
+-- what those of these commands that are not answered `fault` may change at `clear`
+abbrev pub ChangeMarkBut : List ℕ → List Command → Progress → Progress → Type 0
+ChangeMarkBut faults cs before now =
+    ChangeMark (unfaulted faults cs) before.session.disk now.session.disk
+
 -- Turns of the loop that reads and performs commands.
 
 -- all that was read was performed, and the reader stands after it
@@ -142,9 +148,10 @@ pub record HasPerformed (tells : Bool) (r : Reader) (before now : Progress) : Ty
   pub counts : AreCounted (length commands) faults before now
   pub calm : TellsOfFaults faults before now
   pub performs : IsTrue tells → PerformsAll commands faults before now
+  pub mark : IsTrue tells → ChangeMarkBut faults commands before now
 
 -- what the source has, by how the commands ended
-abbrev pub EndsScript : Ended → Option (List ℕ) → Option (List ℕ) → List Command → Type 0
+abbrev pub EndsScript : ScriptEnd → Option (List ℕ) → Option (List ℕ) → List Command → Type 0
 EndsScript ended.Whole left now cs = IsAtEnd now × IfSome left (λ bytes. ScriptSpells bytes cs)
 EndsScript ended.Failed left now cs = AreTaken left now cs
 EndsScript (ended.Bad number) left now cs =
@@ -152,18 +159,23 @@ EndsScript (ended.Bad number) left now cs =
     × IfSome left (λ bytes. CommandsIn bytes cs × ¬ (ScriptSpells bytes cs))
 
 -- all commands that there are were performed
-pub record PerformsToEnd (tells : Bool) (e : Ended) (before now : Progress) : Type 0 where
+pub record PerformsToEnd (tells : Bool) (e : ScriptEnd) (before now : Progress) : Type 0 where
   pub commands : List Command
   pub ends : EndsScript e before.source.left now.source.left commands
   pub faults : List ℕ
   pub counts : AreCounted (length commands) faults before now
   pub calm : TellsOfFaults faults before now
   pub performs : IsTrue tells → PerformsAll commands faults before now
+  pub mark : IsTrue tells → ChangeMarkBut faults commands before now
 
--- the disk failed once more than there are answers `fault`, but did not fail for good
-pub record FailsInLine (f : StoreFault) (faults : List ℕ) (before now : Progress) : Type 0 where
+-- The line `fault` was cut: the disk failed once more than there are such answers, but did not fail for good.
+pub record FailsInLine (tells : Bool) (cs : List Command) (faults : List ℕ) (f : StoreFault)
+    (before now : Progress)
+    : Type 0 where
   pub no_disk : f ≢ fault.Disk
   pub rose : RoseBy (suc (length faults)) before.disk_faults now.disk_faults
+  pub each : IsTrue tells → FaultsAfter cs faults before now
+  pub mark : IsTrue tells → ChangeMarkBut faults cs before now
 
 -- A command failed in its reply: this is what it left, and where the disk did not end it, it did not fail in it.
 pub record FailsInReply (tells : Bool) (cs : List Command) (faults : List ℕ) (c : Command)
@@ -171,6 +183,7 @@ pub record FailsInReply (tells : Bool) (cs : List Command) (faults : List ℕ) (
     : Type 0 where
   pub calm : f ≢ fault.Disk → TellsOfFaults faults before now
   pub each : IsTrue tells → FailsAfter cs faults c f before now
+  pub mark : IsTrue tells → ChangeMarkBut faults (cs ++ c ∷ []) before now
 
 -- a command failed after those that were performed, or the line `fault` that was its answer did
 pub record FailsMidway (tells : Bool) (f : StoreFault) (before now : Progress) : Type 0 where
@@ -182,22 +195,22 @@ pub record FailsMidway (tells : Bool) (f : StoreFault) (before now : Progress) :
   pub counts : AreCounted (length commands) faults before now
   pub disk : f ≡ fault.Disk → RoseBy (suc (length faults)) before.disk_faults now.disk_faults
   pub fails : FailsInReply tells commands faults last f before now
-      ⊎ (FailsInLine f faults before now × (IsTrue tells → FaultsAfter commands faults before now))
+      ⊎ FailsInLine tells commands faults f before now
 
 -- how the loop over the commands ended: all were performed, or one failed
-abbrev pub PerformsCommands : Bool → Result Ended StoreFault → Progress → Progress → Type 0
+abbrev pub PerformsCommands : Bool → Result ScriptEnd StoreFault → Progress → Progress → Type 0
 PerformsCommands tells (Ok e) before now = PerformsToEnd tells e before now
 PerformsCommands tells (Err f) before now = FailsMidway tells f before now
 
 -- the same after one turn, after which there may be more
 abbrev pub PerformsSoFar :
-    Bool → Result (Option Ended) StoreFault → Reader → Progress → Progress → Type 0
+    Bool → Result (Option ScriptEnd) StoreFault → Reader → Progress → Progress → Type 0
 PerformsSoFar tells (Ok None) r before now = HasPerformed tells r before now
 PerformsSoFar tells (Ok (Some e)) r before now = PerformsToEnd tells e before now
 PerformsSoFar tells (Err f) r before now = FailsMidway tells f before now
 
 -- one turn, whatever the turns before it performed
-pub record PerformsNext (tells : Bool) (answer : Result (Option Ended) StoreFault)
+pub record PerformsNext (tells : Bool) (answer : Result (Option ScriptEnd) StoreFault)
     (old new : Reader) (mid now : Progress) : Type 0 where
   pub on : (before : Progress) → HasPerformed tells old before mid
       → PerformsSoFar tells answer new before now
@@ -255,6 +268,7 @@ pub record ScriptIsRun (h : History) (bytes : List ℕ) (cs : List Command) (end
       ⊎ SendsNextFront h.machine done acked faults before.taken now.taken
   pub leaves : LeavesScript h.machine
       (one_begun_on h acked with_last ended done) ended before.session now.session
+  pub mark : ChangeMark (begun_of acked with_last cs) before.session.disk now.session.disk
 
 -- whatever history the disk kept to
 pub record PerformsScript (came : Result Status StoreFault) (before now : Progress) : Type 0 where

@@ -7,8 +7,8 @@ use Rattle.cache_io.specs.declared.sink.Sink.{Ghosts as OfSink}
 use Rattle.cache_io.specs.declared.source.Source.{Ghosts as OfSource}
 use Rattle.cache_store.specs.declared.fault.StoreFault.{StoreFault}
 use Rattle.cache_store.specs.declared.fault.StoreFault.TheVariants as fault
-use Rattle.cache_tool.specs.declared.script.Ended.{Ended}
-use Rattle.cache_tool.specs.declared.script.Ended.TheVariants as ended
+use Rattle.cache_tool.specs.declared.script.ScriptEnd.{ScriptEnd}
+use Rattle.cache_tool.specs.declared.script.ScriptEnd.TheVariants as ended
 use Rattle.disk_model.specs.Calls.{Counts, StopsAtFault}
 use Rattle.disk_model.specs.declared.disk.Disk.{Ghosts as OfDisk}
 
@@ -31,18 +31,18 @@ fault_failure fault.Sink = Failure.OfSinkCall
 fault_failure fault.Memory = Failure.OfMemory
 
 -- by how the commands of a script ended
-abbrev pub ended_failure : Ended → Failure
+abbrev pub ended_failure : ScriptEnd → Failure
 ended_failure ended.Whole = Failure.NoFailure
 ended_failure ended.Failed = Failure.OfSourceCall
 ended_failure (ended.Bad number) = Failure.NoFailure
 
 -- so where a fault of the store may have ended them
-abbrev pub failure : Result Ended StoreFault → Failure
+abbrev pub failure : Result ScriptEnd StoreFault → Failure
 failure (Ok e) = ended_failure e
 failure (Err f) = fault_failure f
 
 -- so after one turn, after which there may be more
-abbrev pub turn_failure : Result (Option Ended) StoreFault → Failure
+abbrev pub turn_failure : Result (Option ScriptEnd) StoreFault → Failure
 turn_failure (Ok None) = Failure.NoFailure
 turn_failure (Ok (Some e)) = ended_failure e
 turn_failure (Err f) = fault_failure f

@@ -21,6 +21,7 @@ use Rattle.cache_theory.specs.Step.{after, step}
 use Rattle.cache_theory.specs.Text.{CommandsIn, ScriptSpells, reply_text}
 use Rattle.cache_tool.specs.Beginning.{DoneAtOpening, DoneOnResumed, ReadsNoEntry}
 use Rattle.cache_tool.specs.DoneFor.{AreDoneFor}
+use Rattle.cache_tool.specs.MarkLeft.{LeavesMark}
 use Rattle.cache_tool.specs.Put.{ArePut}
 use Rattle.cache_tool.specs.Replies.{last_reply}
 use Rattle.cache_tool.specs.Right.{ComesRight}
@@ -69,6 +70,10 @@ marks_behind m d cs faults a b =
     let begun = unfaulted faults (take b cs) in
     marks_between m (d ∷ begun) (suc (length (unfaulted faults (take a cs)))) (suc (length begun))
 
+-- of these, one by one: so many are acknowledged, and the next one may have begun, but for those with these numbers
+abbrev pub begun_of : (acked : ℕ) (with_last : List ℕ) → List Command → List Command
+begun_of acked with_last cs = unfaulted with_last (take (acked + 1) cs)
+
 -- it, and then these one by one, each with an answer of its own: so many are acknowledged, and one more may have begun.
 -- Those with these numbers are answered `fault`, or the last of them was to be: they have not begun.
 abbrev pub one_begun_after :
@@ -116,6 +121,7 @@ pub record HasNotBegun (m : Machine) (ended : Status) (before now : Output) : Ty
   pub failed : (ended ≡ status.Disk) ⊎ (ended ≡ status.Memory)
   pub rose : ended ≡ status.Disk → Rose before.disk_faults now.disk_faults
   pub silent : Keeps before.taken now.taken
+  pub mark : LeavesMark [] before.disk now.disk
   -- no command has begun, or that one alone
   pub leaves : LeavesDisk m (none_begun m) ended before.disk now.disk
       ⊎ DoneAtOpening before.disk m
@@ -253,6 +259,7 @@ pub record PrintsReplies (m : Machine) (d : Command) (bytes : List ℕ) (cs : Li
       ⊎ SendsNextFront (step m d).next done acked faults before.taken now.taken
   pub leaves : LeavesDisk m
       (one_begun_after m d acked with_last ended done) ended before.disk now.disk
+  pub mark : LeavesMark (begun_of acked with_last cs) before.disk now.disk
 
 -- `run`, of a source that tells its bytes: the commands that these spell are performed; or the run did not begin, and
 -- nothing of them was read

@@ -13,11 +13,13 @@ ghost use Rattle.cache_tool.specs.Filled.{FillsCache};
 ghost use Rattle.cache_tool.specs.FillProgress.{EvictsHalf, PerformsFill, RunsAll};
 ghost use Rattle.cache_tool.specs.FirstLine.{first_line as first_line_of};
 ghost use Rattle.cache_tool.specs.HeldReply.{said_in};
+ghost use Rattle.cache_tool.specs.MarkLeft.{LeavesMark};
 ghost use Rattle.cache_tool.specs.Statuses.{IsAnswer, IsClosing};
 ghost use Rattle.cache_tool.specs.World.{output};
 ghost use Rattle.disk_model.specs.Account.{Accounts};
 ghost use Rattle.disk_model.specs.Calls.{StopsAtFault};
 ghost use Rattle.disk_model.specs.Sound.{IsQuiet};
+ghost use Rattle.disk_model.specs.Told.{Told};
 ghost use Rattle.index_theory.specs.Honest.{LeavesHonest};
 
 use crate::last_reply::LastReply;
@@ -281,6 +283,7 @@ pub(crate) fn fill<D: Disk, K: Sink>(
     ensures others { IsAnswer result
         ⊎ ((result ≡ Status.Sink) ⊎ ((result ≡ Status.Disk) ⊎ (result ≡ Status.Memory))) }
     ensures quiet { IsClosing result → IsTrue D.tells → IsQuiet (D.state disk.new) }
+    ensures mark { Told D.Disk (LeavesMark []) disk.old disk.new }
     ensures stops { IsTrue D.tells → StopsAtFault (D.counts disk.old) (D.counts disk.new) }
     ensures sink { result ≡ Status.Sink → Rose (K.faults sink.old) (K.faults sink.new) }
     ensures calm { IsAnswer result → K.faults sink.new ≡ K.faults sink.old }

@@ -13,11 +13,13 @@ ghost use Rattle.cache_store.specs.Session.{session};
 ghost use Rattle.cache_tool.specs.Load.{HasDump, HasNoDump, LoadsDump, bad_dump_line, loaded_line};
 ghost use Rattle.cache_tool.specs.LoadProgress.{EndsLoaded, IsLine, LoadsNext, PerformsLoad, finish_commands, loading, part_commands};
 ghost use Rattle.cache_tool.specs.FillProgress.{RunsAll};
+ghost use Rattle.cache_tool.specs.MarkLeft.{LeavesMark};
 ghost use Rattle.cache_tool.specs.Statuses.{IsClosing, IsSaid};
 ghost use Rattle.cache_tool.specs.World.{world};
 ghost use Rattle.disk_model.specs.Account.{Accounts};
 ghost use Rattle.disk_model.specs.Calls.{StopsAtFault};
 ghost use Rattle.disk_model.specs.Sound.{IsQuiet};
+ghost use Rattle.disk_model.specs.Told.{Told};
 ghost use Rattle.entry_parts.specs.Elements.{AreElements, elements_bytes};
 ghost use Rattle.entry_parts.specs.Header.{IsHeader};
 ghost use Rattle.index_theory.specs.Honest.{LeavesHonest};
@@ -40,7 +42,7 @@ const SLOT: u8 = 0;
 
 /// How the parts of a dump came to their end.
 #[derive(Clone, Copy)]
-pub(crate) enum Ended {
+pub(crate) enum LoadEnd {
     /// The dump ended after so many items.
     Whole(u64),
     /// The item with this number, counted from 1, is bad.
@@ -155,7 +157,7 @@ fn load_next<D: Disk, S: Source>(
     source: &mut S,
     said: &mut LastReply,
     disk: &mut D,
-) -> Result<Option<Ended>, StoreFault>
+) -> Result<Option<LoadEnd>, StoreFault>
     requires few { count.old ≤ used_in reader.old }
     requires told { IsTrue D.tells → IsOpen (session D.Disk store.old disk.old) }
     ensures loads { let at = session D.Disk in let left = S.left in
@@ -164,7 +166,7 @@ fn load_next<D: Disk, S: Source>(
         LoadsNext (IsTrue D.tells) result mid now }
     ensures few { result ≡ Ok None → count.new ≤ used_in reader.new }
     ensures further { result ≡ Ok None → used_in reader.old < used_in reader.new }
-    ensures source { HasCause (result ≡ Ok (Some Ended.Failed))
+    ensures source { HasCause (result ≡ Ok (Some LoadEnd.Failed))
         (S.faults source.old) (S.faults source.new) }
     ensures open { IsTrue D.tells → LeavesOpen result (session D.Disk store.new disk.new) }
     ensures honest { IsTrue D.tells → LeavesHonest (D.state disk.new) }
@@ -185,9 +187,9 @@ fn load_next<D: Disk, S: Source>(
             *count += 1;
             Ok(None)
         }
-        Ok(Item::End) => Ok(Some(Ended::Whole(*count))),
-        Err(DumpFault::Bad(number)) => Ok(Some(Ended::Bad(number))),
-        Err(DumpFault::Source) => Ok(Some(Ended::Failed)),
+        Ok(Item::End) => Ok(Some(LoadEnd::Whole(*count))),
+        Err(DumpFault::Bad(number)) => Ok(Some(LoadEnd::Bad(number))),
+        Err(DumpFault::Source) => Ok(Some(LoadEnd::Failed)),
         Err(DumpFault::Memory) => Err(StoreFault::Memory),
     }
 }
@@ -199,12 +201,12 @@ fn load_parts<D: Disk, S: Source>(
     source: &mut S,
     said: &mut LastReply,
     disk: &mut D,
-) -> Result<Ended, StoreFault>
+) -> Result<LoadEnd, StoreFault>
     requires told { IsTrue D.tells → IsOpen (session D.Disk store.old disk.old) }
     ensures loads { let at = session D.Disk in let from = S.left source.old in
         let before = at store.old disk.old in let now = at store.new disk.new in
         EndsLoaded (IsTrue D.tells) result from (S.left source.new) before now }
-    ensures source { HasCause (result ≡ Ok Ended.Failed)
+    ensures source { HasCause (result ≡ Ok LoadEnd.Failed)
         (S.faults source.old) (S.faults source.new) }
     ensures open { IsTrue D.tells → LeavesOpen result (session D.Disk store.new disk.new) }
     ensures honest { IsTrue D.tells → LeavesHonest (D.state disk.new) }
@@ -261,15 +263,15 @@ fn perform_load<D: Disk, S: Source>(
 {
     let mut said = LastReply::new(alloc);
     match load_parts(alloc, store, source, &mut said, disk)? {
-        Ended::Whole(count) => {
+        LoadEnd::Whole(count) => {
             say_loaded(alloc, count, line)?;
             Ok(Status::Done)
         }
-        Ended::Bad(number) => {
+        LoadEnd::Bad(number) => {
             say_bad(alloc, number, line)?;
             Ok(Status::Script)
         }
-        Ended::Failed => Ok(Status::Source),
+        LoadEnd::Failed => Ok(Status::Source),
     }
 }
 
@@ -296,6 +298,7 @@ pub(crate) fn load<D: Disk, S: Source, K: Sink>(
         (n : ℕ) × Appends (K.taken sink.old) (K.taken sink.new) (bad_dump_line (suc n)) }
     ensures others { (result ≢ Status.Words) × (result ≢ Status.No) }
     ensures quiet { IsClosing result → IsTrue D.tells → IsQuiet (D.state disk.new) }
+    ensures mark { Told D.Disk (LeavesMark []) disk.old disk.new }
     ensures stops { IsTrue D.tells → StopsAtFault (D.counts disk.old) (D.counts disk.new) }
     ensures source { result ≡ Status.Source → Rose (S.faults source.old) (S.faults source.new) }
     ensures sink { result ≡ Status.Sink → Rose (K.faults sink.old) (K.faults sink.new) }

@@ -1,6 +1,6 @@
 //! One command, which the words give.
 
-ghost use Rattle.std.specs.Prelude.{◌≡◌, ◌≢◌, ◌⊎◌, true, IsTrue};
+ghost use Rattle.std.specs.Prelude.{◌≡◌, ◌≢◌, ◌∷◌, ◌⊎◌, [], true, IsTrue};
 ghost use Rattle.cache_base.specs.Causes.{Rose};
 ghost use Rattle.cache_script.specs.Command.{command_of};
 ghost use Rattle.cache_store.specs.IndexCalls.{ReadsEntriesOf};
@@ -8,6 +8,7 @@ ghost use Rattle.cache_store.specs.Printed.{PrintsNo, PrintsOk, is_plain};
 ghost use Rattle.cache_store.specs.Saying.{TakesMore};
 ghost use Rattle.cache_theory.specs.Given.{IsGiven};
 ghost use Rattle.cache_theory.specs.Text.{IsSpoken};
+ghost use Rattle.cache_tool.specs.MarkLeft.{LeavesMark};
 ghost use Rattle.cache_tool.specs.Statuses.{IsAnswer, IsClosing};
 ghost use Rattle.cache_tool.specs.Verbs.{AnswersCommand, LooksAtNone};
 ghost use Rattle.cache_tool.specs.World.{output};
@@ -15,6 +16,7 @@ ghost use Rattle.context_clear.specs.Mark.{mark_of};
 ghost use Rattle.disk_model.specs.Calls.{StopsAtFault};
 ghost use Rattle.disk_model.specs.Sound.{IsQuiet};
 ghost use Rattle.disk_model.specs.State.{standing};
+ghost use Rattle.disk_model.specs.Told.{Told};
 ghost use Rattle.disk_model.specs.declared.place.Place.TheVariants.{Clear};
 ghost use Rattle.index_theory.specs.Start.{start_of};
 
@@ -49,6 +51,7 @@ pub(crate) fn perform_one<D: Disk, K: Sink>(
         LooksAtNone (command_of command.now) (mark_of (files Clear)) (start_of files) →
         ReadsEntriesOf D.Disk 0 disk.old disk.new }
     ensures quiet { IsClosing result → IsTrue D.tells → IsQuiet (D.state disk.new) }
+    ensures mark { Told D.Disk (LeavesMark (command_of command.now ∷ [])) disk.old disk.new }
     ensures stops { IsTrue D.tells → StopsAtFault (D.counts disk.old) (D.counts disk.new) }
     ensures sink { result ≡ Status.Sink → Rose (K.faults sink.old) (K.faults sink.new) }
     ensures calm { IsAnswer result → K.faults sink.new ≡ K.faults sink.old }

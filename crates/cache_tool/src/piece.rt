@@ -8,7 +8,7 @@ use cache_io::{Source, SourceFault, read_after};
 
 /// How far a piece was filled.
 #[derive(Clone, Copy, Debug, PartialEq, Eq)]
-pub(crate) enum Ended {
+pub(crate) enum PieceEnd {
     /// The piece is full.
     Full,
     /// The source has no more bytes.
@@ -21,17 +21,17 @@ pub(crate) enum Ended {
 #[derive(Clone, Copy, Debug, PartialEq, Eq)]
 pub(crate) struct Filled {
     pub(crate) count: usize,
-    pub(crate) ended: Ended,
+    pub(crate) ended: PieceEnd,
 }
 
 /// Fills the piece from the source, as far as it goes.
 pub(crate) fn fill<S: Source>(source: &mut S, piece: &mut [u8]) -> Filled
     ensures within { result.count ≤ length piece.new }
     ensures bytes { Consumes (S.left source.old) (S.left source.new) (take result.count piece.new) }
-    ensures full { result.ended ≡ Ended.Full → result.count ≡ length piece.new }
-    ensures short { result.ended ≢ Ended.Full → result.count < length piece.new }
-    ensures end { result.ended ≡ Ended.End → IsAtEnd (S.left source.new) }
-    ensures cause { let failed = result.ended ≡ Ended.Failed in
+    ensures full { result.ended ≡ PieceEnd.Full → result.count ≡ length piece.new }
+    ensures short { result.ended ≢ PieceEnd.Full → result.count < length piece.new }
+    ensures end { result.ended ≡ PieceEnd.End → IsAtEnd (S.left source.new) }
+    ensures cause { let failed = result.ended ≡ PieceEnd.Failed in
         HasCause failed (S.faults source.old) (S.faults source.new) }
 {
     let mut count = 0;
@@ -39,17 +39,17 @@ pub(crate) fn fill<S: Source>(source: &mut S, piece: &mut [u8]) -> Filled
         match read_after(source, piece, count) {
             Ok(0) => return Filled {
                 count,
-                ended: Ended::End,
+                ended: PieceEnd::End,
             },
             Ok(n) => count += n,
             Err(_) => return Filled {
                 count,
-                ended: Ended::Failed,
+                ended: PieceEnd::Failed,
             },
         }
     }
     Filled {
         count,
-        ended: Ended::Full,
+        ended: PieceEnd::Full,
     }
 }

@@ -5,6 +5,7 @@ ghost use Rattle.cache_base.specs.Causes.{Rose};
 ghost use Rattle.cache_store.specs.IndexCalls.{ReadsEntriesOf};
 ghost use Rattle.cache_store.specs.Saying.{TakesMore};
 ghost use Rattle.cache_tool.specs.ByVerb.{IsStatusOf, IsWhole, Performs, PrintsBy, ReadsSource, WentOn};
+ghost use Rattle.cache_tool.specs.MarkLeft.{LeavesMarkOf};
 ghost use Rattle.cache_tool.specs.Statuses.{IsAnswer, IsClosing};
 ghost use Rattle.cache_tool.specs.Verbs.{LooksAtNone};
 ghost use Rattle.cache_tool.specs.Words.{WhenOne, asked_in};
@@ -13,6 +14,7 @@ ghost use Rattle.context_clear.specs.Mark.{mark_of};
 ghost use Rattle.disk_model.specs.Calls.{StopsAtFault};
 ghost use Rattle.disk_model.specs.Sound.{IsQuiet};
 ghost use Rattle.disk_model.specs.State.{standing};
+ghost use Rattle.disk_model.specs.Told.{Told};
 ghost use Rattle.disk_model.specs.declared.place.Place.TheVariants.{Clear};
 ghost use Rattle.index_theory.specs.Start.{start_of};
 
@@ -79,6 +81,10 @@ pub fn run<D: Disk, S: Source, K: Sink>(
         WhenOne (asked_in words.now) (λ now c.
         LooksAtNone c (mark_of (files Clear)) (start_of files)
         → ReadsEntriesOf D.Disk 0 disk.old disk.new) }
+
+    // With nothing pending at the call, a crash at any moment leaves at the place of the mark of a clearing what stood
+    // there, nothing, or the mark of an origin that the words clear or whose clearing was resumed.
+    ensures mark { Told D.Disk (LeavesMarkOf (asked_in words.now)) disk.old disk.new }
 
     // Where the store was closed nothing is pending.
     ensures quiet { IsClosing result → IsTrue D.tells → IsQuiet (D.state disk.new) }

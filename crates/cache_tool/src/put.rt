@@ -15,6 +15,7 @@ ghost use Rattle.cache_theory.specs.Command.Command.{Resume};
 ghost use Rattle.cache_theory.specs.Given.{IsGiven};
 ghost use Rattle.cache_tool.specs.AnyDisk.{IsRefusalLine, TakesAtMost, ok_line};
 ghost use Rattle.cache_tool.specs.HeldReply.{said_in};
+ghost use Rattle.cache_tool.specs.MarkLeft.{LeavesMark};
 ghost use Rattle.cache_tool.specs.PutProgress.{AppendsBody, AppendsPiece, HasNoFront, PerformsPut, SendsCommand};
 ghost use Rattle.cache_tool.specs.Statuses.{IsAnswer, IsClosing};
 ghost use Rattle.cache_tool.specs.Verbs.{StoresEntry};
@@ -22,12 +23,13 @@ ghost use Rattle.cache_tool.specs.World.{supply, world};
 ghost use Rattle.disk_model.specs.Account.{Accounts, Ending, FailsInChange, Looks};
 ghost use Rattle.disk_model.specs.Calls.{StopsAtFault};
 ghost use Rattle.disk_model.specs.Sound.{IsQuiet};
+ghost use Rattle.disk_model.specs.Told.{Told};
 ghost use Rattle.entry_key.specs.Writing.{may_write};
 ghost use Rattle.index_map.specs.Known.{SameBase};
 ghost use Rattle.index_theory.specs.Honest.{LeavesHonest};
 
 use crate::last_reply::LastReply;
-use crate::piece::{Ended, fill};
+use crate::piece::{PieceEnd, fill};
 use crate::session::{begin, end, end_faulted, print_answer, status_of, status_of_fault};
 use cache_base::{BODY_MAX, Moment, NoMemory, PIECE_MAX, Status};
 use cache_io::{Sink, Source};
@@ -153,9 +155,9 @@ fn append_all<D: Disk, S: Source>(
         let filled = fill(source, piece);
         let outcome = append_piece(alloc, store, &piece[..filled.count], room, said, disk)?;
         match filled.ended {
-            Ended::Failed => return Ok(Status::Source),
-            Ended::End => return Ok(status_of(outcome)),
-            Ended::Full => match outcome {
+            PieceEnd::Failed => return Ok(Status::Source),
+            PieceEnd::End => return Ok(status_of(outcome)),
+            PieceEnd::Full => match outcome {
                 Verdict::Refused => return Ok(Status::No),
                 Verdict::Ok => room -= filled.count,
             },
@@ -240,6 +242,7 @@ pub(crate) fn put<D: Disk, S: Source, K: Sink>(
     ensures refused { result ≡ Status.No → PrintsRefusal (K.taken sink.old) (K.taken sink.new) }
     ensures others { (result ≢ Status.Words) × (result ≢ Status.Script) }
     ensures quiet { IsClosing result → IsTrue D.tells → IsQuiet (D.state disk.new) }
+    ensures mark { Told D.Disk (LeavesMark []) disk.old disk.new }
     ensures stops { IsTrue D.tells → StopsAtFault (D.counts disk.old) (D.counts disk.new) }
     ensures source { result ≡ Status.Source → Rose (S.faults source.old) (S.faults source.new) }
     ensures sink { result ≡ Status.Sink → Rose (K.faults sink.old) (K.faults sink.new) }

@@ -28,7 +28,7 @@ use std::alloc::Global;
 
 /// How the commands of a script came to their end.
 #[derive(Clone, Copy)]
-pub(crate) enum Ended {
+pub(crate) enum ScriptEnd {
     /// The source ended after the last command.
     Whole,
     /// The source failed.
@@ -98,9 +98,9 @@ fn perform_script<D: Disk, S: Source, K: Sink>(
 {
     let mut reader = Reader::new(alloc)?;
     match perform_commands(alloc, &mut reader, store, source, sink, disk)? {
-        Ended::Whole => Ok(Status::Done),
-        Ended::Failed => Ok(Status::Source),
-        Ended::Bad(number) => {
+        ScriptEnd::Whole => Ok(Status::Done),
+        ScriptEnd::Failed => Ok(Status::Source),
+        ScriptEnd::Bad(number) => {
             say_bad(alloc, number, sink)?;
             Ok(Status::Script)
         }
@@ -115,7 +115,7 @@ fn perform_commands<D: Disk, S: Source, K: Sink>(
     source: &mut S,
     sink: &mut K,
     disk: &mut D,
-) -> Result<Ended, StoreFault>
+) -> Result<ScriptEnd, StoreFault>
     requires fresh { (held_in reader.old ≡ [])
         × (given_in reader.old ≡ 0) × (used_in reader.old ≡ 0) }
     requires told { IsTrue D.tells → IsOpen (session D.Disk store.old disk.old) }
@@ -144,7 +144,7 @@ fn perform_next<D: Disk, S: Source, K: Sink>(
     source: &mut S,
     sink: &mut K,
     disk: &mut D,
-) -> Result<Option<Ended>, StoreFault>
+) -> Result<Option<ScriptEnd>, StoreFault>
     requires told { IsTrue D.tells → IsOpen (session D.Disk store.old disk.old) }
     ensures performs { let at = progress S.Source K.Sink D.Disk in
         let before = at store.old source.old sink.old disk.old in
@@ -163,9 +163,9 @@ fn perform_next<D: Disk, S: Source, K: Sink>(
             store.command(alloc, disk, &command, sink)?;
             Ok(None)
         }
-        Ok(None) => Ok(Some(Ended::Whole)),
-        Err(ScriptFault::Source) => Ok(Some(Ended::Failed)),
-        Err(ScriptFault::Script(number)) => Ok(Some(Ended::Bad(number))),
+        Ok(None) => Ok(Some(ScriptEnd::Whole)),
+        Err(ScriptFault::Source) => Ok(Some(ScriptEnd::Failed)),
+        Err(ScriptFault::Script(number)) => Ok(Some(ScriptEnd::Bad(number))),
     }
 }
 

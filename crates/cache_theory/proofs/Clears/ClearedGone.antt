@@ -30,7 +30,7 @@ use Rattle.entry_file.proofs.EntryLaws.{is_file_of}
 use Rattle.entry_name.specs.EntryName.{file_name}
 
 -- an undoomed object is there
-undoomed_there : (objects : List Object) (i : ℕ) → (nth objects i).doomed ≡ false → slice_get objects i ≡ Some (nth objects i)
+pub undoomed_there : (objects : List Object) (i : ℕ) → (nth objects i).doomed ≡ false → slice_get objects i ≡ Some (nth objects i)
 undoomed_there objects i un = go (slice_get objects i) refl un
   where
     go : (o : Option Object) → slice_get objects i ≡ o → (unwrap_or o nobody).doomed ≡ false → slice_get objects i ≡ Some (unwrap_or o nobody)
@@ -38,7 +38,7 @@ undoomed_there objects i un = go (slice_get objects i) refl un
     go (Some x) at un = at
 
 -- what is found for a key where an object's file stands is the object's version
-filed_version : (t : Machine) (i : ℕ) (key : List ℕ) (v : Version) → IsProper t → IsFiled t i (file_name key) → found (get t.shelf) key ≡ Some v
+pub filed_version : (t : Machine) (i : ℕ) (key : List ℕ) (v : Version) → IsProper t → IsFiled t i (file_name key) → found (get t.shelf) key ≡ Some v
     → (object t i).version ≡ v
 filed_version t i key v proper filed is =
     let o : Object = object t i in

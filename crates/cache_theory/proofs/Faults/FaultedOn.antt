@@ -66,7 +66,7 @@ replies_on n end faults m (c ∷ cs) more is_end rising = elim (begins_at n end 
       ∙ ap (λ ds. replies_from n faults m (c ∷ cs) ++ replies_text (after m ds) more) (sym (unfaulted_reply n end faults c cs rising_later))
 ]
 
-unfaulted_on : (n end : ℕ) (faults : List ℕ) (cs more : List Command) → end ≡ n + length cs → AreRisingIn n end faults
+pub unfaulted_on : (n end : ℕ) (faults : List ℕ) (cs more : List Command) → end ≡ n + length cs → AreRisingIn n end faults
     → unfaulted_from n faults (cs ++ more) ≡ unfaulted_from n faults cs ++ more
 unfaulted_on n end faults [] more is_end rising =
     let same : end ≡ n = omega (arith, is_end) in
@@ -116,7 +116,7 @@ replies_next n end faults m (d ∷ cs) c is_end rising = elim (begins_at n end f
       ∙ ap (λ out. out ++ fault_line) (sym (replies_reply n end faults m d cs rising_later))
 ]
 
-unfaulted_next : (n end : ℕ) (faults : List ℕ) (cs : List Command) (c : Command) → end ≡ n + length cs → AreRisingIn n end faults
+pub unfaulted_next : (n end : ℕ) (faults : List ℕ) (cs : List Command) (c : Command) → end ≡ n + length cs → AreRisingIn n end faults
     → unfaulted_from n (faults ++ end ∷ []) (cs ++ c ∷ []) ≡ unfaulted_from n faults cs
 unfaulted_next n end faults [] c is_end rising =
     let same : end ≡ n = omega (arith, is_end) in

@@ -24,6 +24,7 @@ use Rattle.cache_tool.specs.PutProgress.{IsSent, SendsCommand}
 use Rattle.cache_tool.specs.Right.{LeadTo}
 use Rattle.cache_tool.proofs.DoneLaws.{done_where, some_done}
 use Rattle.cache_tool.proofs.Fills.FillRuns.{ok_then}
+use Rattle.cache_tool.proofs.MarkLeft.{others_keep, stays_mark, then_stays}
 use Rattle.disk_model.specs.State.{State, standing}
 use Rattle.disk_model.specs.declared.place.Place.TheVariants.{Index}
 use Rattle.evictor.specs.Evict.{total_kb, victims}
@@ -77,13 +78,14 @@ module _ (before mid now : Session) (answer : Result Verdict StoreFault) (said :
         let does = (subst (λ (n : ℕ). SendsCommand (Evict n) answer mid now said) half sends).each (update_over h) (ends.keeps h keeps) in
         sent_over (victims does.1.0.0 (open_names m) (half_of kb)) h kb (total m stand) so does.0 does.1.0.1.0
         (done_where so (Evict (half_of kb)) (update_ended m) does.0 does.1.0) does.1.1;
+    mark = then_stays before.disk mid.disk now.disk (stays_mark looked) (others_keep (Evict limit) mid.disk now.disk (λ stood file never. never) sends.mark);
   }
 
 -- the sum could not be told
 pub half_fails : {T U : Type 0} (failed : Result T StoreFault) (answer : Result U StoreFault) (P : StoreFault → Type 0) (before mid : Session) (said : List ℕ) → IsErrAnd answer P
-    → EndsUpdate failed before mid → EvictsHalf answer before mid said
-half_fails failed (Ok x) P before mid said is ends = absurd is
-half_fails failed (Err f) P before mid said is ends = record {
+    → EndsUpdate failed before mid → mid.disk ≡ before.disk → EvictsHalf answer before mid said
+half_fails failed (Ok x) P before mid said is ends looked = absurd is
+half_fails failed (Err f) P before mid said is ends looked = record {
   each = λ h keeps.
       let m = h.machine in
       let kb = total_kb (scan m.shelf) in
@@ -97,6 +99,7 @@ half_fails failed (Err f) P before mid said is ends = record {
         stands = tt;
         replied = tt;
       };
+  mark = stays_mark looked;
 }
 
 -- the answer is handed on
@@ -107,6 +110,7 @@ half_handed answer (Err f) P before now said failed half = record {
   each = λ h keeps.
       let one = half.each h keeps in
       record { kb = one.kb; summed = one.summed; done = one.done; is_done = one.is_done; safe = one.safe; stands = tt; replied = tt };
+  mark = half.mark;
 }
 
 pub half_ok : {T U : Type 0} (x : T) (y : U) (before now : Session) (said : List ℕ) → EvictsHalf (Ok x) before now said → EvictsHalf (Ok y) before now said
@@ -114,4 +118,5 @@ half_ok x y before now said half = record {
   each = λ h keeps.
       let one = half.each h keeps in
       record { kb = one.kb; summed = one.summed; done = one.done; is_done = one.is_done; safe = one.safe; stands = one.stands; replied = one.replied };
+  mark = half.mark;
 }

@@ -16,8 +16,9 @@ use Rattle.cache_tool.specs.FillProgress.{RunsAll}
 use Rattle.cache_tool.specs.PutProgress.{SendsCommand, all_unanswered}
 use Rattle.cache_tool.specs.Right.{LeadTo}
 use Rattle.cache_tool.proofs.Begun.{all_begin_keep}
+use Rattle.cache_tool.proofs.MarkLeft.{stays_mark, then_stays}
 use Rattle.cache_tool.proofs.Puts.PutCommands.{unanswered-append}
-use Rattle.cache_tool.proofs.Puts.PutReplies.{sent_itself}
+use Rattle.cache_tool.proofs.Puts.PutReplies.{sent_itself, sent_keeps}
 use Rattle.cache_tool.proofs.RightLaws.{leads_begun, leads_none, leads_on}
 
 -- what holds with an answer, and what follows from it
@@ -27,7 +28,7 @@ ok_then P Q (Err f) so is = tt
 
 -- no command
 pub run_none : (now : Session) → RunsAll {T = Unit {0}} [] (Ok tt) now now
-run_none now = record { each = λ h keeps. record { safe = keeps.stands.crash_kept.safe; stands = leads_none now h keeps } }
+run_none now = record { each = λ h keeps. record { safe = keeps.stands.crash_kept.safe; stands = leads_none now h keeps }; mark = stays_mark refl }
 
 -- one, which does not go by the records
 pub run_one : (c : Command) (answer : Result Verdict StoreFault) (before now : Session) (said : List ℕ) → goes_by_records c ≡ false → SendsCommand c answer before now said
@@ -36,6 +37,7 @@ run_one c answer before now said bare sends = record {
   each = λ h keeps.
       let is = sent_itself c answer before now said bare sends h keeps in
       record { safe = is.safe; stands = ok_then _ _ answer (leads_begun c h before now keeps is.safe) is.next };
+  mark = sent_keeps c answer before now said bare sends;
 }
 
 -- some, and then more
@@ -51,6 +53,7 @@ run_then cs ds x answer before mid now first second = record {
         stands = ok_then _ _ answer (λ on. subst (LeadTo (cs ++ ds) before h.machine now) (sym same)
             (leads_on cs ds before h.machine mid (all_unanswered cs h) now (all_unanswered ds (all_unanswered cs h)) refl one.stands on)) more.stands;
       };
+  mark = then_stays before.disk mid.disk now.disk first.mark second.mark;
 }
 
 -- more commands, of which none was performed after a fault
@@ -63,6 +66,7 @@ run_fails cs ds answer (Err f) P before now failed runs = record {
         (all_begin_keep now.disk (after h.machine cs) ds (all_begun h.machine cs h.marks) (runs.each h keeps).safe);
     stands = tt;
   };
+  mark = runs.mark;
 }
 
 -- none was performed at all
@@ -77,12 +81,13 @@ run_same cs ds answer before now same runs = subst (λ (l : List Command). RunsA
 pub run_handed : {T U : Type 0} (cs : List Command) (answer : Result T StoreFault) (given : Result U StoreFault) (P : StoreFault → Type 0) (before now : Session) → IsErrAnd given P
     → RunsAll cs answer before now → RunsAll cs given before now
 run_handed cs answer (Ok x) P before now failed runs = absurd failed
-run_handed cs answer (Err f) P before now failed runs = record { each = λ h keeps. record { safe = (runs.each h keeps).safe; stands = tt } }
+run_handed cs answer (Err f) P before now failed runs = record { each = λ h keeps. record { safe = (runs.each h keeps).safe; stands = tt }; mark = runs.mark }
 
 -- another answer of the same kind
 pub run_ok : {T U : Type 0} (cs : List Command) (x : T) (y : U) (before now : Session) → RunsAll cs (Ok x) before now → RunsAll cs (Ok y) before now
 run_ok cs x y before now runs = record {
   each = λ h keeps. let one = runs.each h keeps in record { safe = one.safe; stands = one.stands };
+  mark = runs.mark;
 }
 
 -- ---- the commands of one entry

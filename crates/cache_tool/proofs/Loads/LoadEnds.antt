@@ -36,8 +36,8 @@ use Rattle.cache_tool.specs.Right.{LeadTo}
 use Rattle.cache_tool.specs.Statuses.{IsAnswer, IsClosing, IsSaid, status_in}
 use Rattle.cache_tool.specs.Verbs.{HasNotBegun, LeavesDisk, all_begun_none_acked}
 use Rattle.cache_tool.specs.World.{World, output_of}
-use Rattle.cache_tool.specs.declared.load.Ended.{Ended}
-use Rattle.cache_tool.specs.declared.load.Ended.TheVariants as ended
+use Rattle.cache_tool.specs.declared.load.LoadEnd.{LoadEnd}
+use Rattle.cache_tool.specs.declared.load.LoadEnd.TheVariants as ended
 use Rattle.cache_tool.proofs.Fills.FillRuns.{run_ok}
 use Rattle.cache_tool.proofs.Loads.LoadTurns.{fault_ends}
 use Rattle.cache_tool.proofs.SessionEnds.{begun_leave, leaves_at}
@@ -76,7 +76,7 @@ no_slot moment s m Holds mark d is done =
 -- ---- what the parts came to
 
 -- the line is held, and the status is that of the end
-pub performs_load : (tells : Type 0) (e : Ended) (from left : Option (List ℕ)) (before now : Session) (s : Status) (text : List ℕ) → s ≡ status_at_end (Ok e)
+pub performs_load : (tells : Type 0) (e : LoadEnd) (from left : Option (List ℕ)) (before now : Session) (s : Status) (text : List ℕ) → s ≡ status_at_end (Ok e)
     → ((n : ℕ) → e ≡ ended.Whole n → text ≡ loaded_line n) → ((n : ℕ) → e ≡ ended.Bad n → text ≡ bad_dump_line n)
     → EndsLoaded tells (Ok e) from left before now → PerformsLoad tells (Ok s) from left before now text
 performs_load tells e from left before now s text is whole bad ends = record {
@@ -87,7 +87,7 @@ performs_load tells e from left before now s text is whole bad ends = record {
   runs = λ told. run_ok (loaded_commands ends.loaded) e s before now (ends.runs told);
 }
   where
-    line_of : (e : Ended) → s ≡ status_at_end (Ok e) → ((n : ℕ) → e ≡ ended.Whole n → text ≡ loaded_line n) → ((n : ℕ) → e ≡ ended.Bad n → text ≡ bad_dump_line n)
+    line_of : (e : LoadEnd) → s ≡ status_at_end (Ok e) → ((n : ℕ) → e ≡ ended.Whole n → text ≡ loaded_line n) → ((n : ℕ) → e ≡ ended.Bad n → text ≡ bad_dump_line n)
         → TellsNumber (Ok e) (length ends.loaded.items) → HoldsLine s (length ends.loaded.items) text
     line_of (ended.Whole n) is whole bad number = record {
       done = λ done. whole n refl ∙ ap loaded_line number;
@@ -114,7 +114,7 @@ reads_at ended came (Some bytes) left l done script source reads = record {
 }
 
 -- a fault, in what was done or in the line
-pub load_fails : (tells : Type 0) (answer : Result Ended StoreFault) (came : Result Status StoreFault) (f : StoreFault) (from left : Option (List ℕ)) (before now : Session) (text : List ℕ) → came ≡ Err f
+pub load_fails : (tells : Type 0) (answer : Result LoadEnd StoreFault) (came : Result Status StoreFault) (f : StoreFault) (from left : Option (List ℕ)) (before now : Session) (text : List ℕ) → came ≡ Err f
     → EndsLoaded tells answer from left before now → PerformsLoad tells came from left before now text
 load_fails tells answer came f from left before now text is ends =
     let none = fault_ends f in
@@ -123,7 +123,7 @@ load_fails tells answer came f from left before now text is ends =
       reads = reads_at (status_in (Err f)) (status_at_end answer) from left ends.loaded (λ e. absurd (none.0 e)) (λ e. absurd (none.1.0 e)) (λ e. absurd (none.1.1 e)) ends.reads;
       over = λ e. absurd (none.0 e);
       line = record { done = λ e. absurd (none.0 e); bad = λ e. absurd (none.1.0 e) };
-      runs = λ told. record { each = λ h keeps. record { safe = ((ends.runs told).each h keeps).safe; stands = tt } };
+      runs = λ told. record { each = λ h keeps. record { safe = ((ends.runs told).each h keeps).safe; stands = tt }; mark = (ends.runs told).mark };
     } in
     subst (λ (r : Result Status StoreFault). PerformsLoad tells r from left before now text) (sym is) failed
 

@@ -21,8 +21,8 @@ use Rattle.cache_tool.specs.FillProgress.{RunsAll}
 use Rattle.cache_tool.specs.Load.{Loaded, loaded_commands}
 use Rattle.cache_tool.specs.LoadProgress.{AreLoaded, EndsLoaded, HasLoaded, LoadsNext, ReadsLoaded, loading, part_commands}
 use Rattle.cache_tool.specs.Statuses.{status_in}
-use Rattle.cache_tool.specs.declared.load.Ended.{Ended}
-use Rattle.cache_tool.specs.declared.load.Ended.TheVariants as ended
+use Rattle.cache_tool.specs.declared.load.LoadEnd.{LoadEnd}
+use Rattle.cache_tool.specs.declared.load.LoadEnd.TheVariants as ended
 use Rattle.cache_tool.proofs.Fills.FillRuns.{run_none, run_ok, run_same, run_then}
 use Rattle.cache_tool.proofs.Handed.{handed_on}
 use Rattle.cache_tool.proofs.Loads.LoadBytes.{begins, loaded_no_dump, whole_dump}
@@ -125,7 +125,7 @@ reads_broken l own held read more stage (Some bytes) (Some rest) now are taken s
 
 -- no command follows
 run_stops : {T U : Type 0} (f : StoreFault) (cs : List Command) (answer : Result T StoreFault) (before now : Session) → RunsAll cs answer before now → RunsAll {T = U} cs (Err f) before now
-run_stops f cs answer before now runs = record { each = λ h keeps. record { safe = (runs.each h keeps).safe; stands = tt } }
+run_stops f cs answer before now runs = record { each = λ h keeps. record { safe = (runs.each h keeps).safe; stands = tt }; mark = runs.mark }
 
 -- a reader that wants more after these bytes has no part that is due at their beginning
 none_whole : (r : DumpReader) (bytes : List ℕ) → WantsMore r bytes → (p : Part) (mine rest : List ℕ) → Spells (stage_in r) p mine → bytes ≡ mine ++ rest → DUMP_MAX < used_in r + length mine
@@ -235,7 +235,7 @@ module _ (tells : Type 0) (old new : DumpReader) (count : ℕ) (left now : Optio
         (record { on = λ from before so. part_on tells from before old count left s1 so new now s2 p n is g runs })
 
     -- a fault is handed on
-    pub turn_fails : (f : StoreFault) (answer : Result (Option Ended) StoreFault) (later : ℕ) → IsErrAnd answer (λ e. e ≡ f) → (tells → RunsAll {T = Unit {0}} (part_commands p) (Err f) s1 s2)
+    pub turn_fails : (f : StoreFault) (answer : Result (Option LoadEnd) StoreFault) (later : ℕ) → IsErrAnd answer (λ e. e ≡ f) → (tells → RunsAll {T = Unit {0}} (part_commands p) (Err f) s1 s2)
         → LoadsNext tells answer (loading old count left s1) (loading new later now s2)
     turn_fails f answer later failed runs = subst (λ r. LoadsNext tells r (loading old count left s1) (loading new later now s2)) (sym (handed_on answer f failed))
         (record { on = λ from before so. part_fails tells from before old count left s1 so new now s2 p n is g f runs })

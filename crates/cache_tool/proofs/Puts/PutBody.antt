@@ -16,14 +16,15 @@ use Rattle.cache_store.specs.Session.{Session}
 use Rattle.cache_store.specs.declared.fault.Verdict.{Verdict}
 use Rattle.cache_store.specs.declared.fault.Verdict.TheVariants as outcome
 use Rattle.cache_store.specs.declared.fault.StoreFault.{StoreFault}
-use Rattle.cache_tool.specs.declared.piece.Ended.{Ended}
-use Rattle.cache_tool.specs.declared.piece.Ended.TheVariants as ended
+use Rattle.cache_tool.specs.declared.piece.PieceEnd.{PieceEnd}
+use Rattle.cache_tool.specs.declared.piece.PieceEnd.TheVariants as ended
 use Rattle.cache_tool.specs.AnyDisk.{TakesAtMost}
 use Rattle.cache_tool.specs.Right.{LeadTo}
 use Rattle.cache_tool.specs.Put.{GivesPart, GivesWhole, appends}
 use Rattle.cache_tool.specs.PutProgress.{AgreesWith, AppendsPiece, AppendsSoFar, AreSent, BodyIsAppended, BodyIsSent, BodyOf, IsWriting, all_unanswered, piece_commands}
 use Rattle.cache_tool.specs.Statuses.{status_of}
 use Rattle.cache_tool.specs.World.{Supply}
+use Rattle.cache_tool.proofs.MarkLeft.{stays_mark, then_stays}
 use Rattle.cache_tool.proofs.RightLaws.{leads_none, leads_on}
 use Rattle.cache_tool.proofs.Puts.PutPieces.{leads_more, leads_step}
 use Rattle.cache_tool.proofs.Puts.PutCommands.{done-append, sent_more, sent_same, sent_then, unanswered-append, until_all}
@@ -37,6 +38,7 @@ so_far_none tells left now = record {
   leads = λ rest. refl;
   room_is = omega arith;
   sent = λ told h keeps writes. record { stands = leads_none now h keeps; done = tt; writes = writes };
+  mark = λ told. stays_mark refl;
 }
 
 -- commands that were performed where others were done
@@ -69,17 +71,18 @@ module _ (tells : Type 0) (room : ℕ) (left mid left_now : Option (List ℕ)) (
         let done = so.sent told h stands writes in
         let p = (appends_piece told).each (all_unanswered so.commands h) so.body done.stands.keeps done.writes so.room_is in
         body_more h so.commands (piece_commands piece) so.body (so.body ++ piece) before between now said done p.sent (p.writes refl);
+    mark = λ told. then_stays before.disk between.disk now.disk (so.mark told) (appends_piece told).mark;
   }
 
 -- What the source has after a piece.
 
 -- the whole body, or what was given before the source failed
-abbrev pub BodyBy : Ended → Supply → Supply → List ℕ → Type 0
+abbrev pub BodyBy : PieceEnd → Supply → Supply → List ℕ → Type 0
 BodyBy ended.Full from to body = GivesWhole from to body
 BodyBy ended.End from to body = GivesWhole from to body
 BodyBy ended.Failed from to body = GivesPart from to body
 
-pub record Ahead (from to : Supply) (how : Ended) (body piece : List ℕ) : Type 0 where
+pub record Ahead (from to : Supply) (how : PieceEnd) (body piece : List ℕ) : Type 0 where
   pub rest : List ℕ
   pub short : length piece < PIECE_MAX → rest ≡ []
   pub last : how ≢ ended.Full → rest ≡ []
@@ -92,7 +95,7 @@ whole_of (Some xs) None now body piece some first second = absurd first
 whole_of (Some xs) (Some ys) None body piece some first second = absurd second
 whole_of (Some xs) (Some ys) (Some zs) body piece some first second = (zs, (refl, ap (λ l. Some l) (first ∙ ap (λ l. body ++ l) second)))
 
-pub ahead : (from to : Supply) (mid : Option (List ℕ)) (how : Ended) (body piece : List ℕ) → IsSome from.left → Consumes from.left mid body → Consumes mid to.left piece
+pub ahead : (from to : Supply) (mid : Option (List ℕ)) (how : PieceEnd) (body piece : List ℕ) → IsSome from.left → Consumes from.left mid body → Consumes mid to.left piece
     → (how ≡ ended.Full → length piece ≡ PIECE_MAX) → (how ≡ ended.End → IsAtEnd to.left) → (how ≡ ended.Failed → Rose from.faults to.faults)
     → (how ≢ ended.Failed → to.faults ≡ from.faults) → Ahead from to how body piece
 ahead from to mid ended.Full body piece some first second full end fail calm =
@@ -124,7 +127,7 @@ ahead from to mid ended.Failed body piece some first second full end fail calm =
       };
     }
 
-pub either_by : (how : Ended) (from to : Supply) (body : List ℕ) → BodyBy how from to body → GivesWhole from to body ⊎ GivesPart from to body
+pub either_by : (how : PieceEnd) (from to : Supply) (body : List ℕ) → BodyBy how from to body → GivesWhole from to body ⊎ GivesPart from to body
 either_by ended.Full from to body by = inl by
 either_by ended.End from to body by = inl by
 either_by ended.Failed from to body by = inr by
@@ -136,7 +139,7 @@ sent_ahead h cs ds (Ok outcome.Ok) before now said none ran = sent_same h cs (cs
 sent_ahead h cs ds (Ok outcome.Refused) before now said none ran = sent_more h cs ds (Ok outcome.Refused) before now said (λ e. absurd (cc)) ran
 sent_ahead h cs ds (Err f) before now said none ran = sent_more h cs ds (Err f) before now said (λ e. absurd (cc)) ran
 
-module _ (from to : Supply) {tells : Type 0} {room : ℕ} {mid : Option (List ℕ)} {before between now : Session} {piece said : List ℕ} {how : Ended} {answer : Result Verdict StoreFault}
+module _ (from to : Supply) {tells : Type 0} {room : ℕ} {mid : Option (List ℕ)} {before between now : Session} {piece said : List ℕ} {how : PieceEnd} {answer : Result Verdict StoreFault}
     (so : AppendsSoFar tells room from.left mid before between) (next : Ahead from to how so.body piece) (fits : length piece ≤ PIECE_MAX)
     (told : tells) (appends_piece : AppendsPiece piece room answer between now said) (h : History) (stands : KeepsTo before h) (writes : IsWriting h.machine []) where
   -- the last piece
@@ -189,7 +192,7 @@ module _ (count : ℕ) (bytes : List ℕ) (within : count ≤ length bytes) (siz
   filled_full same = let len = filled_length in omega (arith, len, same, size)
 
 pub filled_ahead : {left mid : Option (List ℕ)} {tells : Type 0} {room : ℕ} {old new : Session} (so : AppendsSoFar tells room left mid old new)
-    (left_now : Option (List ℕ)) (before between later : ℕ) (how : Ended) (count : ℕ) (bytes : List ℕ) → count ≤ length bytes → length bytes ≡ PIECE_MAX
+    (left_now : Option (List ℕ)) (before between later : ℕ) (how : PieceEnd) (count : ℕ) (bytes : List ℕ) → count ≤ length bytes → length bytes ≡ PIECE_MAX
     → IsSome left → Consumes mid left_now (take count bytes) → (how ≡ ended.Full → count ≡ length bytes) → (how ≡ ended.End → IsAtEnd left_now)
     → between ≡ before → HasCause (how ≡ ended.Failed) between later
     → Ahead (record { left = left; faults = before }) (record { left = left_now; faults = later }) how so.body (take count bytes)

@@ -16,10 +16,12 @@ use Rattle.cache_theory.specs.History.{History, acked}
 use Rattle.cache_theory.specs.Step.{step}
 use Rattle.cache_theory.specs.Text.{reply_text}
 use Rattle.cache_tool.specs.AnyDisk.{too_large_line}
+use Rattle.cache_tool.specs.MarkLeft.{KeepsMark}
 use Rattle.cache_tool.specs.PutProgress.{IsSent, IsWriting, PieceIsSent, SendsCommand}
 use Rattle.cache_tool.specs.Right.{LeadTo}
 use Rattle.cache_tool.specs.Staying.{StaysOnce}
 use Rattle.cache_tool.proofs.DoneLaws.{done_itself}
+use Rattle.cache_tool.proofs.MarkLeft.{bare_keeps}
 use Rattle.cache_tool.proofs.Puts.PutMachine.{piece_none, piece_over, piece_sent, piece_too_large}
 use Rattle.cache_tool.proofs.RightLaws.{leads_one}
 
@@ -48,6 +50,10 @@ pub sent_itself : (c : Command) (answer : Result Verdict StoreFault) (before now
 sent_itself c answer before now said bare sends h keeps =
     let does = sends.each h keeps in
     subst (λ d. IsSent d h answer before now said) (done_itself (Tells before h.machine) c h.machine does.0 bare does.1.0) does.1.1
+
+-- and the place of the mark is left alone by a command that is none of a clearing
+pub sent_keeps : (c : Command) (answer : Result Verdict StoreFault) (before now : Session) (said : List ℕ) → goes_by_records c ≡ false → SendsCommand c answer before now said → KeepsMark before.disk now.disk
+sent_keeps c answer before now said bare sends = bare_keeps c before.disk now.disk bare sends.mark
 
 -- an empty piece
 pub empty_went : (h : History) (body piece : List ℕ) (now : Session) (said : List ℕ) → piece ≡ [] → KeepsTo now h → IsWriting h.machine body

@@ -18,9 +18,10 @@ use Rattle.cache_tool.specs.Beginning.{BeginsRun, FailsToBegin}
 use Rattle.cache_tool.specs.Ending.{EndsSession}
 use Rattle.cache_tool.specs.ScriptProgress.{LeavesScript, PerformsScript, one_begun_on}
 use Rattle.cache_tool.specs.Statuses.{IsClosing, status_in}
-use Rattle.cache_tool.specs.Verbs.{LeavesDisk, Reach, RunsScript, one_begun_after}
+use Rattle.cache_tool.specs.Verbs.{LeavesDisk, Reach, RunsScript, one_begun_after, begun_of}
 use Rattle.cache_tool.specs.World.{Progress, World, output_of, world_of}
 use Rattle.cache_tool.proofs.DoneLaws.{are_done_where}
+use Rattle.cache_tool.proofs.MarkLeft.{closed_leaves_mark}
 use Rattle.cache_tool.proofs.Moments.{with_left}
 use Rattle.cache_tool.proofs.OneCommand.{not_begun}
 use Rattle.cache_tool.proofs.Scripts.ScriptTurns.{counts_more, counts_on}
@@ -141,6 +142,7 @@ runs_ended k0 k1 c0 c1 moment ended came s mid last t begun faults calm finite b
                 | inr (closing, last_call) ↦ inl last_call
               ];
               leaves = ended_leaves s mid.session begins m is r.acked r.with_last r.done last.session t ended (status_in came) r.leaves ends same dropped kept;
+              mark = closed_leaves_mark (begun_of r.acked r.with_last cs) s mid.session.disk last.session.disk t begins.mark r.mark ends.mark;
             },
           ),
         )

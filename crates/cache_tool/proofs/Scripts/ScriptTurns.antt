@@ -1,5 +1,5 @@
 -- What is performed of a script, turn by turn.
-use Rattle.std.proofs.Common.{◌≡◌, ◌≢◌, ◌⊎◌, inl, inr, ⊎_elim, ℕ, suc, ◌+◌, ◌<◌, ◌≤◌, List, [], ◌∷◌, ◌++◌, length, take, Option, None, Some, Result, Ok, Err, IsErrAnd, refl, sym, ap, subst, ◌∙◌, arith, append-nil, length-append}
+use Rattle.std.proofs.Common.{◌≡◌, ◌⊎◌, inl, inr, ⊎_elim, ℕ, suc, ◌+◌, ◌<◌, ◌≤◌, List, [], ◌∷◌, ◌++◌, length, take, Option, None, Some, Result, Ok, Err, IsErrAnd, refl, sym, ap, subst, ◌∙◌, arith, append-nil, length-append}
 use Rattle.std.specs.Io.KnownBytes.{Appends}
 use Rattle.std.specs.Prelude.{Bool, IsTrue, slice_get}
 use Rattle.std.proofs.KnownBytes.{Appends-nil, Appends-trans}
@@ -10,6 +10,7 @@ use Rattle.cache_script.specs.declared.command.Command.{Command as Given}
 use Rattle.cache_script.specs.declared.reader.Reader.{Reader}
 use Rattle.cache_script.specs.declared.reader.ScriptFault.{ScriptFault}
 use Rattle.cache_base.specs.Causes.{Rose}
+use Rattle.cache_store.specs.AtClear.{ChangesAtClear}
 use Rattle.cache_store.specs.DoneFor.{IsDoneFor}
 use Rattle.cache_store.specs.Faulting.{FailsForGood, SendsReplyFront, StaysAs}
 use Rattle.cache_store.specs.Open.{KeepsTo, Tells}
@@ -28,19 +29,21 @@ use Rattle.cache_theory.specs.Step.{after, step}
 use Rattle.cache_theory.specs.Text.{IsSpoken, reply_text, script_bytes}
 use Rattle.cache_theory.proofs.Faults.RepliesApart.{step_spoken}
 use Rattle.cache_theory.proofs.Faults.FaultedOn.{faults_are_in_front, faults_are_within, next_may_fault}
+use Rattle.cache_tool.specs.MarkLeft.{ChangeMark}
 use Rattle.cache_tool.specs.Right.{LeadTo, has_rebuild}
-use Rattle.cache_tool.specs.ScriptProgress.{AreRead, ArePerformed, DoneForKept, EndsScript, FailsAfter, FailsInLine, FailsInReply, FaultsAfter, HasPerformed, IsCutOff, PerformsAll, PerformsNext, all_answered}
+use Rattle.cache_tool.specs.ScriptProgress.{AreRead, ArePerformed, DoneForKept, EndsScript, FailsAfter, FailsInLine, FailsInReply, FaultsAfter, HasPerformed, IsCutOff, PerformsAll, PerformsNext, all_answered, ChangeMarkBut}
 use Rattle.cache_tool.specs.Staying.{StaysFor, StaysOnce}
 use Rattle.cache_tool.specs.Tally.{RoseBy}
 use Rattle.cache_tool.specs.Verbs.{SendsNextFront}
 use Rattle.cache_tool.specs.World.{Progress, Sitting, Supply, sitting_of}
-use Rattle.cache_tool.specs.declared.script.Ended.{Ended}
-use Rattle.cache_tool.specs.declared.script.Ended.TheVariants as ended
+use Rattle.cache_tool.specs.declared.script.ScriptEnd.{ScriptEnd}
+use Rattle.cache_tool.specs.declared.script.ScriptEnd.TheVariants as ended
 use Rattle.cache_tool.proofs.Answering.{AnswersByFault, AnswersByReply, AnswersNext}
 use Rattle.cache_tool.proofs.DoneKept.{done_kept_but, done_kept_on}
 use Rattle.cache_tool.proofs.DoneLaws.{done_rebuild, done_right, done_spoken, done_where, script_is_spoken, spoken_parts}
 use Rattle.cache_tool.proofs.FaultedParts.{next_numbers, one_longer, some_next}
 use Rattle.cache_tool.proofs.ForGood.{no_resume, stops_for_good}
+use Rattle.cache_tool.proofs.MarkLeft.{but_next, kept_next, next_changes_mark, none_change_mark, same_changes_mark, may_mark}
 use Rattle.cache_tool.proofs.Moments.{with_source}
 use Rattle.cache_tool.proofs.RightLaws.{leads_none, leads_on, leads_one, leads_still}
 use Rattle.cache_tool.proofs.StayingLaws.{stays_done}
@@ -252,6 +255,7 @@ starts tells r before held given used = record {
   counts = record { numbers = tt; counted = omega arith };
   calm = λ none. refl;
   performs = λ told. none_performed before;
+  mark = λ told. none_change_mark [] before.session.disk before.session.disk refl;
 }
 
 -- the disk failed as often at least, or once more
@@ -261,7 +265,8 @@ counts_on n a b c later rose = omega arith
 pub counts_more : (n a b c : ℕ) → Rose b c → RoseBy n a b → RoseBy (suc n) a c
 counts_more n a b c once rose = omega arith
 
-module _ (tells : Bool) (r q : Reader) (mid now : Progress) (c : Command) (gives : Gives r q mid.source.left now.source.left c) (later : mid.disk_faults ≤ now.disk_faults) where
+module _ (tells : Bool) (r q : Reader) (mid now : Progress) (c : Command) (gives : Gives r q mid.source.left now.source.left c) (later : mid.disk_faults ≤ now.disk_faults)
+    (at_clear : IsTrue tells → ChangesAtClear c mid.session.disk now.session.disk) where
   module _ (before : Progress) (goes : HasPerformed tells r before mid) where
     -- this was read so far
     so_read : AreRead before.source.left now.source.left (goes.commands ++ c ∷ []) (held_in q)
@@ -282,6 +287,21 @@ module _ (tells : Bool) (r q : Reader) (mid now : Progress) (c : Command) (gives
     more_numbers : AreFaults (length (goes.commands ++ c ∷ [])) goes.faults
     more_numbers = faults_are_within (length goes.commands) (length (goes.commands ++ c ∷ [])) goes.faults (omega (arith, length-append goes.commands (c ∷ []))) goes.counts.numbers
 
+    -- its reply is printed
+    spoken_next : IsSpoken c
+    spoken_next = (spoken_parts goes.commands (c ∷ []) (script_is_spoken (goes.commands ++ c ∷ []) so_read.commands)).1.0
+
+    -- it has begun
+    begun_mark : IsTrue tells → ChangeMarkBut goes.faults (goes.commands ++ c ∷ []) before now
+    begun_mark told =
+        subst (λ l. ChangeMark l before.session.disk now.session.disk) (sym (kept_next goes.commands c goes.faults goes.counts.numbers))
+        (next_changes_mark (unfaulted goes.faults goes.commands) c before.session.disk mid.session.disk now.session.disk spoken_next (goes.mark told)
+        (may_mark c mid.session.disk now.session.disk (at_clear told)))
+
+    -- or it changed nothing
+    left_mark : (IsTrue tells → StaysAs mid.session now.session) → IsTrue tells → ChangeMarkBut goes.faults goes.commands before now
+    left_mark stays told = same_changes_mark (unfaulted goes.faults goes.commands) before.session.disk mid.session.disk now.session.disk (stays told).disk (goes.mark told)
+
   -- a command was performed
   replied_on : (o : Verdict) → (IsTrue tells → PerformsFor c (Ok o) mid.session now.session mid.taken now.taken) → (IsTrue tells → StaysFor {T = Verdict} c (Ok o) mid.session now.session)
       → now.disk_faults ≡ mid.disk_faults → PerformsNext tells (Ok None) r q mid now
@@ -295,6 +315,7 @@ module _ (tells : Bool) (r q : Reader) (mid now : Progress) (c : Command) (gives
       counts = record { numbers = more_numbers before goes; counted = still_counted before goes };
       calm = λ none. calm ∙ goes.calm none;
       performs = λ told. one_performed before mid now goes.commands c goes.faults goes.counts.numbers (goes.performs told) o (performs told) (stays told);
+      mark = begun_mark before goes;
     };
   }
 
@@ -314,6 +335,7 @@ module _ (tells : Bool) (r q : Reader) (mid now : Progress) (c : Command) (gives
       };
       calm = λ none. absurd (some_next (length goes.commands) goes.faults none);
       performs = λ told. one_faulted before mid now goes.commands c goes.faults goes.counts.numbers (goes.performs told) (stays told) base said;
+      mark = λ told. subst (λ l. ChangeMark l before.session.disk now.session.disk) (sym (but_next goes.commands c goes.faults goes.counts.numbers)) (left_mark before goes stays told);
     };
   }
 
@@ -337,28 +359,31 @@ module _ (tells : Bool) (r q : Reader) (mid now : Progress) (c : Command) (gives
     where
       failed : (before : Progress) (goes : HasPerformed tells r before mid) → AnswersByReply tells c (Err f) (sitting_of mid) (sitting_of now) ⊎ AnswersByFault tells (Err f) (sitting_of mid) (sitting_of now)
           → FailsInReply tells goes.commands goes.faults c f before now
-          ⊎ (FailsInLine f goes.faults before now × (IsTrue tells → FaultsAfter goes.commands goes.faults before now))
+          ⊎ FailsInLine tells goes.commands goes.faults f before now
       failed before goes (inl reply) =
-          let spoken = (spoken_parts goes.commands (c ∷ []) (script_is_spoken (goes.commands ++ c ∷ []) (so_read before goes).commands)).1.0 in
+          let spoken = spoken_next before goes in
           inl (record {
             calm = λ other none. reply.kept (λ e. let is : f ≡ fault.Disk = cc e in other is) ∙ goes.calm none;
             each = λ told.
                 one_failed before mid now goes.commands c goes.faults goes.counts.numbers (goes.performs told) f spoken (reply.performs told) (reply.stays told)
                 (λ disk. reply.for_good (no_resume c spoken) (ap (λ x. Err x) disk) told);
+            mark = begun_mark before goes;
           })
-      failed before goes (inr line) = inr (
-        record { no_disk = λ e. line.no_disk (ap (λ x. Err x) e); rose = once_more before goes line.rose },
-        λ told. one_faulted_cut before mid now goes.commands c goes.faults goes.counts.numbers (goes.performs told) (line.stays told) line.base line.cut,
-      )
+      failed before goes (inr line) = inr (record {
+        no_disk = λ e. line.no_disk (ap (λ x. Err x) e);
+        rose = once_more before goes line.rose;
+        each = λ told. one_faulted_cut before mid now goes.commands c goes.faults goes.counts.numbers (goes.performs told) (line.stays told) line.base line.cut;
+        mark = left_mark before goes line.stays;
+      })
 
   -- which is the answer
-  pub turn_err : (f : StoreFault) (final : Result (Option Ended) StoreFault) → IsErrAnd final (λ e. e ≡ f) → AnswersNext tells c (Err f) (sitting_of mid) (sitting_of now) → PerformsNext tells final r q mid now
+  pub turn_err : (f : StoreFault) (final : Result (Option ScriptEnd) StoreFault) → IsErrAnd final (λ e. e ≡ f) → AnswersNext tells c (Err f) (sitting_of mid) (sitting_of now) → PerformsNext tells final r q mid now
   turn_err f (Ok e) is answers = absurd is
   turn_err f (Err e) is answers = subst (λ x. PerformsNext tells (Err x) r q mid now) (sym is) (turn_off f answers)
 
 module _ (tells : Bool) (r q : Reader) (mid : Progress) (source : Supply) where
   -- there was none
-  stopped : (e : Ended) → ((before : Progress) → (goes : HasPerformed tells r before mid) → EndsScript e before.source.left source.left goes.commands)
+  stopped : (e : ScriptEnd) → ((before : Progress) → (goes : HasPerformed tells r before mid) → EndsScript e before.source.left source.left goes.commands)
       → PerformsNext tells (Ok (Some e)) r q mid (with_source mid source)
   stopped e ends = record {
     on = λ before goes. record {
@@ -372,6 +397,7 @@ module _ (tells : Bool) (r q : Reader) (mid : Progress) (source : Supply) where
             let some = (goes.performs told).each h keeps in
             record { done = some.done; is_done = some.is_done; performed = record { stands = some.performed.stands; out = some.performed.out } };
       };
+      mark = goes.mark;
     };
   }
 

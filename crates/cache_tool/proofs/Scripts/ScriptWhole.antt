@@ -1,7 +1,7 @@
 -- What the commands of a script come to, by how they ended.
 use Rattle.std.proofs.Common.{◌≡◌, ◌≢◌, inl, inr, ℕ, suc, ◌+◌, ◌<◌, List, [], ◌∷◌, ◌++◌, length, take, Option, None, Some, Result, Ok, Err, IsErrAnd, refl, sym, ap, subst, ◌∙◌, arith, append_assoc, append-nil, length-append}
 use Rattle.std.specs.Io.KnownBytes.{Appends}
-use Rattle.std.specs.Prelude.{true}
+use Rattle.std.specs.Prelude.{true, Bool}
 use Rattle.std.proofs.KnownBytes.{Appends-nil, Appends-trans}
 use Rattle.std.proofs.lemmas.List.{take_all}
 use Rattle.cache_base.specs.declared.status.Status.{Status}
@@ -15,15 +15,18 @@ use Rattle.cache_theory.specs.Faulted.{AreFaults, replies_but, with_next}
 use Rattle.cache_theory.specs.History.{History}
 use Rattle.cache_theory.specs.Text.{AreSpoken, CommandsIn, ScriptSpells, SpellsFront, command_bytes, command_data, command_words, script_bytes, spaced}
 use Rattle.cache_theory.proofs.Faults.FaultedOn.{faults_are_within}
+use Rattle.cache_tool.specs.MarkLeft.{ChangeMark}
 use Rattle.cache_tool.specs.Script.{AreTaken, bad_line, performed}
-use Rattle.cache_tool.specs.ScriptProgress.{AreCounted, DoneForKept, FailsInLine, FailsMidway, LeavesScript, PerformsScript, PerformsToEnd, ScriptIsRun, SomeCutOff, SomeFaultCut, SomePerformed, TellsOfFaults, one_begun_on}
+use Rattle.cache_tool.specs.ScriptProgress.{AreCounted, DoneForKept, FailsInLine, FailsMidway, LeavesScript, PerformsScript, PerformsToEnd, ScriptIsRun, SomeCutOff, SomeFaultCut, SomePerformed, TellsOfFaults, one_begun_on, ChangeMarkBut}
 use Rattle.cache_tool.specs.Statuses.{status_in}
 use Rattle.cache_tool.specs.Tally.{RoseBy}
+use Rattle.cache_tool.specs.Verbs.{begun_of}
 use Rattle.cache_tool.specs.World.{Progress}
-use Rattle.cache_tool.specs.declared.script.Ended.TheVariants as ended
+use Rattle.cache_tool.specs.declared.script.ScriptEnd.TheVariants as ended
 use Rattle.cache_tool.proofs.DoneKept.{done_kept_but, done_kept_rest}
 use Rattle.cache_tool.proofs.DoneLaws.{script_is_spoken}
 use Rattle.cache_tool.proofs.FaultedParts.{next_numbers, some_next}
+use Rattle.cache_tool.proofs.MarkLeft.{begun_but_next, begun_front, begun_next, none_change_mark}
 use Rattle.cache_tool.proofs.Moments.{with_left, with_taken}
 use Rattle.cache_tool.proofs.RightLaws.{leads_none}
 use Rattle.cache_tool.proofs.Scripts.ScriptMarks.{keeps_cut, keeps_fault_cut, keeps_front}
@@ -92,10 +95,10 @@ module _ (bytes : List ℕ) (h : History) (start : Progress) where
   before = with_left start (Some bytes)
 
   -- the first commands were performed, and no more
-  ran_front : (now : Progress) (cs read rest : List Command) (faults : List ℕ) (came : Status) → cs ≡ read ++ rest → AreSpoken cs → AreCounted (length read) faults before now → TellsOfFaults faults before now → SomePerformed read faults h before now
+  ran_front : (now : Progress) (cs read rest : List Command) (faults : List ℕ) (came : Status) → cs ≡ read ++ rest → AreSpoken cs → AreCounted (length read) faults before now → TellsOfFaults faults before now → ChangeMarkBut faults read before now → SomePerformed read faults h before now
       → (came ≡ status.Done → rest ≡ []) → came ≢ status.Script → came ≢ status.Disk
       → (came ≡ status.Source → AreTaken (Some bytes) now.source.left read) → ((a n : ℕ) → performed came a n ≡ a) → ScriptIsRun h bytes cs came before now
-  ran_front now cs read rest faults came e spoken counts calm some all unnamed sound taken same =
+  ran_front now cs read rest faults came e spoken counts calm mark some all unnamed sound taken same =
       let numbers = subst (λ n. AreFaults n faults) (sym some.is_done.as_many) counts.numbers in
       let others = done_kept_rest before.session h.machine read some.done faults some.is_done numbers rest in
       subst (λ l. ScriptIsRun h bytes l came before now) (sym e) (record {
@@ -108,14 +111,15 @@ module _ (bytes : List ℕ) (h : History) (start : Progress) where
         is_done = others.1.0;
         tells = tells_front h.machine bytes before now read rest some.done others.0 faults came (others.1.0.spoken (subst AreSpoken e spoken)) some.is_done.as_many others.1.1 numbers some.performed.out all unnamed taken;
         leaves = keeps_front h some.done others.0 faults came before.session now.session numbers some.performed.stands (same (length some.done) (length (some.done ++ others.0)));
+        mark = begun_front read rest faults counts.numbers (length some.done) some.is_done.as_many before.session.disk now.session.disk mark;
       })
 
   -- all were performed, and a part of the line that names a bad one went out
-  ran_line : (mid : Progress) (taken : Option (List ℕ)) (cs read : List Command) (faults : List ℕ) (n : ℕ) (came : Status) → cs ≡ read → AreSpoken cs → AreCounted (length read) faults before mid → TellsOfFaults faults before mid → SomePerformed read faults h before mid
+  ran_line : (mid : Progress) (taken : Option (List ℕ)) (cs read : List Command) (faults : List ℕ) (n : ℕ) (came : Status) → cs ≡ read → AreSpoken cs → AreCounted (length read) faults before mid → TellsOfFaults faults before mid → ChangeMarkBut faults read before mid → SomePerformed read faults h before mid
       → Appends mid.taken taken (take n (bad_line (length read + 1)))
       → (came ≡ status.Script → take n (bad_line (length read + 1)) ≡ bad_line (length read + 1)) → came ≢ status.Done → came ≢ status.Source → came ≢ status.Disk → ¬ (ScriptSpells bytes read)
       → ((a : ℕ) → performed came a a ≡ a) → ScriptIsRun h bytes cs came before (with_taken mid taken)
-  ran_line mid taken cs read faults n came e spoken counts calm some part all undone unfailed sound unspelled same =
+  ran_line mid taken cs read faults n came e spoken counts calm mark some part all undone unfailed sound unspelled same =
       let ds : List Command = some.done in
       let numbers = subst (λ n. AreFaults n faults) (sym some.is_done.as_many) counts.numbers in
       subst (λ l. ScriptIsRun h bytes l came before (with_taken mid taken)) (sym e) (record {
@@ -132,12 +136,16 @@ module _ (bytes : List ℕ) (h : History) (start : Progress) where
         leaves =
             subst (λ l. LeavesScript h.machine (one_begun_on h (length ds) faults came l) came before.session mid.session) (append-nil ds)
             (keeps_front h ds [] faults came before.session mid.session numbers some.performed.stands (ap (λ l. performed came (length ds) (length l)) (append-nil ds) ∙ same (length ds)));
+        mark =
+            subst (λ l. ChangeMark (begun_of (length ds) faults l) before.session.disk mid.session.disk) (append-nil read)
+            (begun_front read [] faults counts.numbers (length ds) some.is_done.as_many before.session.disk mid.session.disk mark);
       })
 
   module _ (now : Progress) (cs read rest : List Command) (c : Command) (faults : List ℕ) (f : StoreFault) (e : cs ≡ (read ++ c ∷ []) ++ rest) (spoken : AreSpoken cs) (counts : AreCounted (length read) faults before now) where
     -- one more was begun
-    ran_cut : (f ≡ fault.Disk → RoseBy (suc (length faults)) before.disk_faults now.disk_faults) → (f ≢ fault.Disk → TellsOfFaults faults before now) → SomeCutOff read faults c f h before now → ScriptIsRun h bytes cs (status_in (Err f)) before now
-    ran_cut disk calm some =
+    ran_cut : (f ≡ fault.Disk → RoseBy (suc (length faults)) before.disk_faults now.disk_faults) → (f ≢ fault.Disk → TellsOfFaults faults before now) → ChangeMarkBut faults (read ++ c ∷ []) before now → SomeCutOff read faults c f h before now
+        → ScriptIsRun h bytes cs (status_in (Err f)) before now
+    ran_cut disk calm mark some =
         let ds : List Command = some.done in
         let d : Command = some.last in
         let all : List Command = (read ++ c ∷ []) ++ rest in
@@ -160,11 +168,12 @@ module _ (bytes : List ℕ) (h : History) (start : Progress) where
           tells = tells_cut h.machine bytes before now all ds others.0 d faults (status_in (Err f)) (subst AreSpoken (append_assoc ds (d ∷ []) others.0) (others.1.0.spoken (subst AreSpoken e spoken))) numbers some.cut_off.cut (not_done f) (not_script f) (not_source f);
           for_good = λ is. some.cut_off.for_good others.0 (is_disk f is);
           leaves = keeps_cut h ds others.0 d faults numbers f before.session now.session some.cut_off.safe some.cut_off.effect;
+          mark = begun_next read rest faults counts.numbers (length ds) some.as_long before.session.disk now.session.disk c mark;
         })
 
     -- one more was to be answered `fault`
-    ran_fault_cut : FailsInLine f faults before now → SomeFaultCut read faults h before now → ScriptIsRun h bytes cs (status_in (Err f)) before now
-    ran_fault_cut line some =
+    ran_fault_cut : {tells : Bool} → FailsInLine tells read faults f before now → ChangeMarkBut faults read before now → SomeFaultCut read faults h before now → ScriptIsRun h bytes cs (status_in (Err f)) before now
+    ran_fault_cut line mark some =
         let ds : List Command = some.done in
         let all : List Command = (read ++ c ∷ []) ++ rest in
         let numbers = subst (λ n. AreFaults n faults) (sym some.is_done.as_many) counts.numbers in
@@ -186,6 +195,7 @@ module _ (bytes : List ℕ) (h : History) (start : Progress) where
           tells = tells_fault_cut h.machine bytes before now all ds others.0 c faults (status_in (Err f)) (subst AreSpoken (append_assoc ds (c ∷ []) others.0) (others.1.0.spoken (subst AreSpoken e spoken))) numbers some.cut (not_done f) (not_script f) (not_source f);
           for_good = λ is. absurd (line.no_disk (is_disk f is));
           leaves = keeps_fault_cut h ds others.0 c faults numbers f before.session now.session some.stands;
+          mark = begun_but_next read rest faults counts.numbers (length ds) some.is_done.as_many before.session.disk now.session.disk c mark;
         })
 
 -- ---- by how they ended
@@ -200,7 +210,7 @@ ran_nothing (Err f) before is = subst (λ x. PerformsScript (Err x) before befor
     go (Some bytes) = record {
       each = λ h cs keeps found.
           ran_front bytes h before (with_left before (Some bytes)) cs [] cs [] status.Memory refl (script_is_spoken cs found.front.commands) (record { numbers = tt; counted = omega arith }) (λ none. refl)
-          (record {
+          (none_change_mark [] before.session.disk before.session.disk refl) (record {
             done = [];
             is_done = record { as_many = refl; spoken = λ spoken. spoken; are_done = tt };
             performed = record { stands = leads_none before.session h keeps; out = Appends-nil before.taken };
@@ -217,7 +227,7 @@ module _ (before : Progress) where
         each = λ h cs keeps found.
             let ds : List Command = p.commands in
             ran_front bytes h before now cs ds [] p.faults status.Done (commands_are_one bytes cs ds found (whole_is_longest bytes ds p.ends.1) ∙ sym (append-nil ds)) (script_is_spoken cs found.front.commands) p.counts p.calm
-            ((p.performs refl).each h keeps) (λ e. refl) (λ e. absurd (cc e)) (λ e. absurd (cc e)) (λ e. absurd (cc e)) (λ a n. refl);
+            (p.mark refl) ((p.performs refl).each h keeps) (λ e. refl) (λ e. absurd (cc e)) (λ e. absurd (cc e)) (λ e. absurd (cc e)) (λ a n. refl);
       }
 
   pub ran_failed : (now : Progress) → PerformsToEnd true ended.Failed before now → PerformsScript (Ok status.Source) before now
@@ -228,7 +238,7 @@ module _ (before : Progress) where
       go (Some bytes) p = record {
         each = λ h cs keeps found.
             let first = taken_first bytes now.source.left cs p.commands found p.ends in
-            ran_front bytes h before now cs p.commands first.0 p.faults status.Source first.1 (script_is_spoken cs found.front.commands) p.counts p.calm ((p.performs refl).each h keeps) (λ e. absurd (cc e)) (λ e. absurd (cc e))
+            ran_front bytes h before now cs p.commands first.0 p.faults status.Source first.1 (script_is_spoken cs found.front.commands) p.counts p.calm (p.mark refl) ((p.performs refl).each h keeps) (λ e. absurd (cc e)) (λ e. absurd (cc e))
             (λ e. absurd (cc e)) (λ e. p.ends) (λ a n. refl);
       }
 
@@ -242,7 +252,7 @@ module _ (before : Progress) where
             let ds : List Command = p.commands in
             let text : List ℕ = bad_line (length ds + 1) in
             let whole : take (length text) text ≡ text = take_all (length text) text (omega arith) in
-            ran_line bytes h before mid taken cs ds p.faults (length text) status.Script (commands_are_one bytes cs ds found p.ends.1.0) (script_is_spoken cs found.front.commands) p.counts p.calm ((p.performs refl).each h keeps)
+            ran_line bytes h before mid taken cs ds p.faults (length text) status.Script (commands_are_one bytes cs ds found p.ends.1.0) (script_is_spoken cs found.front.commands) p.counts p.calm (p.mark refl) ((p.performs refl).each h keeps)
             (subst (Appends mid.taken taken) (ap bad_line p.ends.0 ∙ sym whole) said) (λ e. whole) (λ e. absurd (cc e)) (λ e. absurd (cc e)) (λ e. absurd (cc e)) p.ends.1.1 (λ a. refl);
       }
 
@@ -257,7 +267,7 @@ module _ (before : Progress) where
       go (Some bytes) p = record {
         each = λ h cs keeps found.
             let ds : List Command = p.commands in
-            ran_line bytes h before mid taken cs ds p.faults cut.0 (status_in (Err x)) (commands_are_one bytes cs ds found p.ends.1.0) (script_is_spoken cs found.front.commands) p.counts p.calm ((p.performs refl).each h keeps)
+            ran_line bytes h before mid taken cs ds p.faults cut.0 (status_in (Err x)) (commands_are_one bytes cs ds found p.ends.1.0) (script_is_spoken cs found.front.commands) p.counts p.calm (p.mark refl) ((p.performs refl).each h keeps)
             (subst (λ k. Appends mid.taken taken (take cut.0 (bad_line k))) p.ends.0 cut.1.1) (λ e. absurd (not_script x e)) (not_done x) (not_source x) (λ e. sound (sym is ∙ is_disk x e)) p.ends.1.1 (none_more x);
       }
 
@@ -272,7 +282,7 @@ module _ (before : Progress) where
             let first = front_is_first bytes b.front.0 cs (b.commands ++ b.last ∷ []) found b.front.1 in
             let counts = b.counts in
             elim b.fails [
-              | inl fails ↦ ran_cut bytes h before now cs b.commands first.0 b.last b.faults x first.1 (script_is_spoken cs found.front.commands) counts b.disk fails.calm ((fails.each refl).each h keeps)
-              | inr (line, faults) ↦ ran_fault_cut bytes h before now cs b.commands first.0 b.last b.faults x first.1 (script_is_spoken cs found.front.commands) counts line ((faults refl).each h keeps)
+              | inl fails ↦ ran_cut bytes h before now cs b.commands first.0 b.last b.faults x first.1 (script_is_spoken cs found.front.commands) counts b.disk fails.calm (fails.mark refl) ((fails.each refl).each h keeps)
+              | inr line ↦ ran_fault_cut bytes h before now cs b.commands first.0 b.last b.faults x first.1 (script_is_spoken cs found.front.commands) counts line (line.mark refl) ((line.each refl).each h keeps)
             ];
       }

@@ -1,13 +1,13 @@
 use Rattle.cache_store.specs.Session.{session}
 use Rattle.cache_tool.specs.HeldReply.{said_in}
 use Rattle.cache_tool.proofs.Fills.FillHalf.{half_evicted, half_fails, half_handed, half_ok}
-use Rattle.cache_tool.proofs.Handed.{handed_open}
+use Rattle.cache_tool.proofs.Handed.{handed_open, handed_account, looks_account}
 use Rattle.cache_tool.proofs.fill.evict_half.Goals as goal
 
 pub returns-in_err-kilobytes-clause-evicts : goal.returns-in_err-kilobytes-clause-evicts
 returns-in_err-kilobytes-clause-evicts g c = λ told.
     half_fails c.kilobytes.result c.from_residual.result _ (session g.D.Disk c.args.store.now c.args.disk.now) (session g.D.Disk c.kilobytes.new.self c.kilobytes.new.disk) (said_in c.args.said.now)
-    c.from_residual.ensures.1 (c.kilobytes.ensures.ends told)
+    c.from_residual.ensures.1 (c.kilobytes.ensures.ends told) (c.kilobytes.ensures.looks.state told)
 
 pub returns-in_err-send-clause-evicts : goal.returns-in_err-send-clause-evicts
 returns-in_err-send-clause-evicts g c = λ told.
@@ -31,3 +31,8 @@ returns-in_err-kilobytes-clause-open g c = λ told.
 pub returns-in_err-send-clause-open : goal.returns-in_err-send-clause-open
 returns-in_err-send-clause-open g c = λ told.
     handed_open c.from_residual-in_err-send.result c.in_err-send.field-0.0 (session g.D.Disk c.send.new.store c.send.new.disk) c.from_residual-in_err-send.ensures.1 (c.in_err-send.ensures.open told)
+
+pub returns-in_err-send-clause-account : goal.returns-in_err-send-clause-account
+returns-in_err-send-clause-account g c =
+    handed_account g.D.Disk c.from_residual-in_err-send.result c.in_err-send.field-0.0 c.args.disk.now c.kilobytes.new.disk c.send.new.disk c.from_residual-in_err-send.ensures.1
+    (looks_account g.D.Disk c.args.disk.now c.kilobytes.new.disk c.in_ok-kilobytes.ensures.looks) c.in_err-send.ensures.account

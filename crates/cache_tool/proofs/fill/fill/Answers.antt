@@ -1,4 +1,4 @@
-use Rattle.std.proofs.Common.{ap, inl, inr, refl, subst}
+use Rattle.std.proofs.Common.{ap, inl, inr, refl, subst, []}
 use Rattle.cache_base.specs.declared.status.Status.TheVariants as status
 use Rattle.cache_store.specs.Session.{session}
 use Rattle.cache_theory.specs.History.{acked, settled_at}
@@ -6,6 +6,7 @@ use Rattle.cache_tool.specs.Statuses.{status_in}
 use Rattle.cache_tool.specs.World.{output}
 use Rattle.cache_tool.proofs.Fills.FillEnds.{answered, answers_only, ends_so, not_answered, prints_so}
 use Rattle.cache_tool.proofs.Growing.{takes_none, takes_part}
+use Rattle.cache_tool.proofs.MarkLeft.{closed_leaves_mark, kept_change_mark, leaves_mark}
 use Rattle.cache_tool.proofs.OneCommand.{not_begun}
 use Rattle.cache_tool.proofs.Puts.PutEnds.{Printed, disk_cause, ended_no_sink, never_sink, put_stops}
 use Rattle.cache_tool.proofs.SessionEnds.{resumed_done}
@@ -93,6 +94,7 @@ returns g c =
           );
       grows = takes_none (g.K.Sink.taken c.args.sink.now);
       others = ends_so came c.end.result c.perform_fill-came.ensures.only c.perform_fill-came.ensures.no_sink c.end.ensures.same;
+      mark = λ told. closed_leaves_mark [] _ _ _ _ (c.in-Ok.ensures.begins told).mark (kept_change_mark _ _ (c.perform_fill-came.ensures.performs told).mark) (c.end.ensures.ends told).mark;
       quiet = c.end.ensures.quiet;
       stops = λ told.
           put_stops (g.D.Disk.counts c.args.disk.now) (g.D.Disk.counts c.begin.new.disk) (c.in-Ok.ensures.account.went_on refl told) came
@@ -104,3 +106,13 @@ returns g c =
           only c.perform_fill-came.ensures.no_sink (c.in-Ok.ensures.account.cause.kept (λ h. cc)) c.perform_fill-came.ensures.account.cause c.end.ensures.cause
           (λ dropped. ((c.end.ensures.dropped dropped).0, ap g.D.Disk.faults (c.end.ensures.dropped dropped).1));
     }
+
+-- what a crash may leave of a mark
+pub returns-in-Err-clause-mark : goal.returns-in-Err-clause-mark
+returns-in-Err-clause-mark g c = λ told. leaves_mark [] _ _ (c.in-Err.ensures.fails told).mark
+
+pub returns-in-Done-clause-mark : goal.returns-in-Done-clause-mark
+returns-in-Done-clause-mark g c = λ told. closed_leaves_mark [] _ _ _ _ (c.in-Ok.ensures.begins told).mark (kept_change_mark _ _ (c.perform_fill-came.ensures.performs told).mark) (c.end.ensures.ends told).mark
+
+pub returns-in-No-clause-mark : goal.returns-in-No-clause-mark
+returns-in-No-clause-mark g c = λ told. closed_leaves_mark [] _ _ _ _ (c.in-Ok.ensures.begins told).mark (kept_change_mark _ _ (c.perform_fill-came.ensures.performs told).mark) (c.end.ensures.ends told).mark

@@ -1,14 +1,13 @@
-use Rattle.std.proofs.Common.{◌∙◌, ap, arith, refl, subst, sym}
+use Rattle.std.proofs.Common.{◌∙◌, arith, refl, subst, sym}
 use Rattle.cache_base.specs.Bytes.{AreBytes}
 use Rattle.cache_base.proofs.ByteLaws.{all_below}
-use Rattle.cache_store.specs.Faults.{ending, fault_ending}
 use Rattle.cache_store.specs.Session.{session}
 use Rattle.cache_tool.specs.Fill.{entry_commands, key_of}
 use Rattle.cache_tool.specs.HeldReply.{said_in}
 use Rattle.cache_tool.proofs.Fills.FillRuns.{appending_fails, closing_fails, creating_fails, entry_made, run_never, timing_fails}
-use Rattle.cache_tool.proofs.Handed.{handed_on}
+use Rattle.cache_tool.proofs.Handed.{handed_account, handed_open}
 use Rattle.cache_tool.proofs.RightLaws.{open_leaves_honest}
-use Rattle.disk_model.specs.Account.{Accounts, Ending}
+use Rattle.disk_model.specs.Account.{Ending}
 use Rattle.file_handles.proofs.Accounting.{accounts_then}
 use Rattle.cache_tool.proofs.fill.make_entry.Goals as goal
 
@@ -65,9 +64,33 @@ send-requires-3-clause-given g c = (omega arith, all_below 256 c.args.bytes.now 
 
 pub returns-in_err-send-4-clause-account : goal.returns-in_err-send-4-clause-account
 returns-in_err-send-4-clause-account g c =
-    let result = c.from_residual-in_err-send-4.result in
-    let e = fault_ending c.in_err-send-4.field-0.0 in
-    subst (λ (answer : Ending). Accounts g.D.Disk answer c.args.disk.now c.send-4.new.disk) (sym (ap ending (handed_on result c.in_err-send-4.field-0.0 c.from_residual-in_err-send-4.ensures.1)))
-    (accounts_then g.D.Disk e c.args.disk.now c.send.new.disk c.send-4.new.disk c.in_ok-send.ensures.account
-    (accounts_then g.D.Disk e c.send.new.disk c.send-2.new.disk c.send-4.new.disk c.in_ok-send-2.ensures.account
-    (accounts_then g.D.Disk e c.send-2.new.disk c.send-3.new.disk c.send-4.new.disk c.in_ok-send-3.ensures.account c.in_err-send-4.ensures.account)))
+    handed_account g.D.Disk c.from_residual-in_err-send-4.result c.in_err-send-4.field-0.0 c.args.disk.now c.send-3.new.disk c.send-4.new.disk c.from_residual-in_err-send-4.ensures.1
+    (accounts_then g.D.Disk Ending.NoneFailed c.args.disk.now c.send-2.new.disk c.send-3.new.disk (accounts_then g.D.Disk Ending.NoneFailed c.args.disk.now c.send.new.disk c.send-2.new.disk c.in_ok-send.ensures.account c.in_ok-send-2.ensures.account) c.in_ok-send-3.ensures.account) c.in_err-send-4.ensures.account
+
+pub returns-in_err-send-2-clause-account : goal.returns-in_err-send-2-clause-account
+returns-in_err-send-2-clause-account g c =
+    handed_account g.D.Disk c.from_residual-in_err-send-2.result c.in_err-send-2.field-0.0 c.args.disk.now c.send.new.disk c.send-2.new.disk c.from_residual-in_err-send-2.ensures.1
+    c.in_ok-send.ensures.account c.in_err-send-2.ensures.account
+
+pub returns-in_err-send-3-clause-account : goal.returns-in_err-send-3-clause-account
+returns-in_err-send-3-clause-account g c =
+    handed_account g.D.Disk c.from_residual-in_err-send-3.result c.in_err-send-3.field-0.0 c.args.disk.now c.send-2.new.disk c.send-3.new.disk c.from_residual-in_err-send-3.ensures.1
+    (accounts_then g.D.Disk Ending.NoneFailed c.args.disk.now c.send.new.disk c.send-2.new.disk c.in_ok-send.ensures.account c.in_ok-send-2.ensures.account) c.in_err-send-3.ensures.account
+
+pub returns-in_err-send-2-clause-open : goal.returns-in_err-send-2-clause-open
+returns-in_err-send-2-clause-open g c = λ told.
+    handed_open c.from_residual-in_err-send-2.result c.in_err-send-2.field-0.0 (session g.D.Disk c.send-2.new.store c.send-2.new.disk) c.from_residual-in_err-send-2.ensures.1 (c.in_err-send-2.ensures.open told)
+
+pub returns-in_err-send-3-clause-open : goal.returns-in_err-send-3-clause-open
+returns-in_err-send-3-clause-open g c = λ told.
+    handed_open c.from_residual-in_err-send-3.result c.in_err-send-3.field-0.0 (session g.D.Disk c.send-3.new.store c.send-3.new.disk) c.from_residual-in_err-send-3.ensures.1 (c.in_err-send-3.ensures.open told)
+
+pub returns-in_err-send-4-clause-open : goal.returns-in_err-send-4-clause-open
+returns-in_err-send-4-clause-open g c = λ told.
+    handed_open c.from_residual-in_err-send-4.result c.in_err-send-4.field-0.0 (session g.D.Disk c.send-4.new.store c.send-4.new.disk) c.from_residual-in_err-send-4.ensures.1 (c.in_err-send-4.ensures.open told)
+
+pub send-requires-3-clause-told : goal.send-requires-3-clause-told
+send-requires-3-clause-told g c = λ told. c.in_ok-send-2.ensures.open told refl
+
+pub send-requires-4-clause-told : goal.send-requires-4-clause-told
+send-requires-4-clause-told g c = λ told. c.in_ok-send-3.ensures.open told refl

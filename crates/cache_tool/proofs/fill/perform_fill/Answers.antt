@@ -1,10 +1,12 @@
-use Rattle.std.proofs.Common.{◌∙◌, ◌++◌, ap}
+use Rattle.std.proofs.Common.{◌∙◌, ◌++◌, ap, refl}
 use Rattle.std.specs.Prelude.{codes}
 use Rattle.cache_store.specs.Session.{session}
+use Rattle.cache_theory.specs.Command.Command.{ListRecords, Verify}
 use Rattle.cache_theory.specs.Text.{with_number}
 use Rattle.cache_tool.specs.FirstLine.{first_line}
 use Rattle.cache_tool.specs.HeldReply.{said_in}
 use Rattle.cache_tool.proofs.Fills.FillWhole.{checked_fails, checked_keeps, evicted_fails, fill_performed, listed_fails, nothing_fails, unevicted_fails}
+use Rattle.cache_tool.proofs.MarkLeft.{others_keep, stays_mark, then_stays}
 use Rattle.cache_tool.proofs.RightLaws.{open_leaves_honest}
 use Rattle.cache_tool.proofs.fill.perform_fill.Goals as goal
 
@@ -13,6 +15,7 @@ returns-in_err-say_made-clause-performs g c = λ told. record {
   each = λ h keeps.
       nothing_fails c.args.now c.args.count c.args.first h (session g.D.Disk c.args.store.now c.args.disk.now) c.from_residual.result _ (session g.D.Disk c.args.store.now c.args.disk.now) _
       c.from_residual.ensures.1 keeps.stands.crash_kept.safe;
+  mark = stays_mark refl;
 }
 
 pub returns-in_err-make_all-clause-performs : goal.returns-in_err-make_all-clause-performs
@@ -20,6 +23,7 @@ returns-in_err-make_all-clause-performs g c = λ told. record {
   each = λ h keeps.
       unevicted_fails c.args.now c.args.count c.args.first h (session g.D.Disk c.args.store.now c.args.disk.now) c.from_residual-in_err-make_all.result _ (session g.D.Disk c.make_all.new.store c.make_all.new.disk) _
       c.from_residual-in_err-make_all.ensures.1 ((c.in_err-make_all.ensures.runs told).each h keeps).safe;
+  mark = (c.in_err-make_all.ensures.runs told).mark;
 }
 
 pub returns-in_err-evict_half-clause-performs : goal.returns-in_err-evict_half-clause-performs
@@ -29,6 +33,7 @@ returns-in_err-evict_half-clause-performs g c = λ told. record {
       evicted_fails c.args.now c.args.count c.args.first h (session g.D.Disk c.args.store.now c.args.disk.now) (session g.D.Disk c.make_all.new.store c.make_all.new.disk) made.stands
       _ (session g.D.Disk c.evict_half.new.store c.evict_half.new.disk) (said_in c.evict_half.new.said) ((c.in_err-evict_half.ensures.evicts told).each _ made.stands.keeps)
       c.from_residual-in_err-evict_half.result _ _ c.from_residual-in_err-evict_half.ensures.1;
+  mark = then_stays _ _ _ (c.in_ok-make_all.ensures.runs told).mark ((c.in_err-evict_half.ensures.evicts told).mark);
 }
 
 pub returns-in_err-keep_line-clause-performs : goal.returns-in_err-keep_line-clause-performs
@@ -38,6 +43,7 @@ returns-in_err-keep_line-clause-performs g c = λ told. record {
       evicted_fails c.args.now c.args.count c.args.first h (session g.D.Disk c.args.store.now c.args.disk.now) (session g.D.Disk c.make_all.new.store c.make_all.new.disk) made.stands
       _ (session g.D.Disk c.evict_half.new.store c.evict_half.new.disk) (said_in c.evict_half.new.said) ((c.in_ok-evict_half.ensures.evicts told).each _ made.stands.keeps)
       c.from_residual-in_err-keep_line.result _ _ c.from_residual-in_err-keep_line.ensures.1;
+  mark = then_stays _ _ _ (c.in_ok-make_all.ensures.runs told).mark ((c.in_ok-evict_half.ensures.evicts told).mark);
 }
 
 pub returns-in_err-checked-clause-performs : goal.returns-in_err-checked-clause-performs
@@ -49,6 +55,7 @@ returns-in_err-checked-clause-performs g c = λ told. record {
       _ (session g.D.Disk c.evict_half.new.store c.evict_half.new.disk) (said_in c.evict_half.new.said) half
       _ (session g.D.Disk c.send.new.store c.send.new.disk) (said_in c.send.new.said) ((c.in_err-checked.ensures.sends told).each _ half.stands.keeps)
       c.from_residual-in_err-checked.result _ _ c.from_residual-in_err-checked.ensures.1;
+  mark = then_stays _ _ _ (c.in_ok-make_all.ensures.runs told).mark (then_stays _ _ _ (c.in_ok-evict_half.ensures.evicts told).mark (others_keep Verify _ _ (λ stood file never. never) (c.in_err-checked.ensures.sends told).mark));
 }
 
 pub returns-in_err-keep_line-2-clause-performs : goal.returns-in_err-keep_line-2-clause-performs
@@ -60,6 +67,7 @@ returns-in_err-keep_line-2-clause-performs g c = λ told. record {
       _ (session g.D.Disk c.evict_half.new.store c.evict_half.new.disk) (said_in c.evict_half.new.said) half
       _ (session g.D.Disk c.send.new.store c.send.new.disk) (said_in c.send.new.said) ((c.in_ok-checked.ensures.sends told).each _ half.stands.keeps)
       c.from_residual-in_err-keep_line-2.result _ _ c.from_residual-in_err-keep_line-2.ensures.1;
+  mark = then_stays _ _ _ (c.in_ok-make_all.ensures.runs told).mark (then_stays _ _ _ (c.in_ok-evict_half.ensures.evicts told).mark (others_keep Verify _ _ (λ stood file never. never) (c.in_ok-checked.ensures.sends told).mark));
 }
 
 pub returns-in_err-send-clause-performs : goal.returns-in_err-send-clause-performs
@@ -76,6 +84,7 @@ returns-in_err-send-clause-performs g c = λ told. record {
       listed_fails c.args.now c.args.count c.args.first h s0 s1 made.stands _ s2 (said_in c.evict_half.new.said) half c.in_ok-checked.checked s3 (said_in c.send.new.said) check
       _ (session g.D.Disk c.send-2.new.store c.send-2.new.disk) (said_in c.send-2.new.said) ((c.in_err-send.ensures.sends told).each _ kept)
       c.from_residual-in_err-send.result _ _ c.from_residual-in_err-send.ensures.1;
+  mark = then_stays _ _ _ (c.in_ok-make_all.ensures.runs told).mark (then_stays _ _ _ (c.in_ok-evict_half.ensures.evicts told).mark (then_stays _ _ _ (others_keep Verify _ _ (λ stood file never. never) (c.in_ok-checked.ensures.sends told).mark) (others_keep ListRecords _ _ (λ stood file never. never) (c.in_err-send.ensures.sends told).mark)));
 }
 
 pub returns-in_err-keep_line-3-clause-performs : goal.returns-in_err-keep_line-3-clause-performs
@@ -92,6 +101,7 @@ returns-in_err-keep_line-3-clause-performs g c = λ told. record {
       listed_fails c.args.now c.args.count c.args.first h s0 s1 made.stands _ s2 (said_in c.evict_half.new.said) half c.in_ok-checked.checked s3 (said_in c.send.new.said) check
       _ (session g.D.Disk c.send-2.new.store c.send-2.new.disk) (said_in c.send-2.new.said) ((c.in_ok-send.ensures.sends told).each _ kept)
       c.from_residual-in_err-keep_line-3.result _ _ c.from_residual-in_err-keep_line-3.ensures.1;
+  mark = then_stays _ _ _ (c.in_ok-make_all.ensures.runs told).mark (then_stays _ _ _ (c.in_ok-evict_half.ensures.evicts told).mark (then_stays _ _ _ (others_keep Verify _ _ (λ stood file never. never) (c.in_ok-checked.ensures.sends told).mark) (others_keep ListRecords _ _ (λ stood file never. never) (c.in_ok-send.ensures.sends told).mark)));
 }
 
 pub returns-clause-performs : goal.returns-clause-performs
@@ -110,6 +120,7 @@ returns-clause-performs g c = λ told. record {
       c.status_of.result c.keep_line-3.new.lines c.status_of.ensures
       (c.in_ok-keep_line-3.ensures ∙ ap (λ l. l ++ first_line (said_in c.send-2.new.said)) (c.in_ok-keep_line-2.ensures ∙ ap (λ l. l ++ first_line (said_in c.send.new.said))
       (c.in_ok-keep_line.ensures ∙ ap (λ l. l ++ first_line (said_in c.evict_half.new.said)) (c.in_ok-say_made.ensures ∙ ap (λ l. l ++ with_number (codes "made") c.args.count) c.requires.empty))));
+  mark = then_stays _ _ _ (c.in_ok-make_all.ensures.runs told).mark (then_stays _ _ _ (c.in_ok-evict_half.ensures.evicts told).mark (then_stays _ _ _ (others_keep Verify _ _ (λ stood file never. never) (c.in_ok-checked.ensures.sends told).mark) (others_keep ListRecords _ _ (λ stood file never. never) (c.in_ok-send.ensures.sends told).mark)));
 }
 
 pub returns-in_err-say_made-clause-honest : goal.returns-in_err-say_made-clause-honest

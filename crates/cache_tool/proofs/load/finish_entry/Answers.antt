@@ -4,7 +4,7 @@ use Rattle.cache_theory.specs.Command.Command.{Close, FinishAs}
 use Rattle.cache_tool.specs.HeldReply.{said_in}
 use Rattle.cache_tool.specs.LoadProgress.{finish_commands}
 use Rattle.cache_tool.proofs.Fills.FillRuns.{run_fails, run_handed, run_ok, run_one, run_then}
-use Rattle.cache_tool.proofs.Handed.{handed_open}
+use Rattle.cache_tool.proofs.Handed.{handed_open, handed_account}
 use Rattle.cache_tool.proofs.load.finish_entry.Goals as goal
 
 pub returns-in_err-send-clause-runs : goal.returns-in_err-send-clause-runs
@@ -41,3 +41,8 @@ returns-clause-runs g c = λ told.
     run_ok (finish_commands c.args.meta.now.header c.args.meta.now.elements) c.in_ok-send-2.field-0 tt s0 s2
     (run_then (finish ∷ []) (Close 0 ∷ []) _ _ s0 s1 s2 (run_one finish _ s0 s1 (said_in c.send.new.said) refl (c.in_ok-send.ensures.sends told))
     (run_one (Close 0) _ s1 s2 (said_in c.send-2.new.said) refl (c.in_ok-send-2.ensures.sends told)))
+
+pub returns-in_err-send-2-clause-account : goal.returns-in_err-send-2-clause-account
+returns-in_err-send-2-clause-account g c =
+    handed_account g.D.Disk c.from_residual-in_err-send-2.result c.in_err-send-2.field-0.0 c.args.disk.now c.send.new.disk c.send-2.new.disk c.from_residual-in_err-send-2.ensures.1
+    c.in_ok-send.ensures.account c.in_err-send-2.ensures.account

@@ -1,5 +1,5 @@
 -- The dump was loaded, and the store is closed; or the run did not begin.
-use Rattle.std.proofs.Common.{IsTrue, ap, inl, inr, refl, subst}
+use Rattle.std.proofs.Common.{IsTrue, ap, inl, inr, refl, subst, []}
 use Rattle.std.specs.Io.KnownBytes.{Appends}
 use Rattle.cache_base.specs.declared.status.Status.TheVariants as status
 use Rattle.cache_store.specs.Session.{session}
@@ -7,6 +7,7 @@ use Rattle.cache_tool.specs.Statuses.{status_in}
 use Rattle.cache_tool.specs.World.{output, world}
 use Rattle.cache_tool.proofs.Growing.{takes_none}
 use Rattle.cache_tool.proofs.Loads.LoadEnds.{SaysLine, came_end, line_or_source_closes, line_said, load_ends, loads_told, never_ends, no_line, none_said, none_told, says_bad, says_loaded}
+use Rattle.cache_tool.proofs.MarkLeft.{closed_leaves_mark, kept_change_mark, leaves_mark}
 use Rattle.cache_tool.proofs.OneCommand.{not_begun}
 use Rattle.cache_tool.proofs.Puts.PutEnds.{closing_cause, put_stops, source_came}
 use Rattle.cache_tool.proofs.SessionEnds.{resumed_done}
@@ -123,6 +124,7 @@ returns g c =
       done = λ is. absurd (not_done is);
       bad = λ is. absurd (not_script is);
       others = (never_ends ended status.Words (λ x. cc) (λ x. cc) (λ x. cc) (λ x. cc) (λ x. cc) ends, not_no);
+      mark = λ told. closed_leaves_mark [] _ _ _ _ (c.in-Ok.ensures.begins told).mark (kept_change_mark _ _ (c.perform_load-came.ensures.performs.runs told).mark) (c.end.ensures.ends told).mark;
       quiet = c.end.ensures.quiet;
       stops = λ told.
           put_stops (g.D.Disk.counts c.args.disk.now) (g.D.Disk.counts c.begin.new.disk) (c.in-Ok.ensures.account.went_on refl told) came
@@ -135,3 +137,13 @@ returns g c =
           (line_or_source_closes came load.only) load.no_sink (c.in-Ok.ensures.account.cause.kept (λ h. cc)) load.account.cause c.end.ensures.cause
           (λ dropped. ((c.end.ensures.dropped dropped).0, ap g.D.Disk.faults (c.end.ensures.dropped dropped).1));
     }
+
+-- what a crash may leave of a mark
+pub returns-in-Err-clause-mark : goal.returns-in-Err-clause-mark
+returns-in-Err-clause-mark g c = λ told. leaves_mark [] _ _ (c.in-Err.ensures.fails told).mark
+
+pub returns-in-Done-clause-mark : goal.returns-in-Done-clause-mark
+returns-in-Done-clause-mark g c = λ told. closed_leaves_mark [] _ _ _ _ (c.in-Ok.ensures.begins told).mark (kept_change_mark _ _ (c.perform_load-came.ensures.performs.runs told).mark) (c.end.ensures.ends told).mark
+
+pub returns-in-Script-clause-mark : goal.returns-in-Script-clause-mark
+returns-in-Script-clause-mark g c = λ told. closed_leaves_mark [] _ _ _ _ (c.in-Ok.ensures.begins told).mark (kept_change_mark _ _ (c.perform_load-came.ensures.performs.runs told).mark) (c.end.ensures.ends told).mark

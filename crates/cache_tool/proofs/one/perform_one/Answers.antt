@@ -1,5 +1,5 @@
 -- What the command came to, where the run began and where it did not.
-use Rattle.std.proofs.Common.{◌≡◌, ◌⊎◌, ◌∙◌, ap, arith, inl, inr, refl, subst, sym}
+use Rattle.std.proofs.Common.{◌≡◌, ◌⊎◌, ◌∙◌, ap, arith, inl, inr, refl, subst, sym, [], ◌∷◌}
 use Rattle.std.specs.Io.KnownBytes.{Appends}
 use Rattle.cache_base.specs.Causes.{Rose}
 use Rattle.cache_script.specs.Command.{command_of}
@@ -16,6 +16,7 @@ use Rattle.cache_tool.specs.World.{output}
 use Rattle.cache_tool.proofs.DoneLaws.{done_right, done_spoken}
 use Rattle.cache_tool.proofs.EntryLooks.{looks_none, nothing_to_read, reads_none}
 use Rattle.cache_tool.proofs.ForGood.{disk_drops, no_resume, stops_for_good}
+use Rattle.cache_tool.proofs.MarkLeft.{closed_leaves_mark, leaves_mark, none_leaves_mark, one_changes_mark, may_mark}
 use Rattle.cache_tool.proofs.OneCommand.{came_ending, came_open, faulted_prints, not_begun, performed_prints, rose_twice}
 use Rattle.cache_tool.proofs.Puts.PutEnds.{put_stops}
 use Rattle.cache_tool.proofs.SessionEnds.{next_done, resumed_done}
@@ -137,3 +138,20 @@ returns-clause-stops g c = λ told.
     put_stops (g.D.Disk.counts c.args.disk.now) (g.D.Disk.counts c.begin.new.disk) (c.in-Ok.ensures.account.went_on refl told) c.map.result
     (g.D.Disk.counts c.attempt-answered.new.disk) (g.D.Disk.counts c.end.new.disk) (λ calm. command.went_on (came_ending c.attempt-answered.result c.map.result c.map.ensures.cases calm) told)
     (command.stops told) (c.end.ensures.stops told) (λ dropped. ap g.D.Disk.counts (c.end.ensures.dropped dropped).1)
+
+-- what a crash may leave of a mark
+pub returns-in-Err-clause-mark : goal.returns-in-Err-clause-mark
+returns-in-Err-clause-mark g c = λ told.
+    let s = g.D.Disk.state c.args.disk.now in
+    let t = g.D.Disk.state c.begin.new.disk in
+    none_leaves_mark (command_of c.args.command.now ∷ []) s t (leaves_mark [] s t (c.in-Err.ensures.fails told).mark)
+
+pub returns-then-faulting-clause-mark : goal.returns-then-faulting-clause-mark
+returns-then-faulting-clause-mark g c = λ told.
+    closed_leaves_mark (command_of c.args.command.now ∷ []) _ _ _ _ (c.in-Ok.ensures.begins told).mark
+    (one_changes_mark (command_of c.args.command.now) _ _ c.requires.spoken (may_mark (command_of c.args.command.now) _ _ (c.attempt-answered.ensures.at_clear told))) (c.end_faulted.ensures.ends told).mark
+
+pub returns-clause-mark : goal.returns-clause-mark
+returns-clause-mark g c = λ told.
+    closed_leaves_mark (command_of c.args.command.now ∷ []) _ _ _ _ (c.in-Ok.ensures.begins told).mark
+    (one_changes_mark (command_of c.args.command.now) _ _ c.requires.spoken (may_mark (command_of c.args.command.now) _ _ (c.attempt-answered.ensures.at_clear told))) (c.end.ensures.ends told).mark

@@ -6,6 +6,7 @@ use Rattle.cache_store.specs.Session.{session}
 use Rattle.cache_tool.specs.HeldReply.{said_in}
 use Rattle.cache_tool.specs.World.{supply}
 use Rattle.cache_tool.proofs.Handed.{handed_on, handed_open}
+use Rattle.cache_tool.proofs.MarkLeft.{then_stays}
 use Rattle.cache_tool.proofs.Puts.PutBody.{filled_ahead, filled_fits, filled_full, filled_length, last_broken, last_ended, last_failed, last_refused, no_is_refused, so_far_more, so_far_none, takes_at_most}
 use Rattle.cache_tool.proofs.put.append_all.Goals as goal
 
@@ -31,6 +32,7 @@ returns-in_err-outcome-clause-appends g c = λ told. record {
       some filled.bytes filled.full filled.end c.pieces.invariant.calm filled.cause in
       let failed = handed_on c.from_residual.result c.in_err-outcome.field-0.0 c.from_residual.ensures.1 in
       rw failed (last_failed (supply g.S.Source c.args.source.now) (supply g.S.Source c.fill-filled.new.source) so next fits told (c.in_err-outcome.ensures.appends told) h stands writes c.in_err-outcome.field-0.0 (refl {a = Err c.in_err-outcome.field-0.0}));
+  mark = then_stays _ _ _ (c.pieces.invariant.so_far.mark told) (c.in_err-outcome.ensures.appends told).mark;
 }
 
 pub returns-in-Failed-clause-appends : goal.returns-in-Failed-clause-appends
@@ -44,6 +46,7 @@ returns-in-Failed-clause-appends g c = λ told. record {
       (g.S.Source.faults c.fill-filled.new.source) c.fill-filled.result.ended c.fill-filled.result.count c.fill-filled.new.piece filled.within size
       some filled.bytes filled.full filled.end c.pieces.invariant.calm filled.cause in
       last_broken (supply g.S.Source c.args.source.now) (supply g.S.Source c.fill-filled.new.source) so next fits told (c.in_ok-outcome.ensures.appends told) h stands writes c.in_ok-outcome.outcome (refl {a = Ok c.in_ok-outcome.outcome}) c.in-Failed.is;
+  mark = then_stays _ _ _ (c.pieces.invariant.so_far.mark told) (c.in_ok-outcome.ensures.appends told).mark;
 }
 
 pub returns-in-End-clause-appends : goal.returns-in-End-clause-appends
@@ -57,6 +60,7 @@ returns-in-End-clause-appends g c = λ told. record {
       (g.S.Source.faults c.fill-filled.new.source) c.fill-filled.result.ended c.fill-filled.result.count c.fill-filled.new.piece filled.within size
       some filled.bytes filled.full filled.end c.pieces.invariant.calm filled.cause in
       rw c.status_of.ensures (last_ended (supply g.S.Source c.args.source.now) (supply g.S.Source c.fill-filled.new.source) so next fits told (c.in_ok-outcome.ensures.appends told) h stands writes c.in_ok-outcome.outcome (refl {a = Ok c.in_ok-outcome.outcome}) c.in-End.is);
+  mark = then_stays _ _ _ (c.pieces.invariant.so_far.mark told) (c.in_ok-outcome.ensures.appends told).mark;
 }
 
 pub returns-in-Refused-clause-appends : goal.returns-in-Refused-clause-appends
@@ -70,6 +74,7 @@ returns-in-Refused-clause-appends g c = λ told. record {
       (g.S.Source.faults c.fill-filled.new.source) c.fill-filled.result.ended c.fill-filled.result.count c.fill-filled.new.piece filled.within size
       some filled.bytes filled.full filled.end c.pieces.invariant.calm filled.cause in
       last_refused (supply g.S.Source c.args.source.now) (supply g.S.Source c.fill-filled.new.source) so next fits told (c.in_ok-outcome.ensures.appends told) h stands writes (ap (λ o. Ok o) c.in-Refused.is) c.in-Full.is;
+  mark = then_stays _ _ _ (c.pieces.invariant.so_far.mark told) (c.in_ok-outcome.ensures.appends told).mark;
 }
 
 pub pieces-preserved : goal.pieces-preserved
@@ -84,7 +89,7 @@ pieces-preserved g c =
           _ _ (session g.D.Disk c.append_piece.new.store c.append_piece.new.disk) (take count bytes) (said_in c.append_piece.new.said) c.pieces.invariant.so_far
           c.fill-filled.ensures.bytes (c.pieces.room - count) (filled_full count bytes c.fill-filled.ensures.within size (c.fill-filled.ensures.full c.in-Full.is))
           (omega (arith, len, room)) (rw c.in-Ok.is at c.in_ok-outcome.ensures.appends);
-      is_open = search rules;
+      is_open = λ told. c.in_ok-outcome.ensures.open told refl;
       long = size;
       calm = search rules;
       sound = search rules;

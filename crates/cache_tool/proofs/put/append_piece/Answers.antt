@@ -4,14 +4,15 @@ use Rattle.cache_store.specs.Session.{session}
 use Rattle.cache_store.specs.declared.fault.StoreFault.TheVariants as fault
 use Rattle.cache_theory.specs.Command.Command.{Append}
 use Rattle.cache_tool.proofs.Handed.{handed_on, handed_open}
+use Rattle.cache_tool.proofs.MarkLeft.{stays_mark}
 use Rattle.cache_tool.proofs.RightLaws.{open_leaves_honest}
-use Rattle.cache_tool.proofs.Puts.PutReplies.{empty_went, is_empty_of, not_empty_of, over_went, piece_went, sent_itself, unsaid_went}
+use Rattle.cache_tool.proofs.Puts.PutReplies.{empty_went, is_empty_of, not_empty_of, over_went, piece_went, sent_itself, unsaid_went, sent_keeps}
 use Rattle.cache_tool.proofs.put.append_piece.Goals as goal
 
 pub returns-then-is_empty-clause-appends : goal.returns-then-is_empty-clause-appends
 returns-then-is_empty-clause-appends g c =
     let empty = is_empty_of c.args.piece.now c.is_empty.result c.is_empty.ensures c.if-is_empty.true in
-    λ told. record { each = λ h body stands writes room. empty_went h body c.args.piece.now _ _ empty stands writes }
+    λ told. record { each = λ h body stands writes room. empty_went h body c.args.piece.now _ _ empty stands writes; mark = stays_mark refl }
 
 pub send-requires-clause-given : goal.send-requires-clause-given
 send-requires-clause-given g c = (omega arith, all_below 256 c.args.piece.now (λ i. omega (arith, c.type_inv.piece i)))
@@ -22,6 +23,7 @@ returns-in_err-outcome-clause-appends g c =
     let failed = handed_on c.from_residual.result c.in_err-outcome.field-0.0 c.from_residual.ensures.1 in
     λ told. rw failed (record {
       each = λ h body stands writes room. piece_went h body c.args.piece.now _ _ _ _ some writes (sent_itself (Append 0 c.args.piece.now) _ _ _ _ refl (c.in_err-outcome.ensures.sends told) h stands);
+      mark = sent_keeps (Append 0 c.args.piece.now) _ _ _ _ refl (c.in_err-outcome.ensures.sends told);
     })
 
 pub returns-in_err-say_too_large-clause-appends : goal.returns-in_err-say_too_large-clause-appends
@@ -30,6 +32,7 @@ returns-in_err-say_too_large-clause-appends g c =
     let failed = handed_on c.from_residual-in_err-say_too_large.result fault.Memory c.from_residual-in_err-say_too_large.ensures.1 in
     λ told. rw failed (record {
       each = λ h body stands writes room. unsaid_went h body c.args.piece.now _ _ _ _ _ _ some writes (sent_itself (Append 0 c.args.piece.now) _ _ _ _ refl (c.in_ok-outcome.ensures.sends told) h stands);
+      mark = sent_keeps (Append 0 c.args.piece.now) _ _ _ _ refl (c.in_ok-outcome.ensures.sends told);
     })
 
 pub returns-then-piece-room-clause-appends : goal.returns-then-piece-room-clause-appends
@@ -37,12 +40,16 @@ returns-then-piece-room-clause-appends g c =
     let some = not_empty_of c.args.piece.now c.is_empty.result c.is_empty.ensures c.if-is_empty.false in
     λ told. record {
       each = λ h body stands writes room. over_went h body c.args.piece.now c.args.room _ _ _ _ _ some c.if-piece-room.true room writes c.in_ok-say_too_large.ensures (sent_itself (Append 0 c.args.piece.now) _ _ _ _ refl (c.in_ok-outcome.ensures.sends told) h stands);
+      mark = sent_keeps (Append 0 c.args.piece.now) _ _ _ _ refl (c.in_ok-outcome.ensures.sends told);
     }
 
 pub returns-clause-appends : goal.returns-clause-appends
 returns-clause-appends g c =
     let some = not_empty_of c.args.piece.now c.is_empty.result c.is_empty.ensures c.if-is_empty.false in
-    λ told. record { each = λ h body stands writes room. piece_went h body c.args.piece.now _ _ _ _ some writes (sent_itself (Append 0 c.args.piece.now) _ _ _ _ refl (c.in_ok-outcome.ensures.sends told) h stands) }
+    λ told. record {
+      each = λ h body stands writes room. piece_went h body c.args.piece.now _ _ _ _ some writes (sent_itself (Append 0 c.args.piece.now) _ _ _ _ refl (c.in_ok-outcome.ensures.sends told) h stands);
+      mark = sent_keeps (Append 0 c.args.piece.now) _ _ _ _ refl (c.in_ok-outcome.ensures.sends told);
+    }
 
 pub returns-in_err-outcome-clause-open : goal.returns-in_err-outcome-clause-open
 returns-in_err-outcome-clause-open g c = λ told. handed_open c.from_residual.result c.in_err-outcome.field-0.0 (session g.D.Disk c.send.new.store c.send.new.disk) c.from_residual.ensures.1 (c.in_err-outcome.ensures.open told)

@@ -7,13 +7,14 @@ use Rattle.cache_store.specs.Session.{session}
 use Rattle.cache_store.specs.declared.fault.Verdict.{Verdict}
 use Rattle.cache_store.specs.declared.fault.StoreFault.{StoreFault}
 use Rattle.cache_store.specs.declared.fault.StoreFault.TheVariants as fault
-use Rattle.cache_theory.specs.Command.Command.{Create}
+use Rattle.cache_theory.specs.Command.Command.{Create, Close}
 use Rattle.cache_theory.specs.History.{unanswered}
 use Rattle.cache_tool.specs.HeldReply.{said_in}
 use Rattle.cache_tool.specs.World.{supply}
 use Rattle.cache_tool.proofs.Faulting.{is_false}
 use Rattle.cache_tool.proofs.Handed.{handed_on, handed_open}
-use Rattle.cache_tool.proofs.Puts.PutReplies.{sent_itself}
+use Rattle.cache_tool.proofs.MarkLeft.{stays_mark, then_stays}
+use Rattle.cache_tool.proofs.Puts.PutReplies.{sent_itself, sent_keeps}
 use Rattle.cache_tool.proofs.RightLaws.{open_leaves_honest}
 use Rattle.cache_tool.proofs.Puts.PutWhole.{appended_failed, appended_other, close_failed, close_went, create_failed, create_refused, created, nothing_went, other_outcome}
 use Rattle.cache_tool.proofs.put.perform_put.Goals as goal
@@ -29,6 +30,7 @@ returns-in_err-piece-clause-performs g c = λ told. record {
   each = λ some h stands.
       let failed = handed_on c.from_residual.result fault.Memory c.from_residual.ensures.1 in
       rw failed (nothing_went h c.args.key.now _ _ _ _ refl some stands);
+  mark = stays_mark refl;
 }
 
 pub send-requires-clause-given : goal.send-requires-clause-given
@@ -39,11 +41,13 @@ returns-in_err-send-clause-performs g c = λ told. record {
   each = λ some h stands.
       let failed = handed_on c.from_residual-in_err-send.result c.in_err-send.field-0.0 c.from_residual-in_err-send.ensures.1 in
       rw failed (create_failed h c.args.key.now _ _ _ _ _ refl some c.in_err-send.field-0.0 (λ e. c.in_err-send.ensures.no_sink (ap (λ f. Err f) e)) (sent_itself (Create 0 c.args.key.now) _ _ _ _ refl (c.in_err-send.ensures.sends told) h stands));
+  mark = sent_keeps (Create 0 c.args.key.now) _ _ _ _ refl (c.in_err-send.ensures.sends told);
 }
 
 pub returns-in-Refused-clause-performs : goal.returns-in-Refused-clause-performs
 returns-in-Refused-clause-performs g c = λ told. record {
   each = λ some h stands. create_refused h c.args.key.now _ _ _ _ _ refl some (sent_itself (Create 0 c.args.key.now) _ _ _ _ refl ((rw c.in-Refused.is at c.in_ok-send.ensures.sends) told) h stands);
+  mark = sent_keeps (Create 0 c.args.key.now) _ _ _ _ refl (c.in_ok-send.ensures.sends told);
 }
 
 pub returns-in_err-appended-clause-performs : goal.returns-in_err-appended-clause-performs
@@ -55,6 +59,7 @@ returns-in_err-appended-clause-performs g c = λ told. record {
       rw handed (appended_failed h c.args.key.now (supply g.S.Source c.args.source.now) (supply g.S.Source c.append_all.new.source) (session g.D.Disk c.args.store.now c.args.disk.now) (session g.D.Disk c.send.new.store c.send.new.disk) made c.in_err-appended.field-0.0
       (session g.D.Disk c.append_all.new.store c.append_all.new.disk) (said_in c.append_all.new.said) (λ e. c.in_err-appended.ensures.no_sink (ap (λ f. Err f) e))
       ((c.in_err-appended.ensures.appends told).each some (unanswered (Create 0 c.args.key.now) h) made.stands.keeps made.writes));
+  mark = then_stays _ _ _ (sent_keeps (Create 0 c.args.key.now) _ _ _ _ refl (c.in_ok-send.ensures.sends told)) (c.in_err-appended.ensures.appends told).mark;
 }
 
 pub returns-in_err-appended-clause-unread : goal.returns-in_err-appended-clause-unread
@@ -72,6 +77,8 @@ returns-in_err-outcome-clause-performs g c = λ told. record {
       ((whole told).each some (unanswered (Create 0 c.args.key.now) h) made.stands.keeps made.writes)
       (session g.D.Disk c.send-in-Done.new.store c.send-in-Done.new.disk) (said_in c.send-in-Done.new.said)
       c.in_err-outcome.field-0.0 (λ e. c.in_err-outcome.ensures.no_sink (ap (λ f. Err f) e)) (c.in_err-outcome.ensures.sends told));
+  mark = then_stays _ _ _ (sent_keeps (Create 0 c.args.key.now) _ _ _ _ refl (c.in_ok-send.ensures.sends told))
+      (then_stays _ _ _ (c.in_ok-appended.ensures.appends told).mark (sent_keeps (Close 0) _ _ _ _ refl (c.in_err-outcome.ensures.sends told)));
 }
 
 pub returns-in_err-outcome-clause-unread : goal.returns-in_err-outcome-clause-unread
@@ -88,6 +95,8 @@ returns-in-Done-clause-performs g c = λ told. record {
       ((whole told).each some (unanswered (Create 0 c.args.key.now) h) made.stands.keeps made.writes)
       (session g.D.Disk c.send-in-Done.new.store c.send-in-Done.new.disk) (said_in c.send-in-Done.new.said)
       c.in_ok-outcome.outcome (c.in_ok-outcome.ensures.sends told));
+  mark = then_stays _ _ _ (sent_keeps (Create 0 c.args.key.now) _ _ _ _ refl (c.in_ok-send.ensures.sends told))
+      (then_stays _ _ _ (c.in_ok-appended.ensures.appends told).mark (sent_keeps (Close 0) _ _ _ _ refl (c.in_ok-outcome.ensures.sends told)));
 }
 
 pub returns-in-Done-clause-unread : goal.returns-in-Done-clause-unread
@@ -102,6 +111,7 @@ returns g c = record {
         appended_other h c.args.key.now (supply g.S.Source c.args.source.now) (supply g.S.Source c.append_all.new.source) (session g.D.Disk c.args.store.now c.args.disk.now) (session g.D.Disk c.send.new.store c.send.new.disk) made c.in_ok-appended.appended
         (session g.D.Disk c.append_all.new.store c.append_all.new.disk) (said_in c.append_all.new.said) c.in_default-appended.not-Done
         ((c.in_ok-appended.ensures.appends told).each some (unanswered (Create 0 c.args.key.now) h) made.stands.keeps made.writes);
+    mark = then_stays _ _ _ (sent_keeps (Create 0 c.args.key.now) _ _ _ _ refl (c.in_ok-send.ensures.sends told)) (c.in_ok-appended.ensures.appends told).mark;
   };
   only = search rules;
   read = search rules;
@@ -111,7 +121,7 @@ returns g c = record {
   refused = λ is. c.in_ok-appended.ensures.refused is;
   source = search rules;
   calm = search rules;
-  «open» = search rules;
+  «open» = λ told none. c.in_ok-appended.ensures.open told refl;
   honest = search rules;
   no_sink = search rules;
   account = search rules;

@@ -1,4 +1,4 @@
-use Rattle.std.proofs.Common.{◌≡◌, ◌∙◌, arith, inl, inr, refl, sym, ap, subst}
+use Rattle.std.proofs.Common.{◌≡◌, ◌∙◌, arith, inl, inr, refl, sym, ap, subst, []}
 use Rattle.std.specs.Io.KnownBytes.{Appends}
 use Rattle.cache_store.specs.Saying.{IsPart}
 use Rattle.cache_store.specs.Session.{session}
@@ -8,6 +8,7 @@ use Rattle.cache_tool.specs.Statuses.{status_in}
 use Rattle.cache_tool.specs.World.{output, supply}
 use Rattle.cache_tool.proofs.Growing.{takes_none, takes_part}
 use Rattle.cache_tool.proofs.ForGood.{ended_last, only_came}
+use Rattle.cache_tool.proofs.MarkLeft.{closed_leaves_mark, kept_change_mark, leaves_mark}
 use Rattle.cache_tool.proofs.OneCommand.{faulted_prints, not_begun, rose_twice}
 use Rattle.cache_tool.proofs.Puts.PutEnds.{Printed, answered, disk_cause, ended_no_sink, never_others, never_sink, not_answered, put_refuses, put_stops, source_came, stops_after}
 use Rattle.cache_tool.proofs.SessionEnds.{resumed_done}
@@ -94,6 +95,7 @@ returns g c =
       done = λ is. absurd (c.in_default.not-Done is);
       refused = λ is. absurd (c.in_default.not-No is);
       others = never_others c.perform_put-came.result c.end.result c.perform_put-came.ensures.only c.perform_put-came.ensures.no_sink c.end.ensures.same;
+      mark = λ told. closed_leaves_mark [] _ _ _ _ (c.in-Ok.ensures.begins told).mark (kept_change_mark _ _ (c.perform_put-came.ensures.performs told).mark) (c.end.ensures.ends told).mark;
       quiet = c.end.ensures.quiet;
       stops = λ told.
           put_stops (g.D.Disk.counts c.args.disk.now) (g.D.Disk.counts c.begin.new.disk) (c.in-Ok.ensures.account.went_on refl told) c.perform_put-came.result
@@ -158,3 +160,16 @@ returns-in-Done-clause-grows g c = takes_part (g.K.Sink.taken c.args.sink.now) (
 pub returns-in-No-clause-grows : goal.returns-in-No-clause-grows
 returns-in-No-clause-grows g c = takes_part (g.K.Sink.taken c.args.sink.now) (g.K.Sink.taken c.print_answer-in-No.new.sink) (said_in c.perform_put-came.new.said)
     (subst (IsPart (g.K.Sink.taken c.args.sink.now) (g.K.Sink.taken c.print_answer-in-No.new.sink)) c.as_slice-in-No.ensures c.print_answer-in-No.ensures.part)
+
+-- what a crash may leave of a mark
+pub returns-in-Err-clause-mark : goal.returns-in-Err-clause-mark
+returns-in-Err-clause-mark g c = λ told. leaves_mark [] _ _ (c.in-Err.ensures.fails told).mark
+
+pub returns-then-faulting-clause-mark : goal.returns-then-faulting-clause-mark
+returns-then-faulting-clause-mark g c = λ told. closed_leaves_mark [] _ _ _ _ (c.in-Ok.ensures.begins told).mark (kept_change_mark _ _ (c.perform_put-came.ensures.performs told).mark) (c.end_faulted.ensures.ends told).mark
+
+pub returns-in-Done-clause-mark : goal.returns-in-Done-clause-mark
+returns-in-Done-clause-mark g c = λ told. closed_leaves_mark [] _ _ _ _ (c.in-Ok.ensures.begins told).mark (kept_change_mark _ _ (c.perform_put-came.ensures.performs told).mark) (c.end.ensures.ends told).mark
+
+pub returns-in-No-clause-mark : goal.returns-in-No-clause-mark
+returns-in-No-clause-mark g c = λ told. closed_leaves_mark [] _ _ _ _ (c.in-Ok.ensures.begins told).mark (kept_change_mark _ _ (c.perform_put-came.ensures.performs told).mark) (c.end.ensures.ends told).mark

@@ -5,6 +5,7 @@ use Rattle.cache_store.proofs.Performing.Represented.{represents}
 use Rattle.cache_tool.specs.HeldReply.{said_in}
 use Rattle.cache_tool.proofs.DoneLaws.{done_right}
 use Rattle.cache_tool.proofs.ForGood.{disk_of, no_front}
+use Rattle.cache_tool.proofs.MarkLeft.{may_mark}
 use Rattle.cache_tool.proofs.Puts.PutReplies.{sends_of}
 use Rattle.cache_tool.proofs.StayingLaws.{stays_done, stays_for}
 use Rattle.cache_tool.proofs.put.send.Goals as goal
@@ -24,6 +25,7 @@ returns-clause-sends g c = λ told. record {
               (λ had. stays_done (Tells before h.machine) (command_of c.args.c.now) before h.machine now does.0 done (stays h.machine (represents keeps) had)),
         ),
       );
+  mark = may_mark (command_of c.args.c.now) _ _ (c.attempt.ensures.at_clear told);
 }
 
 pub returns-clause-change : goal.returns-clause-change

@@ -22,7 +22,7 @@ returns-in_err-command-in-Ok-Some-clause-performs g c =
     command.faults command.account (command_of c.in-Ok-Some.command) command.performs
     (λ calm told. stays_for {T = Verdict} (command_of c.in-Ok-Some.command) (Err c.in_err-command-in-Ok-Some.field-0.0) (session g.D.Disk c.args.store.now c.args.disk.now) (session g.D.Disk c.command.new.self c.command.new.disk)
     (λ spares. command.index calm spares told) command.base) command.fails in
-    turn_err g.D.Disk.tells c.args.reader.now c.next_command.follows.lender-at-none _ _ (command_of c.in-Ok-Some.command) gives answers.0 c.in_err-command-in-Ok-Some.field-0.0
+    turn_err g.D.Disk.tells c.args.reader.now c.next_command.follows.lender-at-none _ _ (command_of c.in-Ok-Some.command) gives answers.0 command.at_clear c.in_err-command-in-Ok-Some.field-0.0
     c.from_residual.result c.from_residual.ensures.1 answers
 
 pub returns-in_ok-command-in-Ok-Some-clause-performs : goal.returns-in_ok-command-in-Ok-Some-clause-performs
@@ -35,7 +35,7 @@ returns-in_ok-command-in-Ok-Some-clause-performs g c =
     command.faults command.account (command_of c.in-Ok-Some.command) command.performs
     (λ calm told. stays_for {T = Verdict} (command_of c.in-Ok-Some.command) (Ok v) (session g.D.Disk c.args.store.now c.args.disk.now) (session g.D.Disk c.command.new.self c.command.new.disk)
     (λ spares. command.index calm spares told) command.base) command.fails in
-    turn_on g.D.Disk.tells c.args.reader.now c.next_command.follows.lender-at-none _ _ (command_of c.in-Ok-Some.command) gives answers.0 v answers
+    turn_on g.D.Disk.tells c.args.reader.now c.next_command.follows.lender-at-none _ _ (command_of c.in-Ok-Some.command) gives answers.0 command.at_clear v answers
 
 pub returns-in-Ok-None-clause-performs : goal.returns-in-Ok-None-clause-performs
 returns-in-Ok-None-clause-performs g c =

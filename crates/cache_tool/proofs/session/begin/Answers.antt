@@ -14,12 +14,12 @@ use Rattle.file_handles.proofs.Accounting.{accounts_then}
 
 pub returns-in_err-store-clause-fails : goal.returns-in_err-store-clause-fails
 returns-in_err-store-clause-fails g c = on_err c.from_residual.result _ (λ told.
-    never_opened c.args.now (g.D.Disk.state c.args.disk.now) (g.D.Disk.state c.open.new.disk) (c.open.ensures.honest told) (c.open.ensures.safe told))
+    never_opened c.args.now (g.D.Disk.state c.args.disk.now) (g.D.Disk.state c.open.new.disk) (c.open.ensures.honest told) (c.open.ensures.at_clear told) (c.open.ensures.safe told))
 
 pub returns-in_err-attempt-clause-fails : goal.returns-in_err-attempt-clause-fails
 returns-in_err-attempt-clause-fails g c = on_err c.from_residual-in_err-attempt.result _ (λ told.
     resume_fails c.args.now (g.D.Disk.state c.args.disk.now) (session g.D.Disk c.in_ok-store.store c.open.new.disk) (session g.D.Disk c.attempt.new.self c.attempt.new.disk)
-    (g.met.D.Disk.finite c.args.disk.now told) (c.in_ok-store.ensures.opens told) (c.in_ok-store.ensures.begins told) _ _ c.attempt.result (c.attempt.ensures.performs told) (c.attempt.ensures.honest told))
+    (g.met.D.Disk.finite c.args.disk.now told) (c.in_ok-store.ensures.opens told) (c.in_ok-store.ensures.begins told) _ _ (c.open.ensures.at_clear told) (c.attempt.ensures.at_clear told) c.attempt.result (c.attempt.ensures.performs told) (c.attempt.ensures.honest told))
 
 pub returns-in_err-attempt-clause-looks : goal.returns-in_err-attempt-clause-looks
 returns-in_err-attempt-clause-looks g c = λ told none again.
@@ -47,5 +47,5 @@ returns-clause-begins g c = λ told.
     let now = session g.D.Disk c.attempt.new.self c.attempt.new.disk in
     let resume = c.in_ok-attempt.ensures in
     resume_done c.args.now (g.D.Disk.state c.args.disk.now) first now (g.met.D.Disk.finite c.args.disk.now told) (c.in_ok-store.ensures.opens told) (c.in_ok-store.ensures.begins told) _ _
-    c.in_ok-attempt.field-0 (c.in_ok-store.ensures.based told) (resume.performs told)
+    (c.open.ensures.at_clear told) (c.attempt.ensures.at_clear told) c.in_ok-attempt.field-0 (c.in_ok-store.ensures.based told) (resume.performs told)
     (stays_for Resume (Ok c.in_ok-attempt.field-0) first now (λ spares. resume.index spares told) resume.base) (resume.resumes refl tt told)

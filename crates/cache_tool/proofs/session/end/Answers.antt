@@ -1,5 +1,5 @@
 -- What the store's closing ensures is what the end of a session ensures.
-use Rattle.std.proofs.Common.{◌≡◌, ◌≢◌, ◌∙◌, Err, Result, ap, subst}
+use Rattle.std.proofs.Common.{◌≡◌, ◌≢◌, ◌∙◌, Err, Result, ap, subst, refl}
 use Rattle.cache_base.specs.declared.status.Status.{Status}
 use Rattle.cache_base.specs.declared.status.Status.TheVariants as status
 use Rattle.cache_store.specs.Faults.{ending, fault_ending}
@@ -11,6 +11,7 @@ use Rattle.cache_store.proofs.Performing.Represented.{represents}
 use Rattle.cache_theory.specs.History.{History}
 use Rattle.cache_tool.specs.Ending.{IsEnded}
 use Rattle.cache_tool.specs.Statuses.{IsClosing, status_in}
+use Rattle.cache_tool.proofs.MarkLeft.{stays_mark, kept_mark}
 use Rattle.cache_tool.proofs.OneCommand.{disk_failed}
 use Rattle.cache_tool.proofs.RightLaws.{open_leaves_honest}
 use Rattle.cache_tool.proofs.StayingLaws.{ends_in_use, ends_short, rest_left}
@@ -52,10 +53,10 @@ close-requires g c = record {
 }
 
 pub returns-in-Err-Disk-clause-ends : goal.returns-in-Err-Disk-clause-ends
-returns-in-Err-Disk-clause-ends g c = λ tells. record { each = λ h keeps. dropped status.Disk (λ x. x) _ h keeps }
+returns-in-Err-Disk-clause-ends g c = λ tells. record { each = λ h keeps. dropped status.Disk (λ x. x) _ h keeps; mark = stays_mark refl }
 
 pub returns-in-Err-Memory-clause-ends : goal.returns-in-Err-Memory-clause-ends
-returns-in-Err-Memory-clause-ends g c = λ tells. record { each = λ h keeps. dropped status.Memory (λ x. x) _ h keeps }
+returns-in-Err-Memory-clause-ends g c = λ tells. record { each = λ h keeps. dropped status.Memory (λ x. x) _ h keeps; mark = stays_mark refl }
 
 pub returns-in-Ok-close-clause-ends : goal.returns-in-Ok-close-clause-ends
 returns-in-Ok-close-clause-ends g c = λ tells. record {
@@ -72,6 +73,7 @@ returns-in-Ok-close-clause-ends g c = λ tells. record {
         in_use = λ records closing right holds ends. ends_in_use _ _ h keeps closes records right holds ends;
         unended = λ closing rest. c.in-Ok-close.ensures.spares (rest_left _ h keeps rest) tells;
       };
+  mark = kept_mark _ _ (c.in-Ok-close.ensures.at_clear tells);
 }
 
 pub returns-in-Err-clause-ends : goal.returns-in-Err-clause-ends
@@ -89,6 +91,7 @@ returns-in-Err-clause-ends g c = λ tells. record {
         in_use = λ records closing. absurd (still closing);
         unended = λ closing. absurd (still closing);
       };
+  mark = kept_mark _ _ (c.in-Err.ensures.at_clear tells);
 }
 
 pub returns-in-Err-clause-quiet : goal.returns-in-Err-clause-quiet
