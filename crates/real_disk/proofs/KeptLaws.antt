@@ -9,12 +9,12 @@ use Rattle.disk_model.specs.contracts.place.PlaceOrd.TheImpl as place_ord
 use Rattle.disk_model.proofs.Places.{places_apart}
 use Rattle.real_disk.specs.declared.kept.Kept.{Kept}
 use Rattle.real_disk.specs.declared.kept.Opened.{Opened}
-use Rattle.real_disk.specs.Kept.{opened_at, file_at, SameFiles, StaysElsewhere}
+use Rattle.real_disk.specs.Kept.{opened_at, file_at, SameFiles, Closes, ClosesElsewhere, IsIdle}
 
 -- of what was kept, one file alone is put back
 module _ {F T E : Type 0} (r : Result T E) (before mid now : Kept F) (place : Place) (opened synced : Opened F) where
   pub one_kept : opened_at before place ≡ Some opened → synced.file ≡ opened.file → mid.files.entries ≡ []
-      → OnOk r (opened_at now place ≡ Some synced) → OnErr r (opened_at now place ≡ None) → StaysElsewhere place mid now → SameFiles before now
+      → OnOk r (opened_at now place ≡ Some synced) → OnErr r (opened_at now place ≡ None) → ClosesElsewhere IsIdle place mid now → SameFiles before now
   one_kept was same empty kept closed others = λ q.
       elim (cases_Bool (is_at (place_ord.ghosts.cmp place) q)) [
         | inl tied ↦ subst (λ (p : Place). (file_at now p ≡ file_at before p) ⊎ (file_at now p ≡ None)) (tells_apart places_apart place q tied) (here r kept closed)
@@ -25,6 +25,6 @@ module _ {F T E : Type 0} (r : Result T E) (before mid now : Kept F) (place : Pl
       here (Ok value) k c = inl (ap (option_map (λ (o : Opened F). o.file)) k ∙ ap Some same ∙ sym (ap (option_map (λ (o : Opened F). o.file)) was))
       here (Err error) k c = inr (ap (option_map (λ (o : Opened F). o.file)) c)
 
-      gone : (q : Place) → (opened_at now q ≡ opened_at mid q) ⊎ (opened_at now q ≡ None) → opened_at now q ≡ None
+      gone : (q : Place) → Closes IsIdle q mid now → opened_at now q ≡ None
       gone q (inl is) = is ∙ ap (lookup (is_at (place_ord.ghosts.cmp q))) empty
-      gone q (inr is) = is
+      gone q (inr is) = is.0

@@ -10,6 +10,7 @@ use Rattle.real_disk.specs.Called.{SyncedAt}
 use Rattle.real_disk.specs.Kept.{file_at}
 use Rattle.real_disk.specs.Paths.{IsPathOf}
 use Rattle.real_disk.specs.declared.kept.Kept.{Kept}
+use Rattle.real_disk.specs.declared.numbers.Folders.{Folders}
 use Rattle.real_disk.specs.declared.machine.Machine.{Ghosts}
 use Rattle.real_disk.specs.Folders.{HasNote}
 
@@ -55,11 +56,11 @@ pub record NotesNew (is_new : Bool) (place : Place) (before now : FileNotes) : T
 abbrev pub PutsBack : Bool → Place → FileNotes → FileNotes → Type 0
 PutsBack is_new place before now = (earlier : FileNotes) → NotesNew is_new place earlier before → KeepsAll earlier now
 
-module _ {R File Dir : Type 0} (M : Ghosts R File Dir) (rt : R) (dir : List ℕ) where
+module _ {R File Dir : Type 0} (M : Ghosts R File Dir) (rt : R) (dir : List ℕ) (numbers : Folders) where
   -- the file that was opened at the path of the place was synced
   pub record SyncsPlace (place : Place) : Type 0 where
     pub path : List ℕ
-    pub is : IsPathOf dir place path
+    pub is : IsPathOf dir numbers place path
     pub synced : SyncedAt M rt path
 
   -- the file that is kept open of the place was synced, or else the one at its path

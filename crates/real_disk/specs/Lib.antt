@@ -1,8 +1,11 @@
 pub mod Claims
 pub mod Areas
 pub mod Called
+pub mod Numbers
 pub mod Paths
 pub mod Kept
+pub mod Roots
+pub mod Changes
 pub mod OpenFolders
 pub mod Opening
 pub mod Reasons
@@ -12,3 +15,4 @@ pub mod Taken
 pub mod Earlier
 pub mod Settled
 pub mod Pending
+pub mod Handed

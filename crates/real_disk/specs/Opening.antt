@@ -4,14 +4,15 @@ use Rattle.disk_model.specs.declared.place.Place.{Place}
 use Rattle.real_disk.specs.Kept.{opened_at}
 use Rattle.real_disk.specs.Paths.{IsPathOf}
 use Rattle.real_disk.specs.declared.kept.Kept.{Kept}
+use Rattle.real_disk.specs.declared.numbers.Folders.{Folders}
 use Rattle.real_disk.specs.declared.kept.Opened.{Opened}
 use Rattle.real_disk.specs.declared.machine.Machine.{Ghosts}
 
-module _ {R File Dir : Type 0} (M : Ghosts R File Dir) (rt : R) (dir : List ℕ) where
+module _ {R File Dir : Type 0} (M : Ghosts R File Dir) (rt : R) (dir : List ℕ) (numbers : Folders) where
   -- the file was opened at the path of the place
   pub record IsOpenedAt (place : Place) (file : File) : Type 0 where
     pub path : List ℕ
-    pub is : IsPathOf dir place path
+    pub is : IsPathOf dir numbers place path
     pub opened : M.opened rt path file
 
   -- it is the file that was kept of the place, or was opened at its path

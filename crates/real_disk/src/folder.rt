@@ -1,10 +1,14 @@
 //! The folder by its places, and the files in it that have changed since the last sync.
 
-ghost use Rattle.std.specs.Prelude.{◌≡◌, ◌⊎◌, IfOk, OnOk, OnErr, IsTrue, false, length, ◌≢◌, ◌≤◌, string_bytes};
+ghost use Rattle.std.specs.Prelude.{◌≡◌, ◌⊎◌, IfOk, IfSome, OnOk, OnErr, IsTrue, None, Some, false, length, ◌≢◌, ◌≤◌, string_bytes};
 ghost use Rattle.disk_model.specs.declared.place.Place.TheVariants.{Clear};
 ghost use Rattle.std.specs.BTreeSet.{btree_set_len, IsUnchanged};
 ghost use Rattle.real_disk.specs.Areas.{area_in};
-ghost use Rattle.real_disk.specs.Opening.{IsFileOf};
+ghost use Rattle.real_disk.specs.Changes.{IsMoved, IsRemoved, KeepsMade, MovesKept, StaysOrGoes};
+ghost use Rattle.real_disk.specs.Kept.{opened_at, ClosesElsewhere, IsIdle, IsSettled, SameElsewhere, SameFiles};
+ghost use Rattle.real_disk.specs.Numbers.{KeepsNumbers};
+ghost use Rattle.real_disk.specs.Opening.{IsFileOf, IsOpenedAt};
+ghost use Rattle.real_disk.specs.Roots.{HasSameRoot};
 ghost use Rattle.real_disk.specs.Files.{SyncsFile, IsNoted, NotesNew, PutsBack, KeepsNote, KeepsOthers, KeepsAllBut, KeepsAll, MovesNote, Owes};
 ghost use Rattle.real_disk.specs.Folders.{NoneLost, NoneLeft, HasNote, AllNoted};
 ghost use Rattle.real_disk.specs.Settled.{IsAllSynced};
@@ -89,6 +93,8 @@ impl<R: Machine<File = File> + AllocGlobal + Clock> Folder<'_, R> {
         ensures claimed { OnOk result (IsClaimed self.new.claim) }
         ensures failed { OnErr result (IsClaimed self.new.claim → ⊥) }
         ensures files { self.new.files ≡ self.old.files }
+        ensures kept { self.new.kept ≡ self.old.kept }
+        ensures root { HasSameRoot self.old.tree self.new.tree }
         ensures folders { NoneLost self.old.tree.folders self.new.tree.folders }
         ensures note { self.new.has_sync_note ≡ self.old.has_sync_note }
         ensures earlier { self.new.earlier ≡ self.old.earlier }
@@ -104,6 +110,10 @@ impl<R: Machine<File = File> + AllocGlobal + Clock> Folder<'_, R> {
 
     /// The length of the file, which is then kept open, since it is mostly read next. A missing file has none.
     pub(crate) fn size(&mut self, place: &Place) -> io::Result<Option<u64>>
+        ensures here { (opened_at self.new.kept place.now ≡ opened_at self.old.kept place.now)
+            ⊎ IfSome (opened_at self.new.kept place.now) (λ opened. IsOpenedAt R.Machine
+            self.old.tree.rt.now (string_bytes self.old.tree.dir) self.old.tree.numbers place.now opened.file) }
+        ensures others { ClosesElsewhere IsIdle place.now self.old.kept self.new.kept }
         ensures files { self.new.files ≡ self.old.files }
         ensures folders { self.new.tree ≡ self.old.tree }
         ensures earlier { self.new.earlier ≡ self.old.earlier }
@@ -122,6 +132,10 @@ impl<R: Machine<File = File> + AllocGlobal + Clock> Folder<'_, R> {
     // Opens the file that was seen at the path of the place, unless it is kept already. One that cannot be opened has a
     // length all the same, and the call that reads it fails.
     fn keep_to_read(&mut self, place: &Place, path: &str, seen: &Seen)
+        ensures here { (opened_at self.new.kept place.now ≡ opened_at self.old.kept place.now)
+            ⊎ IfSome (opened_at self.new.kept place.now)
+            (λ opened. R.Machine.opened self.old.tree.rt.now path.now opened.file) }
+        ensures others { ClosesElsewhere IsIdle place.now self.old.kept self.new.kept }
         ensures files { self.new.files ≡ self.old.files }
         ensures folders { self.new.tree ≡ self.old.tree }
         ensures earlier { self.new.earlier ≡ self.old.earlier }
@@ -140,6 +154,7 @@ impl<R: Machine<File = File> + AllocGlobal + Clock> Folder<'_, R> {
     pub(crate) fn read(&mut self, place: &Place, from: u64, buf: &mut [u8]) -> io::Result<usize>
         ensures len { IfOk result (λ n. n ≤ length buf.old) }
         ensures whole { place.now ≢ Clear → IfOk result (λ n. n ≡ length buf.old) }
+        ensures others { ClosesElsewhere IsIdle place.now self.old.kept self.new.kept }
         ensures files { self.new.files ≡ self.old.files }
         ensures folders { self.new.tree ≡ self.old.tree }
         ensures earlier { self.new.earlier ≡ self.old.earlier }
@@ -160,7 +175,8 @@ impl<R: Machine<File = File> + AllocGlobal + Clock> Folder<'_, R> {
     // The file that is kept of the place, or else the one at its path.
     fn open_to_read(&mut self, place: &Place) -> io::Result<Opened<R::File>>
         ensures file { IfOk result (λ opened. IsFileOf R.Machine self.old.tree.rt.now
-            (string_bytes self.old.tree.dir) self.old.kept place.now opened) }
+            (string_bytes self.old.tree.dir) self.old.tree.numbers self.old.kept place.now opened) }
+        ensures others { SameElsewhere place.now self.old.kept self.new.kept }
         ensures files { self.new.files ≡ self.old.files }
         ensures folders { self.new.tree ≡ self.old.tree }
         ensures earlier { self.new.earlier ≡ self.old.earlier }
@@ -175,6 +191,10 @@ impl<R: Machine<File = File> + AllocGlobal + Clock> Folder<'_, R> {
 
     /// A file that stood there loses its name and is not cut, so that a crash may still show all of it.
     pub(crate) fn create(&mut self, place: &Place) -> io::Result<()>
+        ensures made { OnOk result (KeepsMade R.Machine self.old.tree place.now self.new.kept) }
+        ensures failed { OnErr result (StaysOrGoes place.now self.old.kept self.new.kept) }
+        ensures elsewhere { ClosesElsewhere (IsSettled R.Machine self.old.tree.rt.now)
+            place.now self.old.kept self.new.kept }
         ensures noted { OnOk result (IsNoted self.new.files place.now) }
         ensures folder { OnOk result (HasNote self.new.tree.folders (area_in place.now)) }
         ensures owed { Owes place.now self.old.files self.new.files self.new.tree.folders }
@@ -200,6 +220,9 @@ impl<R: Machine<File = File> + AllocGlobal + Clock> Folder<'_, R> {
 
     // A new file where none stands, which is noted before. Where that fails the notes are as they were.
     fn make_where_none(&mut self, place: &Place, path: &str) -> io::Result<R::File>
+        ensures made { IfOk result (λ file. R.Machine.made self.old.tree.rt.now path.now file) }
+        ensures rt { self.new.tree.rt ≡ self.old.tree.rt }
+        ensures kept_open { self.new.kept ≡ self.old.kept }
         ensures noted { OnOk result (IsNoted self.new.files place.now) }
         ensures folder { OnOk result (HasNote self.new.tree.folders (area_in place.now)) }
         ensures kept { OnErr result (KeepsAll self.old.files self.new.files) }
@@ -221,6 +244,8 @@ impl<R: Machine<File = File> + AllocGlobal + Clock> Folder<'_, R> {
 
     // A new file in the place of one that stands, which loses its name.
     fn make_in_place(&mut self, place: &Place, path: &str) -> io::Result<R::File>
+        ensures made { IfOk result (λ file. R.Machine.made self.old.tree.rt.now path.now file) }
+        ensures kept_open { self.new.kept ≡ self.old.kept }
         ensures noted { OnOk result (IsNoted self.new.files place.now) }
         ensures folder { OnOk result (HasNote self.new.tree.folders (area_in place.now)) }
         ensures owed { Owes place.now self.old.files self.new.files self.new.tree.folders }
@@ -245,6 +270,8 @@ impl<R: Machine<File = File> + AllocGlobal + Clock> Folder<'_, R> {
 
     // A new file, which is noted before.
     fn make_noted(&mut self, place: &Place, area: Area, path: &str) -> io::Result<R::File>
+        ensures made { IfOk result (λ file. R.Machine.made self.old.tree.rt.now path.now file) }
+        ensures kept_open { self.new.kept ≡ self.old.kept }
         ensures noted { OnOk result (IsNoted self.new.files place.now) }
         ensures folder { OnOk result (HasNote self.new.tree.folders area) }
         ensures others { KeepsOthers place.now self.old.files self.new.files }
@@ -259,6 +286,8 @@ impl<R: Machine<File = File> + AllocGlobal + Clock> Folder<'_, R> {
 
     /// The file then ends after the bytes.
     pub(crate) fn write_end(&mut self, place: &Place, from: u64, bytes: &[u8]) -> io::Result<()>
+        ensures elsewhere { ClosesElsewhere (IsSettled R.Machine self.old.tree.rt.now)
+            place.now self.old.kept self.new.kept }
         ensures noted { OnOk result (IsNoted self.new.files place.now) }
         ensures kept { KeepsNote place.now self.old.files self.new.files }
         ensures others { KeepsOthers place.now self.old.files self.new.files }
@@ -281,6 +310,8 @@ impl<R: Machine<File = File> + AllocGlobal + Clock> Folder<'_, R> {
 
     /// The file keeps what lies after the bytes.
     pub(crate) fn patch(&mut self, place: &Place, from: u64, bytes: &[u8]) -> io::Result<()>
+        ensures elsewhere { ClosesElsewhere (IsSettled R.Machine self.old.tree.rt.now)
+            place.now self.old.kept self.new.kept }
         ensures noted { OnOk result (IsNoted self.new.files place.now) }
         ensures kept { KeepsNote place.now self.old.files self.new.files }
         ensures others { KeepsOthers place.now self.old.files self.new.files }
@@ -299,6 +330,9 @@ impl<R: Machine<File = File> + AllocGlobal + Clock> Folder<'_, R> {
 
     // Keeps open the file that was made or written. Where that finds no memory the call has failed.
     fn keep_changed(&mut self, place: &Place, opened: Opened<R::File>) -> io::Result<()>
+        ensures kept { OnOk result (opened_at self.new.kept place.now ≡ Some opened) }
+        ensures closed { OnErr result (opened_at self.new.kept place.now ≡ None) }
+        ensures others { ClosesElsewhere IsIdle place.now self.old.kept self.new.kept }
         ensures files { self.new.files ≡ self.old.files }
         ensures folders { self.new.tree ≡ self.old.tree }
         ensures note { self.new.has_sync_note ≡ self.old.has_sync_note }
@@ -313,6 +347,10 @@ impl<R: Machine<File = File> + AllocGlobal + Clock> Folder<'_, R> {
 
     // The file of the place, which is noted as changed before it is written.
     fn open_to_write(&mut self, place: &Place) -> io::Result<Opened<R::File>>
+        ensures file { IfOk result (λ opened. IsFileOf R.Machine self.old.tree.rt.now
+            (string_bytes self.old.tree.dir) self.old.tree.numbers self.old.kept place.now opened) }
+        ensures elsewhere { ClosesElsewhere (IsSettled R.Machine self.old.tree.rt.now)
+            place.now self.old.kept self.new.kept }
         ensures noted { OnOk result (IsNoted self.new.files place.now) }
         ensures kept { KeepsNote place.now self.old.files self.new.files }
         ensures others { KeepsOthers place.now self.old.files self.new.files }
@@ -336,6 +374,9 @@ impl<R: Machine<File = File> + AllocGlobal + Clock> Folder<'_, R> {
     /// A file that has changed is to be synced under its new name. It is noted there before, so that a note that
     /// finds no memory leaves all as it was. What stood there has nothing to sync any more.
     pub(crate) fn rename(&mut self, from: &Place, to: &Place) -> io::Result<()>
+        ensures renamed { OnOk result (IsMoved R.Machine self.old.tree from.now to.now) }
+        ensures followed { OnOk result (MovesKept from.now to.now self.old.kept self.new.kept) }
+        ensures failed { OnErr result (self.new.kept ≡ self.old.kept) }
         ensures moved { OnOk result (MovesNote from.now to.now self.old.files self.new.files) }
         ensures from_folder { OnOk result (HasNote self.new.tree.folders (area_in from.now)) }
         ensures to_folder { OnOk result (HasNote self.new.tree.folders (area_in to.now)) }
@@ -363,6 +404,10 @@ impl<R: Machine<File = File> + AllocGlobal + Clock> Folder<'_, R> {
 
     /// A removed file has nothing to sync but its folder.
     pub(crate) fn remove(&mut self, place: &Place) -> io::Result<()>
+        ensures removed { OnOk result (IsRemoved R.Machine self.old.tree place.now) }
+        ensures closed { OnOk result (opened_at self.new.kept place.now ≡ None) }
+        ensures failed { OnErr result (StaysOrGoes place.now self.old.kept self.new.kept) }
+        ensures elsewhere { SameElsewhere place.now self.old.kept self.new.kept }
         ensures folder { OnOk result (HasNote self.new.tree.folders (area_in place.now)) }
         ensures kept { OnErr result (KeepsAll self.old.files self.new.files) }
         ensures others { KeepsOthers place.now self.old.files self.new.files }
@@ -385,6 +430,7 @@ impl<R: Machine<File = File> + AllocGlobal + Clock> Folder<'_, R> {
         ensures claimed { OnOk result (IsClaimed self.new.claim) }
         ensures unnoted { OnOk result (self.new.has_sync_note ≡ false) }
         ensures looked { IsClaimed self.new.claim → HasLooked self.old.earlier self.new.earlier }
+        ensures kept { self.new.kept ≡ self.old.kept }
         ensures files { self.new.files ≡ self.old.files }
         ensures folders { self.new.tree ≡ self.old.tree }
     {
@@ -419,6 +465,7 @@ impl<R: Machine<File = File> + AllocGlobal + Clock> Folder<'_, R> {
     pub(crate) fn leave_note(&mut self)
         ensures honest { IsTrue self.new.has_sync_note → IsTrue self.old.has_sync_note
             ⊎ IsAllSynced self.old.files self.old.tree.folders self.old.earlier }
+        ensures kept { self.new.kept ≡ self.old.kept }
         ensures files { self.new.files ≡ self.old.files }
         ensures folders { self.new.tree ≡ self.old.tree }
         ensures earlier { self.new.earlier ≡ self.old.earlier }
@@ -431,6 +478,7 @@ impl<R: Machine<File = File> + AllocGlobal + Clock> Folder<'_, R> {
     // One that could not be made whole is not believed. Where the folder is not this run's own nothing is made in it.
     fn make_note(&mut self)
         requires { IsAllSynced self.old.files self.old.tree.folders self.old.earlier }
+        ensures kept { self.new.kept ≡ self.old.kept }
         ensures files { self.new.files ≡ self.old.files }
         ensures folders { self.new.tree ≡ self.old.tree }
         ensures earlier { self.new.earlier ≡ self.old.earlier }
@@ -459,7 +507,8 @@ impl<R: Machine<File = File> + AllocGlobal + Clock + Clone + Drop> Folder<'_, R>
     pub(crate) fn sync(&mut self) -> io::Result<()>
         ensures files { OnOk result (btree_set_len self.new.files ≡ 0) }
         ensures synced { OnOk result (All (SyncsFile R.Machine self.old.tree.rt.now
-            (string_bytes self.old.tree.dir) self.old.kept) self.old.files.keys) }
+            (string_bytes self.old.tree.dir) self.old.tree.numbers self.old.kept) self.old.files.keys) }
+        ensures kept { SameFiles self.old.kept self.new.kept }
         ensures names { OnOk result (NoneLeft self.new.tree.folders) }
         ensures folders { OnOk result (SyncsNoted R.Machine self.old.tree.rt.now
             (string_bytes self.old.tree.dir) self.new.tree.opened self.old.tree.folders) }
@@ -489,6 +538,7 @@ impl<R: Machine<File = File> + AllocGlobal + Clock + Clone + Drop> Folder<'_, R>
         ensures noted { OnOk result (self.old.earlier ≡ Unsynced → AllNoted self.new.tree.folders) }
         ensures rt { self.new.tree.rt ≡ self.old.tree.rt }
         ensures dir { self.new.tree.dir ≡ self.old.tree.dir }
+        ensures kept { self.new.kept ≡ self.old.kept }
         ensures files { self.new.files ≡ self.old.files }
         ensures folders { NoneLost self.old.tree.folders self.new.tree.folders }
         ensures earlier { self.new.earlier ≡ self.old.earlier }
@@ -501,12 +551,23 @@ impl<R: Machine<File = File> + AllocGlobal + Clock + Clone + Drop> Folder<'_, R>
         Ok(Covered::by_sync(standing))
     }
 
-    pub(crate) fn entries(&mut self) -> io::Result<BTreeSet<Name, Global>> {
+    pub(crate) fn entries(&mut self) -> io::Result<BTreeSet<Name, Global>>
+        ensures kept { self.new.kept ≡ self.old.kept }
+        ensures files { self.new.files ≡ self.old.files }
+        ensures folders { self.new.tree ≡ self.old.tree }
+        ensures earlier { self.new.earlier ≡ self.old.earlier }
+    {
         self.claim()?;
         self.tree.entries()
     }
 
-    pub(crate) fn doomed(&mut self) -> io::Result<BTreeSet<u32, Global>> {
+    pub(crate) fn doomed(&mut self) -> io::Result<BTreeSet<u32, Global>>
+        ensures kept { self.new.kept ≡ self.old.kept }
+        ensures files { self.new.files ≡ self.old.files }
+        ensures folders { self.new.tree.folders ≡ self.old.tree.folders }
+        ensures numbers { KeepsNumbers self.old.tree.numbers self.new.tree.numbers }
+        ensures earlier { self.new.earlier ≡ self.old.earlier }
+    {
         self.claim()?;
         self.tree.list_doomed()
     }
@@ -561,7 +622,7 @@ fn sync_files<R: Machine + AllocGlobal>(
 ) -> io::Result<()>
     ensures all { OnOk result (btree_set_len files.new ≡ 0) }
     ensures synced { TakesOff (SyncsFile R.Machine tree.now.rt.now (string_bytes tree.now.dir)
-        kept.now) files.old files.new }
+        tree.now.numbers kept.now) files.old files.new }
 {
     sync_each(files, |place| sync_file(tree, kept, place))
 }
@@ -572,7 +633,7 @@ fn sync_file<R: Machine + AllocGlobal>(
     place: &Place,
 ) -> io::Result<()>
     ensures { OnOk result (SyncsFile R.Machine tree.now.rt.now (string_bytes tree.now.dir)
-        kept.now place.now) }
+        tree.now.numbers kept.now place.now) }
 {
     match kept.file_of(place) {
         Some(file) => tree.rt.sync(file),

@@ -1,11 +1,9 @@
 //! The files that are kept open.
 
-ghost use Rattle.std.specs.Prelude.{◌≡◌, ◌⊎◌, IfSome, OnOk, OnErr, None, Some, false};
+ghost use Rattle.std.specs.Prelude.{◌≡◌, IfSome, OnOk, OnErr, None, Some};
 ghost use Rattle.std.specs.Option.{option_copied};
-ghost use Rattle.std.specs.BTreeMap.{is_at};
-ghost use Rattle.disk_model.specs.declared.place.Place.{Place as Where};
-ghost use Rattle.disk_model.specs.contracts.place.PlaceOrd.TheImpl as place_ord;
-ghost use Rattle.real_disk.specs.Kept.{opened_at, file_at, KeepsNone, Stays, StaysAll, StaysElsewhere, SameElsewhere, SameFiles};
+ghost use Rattle.real_disk.specs.Changes.{MovesKept};
+ghost use Rattle.real_disk.specs.Kept.{opened_at, file_at, waits_at, ClosesAll, ClosesElsewhere, IsIdle, IsSettled, KeepsNone, SameElsewhere, SameFiles};
 
 use crate::machine::Machine;
 use disk_model::Place;
@@ -100,7 +98,7 @@ impl<F: Drop> Kept<F> {
     pub(crate) fn keep(&mut self, place: &Place, opened: Opened<F>) -> Result<(), AllocError>
         ensures kept { OnOk result (opened_at self.new place.now ≡ Some opened) }
         ensures closed { OnErr result (opened_at self.new place.now ≡ None) }
-        ensures others { StaysElsewhere place.now self.old self.new }
+        ensures others { ClosesElsewhere IsIdle place.now self.old self.new }
     {
         if !opened.unsynced {
             self.close_idle();
@@ -112,16 +110,18 @@ impl<F: Drop> Kept<F> {
 
     // Closes the file that was used before, unless it waits for a sync.
     fn close_idle(&mut self)
-        ensures { StaysAll self.old self.new }
+        ensures { ClosesAll IsIdle self.old self.new }
     {
         if let Some(place) = self.idle
             && !self.is_unsynced(&place)
         {
-            self.files.remove(&place);
+            self.forget(&place);
         }
     }
 
-    fn is_unsynced(&self, place: &Place) -> bool {
+    fn is_unsynced(&self, place: &Place) -> bool
+        ensures { result ≡ waits_at self.now place.now }
+    {
         match self.files.get(place) {
             Some(opened) => opened.unsynced,
             None => false,
@@ -170,12 +170,7 @@ impl<F: Drop> Kept<F> {
     /// The file of the first place has taken the second. Where there is no memory to keep it, it is closed, and is synced
     /// by its path.
     pub(crate) fn follow(&mut self, from: &Place, to: &Place)
-        ensures to { (opened_at self.new to.now ≡ opened_at self.old from.now)
-            ⊎ (opened_at self.new to.now ≡ None) }
-        ensures from { is_at (place_ord.ghosts.cmp to.now) from.now ≡ false
-            → opened_at self.new from.now ≡ None }
-        ensures others { (other : Where) → is_at (place_ord.ghosts.cmp from.now) other ≡ false
-            → is_at (place_ord.ghosts.cmp to.now) other ≡ false → Stays other self.old self.new }
+        ensures { MovesKept from.now to.now self.old self.new }
     {
         let taken = self.take(from);
         self.forget(to);
@@ -202,7 +197,7 @@ impl<F: Drop> Kept<F> {
         rt: &R,
         place: &Place,
     ) -> io::Result<()>
-        ensures { StaysAll self.old self.new }
+        ensures { ClosesAll (IsSettled R.Machine rt.now) self.old self.new }
     {
         if self.files.len() > WRITTEN_MAX && !self.is_unsynced(place) {
             self.close_first(rt)?;
@@ -211,14 +206,35 @@ impl<F: Drop> Kept<F> {
     }
 
     fn close_first<R: Machine<File = F>>(&mut self, rt: &R) -> io::Result<()>
-        ensures { StaysAll self.old self.new }
+        ensures { ClosesAll (IsSettled R.Machine rt.now) self.old self.new }
     {
-        if let Some((_, opened)) = self.files.first_key_value()
-            && opened.unsynced
-        {
-            rt.sync(&opened.file)?;
+        let first = match self.files.first_key_value() {
+            Some((place, _)) => *place,
+            None => return Ok(()),
+        };
+        self.sync_waiting(rt, &first)?;
+        self.forget(&first);
+        Ok(())
+    }
+
+    // Syncs the file of the place, if it waits for that.
+    fn sync_waiting<R: Machine<File = F>>(&self, rt: &R, place: &Place) -> io::Result<()>
+        ensures { OnOk result
+            (IfSome (opened_at self.now place.now) (IsSettled R.Machine rt.now)) }
+    {
+        match self.files.get(place) {
+            None => Ok(()),
+            Some(opened) => sync_if_waits(rt, opened),
         }
-        self.files.pop_first();
+    }
+}
+
+fn sync_if_waits<R: Machine>(rt: &R, opened: &Opened<R::File>) -> io::Result<()>
+    ensures { OnOk result (IsSettled R.Machine rt.now opened.now) }
+{
+    if opened.unsynced {
+        rt.sync(&opened.file)
+    } else {
         Ok(())
     }
 }

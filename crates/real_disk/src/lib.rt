@@ -10,6 +10,7 @@ mod contents;
 mod earlier;
 mod folder;
 mod kept;
+mod laws;
 mod listing;
 mod machine;
 mod making;
@@ -23,5 +24,6 @@ mod sync_note;
 mod syncing;
 mod tree;
 
+pub use laws::paths_are_apart;
 pub use machine::Machine;
 pub use real_disk::RealDisk;

@@ -9,7 +9,8 @@ ghost use Rattle.std.specs.declared.fs.attrs.Metadata.{Metadata as Attributes};
 ghost use Rattle.real_disk.specs.declared.machine.Stamp.{Stamp as Stamped};
 
 use crate::contents::read_whole;
-use std::fs::{Metadata, OpenFile, OpenOptions, symlink_metadata};
+use crate::tree::made_new;
+use std::fs::{self, Metadata, OpenFile, OpenOptions, symlink_metadata};
 use std::io::{self, ErrorKind};
 use std::os::unix::fs::MetadataExt;
 use std::rt::Files;
@@ -27,6 +28,15 @@ pub struct Stamp {
 pub trait Machine: Files {
     /// The file was opened at the path.
     ghost opened: { Self → List ℕ → Self.File → Type 0 };
+
+    /// The file was made at the path, where nothing stood.
+    ghost made: { Self → List ℕ → Self.File → Type 0 };
+
+    /// What stood at the first path was moved to the second.
+    ghost moved: { Self → List ℕ → List ℕ → Type 0 };
+
+    /// The file at the path lost its name.
+    ghost removed: { Self → List ℕ → Type 0 };
 
     /// The file was synced, or the names in the folder were.
     ghost synced: { Self → Self.File → Type 0 };
@@ -51,6 +61,18 @@ pub trait Machine: Files {
         ensures opened { IfOk result (λ file. opened self.now path.now file) }
         ensures missing { IfErr result
             (λ e. error_kind e ≡ ErrorKind.NotFound → missing self.now path.now) };
+
+    /// Makes a file where nothing stands, to be read and written.
+    fn make_at(&self, path: &str) -> io::Result<Self::File>
+        ensures { IfOk result (λ file. made self.now path.now file) };
+
+    /// Moves the file of the first path to the second. A file that stood there loses its name.
+    fn move_to(&self, from: &str, to: &str) -> io::Result<()>
+        ensures { OnOk result (moved self.now from.now to.now) };
+
+    /// Removes the file at the path.
+    fn remove_at(&self, path: &str) -> io::Result<()>
+        ensures { OnOk result (removed self.now path.now) };
 
     /// Makes the changes of the file, or of the names in the folder, durable.
     fn sync(&self, file: &Self::File) -> io::Result<()>
@@ -78,6 +100,12 @@ pub trait Machine: Files {
 impl<R: Files> Machine for R {
     ghost opened = { λ _ _ _. Unit {0} };
 
+    ghost made = { λ _ _ _. Unit {0} };
+
+    ghost moved = { λ _ _ _. Unit {0} };
+
+    ghost removed = { λ _ _. Unit {0} };
+
     ghost synced = { λ _ _. Unit {0} };
 
     ghost missing = { λ _ _. Unit {0} };
@@ -92,6 +120,18 @@ impl<R: Files> Machine for R {
 
     fn open_at(&self, how: &OpenOptions, path: &str) -> io::Result<R::File> {
         how.open(self, path)
+    }
+
+    fn make_at(&self, path: &str) -> io::Result<R::File> {
+        made_new().open(self, path)
+    }
+
+    fn move_to(&self, from: &str, to: &str) -> io::Result<()> {
+        fs::rename(self, from, to)
+    }
+
+    fn remove_at(&self, path: &str) -> io::Result<()> {
+        fs::remove_file(self, path)
     }
 
     fn sync(&self, file: &R::File) -> io::Result<()> {

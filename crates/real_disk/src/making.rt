@@ -1,6 +1,7 @@
 //! The making of folders.
 
 ghost use Rattle.real_disk.specs.Folders.{NoneLost};
+ghost use Rattle.real_disk.specs.Roots.{HasSameRoot};
 
 use crate::machine::Machine;
 use crate::paths::{Area, parent_of, path_of_area};
@@ -15,6 +16,7 @@ impl<R: Machine + AllocGlobal> Tree<'_, R> {
     /// Makes a folder and those above it, where they are missing.
     pub(crate) fn make_area(&mut self, area: Area) -> io::Result<()>
         ensures kept { NoneLost self.old.folders self.new.folders }
+        ensures root { HasSameRoot self.old self.new }
     {
         self.opened.forget(&area);
         match area {
@@ -26,6 +28,7 @@ impl<R: Machine + AllocGlobal> Tree<'_, R> {
 
     fn make_below_top(&mut self, area: Area) -> io::Result<()>
         ensures kept { NoneLost self.old.folders self.new.folders }
+        ensures root { HasSameRoot self.old self.new }
     {
         let path = path_of_area(self.rt, self.dir.as_str(), &area)?;
         self.folders.note(Area::Top)?;
@@ -40,6 +43,7 @@ impl<R: Machine + AllocGlobal> Tree<'_, R> {
 
     fn make_top(&mut self) -> io::Result<()>
         ensures kept { NoneLost self.old.folders self.new.folders }
+        ensures root { HasSameRoot self.old self.new }
     {
         self.opened.forget(&Area::Top);
         let top = path_of_area(self.rt, self.dir.as_str(), &Area::Top)?;
@@ -48,6 +52,7 @@ impl<R: Machine + AllocGlobal> Tree<'_, R> {
 
     fn make_with_those_above(&mut self, folder: &str) -> io::Result<()>
         ensures kept { NoneLost self.old.folders self.new.folders }
+        ensures root { HasSameRoot self.old self.new }
     {
         match self.make_above(folder) {
             Err(error) if error.kind() == ErrorKind::NotFound => {}
@@ -66,6 +71,7 @@ impl<R: Machine + AllocGlobal> Tree<'_, R> {
     // The folder that this one lies in may be nobody's to read, and is noted only where a folder is to be made in it.
     fn make_above(&mut self, folder: &str) -> io::Result<()>
         ensures kept { NoneLost self.old.folders self.new.folders }
+        ensures root { HasSameRoot self.old self.new }
     {
         if is_folder(self.rt, folder) {
             return Ok(());

@@ -3,6 +3,9 @@
 //! A folder may stand under a number, put there by another program, and no file can be made in its place. So the
 //! names of files pass over the numbers of folders.
 
+ghost use Rattle.std.specs.Prelude.{◌≡◌, ◌≤◌, ◌^◌, IfSome, IsNone, Some};
+ghost use Rattle.real_disk.specs.Numbers.{KeepsNumbers, folder_numbers, named as named_past, past as past_one};
+
 use std::alloc::Global;
 use std::collections::BTreeSet;
 
@@ -18,23 +21,24 @@ impl Folders {
     }
 
     /// The first listing counts, since files are made by it from then on.
-    pub(crate) fn learn(&mut self, numbers: BTreeSet<u32, Global>) {
+    pub(crate) fn learn(&mut self, numbers: BTreeSet<u32, Global>)
+        ensures learned { IsNone self.old.numbers → self.new.numbers ≡ Some numbers }
+        ensures kept { KeepsNumbers self.old self.new }
+    {
         if self.numbers.is_none() {
             self.numbers = Some(numbers);
         }
     }
 
-    /// The number in the name of the file with this number.
-    pub(crate) fn named(&self, number: u32) -> u32 {
-        let mut named = number;
-        if let Some(numbers) = &self.numbers {
-            'folders: for folder in numbers {
-                if *folder <= named {
-                    named = named.saturating_add(1);
-                }
-            }
+    /// The number in the name of the file with this number. There is none where it would be past the last number.
+    pub(crate) fn named(&self, number: u32) -> Option<u32>
+        ensures named { IfSome result (λ named. named ≡ named_past (folder_numbers self.now) number) }
+        ensures none { IsNone result → 2 ^ 32 ≤ named_past (folder_numbers self.now) number }
+    {
+        match &self.numbers {
+            None => Some(number),
+            Some(numbers) => past_all(numbers, number),
         }
-        named
     }
 
     /// The number of the file with this one in its name, unless a folder stood there.
@@ -50,6 +54,28 @@ impl Folders {
                 }
             }
         }
+        Some(number)
+    }
+}
+
+fn past_all(folders: &BTreeSet<u32, Global>, number: u32) -> Option<u32>
+    ensures named { IfSome result (λ named. named ≡ named_past folders.now.keys number) }
+    ensures none { IsNone result → 2 ^ 32 ≤ named_past folders.now.keys number }
+{
+    let mut named = number;
+    'folders: for folder in folders {
+        named = past(*folder, named)?;
+    }
+    Some(named)
+}
+
+fn past(folder: u32, number: u32) -> Option<u32>
+    ensures past { IfSome result (λ next. next ≡ past_one folder number) }
+    ensures none { IsNone result → 2 ^ 32 ≤ past_one folder number }
+{
+    if folder <= number {
+        number.checked_add(1)
+    } else {
         Some(number)
     }
 }

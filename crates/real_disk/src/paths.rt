@@ -1,15 +1,16 @@
 //! The folders of the cache, and paths of places.
 
 ghost use Rattle.std.specs.Prelude.{◌≡◌, IfOk, string_bytes, codes, decimal};
-ghost use Rattle.disk_model.specs.declared.place.Place.TheVariants.{Entry};
+ghost use Rattle.hex.specs.Hex.{IsBytes, encode_upper};
 ghost use Rattle.real_disk.specs.Areas.{area_in};
-ghost use Rattle.real_disk.specs.Paths.{IsBase, IsIn, IsPathOf, IsPathOfArea, IsTop, below};
+ghost use Rattle.real_disk.specs.Paths.{IsIn, IsPathOf, IsPathOfArea, IsTop, base_text, below};
 
 use crate::numbers::Folders;
 use cache_base::Name;
 use disk_model::Place;
 use entry_name::text_of;
 use std::alloc::AllocError;
+use std::io::{self, ErrorKind};
 
 pub(crate) const ENTRIES: &str = "entries";
 
@@ -66,27 +67,33 @@ pub(crate) fn path_of_area<R: AllocGlobal>(
     }
 }
 
-/// The path of a place. The files of doomed entries pass over the numbers of folders.
+/// The path of a place. The files of doomed entries pass over the numbers of folders, and one whose number would then be
+/// past the last has no path.
 pub(crate) fn path_of<R: AllocGlobal>(
     rt: &R,
     dir: &str,
-    folders: &Folders,
+    numbers: &Folders,
     place: &Place,
-) -> Result<String, AllocError>
-    ensures { IfOk result (λ path. IsPathOf dir.now place.now (string_bytes path)) }
+) -> io::Result<String>
+    ensures { IfOk result (λ path. IsPathOf dir.now numbers.now place.now (string_bytes path)) }
 {
     match place {
-        Place::Entry(name) => path_of_entry(rt, dir, name),
-        Place::Doomed(number) => path_of_doomed(rt, dir, folders.named(*number)),
-        Place::Index => path_in(rt, dir, INDEX),
-        Place::Log => path_in(rt, dir, LOG),
-        Place::Tmp => path_in(rt, dir, TMP),
-        Place::Clear => path_in(rt, dir, CLEAR),
+        Place::Entry(name) => Ok(path_of_entry(rt, dir, name)?),
+        Place::Doomed(number) => match numbers.named(*number) {
+            Some(named) => Ok(path_of_doomed(rt, dir, named)?),
+            None => Err(ErrorKind::Other.into()),
+        },
+        Place::Index => Ok(path_in(rt, dir, INDEX)?),
+        Place::Log => Ok(path_in(rt, dir, LOG)?),
+        Place::Tmp => Ok(path_in(rt, dir, TMP)?),
+        Place::Clear => Ok(path_in(rt, dir, CLEAR)?),
     }
 }
 
 fn path_of_entry<R: AllocGlobal>(rt: &R, dir: &str, name: &Name) -> Result<String, AllocError>
-    ensures { IfOk result (λ path. IsPathOf dir.now (Entry name.now) (string_bytes path)) }
+    ensures bytes { IfOk result (λ path. IsBytes name.now.0) }
+    ensures path { IfOk result (λ path.
+        IsIn dir.now (below (codes "entries") (encode_upper name.now.0)) (string_bytes path)) }
 {
     let digits = text_of(rt.alloc(), name).map_err(|_| AllocError)?;
     path_below(rt, dir, ENTRIES, digits.as_str())
@@ -139,12 +146,12 @@ pub(crate) fn path_in<R: AllocGlobal>(rt: &R, dir: &str, name: &str) -> Result<S
 
 // How paths in the folder begin: it has no slash at its end. An empty one is the current folder, and not the root.
 fn base_of(dir: &str) -> &str
-    ensures { IsBase dir.now result.now }
+    ensures { result.now ≡ base_text dir.now }
 {
     if dir.is_empty() {
         "."
     } else {
-        dir.trim_end_matches('/')
+        dir.trim_end_matches("/")
     }
 }
 

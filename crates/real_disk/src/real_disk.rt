@@ -81,9 +81,12 @@ impl<R: Files + AllocGlobal> RealDisk<'_, R> {
 }
 
 impl<R: Machine<File = File> + AllocGlobal + Clock + Clone + Drop> Disk for RealDisk<'_, R> {
-    ghost use Rattle.std.specs.Prelude.{IsTrue};
+    ghost use Rattle.std.specs.Prelude.{IsSome, IsTrue, ◌≢◌};
     ghost use Rattle.disk_model.specs.State.{settled};
     ghost use Rattle.disk_model.specs.Calls.{if_ok, counted_sync};
+    ghost use Rattle.disk_model.specs.State.{created, removed, renamed, standing};
+    ghost use Rattle.disk_model.specs.Calls.{counted_change, if_done};
+    ghost use Rattle.real_disk.specs.Handed.{CreatesAt, KeepsElsewhere, RemovesAt, RenamesTo};
     ghost use Rattle.real_disk.specs.Pending.{NothingPending};
 
     ghost tells = { false };
@@ -118,7 +121,14 @@ impl<R: Machine<File = File> + AllocGlobal + Clock + Clone + Drop> Disk for Real
         self.answer(outcome)
     }
 
-    fn create(&mut self, place: &Place) -> Result<(), DiskFault> {
+    fn create(&mut self, place: &Place) -> Result<(), DiskFault>
+        ensures made { OnOk result (CreatesAt R.Machine place.now self.old self.new) }
+        ensures others { KeepsElsewhere R.Machine place.now self.old self.new }
+        ensures state { IsTrue false →
+            nothing ≡ if_done result (created place.now nothing) nothing }
+        ensures counts { IsTrue false → no_counts ≡ counted_change result no_counts }
+        ensures cause { HasCause (IsErrOf result DiskFault.Failed) self.old.faults self.new.faults }
+    {
         let outcome = self.folder.create(place);
         self.answer(outcome)
     }
@@ -133,12 +143,27 @@ impl<R: Machine<File = File> + AllocGlobal + Clock + Clone + Drop> Disk for Real
         self.answer(outcome)
     }
 
-    fn rename(&mut self, from: &Place, to: &Place) -> Result<(), DiskFault> {
+    fn rename(&mut self, from: &Place, to: &Place) -> Result<(), DiskFault>
+        requires stands { IsTrue false → IsSome (standing nothing from.now) }
+        requires differ { IsTrue false → from.now ≢ to.now }
+        ensures renamed { OnOk result (RenamesTo R.Machine from.now to.now self.old self.new) }
+        ensures state { IsTrue false →
+            nothing ≡ if_done result (renamed from.now to.now nothing) nothing }
+        ensures counts { IsTrue false → no_counts ≡ counted_change result no_counts }
+        ensures cause { HasCause (IsErrOf result DiskFault.Failed) self.old.faults self.new.faults }
+    {
         let outcome = self.folder.rename(from, to);
         self.answer(outcome)
     }
 
-    fn remove(&mut self, place: &Place) -> Result<(), DiskFault> {
+    fn remove(&mut self, place: &Place) -> Result<(), DiskFault>
+        requires { IsTrue false → IsSome (standing nothing place.now) }
+        ensures removed { OnOk result (RemovesAt R.Machine place.now self.old self.new) }
+        ensures state { IsTrue false →
+            nothing ≡ if_done result (removed place.now nothing) nothing }
+        ensures counts { IsTrue false → no_counts ≡ counted_change result no_counts }
+        ensures cause { HasCause (IsErrOf result DiskFault.Failed) self.old.faults self.new.faults }
+    {
         let outcome = self.folder.remove(place);
         self.answer(outcome)
     }

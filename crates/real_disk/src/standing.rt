@@ -2,6 +2,7 @@
 
 ghost use Rattle.std.specs.Prelude.{◌≡◌, OnOk};
 ghost use Rattle.real_disk.specs.Files.{SyncsPlace};
+ghost use Rattle.real_disk.specs.Numbers.{KeepsNumbers};
 
 use crate::listing::{Found, read_names};
 use crate::machine::Machine;
@@ -43,7 +44,10 @@ impl<R: Machine + AllocGlobal + Clone + Drop> Tree<'_, R> {
     /// Each opening lists these first. So what leads out of the folder of the cache is met here, before all else, and
     /// so are the folders whose numbers no file takes.
     pub(crate) fn list_doomed(&mut self) -> io::Result<BTreeSet<u32, Global>>
-        ensures { self.new.folders ≡ self.old.folders }
+        ensures rt { self.new.rt ≡ self.old.rt }
+        ensures dir { self.new.dir ≡ self.old.dir }
+        ensures folders { self.new.folders ≡ self.old.folders }
+        ensures numbers { KeepsNumbers self.old.numbers self.new.numbers }
     {
         let found = self.find_doomed()?;
         self.numbers.learn(found.folders);
@@ -156,7 +160,7 @@ pub(crate) fn sync_at<R: Machine + AllocGlobal>(
     numbers: &Folders,
     place: &Place,
 ) -> io::Result<()>
-    ensures { OnOk result (SyncsPlace R.Machine rt.now dir.now place.now) }
+    ensures { OnOk result (SyncsPlace R.Machine rt.now dir.now numbers.now place.now) }
 {
     let path = path_of(rt, dir, numbers, place)?;
     let file = open_regular(rt, &read_only(), path.as_str())?;

@@ -11,11 +11,9 @@ ghost use Rattle.real_disk.specs.Reasons.{HasStampAt, IsNoteAt, NoteIsLeft, chan
 
 use crate::machine::{Machine, Stamp};
 use crate::paths::{Area, path_in, path_of_area};
-use crate::tree::{FILE_MODE, open_regular, read_and_write, read_only};
+use crate::tree::{open_regular, read_only};
 use std::alloc::{AllocError, Global};
-use std::fs;
 use std::io::{self, ErrorKind, Write};
-use std::os::unix::fs::OpenOptionsExt;
 
 const NOTE: &str = "synced";
 
@@ -94,10 +92,7 @@ pub(crate) fn leave<R: Machine + AllocGlobal>(rt: &R, dir: &str) -> io::Result<(
     let entries = entries_in(rt, dir)?;
     take_away(rt, dir)?;
     let path = path_in(rt, dir, NOTE)?;
-    let mut file = read_and_write()
-        .create_new(true)
-        .mode(FILE_MODE)
-        .open(rt, path.as_str())?;
+    let mut file = rt.make_at(path.as_str())?;
     let itself = rt.stamp(&rt.look_at_open(&file)?);
     let text = text_of(rt, &itself, &entries)?;
     file.write_all(text.as_bytes())
@@ -107,7 +102,7 @@ pub(crate) fn leave<R: Machine + AllocGlobal>(rt: &R, dir: &str) -> io::Result<(
 pub(crate) fn take_away<R: Machine + AllocGlobal>(rt: &R, dir: &str) -> io::Result<()> {
     let path = path_in(rt, dir, NOTE)?;
     if note_at(rt, path.as_str())?.is_some() {
-        fs::remove_file(rt, path.as_str())?;
+        rt.remove_at(path.as_str())?;
     }
     Ok(())
 }

@@ -6,6 +6,7 @@ ghost use Rattle.std.specs.Fs.{file_type, IsFile};
 ghost use Rattle.std.specs.List.{All};
 ghost use Rattle.real_disk.specs.OpenFolders.{SyncsFolder};
 ghost use Rattle.real_disk.specs.Folders.{NoneLost, NoneLeft, HasNote};
+ghost use Rattle.real_disk.specs.Roots.{HasSameRoot};
 ghost use Rattle.real_disk.specs.Paths.{IsPathOf};
 ghost use Rattle.real_disk.specs.Called.{FoundFileAt};
 
@@ -15,14 +16,13 @@ use crate::numbers::Folders;
 use crate::open_folders::OpenFolders;
 use crate::paths::{Area, path_of};
 use disk_model::Place;
-use std::alloc::AllocError;
 use std::fs::{self, Metadata, OpenOptions};
 use std::io::{self, ErrorKind};
 use std::os::unix::fs::OpenOptionsExt;
 use std::rt::Files;
 
 /// A cache tells where its user has been, so nobody else may read it.
-pub(crate) const FILE_MODE: u32 = 0o600;
+const FILE_MODE: u32 = 0o600;
 
 /// The file system of the machine below the folder `dir`, and what is to be synced of its folders.
 #[derive(Drop)]
@@ -45,16 +45,19 @@ impl<'a, R: Machine + AllocGlobal> Tree<'a, R> {
         }
     }
 
-    pub(crate) fn path(&self, place: &Place) -> Result<String, AllocError>
-        ensures { IfOk result (λ path. IsPathOf (string_bytes self.now.dir) place.now (string_bytes path)) }
+    pub(crate) fn path(&self, place: &Place) -> io::Result<String>
+        ensures { IfOk result (λ path. IsPathOf (string_bytes self.now.dir) self.now.numbers place.now
+            (string_bytes path)) }
     {
         path_of(self.rt, self.dir.as_str(), &self.numbers, place)
     }
 
     /// Makes a file where none stands. Folders are missing only the first time, so they are made only then.
     pub(crate) fn make_file(&mut self, area: Area, path: &str) -> io::Result<R::File>
+        ensures made { IfOk result (λ file. R.Machine.made self.old.rt.now path.now file) }
         ensures noted { OnOk result (HasNote self.new.folders area) }
         ensures kept { NoneLost self.old.folders self.new.folders }
+        ensures root { HasSameRoot self.old self.new }
     {
         match self.open_new(area, path) {
             Err(error) if error.kind() == ErrorKind::NotFound => {
@@ -66,28 +69,30 @@ impl<'a, R: Machine + AllocGlobal> Tree<'a, R> {
     }
 
     fn open_new(&mut self, area: Area, path: &str) -> io::Result<R::File>
+        ensures made { IfOk result (λ file. R.Machine.made self.old.rt.now path.now file) }
         ensures noted { OnOk result (HasNote self.new.folders area) }
         ensures kept { NoneLost self.old.folders self.new.folders }
+        ensures root { HasSameRoot self.old self.new }
     {
         self.folders.note(area)?;
-        read_and_write()
-            .create_new(true)
-            .mode(FILE_MODE)
-            .open(self.rt, path)
+        self.rt.make_at(path)
     }
 
     /// Removes a file.
     pub(crate) fn remove_file(&mut self, area: Area, path: &str) -> io::Result<()>
+        ensures removed { OnOk result (R.Machine.removed self.old.rt.now path.now) }
         ensures noted { OnOk result (HasNote self.new.folders area) }
         ensures kept { NoneLost self.old.folders self.new.folders }
+        ensures root { HasSameRoot self.old self.new }
     {
         self.folders.note(area)?;
-        fs::remove_file(self.rt, path)
+        self.rt.remove_at(path)
     }
 
     /// The file of the first path takes the second. They lie in these folders, and the second is made where it is
     /// missing.
     pub(crate) fn rename(&mut self, areas: (Area, Area), from: &str, to: &str) -> io::Result<()>
+        ensures moved { OnOk result (R.Machine.moved self.old.rt.now from.now to.now) }
         ensures from { OnOk result (HasNote self.new.folders areas.0) }
         ensures to { OnOk result (HasNote self.new.folders areas.1) }
         ensures kept { NoneLost self.old.folders self.new.folders }
@@ -102,13 +107,15 @@ impl<'a, R: Machine + AllocGlobal> Tree<'a, R> {
     }
 
     fn rename_once(&mut self, areas: (Area, Area), from: &str, to: &str) -> io::Result<()>
+        ensures moved { OnOk result (R.Machine.moved self.old.rt.now from.now to.now) }
         ensures from { OnOk result (HasNote self.new.folders areas.0) }
         ensures to { OnOk result (HasNote self.new.folders areas.1) }
         ensures kept { NoneLost self.old.folders self.new.folders }
+        ensures root { HasSameRoot self.old self.new }
     {
         self.folders.note(areas.0)?;
         self.folders.note(areas.1)?;
-        fs::rename(self.rt, from, to)
+        self.rt.move_to(from, to)
     }
 
     /// Opens the file that stands there. What is no regular file, such as a folder or a link, is not opened.
@@ -197,6 +204,13 @@ pub(crate) fn same_opened<R: Machine>(
 pub(crate) fn read_only() -> OpenOptions {
     let mut options = OpenOptions::new();
     options.read(true);
+    options
+}
+
+/// How a file is made where none stands.
+pub(crate) fn made_new() -> OpenOptions {
+    let mut options = read_and_write();
+    options.create_new(true).mode(FILE_MODE);
     options
 }
 

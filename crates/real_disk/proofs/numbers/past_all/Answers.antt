@@ -1,0 +1,8 @@
+use Rattle.std.proofs.Common.{refl}
+use Rattle.real_disk.proofs.NumberLaws.{past_end}
+use Rattle.real_disk.proofs.numbers.past_all.Goals as goal
+
+pub returns-in_err-named-clause-none : goal.returns-in_err-named-clause-none
+returns-in_err-named-clause-none c = λ none.
+    past_end c.args.folders.now.keys c.folders.folder-iterator c.next.new.self c.in-Some.folder.now c.folders.named c.args.number
+    c.folders.invariant.2 c.in-Some.ensures.steps (c.in_err-named.ensures.none refl)
