@@ -1,4 +1,5 @@
 """What pytest asks before the tests: the program, a browser, and folders that last as long as a test."""
+import contextlib
 import os
 import subprocess
 import sys
@@ -12,12 +13,13 @@ sys.path.insert(0, os.path.dirname(os.path.dirname(os.path.realpath(__file__))))
 
 from browser import Browser, NoBrowser, find_browser  # noqa: E402  (the path is set above)
 from cachelib import page  # noqa: E402
-from support import Folder, Program, run_tool  # noqa: E402
+from support import TOOLS, Cache, Folder, Program, run_tool  # noqa: E402
 
 
 def pytest_addoption(parser):
-    parser.addoption("--program",
-                     help="the program that is tried beside the tools; without it, what needs it is left out")
+    parser.addoption("--program", help="the program that is tried; without it, the launcher")
+    parser.addoption("--view", help="the program that only looks at a folder; without it, the one that the launcher runs")
+    parser.addoption("--every", type=int, default=1, help="of runs of these two side by side, one in so many")
 
 
 @pytest.fixture
@@ -27,12 +29,65 @@ def folder():
         yield one
 
 
+LAUNCHER = os.path.join(os.path.dirname(TOOLS), "cache2")
+
+
+def is_binary(path):
+    with open(path, "rb") as file:
+        return file.read(4) == b"\x7fELF"
+
+
+def made_by_launcher(crate, *words):
+    """The program of a crate, which the launcher makes where that is due. What was made last is what it runs."""
+    with tempfile.TemporaryDirectory() as room:
+        ran = subprocess.run([LAUNCHER, *words, room, "0", "flush"], stdout=subprocess.DEVNULL, check=False)
+    if ran.returncode:
+        pytest.skip("there is no program: neither a word names it, nor can the launcher make it")
+    out = os.path.join(os.path.dirname(LAUNCHER), "crates", crate, "out", crate)
+    return Program(max(filter(os.path.exists, (out, out + "-unproved")), key=os.path.getmtime))
+
+
 @pytest.fixture(scope="session")
 def program(request):
     path = request.config.getoption("program")
-    if not path:
-        pytest.skip("no --program was given")
-    return Program(os.path.realpath(path))
+    return Program(os.path.realpath(path)) if path else made_by_launcher("cache2")
+
+
+@pytest.fixture(scope="session")
+def binary(program):
+    """The program itself, and no launcher of it."""
+    return program if is_binary(program.path) else made_by_launcher("cache2")
+
+
+@pytest.fixture(scope="session")
+def view(request):
+    path = request.config.getoption("view")
+    return Program(os.path.realpath(path)) if path else made_by_launcher("cache2_view", "--read-only")
+
+
+@contextlib.contextmanager
+def new_room():
+    """A folder in memory, where syncs cost nothing, if there is such a place."""
+    with tempfile.TemporaryDirectory(dir="/dev/shm" if os.access("/dev/shm", os.W_OK) else None) as path:
+        yield os.path.realpath(path)
+
+
+@pytest.fixture
+def room():
+    with new_room() as path:
+        yield path
+
+
+@pytest.fixture(scope="module")
+def module_room():
+    with new_room() as path:
+        yield path
+
+
+@pytest.fixture
+def cache(program, room):
+    """A folder for the program."""
+    return Cache(program, os.path.join(room, "cache"))
 
 
 @pytest.fixture(scope="session", params=["sh", "dash", "bash", "busybox sh"])
