@@ -65,6 +65,16 @@ def view(request):
     return Program(os.path.realpath(path)) if path else made_by_launcher("cache2_view", "--read-only")
 
 
+@pytest.fixture(scope="session")
+def tracer():
+    """The words before a run that is watched."""
+    try:
+        subprocess.run(["strace", "-o", os.devnull, "true"], stderr=subprocess.DEVNULL, check=True)
+    except (OSError, subprocess.SubprocessError):
+        pytest.skip("there is no strace that may watch a program")
+    return ["strace"]
+
+
 @contextlib.contextmanager
 def new_room():
     """A folder in memory, where syncs cost nothing, if there is such a place."""
