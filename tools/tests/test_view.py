@@ -54,11 +54,6 @@ def state_of(top):
     return found
 
 
-def entry(key, body=b"", moment=1000, version=3, elements=b"", fetched=None, uses=1):
-    numbers = (uses, fetched or moment, moment, moment, NO_EXPIRATION)
-    return file_of(body, header_bytes(version, numbers, len(key.encode()), 0), key.encode(), elements)
-
-
 def filled(folder):
     assert folder.run("run", given=FILL) == (0, b"ok\n" * 16)
 
