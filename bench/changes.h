@@ -1,5 +1,6 @@
 /* What the plain programs share that change a directory: a new file is written whole and synced by the descriptor that wrote it, and
-   the directory and its two folders stay open from their first sync on, and are synced where a name in them has changed. */
+   the two folders and the directory stay open from their first sync on, and are synced, in this order, where a name in them has
+   changed. */
 #pragma once
 
 #include <fcntl.h>
@@ -8,9 +9,9 @@
 #include <stdlib.h>
 #include <unistd.h>
 
-enum { TOP, ENTRIES, DOOMED, FOLDERS };
+enum { ENTRIES, DOOMED, TOP, FOLDERS };
 
-static const char *const folder_names[FOLDERS] = {"", "/entries", "/doomed"};
+static const char *const folder_names[FOLDERS] = {"/entries", "/doomed", ""};
 static int folders[FOLDERS] = {-1, -1, -1}, has_changed[FOLDERS];
 
 static void sync_folders(const char *dir)

@@ -1,5 +1,5 @@
 /* A plain program that does what `cache2 DIR NOW get KEY` does but for the index, which it does not look at; and, with the word `run`,
-   the `get`s that standard input has, a line each. What bench/body.sh and bench/get.sh measure the proved program against. */
+   the `get`s that standard input has, a line each. What bench/one body and bench/one get measure the proved program against. */
 #include "get_entry.h"
 
 static int run(const char *dir)

@@ -1,4 +1,4 @@
-/* Bob Jenkins' lookup2 (1996), written plainly, over 50,000,000 bytes: what bench/hash.sh measures the proved
+/* Bob Jenkins' lookup2 (1996), written plainly, over 50,000,000 bytes: what bench/one hash measures the proved
    program against. The program's one word is a count of rounds; with 0 the bytes are made and not hashed. */
 #include <inttypes.h>
 #include <stdint.h>

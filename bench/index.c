@@ -1,4 +1,4 @@
-/* Parses and prints a file `index` of 100,000 records, plainly: what bench/index.sh measures the proved program against.
+/* Parses and prints a file `index` of 100,000 records, plainly: what bench/one index measures the proved program against.
    The program's one word is a count of rounds; with 0 the file is made and no more. */
 #include "plain.h"
 

@@ -1,5 +1,5 @@
 /* Opens the files `index` and `index.log` of a directory as the proved program does, with the same checks, changes and syncs,
-   and prints a line for each record, in the order of the names: what bench/open_index.sh measures that program against.
+   and prints a line for each record, in the order of the names: what bench/one open_index measures that program against.
    Without words it does nothing. With the words DIR COUNT sorted (or: shuffled) it makes the two files, with COUNT records. */
 #include "index_files.h"
 

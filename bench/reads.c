@@ -1,7 +1,7 @@
 /* A plain program that does what `cache2 DIR NOW run` does with a script of `create S KEY`, `append S LEN`, `close S`,
    `open S KEY` and `read S FROM LEN` for one entry in a directory that was closed clean, with the same changes and syncs: the body goes
    to the file chunk by chunk, `open` checks it, and a read goes through a cache of the 32 chunks that were used last. Each reply goes out
-   before the next command is read. What bench/reads.sh measures the proved program against. */
+   before the next command is read. What bench/one reads measures the proved program against. */
 #include "new_entry.h"
 #include "get_entry.h"
 #include "script_input.h"

@@ -2,7 +2,7 @@
    `flush` in a directory that was closed clean, for keys that differ and bodies of less than a chunk, with the same changes and syncs:
    each entry is written by one write when it is closed, synced, and moved to its name, and each reply goes out before the next
    command is read. With the word `at-once` behind the others each file is made under its name, and first synced by a flush. What
-   bench/script.sh measures the proved program against. */
+   bench/one script measures the proved program against. */
 #include "new_entry.h"
 #include "script_input.h"
 

@@ -1,6 +1,6 @@
 /* A plain program that does what `cache2 DIR NOW list`, `verify`, `evict KB`, `rebuild`, `get KEY` and `put KEY` do in a directory that was
    closed clean, with the same changes and syncs: the index is taken into use, the command is performed, the journal is written,
-   or the index where many records changed, and the flag cleared. What bench/session.sh, bench/get.sh and bench/body.sh measure the
+   or the index where many records changed, and the flag cleared. What bench/one session, bench/one get and bench/one body measure the
    proved program against. */
 #include "entry_files.h"
 #include "get_entry.h"

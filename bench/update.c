@@ -1,5 +1,5 @@
 /* Lists the entry files of a directory, reads the last bytes and the block of each, checks them as the proved program does, and
-   keeps a record of each that fits: what bench/update.sh measures that program against. Without words it does nothing. With
+   keeps a record of each that fits: what bench/one update measures that program against. Without words it does nothing. With
    the word DIR alone it prints how many records there are and the sum of their KB; with a second word, the records. */
 #include "entry_files.h"
 

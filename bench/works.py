@@ -1,9 +1,11 @@
-"""The works that bench/all measures, and the folders that they begin with.
+"""The works that bench/all and bench/one measure, and the folders that they begin with.
 
-Each work is done by the proved program and by a plain one in C, which has to print the same and to leave the same files.
+Each work is done by the proved program and by a plain one in C, which has to print the same and to leave the same
+files.
 """
 import os
 import random
+import shutil
 import subprocess
 from typing import NamedTuple
 
@@ -14,12 +16,16 @@ WITH_FILES = 400
 KEY = b":https://example.com/%d"
 KEY_OF_ORIGIN = b"O^a,:https://example.com/%d"
 BODY = 16384
+CHUNK = 262_144
+LONGEST = 52_428_800
 KB_MASK = 0xFFFFFF
 NO_FRECENCY = 1 << 32
 
 
 class Work(NamedTuple):
-    """What is measured: the words of one run, the plain program that does the same, and what the run begins with."""
+    """What is measured: the words of one run, the plain program that does the same, if one does, and what the run
+    begins with.
+    """
     name: str
     size: str
     folder: str
@@ -31,20 +37,36 @@ class Work(NamedTuple):
     changes: bool = False
     # What it prints goes into a pipe that is read as it comes.
     is_piped: bool = False
+    # How often bench/one has it run.
+    runs: int = 20
+    # Words with which the plain program is measured, too.
+    beside: tuple = ()
+    # The most memory above that of a run without words, by the unit.
+    memory: dict = {}
+    # The word of a program that does so many rounds, and measures nothing else.
+    rounds: int = 0
+    # The plain program does not look at the index.
+    is_bare: bool = False
+    # More words with which what is done is printed, and how many lines that is.
+    shown: tuple = ()
+    lines: int = None
+
+
+UNITS = {"KiB": 1024, "bytes a record": RECORDS}
 
 
 class Bench:
     """The programs, and a folder in memory for all that they work on."""
 
     def __init__(self, here, room, program):
-        self.room = room
-        self.cache2 = program
-        for name in ("session", "script", "putalt", "clear", "dump", "load", "open_index", "peak"):
-            words = ["gcc", "-O2", "-Wall", "-Wno-unused-function", "-o", self.at(name), os.path.join(here, name + ".c")]
-            subprocess.run(words, check=True)
+        self.here, self.room, self.cache2 = here, room, program
 
     def at(self, name):
-        return os.path.join(self.room, name)
+        """A place there, or the plain program of this name."""
+        path, source = os.path.join(self.room, name), os.path.join(self.here, name + ".c")
+        if os.path.exists(source) and not os.path.exists(path):
+            subprocess.run(["gcc", "-O2", "-Wall", "-Wno-unused-function", "-o", path, source], check=True)
+        return path
 
     def write(self, name, data):
         with open(self.at(name), "wb") as file:
@@ -71,7 +93,8 @@ class Bench:
         random.seed(1)
         lines = []
         for number in range(count):
-            lines += [b"create 0 " + keys[number % len(keys)] % number, b"append 0 %d" % size, random.randbytes(size), b"close 0"]
+            lines += [b"create 0 " + keys[number % len(keys)] % number, b"append 0 %d" % size, random.randbytes(size),
+                      b"close 0"]
         name = "-".join(["script", str(count), str(size), str(len(keys)), *(line.decode() for line in last)])
         return self.write(name, b"\n".join([*lines, *last, b""]))
 
@@ -136,12 +159,14 @@ def of_goals(bench):
         Work("list, unsorted index", records, shuffled, ("1001", "list"), "session", 1.3),
         Work("evict half", files, entries, evict, "session", 1.2, changes=True),
         Work("evict half, no files", records, sorted_records, evict_records, "session", 1.3, changes=True),
-        Work("script of new entries, flush", files, bench.records(0, "sorted"), ("1000", "run"), "script", 1.15, script, True),
+        Work("script of new entries, flush", files, bench.records(0, "sorted"), ("1000", "run"), "script", 1.15, script,
+             True),
         Work("rebuild", files, entries, ("1001", "rebuild"), "session", 1.2),
         Work("clear half", files, bench.origins(ENTRIES), ("1001", "clear", "^a"), "clear", 1.5, changes=True),
         Work("dump", files, entries, ("1001", "dump"), "dump", 1.3, is_piped=True),
         Work("load", files, bench.records(0, "sorted"), ("1000", "load"), "load", 1.5, bench.dump(entries), True),
-        Work("putalt of 4 MiB", "after 1 MiB", bench.records(0, "sorted"), ("1000", "run"), "putalt", 1.3, bench.putalt(), True),
+        Work("putalt of 4 MiB", "after 1 MiB", bench.records(0, "sorted"), ("1000", "run"), "putalt", 1.3,
+             bench.putalt(), True),
     ]
 
 
@@ -168,3 +193,93 @@ def of_growth(bench, count):
 def of_files(bench, count):
     """The works on entry files, over so many of them."""
     return [Work("rebuild", f"{count:,} files", bench.entries(count), ("1001", "rebuild"), "session")]
+
+
+# ---- closer looks
+
+def of_script(bench):
+    """A third row is the plain program that writes each file under its name, and first syncs it in the `flush`."""
+    script = bench.script(ENTRIES, BODY, b"flush")
+    return [Work("script of new entries, flush", f"{ENTRIES:,} files", bench.records(0, "sorted"), ("1000", "run"),
+                 "script", 1.15,
+                 script, True, runs=40, beside=("at-once",))]
+
+
+def of_body(bench):
+    """A body that is as long as one may be."""
+    body, key, size = bench.write("body", random.randbytes(LONGEST)), (KEY % 7).decode(), f"{LONGEST:,} bytes"
+    folder = bench.at("long")
+    with open(body, "rb") as source:
+        subprocess.run([bench.cache2, folder, "1000", "put", key], stdin=source, stdout=subprocess.DEVNULL, check=True)
+    most = {"KiB": 4096}
+    return [Work("put", size, bench.records(0, "sorted"), ("1000", "put", key), "session", 1.2, body, True, runs=25,
+                 memory=most),
+            Work("get", size, folder, ("1000", "get", key), "get", 1.3, runs=25, memory=most, is_bare=True)]
+
+
+def of_get(bench):
+    """A full chunk as a whole run, and many in one run."""
+    one, folder = (bench.perform(bench.at(f"chunks-{count}"), bench.script(count, CHUNK)) for count in (1, 100))
+    gets = bench.write("gets", b"".join(b"get " + KEY % random.randrange(100) + b"\n" for _ in range(2000)))
+    return [Work("get of a full chunk", "one entry", one, ("1000", "get", (KEY % 0).decode()), "session", 1.3,
+                 runs=600),
+            Work("gets of full chunks in one run", "2,000 of 100", folder, ("1000", "run"), "get", 1.15, gets, runs=12,
+                 is_bare=True)]
+
+
+def of_reads(bench):
+    """Reads of 4 KiB at random places of an entry that is made and opened before, and that alone."""
+    works = []
+    for mib, count, goal in ((4, 100_000, 2), (50, 20_000, 1.3)):
+        random.seed(2)
+        made = b"create 0 %s\n" % (KEY % 0) + b"".join(b"append 0 1048576\n%s\n" % random.randbytes(1 << 20)
+                                                       for _ in range(mib))
+        made += b"close 0\nopen 1 %s\n" % (KEY % 0)
+        reads = b"".join(b"read 1 %d 4096\n" % random.randrange((mib << 20) - 4096) for _ in range(count))
+        for name, script, limit, runs in ((f"{count:,} reads", made + reads, goal, 12), ("no reads", made, None, 20)):
+            works.append(Work(name, f"{mib} MiB", bench.records(0, "sorted"), ("1000", "run"), "reads", limit,
+                              bench.write(f"reads-{mib}-{len(script)}", script), True, runs=runs))
+    return works
+
+
+def of_session(bench):
+    """Whole runs; and how an `evict` of records grows, by the proved program alone."""
+    entries, records, body = bench.entries(ENTRIES), bench.records(RECORDS, "sorted"), bench.write("body", b"hello")
+    files, put = f"{ENTRIES:,} files", ("1001", "put", (KEY % 7).decode())
+    evict = ("1001", "evict", str(bench.limit(entries, ENTRIES // 2)))
+    return [
+        Work("list", f"{RECORDS:,} records", records, ("1001", "list"), "session", 1.2, runs=40),
+        Work("put of 5 bytes", f"{RECORDS:,} records", records, put, "session", 1.3, body, True, runs=40),
+        Work("verify", files, entries, ("1001", "verify"), "session", 1.3, runs=80),
+        Work("rebuild", files, entries, ("1001", "rebuild"), "session", 1.2, runs=80),
+        Work("evict half", files, entries, evict, "session", 1.2, changes=True),
+        *(Work("evict all, no files", f"{count:,} records", bench.records(count, "shuffled"), ("1001", "evict", "0"),
+               None, changes=True)
+          for count in (RECORDS // 10, RECORDS)),
+    ]
+
+
+def of_rounds(name, size, goal):
+    """A program that does its work in rounds, so many of them."""
+    return lambda bench: [Work(name, size, bench.room, (), name, goal, rounds=20, runs=5)]
+
+
+def of_open_index(bench):
+    """By the proved crates alone, whatever the order in the file."""
+    return [Work("open_index", f"{RECORDS:,} records, {order}", bench.records(RECORDS, order), (), "open_index", 1.5,
+                 changes=True,
+                 memory={"bytes a record": 110}) for order in ("sorted", "shuffled")]
+
+
+def of_update(bench):
+    """By the proved crates alone. The files are made by the plain program, whose files are those of the proved one."""
+    folder = shutil.copytree(bench.records(0, "sorted"), bench.at("updated"))
+    with open(bench.script(ENTRIES, BODY), "rb") as source:
+        subprocess.run([bench.at("script"), folder, "1000", "run"], stdin=source, stdout=subprocess.DEVNULL, check=True)
+    return [Work("update", f"{ENTRIES:,} files", folder, (), "update", 1.5, runs=40, shown=("list",), lines=ENTRIES)]
+
+
+CLOSER = {"hash": of_rounds("hash", "50,000,000 bytes", 1.2), "index": of_rounds("index", f"{RECORDS:,} records", 1.5),
+          "open_index": of_open_index, "update": of_update, "script": of_script, "body": of_body, "get": of_get,
+          "reads": of_reads,
+          "session": of_session}

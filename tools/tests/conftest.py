@@ -18,7 +18,8 @@ from support import TOOLS, Cache, Folder, Program, run_tool  # noqa: E402
 
 def pytest_addoption(parser):
     parser.addoption("--program", help="the program that is tried; without it, the launcher")
-    parser.addoption("--view", help="the program that only looks at a folder; without it, the one that the launcher runs")
+    parser.addoption("--view",
+                     help="the program that only looks at a folder; without it, the one that the launcher runs")
     parser.addoption("--every", type=int, default=1, help="of runs of these two side by side, one in so many")
 
 

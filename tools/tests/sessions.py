@@ -1,9 +1,10 @@
 """The sessions in documents, and what they quote of the code.
 
-A session is a block that is set in by four spaces and has lines that begin with '$ ': commands of a shell. What follows a
-command, up to the next one, is what it prints; '> ' begins a command's further lines. 'Killed' is a word of the shell and is not
-compared. The sessions of a document run one after another in one shell, in an empty folder that has what they use beside it, and
-its own /tmp. A quote of the code is any other block that is so set in and begins as code does."""
+A session is a block that is set in by four spaces and has lines that begin with '$ ': commands of a shell. What follows
+a command, up to the next one, is what it prints; '> ' begins a command's further lines. 'Killed' is a word of the shell
+and is not compared. The sessions of a document run one after another in one shell, in an empty folder that has what
+they use beside it, and its own /tmp. A quote of the code is any other block that is so set in and begins as code
+does."""
 import os
 import re
 import subprocess
@@ -16,8 +17,8 @@ QUOTED = re.compile("(pub|abbrev|use|file:|///) |pub\\(")
 
 
 def steps_in(text):
-    """The commands of a document in order, each with its line's number and what it is to print. And the numbers of lines
-    that look like commands and are in no session.
+    """The commands of a document in order, each with its line's number and what it is to print. And the numbers of
+    lines that look like commands and are in no session.
     """
     steps, strays = [], []
     open_step = None
@@ -70,7 +71,8 @@ def run_all(steps, room, **environment):
     # A `cd -` goes back within the session alone.
     words = {name: value for name, value in os.environ.items() if name != "OLDPWD"}
     ran = subprocess.run(["bash", "-c", script], cwd=room, text=True, timeout=120, check=False,
-                         stdin=subprocess.DEVNULL, stdout=subprocess.PIPE, stderr=subprocess.DEVNULL, env={**words, "HOME": room, **environment})
+                         stdin=subprocess.DEVNULL, stdout=subprocess.PIPE, stderr=subprocess.DEVNULL,
+                         env={**words, "HOME": room, **environment})
     return ran.stdout.split(MARK + "\n")
 
 
@@ -84,7 +86,8 @@ def faults_of(steps, printed, room):
     for at, (number, command, wanted) in enumerate(steps):
         found = tidy(re.sub(r"\n$", "", printed[at]).replace(room, "").split("\n"))
         if at + 1 >= len(printed):
-            return [*faults, f"line {number}: {command[0]}: it did not run to its end, nor those after it; it printed {found!r}"]
+            return [*faults,
+                    f"line {number}: {command[0]}: it did not run to its end, nor those after it; it printed {found!r}"]
         if tidy(wanted) != found:
             faults.append(f"line {number}: {command[0]}: wanted {tidy(wanted)!r}, found {found!r}")
     if len(printed) != len(steps) + 1:

@@ -1,7 +1,8 @@
-"""Conversations with the program over two pipes: each command is written only once the reply to the one before is there.
+"""Conversations with the program over two pipes: each command is written only once the reply to the one before is
+there.
 
-A reply has to come whole within its time, with no byte more, while the program's standard input stays open. Each command of
-docs/COMMANDS.md stands in the first conversation with the reply that its table gives, on a real folder."""
+A reply has to come whole within its time, with no byte more, while the program's standard input stays open. Each
+command of docs/COMMANDS.md stands in the first conversation with the reply that its table gives, on a real folder."""
 import os
 
 import pytest
@@ -93,7 +94,8 @@ def test_two_commands_at_once(cache):
 
 
 def test_a_failed_look(cache):
-    """A folder stands in the place of an entry's file, which cannot be read then: that is told, and the session goes on."""
+    """A folder stands in the place of an entry's file, which cannot be read then: that is told, and the session goes
+    on."""
     assert cache.run("put", ":p", given=b"abcdef") == (0, b"ok\n")
     os.makedirs(cache.entry(":f"))
     talk = Talk(cache)

@@ -1,5 +1,5 @@
-"""The sessions of the documents, those at the top and those in docs/, run with the program that is tried, and what they quote of the
-code. And that each fault of a session or of a quote is seen."""
+"""The sessions of the documents, those at the top and those in docs/, run with the program that is tried, and what they
+quote of the code. And that each fault of a session or of a quote is seen."""
 import os
 
 import pytest

@@ -1,5 +1,5 @@
-"""The `put` of `hello` that README.md has, byte by byte: what was put is got, dumped and loaded, and what must be refused is
-refused."""
+"""The `put` of `hello` that README.md has, byte by byte: what was put is got, dumped and loaded, and what must be
+refused is refused."""
 import os
 import stat
 import subprocess
@@ -67,7 +67,8 @@ def test_dump_and_load(first, other):
     assert other.read(other.entry(KEY)) == FILE
 
 
-@pytest.mark.parametrize("data, reply", [(DUMP[:-1], b"bad dump 2\n"), (DUMP.replace(b"hello", b"jello"), b"bad dump 1\n")])
+@pytest.mark.parametrize("data, reply", [(DUMP[:-1], b"bad dump 2\n"),
+                                         (DUMP.replace(b"hello", b"jello"), b"bad dump 1\n")])
 def test_load_of_a_bad_dump(other, data, reply):
     assert other.run("load", given=DUMP, now=5000)[0] == 0
     assert other.run("load", given=data, now=5000) == (3, reply)
@@ -80,9 +81,10 @@ def test_dump_in_a_script(first):
 
 
 def closed(cache, stream, *words, given=b""):
-    """The status of a run one of whose streams is closed, and what it prints. The first file that a program opens takes the
-    number of a stream that is closed."""
-    ran = subprocess.run(["sh", "-c", f'exec "$@" {stream}', "sh", cache.program.path, cache.path, "1000", *words], input=given,
+    """The status of a run one of whose streams is closed, and what it prints. The first file that a program opens takes
+    the number of a stream that is closed."""
+    ran = subprocess.run(["sh", "-c", f'exec "$@" {stream}', "sh", cache.program.path, cache.path, "1000", *words],
+                         input=given,
                          stdout=subprocess.PIPE, stderr=subprocess.DEVNULL, check=False)
     return ran.returncode, ran.stdout
 

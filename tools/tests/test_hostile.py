@@ -1,10 +1,11 @@
 """Every verb of the program on hostile folders, and what came of it.
 
-Each run has to end within its time, with a status that docs/COMMANDS.md names. Who looks at an entry that cannot be read is
-answered by the line `fault`, and all others are served. Each run has to leave all that lies outside the folder as it was: names,
-contents, rights and times. Names that are none of the cache's have to stay as well. What `dump` prints with status 0 has to be a
-dump, and `load` is given hostile streams, too. No choice of names may make a run expensive: names that agree in a part take at
-most five times the processor time of as many drawn ones. The runs of all tests that were chosen go side by side."""
+Each run has to end within its time, with a status that docs/COMMANDS.md names. Who looks at an entry that cannot be
+read is answered by the line `fault`, and all others are served. Each run has to leave all that lies outside the folder
+as it was: names, contents, rights and times. Names that are none of the cache's have to stay as well. What `dump`
+prints with status 0 has to be a dump, and `load` is given hostile streams, too. No choice of names may make a run
+expensive: names that agree in a part take at most five times the processor time of as many drawn ones. The runs of all
+tests that were chosen go side by side."""
 import concurrent.futures
 import hashlib
 import io
@@ -95,7 +96,8 @@ def item_of(key, body):
 X, Y = item_of(b":x", b"hello"), item_of(b":y", bytes(300000))
 BOTH = dump_bytes(*([X, Y] if name_of(":x") < name_of(":y") else [Y, X]))
 VERBS = [(["run"], SCRIPT), (["put", ":x"], b"hello")]
-VERBS += [(words.split(" "), b"") for words in ("get :x", "getalt :x", "main :x", "doom :x", "evict 0", "clear ", "flush", "list", "verify", "rebuild",
+VERBS += [(words.split(" "), b"") for words in ("get :x", "getalt :x", "main :x", "doom :x", "evict 0", "clear ",
+                                                "flush", "list", "verify", "rebuild",
                                                 "dump")]
 VERBS += [(["load"], dump_bytes(X))]
 CLEAR = VERBS[7]
@@ -136,7 +138,8 @@ def tree(top):
 def result_of(words, given, cwd, **how):
     """The status of a run, or None where it did not end, and what it printed."""
     try:
-        ran = subprocess.run(words, input=given, cwd=cwd, stdout=subprocess.PIPE, stderr=subprocess.DEVNULL, timeout=SECONDS,
+        ran = subprocess.run(words, input=given, cwd=cwd, stdout=subprocess.PIPE, stderr=subprocess.DEVNULL,
+                             timeout=SECONDS,
                              check=False, **how)
         return ran.returncode, ran.stdout
     except subprocess.TimeoutExpired:
@@ -229,10 +232,10 @@ KINDS = {
 
 
 class Attempt(NamedTuple):
-    """A verb on a room of its own, which `make` changes first. `wanted` are the statuses that are due, `words` those before the
-    program's. `stays` are paths in the folder that have to stay, `gone` such as have to be gone, `made` names that may be new in
-    the current folder, and `due` the status and what is printed, or None where that is open. It may be done by another `user`,
-    and may need `mounts`."""
+    """A verb on a room of its own, which `make` changes first. `wanted` are the statuses that are due, `words` those
+    before the program's. `stays` are paths in the folder that have to stay, `gone` such as have to be gone, `made`
+    names that may be new in the current folder, and `due` the status and what is printed, or None where that is open.
+    It may be done by another `user`, and may need `mounts`."""
     what: str
     verb: list
     given: bytes
@@ -251,12 +254,14 @@ class Attempt(NamedTuple):
 ATTEMPTS = []
 
 
-def attempt(what, make, wanted=NAMED, filled=True, words=None, stays=(), gone=(), verbs=None, made=(), due=None, user=False,
+def attempt(what, make, wanted=NAMED, filled=True, words=None, stays=(), gone=(), verbs=None, made=(), due=None,
+            user=False,
             mounts=False):
     """The verbs that are tried so; `due` by the verb."""
     for verb, given in verbs or VERBS:
         line = f"{what}, {'with two entries' if filled else 'empty'}: {' '.join(verb)}"
-        ATTEMPTS.append(Attempt(line, verb, given, make, wanted, filled, words, stays, gone, made, (due or {}).get(verb[0]), user,
+        ATTEMPTS.append(Attempt(line, verb, given, make, wanted, filled, words, stays, gone, made,
+                                (due or {}).get(verb[0]), user,
                                 mounts))
 
 
@@ -271,7 +276,8 @@ def faults_of(place, one):
         idle = tree(entries) if is_idle else None
         full = {path: os.path.join(os.fsencode(room.dir), path) for path in (*one.stays, *one.gone)}
         kept = {path: looks(full[path]) for path in one.stays}
-        words = [*(one.words(room) if one.words else []), place.program, room.dir if target is None else target, "1000", *one.verb]
+        words = [*(one.words(room) if one.words else []), place.program, room.dir if target is None else target, "1000",
+                 *one.verb]
         status, out = result_of(words, one.given, room.top, **(AS_NOBODY if one.user else {}))
         faults = {
             f"status {status}, wanted {list(one.wanted)}": status not in one.wanted,
@@ -285,9 +291,10 @@ def faults_of(place, one):
             "an entry was touched": is_idle and tree(entries) != idle,
             "something outside was touched": tree(room.around) != before,
             f"made beside: {os.listdir(room.top)}": set(os.listdir(room.top)) - set(one.made) != {"around", "dir"},
-            **{f"{path} does not stay": not os.path.lexists(full[path]) or looks(full[path]) != found for path, found in kept.items()},
-            **{f"{path} is not gone": os.path.lexists(full[path]) for path in one.gone},
         }
+        faults |= {f"{path} does not stay": not os.path.lexists(full[path]) or looks(full[path]) != found
+                   for path, found in kept.items()}
+        faults |= {f"{path} is not gone": os.path.lexists(full[path]) for path in one.gone}
         return [fault for fault, is_so in faults.items() if is_so]
     finally:
         clear_up(room.top)
@@ -320,15 +327,18 @@ def no_files_of_the_cache():
     for kind, make in KINDS.items():
         for filled in (False, True):
             extra = f"findings 1\n{name_of(':x')} extra\n".encode() if filled else b"findings 0\n"
-            due = {**dict.fromkeys(("put", *LOOKING), LOOK), "run": (0, None), "verify": (7 if filled else 0, extra), "rebuild": (0, None)}
+            due = {**dict.fromkeys(("put", *LOOKING), LOOK), "run": (0, None), "verify": (7 if filled else 0, extra),
+                   "rebuild": (0, None)}
             due["dump"] = (0, dump_bytes(*[Y] * filled))
             due["load"] = FOR_GOOD
             # The record of what is no file any more is cleared too.
             due["clear"] = (0, b"cleared 2\n" if filled else b"cleared 0\n")
-            attempt(f"{kind} for an entry", placed(f"entries/{name_of(':x')}", make), (0, 6, 7), filled, verbs=SOME, due=due)
+            attempt(f"{kind} for an entry", placed(f"entries/{name_of(':x')}", make), (0, 6, 7), filled, verbs=SOME,
+                    due=due)
             attempt(f"{kind} for a doomed file", placed("doomed/0", make), (0, 6, 7), filled, verbs=SOME)
             for place in ("index", "index.log", "index.tmp"):
-                attempt(f"{kind} for {place}", placed(place, make), (DISK,), filled, verbs=OPENING, due={"run": FOR_GOOD, "flush": FOR_GOOD})
+                attempt(f"{kind} for {place}", placed(place, make), (DISK,), filled, verbs=OPENING,
+                        due={"run": FOR_GOOD, "flush": FOR_GOOD})
         attempt(f"{kind} for another entry", placed(f"entries/{name_of(':z')}", make), (0, 7), verbs=SOME)
 
 
@@ -352,8 +362,8 @@ def bytes_there(data):
 
 
 def what_stands_for_a_mark():
-    """The mark of an origin clears its entries, whatever the verb. Another file in its place goes, and nothing else. What is no file
-    ends each run, and stays."""
+    """The mark of an origin clears its entries, whatever the verb. Another file in its place goes, and nothing else.
+    What is no file ends each run, and stays."""
     kept = [b"entries/" + name_of(key).encode() for key in (":x", ":y")]
     found = (0, b"found 1 1000 1000 1000 4294967295 0 0 5\n\nhello\n")
     idle = [verb for verb in VERBS if verb[0][0] in ("getalt", "main", "flush", "list", "verify", "rebuild", "dump")]
@@ -364,13 +374,17 @@ def what_stands_for_a_mark():
         attempt(f"{what} for a mark", there, (DISK,), False, verbs=SOME, stays=[b"clear"], due=due)
     for what, data in MARKS.items():
         there = placed("clear", bytes_there(data))
-        attempt(f"{what} for a mark", there, (0, 7), verbs=idle, stays=kept, gone=[b"clear"], due={"verify": (0, b"findings 0\n"), "dump": (0, BOTH)})
+        attempt(f"{what} for a mark", there, (0, 7), verbs=idle, stays=kept, gone=[b"clear"],
+                due={"verify": (0, b"findings 0\n"), "dump": (0, BOTH)})
         attempt(f"{what} for a mark", there, (0,), verbs=VERBS[1:3], gone=[b"clear"], due={"get": found})
-        attempt(f"{what} for a mark", there, (0,), verbs=[VERBS[0], CLEAR], gone=[b"clear"], due={"clear": (0, b"cleared 2\n")})
+        attempt(f"{what} for a mark", there, (0,), verbs=[VERBS[0], CLEAR], gone=[b"clear"],
+                due={"clear": (0, b"cleared 2\n")})
         attempt(f"{what} for a mark", there, (0, 6, 7), False, verbs=SOME, gone=[b"clear"])
     there = placed("clear", bytes_there(mark_bytes(b"")))
-    due = {"run": (0, None), "put": (0, b"ok\n"), "evict": (0, b"evicted 0\n"), "clear": (0, b"cleared 0\n"), "flush": (0, b"ok\n"),
-           "list": (0, b"records 0\n"), "verify": (0, b"findings 0\n"), "rebuild": (0, b"rebuilt 0\n"), "dump": (0, dump_bytes()),
+    due = {"run": (0, None), "put": (0, b"ok\n"), "evict": (0, b"evicted 0\n"), "clear": (0, b"cleared 0\n"),
+           "flush": (0, b"ok\n"),
+           "list": (0, b"records 0\n"), "verify": (0, b"findings 0\n"), "rebuild": (0, b"rebuilt 0\n"),
+           "dump": (0, dump_bytes()),
            "load": (0, b"loaded 1\n")}
     due |= dict.fromkeys(("get", "getalt", "main", "doom"), (7, b"absent\n"))
     attempt("a mark of no origin", there, (0, 7), gone=[b"clear", kept[1]], due=due)
@@ -399,9 +413,11 @@ def no_folders_of_the_cache():
 def foreign_names():
     """Names of another form stay as they are."""
     name = name_of(":z").encode()
-    entries = [b"a" * 255, b"\xff\xfe\x80", name.lower(), name[:39], name + b"0", b" " + name[1:], b"G" * 40, name[:20] + name[20:].lower(),
+    entries = [b"a" * 255, b"\xff\xfe\x80", name.lower(), name[:39], name + b"0", b" " + name[1:], b"G" * 40,
+               name[:20] + name[20:].lower(),
                "é".encode() * 20, b"\n", b"-", b"...", b"\x01" * 40, b"\xff" * 255]
-    doomed = [b"007", b"-1", b"4294967296", b"1 ", b" 1", b"+1", b"1" * 255, b"0x1", b"\xff", b"1\n", "١".encode(), b"00"]
+    doomed = [b"007", b"-1", b"4294967296", b"1 ", b" 1", b"+1", b"1" * 255, b"0x1", b"\xff", b"1\n", "١".encode(),
+              b"00"]
     stays = [b"entries/" + one for one in entries] + [b"doomed/" + one for one in doomed]
     stays += [b"INDEX", b"index.LOG", b"Entries", b"x" * 255, b"\xff"]
 
@@ -439,10 +455,14 @@ def folders_by_name():
 
 VERSION_BYTES, HASHED = index_bytes([], 0, 0)[:4], 41 * 3 * 10 ** 7
 LARGE = 41 * 10 ** 11
-# Large files that are no index, and no journal: the place, the size, the first bytes, and those with which the last record begins.
-LARGE_INDEXES = [("index", LARGE + 20, b"", b""), ("index", LARGE + 20, VERSION_BYTES, b""), ("index", LARGE + 20, b"", b"\1"),
-                 ("index", HASHED + 20, VERSION_BYTES, b"\1"), ("index.log", LARGE + 4, b"", b""), ("index.log", HASHED + 4, b"", b"\1")]
-LISTED = "".join(sorted(f"{name_of(key)} 1000 DA39A3EE5E6B4B0D 65535 65535 0 80000{size:03X}\n" for key, size in ((":x", 1), (":y", 294))))
+# Large files that are no index, and no journal: the place, the size, the first bytes, and those with which the last
+# record begins.
+LARGE_INDEXES = [("index", LARGE + 20, b"", b""), ("index", LARGE + 20, VERSION_BYTES, b""),
+                 ("index", LARGE + 20, b"", b"\1"),
+                 ("index", HASHED + 20, VERSION_BYTES, b"\1"), ("index.log", LARGE + 4, b"", b""),
+                 ("index.log", HASHED + 4, b"", b"\1")]
+LISTED = "".join(sorted(f"{name_of(key)} 1000 DA39A3EE5E6B4B0D 65535 65535 0 80000{size:03X}\n" for key,
+                        size in ((":x", 1), (":y", 294))))
 
 
 def sizes():
@@ -478,11 +498,13 @@ def limited(kilobytes):
 
 
 def large_indexes():
-    """They are seen to be none without room for them, and the records are those of the entries: at once where the version is
-    another or the last two records have one name, and else when they are hashed."""
+    """They are seen to be none without room for them, and the records are those of the entries: at once where the
+    version is another or the last two records have one name, and else when they are hashed."""
     for place, size, front, last in LARGE_INDEXES:
-        attempt(f"{place} of {size} zeros after {front}, with {last} in the last record", long_at(place, size, front, last), (0,),
-                verbs=[*OPENING, (["list"], b"")], due={"list": (0, f"records 2\n{LISTED}".encode())}, **limited(LITTLE))
+        attempt(f"{place} of {size} zeros after {front}, with {last} in the last record",
+                long_at(place, size, front, last), (0,),
+                verbs=[*OPENING, (["list"], b"")], due={"list": (0, f"records 2\n{LISTED}".encode())},
+                **limited(LITTLE))
 
 
 ROOT = os.getuid() == 0
@@ -500,7 +522,8 @@ def rights():
                 if ROOT:
                     subprocess.run(["chown", "-R", "nobody:nogroup", room.dir], check=True)
                 os.chmod(path, mode)
-            attempt(f"{place[:12]} with the rights {mode:o}", prepare, (0, 6, 7), verbs=SOME, due=due_by_rights(place, mode), user=True)
+            attempt(f"{place[:12]} with the rights {mode:o}", prepare, (0, 6, 7), verbs=SOME,
+                    due=due_by_rights(place, mode), user=True)
 
     def unreadable(room):
         if ROOT:
@@ -508,11 +531,14 @@ def rights():
         os.chmod(os.path.join(room.dir, "entries", name_of(":x")), 0)
     served = b"found 1 1000 1000 1000 4294967295 0 0 300000\n\n" + bytes(300000) + b"\nok\ndata 2\n\0\0\nyes\n"
     script = b"open 0 :x\nget :x\nverify\nget :y\nopen 1 :y\nread 1 5 2\nhas :x\n"
-    attempt("an entry that cannot be read", unreadable, (0,), verbs=[(["run"], script)], due={"run": (0, 3 * FAULT + served)}, user=True)
+    attempt("an entry that cannot be read", unreadable, (0,), verbs=[(["run"], script)],
+            due={"run": (0, 3 * FAULT + served)}, user=True)
     verbs = [*(([verb, ":x"], b"") for verb in LOOKING), (["verify"], b""), (["doom", ":x"], b""), (["rebuild"], b"")]
-    attempt("an entry that cannot be read", unreadable, (DISK,), verbs=verbs, due={verb[0]: LOOK for verb, _ in verbs}, user=True)
+    attempt("an entry that cannot be read", unreadable, (DISK,), verbs=verbs, due={verb[0]: LOOK for verb, _ in verbs},
+            user=True)
     # By a trusted index a `dump` comes to it when its head is out.
-    attempt("an entry that cannot be read", unreadable, (DISK,), verbs=[(["dump"], b"")], due={"dump": (DISK, None)}, user=True)
+    attempt("an entry that cannot be read", unreadable, (DISK,), verbs=[(["dump"], b"")], due={"dump": (DISK, None)},
+            user=True)
 
     def marked(mode, without=()):
         def prepare(room):
@@ -524,14 +550,18 @@ def rights():
         return prepare
     name = b"entries/" + name_of(":x").encode()
     none = dict.fromkeys((verb[0] for verb, _ in VERBS), FOR_GOOD)
-    # By a trusted index it is cleared unread. Where it has to be read no run gets on, nor where the mark cannot be read.
-    attempt("a mark and an entry that cannot be read", marked(0o600), (0,), verbs=[VERBS[9]], gone=[b"clear", name], due={"list": (0, b"records 0\n")}, user=True)
-    attempt("a mark and an entry that has to be read", marked(0o600, ("index", "index.log")), (DISK,), stays=[b"clear"], due=none, user=True)
+    # By a trusted index it is cleared unread. Where it has to be read no run gets on, nor where the mark cannot be
+    # read.
+    attempt("a mark and an entry that cannot be read", marked(0o600), (0,), verbs=[VERBS[9]], gone=[b"clear", name],
+            due={"list": (0, b"records 0\n")}, user=True)
+    attempt("a mark and an entry that has to be read", marked(0o600, ("index", "index.log")), (DISK,), stays=[b"clear"],
+            due=none, user=True)
     attempt("a mark that cannot be read", marked(0), (DISK,), stays=[b"clear"], due=none, user=True)
 
 
 def due_by_rights(place, mode):
-    """What looks at entries come to, by the rights of one and of their folder: the right to list and that to look up."""
+    """What looks at entries come to, by the rights of one and of their folder: the right to list and that to look
+    up."""
     may_list, may_enter = bool(mode & 0o400), bool(mode & 0o100)
     if place.startswith("entries/"):
         fails = () if may_list else (*LOOKING, "verify", "rebuild")
@@ -544,7 +574,8 @@ def due_by_rights(place, mode):
         dumps = (0, BOTH) if may_list and may_enter else LOOK
     else:
         return {}
-    return {"get": (0, None), "getalt": (7, b"no alt\n"), "main": (0, b"main 5\nhello\n"), "verify": (0, b"findings 0\n"),
+    return {"get": (0, None), "getalt": (7, b"no alt\n"), "main": (0, b"main 5\nhello\n"),
+            "verify": (0, b"findings 0\n"),
             "clear": clears, "dump": dumps, **dict.fromkeys(fails, LOOK)}
 
 
@@ -590,22 +621,26 @@ def other_file_systems():
 
 
 def streams():
-    """What is loaded of a bad stream is what comes before its bad item, and of any key whose item is bad nothing is left."""
+    """What is loaded of a bad stream is what comes before its bad item, and of any key whose item is bad nothing is
+    left."""
     for what, number, data in bad_streams():
         for filled in (False, True):
             stays = [b"entries/" + name_of(":y").encode()] if filled and data.count(Y) == 0 else []
             line = b"bad dump %d\n" % number
-            attempt(f"load of {what}", lambda room: None, (3,), filled, verbs=[(["load"], data)], stays=stays, gone=[b"doomed/0"],
+            attempt(f"load of {what}", lambda room: None, (3,), filled, verbs=[(["load"], data)], stays=stays,
+                    gone=[b"doomed/0"],
                     due={"load": (3, line)})
     odd = [b":../../around/file", b":/etc/passwd", b":" + bytes(range(11, 256)), b":" + b"k" * 16383]
     for key in odd:
-        attempt(f"load of the key {key[:20]}", lambda room: None, (0,), verbs=[(["load"], dump_bytes(item_of(key, b"odd")))],
+        attempt(f"load of the key {key[:20]}", lambda room: None, (0,),
+                verbs=[(["load"], dump_bytes(item_of(key, b"odd")))],
                 stays=[b"entries/" + name_of(":y").encode()], gone=[b"doomed/0"], due={"load": (0, b"loaded 1\n")})
 
 
 def full_file_systems():
     """A file system in memory that is full, has no room for a name, or may not be changed."""
-    mount = 'cp -a "$0" "$0.copy"; mount -t tmpfs -o "$1" tmpfs "$0"; cp -a "$0.copy/." "$0/"; rm -r "$0.copy"; eval "$2"; shift 2; exec "$@"'
+    mount = ('cp -a "$0" "$0.copy"; mount -t tmpfs -o "$1" tmpfs "$0"; cp -a "$0.copy/." "$0/"; rm -r "$0.copy"; '
+             'eval "$2"; shift 2; exec "$@"')
     fill = 'head -c 100M /dev/zero >"$0/filler" 2>/dev/null'
     body = random.Random(3).randbytes(1 << 20)
     verbs = SOME + [(["put", ":x"], body), (["put", ":new"], b"")]
@@ -619,7 +654,8 @@ def full_file_systems():
             attempt(what, lambda room: None, (0, 6, 7), filled, words, verbs=verbs, mounts=True)
 
 
-for fill in (no_files_of_the_cache, what_stands_for_a_mark, no_folders_of_the_cache, foreign_names, folders_by_name, sizes,
+for fill in (no_files_of_the_cache, what_stands_for_a_mark, no_folders_of_the_cache, foreign_names, folders_by_name,
+             sizes,
              large_indexes, rights, full_file_systems, other_file_systems, streams):
     fill()
 
@@ -636,7 +672,8 @@ def place(binary, module_room):
 @pytest.fixture(scope="module")
 def may_be_nobody(place):
     try:
-        subprocess.run([place.program], stdin=subprocess.DEVNULL, stdout=subprocess.DEVNULL, timeout=SECONDS, check=False, **AS_NOBODY)
+        subprocess.run([place.program], stdin=subprocess.DEVNULL, stdout=subprocess.DEVNULL, timeout=SECONDS,
+                       check=False, **AS_NOBODY)
     except (OSError, KeyError, ValueError, subprocess.SubprocessError):
         return False
     return True
@@ -688,7 +725,8 @@ ALIKE = bytes.fromhex("157C4A7FB979379E")
 
 
 def draw(front, end):
-    """Names with this front and this end. The bytes between them come from a generator that always begins in one way."""
+    """Names with this front and this end. The bytes between them come from a generator that always begins in one
+    way."""
     drawn = random.Random(1)
     return lambda count: [front + drawn.randbytes(20 - len(front) - len(end)) + end for _ in range(count)]
 
@@ -718,7 +756,8 @@ COSTLY = {
     "a clean index": (RECORDS, lambda names: {"index": index(names, 0), "index.log": journal([])}),
     "a dirty index": (RECORDS, lambda names: {"index": index(names, 1)}),
     "a journal over no records": (RECORDS, lambda names: {"index": index([], 0), "index.log": journal(names)}),
-    "a journal over the same names": (RECORDS, lambda names: {"index": index(names, 0), "index.log": journal(names, 2000)}),
+    "a journal over the same names": (RECORDS, lambda names: {"index": index(names, 0),
+                                                              "index.log": journal(names, 2000)}),
     "files of entries": (FILES, empty_files),
     "files of entries and a dirty index": (FILES, lambda names: {"index": index(names, 1), **empty_files(names)}),
 }

@@ -1,6 +1,7 @@
 """The files of the index that the program leaves in real folders, byte by byte.
 
-What is expected is computed by cachelib, from the formats as docs/FORMATS.md has them, and by nothing of the program."""
+What is expected is computed by cachelib, from the formats as docs/FORMATS.md has them, and by nothing of the
+program."""
 import os
 import struct
 
@@ -52,11 +53,13 @@ def list_text(records):
     lines = [f"records {len(records)}\n"]
     for r in sorted(records):
         frecency, on_start, on_stop, content, flags = struct.unpack(">I8xHHBI", r[20:])
-        lines.append(f"{r[:20].hex().upper()} {frecency} {r[24:32].hex().upper()} {on_start} {on_stop} {content} {flags:08X}\n")
+        name, origin = r[:20].hex().upper(), r[24:32].hex().upper()
+        lines.append(f"{name} {frecency} {origin} {on_start} {on_stop} {content} {flags:08X}\n")
     return "".join(lines).encode()
 
 
-POINTS = (121, 243, 483, 959, 1889, 3670, 6954, 12635, 21600, 34235, 50154, 68470, 88289, 108959, 130083, 151443, 172921)
+POINTS = (121, 243, 483, 959, 1889, 3670, 6954, 12635, 21600, 34235, 50154, 68470, 88289, 108959, 130083, 151443,
+          172921)
 STEP = 21600
 
 
@@ -95,7 +98,8 @@ def victims(records, limit, in_use=()):
 
 
 def evict_text(records):
-    return f"evicted {len(records)}\n".encode() + "".join(record[:20].hex().upper() + "\n" for record in records).encode()
+    return f"evicted {len(records)}\n".encode() + "".join(record[:20].hex().upper() + "\n"
+                                                          for record in records).encode()
 
 
 def new_entries(keys):
@@ -189,7 +193,8 @@ def test_update_in_slices(cache):
     for command, reply in (
         ("state", "updating 5"), ("step 2", "updating 3"),
         (f"create 0 {keys[0]}", "ok"), ("close 0", "ok"), (f"doom {keys[3]}", "ok"), ("state", "updating 2"),
-        (f"has {keys[2]}", "unknown"), ("create 0 :https://new/", "ok"), ("close 0", "ok"), ("has :https://new/", "yes"),
+        (f"has {keys[2]}", "unknown"), ("create 0 :https://new/", "ok"), ("close 0", "ok"),
+        ("has :https://new/", "yes"),
     ):
         assert talk.say(f"{command}\n".encode()) == f"{reply}\n".encode(), command
     assert cache.read("index") is None
@@ -219,7 +224,8 @@ KIND_OF_CODE = b"1;46128,javascript/moz-script-bytecode-1"
 def browser_entries():
     """Entries as the browser writes them, with their records."""
     style = "O^partitionKey=%28https%2Cexample.com%29,:https://example.com/style.css"
-    elements = [(b"security-info", b"AAAAAAAA"), (b"request-method", b"GET"), (b"response-head", b"HTTP/1.1 200 OK\r\n"),
+    elements = [(b"security-info", b"AAAAAAAA"), (b"request-method", b"GET"),
+                (b"response-head", b"HTTP/1.1 200 OK\r\n"),
                 (b"ctid", b"5"), (b"net-response-time-onstart", b"12"), (b"net-response-time-onstop", b"15")]
     plain, long_one = "a,:https://example.org/", ":https://example.net/video"
     code = "O^partitionKey=%28https%2Cexample.com%29,:https://example.com/code.js"
@@ -240,7 +246,8 @@ def browser_entries():
 
 
 def shows_both_bodies(cache, key, body, value):
-    """The main body and the alternative data of an entry are those that its element tells of, and nothing is wrong with its file."""
+    """The main body and the alternative data of an entry are those that its element tells of, and nothing is wrong with
+    its file."""
     main, kind, data = alternative(value, body)
     assert cache.run("getalt", key, now=1700000005) == (0, b"alt %d %s\n%s\n" % (len(data), kind, data))
     assert cache.run("main", key, now=1700000005) == (0, b"main %d\n%s\n" % (len(main), main))
@@ -248,7 +255,8 @@ def shows_both_bodies(cache, key, body, value):
 
 
 def test_data_after_a_body(cache):
-    """The file of an entry with its data is that of the format, and its record is in the list before the index is written anew."""
+    """The file of an entry with its data is that of the format, and its record is in the list before the index is
+    written anew."""
     body, data = CODE[:46128], CODE[46128:]
     script = b"create 0 %s\nappend 0 %d\n%s\nfinish 0\nputalt 0 %d %s\n%s\nlist\n"
     script %= (EXAMPLE.encode(), len(body), body, len(data), KIND_OF_CODE[8:], data)
@@ -260,7 +268,8 @@ def test_data_after_a_body(cache):
 
 
 @pytest.mark.parametrize("flag, journaled", [
-    pytest.param(0, 0, id="closed clean"), pytest.param(0, 1, id="closed clean, with a journal"), pytest.param(1, None, id="killed")])
+    pytest.param(0, 0, id="closed clean"), pytest.param(0, 1, id="closed clean, with a journal"),
+    pytest.param(1, None, id="killed")])
 def test_a_folder_of_the_browser(cache, flag, journaled):
     files, records = browser_entries()
     put_files(cache, files)
@@ -287,8 +296,10 @@ BAD_INDEXES = {
     "an index with a name twice": index_bytes([RECORDS[0]] * 2, 1000, 0),
     "a dirty index": index_file(RECORDS, 1000, 0x01000000),
 }
-BAD_LOGS = {"no journal": None, "an empty journal": b"", "a journal of other bytes": b"no journal at all", "an empty good journal": EMPTY_HASH}
-FOREIGN = {"entries/readme": b"foreign", "entries/" + name_of(EXAMPLE).lower(): b"lower case", "doomed/007": b"7", "doomed/-1": b"-",
+BAD_LOGS = {"no journal": None, "an empty journal": b"", "a journal of other bytes": b"no journal at all",
+            "an empty good journal": EMPTY_HASH}
+FOREIGN = {"entries/readme": b"foreign", "entries/" + name_of(EXAMPLE).lower(): b"lower case", "doomed/007": b"7",
+           "doomed/-1": b"-",
            "doomed/4294967296": b"large", "trash/1": b"trash", "index.old": b"old"}
 
 
@@ -368,7 +379,8 @@ def test_records_without_files(cache):
     assert cache.run("list", now=2000) == (0, b"records 0\n")
 
 
-@pytest.mark.parametrize("frecency, moment", [(1000, 1000), (0, 5000), (1000, 200000), (4294967295, 7), (1010800, 1000000)])
+@pytest.mark.parametrize("frecency, moment", [(1000, 1000), (0, 5000), (1000, 200000), (4294967295, 7),
+                                              (1010800, 1000000)])
 def test_a_use(cache, frecency, moment):
     """The file and the record of an entry that was used once more."""
     key = ":https://used/"
@@ -382,7 +394,8 @@ def test_a_use(cache, frecency, moment):
 
 
 def wrong_files():
-    """A file for each check that an entry file may fail, by the word that names the check; each under a key of its own."""
+    """A file for each check that an entry file may fail, by the word that names the check; each under a key of its
+    own."""
     def header(key, version=3, size=None):
         return header_bytes(version, (1, 1000, 1000, 1000, NO_EXPIRATION), len(key) if size is None else size, 0)
 
@@ -452,7 +465,8 @@ def test_verify(cache):
     assert cache.files("entries") == before
     assert cache.read("index") == index_file(records, 1000, 0)
     assert cache.run("rebuild", now=2000) == (0, b"rebuilt 5\n")
-    of_files = {name: [line for line in found if line.split()[0] in ("unfit", "damaged")] for name, found in lines.items()}
+    of_files = {name: [line for line in found if line.split()[0] in ("unfit", "damaged")] for name,
+                found in lines.items()}
     assert cache.run("verify", now=2000) == (7, findings(of_files))
     # One that is being written is left out.
     talk = Talk(cache, 3000)

@@ -1,9 +1,9 @@
 """Entry files of older versions of the format, and how the program takes them.
 
-The program fills a folder. Each of its files is taken apart and spelled anew by cachelib, as docs/FORMATS.md has the three
-versions. As version 1, which has no flags, and as version 2 `get`, `list` and `verify` have to say of each what they say of
-version 3 and to leave the file as it is, and a use has to leave a file of version 3 with the same body, key and elements. Then come
-files of versions that there are not, and blocks at the limits of their sizes."""
+The program fills a folder. Each of its files is taken apart and spelled anew by cachelib, as docs/FORMATS.md has the
+three versions. As version 1, which has no flags, and as version 2 `get`, `list` and `verify` have to say of each what
+they say of version 3 and to leave the file as it is, and a use has to leave a file of version 3 with the same body, key
+and elements. Then come files of versions that there are not, and blocks at the limits of their sizes."""
 import os
 import struct
 
@@ -69,7 +69,8 @@ def bytes_of(length, first):
 
 
 TAGGED = "O^partitionKey=%28https%2Cexample.com%29,:https://tags/style.css"
-RESPONSE = [("security-info", b"FnhllAKW"), ("request-method", b"GET"), ("response-head", b"HTTP/1.1 200 OK\r\n"), ("ctid", b"5"),
+RESPONSE = [("security-info", b"FnhllAKW"), ("request-method", b"GET"), ("response-head", b"HTTP/1.1 200 OK\r\n"),
+            ("ctid", b"5"),
             ("net-response-time-onstart", b"12"), ("net-response-time-onstop", b"15")]
 # A key, the body's length, and the elements.
 ENTRIES = [
@@ -136,7 +137,8 @@ def records(cache):
     head, *lines = text.decode().splitlines()
     assert (status, head) == (0, f"records {len(lines)}")
     words = [(line[:40], line[41:-8], int(line[-8:], 16)) for line in lines]
-    return {name: f"{rest}{flags >> 24:02X}" for name, rest, flags in words}, {name: flags & 0xFFFFFF for name, _, flags in words}
+    return {name: f"{rest}{flags >> 24:02X}" for name, rest, flags in words}, {name: flags & 0xFFFFFF for name, _,
+                                                                               flags in words}
 
 
 class Made:
@@ -180,7 +182,8 @@ def old(request, made):
 @pytest.mark.parametrize("version", KNOWN)
 def test_known_bytes(made, version):
     """The known entry is spelled as the documents have it."""
-    assert made.entries[EXAMPLE].file(version) == bytes.fromhex(KNOWN[version]) + EXAMPLE.encode() + b"\0" + bytes.fromhex("00000005")
+    known = bytes.fromhex(KNOWN[version]) + EXAMPLE.encode() + b"\0\0\0\0\5"
+    assert made.entries[EXAMPLE].file(version) == known
 
 
 @pytest.mark.parametrize("key", KEYS, ids=lambda key: key[:40])

@@ -1,5 +1,5 @@
-"""tools/package: that it makes the same bytes twice, what is in its packages, and that the sessions of README.md run with what is
-installed from them, where there is no kit."""
+"""tools/package: that it makes the same bytes twice, what is in its packages, and that the sessions of README.md run
+with what is installed from them, where there is no kit."""
 import gzip
 import os
 import shutil
@@ -31,7 +31,8 @@ DEB, TAR = f"cache2_{VERSION}_amd64.deb", f"cache2-{VERSION}.tar.gz"
 
 
 def package(*words, umask=0o22):
-    ran = subprocess.run([os.path.join(TOOLS, "package"), *words], stdout=subprocess.PIPE, stderr=subprocess.STDOUT, text=True,
+    ran = subprocess.run([os.path.join(TOOLS, "package"), *words], stdout=subprocess.PIPE, stderr=subprocess.STDOUT,
+                         text=True,
                          umask=umask, check=False)
     return ran.returncode, ran.stdout
 
@@ -89,7 +90,8 @@ def test_what_is_installed(made, kind):
         return ran.returncode, ran.stdout, ran.stderr
     assert run("--version") == (0, f"cache2 {VERSION}\n", "")
     assert run("--help")[1].splitlines()[0] == USAGE
-    assert run(f"{made}/nowhere", "1", "list") == (10, "", f"cache2: '{made}/nowhere' is no cache: there is no such folder\n")
+    assert run(f"{made}/nowhere", "1", "list") == (10, "",
+                                                   f"cache2: '{made}/nowhere' is no cache: there is no such folder\n")
     with open(f"{made}/file", "w", encoding="utf-8"):
         pass
     assert run(f"{made}/file", "1", "put", ":x") == (

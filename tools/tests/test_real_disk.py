@@ -1,5 +1,5 @@
-"""The calls of the machine that the program makes on a real folder: what it changes, syncs and prints, in this order. No test
-of a crate sees it, and no contract says that a file is synced."""
+"""The calls of the machine that the program makes on a real folder: what it changes, syncs and prints, in this order.
+No test of a crate sees it, and no contract says that a file is synced."""
 import hashlib
 import os
 import re
@@ -12,12 +12,13 @@ from cachelib.index import mark_bytes
 from cachelib.keys import name_of
 from support import Cache, files_in, run_tool
 
-CALLS = ("open,openat,mkdir,mkdirat,unlink,unlinkat,rename,renameat,renameat2,write,writev,pwrite64,pwritev,ftruncate,fsync,"
-         "fdatasync")
+CALLS = ("open,openat,mkdir,mkdirat,unlink,unlinkat,rename,renameat,renameat2,write,writev,pwrite64,pwritev,ftruncate,"
+         "fsync,fdatasync")
 # The folder of the cache, from the room on.
 D = "above/cache"
 # The opening takes the journal away and sets the flag, and syncs that before all else is changed.
-OPENING = [f"rename {D}/index.log {D}/index.tmp", f"write {D}/index", f"sync {D}/index", f"sync {D}", f"remove {D}/index.tmp"]
+OPENING = [f"rename {D}/index.log {D}/index.tmp", f"write {D}/index", f"sync {D}/index", f"sync {D}",
+           f"remove {D}/index.tmp"]
 # The closing writes the journal, which is synced with all that waits, and then clears the flag.
 LOG, LOG_SYNCED = [f"make {D}/index.log", f"write {D}/index.log"], [f"sync {D}/index.log", f"sync {D}"]
 FLAG = [f"write {D}/index", f"sync {D}/index"]
@@ -60,8 +61,9 @@ class Watched(Cache):
         with open(f"{self.room}/in", "wb") as file:
             file.write(given)
         with open(f"{self.room}/in", "rb") as source, open(f"{self.room}/out", "wb") as sink:
-            ran = subprocess.run(["strace", "-f", "-y", "-o", f"{self.room}/calls", *options, "--", self.program.path,
-                                  path or self.path, "1000", *words], stdin=source, stdout=sink, stderr=subprocess.DEVNULL, check=False)
+            command = ["strace", "-f", "-y", "-o", f"{self.room}/calls", *options, "--", self.program.path,
+                       path or self.path, "1000", *words]
+            ran = subprocess.run(command, stdin=source, stdout=sink, stderr=subprocess.DEVNULL, check=False)
         with open(f"{self.room}/calls", encoding="utf-8", errors="replace") as file:
             self.calls = file.read().splitlines()
         with open(f"{self.room}/out", "rb") as file:
@@ -76,8 +78,8 @@ class Watched(Cache):
         return self.run_watched(*words, given=given)[0], self.steps()
 
     def step(self, line):
-        """The change or sync below the room that was done, or the reply: a word and the paths from the room on, or the first
-        word of the reply. None where it is no such call."""
+        """The change or sync below the room that was done, or the reply: a word and the paths from the room on, or the
+        first word of the reply. None where it is no such call."""
         call = re.match(r"\d+ +(\w+)\(", line)
         if not call or " = -1 " in line:
             return None
@@ -86,9 +88,11 @@ class Watched(Cache):
             return "reply " + re.split(r"[ \\]", named[0])[0]
         if call.startswith("rename"):
             return " ".join(["rename", *(os.path.relpath(path, self.room) for path in named)])
-        word = {"ftruncate": "cut", "fsync": "sync", "fdatasync": "sync"}.get(call) or ("write" if "write" in call else None)
+        word = {"ftruncate": "cut", "fsync": "sync", "fdatasync": "sync"}.get(call) or ("write" if "write" in call
+                                                                                        else None)
         path = opened[1] if word else named[0] if named else ""
-        word = word or ("make" if call.startswith("open") and "O_CREAT" in line else "folder" if call.startswith("mkdir")
+        word = word or ("make" if call.startswith("open") and "O_CREAT" in line else "folder"
+                        if call.startswith("mkdir")
                         else "remove" if call.startswith("unlink") else None)
         is_inside = word and (path == self.room or path.startswith(self.room + "/"))
         return f"{word} {os.path.relpath(path, self.room)}" if is_inside else None
@@ -122,11 +126,14 @@ def closed(new):
 # ---- single commands
 
 def test_put_in_a_new_folder(new):
-    """Every folder in which a name was made is synced, the one above too, and nothing is printed before. The folders that lead
-    to it are synced at the opening, since an earlier run may have made them. The first closing writes the whole index."""
+    """Every folder in which a name was made is synced, the one above too, and nothing is printed before. The folders
+    that lead to it are synced at the opening, since an earlier run may have made them. The first closing writes the
+    whole index."""
     assert new.watch("put", ":first", given=b"hello") == (0, [
-        "sync .", "folder above", f"folder {D}", f"folder {D}/doomed", *WRITTEN, "sync .", "sync above", f"folder {D}/entries",
-        moved(":first"), f"make {D}/index.tmp", f"write {D}/index.tmp", f"sync {D}/index.tmp", *MOVED_SYNCED, f"sync {D}",
+        "sync .", "folder above", f"folder {D}", f"folder {D}/doomed", *WRITTEN, "sync .", "sync above",
+        f"folder {D}/entries",
+        moved(":first"), f"make {D}/index.tmp", f"write {D}/index.tmp", f"sync {D}/index.tmp", *MOVED_SYNCED,
+        f"sync {D}",
         f"rename {D}/index.tmp {D}/index", *CLOSING, "reply ok"])
 
 
@@ -165,41 +172,52 @@ def test_opening_after_a_stop(closed):
     os.mkdir(closed.at("doomed/7"))
     os.symlink("5", closed.at("doomed/8"))
     closed.write(b"left", "doomed/5")
-    assert closed.watch("flush") == (0, [f"remove {D}/doomed/5", *OPENING[:3], f"sync {D}/doomed", *OPENING[3:], f"sync {D}",
+    assert closed.watch("flush") == (0, [f"remove {D}/doomed/5", *OPENING[:3], f"sync {D}/doomed", *OPENING[3:],
+                                         f"sync {D}",
                                          "reply ok", *CLOSING])
     assert sorted(os.listdir(closed.at("doomed"))) == ["7", "8"]
 
 
 def test_doom(closed):
     """The file of an entry that is not in use is removed, and the closing syncs its folder."""
-    assert closed.watch("doom", ":first") == (0, [*OPENING, f"remove {file_of(':first')}", "reply ok", *LOG, LOG_SYNCED[0],
+    assert closed.watch("doom", ":first") == (0, [*OPENING, f"remove {file_of(':first')}", "reply ok", *LOG,
+                                                  LOG_SYNCED[0],
                                                   f"sync {D}/entries", LOG_SYNCED[1], *FLAG])
 
 
 # ---- scripts
 
 def test_a_script(closed):
-    """A reader goes on with a doomed entry, whose number is then taken. A finished file is synced before it gets its name, and a
-    flush syncs what waits then: the names alone. The closing removes what is doomed or unfinished, and syncs their folder."""
+    """A reader goes on with a doomed entry, whose number is then taken. A finished file is synced before it gets its
+    name, and a flush syncs what waits then: the names alone. The closing removes what is doomed or unfinished, and
+    syncs their folder."""
     shutil.rmtree(closed.at("doomed"))
-    script = script_of("create 0 :x", "append 0 3", "old", "close 0", "open 1 :x", "flush", "doom :x", "create 2 :x", "append 2 3",
+    script = script_of("create 0 :x", "append 0 3", "old", "close 0", "open 1 :x", "flush", "doom :x", "create 2 :x",
+                       "append 2 3",
                        "new", "finish 2", "flush", "read 1 0 10", "get :x", "create 3 :y")
     assert closed.watch("run", given=script) == (0, [
-        *OPENING, f"folder {D}/doomed", f"make {D}/doomed/0", "reply ok", *WRITTEN[1:], moved(":x"), "reply ok", *MOVED_SYNCED,
-        "reply ok", f"rename {file_of(':x')} {D}/doomed/0", "reply ok", f"make {D}/doomed/1", "reply ok", f"write {D}/doomed/1",
-        f"sync {D}/doomed/1", *MOVED_SYNCED, moved(":x", 1), "reply ok", *MOVED_SYNCED, "reply ok", "reply data", "reply found",
-        f"make {D}/doomed/1", "reply ok", f"remove {D}/doomed/0", f"remove {D}/doomed/1", *LOG, LOG_SYNCED[0], f"sync {D}/doomed",
+        *OPENING, f"folder {D}/doomed", f"make {D}/doomed/0", "reply ok", *WRITTEN[1:], moved(":x"), "reply ok",
+        *MOVED_SYNCED,
+        "reply ok", f"rename {file_of(':x')} {D}/doomed/0", "reply ok", f"make {D}/doomed/1", "reply ok",
+        f"write {D}/doomed/1",
+        f"sync {D}/doomed/1", *MOVED_SYNCED, moved(":x", 1), "reply ok", *MOVED_SYNCED, "reply ok", "reply data",
+        "reply found",
+        f"make {D}/doomed/1", "reply ok", f"remove {D}/doomed/0", f"remove {D}/doomed/1", *LOG, LOG_SYNCED[0],
+        f"sync {D}/doomed",
         LOG_SYNCED[1], *FLAG])
 
 
 def test_flush_of_two(closed):
-    """What was synced is not synced again. Metadata that are rewritten in place are synced by the descriptor that wrote them, in
-    the order of the names."""
-    script = script_of("create 0 :a", "close 0", "create 0 :b", "close 0", "open 0 :b", "open 1 :a", "use 0", "use 1", "flush", "flush")
+    """What was synced is not synced again. Metadata that are rewritten in place are synced by the descriptor that wrote
+    them, in the order of the names."""
+    script = script_of("create 0 :a", "close 0", "create 0 :b", "close 0", "open 0 :b", "open 1 :a", "use 0", "use 1",
+                       "flush", "flush")
     a, b = file_of(":a"), file_of(":b")
     assert closed.watch("run", given=script) == (0, [
-        *OPENING, f"make {D}/doomed/0", "reply ok", *WRITTEN[1:], moved(":a"), "reply ok", f"make {D}/doomed/0", "reply ok",
-        f"write {D}/doomed/0", f"sync {D}/doomed/0", *MOVED_SYNCED, moved(":b"), "reply ok", f"write {b}", "reply ok", f"write {a}",
+        *OPENING, f"make {D}/doomed/0", "reply ok", *WRITTEN[1:], moved(":a"), "reply ok", f"make {D}/doomed/0",
+        "reply ok",
+        f"write {D}/doomed/0", f"sync {D}/doomed/0", *MOVED_SYNCED, moved(":b"), "reply ok", f"write {b}", "reply ok",
+        f"write {a}",
         "reply ok", f"sync {a}", f"sync {b}", *MOVED_SYNCED, "reply ok", *CLOSING])
     # Neither file is opened to be synced.
     opens = [call for call in closed.calls if "open" in call and (name_of(":a") in call or name_of(":b") in call)]
@@ -208,7 +226,8 @@ def test_flush_of_two(closed):
 
 def test_data_after_a_body(closed):
     """They are one more write to the file, which is synced with what else waits. To show them changes nothing."""
-    script = script_of("create 0 :data", "append 0 5", "hello", "finish 0", "flush", "putalt 0 2 wasm", "XY", "getalt :data",
+    script = script_of("create 0 :data", "append 0 5", "hello", "finish 0", "flush", "putalt 0 2 wasm", "XY",
+                       "getalt :data",
                        "main :data", "flush")
     file = file_of(":data")
     assert closed.watch("run", given=script) == (0, [
@@ -221,17 +240,20 @@ def test_data_after_a_body(closed):
 @pytest.fixture
 def origins(new):
     """A folder with two entries of an origin, one of it that is pinned, and one of none."""
-    script = script_of("create 0 O^a,:one", "close 0", "create 0 O^a,:two", "append 0 3", "two", "close 0", "create 0 O^a,:kept",
+    script = script_of("create 0 O^a,:one", "close 0", "create 0 O^a,:two", "append 0 3", "two", "close 0",
+                       "create 0 O^a,:kept",
                        "pin 0", "close 0", "create 0 :other", "close 0")
     assert new.run("run", given=script)[0] == 0
     return new
 
 
 def test_clear(origins):
-    """The mark stands, synced, before the first file is removed, and goes after the last. All is synced before the reply."""
+    """The mark stands, synced, before the first file is removed, and goes after the last. All is synced before the
+    reply."""
     gone = sorted(f"remove {file_of(key)}" for key in ("O^a,:one", "O^a,:two"))
     assert origins.watch("clear", "^a") == (0, [*OPENING, *MARKED, *gone, *UNMARKED, "reply cleared", *CLOSING])
-    assert origins.watch("clear", "^a") == (0, [*OPENING, *MARKED, UNMARKED[0], *UNMARKED[2:], "reply cleared", *CLOSING])
+    assert origins.watch("clear", "^a") == (0, [*OPENING, *MARKED, UNMARKED[0], *UNMARKED[2:], "reply cleared",
+                                                *CLOSING])
 
 
 def test_clear_beside_a_reader(origins):
@@ -239,7 +261,8 @@ def test_clear_beside_a_reader(origins):
     gone = dict(sorted([(file_of("O^a,:one"), f"remove {file_of('O^a,:one')}"),
                         (file_of("O^a,:two"), f"rename {file_of('O^a,:two')} {D}/doomed/0")])).values()
     assert origins.watch("run", given=script_of("open 0 O^a,:two", "clear ^a", "read 0 0 3", "close 0")) == (0, [
-        *OPENING, "reply ok", *MARKED, *gone, *UNMARKED, "reply cleared", "reply data", f"remove {D}/doomed/0", "reply ok", *LOG,
+        *OPENING, "reply ok", *MARKED, *gone, *UNMARKED, "reply cleared", "reply data", f"remove {D}/doomed/0",
+        "reply ok", *LOG,
         LOG_SYNCED[0], f"sync {D}/doomed", LOG_SYNCED[1], *FLAG])
 
 
@@ -266,13 +289,14 @@ def test_load(closed):
 
 
 def test_dump_and_load_of_2000(binary, room):
-    """What is dumped and loaded into an empty folder is the same: entries, records and a second dump. Every seventh has an
-    element, and every tenth is pinned."""
+    """What is dumped and loaded into an empty folder is the same: entries, records and a second dump. Every seventh has
+    an element, and every tenth is pinned."""
     from_there, to = Cache(binary, f"{room}/from"), Cache(binary, f"{room}/to")
     script = b""
     for n in range(1, 2001):
         length = n * 37 % 3000
-        script += b"create 0 %s:https://dump.example/%d\nappend 0 %d\n%s\n" % (b"" if n % 3 else b"O^a,", n, length, b" " * length)
+        script += b"create 0 %s:https://dump.example/%d\nappend 0 %d\n%s\n" % (b"" if n % 3 else b"O^a,", n, length,
+                                                                               b" " * length)
         script += b"set 0 2 name\n%02d\n" % (n % 100) if n % 7 == 0 else b""
         script += b"pin 0\n" if n % 10 == 0 else b""
         script += b"close 0\n"
@@ -296,8 +320,8 @@ def digests(cache):
 
 
 def kill_at_each_call(cache, faults_of, printed, *words, given=b""):
-    """A run over a copy of the folder prints this, and is then killed at each of its calls that change or sync something. Gives
-    how many these are, and what is wrong afterwards."""
+    """A run over a copy of the folder prints this, and is then killed at each of its calls that change or sync
+    something. Gives how many these are, and what is wrong afterwards."""
     made = cache.path + ".made"
     os.rename(cache.path, made)
     shutil.copytree(made, cache.path, symlinks=True)
@@ -312,7 +336,8 @@ def kill_at_each_call(cache, faults_of, printed, *words, given=b""):
     for name, number in calls:
         shutil.rmtree(cache.path)
         shutil.copytree(made, cache.path, symlinks=True)
-        status, _ = cache.traced("-e", f"trace={name}", "-e", f"inject={name}:signal=KILL:when={number}", words=words, given=given)
+        status, _ = cache.traced("-e", f"trace={name}", "-e", f"inject={name}:signal=KILL:when={number}", words=words,
+                                 given=given)
         faults = [f"status {status}"] if status not in (-9, 137) else []
         wrong += [f"{name} {number}: {fault}" for fault in [*faults, *faults_of()]]
     return len(calls), wrong
@@ -330,8 +355,9 @@ MARK = mark_bytes(b"^a")
 
 
 def faults_after_a_clear(cache, whole, all_listed, resumes):
-    """What is wrong with what a run that was killed left of these entries, and with what the next one finds. That one clears what is
-    left where the mark stands. Without it all 50 stand, but not where a run had found it, or none does."""
+    """What is wrong with what a run that was killed left of these entries, and with what the next one finds. That one
+    clears what is left where the mark stands. Without it all 50 stand, but not where a run had found it, or none
+    does."""
     kept = {name: whole[name] for name in map(name_of, ("O^a,:kept", ":other"))}
     head, *lines = all_listed.splitlines(keepends=True)
     none_listed = b"records 2\n" + b"".join(line for line in lines if line[:40].decode() in kept)
@@ -362,8 +388,8 @@ def faults_after_a_clear(cache, whole, all_listed, resumes):
 
 
 def test_a_clear_that_is_killed(crowd):
-    """Each entry is then whole or gone, and from the first that went to the last the mark stands. The next run finds all 50, or
-    none of them."""
+    """Each entry is then whole or gone, and from the first that went to the last the mark stands. The next run finds
+    all 50, or none of them."""
     faults, _ = faults_after_a_clear(crowd, digests(crowd), crowd.run("list", now=1001)[1], False)
     count, wrong = kill_at_each_call(crowd, faults, b"cleared 50\n", "clear", "^a")
     assert wrong == []
@@ -380,10 +406,11 @@ def test_a_list_that_finds_the_mark_is_killed(crowd):
 
 
 def test_a_load_that_is_killed(new):
-    """Of three items, over entries of two of their keys and of another one. Each key then has the entry of before or that of the
-    dump, whole, or none; the key that is not in the dump has its entry. The next runs find just these, and a `load` then loads
-    all."""
-    assert new.run("run", given=b"".join(b"create 0 %s\nappend 0 3\nold\nclose 0\n" % key for key in (b":one", b":two", b":other")))[0] == 0
+    """Of three items, over entries of two of their keys and of another one. Each key then has the entry of before or
+    that of the dump, whole, or none; the key that is not in the dump has its entry. The next runs find just these, and
+    a `load` then loads all."""
+    assert new.run("run", given=b"".join(b"create 0 %s\nappend 0 3\nold\nclose 0\n" % key
+                                         for key in (b":one", b":two", b":other")))[0] == 0
     source, loaded = Cache(new.program, f"{new.room}/source"), Cache(new.program, f"{new.room}/loaded")
     script = (b"create 0 :one\nappend 0 3\nnew\nclose 0\ncreate 0 :two\nappend 0 300000\n%s\nset 0 1 n\nv\nclose 0\n"
               b"create 0 :three\npin 0\nclose 0\n" % bytes(300_000))
@@ -427,7 +454,8 @@ def test_a_sync_that_fails(closed, nth):
 
 
 @pytest.mark.parametrize("path, calls, count, verb", [
-    ("in", "read", 2, "put"), (f"{D}/doomed/0", "openat,write,fsync", 6, "put"), (f"{D}/entries", "openat,fsync", 4, "put"),
+    ("in", "read", 2, "put"), (f"{D}/doomed/0", "openat,write,fsync", 6, "put"),
+    (f"{D}/entries", "openat,fsync", 4, "put"),
     (file_of(":again"), "openat,read", 4, "get"), ("out", "write", 2, "get"),
 ])
 def test_calls_that_are_interrupted(closed, path, calls, count, verb):
@@ -444,9 +472,10 @@ def test_calls_that_are_interrupted(closed, path, calls, count, verb):
 
 @pytest.fixture
 def killed(new):
-    """A run is killed as it begins to sync, so that all of it waits: two folders above the entries, an entry, one that is
-    unfinished, a doomed one, and two files of the index and one at `clear`, put there by hand."""
-    script = script_of("create 0 :a", "append 0 3", "old", "close 0", "create 1 :b", "close 1", "open 2 :b", "doom :b", "create 3 :c",
+    """A run is killed as it begins to sync, so that all of it waits: two folders above the entries, an entry, one that
+    is unfinished, a doomed one, and two files of the index and one at `clear`, put there by hand."""
+    script = script_of("create 0 :a", "append 0 3", "old", "close 0", "create 1 :b", "close 1", "open 2 :b", "doom :b",
+                       "create 3 :c",
                        "append 3 3", "new", "flush")
     options = ("-P", f"{new.path}/doomed/1", "-e", "trace=fsync", "-e", "inject=fsync:signal=KILL")
     assert new.traced(*options, words=["run"], given=script)[0] in (-9, 137)
@@ -458,19 +487,22 @@ def killed(new):
 
 def standing(cache):
     """The files and folders that stand, and the folders that lead to them, from the room on."""
-    found = subprocess.run(["find", D, "-type", "f", "-o", "-type", "d"], cwd=cache.room, stdout=subprocess.PIPE, text=True, check=True)
+    found = subprocess.run(["find", D, "-type", "f", "-o", "-type", "d"], cwd=cache.room, stdout=subprocess.PIPE,
+                           text=True, check=True)
     return {".", "above", *found.stdout.split()}
 
 
 def test_flush_after_a_kill(killed):
-    """It has answered only when all that stands is synced, the files first. It leaves a note of that, and takes it away before
-    it changes anything. The file at `clear` is no mark: it goes, and that is synced."""
+    """It has answered only when all that stands is synced, the files first. It leaves a note of that, and takes it away
+    before it changes anything. The file at `clear` is no mark: it goes, and that is synced."""
     before, a = standing(killed), file_of(":a")
     options = ("-P", f"{killed.room}/{a}", "-e", "trace=fsync", "-e", "inject=fsync:error=EIO")
     assert killed.traced(*options, words=["flush"]) == (6, b"")
     assert killed.watch("flush") == (0, [
-        f"sync {a}", f"sync {D}/index", f"sync {D}/index.tmp", f"sync {D}/clear", "sync .", "sync above", f"sync {D}/entries",
-        f"sync {D}/doomed", f"sync {D}", *NOTE, f"remove {D}/synced", f"remove {D}/index.tmp", f"remove {D}/clear", f"sync {D}",
+        f"sync {a}", f"sync {D}/index", f"sync {D}/index.tmp", f"sync {D}/clear", "sync .", "sync above",
+        f"sync {D}/entries",
+        f"sync {D}/doomed", f"sync {D}", *NOTE, f"remove {D}/synced", f"remove {D}/index.tmp", f"remove {D}/clear",
+        f"sync {D}",
         "reply ok", *NOTE])
     steps = killed.steps()
     synced = {step[len("sync "):] for step in steps[:steps.index("reply ok")] if step.startswith("sync ")}
@@ -501,4 +533,5 @@ def test_a_closing_after_a_kill(noted):
     assert noted.run("put", ":e", given=b"hello") == (0, b"ok\n")
     assert noted.run("rebuild") == (0, b"rebuilt 2\n")
     assert sorted(os.listdir(noted.path)) == ["doomed", "entries", "index", "index.log"]
-    assert noted.watch("put", ":d", given=b"hello") == (0, [*OPENING, *WRITTEN, moved(":d"), *CLOSING_MOVED, "reply ok"])
+    assert noted.watch("put", ":d", given=b"hello") == (0, [*OPENING, *WRITTEN, moved(":d"), *CLOSING_MOVED,
+                                                            "reply ok"])

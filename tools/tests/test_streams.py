@@ -1,8 +1,8 @@
 """Runs whose standard streams do not wait, and what docs/GUIDE.md says of them.
 
-Of such a pipe or socket a read fails where nothing is there yet, and a write where it is full. The program then ends with
-status 4 or 5. A pipe that is opened anew by `/dev/stdin` or `/dev/stdout` waits again, and so does a pipe or socket whose flag is
-taken away."""
+Of such a pipe or socket a read fails where nothing is there yet, and a write where it is full. The program then ends
+with status 4 or 5. A pipe that is opened anew by `/dev/stdin` or `/dev/stdout` waits again, and so does a pipe or
+socket whose flag is taken away."""
 import os
 import socket
 import subprocess

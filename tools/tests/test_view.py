@@ -1,10 +1,10 @@
 """The program that only looks at a folder beside the one that writes, on folders in many states.
 
-For each folder and each verb the one that writes runs on a copy, and the other on the folder itself. With --every, a number, it
-is one in so many of these pairs, chosen so that all folders come, and all verbs. Both have to print the same and to end with the
-same status, and the folder has to be as it was: its names, kinds, modes, owners, inodes, contents and times of change. Then the
-same is tried on a mount that is read-only, where this user may make one, below a tracer that lists each call which could change
-something, and as another user without the right to write."""
+For each folder and each verb the one that writes runs on a copy, and the other on the folder itself. With --every, a
+number, it is one in so many of these pairs, chosen so that all folders come, and all verbs. Both have to print the same
+and to end with the same status, and the folder has to be as it was: its names, kinds, modes, owners, inodes, contents
+and times of change. Then the same is tried on a mount that is read-only, where this user may make one, below a tracer
+that lists each call which could change something, and as another user without the right to write."""
 import hashlib
 import os
 import re
@@ -32,9 +32,10 @@ def entry(key, body=b"", moment=1000, version=3):
     return file_of(body, header, key.encode(), b"")
 
 
-FILL = (b"create 0 :s\nappend 0 5\nhello\nset 0 2 n\nvv\nfinish 0\ncreate 1 :t\nappend 1 3\nabc\nfinish 1\nputalt 1 2 t\nde\n"
-        b"create 2 O^a,:u\nappend 2 1\nu\nfinish 2\ncreate 3 O^b,:v\nfinish 3\ncreate 4 :big\nappend 4 %d\n%s\nfinish 4\n"
-        % (len(BIG), BIG))
+FILL = (b"create 0 :s\nappend 0 5\nhello\nset 0 2 n\nvv\nfinish 0\n"
+        b"create 1 :t\nappend 1 3\nabc\nfinish 1\nputalt 1 2 t\nde\n"
+        b"create 2 O^a,:u\nappend 2 1\nu\nfinish 2\ncreate 3 O^b,:v\nfinish 3\n"
+        b"create 4 :big\nappend 4 %d\n%s\nfinish 4\n" % (len(BIG), BIG))
 
 
 def state_of(top):
@@ -50,7 +51,8 @@ def state_of(top):
             elif os.path.isfile(path):
                 with open(path, "rb") as file:
                     held = hashlib.sha256(file.read()).hexdigest()
-            found[path] = (at.st_mode, at.st_uid, at.st_gid, at.st_ino, at.st_nlink, at.st_size, at.st_mtime_ns, at.st_ctime_ns, held)
+            found[path] = (at.st_mode, at.st_uid, at.st_gid, at.st_ino, at.st_nlink, at.st_size, at.st_mtime_ns,
+                           at.st_ctime_ns, held)
     return found
 
 
@@ -188,19 +190,24 @@ def many(folder):
                                      for n in range(400)))
 
 
-STATES = (missing, empty, filled, unclean, with_journal, bad_journal, with_temporary, killed, marked, bad_mark, long_mark, doomed,
-          old_versions, no_index, other_index, cut_index, no_bytes, damaged, foreign, link_to_entries, index_is_folder, many)
+STATES = (missing, empty, filled, unclean, with_journal, bad_journal, with_temporary, killed, marked, bad_mark,
+          long_mark, doomed,
+          old_versions, no_index, other_index, cut_index, no_bytes, damaged, foreign, link_to_entries, index_is_folder,
+          many)
 
-SESSION = (b"get :s\nuse :s\nget :s\nopen 0 :t\nget :t\ndoom :t\nread 0 0 3\nclose 0\nget :t\ncreate 1 :s\nappend 1 7\nchanged\n"
-           b"finish 1\nget :s\nopen 2 :big\nread 2 262140 20\nappend 2 3\nend\nclose 2\ncreate 3 :t\nappend 3 2\ntt\n"
-           b"putalt 3 2 t\nde\nfinish 3\nget :t\ngetalt :t\npin :s\nclear ^a\nlist\nflush\nevict 100\nlist\nverify\nrebuild\n"
-           b"list\nlatest\n")
+SESSION = (b"get :s\nuse :s\nget :s\nopen 0 :t\nget :t\ndoom :t\nread 0 0 3\nclose 0\nget :t\n"
+           b"create 1 :s\nappend 1 7\nchanged\nfinish 1\nget :s\n"
+           b"open 2 :big\nread 2 262140 20\nappend 2 3\nend\nclose 2\n"
+           b"create 3 :t\nappend 3 2\ntt\nputalt 3 2 t\nde\nfinish 3\nget :t\ngetalt :t\npin :s\nclear ^a\n"
+           b"list\nflush\nevict 100\nlist\nverify\nrebuild\nlist\nlatest\n")
 SHORT = b"use :s\npin :s\nget :s\nputalt :s 3 k\nalt\ngetalt :s\nmain :s\nunpin :s\nlist\nverify\n"
 LOADED = (b"create 0 :loaded\nappend 0 2\nld\nfinish 0\ncreate 1 :s\nappend 1 3\nold\nfinish 1\n")
 # The verbs, and what each is given; the dump of another folder stands for none.
 VERBS = (
-    ("list", b""), ("verify", b""), ("dump", b""), ("get :s", b""), ("get :big", b""), ("get :nothing", b""), ("get :t", b""),
-    ("getalt :t", b""), ("main :t", b""), ("get :old0", b""), ("get :old1", b""), ("get :m7", b""), ("flush", b""), ("rebuild", b""),
+    ("list", b""), ("verify", b""), ("dump", b""), ("get :s", b""), ("get :big", b""), ("get :nothing", b""),
+    ("get :t", b""),
+    ("getalt :t", b""), ("main :t", b""), ("get :old0", b""), ("get :old1", b""), ("get :m7", b""), ("flush", b""),
+    ("rebuild", b""),
     ("doom :s", b""), ("doom :nothing", b""), ("evict 0", b""), ("evict 600", b""), ("clear ^a", b""), ("clear ", b""),
     ("put :new", b"new"), ("put :s", BIG), ("fill 12 3", b""), ("run", SESSION), ("run", SHORT), ("run", FILL),
     ("run", b"no command\n"), ("load", None), ("load", b"no dump"), ("nonsense", b""),
@@ -227,7 +234,8 @@ class Views:
     def run(self, program, folder, verb, *before):
         """The status and the reply of a run of the verb with this number, below these words."""
         words, given = VERBS[verb]
-        ran = subprocess.run([*before, program.path, folder, "3000", *words.split(" ")], input=self.dump if given is None else given,
+        ran = subprocess.run([*before, program.path, folder, "3000", *words.split(" ")],
+                             input=self.dump if given is None else given,
                              stdout=subprocess.PIPE, stderr=subprocess.DEVNULL, timeout=SECONDS, check=False)
         return ran.returncode, ran.stdout
 
@@ -251,8 +259,10 @@ def pytest_generate_tests(metafunc):
     """All pairs of a state and a verb, or one in so many."""
     if "verb" in metafunc.fixturenames:
         every = metafunc.config.getoption("every")
-        pairs = [(state, verb) for place, state in enumerate(STATES) for verb in range(-place % every, len(VERBS), every)]
-        metafunc.parametrize("state, verb", pairs, ids=[f"{state.__name__}: {VERBS[verb][0]} ({verb})" for state, verb in pairs])
+        pairs = [(state, verb) for place, state in enumerate(STATES)
+                 for verb in range(-place % every, len(VERBS), every)]
+        metafunc.parametrize("state, verb", pairs, ids=[f"{state.__name__}: {VERBS[verb][0]} ({verb})" for state,
+                                                        verb in pairs])
 
 
 # ---- what is tried
@@ -294,8 +304,9 @@ def test_a_mount_that_is_read_only(views, mount, state, verb):
     assert views.run(views.view, f"{inner}/{state.__name__}", verb, *words) == reply
 
 
-CHANGING = re.compile(r"O_WRONLY|O_RDWR|O_CREAT|O_TRUNC|^(?:\d+ +)?(?:rename|unlink|mkdir|rmdir|link|symlink|chmod|chown|fchmod|fchown"
-                      r"|utime|fsync|fdatasync|sync|ftruncate|truncate|fallocate|mknod|setxattr|pwrite|sendfile|copy_file_range)")
+CHANGING = re.compile(r"O_WRONLY|O_RDWR|O_CREAT|O_TRUNC|^(?:\d+ +)?(?:rename|unlink|mkdir|rmdir|link|symlink"
+                      r"|chmod|chown|fchmod|fchown|utime|fsync|fdatasync|sync|ftruncate|truncate|fallocate|mknod"
+                      r"|setxattr|pwrite|sendfile|copy_file_range)")
 # Writes go to standard output alone.
 WRITES = re.compile(r"\bwritev?\((?!1,)")
 
