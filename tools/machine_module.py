@@ -1,8 +1,9 @@
-"""What the commands of a script do to whole entries, and what a stop may leave of them, for the tool that stops scripts. It is no tool.
+"""What the commands of a script do to whole entries, and what a stop may leave of them, for the tool that stops
+scripts. It is no tool.
 
-The commands follow docs/COMMANDS.md, and the marks docs/CRASH.md ("What may be lost of the entries"); nothing here looks at the
-program. A command is a tuple of its word and its fields, as ("append", 0, b"hello"). The names of a session's keys have to
-differ, so that a key stands for its name.
+The commands follow docs/COMMANDS.md, and the marks docs/CRASH.md ("What may be lost of the entries"); nothing here
+looks at the program. A command is a tuple of its word and its fields, as ("append", 0, b"hello"). The names of a
+session's keys have to differ, so that a key stands for its name.
 """
 import dataclasses
 import hashlib
@@ -12,7 +13,8 @@ from cachelib.hashes import CHUNK, WORD
 from cachelib.keys import name_of
 
 STEP, REACH = 21600, 172800
-POINTS = (121, 243, 483, 959, 1889, 3670, 6954, 12635, 21600, 34235, 50154, 68470, 88289, 108959, 130083, 151443, 172921, 172921)
+POINTS = (121, 243, 483, 959, 1889, 3670, 6954, 12635, 21600, 34235, 50154, 68470, 88289, 108959, 130083, 151443,
+          172921, 172921)
 PINNED = 1
 OK, NONE = b"ok\n", b"none\n"
 ALT = b"alt-data"
@@ -234,7 +236,8 @@ class Session:
         entry = self.entry(slot)
         old = entry.version
         after = frecency_after(old.numbers[3], self.moment)
-        return self.change(entry, old.with_numbers(count=min(WORD, old.numbers[0] + 1), fetched=self.moment, frecency=after))
+        return self.change(entry, old.with_numbers(count=min(WORD, old.numbers[0] + 1), fetched=self.moment,
+                                                   frecency=after))
 
     def do_pin(self, slot):
         entry = self.written(slot)
@@ -330,7 +333,8 @@ def spelled(command):
     word, *fields = command
     if word in SPELLED:
         return SPELLED[word](*fields)
-    return b" ".join([word.encode(), *(field if isinstance(field, bytes) else b"%d" % field for field in fields)]) + b"\n"
+    return b" ".join([word.encode(), *(field if isinstance(field, bytes) else b"%d" % field
+                                       for field in fields)]) + b"\n"
 
 
 def line_of(command):

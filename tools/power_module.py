@@ -1,8 +1,8 @@
 """A file system in an image on a loop device, whose power can be cut, for the tool that does it. It is no tool.
 
-All is mounted in a name space of this process alone, and the loop device goes with the mount. So nothing is left mounted,
-even where this process is killed. What a disk itself holds back in a memory of its own is not lost here: what the file system handed
-to the device is kept.
+All is mounted in a name space of this process alone, and the loop device goes with the mount. So nothing is left
+mounted, even where this process is killed. What a disk itself holds back in a memory of its own is not lost here: what
+the file system handed to the device is kept.
 """
 import ctypes
 import errno
