@@ -155,6 +155,9 @@ class Place:
         os.chmod(base, 0o755)
         self.base, self.program = base, shutil.copy(program.path, os.path.join(shared, "cache2"))
         os.chmod(self.program, 0o755)
+        # One that is built with a sanitizer wants more room than a limit leaves.
+        with open(self.program, "rb") as file:
+            self.is_limited = b"AddressSanitizer" not in file.read()
         self.filled = os.path.join(base, "filled")
         for key, body in ((":x", b"hello"), (":y", bytes(300000))):
             assert result_of([self.program, self.filled, "1000", "put", key], body, base) == (0, b"ok\n")
@@ -165,6 +168,7 @@ class Room:
     """A folder `dir`, empty or with two entries and their index, and `around` beside it."""
 
     def __init__(self, place, filled):
+        self.is_limited = place.is_limited
         self.top = tempfile.mkdtemp(dir=place.base)
         os.chmod(self.top, 0o755)
         self.dir = os.path.join(self.top, "dir")
@@ -488,13 +492,9 @@ def long_at(place, size, front=b"", last=b""):
     return placed(place, make)
 
 
-# A program that is built with a sanitizer wants more room than a limit leaves.
-LIMITED = "TRY_HOSTILE_UNLIMITED" not in os.environ
-
-
 def limited(kilobytes):
     """A run that may take so much room."""
-    return {"words": lambda room: ["sh", "-c", f'ulimit -v {kilobytes}; exec "$@"', ""]} if LIMITED else {}
+    return {"words": lambda room: ["sh", "-c", f'ulimit -v {kilobytes}; exec "$@"', ""] if room.is_limited else []}
 
 
 def large_indexes():
