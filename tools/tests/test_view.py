@@ -218,7 +218,8 @@ class Views:
     """Folders in each state that was asked for, and what the program that looks printed of them."""
 
     def __init__(self, program, view, room):
-        self.program, self.view, self.room, self.folders, self.replies = program, view, room, {}, {}
+        self.program, self.view, self.room = program, view, room
+        self.folders, self.replies, self.known = {}, {}, {}
         os.chmod(room, 0o755)
         os.mkdir(f"{room}/folders")
         other = Cache(program, f"{room}/other")
@@ -269,10 +270,11 @@ def pytest_generate_tests(metafunc):
 
 @pytest.fixture
 def as_it_was(views, state):
-    """The folder is the same before and after."""
-    before = views.seen(state)
+    """The folder is the same before and after, and after the last one."""
+    before = views.known.get(state) or views.seen(state)
     yield
-    assert views.seen(state) == before
+    views.known[state] = views.seen(state)
+    assert views.known[state] == before
 
 
 @pytest.mark.usefixtures("as_it_was")
@@ -327,6 +329,7 @@ def nobody(views):
     for state in STATES:
         views.folder(state)
     subprocess.run(["chmod", "-R", "a+rX,a-w", f"{views.room}/folders"], check=True)
+    views.known.clear()
     return ["setpriv", f"--reuid={NOBODY}", f"--regid={NOBODY}", "--clear-groups"]
 
 
