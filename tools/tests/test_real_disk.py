@@ -224,6 +224,42 @@ def test_flush_of_two(closed):
     assert [call for call in opens if "O_RDWR" not in call][2:] == []
 
 
+@pytest.mark.parametrize("words", [("put", ":new"), ("put", ":first"), ("doom", ":first"), ("evict", "0"),
+                                   ("clear", ""), ("rebuild",), ("verify",), ("flush",)])
+def test_syncs_of_a_change(closed, words):
+    """A file is synced after it was written, and a folder after a name in it was changed, and neither once more."""
+    changed, (status, steps) = set(), closed.watch(*words, given=b"new")
+    assert status == 0 and f"sync {D}" in steps
+    for step in steps:
+        word, *paths = step.split()
+        if word == "sync":
+            assert paths[0] in changed, step
+            changed.remove(paths[0])
+        elif word in ("make", "folder", "remove", "rename"):
+            # A file that waits for its sync waits under its new name.
+            if paths[0] in changed and word == "rename":
+                changed.add(paths[1])
+            changed.update(map(os.path.dirname, paths), paths[:word == "make"])
+        elif word in ("write", "cut"):
+            changed.add(paths[0])
+
+
+# Memory that is taken or given back is left out, as are reads of the script.
+CALLS_OF_AN_ENTRY = ["close", *3 * ["fsync"], "openat", "rename", "statx", *4 * ["write"]]
+
+
+def test_calls_of_a_new_entry(closed):
+    """A look whether one stands, and then its file is made, written, synced with both folders, moved and closed. Each
+    of the three commands has its reply."""
+    def calls(first, count):
+        script = script_of(*(line % number for number in range(first, first + count)
+                             for line in ("create 0 :%d", "append 0 1\nx%.0s", "close 0%.0s")))
+        assert closed.traced("-e", "trace=!mmap,munmap,madvise,read", words=("run",), given=script)[0] == 0
+        return sorted(re.findall(r"^\d+ +(\w+)\(", "\n".join(closed.calls), re.M))
+    few, many = calls(0, 20), calls(20, 40)
+    assert many == sorted(few + 20 * CALLS_OF_AN_ENTRY)
+
+
 def test_data_after_a_body(closed):
     """They are one more write to the file, which is synced with what else waits. To show them changes nothing."""
     script = script_of("create 0 :data", "append 0 5", "hello", "finish 0", "flush", "putalt 0 2 wasm", "XY",
