@@ -8,6 +8,7 @@
 mod claim;
 mod contents;
 mod earlier;
+mod file_notes;
 mod folder;
 mod kept;
 mod laws;

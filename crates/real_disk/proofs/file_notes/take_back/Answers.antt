@@ -1,5 +1,5 @@
 use Rattle.real_disk.proofs.NoteLaws.{taken_back}
-use Rattle.real_disk.proofs.folder.take_back.Goals as goal
+use Rattle.real_disk.proofs.file_notes.take_back.Goals as goal
 
 pub returns-then-is_new-clause-back : goal.returns-then-is_new-clause-back
 returns-then-is_new-clause-back c = λ before made.
