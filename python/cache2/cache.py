@@ -73,19 +73,25 @@ class Cache:
             raise Closed("the cache is closed")
         if self._talk and self._talk.is_full and self._talk.is_idle():
             self._end_run()
-        if self._talk is None or self._talk.error:
-            self._moment = self._talk.moment if self._talk else self._moment
-            self.newest.clear()
-            self._talk = Conversation(self._program, self._folder, self._clock, self._moment, self._timeout, self._lock)
-            # The first reply comes when the cache is opened.
-            try:
-                self._talk.answer(self._talk.send(b"state", parse_state))
-            except DiskFailed:
-                # Another run was first, and the program has waited in vain.
-                if not self._folder.is_free():
-                    raise self._folder.in_use() from None
-                raise
-        self._end_lost(self._talk)
+        talk = self._talk
+        if talk is None or talk.error:
+            talk = self._begin_run()
+        if talk.lost:
+            self._end_lost(talk)
+        return talk
+
+    def _begin_run(self) -> Conversation:
+        self._moment = self._talk.moment if self._talk else self._moment
+        self.newest.clear()
+        self._talk = Conversation(self._program, self._folder, self._clock, self._moment, self._timeout, self._lock)
+        # The first reply comes when the cache is opened.
+        try:
+            self._talk.answer(self._talk.send(b"state", parse_state))
+        except DiskFailed:
+            # Another run was first, and the program has waited in vain.
+            if not self._folder.is_free():
+                raise self._folder.in_use() from None
+            raise
         return self._talk
 
     def _end_lost(self, talk: Conversation) -> None:
@@ -142,16 +148,21 @@ class Cache:
 
     def get(self, key: Key, only_main: bool = False) -> Entry:
         """An entry, whose body is checked. With `only_main` the body has no alternative data."""
-        with self._lock:
-            return cast(Entry, self.send_get(key, only_main).result())
-
-    def send_get(self, key: Key, only_main: bool = False) -> Reply:
         data = keys_of.encoded(key)
         with self._lock:
             talk = self._run()
-            reply = Reply(talk, [talk.send(b"get " + data, entry_parse(talk, data, only_main), owed=LONG)])
+            return cast(Entry, talk.answer(self._send_get(talk, data, only_main)))
+
+    def send_get(self, key: Key) -> Reply:
+        data = keys_of.encoded(key)
+        with self._lock:
+            talk = self._run()
+            reply = Reply(talk, [self._send_get(talk, data, False)])
             talk.push()
             return reply
+
+    def _send_get(self, talk: Conversation, key: bytes, only_main: bool) -> Pending:
+        return talk.send(b"get " + key, entry_parse(talk, key, only_main), owed=LONG)
 
     def put(self, key: Key, body: Union[Bytes, BinaryIO], elements: Optional[Elements] = None,
             is_pinned: bool = False) -> None:

@@ -2,8 +2,8 @@
 
 Each side could wait for the other: a program that cannot send its reply reads no further, and a client that is not done
 with sending reads no reply. So one rule holds for whatever is sent. Before it is, either all that is not answered yet
-fits into the pipe to the program, with it, or all replies to that fit into the pipe from the program. Then one of the
-two can always go on.
+fits into the pipe to the program, with it, or all replies that come before its last do fit into the pipe from the
+program. Then one of the two can always go on.
 """
 from __future__ import annotations
 
@@ -30,6 +30,8 @@ PIPE = 4096
 # No reply to a command that is answered by a line alone is longer. A longer one counts as one that fits into no pipe.
 LINE = 32
 LONG = PIPE + 1
+# So many commands are sent as one at the most. All replies to them fit into a pipe.
+TOGETHER = 32
 # How long a program may take to end after it has closed its output, before it is killed.
 LAST_SECONDS = 30.0
 
@@ -48,9 +50,8 @@ class Pending:
         self.result: Any = None
         self.error: Optional[Cache2Error] = None
 
-    def settle(self, result: Any = None, error: Optional[Cache2Error] = None) -> None:
+    def fail(self, error: Cache2Error) -> None:
         self.is_done = True
-        self.result = result
         self.error = error
 
 
@@ -70,6 +71,20 @@ def parse_ok(replies: Replies) -> None:
         raise refused(line, replies)
 
 
+def parse_all(count: int) -> Parse:
+    """Reads the replies to so many commands that are answered by `ok`. The first refusal is the cause of the others."""
+    def parse(replies: Replies) -> None:
+        first: Optional[Cache2Error] = None
+        for _ in range(count):
+            try:
+                parse_ok(replies)
+            except (Refused, Fault) as error:
+                first = first or error
+        if first:
+            raise first
+    return parse
+
+
 def parse_numbers(replies: Replies, word: bytes, count: int) -> List[int]:
     """The numbers after the first word of a reply, or what it refuses."""
     line = replies.line()
@@ -79,10 +94,8 @@ def parse_numbers(replies: Replies, word: bytes, count: int) -> List[int]:
     raise refused(line, replies)
 
 
-def end_line(replies: Replies) -> None:
-    """The newline after the bytes of a reply."""
-    if replies.take(1) != b"\n":
-        raise BadReply(None, "no newline where one has to be")
+def wrong_process() -> WrongProcess:
+    return WrongProcess("a cache is used in the process that opened it")
 
 
 class Conversation:
@@ -106,7 +119,7 @@ class Conversation:
         stdin, stdout = cast(IO[bytes], self._process.stdin), cast(IO[bytes], self._process.stdout)
         self._slot_is_free = threading.Condition(lock)
         self._requests = Requests(stdin.fileno(), seconds, self._late)
-        self._replies = Replies(stdout.fileno(), seconds, self._late, self._ended)
+        self._replies = Replies(stdout, seconds, self._late, self._ended)
 
     # ---- sending
 
@@ -133,33 +146,50 @@ class Conversation:
         """Refuses what comes after the end, or in another process."""
         if self.error:
             raise type(self.error)(self.error.status, "in a call before this one")
-        if not self.is_own_process:
-            raise WrongProcess("a cache is used in the process that opened it")
+        if os.getpid() != self._owner:
+            raise wrong_process()
 
     def send(self, line: bytes, parse: Parse = parse_ok, data: Optional[Bytes] = None, owed: int = LINE,
              is_end: bool = False) -> Pending:
         """Sends a command, with the bytes after its line, at the present moment. It may go out with a later one."""
-        self.check()
-        now = self._now()
-        # A clock that goes back is not followed: no entry is used before it was made. What ends an entry has no moment.
-        if now > self.moment and not is_end:
-            self._send_at(now)
+        self._begin(is_end)
         return self._send(line, parse, data, owed, is_end)
 
-    def _send_at(self, moment: int) -> None:
-        self._send(b"at %d" % moment, parse_ok, None, LINE, False)
-        self.moment = moment
+    def send_all(self, commands: List[bytes]) -> List[Pending]:
+        """Sends commands that are answered by `ok`, many as one. The bytes of each stand after its line."""
+        self._begin(False)
+        pendings: List[Pending] = []
+        for at in range(0, len(commands), TOGETHER):
+            group = commands[at:at + TOGETHER]
+            pendings.append(self._send(b"\n".join(group), parse_all(len(group)), None, LINE * len(group), False,
+                                       LINE * (len(group) - 1)))
+        return pendings
 
-    def _send(self, line: bytes, parse: Parse, data: Optional[Bytes], owed: int, is_end: bool) -> Pending:
+    def _begin(self, is_end: bool) -> None:
+        self.check()
+        if is_end:
+            # What ends an entry has no moment.
+            return
+        now = self._now()
+        now = self._now()
+        # A clock that goes back is not followed: no entry is used before it was made.
+        if now > self.moment:
+            self._send(b"at %d" % now, parse_ok, None, LINE, False)
+            self.moment = now
+
+    def _send(self, line: bytes, parse: Parse, data: Optional[Bytes], owed: int, is_end: bool,
+              early: int = 0) -> Pending:
+        """Of the replies that are `owed` for it, `early` bytes may come before it is sent whole."""
         size = len(line) + 1 + (0 if data is None else len(data) + 1)
         if self._sent + size > MAX_SCRIPT - (0 if is_end else KEPT_FOR_ENDS):
             raise SessionFull("this run has had as much as it may have: close all readers and writers for a new one")
         try:
-            self._make_room(size)
-            self.check()
-            self._sent += size
+            if self._stream or (self._asked + size > PIPE and self._owed + early > PIPE):
+                self._make_room(size, early)
+                self.check()
             pending = Pending(parse, size, owed)
             self._queue.append(pending)
+            self._sent += size
             self._asked += size
             self._owed += owed
             self._requests.gather(line + b"\n")
@@ -171,10 +201,10 @@ class Conversation:
             raise
         return pending
 
-    def _make_room(self, size: int) -> None:
+    def _make_room(self, size: int, early: int) -> None:
         """Reads replies until the two sides cannot wait for each other."""
         self._free_pipe()
-        while self._queue and self._asked + size > PIPE and self._owed > PIPE:
+        while self._queue and self._asked + size > PIPE and self._owed + early > PIPE:
             self.read_next()
             self._free_pipe()
 
@@ -201,24 +231,26 @@ class Conversation:
 
     def read_next(self) -> None:
         """Reads the reply to the first command that has none yet."""
-        if not self.is_own_process:
-            raise WrongProcess("a cache is used in the process that opened it")
+        if os.getpid() != self._owner:
+            raise wrong_process()
         pending = self._queue[0]
         try:
             self._requests.push()
-            self._free_pipe()
-            pending.settle(pending.parse(self._replies))
-        except (Refused, Fault) as refused:
-            pending.settle(error=refused)
+            if self._stream:
+                self._free_pipe()
+            try:
+                pending.result = pending.parse(self._replies)
+            except (Refused, Fault) as refused:
+                pending.error = refused
+            pending.is_done = True
+            self._queue.popleft()
+            self._asked -= pending.asked
+            self._owed -= pending.owed
         except ProgramEnded as ended:
             self._give_up(ended)
-            return
         except BaseException as error:
             self._give_up(error)
             raise
-        self._queue.popleft()
-        self._asked -= pending.asked
-        self._owed -= pending.owed
 
     # ---- slots
 
@@ -286,7 +318,7 @@ class Conversation:
             else:
                 self._replies.skip(stream.wanted)
             self._replies.skip(stream.after)
-            end_line(self._replies)
+            self._replies.end_line()
         except BaseException as error:
             self._give_up(error)
             stream.error = stream.error or self.error
@@ -351,7 +383,7 @@ class Conversation:
         if self._stream and not self._stream.error:
             self._stream.error = self.error
         while self._queue:
-            self._queue.popleft().settle(error=self.error)
+            self._queue.popleft().fail(self.error)
         self._asked = self._owed = 0
         self._slot_is_free.notify_all()
 

@@ -7,7 +7,7 @@ import re
 from typing import BinaryIO, Dict, Mapping, Optional, Tuple, cast
 
 from . import elements, keys
-from .conversation import Conversation, Parse, end_line, parse_numbers
+from .conversation import Conversation, Parse, parse_numbers
 from .limits import CHUNK, LAST_MOMENT, NO_EXPIRATION
 from .pipes import Replies
 
@@ -62,12 +62,12 @@ def entry_parse(talk: Conversation, key: bytes, only_main: bool) -> Parse:
     def parse(replies: Replies) -> Entry:
         count, fetched, modified, frecency, expires, flags, element_bytes, length = parse_numbers(replies, b"found", 8)
         found: Dict[str, bytes] = elements.decoded(replies.take(element_bytes))
-        end_line(replies)
+        replies.end_line()
         place = alternative_place(found, length) if only_main else None
         wanted = place[0] if place else length
         if length <= CHUNK:
             body: BinaryIO = io.BytesIO(replies.take(length)[:wanted])
-            end_line(replies)
+            replies.end_line()
         else:
             body = cast(BinaryIO, io.BufferedReader(talk.begin_body(wanted, length - wanted), CHUNK))
         return Entry(keys.decoded(key), count, fetched, modified, frecency, flags, found, wanted, body,

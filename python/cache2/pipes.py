@@ -6,7 +6,7 @@ import fcntl
 import os
 import select
 import time
-from typing import Callable, List, NoReturn, Optional, Union
+from typing import IO, Callable, List, NoReturn, Optional, Union
 
 from .errors import BadReply
 
@@ -15,6 +15,7 @@ Bytes = Union[bytes, bytearray, memoryview]
 READ = 1 << 18
 # No line of a reply is longer.
 LONGEST = 1 << 17
+NEWLINE = ord("\n")
 # What is gathered before it is sent.
 GATHERED = 1 << 16
 # F_SETPIPE_SZ of Linux, which Python 3.9 has no name for, and the size that is asked for.
@@ -47,32 +48,37 @@ class Requests:
         self._pipe = pipe
         self._seconds = seconds
         self._late = late
-        self._gathered = bytearray()
+        self._gathered: List[bytes] = []
+        self._size = 0
         self._is_broken = False
         os.set_blocking(pipe, False)
         widen(pipe)
 
     def gather(self, part: Bytes) -> None:
         """Sends a part now or with a later one. A long part goes out at once and is not copied."""
-        if len(part) > GATHERED:
+        size = len(part)
+        if size > GATHERED:
             self.push()
             self._write(part)
             return
-        self._gathered += part
-        if len(self._gathered) > GATHERED:
+        # Who gave a part that can be changed may do so.
+        self._gathered.append(bytes(part))
+        self._size += size
+        if self._size > GATHERED:
             self.push()
 
     def push(self) -> None:
         """Sends what was gathered."""
         if self._gathered:
-            gathered, self._gathered = self._gathered, bytearray()
+            gathered, self._gathered, self._size = b"".join(self._gathered), [], 0
             self._write(gathered)
 
     def _write(self, part: Bytes) -> None:
-        left = memoryview(part)
+        left: Bytes = part
         while left and not self._is_broken:
             try:
-                left = left[os.write(self._pipe, left):]
+                written = os.write(self._pipe, left)
+                left = b"" if written == len(left) else memoryview(left)[written:]
             except BlockingIOError:
                 wait_for(self._pipe, select.POLLOUT, self._seconds, self._late)
             except OSError as error:
@@ -82,68 +88,82 @@ class Requests:
 
 
 class Replies:
-    """What comes. The end of the bytes is an end of the program, which `ended` tells."""
+    """What comes. The end of the bytes is an end of the program, which `ended` tells.
 
-    def __init__(self, pipe: int, seconds: Optional[float], late: Callable[[], NoReturn],
+    They are read into one buffer, so that a reply takes no memory of its own but that of its lines and bytes.
+    """
+
+    def __init__(self, pipe: IO[bytes], seconds: Optional[float], late: Callable[[], NoReturn],
                  ended: Callable[[], NoReturn]) -> None:
-        self._pipe = pipe
+        self._read_into: Callable[[memoryview], int] = pipe.readinto  # type: ignore[attr-defined]
+        self._pipe = pipe.fileno()
         self._seconds = seconds
         self._late = late
         self._ended = ended
-        self._held = b""
-        self._at = 0
-        widen(pipe)
+        self._buffer = bytearray(READ)
+        self._view = memoryview(self._buffer)
+        # What came and was not taken.
+        self._at = self._end = 0
+        widen(self._pipe)
 
-    def _fill(self) -> bytes:
-        """What comes next, at least a byte."""
+    def _receive(self, view: memoryview) -> int:
+        """Reads what comes next, at most as much as there is room for. Nothing comes only at the end."""
         if self._seconds is not None:
             wait_for(self._pipe, select.POLLIN, self._seconds, self._late)
-        piece = os.read(self._pipe, READ)
-        if not piece:
+        return self._read_into(view)
+
+    def _fill(self) -> None:
+        """Reads on, at least a byte."""
+        if self._at == self._end:
+            self._at = self._end = 0
+        elif self._end == READ:
+            held = self._end - self._at
+            self._view[:held] = self._view[self._at:]
+            self._at, self._end = 0, held
+        count = self._receive(self._view[self._end:])
+        if not count:
             self._ended()
-        return piece
+        self._end += count
 
     def line(self) -> bytes:
         """A line, without its newline."""
-        end = self._held.find(b"\n", self._at)
+        end = self._buffer.find(b"\n", self._at, self._end)
         while end < 0:
-            if len(self._held) - self._at > LONGEST:
+            held = self._end - self._at
+            if held > LONGEST:
                 raise BadReply(None, "a line without an end")
-            self._held = self._held[self._at:] + self._fill()
-            self._at = 0
-            end = self._held.find(b"\n")
-        line = self._held[self._at:end]
+            self._fill()
+            end = self._buffer.find(b"\n", self._at + held, self._end)
+        line = bytes(self._view[self._at:end])
         self._at = end + 1
         return line
 
     def take(self, count: int) -> bytes:
         """So many bytes. Their number is small enough to be held."""
-        end = self._at + count
-        if end > len(self._held):
-            parts: List[bytes] = [self._held[self._at:]]
-            missing = end - len(self._held)
-            while missing > 0:
-                parts.append(self._fill())
-                missing -= len(parts[-1])
-            last = parts[-1]
-            self._held, self._at = last, len(last) + missing
-            parts[-1] = last[:self._at]
-            return b"".join(parts)
-        taken = self._held[self._at:end]
-        self._at = end
+        if count > READ:
+            return b"".join([self.take(min(READ, count - at)) for at in range(0, count, READ)])
+        while self._end - self._at < count:
+            self._fill()
+        taken = bytes(self._view[self._at:self._at + count])
+        self._at += count
         return taken
+
+    def end_line(self) -> None:
+        """Takes the newline that stands after the bytes of a reply."""
+        if self._at == self._end:
+            self._fill()
+        if self._buffer[self._at] != NEWLINE:
+            raise BadReply(None, "no newline where one has to be")
+        self._at += 1
 
     def take_into(self, view: memoryview) -> int:
         """At least a byte and at most as many as there is room for, and how many."""
-        held = len(self._held) - self._at
-        if held:
-            count = min(held, len(view))
-            view[:count] = self._held[self._at:self._at + count]
+        count = min(self._end - self._at, len(view))
+        if count:
+            view[:count] = self._view[self._at:self._at + count]
             self._at += count
             return count
-        if self._seconds is not None:
-            wait_for(self._pipe, select.POLLIN, self._seconds, self._late)
-        count = os.readv(self._pipe, [view])
+        count = self._receive(view)
         if not count:
             self._ended()
         return count
@@ -151,15 +171,15 @@ class Replies:
     def skip(self, count: int) -> None:
         """Drops so many bytes."""
         while count:
-            count -= len(self.take(min(count, READ)))
+            if self._at == self._end:
+                self._fill()
+            dropped = min(count, self._end - self._at)
+            self._at += dropped
+            count -= dropped
 
     def rest(self) -> bytes:
         """What comes up to the end, of which only the beginning is of interest."""
-        found = self._held[self._at:]
-        while True:
-            if self._seconds is not None:
-                wait_for(self._pipe, select.POLLIN, self._seconds, self._late)
-            piece = os.read(self._pipe, READ)
-            if not piece:
-                return found
-            found = (found + piece)[:1000]
+        found = bytes(self._view[self._at:self._end])
+        while count := self._receive(self._view):
+            found = (found + self._view[:count])[:1000]
+        return found

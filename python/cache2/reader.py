@@ -6,7 +6,7 @@ import os
 from typing import Any, Optional
 
 from . import elements
-from .conversation import LONG, Conversation, end_line, parse_numbers, refused
+from .conversation import LONG, Conversation, parse_numbers, refused
 from .errors import Closed, ProgramEnded
 from .limits import CHUNK
 from .pipes import Replies
@@ -43,7 +43,7 @@ class Reader(RawFile):
             got = 0
             while got < count:
                 got += replies.take_into(view[got:count])
-            end_line(replies)
+            replies.end_line()
             return count
         if not view or self._at > LAST:
             return 0
@@ -75,7 +75,7 @@ class Reader(RawFile):
             if words[0] != b"value" or len(words) != 2 or not words[1].isdigit():
                 raise refused(line, replies)
             value = replies.take(int(words[1]))
-            end_line(replies)
+            replies.end_line()
             return value
         found: Optional[bytes] = self._ask(b"element %d %s" % (self._slot, name_bytes), parse=parse, owed=LONG)
         return found

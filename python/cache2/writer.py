@@ -45,17 +45,20 @@ class Writer:
         self._asked: List[Pending] = [self._created]
         cache.writers.add(self)
         cache.newest[key] = self._number
+        commands = [self._set_line(name, value) + b"\n" + value for name, value in pairs.items()]
+        if is_pinned:
+            commands.append(b"pin %d" % self._slot)
         try:
-            for name, value in pairs.items():
-                self._send(b"set %d %d %s" % (self._slot, len(value), name), value)
-            if is_pinned:
-                self._send(b"pin %d" % self._slot)
+            self._asked += talk.send_all(commands)
         except BaseException:
             self.abort()
             raise
 
     def _send(self, line: bytes, data: Optional[Bytes] = None) -> None:
         self._asked.append(self._talk.send(line, data=data))
+
+    def _set_line(self, name: bytes, value: bytes) -> bytes:
+        return b"set %d %d %s" % (self._slot, len(value), name)
 
     def _check(self) -> None:
         """Refuses what comes after the end, and aborts where a command before was refused."""
@@ -83,7 +86,7 @@ class Writer:
             pairs = {**self._pairs, name_bytes: value_bytes}
             elements.check_size(pairs)
             self._pairs = pairs
-            self._send(b"set %d %d %s" % (self._slot, len(value_bytes), name_bytes), value_bytes)
+            self._send(self._set_line(name_bytes, value_bytes), value_bytes)
 
     def pin(self) -> None:
         """Lets `evict` and `clear` leave the entry alone."""

@@ -163,6 +163,29 @@ def test_a_pipeline_of_thousands_of_entries(cache):
             pipeline.get(":6")
 
 
+def test_thousands_of_elements(cache):
+    elements = {str(number): b"%d" % number for number in range(2_000)}
+    cache.put(KEY, b"x" * 5_000)
+    with cache.pipeline() as pipeline:
+        for number in range(3):
+            pipeline.get(KEY)
+            pipeline.put(f":{number}", b"y" * 5_000, elements, is_pinned=True)
+    for number in range(3):
+        entry = cache.get(f":{number}")
+        assert (entry.elements, entry.is_pinned, entry.read()) == (elements, True, b"y" * 5_000)
+
+
+def test_an_element_that_is_refused_among_others(path, other_program):
+    program = other_program("for _ in range(7): ask()\n"
+                            "say(b'ok\\nok\\ntoo large\\nok\\n')\n"
+                            "heard = ask(); say(b'ok\\n'); heard += ask(); say(b'ok\\n'); ask()\n"
+                            "say(b'no\\n' if heard == b'doom :key\\nclose 0\\n' else b'yes\\n'); sys.stdin.read()")
+    with cache2.open(path, program=program) as cache:
+        with pytest.raises(cache2.TooLarge):
+            cache.create(":key", {"a": b"1", "b": b"2", "c": b"3"})
+        assert cache.has(":key") is False
+
+
 # ---- what ends a session is not sent
 
 def test_pieces_and_lines_are_never_too_long(cache):
