@@ -13,7 +13,7 @@ import dataclasses
 import functools
 import hashlib
 import re
-from typing import BinaryIO, Dict, Iterable, List, Mapping, Optional, Tuple, Union
+from typing import BinaryIO, Dict, Iterable, List, Mapping, NamedTuple, Optional, Tuple, Union
 from urllib.parse import quote, quote_plus, urlsplit
 
 from .cache import Cache, length_of
@@ -133,12 +133,22 @@ def text_of(data: Text) -> str:
     return data if isinstance(data, str) else data.decode("latin-1")
 
 
+# The names of headers are few.
+@functools.lru_cache(maxsize=1024)
+def is_token(name: str) -> bool:
+    return TOKEN.fullmatch(name) is not None
+
+
+def breaks_line(text: str) -> bool:
+    return "\n" in text or "\r" in text or "\0" in text
+
+
 def pairs_of(headers: Headers) -> Pairs:
     """Headers as a list of names and values, none of which breaks a line."""
     items = headers.items() if isinstance(headers, Mapping) else headers
     pairs = [(text_of(name), text_of(value).strip(" \t")) for name, value in items]
     for name, value in pairs:
-        if not TOKEN.fullmatch(name) or re.search("[\r\n\0]", value):
+        if not is_token(name) or breaks_line(value):
             raise BadElement(f"this is no header: {name!r}: {value[:100]!r}")
     return pairs
 
@@ -172,11 +182,13 @@ def encoded(text: str) -> bytes:
 
 def vary_elements(pairs: Pairs, request_headers: Headers) -> Dict[str, bytes]:
     """The request's headers by which the response varies. A cookie is not kept, but its hash."""
-    asked = {name.lower(): value for name, value in pairs_of(request_headers)}
+    sent_pairs = pairs_of(request_headers)
     found: Dict[str, bytes] = {}
-    for name, value in pairs:
-        if name.lower() != "vary":
-            continue
+    varies = [value for name, value in pairs if name.lower() == "vary"]
+    if not varies:
+        return found
+    asked = {name.lower(): value for name, value in sent_pairs}
+    for value in varies:
         for token in filter(None, (one.strip() for one in value.split(","))):
             sent = asked.get(token.lower())
             if sent is not None and token != "*":
@@ -196,6 +208,20 @@ def headers_in(data: bytes) -> Pairs:
 
 
 # ---- responses
+
+class StatusLine(NamedTuple):
+    version: str
+    status: int
+    reason: str
+
+
+# The first lines of responses are few.
+@functools.lru_cache(maxsize=256)
+def status_line(line: bytes) -> Optional[StatusLine]:
+    """What the first line of a head says, or None where it is none."""
+    told = STATUS_LINE.fullmatch(line.decode("latin-1"))
+    return StatusLine(told[1], int(told[2]), told[3] or "") if told else None
+
 
 @dataclasses.dataclass
 class Head:
@@ -217,7 +243,7 @@ def made_head(status: int, headers: Headers, *, method: str = "GET", reason: str
               request_headers: Headers = (), security_info: Optional[Text] = None,
               elements: Optional[Mapping[str, Text]] = None) -> Head:
     """The head of a response, of which `store` says what the words mean."""
-    if not 100 <= status <= 999 or re.search("[\r\n\0]", reason + version + method):
+    if not 100 <= status <= 999 or breaks_line(reason + version + method):
         raise BadElement(f"this is no response: {version!r} {status} {reason!r} to {method!r}")
     pairs = pairs_of(headers)
     made: Dict[str, Union[str, bytes]] = dict(elements or {})
@@ -265,15 +291,14 @@ def store_file(cache: Cache, name: Key, head: Head, file: BinaryIO) -> None:
 
 def response_of(entry: Entry) -> Response:
     """The response in an entry."""
-    told = entry.elements.get(HEAD, b"").decode("latin-1").partition("\r\n")
-    line = STATUS_LINE.fullmatch(told[0])
+    first, _, others = entry.elements.get(HEAD, b"").partition(b"\r\n")
+    line = status_line(first)
     if not line:
         entry.close()
         raise NotAResponse(f"the entry of {entry.key} has no response in it")
-    original = entry.elements.get(ORIGINAL)
-    pairs = headers_in(told[2].encode("latin-1") if original is None else original)
+    pairs = headers_in(entry.elements.get(ORIGINAL, others))
     method = entry.elements.get(METHOD, b"GET").decode("latin-1")
-    return Response(int(line[2]), line[3] or "", line[1], pairs, method, entry.length, entry.body, entry)
+    return Response(line.status, line.reason, line.version, pairs, method, entry.length, entry.body, entry)
 
 
 def read(cache: Cache, url: str, *, key: Optional[Key] = None) -> Response:

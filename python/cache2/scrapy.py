@@ -15,10 +15,9 @@ import logging
 import os
 import time
 from http.client import responses as reasons
-from typing import Any, Dict, Optional, Set
+from typing import Any, Dict, List, Optional, Set
 
 from scrapy.exceptions import IgnoreRequest
-from scrapy.http import Headers
 from scrapy.responsetypes import responsetypes
 from scrapy.utils.project import data_path
 from scrapy.utils.request import RequestFingerprinter
@@ -107,8 +106,9 @@ class Storage:
         except Cache2Error as error:
             return self._missed(request, error)
         url = response.entry.elements.get(ADDRESS, b"").decode() or request.url
-        headers = Headers(headers_of(response))
-        kind = responsetypes.from_args(headers=headers, url=url, body=body)
+        headers = headers_of(response)
+        last = {name: values[-1] for name, values in headers.items()}
+        kind = responsetypes.from_args(headers=last, url=url, body=body)
         return kind(url=url, headers=headers, status=response.status, body=body)
 
     def _missed(self, request: Any, error: Cache2Error) -> None:
@@ -141,9 +141,9 @@ class Storage:
         self._settle(self._waiting)
 
 
-def headers_of(response: http.Response) -> Dict[bytes, Any]:
-    """Headers as Scrapy has them: the values of each name."""
-    found: Dict[bytes, Any] = {}
+def headers_of(response: http.Response) -> Dict[bytes, List[bytes]]:
+    """Headers as Scrapy has them: the values of each name, whose words begin with capitals."""
+    found: Dict[bytes, List[bytes]] = {}
     for name, value in response.headers:
-        found.setdefault(name.encode("latin-1"), []).append(value.encode("latin-1"))
+        found.setdefault(name.encode("latin-1").title(), []).append(value.encode("latin-1"))
     return found
