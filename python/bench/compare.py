@@ -8,6 +8,7 @@ compare.py kills COUNT [NAME]         each, or that one, is killed amid storing,
 
 The program is found as by the client. Each line is a row of a table; of the rounds the least counts.
 """
+import compileall
 import hashlib
 import importlib
 import json
@@ -25,7 +26,6 @@ import warnings
 HERE = os.path.dirname(os.path.realpath(__file__))
 sys.path[:0] = [os.path.dirname(HERE)]
 sys.dont_write_bytecode = True
-ENVIRONMENT = {**os.environ, "PYTHONPATH": os.path.dirname(HERE), "PYTHONDONTWRITEBYTECODE": "1"}
 SCRAPY = "scrapy.extensions.httpcache"
 STORAGES = {
     "FilesystemCacheStorage": [f"HTTPCACHE_STORAGE={SCRAPY}.FilesystemCacheStorage"],
@@ -58,12 +58,20 @@ class Server:
         self.process.stdout.close()
 
 
-def timed(words):
+def installed(room):
+    """The environment of a process that finds the package as one that is installed: its modules are compiled."""
+    folder = os.path.join(room, "package")
+    shutil.copytree(os.path.join(os.path.dirname(HERE), "cache2"), os.path.join(folder, "cache2"))
+    compileall.compile_dir(folder, quiet=1)
+    return {**os.environ, "PYTHONPATH": folder, "PYTHONDONTWRITEBYTECODE": "1"}
+
+
+def timed(words, environment):
     """The seconds of a process, those of the processor for it and what it started, and those in which the process could
     have gone on and had no processor.
     """
     begun = time.monotonic()
-    child = subprocess.Popen(words, env=ENVIRONMENT)
+    child = subprocess.Popen(words, env=environment)
     # It is still there, so that the system tells of it.
     os.waitid(os.P_PID, child.pid, os.WEXITED | os.WNOWAIT)
     ended = time.monotonic()
@@ -88,7 +96,7 @@ def served(log):
     return {words[0]: words[1] for words in lines}, sum(words[2] == "cached" for words in lines)
 
 
-def crawl_twice(server, pages, room, words):
+def crawl_twice(server, pages, room, words, environment):
     """The times of two crawls, and what the cache takes."""
     from small_site import digests
     shutil.rmtree(room, ignore_errors=True)
@@ -96,7 +104,7 @@ def crawl_twice(server, pages, room, words):
     expected, log, times = digests(pages), os.path.join(room, "log"), []
     for number in range(2):
         before = server.asked()
-        times.append(timed([*words(server.url, os.path.join(room, "cache"), log)]))
+        times.append(timed(words(server.url, os.path.join(room, "cache"), log), environment))
         found, cached = served(log)
         os.remove(log)
         assert found == expected, "another body"
@@ -118,9 +126,10 @@ def compare_crawls(names, words, pages, rounds, only=""):
     pages, rounds = int(pages), int(rounds)
     found = {name: [] for name in names if only in name}
     with Server(pages) as server, tempfile.TemporaryDirectory() as room:
+        environment = installed(room)
         for _ in range(rounds):
             for name in found:
-                found[name].append(crawl_twice(server, pages, os.path.join(room, "one"), words(name)))
+                found[name].append(crawl_twice(server, pages, os.path.join(room, "one"), words(name), environment))
     print(f"load {os.getloadavg()[0]:.1f}, least of {rounds} rounds")
     for name, each in found.items():
         columns = ["{:.1f} ({:.1f}, {:.1f})".format(*(min(one[at][what] for one in each) for what in range(3)))
