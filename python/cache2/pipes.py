@@ -61,7 +61,7 @@ class Requests:
             self.push()
             self._write(part)
             return
-        # Who gave a part that can be changed may do so.
+        # A copy of what its owner may change afterwards.
         self._gathered.append(bytes(part))
         self._size += size
         if self._size > GATHERED:

@@ -1,14 +1,16 @@
 """What is easily got wrong where a program is talked to over two pipes."""
 import io
 import os
+import random
 import signal
 import subprocess
 import sys
+import threading
 import time
 
 import cache2
 import pytest
-from cache2 import conversation, limits
+from cache2 import conversation, limits, pipes
 from cache2.limits import LAST_MOMENT, MAX_BODY, MAX_ELEMENTS
 
 KEY = ":https://example.com/"
@@ -184,6 +186,35 @@ def test_an_element_that_is_refused_among_others(path, other_program):
         with pytest.raises(cache2.TooLarge):
             cache.create(":key", {"a": b"1", "b": b"2", "c": b"3"})
         assert cache.has(":key") is False
+
+
+@pytest.mark.parametrize("piece", [1 << 10, 1 << 17, 1 << 20])
+def test_replies_that_come_in_pieces(piece):
+    chance = random.Random(piece)
+    parts = [chance.randbytes(chance.choice((0, 3, 5_000, 100_000, limits.CHUNK, 300_000))).replace(b"\n", b"x")
+             for _ in range(60)]
+    data = b"".join(part + b"\n" for part in parts)
+    read, write = os.pipe()
+
+    def send():
+        with open(write, "wb", buffering=0) as pipe:
+            for at in range(0, len(data), piece):
+                pipe.write(data[at:at + piece])
+    sender = threading.Thread(target=send)
+    sender.start()
+    with open(read, "rb", buffering=0) as pipe:
+        replies = pipes.Replies(pipe, 30.0, lambda: pytest.fail("late"), lambda: pytest.fail("ended"))
+        for number, part in enumerate(parts):
+            if number % 3 == 0 and len(part) <= pipes.LONGEST:
+                assert replies.line() == part
+                continue
+            if number % 3 == 1:
+                replies.skip(len(part))
+            else:
+                assert replies.take(len(part)) == part
+            replies.end_line()
+        assert replies.rest() == b""
+    sender.join()
 
 
 # ---- what ends a session is not sent
