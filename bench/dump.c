@@ -54,9 +54,7 @@ int main(int argc, char **argv)
     if (argc != 4 || strcmp(argv[3], "dump") != 0)
         return 2;
     setvbuf(stdout, NULL, _IOFBF, 65536);
-    read_index(argv[1]);
-    apply_journal(argv[1]);
-    change(argv[1]);
+    use_index(argv[1]);
     list(argv[1]);
     say("C2DUMP01", 8);
     for (size_t i = 0; i < listed; i++)

@@ -94,10 +94,7 @@ static void apply_journal(const char *dir)
     size_t size, n;
     uint8_t *file = read_file(at(path, dir, "index.log"), &size);
 
-    if (file == NULL)
-        exit(3);
-    n = records_in(file, size);
-    if (repeats(file, n))
+    if (file == NULL || repeats(file, n = records_in(file, size)))
         exit(3);
     for (size_t i = 0; i < n; i++) {
         struct record r = read_record(file + RECORD * i);
@@ -106,20 +103,34 @@ static void apply_journal(const char *dir)
     free(file);
 }
 
+/* The index is marked as in use or not, and synced. */
+static void mark_index(const char *dir, uint8_t is_in_use)
+{
+    const uint8_t flag[4] = {0, 0, 0, is_in_use};
+    int index = open(at(path, dir, "index"), O_RDWR);
+
+    if (index < 0)
+        exit(6);
+    write_at(index, flag, 4, 8);
+    sync_all(dir, index);
+}
+
 /* The journal is set aside, the index marked as in use, both synced, and the journal removed. */
 static void change(const char *dir)
 {
-    static const uint8_t in_use[4] = {0, 0, 0, 1};
-
     move(at(path, dir, "index.log"), TOP, at(other, dir, "index.tmp"), TOP);
-    int index = open(at(path, dir, "index"), O_RDWR);
-    if (index < 0)
-        exit(6);
-    write_at(index, in_use, 4, 8);
-    sync_all(dir, index);
+    mark_index(dir, 1);
     if (unlink(other) != 0)
         exit(6);
     has_changed[TOP] = 1;
+}
+
+/* Takes the index of a directory that was closed clean into use. */
+static void use_index(const char *dir)
+{
+    read_index(dir);
+    apply_journal(dir);
+    change(dir);
 }
 
 static void put_bytes(uint8_t *b, const struct record *r)
@@ -146,21 +157,34 @@ static uint8_t *print_records(const struct record *some, size_t n, size_t front,
     return file;
 }
 
+static void put_header(uint8_t *bytes, uint32_t now, int is_in_use)
+{
+    put_big(bytes, 10, 4);
+    put_big(bytes + 4, now, 4);
+    put_big(bytes + 8, (uint64_t)is_in_use, 4);
+}
+
+/* The bytes of an index with these records, in the order of their names. */
+static uint8_t *print_index(const struct record *some, size_t n, uint32_t now, int is_in_use, size_t *size)
+{
+    struct record *sorted = malloc(n * sizeof *sorted + 1);
+
+    if (sorted == NULL)
+        exit(1);
+    memcpy(sorted, some, n * sizeof *sorted);
+    qsort(sorted, n, sizeof *sorted, by_name);
+    uint8_t *bytes = print_records(sorted, n, HEADER, size);
+    free(sorted);
+    put_header(bytes, now, is_in_use);
+    return bytes;
+}
+
 /* The index is written whole, and takes its name after a sync. */
 static void write_index(const char *dir, uint32_t now)
 {
     size_t size;
+    uint8_t *bytes = print_index(records, count, now, 1, &size);
 
-    struct record *sorted = malloc(count * sizeof *sorted + 1);
-    if (sorted == NULL)
-        exit(1);
-    memcpy(sorted, records, count * sizeof *sorted);
-    qsort(sorted, count, sizeof *sorted, by_name);
-    uint8_t *bytes = print_records(sorted, count, HEADER, &size);
-    free(sorted);
-    put_big(bytes, 10, 4);
-    put_big(bytes + 4, now, 4);
-    put_big(bytes + 8, 1, 4);
     int file = make(at(path, dir, "index.tmp"), TOP);
     write_at(file, bytes, size, 0);
     free(bytes);
@@ -171,7 +195,6 @@ static void write_index(const char *dir, uint32_t now)
 /* The journal is written and synced, and then the flag of the index is cleared. */
 static void close_index(const char *dir, const struct record *changed, size_t n)
 {
-    static const uint8_t clean[4] = {0, 0, 0, 0};
     size_t size;
     uint8_t *bytes = print_records(changed, n, 0, &size);
 
@@ -179,9 +202,5 @@ static void close_index(const char *dir, const struct record *changed, size_t n)
     write_at(log, bytes, size, 0);
     free(bytes);
     sync_all(dir, log);
-    int index = open(at(path, dir, "index"), O_RDWR);
-    if (index < 0)
-        exit(6);
-    write_at(index, clean, 4, 8);
-    sync_all(dir, index);
+    mark_index(dir, 0);
 }

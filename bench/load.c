@@ -106,9 +106,7 @@ int main(int argc, char **argv)
     if (argc != 4 || strcmp(argv[3], "load") != 0)
         return 2;
     setvbuf(stdin, NULL, _IOFBF, 65536);
-    read_index(argv[1]);
-    apply_journal(argv[1]);
-    change(argv[1]);
+    use_index(argv[1]);
     take(head, 8);
     if (memcmp(head, "C2DUMP01", 8) != 0)
         return 3;

@@ -28,12 +28,12 @@ def run(command, source="/dev/null", is_piped=False):
     return usage.ru_utime + usage.ru_stime
 
 
-def in_turn(runs, each):
-    """The seconds of each of these, which run in turn, so many times."""
+def in_turn(runs, each, once):
+    """What `once` gives of each of these by its name, which come in turn, so many times."""
     times = {name: [] for name in each}
     for _ in range(runs):
-        for name, once in each.items():
-            times[name].append(once())
+        for name, one in each.items():
+            times[name].append(once(one))
     return times
 
 

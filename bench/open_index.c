@@ -5,9 +5,10 @@
 
 static void write_file(const char *name, const uint8_t *bytes, size_t size)
 {
-    int file = open(name, O_RDWR | O_CREAT | O_TRUNC, 0600);
+    int file = make(name, TOP);
 
-    if (file < 0 || write(file, bytes, size) != (ssize_t)size || close(file) != 0)
+    write_at(file, bytes, size, 0);
+    if (close(file) != 0)
         exit(6);
 }
 
@@ -16,20 +17,17 @@ static int make_index(const char *dir, size_t n, int sorted)
 {
     size_t size = HEADER + RECORD * n + 4;
     uint8_t *file = calloc(size, 1), log[4];
-    uint32_t state = 1;
 
-    for (size_t i = HEADER; i < size - 4; i++) {
-        state = state * 1664525u + 1013904223u;
-        file[i] = (uint8_t)(state >> 24);
-    }
+    if (file == NULL)
+        return 1;
+    fill_bytes(file + HEADER, RECORD * n);
     for (size_t i = 0; i < n; i++) {
         file[HEADER + RECORD * i + 37] = 0x80;
         file[HEADER + RECORD * i + 38] = 0;
     }
     if (sorted)
         qsort(file + HEADER, n, RECORD, by_name);
-    put_big(file, 10, 4);
-    put_big(file + 4, 1000, 4);
+    put_header(file, 1000, 0);
     put_big(file + size - 4, hash(file + HEADER, (uint32_t)(RECORD * n)), 4);
     write_file(at(path, dir, "index"), file, size);
     put_big(log, hash(log, 0), 4);
@@ -47,9 +45,7 @@ int main(int argc, char **argv)
         return make_index(argv[1], strtoul(argv[2], NULL, 10), strcmp(argv[3], "sorted") == 0);
     if (stat(at(path, argv[1], "index.tmp"), &found) == 0)
         return 3;
-    read_index(argv[1]);
-    apply_journal(argv[1]);
-    change(argv[1]);
+    use_index(argv[1]);
     say_records();
     return 0;
 }

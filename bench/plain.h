@@ -14,6 +14,21 @@ static uint32_t big(const uint8_t *b)
     return (uint32_t)b[0] << 24 | (uint32_t)b[1] << 16 | (uint32_t)b[2] << 8 | b[3];
 }
 
+static void put_big(uint8_t *b, uint64_t n, int bytes)
+{
+    for (int i = 0; i < bytes; i++)
+        b[i] = (uint8_t)(n >> (8 * (bytes - 1 - i)));
+}
+
+static uint64_t get_big(const uint8_t *b, int bytes)
+{
+    uint64_t n = 0;
+
+    for (int i = 0; i < bytes; i++)
+        n = n << 8 | b[i];
+    return n;
+}
+
 static uint32_t rotate(uint32_t x, int n)
 {
     return x << n | x >> (32 - n);
@@ -55,6 +70,7 @@ static void sha1(const uint8_t *bytes, size_t n, uint32_t h[5])
         sha1_block(h, last + i);
 }
 
+/* By `|`, since gcc makes one load of this, and four of the sum that Jenkins wrote: the harder rival. */
 static uint32_t word(const uint8_t *k)
 {
     return k[0] | (uint32_t)k[1] << 8 | (uint32_t)k[2] << 16 | (uint32_t)k[3] << 24;
@@ -94,4 +110,15 @@ static void path_of(char *path, size_t room, const char *dir, const char *key)
 
     sha1((const uint8_t *)key, strlen(key), h);
     snprintf(path, room, "%s/entries/%08X%08X%08X%08X%08X", dir, h[0], h[1], h[2], h[3], h[4]);
+}
+
+/* Bytes by a cheap generator. */
+static void fill_bytes(uint8_t *bytes, size_t size)
+{
+    uint32_t state = 1;
+
+    for (size_t i = 0; i < size; i++) {
+        state = state * 1664525u + 1013904223u;
+        bytes[i] = (uint8_t)(state >> 24);
+    }
 }

@@ -21,12 +21,11 @@ PROGRAMS = {
 }
 
 
-def proved(words, room):
-    """A copy of the program of the first word, or of the proved one, which no build replaces while it is measured."""
-    if not words:
+def proved(program, room):
+    """A copy of the program, or of the proved one, which no build replaces while it is measured."""
+    if not program:
         subprocess.run([os.path.join(TOP, "cache2"), "--proved"], check=True)
-    made = words[0] if words else os.path.join(TOP, "crates/cache2/out/cache2")
-    return shutil.copy(made, os.path.join(room, "cache2"))
+    return shutil.copy(program or os.path.join(TOP, "crates/cache2/out/cache2"), os.path.join(room, "cache2"))
 
 
 def build(name, room):

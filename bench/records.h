@@ -26,21 +26,6 @@ static size_t slot_count;
 static uint8_t lines[65536];
 static size_t held;
 
-static void put_big(uint8_t *b, uint64_t n, int bytes)
-{
-    for (int i = 0; i < bytes; i++)
-        b[i] = (uint8_t)(n >> (8 * (bytes - 1 - i)));
-}
-
-static uint64_t get_big(const uint8_t *b, int bytes)
-{
-    uint64_t n = 0;
-
-    for (int i = 0; i < bytes; i++)
-        n = n << 8 | b[i];
-    return n;
-}
-
 static int by_name(const void *a, const void *b)
 {
     return memcmp(a, b, 20);

@@ -5,10 +5,13 @@ files.
 """
 import os
 import random
-import shutil
 import subprocess
+import sys
 from typing import NamedTuple
 
+from measuring import copy_of, in_turn, peak, run, told_by
+
+HERE = os.path.dirname(os.path.realpath(__file__))
 ENTRIES = 2000
 RECORDS = 100_000
 # So many entries of the folder with all the records have a file. Where 300 are new, the index is written whole.
@@ -45,7 +48,7 @@ class Work(NamedTuple):
     memory: dict = {}
     # The word of a program that does so many rounds, and measures nothing else.
     rounds: int = 0
-    # The plain program does not look at the index.
+    # The plain program does not look at the index, so that only its reply is compared.
     is_bare: bool = False
     # More words with which what is done is printed, and how many lines that is.
     shown: tuple = ()
@@ -55,15 +58,20 @@ class Work(NamedTuple):
 UNITS = {"KiB": 1024, "bytes a record": RECORDS}
 
 
+def differ(work):
+    print(f"{work.name}, {work.size}: the programs differ")
+    sys.exit(2)
+
+
 class Bench:
     """The programs, and a folder in memory for all that they work on."""
 
-    def __init__(self, here, room, program):
-        self.here, self.room, self.cache2 = here, room, program
+    def __init__(self, room, program):
+        self.room, self.cache2 = room, program
 
     def at(self, name):
         """A place there, or the plain program of this name."""
-        path, source = os.path.join(self.room, name), os.path.join(self.here, name + ".c")
+        path, source = os.path.join(self.room, name), os.path.join(HERE, name + ".c")
         if os.path.exists(source) and not os.path.exists(path):
             subprocess.run(["gcc", "-O2", "-Wall", "-Wno-unused-function", "-o", path, source], check=True)
         return path
@@ -72,6 +80,36 @@ class Bench:
         with open(self.at(name), "wb") as file:
             file.write(data)
         return self.at(name)
+
+    # ---- what a work costs
+
+    def fresh(self, work):
+        """The folder of the next run."""
+        return copy_of(work.folder, self.at("one")) if work.changes else work.folder
+
+    def times(self, work, commands, runs):
+        """The processor seconds of each of these commands, by their names: a program, and words after those of the
+        work."""
+        return in_turn(runs, commands, lambda one: run([one[0], self.fresh(work), *work.words, *one[1:]], work.source,
+                                                       work.is_piped))
+
+    def held(self, work):
+        """The peak of the memory above that of a run without words, in bytes."""
+        return (peak(self.at("peak"), [self.cache2, self.fresh(work), *work.words], work.source)
+                - peak(self.at("peak"), [self.cache2]))
+
+    def check_same(self, work, is_watched=False):
+        """Both programs print the same, leave the same files in a copy of the folder, and make the same calls, where
+        these are watched."""
+        one, other = (told_by(program, (*work.words, *work.shown), copy_of(work.folder, self.at("one")), work.source,
+                              self.at("calls") if is_watched else None)
+                      for program in (self.cache2, self.at(work.plain)))
+        if one[0] != other[0] or (one != other and not work.is_bare):
+            differ(work)
+        if work.lines is not None and one[0].count(b"\n") != work.lines:
+            differ(work)
+
+    # ---- what it begins with
 
     def records(self, count, order):
         """A closed cache whose index has so many records, of which no file stands."""
@@ -82,10 +120,11 @@ class Bench:
             subprocess.run([self.at("open_index"), folder, str(count), order], check=True)
         return folder
 
-    def perform(self, folder, script):
-        """The proved program performs a script, so that the folder is then that of a closed cache."""
-        with open(script, "rb") as source:
-            subprocess.run([self.cache2, folder, "1000", "run"], stdin=source, stdout=subprocess.DEVNULL, check=True)
+    def perform(self, name, script):
+        """The folder of this name, a closed cache, in which the program performed a script."""
+        folder = self.at(name)
+        if not os.path.exists(folder):
+            run([self.cache2, folder, "1000", "run"], script)
         return folder
 
     def script(self, count, size, *last, keys=(KEY,)):
@@ -107,24 +146,18 @@ class Bench:
 
     def entries(self, count):
         """A closed cache with so many entries, each with its file."""
-        folder = self.at(f"entries-{count}")
-        if not os.path.exists(folder):
-            self.perform(folder, self.script(count, BODY))
-        return folder
+        return self.perform(f"entries-{count}", self.script(count, BODY))
 
     def origins(self, count):
         """The same, where every other entry is of the origin `^a`."""
-        folder = self.at(f"origins-{count}")
-        if not os.path.exists(folder):
-            self.perform(folder, self.script(count, BODY, keys=(KEY, KEY_OF_ORIGIN)))
-        return folder
+        return self.perform(f"origins-{count}", self.script(count, BODY, keys=(KEY, KEY_OF_ORIGIN)))
 
     def trusted(self, count):
         """A closed cache whose trusted index has so many records, and files of some of them."""
         folder = self.at(f"trusted-{count}")
         if not os.path.exists(folder):
             os.rename(self.records(count - WITH_FILES, "sorted"), folder)
-            self.perform(folder, self.script(WITH_FILES, 5))
+            run([self.cache2, folder, "1000", "run"], self.script(WITH_FILES, 5))
         return folder
 
     def dump(self, folder):
@@ -136,7 +169,7 @@ class Bench:
 
     def limit(self, folder, count):
         """The KB to which all records have to be evicted so that so many of them go."""
-        listed = subprocess.run([self.cache2, folder, "1001", "list"], stdout=subprocess.PIPE, check=True).stdout
+        listed = subprocess.check_output([self.cache2, folder, "1001", "list"])
         rows = [line.split() for line in listed.splitlines()[1:]]
         rows.sort(key=lambda row: (int(row[1]) or NO_FRECENCY, row[0]))
         return sum(int(row[-1], 16) & KB_MASK for row in rows[count:])
@@ -162,10 +195,10 @@ def of_goals(bench):
         Work("script of new entries, flush", files, bench.records(0, "sorted"), ("1000", "run"), "script", 1.15, script,
              True),
         Work("rebuild", files, entries, ("1001", "rebuild"), "session", 1.2),
-        Work("clear half", files, bench.origins(ENTRIES), ("1001", "clear", "^a"), "clear", 1.5, changes=True),
+        Work("clear half", files, bench.origins(ENTRIES), ("1001", "clear", "^a"), "session", 1.5, changes=True),
         Work("dump", files, entries, ("1001", "dump"), "dump", 1.3, is_piped=True),
         Work("load", files, bench.records(0, "sorted"), ("1000", "load"), "load", 1.5, bench.dump(entries), True),
-        Work("putalt of 4 MiB", "after 1 MiB", bench.records(0, "sorted"), ("1000", "run"), "putalt", 1.3,
+        Work("putalt of 4 MiB", "after 1 MiB", bench.records(0, "sorted"), ("1000", "run"), "script", 1.3,
              bench.putalt(), True),
     ]
 
@@ -201,16 +234,14 @@ def of_script(bench):
     """A third row is the plain program that writes each file under its name, and first syncs it in the `flush`."""
     script = bench.script(ENTRIES, BODY, b"flush")
     return [Work("script of new entries, flush", f"{ENTRIES:,} files", bench.records(0, "sorted"), ("1000", "run"),
-                 "script", 1.15,
-                 script, True, runs=40, beside=("at-once",))]
+                 "script", 1.15, script, True, runs=40, beside=("at-once",))]
 
 
 def of_body(bench):
     """A body that is as long as one may be."""
     body, key, size = bench.write("body", random.randbytes(LONGEST)), (KEY % 7).decode(), f"{LONGEST:,} bytes"
     folder = bench.at("long")
-    with open(body, "rb") as source:
-        subprocess.run([bench.cache2, folder, "1000", "put", key], stdin=source, stdout=subprocess.DEVNULL, check=True)
+    run([bench.cache2, folder, "1000", "put", key], body)
     most = {"KiB": 4096}
     return [Work("put", size, bench.records(0, "sorted"), ("1000", "put", key), "session", 1.2, body, True, runs=25,
                  memory=most),
@@ -219,12 +250,12 @@ def of_body(bench):
 
 def of_get(bench):
     """A full chunk as a whole run, and many in one run."""
-    one, folder = (bench.perform(bench.at(f"chunks-{count}"), bench.script(count, CHUNK)) for count in (1, 100))
+    one, folder = (bench.perform(f"chunks-{count}", bench.script(count, CHUNK)) for count in (1, 100))
     gets = bench.write("gets", b"".join(b"get " + KEY % random.randrange(100) + b"\n" for _ in range(2000)))
-    return [Work("get of a full chunk", "one entry", one, ("1000", "get", (KEY % 0).decode()), "session", 1.3,
-                 runs=600),
-            Work("gets of full chunks in one run", "2,000 of 100", folder, ("1000", "run"), "get", 1.15, gets, runs=12,
-                 is_bare=True)]
+    return [
+        Work("get of a full chunk", "one entry", one, ("1000", "get", (KEY % 0).decode()), "session", 1.3, runs=600),
+        Work("gets of full chunks in one run", "2,000 of 100", folder, ("1000", "run"), "get", 1.15, gets, runs=12,
+             is_bare=True)]
 
 
 def of_reads(bench):
@@ -237,7 +268,7 @@ def of_reads(bench):
         made += b"close 0\nopen 1 %s\n" % (KEY % 0)
         reads = b"".join(b"read 1 %d 4096\n" % random.randrange((mib << 20) - 4096) for _ in range(count))
         for name, script, limit, runs in ((f"{count:,} reads", made + reads, goal, 12), ("no reads", made, None, 20)):
-            works.append(Work(name, f"{mib} MiB", bench.records(0, "sorted"), ("1000", "run"), "reads", limit,
+            works.append(Work(name, f"{mib} MiB", bench.records(0, "sorted"), ("1000", "run"), "script", limit,
                               bench.write(f"reads-{mib}-{len(script)}", script), True, runs=runs))
     return works
 
@@ -254,8 +285,7 @@ def of_session(bench):
         Work("rebuild", files, entries, ("1001", "rebuild"), "session", 1.2, runs=80),
         Work("evict half", files, entries, evict, "session", 1.2, changes=True),
         *(Work("evict all, no files", f"{count:,} records", bench.records(count, "shuffled"), ("1001", "evict", "0"),
-               None, changes=True)
-          for count in (RECORDS // 10, RECORDS)),
+               None, changes=True) for count in (RECORDS // 10, RECORDS)),
     ]
 
 
@@ -267,19 +297,16 @@ def of_rounds(name, size, goal):
 def of_open_index(bench):
     """By the proved crates alone, whatever the order in the file."""
     return [Work("open_index", f"{RECORDS:,} records, {order}", bench.records(RECORDS, order), (), "open_index", 1.5,
-                 changes=True,
-                 memory={"bytes a record": 110}) for order in ("sorted", "shuffled")]
+                 changes=True, memory={"bytes a record": 110}) for order in ("sorted", "shuffled")]
 
 
 def of_update(bench):
     """By the proved crates alone. The files are made by the plain program, whose files are those of the proved one."""
-    folder = shutil.copytree(bench.records(0, "sorted"), bench.at("updated"))
-    with open(bench.script(ENTRIES, BODY), "rb") as source:
-        subprocess.run([bench.at("script"), folder, "1000", "run"], stdin=source, stdout=subprocess.DEVNULL, check=True)
+    folder = copy_of(bench.records(0, "sorted"), bench.at("updated"))
+    run([bench.at("script"), folder, "1000", "run"], bench.script(ENTRIES, BODY))
     return [Work("update", f"{ENTRIES:,} files", folder, (), "update", 1.5, runs=40, shown=("list",), lines=ENTRIES)]
 
 
 CLOSER = {"hash": of_rounds("hash", "50,000,000 bytes", 1.2), "index": of_rounds("index", f"{RECORDS:,} records", 1.5),
           "open_index": of_open_index, "update": of_update, "script": of_script, "body": of_body, "get": of_get,
-          "reads": of_reads,
-          "session": of_session}
+          "reads": of_reads, "session": of_session}
