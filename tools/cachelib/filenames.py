@@ -17,11 +17,9 @@ DEVICE = re.compile(r"(con|prn|aux|nul|com[0-9]|lpt[0-9]|conin\$|conout\$)(\.|$)
 # What Python does not know, or names by another end than people do.
 ENDS = {
     "application/javascript": ".js", "application/x-javascript": ".js", "application/wasm": ".wasm",
-    "application/xhtml+xml": ".xhtml",
-    "audio/webm": ".weba", "font/otf": ".otf", "font/ttf": ".ttf", "font/woff": ".woff", "font/woff2": ".woff2",
-    "image/avif": ".avif",
-    "image/jpeg": ".jpg", "image/vnd.microsoft.icon": ".ico", "image/webp": ".webp", "image/x-icon": ".ico",
-    "text/html": ".html",
+    "application/xhtml+xml": ".xhtml", "audio/webm": ".weba", "font/otf": ".otf", "font/ttf": ".ttf",
+    "font/woff": ".woff", "font/woff2": ".woff2", "image/avif": ".avif", "image/jpeg": ".jpg",
+    "image/vnd.microsoft.icon": ".ico", "image/webp": ".webp", "image/x-icon": ".ico", "text/html": ".html",
     "text/javascript": ".js", "text/plain": ".txt", "text/xml": ".xml", "video/mp4": ".mp4", "video/webm": ".webm",
 }
 # Ends that say the same, of which the one in the address stays.

@@ -20,9 +20,8 @@ def time_of(seconds, form="%Y-%m-%dT%H:%M:%SZ"):
 
 def cells(listed):
     """The texts of an entry in the order of HEADS."""
-    return (str(listed.size), listed.type, str(listed.status or ""), time_of(listed.used), listed.url,
-            listed.partition, listed.name,
-            shown(listed.key))
+    return (str(listed.size), listed.type, str(listed.status or ""), time_of(listed.used), listed.url, listed.partition,
+            listed.name, shown(listed.key))
 
 
 def as_tabs(listed):

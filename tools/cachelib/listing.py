@@ -21,9 +21,8 @@ class Listed:
     """What is listed of an entry. `size` counts its main body, and `alternative` what comes after that, such as
     compiled code.
     """
-    __slots__ = ("name", "key", "version", "url", "partition", "host", "size", "alternative", "kind", "type",
-                 "status", "method",
-                 "encoding", "uses", "used", "changed", "expires", "is_pinned")
+    __slots__ = ("name", "key", "version", "url", "partition", "host", "size", "alternative", "kind", "type", "status",
+                 "method", "encoding", "uses", "used", "changed", "expires", "is_pinned")
     name: str
     key: bytes
     version: int

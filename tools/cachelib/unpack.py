@@ -87,8 +87,7 @@ def brotli(pieces):
             while result == has_room:
                 room, to = ctypes.c_size_t(PIECE), ctypes.c_void_p(ctypes.addressof(out))
                 result = lib.BrotliDecoderDecompressStream(state, ctypes.byref(left), ctypes.byref(at),
-                                                           ctypes.byref(room),
-                                                           ctypes.byref(to), None)
+                                                           ctypes.byref(room), ctypes.byref(to), None)
                 yield out.raw[:PIECE - room.value]
             if result != needs_more:
                 break

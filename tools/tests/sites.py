@@ -57,9 +57,8 @@ def apart_entries(now):
 
 
 SITES = ("www.example.org", "images.example.org", "news.example.com", "cdn.example.net", "fonts.example.net",
-         "shop.example.com",
-         "maps.example.org", "video.example.net", "wiki.example.org", "blog.example.com", "docs.example.net",
-         "music.example.org")
+         "shop.example.com", "maps.example.org", "video.example.net", "wiki.example.org", "blog.example.com",
+         "docs.example.net", "music.example.org")
 KINDS = (("text/html", "", 9000), ("text/css", ".css", 6000), ("text/javascript", ".js", 20000),
          ("image/jpeg", ".jpg", 40000),
          ("image/webp", ".webp", 26000), ("image/png", ".png", 12000), ("font/woff2", ".woff2", 18000),

@@ -42,9 +42,8 @@ def test_names_and_bodies(folder, to):
     folder.add(b":about:what", b"?")
     assert extracted(folder, to) == {
         "www.example.com/css_style_v_3.css": b"body {}", "example.com/index.html": b"<p>",
-        "example.com/pear.jpeg": b"jpeg",
-        "example.com/pear.php_id_3.png": b"png", "example.com/setup.exe": b"MZ", "example.com/api.json": b"{}",
-        "no-site/what.bin": b"?"}
+        "example.com/pear.jpeg": b"jpeg", "example.com/pear.php_id_3.png": b"png", "example.com/setup.exe": b"MZ",
+        "example.com/api.json": b"{}", "no-site/what.bin": b"?"}
 
 
 def test_rights(folder, to):
@@ -172,19 +171,14 @@ def test_a_body_that_unpacks_to_too_much(folder, to):
 
 HOSTILE = (
     b":https://../../../etc/passwd", b":https://example.com/../../../../etc/passwd",
-    b":https://example.com/%2e%2e%2f%2e%2e%2fetc",
-    b":file:///etc/passwd", b":/etc/passwd", b":https:///x", b":https://example.com/.bashrc",
-    b":https://.ssh/authorized_keys",
-    b":https://example.com/-rf", b":https://-rf/x", b":https://example.com/con", b":https://nul/aux.txt",
-    b":https://com1.example/COM1.png",
+    b":https://example.com/%2e%2e%2f%2e%2e%2fetc", b":file:///etc/passwd", b":/etc/passwd", b":https:///x",
+    b":https://example.com/.bashrc", b":https://.ssh/authorized_keys", b":https://example.com/-rf", b":https://-rf/x",
+    b":https://example.com/con", b":https://nul/aux.txt", b":https://com1.example/COM1.png",
     b":https://example.com/" + b"k" * 5000, b":https://" + b"h" * 5000 + b"/x", b":https://example.com/a\x1b[2J\tb",
-    b":", b":?", b":#",
-    b":https://example.com/\xff\xfe", b":https://example.com/\xe2\x80\xae", b":https://example.com/a/",
-    b":https://example.com/a//",
-    b":https://example.com/A", b":https://example.com/a", b":https://example.com/a?", b":https://part/x",
-    b":https://part.alt/x",
-    b":https://entries.tsv/x", b":https://example.com/a.alt", b":https://example.com/a.headers",
-    b":https://example.com/a%00b",
+    b":", b":?", b":#", b":https://example.com/\xff\xfe", b":https://example.com/\xe2\x80\xae",
+    b":https://example.com/a/", b":https://example.com/a//", b":https://example.com/A", b":https://example.com/a",
+    b":https://example.com/a?", b":https://part/x", b":https://part.alt/x", b":https://entries.tsv/x",
+    b":https://example.com/a.alt", b":https://example.com/a.headers", b":https://example.com/a%00b",
     b":https://example.com/~", b":https://example.com/$(reboot)", b":https://example.com/`id`;id|id&id>x",
     b"O^partitionKey=../../x,:https://example.com/a", b":https://example.com/x.desktop", b":https://example.com/..",
     b":https://[::1]/.",

@@ -59,8 +59,7 @@ BODIES = {
     **{f"/{length}.bin": os.urandom(length) for length in (0, 1, 262143, 262144, 262145, 900000)},
 }
 TYPES = {"": "application/octet-stream", "/": "text/html", ".css": "text/css", ".js": "text/javascript",
-         ".txt": "text/plain",
-         ".wasm": "application/wasm"}
+         ".txt": "text/plain", ".wasm": "application/wasm"}
 # What Firefox compiles, and how the kind begins of what it keeps of that. With these settings it does so at the first
 # use.
 CODE = {"/code.wasm": b"wasm-", **{path: b"javascript/moz-" for path in BODIES if path.endswith(".js")}}

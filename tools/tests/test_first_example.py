@@ -84,8 +84,7 @@ def closed(cache, stream, *words, given=b""):
     """The status of a run one of whose streams is closed, and what it prints. The first file that a program opens takes
     the number of a stream that is closed."""
     ran = subprocess.run(["sh", "-c", f'exec "$@" {stream}', "sh", cache.program.path, cache.path, "1000", *words],
-                         input=given,
-                         stdout=subprocess.PIPE, stderr=subprocess.DEVNULL, check=False)
+                         input=given, stdout=subprocess.PIPE, stderr=subprocess.DEVNULL, check=False)
     return ran.returncode, ran.stdout
 
 

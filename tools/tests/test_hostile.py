@@ -97,8 +97,7 @@ X, Y = item_of(b":x", b"hello"), item_of(b":y", bytes(300000))
 BOTH = dump_bytes(*([X, Y] if name_of(":x") < name_of(":y") else [Y, X]))
 VERBS = [(["run"], SCRIPT), (["put", ":x"], b"hello")]
 VERBS += [(words.split(" "), b"") for words in ("get :x", "getalt :x", "main :x", "doom :x", "evict 0", "clear ",
-                                                "flush", "list", "verify", "rebuild",
-                                                "dump")]
+                                                "flush", "list", "verify", "rebuild", "dump")]
 VERBS += [(["load"], dump_bytes(X))]
 CLEAR = VERBS[7]
 SOME = VERBS[:5] + [CLEAR] + VERBS[10:]
@@ -139,8 +138,7 @@ def result_of(words, given, cwd, **how):
     """The status of a run, or None where it did not end, and what it printed."""
     try:
         ran = subprocess.run(words, input=given, cwd=cwd, stdout=subprocess.PIPE, stderr=subprocess.DEVNULL,
-                             timeout=SECONDS,
-                             check=False, **how)
+                             timeout=SECONDS, check=False, **how)
         return ran.returncode, ran.stdout
     except subprocess.TimeoutExpired:
         return None, b""
@@ -259,14 +257,12 @@ ATTEMPTS = []
 
 
 def attempt(what, make, wanted=NAMED, filled=True, words=None, stays=(), gone=(), verbs=None, made=(), due=None,
-            user=False,
-            mounts=False):
+            user=False, mounts=False):
     """The verbs that are tried so; `due` by the verb."""
     for verb, given in verbs or VERBS:
         line = f"{what}, {'with two entries' if filled else 'empty'}: {' '.join(verb)}"
         ATTEMPTS.append(Attempt(line, verb, given, make, wanted, filled, words, stays, gone, made,
-                                (due or {}).get(verb[0]), user,
-                                mounts))
+                                (due or {}).get(verb[0]), user, mounts))
 
 
 def faults_of(place, one):
@@ -418,8 +414,7 @@ def foreign_names():
     """Names of another form stay as they are."""
     name = name_of(":z").encode()
     entries = [b"a" * 255, b"\xff\xfe\x80", name.lower(), name[:39], name + b"0", b" " + name[1:], b"G" * 40,
-               name[:20] + name[20:].lower(),
-               "é".encode() * 20, b"\n", b"-", b"...", b"\x01" * 40, b"\xff" * 255]
+               name[:20] + name[20:].lower(), "é".encode() * 20, b"\n", b"-", b"...", b"\x01" * 40, b"\xff" * 255]
     doomed = [b"007", b"-1", b"4294967296", b"1 ", b" 1", b"+1", b"1" * 255, b"0x1", b"\xff", b"1\n", "١".encode(),
               b"00"]
     stays = [b"entries/" + one for one in entries] + [b"doomed/" + one for one in doomed]
@@ -628,8 +623,7 @@ def streams():
             stays = [b"entries/" + name_of(":y").encode()] if filled and data.count(Y) == 0 else []
             line = b"bad dump %d\n" % number
             attempt(f"load of {what}", lambda room: None, (3,), filled, verbs=[(["load"], data)], stays=stays,
-                    gone=[b"doomed/0"],
-                    due={"load": (3, line)})
+                    gone=[b"doomed/0"], due={"load": (3, line)})
     odd = [b":../../around/file", b":/etc/passwd", b":" + bytes(range(11, 256)), b":" + b"k" * 16383]
     for key in odd:
         attempt(f"load of the key {key[:20]}", lambda room: None, (0,),
@@ -655,8 +649,7 @@ def full_file_systems():
 
 
 for fill in (no_files_of_the_cache, what_stands_for_a_mark, no_folders_of_the_cache, foreign_names, folders_by_name,
-             sizes,
-             large_indexes, rights, full_file_systems, other_file_systems, streams):
+             sizes, large_indexes, rights, full_file_systems, other_file_systems, streams):
     fill()
 
 

@@ -14,8 +14,7 @@ from cachelib.dumps import Dump, Writer, dump_bytes
 from cachelib.entries import MAX_BLOCK, MAX_BODY, file_of, header_bytes
 from cachelib.hashes import CHUNK, hash_of
 from cachelib.keys import MAX_KEY
-from support import (EXAMPLE, NUMBERS, Folder, digest, files_in, load_tool, made_file, made_item, name_in,
-                     run_tool)
+from support import (EXAMPLE, NUMBERS, Folder, digest, files_in, load_tool, made_file, made_item, name_in, run_tool)
 
 NAME = name_in(EXAMPLE)
 OTHER = b":https://example.org/"
@@ -27,8 +26,7 @@ EXAMPLE_DUMP = bytes.fromhex(
 # Values of `alt-data` for a stored body of 5 bytes, as docs/FORMATS.md has them: where its alternative data begin, if
 # it has any.
 PLACES = ((b"1;3,wasm", 3), (b"1;5,x", 5), (b"1;0,a,b", 0), (b"1;9,x", None), (b"1;03,x", None), (b"1;3,", None),
-          (b"1;3", None),
-          (b"2;3,x", None), (b"", None), (b"1;" + b"9" * 5000 + b",x", None))
+          (b"1;3", None), (b"2;3,x", None), (b"", None), (b"1;" + b"9" * 5000 + b",x", None))
 
 
 def run(*words, **more):
@@ -48,9 +46,8 @@ def check_tools_on(dump, room, parts):
     with open(path, "wb") as file:
         file.write(dump)
     status, lines, _ = run_tool("dump-list", path)
-    assert (status, [int(line.split()[0]) for line in lines.splitlines()]) == (0,
-                                                                               [sum(map(len, parts[name]))
-                                                                                for name in sorted(parts)])
+    assert (status, [int(line.split()[0]) for line in lines.splitlines()]) == (0, [sum(map(len, parts[name]))
+                                                                                   for name in sorted(parts)])
     assert run_tool("dump-extract", path, out) == (0, b"", [])
     found = files_in(out)
     assert [line.split()[0].decode() for line in found.pop("keys").splitlines()] == sorted(parts)
@@ -83,8 +80,7 @@ def test_versions(folder, version):
 def test_kinds(folder):
     """Entries of many kinds in one folder come in the order of their names."""
     keys = [b"O^partitionKey=%28https%2Cexample.org%29,:https://example.com/", b"a,:x", b"~x,,y,:https://x/", b":",
-            b":\xff\xfe\t\\",
-            b":" + b"k" * (MAX_KEY - 1)]
+            b":\xff\xfe\t\\", b":" + b"k" * (MAX_KEY - 1)]
     bodies = [b"", b"h" * 262143, b"h" * 262144, b"h" * 262145, os.urandom(600000), b"x"]
     elements = [b"", b"a\0b\0", b"response-head\0HTTP/1.1 200 OK\r\n\0", b"alt-data\x001;3,wasm\0", b"\0\0",
                 b"e\0" + b"v" * 60000 + b"\0"]

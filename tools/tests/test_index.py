@@ -299,8 +299,7 @@ BAD_INDEXES = {
 BAD_LOGS = {"no journal": None, "an empty journal": b"", "a journal of other bytes": b"no journal at all",
             "an empty good journal": EMPTY_HASH}
 FOREIGN = {"entries/readme": b"foreign", "entries/" + name_of(EXAMPLE).lower(): b"lower case", "doomed/007": b"7",
-           "doomed/-1": b"-",
-           "doomed/4294967296": b"large", "trash/1": b"trash", "index.old": b"old"}
+           "doomed/-1": b"-", "doomed/4294967296": b"large", "trash/1": b"trash", "index.old": b"old"}
 
 
 @pytest.mark.parametrize("log", BAD_LOGS)

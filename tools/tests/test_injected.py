@@ -256,8 +256,7 @@ def test_standard_input_that_fails(code):
         ran = traced(folder, ["load"], dump_of((":new", large), (":a", b"a")), nth(number, wanted, ("error", code)))
         what = f"load, {errno.errorcode[code]} at read {number}"
         case(f"{what}: status 4 and nothing printed", (ran.status, ran.out) == (4, b""), ran.status, ran.out)
-        case(f"{what}: nothing is stored of an item that is not whole",
-             plain(folder, "get", ":new").out == b"absent\n")
+        case(f"{what}: nothing is stored of an item that is not whole", plain(folder, "get", ":new").out == b"absent\n")
         case(f"{what}: the other entry stays", plain(folder, "get", ":old").out.endswith(b"old\n"))
         case(f"{what}: nothing stands aside", not os.listdir(os.path.join(folder, "doomed")))
     folder = fresh("source")
@@ -273,8 +272,7 @@ def test_standard_output_that_fails(code):
         return call.name == "write" and call.fd == 1
 
     ran = traced(folder, ["get", ":old"], b"", nth(1, wanted, ("error", code)))
-    case(f"get, {errno.errorcode[code]} at its first write: status 5", (ran.status, ran.out) == (5, b""),
-         ran.status)
+    case(f"get, {errno.errorcode[code]} at its first write: status 5", (ran.status, ran.out) == (5, b""), ran.status)
     for number, front in ((1, b""), (2, b"C2DUMP01")):
         ran = traced(folder, ["dump"], b"", nth(number, wanted, ("error", code)))
         what = f"dump, {errno.errorcode[code]} at write {number}"
@@ -548,8 +546,7 @@ def test_side_by_side(name, entries):
     case(f"{name} in use: status 6, and nothing is printed", (ran.status, ran.out) == (6, b""), ran.status, ran.out)
     case(f"{name} in use: it was waited for", 9 < took < 30, took)
     case(f"{name} in use: nothing is touched", files_in(folder) == before)
-    case(f"{name} in use: the run that has it goes on", talk.say(b"create 0 :new\n") == b"ok\n"
-         and talk.end()[0] == 0)
+    case(f"{name} in use: the run that has it goes on", talk.say(b"create 0 :new\n") == b"ok\n" and talk.end()[0] == 0)
     case(f"{name} that was in use: put", plain(folder, "put", ":late", given=b"late").status == 0)
 
 
@@ -951,8 +948,7 @@ def test_unreadable(code, calls):
 
     ran = traced(folder, ["run"], script, plan)
     case(f"{what}: a script", (ran.out, ran.status) == (b"fault\n" * 3 + served, 0), ran.status, ran.out[:80])
-    for words in (["get", ":old"], ["getalt", ":old"], ["main", ":old"], ["verify"], ["doom", ":old"],
-                  ["rebuild"]):
+    for words in (["get", ":old"], ["getalt", ":old"], ["main", ":old"], ["verify"], ["doom", ":old"], ["rebuild"]):
         before = contents(folder)
         ran = traced(folder, words, b"", plan)
         case(f"{what}: {words[0]}", (ran.out, ran.status) == (b"fault\n", 6), ran.status, ran.out[:80])

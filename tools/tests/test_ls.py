@@ -45,8 +45,7 @@ def test_lines(cache):
          IMAGE.decode()],
         ["3", "text/html", "200", "2026-11-01T00:00:00Z", "https://example.com/", "", name_in(PAGE), PAGE.decode()],
         ["4000", "text/css", "200", "2026-11-02T00:00:00Z", "https://www.example.com/style.css", "on example.org",
-         name_in(STYLE),
-         STYLE.decode()],
+         name_in(STYLE), STYLE.decode()],
     ]
 
 

@@ -70,8 +70,7 @@ def bytes_of(length, first):
 
 TAGGED = "O^partitionKey=%28https%2Cexample.com%29,:https://tags/style.css"
 RESPONSE = [("security-info", b"FnhllAKW"), ("request-method", b"GET"), ("response-head", b"HTTP/1.1 200 OK\r\n"),
-            ("ctid", b"5"),
-            ("net-response-time-onstart", b"12"), ("net-response-time-onstop", b"15")]
+            ("ctid", b"5"), ("net-response-time-onstart", b"12"), ("net-response-time-onstop", b"15")]
 # A key, the body's length, and the elements.
 ENTRIES = [
     (EXAMPLE, None, []),

@@ -32,8 +32,7 @@ DEB, TAR = f"cache2_{VERSION}_amd64.deb", f"cache2-{VERSION}.tar.gz"
 
 def package(*words, umask=0o22):
     ran = subprocess.run([os.path.join(TOOLS, "package"), *words], stdout=subprocess.PIPE, stderr=subprocess.STDOUT,
-                         text=True,
-                         umask=umask, check=False)
+                         text=True, umask=umask, check=False)
     return ran.returncode, ran.stdout
 
 

@@ -92,8 +92,7 @@ class Watched(Cache):
                                                                                         else None)
         path = opened[1] if word else named[0] if named else ""
         word = word or ("make" if call.startswith("open") and "O_CREAT" in line else "folder"
-                        if call.startswith("mkdir")
-                        else "remove" if call.startswith("unlink") else None)
+                        if call.startswith("mkdir") else "remove" if call.startswith("unlink") else None)
         is_inside = word and (path == self.room or path.startswith(self.room + "/"))
         return f"{word} {os.path.relpath(path, self.room)}" if is_inside else None
 
@@ -173,16 +172,14 @@ def test_opening_after_a_stop(closed):
     os.symlink("5", closed.at("doomed/8"))
     closed.write(b"left", "doomed/5")
     assert closed.watch("flush") == (0, [f"remove {D}/doomed/5", *OPENING[:3], f"sync {D}/doomed", *OPENING[3:],
-                                         f"sync {D}",
-                                         "reply ok", *CLOSING])
+                                         f"sync {D}", "reply ok", *CLOSING])
     assert sorted(os.listdir(closed.at("doomed"))) == ["7", "8"]
 
 
 def test_doom(closed):
     """The file of an entry that is not in use is removed, and the closing syncs its folder."""
     assert closed.watch("doom", ":first") == (0, [*OPENING, f"remove {file_of(':first')}", "reply ok", *LOG,
-                                                  LOG_SYNCED[0],
-                                                  f"sync {D}/entries", LOG_SYNCED[1], *FLAG])
+                                                  LOG_SYNCED[0], f"sync {D}/entries", LOG_SYNCED[1], *FLAG])
 
 
 # ---- scripts
@@ -193,8 +190,7 @@ def test_a_script(closed):
     syncs their folder."""
     shutil.rmtree(closed.at("doomed"))
     script = script_of("create 0 :x", "append 0 3", "old", "close 0", "open 1 :x", "flush", "doom :x", "create 2 :x",
-                       "append 2 3",
-                       "new", "finish 2", "flush", "read 1 0 10", "get :x", "create 3 :y")
+                       "append 2 3", "new", "finish 2", "flush", "read 1 0 10", "get :x", "create 3 :y")
     assert closed.watch("run", given=script) == (0, [
         *OPENING, f"folder {D}/doomed", f"make {D}/doomed/0", "reply ok", *WRITTEN[1:], moved(":x"), "reply ok",
         *MOVED_SYNCED,
@@ -263,8 +259,7 @@ def test_calls_of_a_new_entry(closed):
 def test_data_after_a_body(closed):
     """They are one more write to the file, which is synced with what else waits. To show them changes nothing."""
     script = script_of("create 0 :data", "append 0 5", "hello", "finish 0", "flush", "putalt 0 2 wasm", "XY",
-                       "getalt :data",
-                       "main :data", "flush")
+                       "getalt :data", "main :data", "flush")
     file = file_of(":data")
     assert closed.watch("run", given=script) == (0, [
         *OPENING, f"make {D}/doomed/0", "reply ok", *WRITTEN[1:], moved(":data"), "reply ok", *MOVED_SYNCED, "reply ok",
@@ -277,8 +272,7 @@ def test_data_after_a_body(closed):
 def origins(new):
     """A folder with two entries of an origin, one of it that is pinned, and one of none."""
     script = script_of("create 0 O^a,:one", "close 0", "create 0 O^a,:two", "append 0 3", "two", "close 0",
-                       "create 0 O^a,:kept",
-                       "pin 0", "close 0", "create 0 :other", "close 0")
+                       "create 0 O^a,:kept", "pin 0", "close 0", "create 0 :other", "close 0")
     assert new.run("run", given=script)[0] == 0
     return new
 
@@ -511,8 +505,7 @@ def killed(new):
     """A run is killed as it begins to sync, so that all of it waits: two folders above the entries, an entry, one that
     is unfinished, a doomed one, and two files of the index and one at `clear`, put there by hand."""
     script = script_of("create 0 :a", "append 0 3", "old", "close 0", "create 1 :b", "close 1", "open 2 :b", "doom :b",
-                       "create 3 :c",
-                       "append 3 3", "new", "flush")
+                       "create 3 :c", "append 3 3", "new", "flush")
     options = ("-P", f"{new.path}/doomed/1", "-e", "trace=fsync", "-e", "inject=fsync:signal=KILL")
     assert new.traced(*options, words=["run"], given=script)[0] in (-9, 137)
     new.write(bytes.fromhex("0000000A000003E800000001"), "index")
@@ -536,10 +529,8 @@ def test_flush_after_a_kill(killed):
     assert killed.traced(*options, words=["flush"]) == (6, b"")
     assert killed.watch("flush") == (0, [
         f"sync {a}", f"sync {D}/index", f"sync {D}/index.tmp", f"sync {D}/clear", "sync .", "sync above",
-        f"sync {D}/entries",
-        f"sync {D}/doomed", f"sync {D}", *NOTE, f"remove {D}/synced", f"remove {D}/index.tmp", f"remove {D}/clear",
-        f"sync {D}",
-        "reply ok", *NOTE])
+        f"sync {D}/entries", f"sync {D}/doomed", f"sync {D}", *NOTE, f"remove {D}/synced", f"remove {D}/index.tmp",
+        f"remove {D}/clear", f"sync {D}", "reply ok", *NOTE])
     steps = killed.steps()
     synced = {step[len("sync "):] for step in steps[:steps.index("reply ok")] if step.startswith("sync ")}
     assert (before & standing(killed)) - synced == set()

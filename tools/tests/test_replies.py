@@ -17,8 +17,7 @@ class Shell:
 
     def run(self, tool, *words, given=b""):
         ran = subprocess.run([*self.words, os.path.join(TOOLS, tool), *words], input=given, stdout=subprocess.PIPE,
-                             stderr=subprocess.PIPE,
-                             cwd=self.room, check=False)
+                             stderr=subprocess.PIPE, cwd=self.room, check=False)
         return ran.returncode, ran.stdout, ran.stderr.decode()
 
     def make(self, body, *words):

@@ -191,9 +191,8 @@ def many(folder):
 
 
 STATES = (missing, empty, filled, unclean, with_journal, bad_journal, with_temporary, killed, marked, bad_mark,
-          long_mark, doomed,
-          old_versions, no_index, other_index, cut_index, no_bytes, damaged, foreign, link_to_entries, index_is_folder,
-          many)
+          long_mark, doomed, old_versions, no_index, other_index, cut_index, no_bytes, damaged, foreign,
+          link_to_entries, index_is_folder, many)
 
 SESSION = (b"get :s\nuse :s\nget :s\nopen 0 :t\nget :t\ndoom :t\nread 0 0 3\nclose 0\nget :t\n"
            b"create 1 :s\nappend 1 7\nchanged\nfinish 1\nget :s\n"
