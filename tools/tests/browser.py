@@ -61,12 +61,6 @@ def find_browser():
     return next(filter(None, map(shutil.which, NAMES)), None)
 
 
-def version_of(browser):
-    """What a Firefox says of its version."""
-    return subprocess.run([browser, "--version"], stdout=subprocess.PIPE, stderr=subprocess.DEVNULL, text=True,
-                          check=True).stdout.strip()
-
-
 def write_prefs(profile, more):
     """The settings of a profile, with these beside those that each has."""
     with open(os.path.join(profile, "user.js"), "w", encoding="utf-8") as file:

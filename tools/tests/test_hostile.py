@@ -20,10 +20,10 @@ from typing import NamedTuple
 
 import pytest
 
-from cachelib.dumps import HEAD, BadItem, Dump, dump_bytes, item_parts
-from cachelib.entries import NO_EXPIRATION, block_of, file_of, header_bytes
+from cachelib.dumps import HEAD, BadItem, Dump, dump_bytes
 from cachelib.index import index_bytes, journal_bytes, mark_bytes, record_bytes
 from cachelib.keys import name_of
+from support import made_file, made_item
 
 SECONDS = 60
 NAMED = range(9)
@@ -82,18 +82,8 @@ close 1
 COMMANDS = SCRIPT.count(b"\n") - 5
 
 
-def header_of(key):
-    """The header of an entry that was made at the moment 1000."""
-    return header_bytes(3, (1, 1000, 1000, 1000, NO_EXPIRATION), len(key), 0)
-
-
-def item_of(key, body):
-    """The item of such an entry."""
-    return b"".join(item_parts(key, body, block_of(body, header_of(key), key)))
-
-
 # The entries that a filled folder has, in the order of their names.
-X, Y = item_of(b":x", b"hello"), item_of(b":y", bytes(300000))
+X, Y = made_item(b":x", b"hello"), made_item(b":y", bytes(300000))
 BOTH = dump_bytes(*([X, Y] if name_of(":x") < name_of(":y") else [Y, X]))
 VERBS = [(["run"], SCRIPT), (["put", ":x"], b"hello")]
 VERBS += [(words.split(" "), b"") for words in ("get :x", "getalt :x", "main :x", "doom :x", "evict 0", "clear ",
@@ -103,7 +93,7 @@ CLEAR = VERBS[7]
 SOME = VERBS[:5] + [CLEAR] + VERBS[10:]
 OPENING = [VERBS[0], VERBS[8]]
 # What stands in the place of other files.
-ENTRY = file_of(b"hello", header_of(b":x"), b":x")
+ENTRY = made_file(3, b":x", b"hello")
 # The verbs that look at one entry.
 LOOKING = ("get", "getalt", "main")
 # The kilobytes with which a run gets by that takes no memory of a large file's size.
@@ -502,7 +492,6 @@ def large_indexes():
                 **limited(LITTLE))
 
 
-ROOT = os.getuid() == 0
 AS_NOBODY = {"user": "nobody", "group": "nogroup", "extra_groups": []} if ROOT else {}
 
 
@@ -596,7 +585,7 @@ def bad_streams():
     for length in (most, 1 << 31, 262145, 0):
         yield f"a block of {length} bytes", 1, HEAD + b"\1" + key + bytes(4) + length.to_bytes(4, "big") + bytes(300000)
     for bad in (b"", b"x", b"a:x", b":x\0", b":\n", b"../../around/file", b"/etc/passwd", b":" + b"k" * 16384):
-        yield f"the key {bad[:20]}", 1, dump_bytes(item_of(bad, b""))
+        yield f"the key {bad[:20]}", 1, dump_bytes(made_item(bad, b""))
     yield "an item twice", 2, dump_bytes(X, X)
     yield "1,000 items of one key", 2, dump_bytes(*[X] * 1000)
     yield "items out of order", 2, dump_bytes(*([Y, X] if name_of(":x") < name_of(":y") else [X, Y]))
@@ -627,7 +616,7 @@ def streams():
     odd = [b":../../around/file", b":/etc/passwd", b":" + bytes(range(11, 256)), b":" + b"k" * 16383]
     for key in odd:
         attempt(f"load of the key {key[:20]}", lambda room: None, (0,),
-                verbs=[(["load"], dump_bytes(item_of(key, b"odd")))],
+                verbs=[(["load"], dump_bytes(made_item(key, b"odd")))],
                 stays=[b"entries/" + name_of(":y").encode()], gone=[b"doomed/0"], due={"load": (0, b"loaded 1\n")})
 
 

@@ -8,11 +8,12 @@ import struct
 import pytest
 
 from cachelib.elements import alternative
-from cachelib.entries import NO_EXPIRATION, file_of, file_with, header_bytes
+from cachelib.entries import NO_EXPIRATION, file_with, header_bytes
 from cachelib.hashes import CHUNK, hash_of
 from cachelib.index import FILLED, NO_TIME, index_bytes, journal_bytes, record_bytes
 from cachelib.keys import digest_of, name_of
-from support import Talk
+from machine_module import frecency_after
+from support import Talk, made_file
 
 EXAMPLE = ":https://example.com/"
 EMPTY_HASH = bytes.fromhex("BD49D10D")
@@ -22,11 +23,9 @@ EMPTY_HASH = bytes.fromhex("BD49D10D")
 
 def entry_file(key, body=b"", moment=1000, elements=(), frecency=None, uses=(1, None), flags=0):
     """The file of a finished entry. Of its uses there are the count, and the moment of the last where it is another."""
-    frecency = moment if frecency is None else frecency
     count, fetched = uses
-    fetched = moment if fetched is None else fetched
-    header = header_bytes(3, (count, fetched, moment, frecency, NO_EXPIRATION), len(key.encode()), flags)
-    return file_of(body, header, key.encode(), b"".join(n + b"\0" + v + b"\0" for n, v in elements))
+    numbers = [moment if one is None else one for one in (count, fetched, moment, frecency, NO_EXPIRATION)]
+    return made_file(3, key.encode(), body, b"".join(n + b"\0" + v + b"\0" for n, v in elements), flags, numbers)
 
 
 def record_of(key, file, frecency=1000, origin="", on_start=NO_TIME, on_stop=NO_TIME, content=0, more_flags=0):
@@ -56,25 +55,6 @@ def list_text(records):
         name, origin = r[:20].hex().upper(), r[24:32].hex().upper()
         lines.append(f"{name} {frecency} {origin} {on_start} {on_stop} {content} {flags:08X}\n")
     return "".join(lines).encode()
-
-
-POINTS = (121, 243, 483, 959, 1889, 3670, 6954, 12635, 21600, 34235, 50154, 68470, 88289, 108959, 130083, 151443,
-          172921)
-STEP = 21600
-
-
-def used(frecency, now):
-    """The frecency after one more use."""
-    if frecency == 0:
-        return now
-    place = frecency - now + 8 * STEP
-    if place < 0:
-        return now + POINTS[0]
-    if place > 16 * STEP:
-        return min(frecency + POINTS[0], 0xFFFFFFFF)
-    at, rest = divmod(place, STEP)
-    more = (POINTS[at + 1] - POINTS[at]) * rest // STEP if at < 16 else 0
-    return min(now + POINTS[at] + more, 0xFFFFFFFF)
 
 
 def victims(records, limit, in_use=()):
@@ -386,7 +366,7 @@ def test_a_use(cache, frecency, moment):
     put_files(cache, {key: entry_file(key, b"body", 1000, (), frecency)})
     assert cache.run("rebuild") == (0, b"rebuilt 1\n")
     assert cache.run("run", given=f"open 0 {key}\nuse 0\n".encode(), now=moment) == (0, b"ok\nok\n")
-    after = used(frecency, moment)
+    after = frecency_after(frecency, moment)
     file = entry_file(key, b"body", 1000, (), after, (2, moment))
     assert cache.files("entries") == {"entries/" + name_of(key): file}
     assert cache.run("list", now=moment) == (0, list_text([record_of(key, file, after)]))

@@ -18,11 +18,10 @@ import time
 import pytest
 
 import tracing
-from cachelib.dumps import dump_bytes, item_parts
-from cachelib.entries import NO_EXPIRATION, block_of, header_bytes
+from cachelib.entries import NO_EXPIRATION
 from cachelib.index import mark_bytes
 from cachelib.keys import name_of
-from support import Cache, Program, Talk, files_in
+from support import Cache, Program, Talk, dump_of, files_in
 from tracing import O_DIRECTORY, O_RDWR, OPENS, STATS, Run
 
 SECONDS = 60
@@ -72,19 +71,9 @@ finish 1
 finish 2
 """
 BODY = bytes(i * 7 % 251 for i in range(3000))
-
-
-def dump_of(*entries):
-    """The dump of entries that were made at the moment 500."""
-    items = []
-    for key, body in sorted(entries, key=lambda entry: name_of(entry[0])):
-        block = block_of(body, header_bytes(3, (1, 500, 500, 500, NO_EXPIRATION), len(key), 0), key.encode())
-        items.append(b"".join(item_parts(key.encode(), body, block)))
-    return dump_bytes(*items)
-
-
+MADE_AT_500 = (1, 500, 500, 500, NO_EXPIRATION)
 # An entry of a new key, and one of a key that stands.
-LOADED = dump_of((":n", b"loaded"), (":old", BODY))
+LOADED = dump_of([(b":n", b"loaded", MADE_AT_500, b""), (b":old", BODY, MADE_AT_500, b"")])
 
 
 # ---- folders and cases
@@ -253,7 +242,8 @@ def test_standard_input_that_fails(code):
         case(f"{what}: nothing is stored", plain(folder, "get", ":new").out == b"absent\n")
         case(f"{what}: the other entry stays", plain(folder, "get", ":old").out.endswith(b"old\n"))
         folder = fresh("source", (":old", b"old"))
-        ran = traced(folder, ["load"], dump_of((":new", large), (":a", b"a")), nth(number, wanted, ("error", code)))
+        dump = dump_of([(b":new", large, MADE_AT_500, b""), (b":a", b"a", MADE_AT_500, b"")])
+        ran = traced(folder, ["load"], dump, nth(number, wanted, ("error", code)))
         what = f"load, {errno.errorcode[code]} at read {number}"
         case(f"{what}: status 4 and nothing printed", (ran.status, ran.out) == (4, b""), ran.status, ran.out)
         case(f"{what}: nothing is stored of an item that is not whole", plain(folder, "get", ":new").out == b"absent\n")

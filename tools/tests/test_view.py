@@ -13,11 +13,11 @@ import subprocess
 
 import pytest
 
-from cachelib.entries import NO_EXPIRATION, file_of, header_bytes
+from cachelib.entries import NO_EXPIRATION
 from cachelib.hashes import CHUNK
 from cachelib.index import index_bytes, mark_bytes, record_bytes
 from cachelib.keys import digest_of, name_of
-from support import Cache, Talk
+from support import Cache, Talk, made_file
 
 SECONDS = 120
 FLAG_AT = 8
@@ -26,11 +26,6 @@ BIG = bytes(i * 7 % 251 for i in range(3 * CHUNK + 1000))
 
 
 # ---- folders
-
-def entry(key, body=b"", moment=1000, version=3):
-    header = header_bytes(version, (1, moment, moment, moment, NO_EXPIRATION), len(key.encode()), 0)
-    return file_of(body, header, key.encode(), b"")
-
 
 FILL = (b"create 0 :s\nappend 0 5\nhello\nset 0 2 n\nvv\nfinish 0\n"
         b"create 1 :t\nappend 1 3\nabc\nfinish 1\nputalt 1 2 t\nde\n"
@@ -68,11 +63,12 @@ def missing(_folder):
     pass
 
 
-def unclean(folder):
-    filled(folder)
-    index = bytearray(folder.read("index"))
-    index[FLAG_AT:FLAG_AT + 4] = b"\0\0\0\1"
-    folder.write(index, "index")
+def with_file(path, data_for):
+    """Makes a filled folder in which a file has other bytes, by those that it had."""
+    def make(folder):
+        filled(folder)
+        folder.write(data_for(folder.read(path)), path)
+    return make
 
 
 def with_journal(folder):
@@ -103,24 +99,9 @@ def killed(folder):
     talk.end()
 
 
-def marked(folder):
-    filled(folder)
-    folder.write(mark_bytes(b"^a"), "clear")
-
-
-def bad_mark(folder):
-    filled(folder)
-    folder.write(mark_bytes(b"^a")[:-1], "clear")
-
-
-def long_mark(folder):
-    filled(folder)
-    folder.write(mark_bytes(b"^a") + bytes(5000), "clear")
-
-
 def doomed(folder):
     filled(folder)
-    folder.write(entry(":gone", b"gone"), "doomed/0")
+    folder.write(made_file(3, b":gone", b"gone"), "doomed/0")
     folder.write(BIG, "doomed/7")
     folder.write(b"no number", "doomed/08")
     os.makedirs(folder.at("doomed", "3"))
@@ -128,28 +109,8 @@ def doomed(folder):
 
 def old_versions(folder):
     for number, version in enumerate((1, 2, 3, 4)):
-        key = f":old{number}"
-        folder.write(entry(key, b"old" * number, 900, version), f"entries/{name_of(key)}")
-
-
-def no_index(folder):
-    filled(folder)
-    os.remove(folder.at("index"))
-
-
-def other_index(folder):
-    filled(folder)
-    folder.write(index_bytes([record_bytes(digest_of(":nowhere"))], 1000, 0), "index")
-
-
-def cut_index(folder):
-    filled(folder)
-    folder.write(folder.read("index")[:-7], "index")
-
-
-def no_bytes(folder):
-    filled(folder)
-    folder.write(b"", "index")
+        file = made_file(version, b":old%d" % number, b"old" * number, numbers=(1, 900, 900, 900, NO_EXPIRATION))
+        folder.write(file, f"entries/{name_of(f':old{number}')}")
 
 
 def damaged(folder):
@@ -178,9 +139,13 @@ def link_to_entries(folder):
     os.symlink(folder.path + ".elsewhere", folder.at("entries"))
 
 
-def index_is_folder(folder):
+def no_index(folder):
     filled(folder)
     os.remove(folder.at("index"))
+
+
+def index_is_folder(folder):
+    no_index(folder)
     os.makedirs(folder.at("index"))
 
 
@@ -190,9 +155,18 @@ def many(folder):
                                      for n in range(400)))
 
 
-STATES = (missing, empty, filled, unclean, with_journal, bad_journal, with_temporary, killed, marked, bad_mark,
-          long_mark, doomed, old_versions, no_index, other_index, cut_index, no_bytes, damaged, foreign,
-          link_to_entries, index_is_folder, many)
+MARK = mark_bytes(b"^a")
+STATES = {make.__name__: make for make in (
+    missing, empty, filled, with_journal, bad_journal, with_temporary, killed, doomed, old_versions, no_index, damaged,
+    foreign, link_to_entries, index_is_folder, many)}
+STATES |= {name: with_file(path, data_for) for name, path, data_for in (
+    ("unclean", "index", lambda index: index[:FLAG_AT] + b"\0\0\0\1" + index[FLAG_AT + 4:]),
+    ("other_index", "index", lambda _: index_bytes([record_bytes(digest_of(":nowhere"))], 1000, 0)),
+    ("cut_index", "index", lambda index: index[:-7]),
+    ("no_bytes", "index", lambda _: b""),
+    ("marked", "clear", lambda _: MARK),
+    ("bad_mark", "clear", lambda _: MARK[:-1]),
+    ("long_mark", "clear", lambda _: MARK + bytes(5000)))}
 
 SESSION = (b"get :s\nuse :s\nget :s\nopen 0 :t\nget :t\ndoom :t\nread 0 0 3\nclose 0\nget :t\n"
            b"create 1 :s\nappend 1 7\nchanged\nfinish 1\nget :s\n"
@@ -227,8 +201,8 @@ class Views:
 
     def folder(self, state):
         if state not in self.folders:
-            self.folders[state] = Cache(self.program, f"{self.room}/folders/{state.__name__}")
-            state(self.folders[state])
+            self.folders[state] = Cache(self.program, f"{self.room}/folders/{state}")
+            STATES[state](self.folders[state])
         return self.folders[state].path
 
     def run(self, program, folder, verb, *before):
@@ -261,8 +235,7 @@ def pytest_generate_tests(metafunc):
         every = metafunc.config.getoption("every")
         pairs = [(state, verb) for place, state in enumerate(STATES)
                  for verb in range(-place % every, len(VERBS), every)]
-        metafunc.parametrize("state, verb", pairs, ids=[f"{state.__name__}: {VERBS[verb][0]} ({verb})" for state,
-                                                        verb in pairs])
+        metafunc.parametrize("state, verb", pairs, ids=[f"{state}: {VERBS[verb][0]} ({verb})" for state, verb in pairs])
 
 
 # ---- what is tried
@@ -302,7 +275,7 @@ def mount(views):
 @pytest.mark.usefixtures("as_it_was")
 def test_a_mount_that_is_read_only(views, mount, state, verb):
     reply, (words, inner) = views.reply(state, verb), mount
-    assert views.run(views.view, f"{inner}/{state.__name__}", verb, *words) == reply
+    assert views.run(views.view, f"{inner}/{state}", verb, *words) == reply
 
 
 CHANGING = re.compile(r"O_WRONLY|O_RDWR|O_CREAT|O_TRUNC|^(?:\d+ +)?(?:rename|unlink|mkdir|rmdir|link|symlink"
