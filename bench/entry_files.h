@@ -2,10 +2,9 @@
    with the checks of the proved program, and a record of each that fits is kept. */
 #pragma once
 
+#include "entry_end.h"
 #include "records.h"
 #include <dirent.h>
-#include <fcntl.h>
-#include <sys/stat.h>
 
 static uint8_t *names;
 static size_t listed, listed_room;
@@ -123,7 +122,7 @@ static uint32_t number_in(const char *text, uint32_t most, uint32_t none)
 /* The record of a block, if it fits the name. */
 static int read_block(const uint8_t *name, const uint8_t *block, uint32_t len, uint32_t offset, uint64_t file_size, struct record *r)
 {
-    uint32_t head = 4 + 2 * (uint32_t)(((uint64_t)offset + CHUNK - 1) / CHUNK), h[5], zeros = 0;
+    uint32_t head = 4 + 2 * (uint32_t)(((uint64_t)offset + CHUNK - 1) / CHUNK), zeros = 0;
     const uint8_t *header = block + head, *key = header + 32;
     uint8_t named[20];
     int anonymous = 0;
@@ -138,9 +137,7 @@ static int read_block(const uint8_t *name, const uint8_t *block, uint32_t len, u
         zeros += *b == 0;
     if (!read_key(key, size, &anonymous, &r->origin) || (elements < end && end[-1] != 0) || zeros % 2 != 0)
         return 0;
-    sha1(key, size, h);
-    for (int i = 0; i < 5; i++)
-        put_big(named + 4 * i, h[i], 4);
+    name_of_key(named, key, size);
     if (memcmp(named, name, 20) != 0)
         return 0;
     uint64_t kb = (file_size + 1023) / 1024;
@@ -155,41 +152,20 @@ static int read_block(const uint8_t *name, const uint8_t *block, uint32_t len, u
     return 1;
 }
 
-static void path_of_name(char *to, size_t room, const char *dir, const uint8_t *name)
-{
-    snprintf(to, room, "%s/entries/%08X%08X%08X%08X%08X", dir, big(name), big(name + 4), big(name + 8), big(name + 12),
-             big(name + 16));
-}
-
 /* The record of the file of this name, if it is that of an entry, and where `check` is given that what it says of the body. */
 static int read_entry_file(const char *dir, const uint8_t *name, struct record *r, int (*check)(int file, const uint8_t *block, uint32_t len, uint32_t offset))
 {
     char path[4096];
-    struct stat found;
-    uint8_t last[4];
-    int fits = 0;
+    uint32_t offset, len;
 
     path_of_name(path, sizeof path, dir, name);
     int file = open(path, O_RDONLY);
-    if (file < 0 || fstat(file, &found) != 0)
+    if (file < 0)
         exit(6);
-    if (found.st_size >= 4) {
-        if (pread(file, last, 4, found.st_size - 4) != 4)
-            exit(6);
-        uint32_t offset = big(last);
-        if (offset != 0xffffffff && offset <= found.st_size - 4 && found.st_size - 4 - offset <= 262144) {
-            uint32_t len = (uint32_t)(found.st_size - 4 - offset);
-            uint8_t *block = malloc(len + 1);
-            if (block == NULL)
-                exit(1);
-            if (pread(file, block, len, offset) != (ssize_t)len)
-                exit(6);
-            fits = read_block(name, block, len, offset, (uint64_t)found.st_size, r);
-            if (fits && check != NULL)
-                fits = check(file, block, len, offset);
-            free(block);
-        }
-    }
+    uint8_t *block = read_end(file, &offset, &len);
+    int fits = block != NULL && read_block(name, block, len, offset, (uint64_t)offset + len + 4, r)
+               && (check == NULL || check(file, block, len, offset));
+    free(block);
     close(file);
     return fits;
 }

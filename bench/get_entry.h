@@ -2,10 +2,7 @@
    so is each chunk of the body, before it is used. */
 #pragma once
 
-#include "plain.h"
-#include <fcntl.h>
-#include <sys/stat.h>
-#include <unistd.h>
+#include "entry_end.h"
 
 static uint8_t one_chunk[CHUNK];
 
@@ -39,31 +36,19 @@ struct found_entry {
 static const char *open_entry(const char *dir, const char *key, struct found_entry *e)
 {
     char name[4096];
-    struct stat found;
-    uint8_t last[4];
+    uint32_t len;
 
-    size_t key_len = strlen(key);
     path_of(name, sizeof name, dir, key);
     e->file = open(name, O_RDONLY);
-    if (e->file < 0 || fstat(e->file, &found) < 0 || found.st_size < 4)
+    if (e->file < 0 || (e->block = read_end(e->file, &e->offset, &len)) == NULL)
         return "absent";
-    if (pread(e->file, last, 4, found.st_size - 4) != 4)
-        exit(6);
-    e->offset = big(last);
-    if (e->offset == 0xffffffff || e->offset > found.st_size - 4 || found.st_size - 4 - e->offset > 262144)
-        return "absent";
-    uint32_t len = (uint32_t)(found.st_size - 4 - e->offset), head = 4 + 2 * (uint32_t)(((uint64_t)e->offset + CHUNK - 1) / CHUNK);
-    e->chunks = (head - 4) / 2;
-    e->block = malloc(len + 1);
-    if (e->block == NULL)
-        exit(1);
-    if (pread(e->file, e->block, len, e->offset) != (ssize_t)len)
-        exit(6);
+    e->chunks = (uint32_t)(((uint64_t)e->offset + CHUNK - 1) / CHUNK);
+    uint32_t head = 4 + 2 * e->chunks;
     e->header = e->block + head;
     e->size = len >= head + 33 ? big(e->header + 24) : 0xffffffff;
     if (len < head + 33 || big(e->header) != 3 || e->size >= len - (head + 32) || e->header[32 + e->size] != 0)
         return "absent";
-    if (big(e->block) != hash(e->block + 4, len - 4) || e->size != key_len || memcmp(e->header + 32, key, e->size) != 0)
+    if (big(e->block) != hash(e->block + 4, len - 4) || e->size != strlen(key) || memcmp(e->header + 32, key, e->size) != 0)
         return "absent";
     if (!check_body(e->file, e->block, len, e->offset))
         return "damaged";

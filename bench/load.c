@@ -33,7 +33,7 @@ static uint32_t take_length(uint32_t most)
 /* The key may be written, and its name comes after the last one. */
 static void take_key(uint8_t *name)
 {
-    uint32_t size = take_length(KEY_MAX), h[5];
+    uint32_t size = take_length(KEY_MAX);
     uint64_t origin;
     int anonymous = 0;
 
@@ -41,9 +41,7 @@ static void take_key(uint8_t *name)
     key[size] = 0;
     if (size == 0 || strlen(key) != size || strchr(key, '\n') != NULL || !read_key((uint8_t *)key, size, &anonymous, &origin))
         exit(3);
-    sha1((uint8_t *)key, size, h);
-    for (int i = 0; i < 5; i++)
-        put_big(name + 4 * i, h[i], 4);
+    name_of_key(name, key, size);
     if (loaded > 0 && memcmp(name, last_name, 20) <= 0)
         exit(3);
     memcpy(last_name, name, 20);

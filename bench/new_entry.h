@@ -68,9 +68,7 @@ static struct record write_rest(uint32_t now, const char *key)
         hashes[chunks++] = hash(chunk, filled) & 0xffff;
     const uint8_t *end = put_block(chunk + filled, full * CHUNK + filled, chunks, now, key, "", 0);
     write_at(new_file, chunk, (size_t)(end - chunk), (off_t)full * CHUNK);
-    sha1((const uint8_t *)key, size, h);
-    for (int i = 0; i < 5; i++)
-        put_big(r.name + 4 * i, h[i], 4);
+    name_of_key(r.name, key, size);
     sha1(chunk, 0, h);
     r.origin = (uint64_t)h[0] << 32 | h[1];
     r.flags = 0x80000000u | (uint32_t)((full * CHUNK + (end - chunk) + 1023) / 1024);

@@ -104,12 +104,28 @@ static uint32_t hash(const uint8_t *k, uint32_t length)
     return c;
 }
 
-static void path_of(char *path, size_t room, const char *dir, const char *key)
+/* The 20 bytes of the name of a key. */
+static void name_of_key(uint8_t *name, const void *key, size_t size)
 {
     uint32_t h[5];
 
-    sha1((const uint8_t *)key, strlen(key), h);
-    snprintf(path, room, "%s/entries/%08X%08X%08X%08X%08X", dir, h[0], h[1], h[2], h[3], h[4]);
+    sha1(key, size, h);
+    for (int i = 0; i < 5; i++)
+        put_big(name + 4 * i, h[i], 4);
+}
+
+static void path_of_name(char *path, size_t room, const char *dir, const uint8_t *name)
+{
+    snprintf(path, room, "%s/entries/%08X%08X%08X%08X%08X", dir, big(name), big(name + 4), big(name + 8), big(name + 12),
+             big(name + 16));
+}
+
+static void path_of(char *path, size_t room, const char *dir, const char *key)
+{
+    uint8_t name[20];
+
+    name_of_key(name, key, strlen(key));
+    path_of_name(path, room, dir, name);
 }
 
 /* Bytes by a cheap generator. */

@@ -1,4 +1,4 @@
-"""Each tool of Python as the system runs it: its help, and that it leaves no compiled modules beside it."""
+"""Each tool as the system runs it: its help, and that one of Python leaves no compiled modules beside it."""
 import os
 import subprocess
 
@@ -15,3 +15,9 @@ def test_help(name):
     assert (ran.returncode, ran.stderr) == (0, "")
     assert ran.stdout.startswith(f"usage: {name} [-h]") and "positional arguments:" in ran.stdout
     assert "__pycache__" not in os.listdir(os.path.join(TOOLS, "cachelib"))
+
+
+@pytest.mark.parametrize("name", ["body-of", "make-entry", "package", "test"])
+def test_help_of_a_script(name):
+    ran = subprocess.run([os.path.join(TOOLS, name), "--help"], capture_output=True, text=True, check=False)
+    assert (ran.returncode, ran.stdout.split()[:2], ran.stderr) == (0, ["usage:", name], "")

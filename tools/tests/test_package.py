@@ -64,8 +64,9 @@ def test_no_program(view, tmp_path):
     assert not os.path.exists(f"{tmp_path}/none")
 
 
-def test_no_words():
-    assert package() == (1, "package: usage: package FOLDER [PROGRAM VIEW]\n")
+@pytest.mark.parametrize("words", [(), ("--other",), ("a", "b")])
+def test_malformed_words(words):
+    assert package(*words) == (2, "package: usage: package FOLDER [PROGRAM VIEW]\n")
 
 
 def test_what_is_inside(made, binary, view):
