@@ -29,27 +29,26 @@ def proved(program, room):
 
 
 def build(name, room):
-    """Proves and builds a small program, in a repository of its own with the crates as they stand."""
+    """Proves and builds a small program, in a repository of its own with the crates as they stand. Of these the proofs
+    that `rt ci` kept on this machine are taken."""
     below, uses = PROGRAMS[name]
     with tempfile.TemporaryDirectory() as top:
+        os.mkdir(os.path.join(top, ".git"))
         with open(os.path.join(TOP, "crates.txt"), encoding="utf-8") as file:
             lines = [line for line in file if line.split(":")[0] in below.split()]
-        for crate in below.split():
-            for part in ("src", "specs", "proofs"):
-                source = os.path.join(TOP, "crates", crate, part)
-                if os.path.isdir(source):
-                    shutil.copytree(source, os.path.join(top, "crates", crate, part))
         with open(os.path.join(top, "crates.txt"), "w", encoding="utf-8") as file:
             file.writelines([*lines, f"{name}_bench: {uses}\n"])
         shutil.copy(os.path.join(TOP, "HANDLES"), top)
+        for crate in below.split():
+            shutil.copytree(os.path.join(TOP, "crates", crate), os.path.join(top, "crates", crate),
+                            ignore=shutil.ignore_patterns("out", "must-fail"))
         folder = os.path.join(top, "crates", f"{name}_bench")
         os.makedirs(os.path.join(folder, "src"))
         shutil.copy(os.path.join(HERE, "programs", f"{name}.rattle"), os.path.join(folder, "src/main.rt"))
         if "cache_io" in uses:
             shutil.copy(os.path.join(HERE, "programs/lines.rattle"), os.path.join(folder, "src/lines.rt"))
         print("proving and building the Rattle program", flush=True)
-        words = ["rt", "run", "--", "0"] if "cache_io" not in uses else ["rt", "run"]
-        ran = subprocess.run(words, cwd=folder, stdout=subprocess.PIPE, stderr=subprocess.STDOUT, check=False)
+        ran = subprocess.run(["rt", "ci"], cwd=top, stdout=subprocess.PIPE, stderr=subprocess.STDOUT, check=False)
         if ran.returncode:
             print(ran.stdout.decode(errors="replace"))
             sys.exit(2)
