@@ -13,7 +13,9 @@ sys.path.insert(0, os.path.dirname(os.path.dirname(os.path.realpath(__file__))))
 
 from browser import Browser, NoBrowser, find_browser  # noqa: E402  (the path is set above)
 from cachelib import page  # noqa: E402
+from injecting import Place  # noqa: E402
 from support import TOOLS, Cache, Folder, Program, run_tool  # noqa: E402
+from tracing import may_trace  # noqa: E402
 
 
 def pytest_addoption(parser):
@@ -74,6 +76,16 @@ def tracer():
     except (OSError, subprocess.SubprocessError):
         pytest.skip("there is no strace that may watch a program")
     return ["strace"]
+
+
+@pytest.fixture
+def injected(binary, room):
+    """A room for runs that are traced, which ends with what was wrong."""
+    if not may_trace():
+        pytest.skip("no program may be traced here")
+    Place.room, Place.program, Place.faults = room, os.path.realpath(binary.path), []
+    yield
+    assert Place.faults == []
 
 
 @contextlib.contextmanager
