@@ -5,19 +5,13 @@ import os
 import pytest
 
 from sessions import code_below, faults_in, quotes_in
-from support import TOOLS
+from support import TOOLS, text_of
 
 ROOT = os.path.dirname(TOOLS)
 DOCS = [os.path.join(folder, name) for folder in ("", "docs") for name in sorted(os.listdir(os.path.join(ROOT, folder)))
         if name.endswith(".md")]
-
-
-def text_of(doc):
-    with open(os.path.join(ROOT, doc), encoding="utf-8") as file:
-        return file.read()
-
-
-QUOTES = [(doc, number, quote) for doc in DOCS for number, quote in quotes_in(text_of(doc))]
+TEXTS = {doc: text_of(os.path.join(ROOT, doc)) for doc in DOCS}
+QUOTES = [(doc, number, quote) for doc in DOCS for number, quote in quotes_in(TEXTS[doc])]
 
 
 @pytest.fixture
@@ -31,7 +25,7 @@ def place(tmp_path):
 def test_sessions(doc, program, place):
     for name, there in (("cache2", program.path), ("tools", TOOLS), ("python", os.path.join(ROOT, "python"))):
         (place / name).symlink_to(there)
-    assert faults_in(text_of(doc), str(place)) == []
+    assert faults_in(TEXTS[doc], str(place)) == []
 
 
 @pytest.fixture(scope="module")

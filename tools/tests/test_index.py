@@ -91,12 +91,6 @@ def empty_records(keys, moment=1000):
     return [record_of(key, entry_file(key, b"", moment), moment) for key in keys]
 
 
-def put_files(cache, files):
-    """Puts entry files, by their keys."""
-    for key, file in files.items():
-        cache.write(file, cache.entry(key))
-
-
 def index_of(cache):
     """The bytes of both files."""
     return cache.read("index"), cache.read("index.log")
@@ -131,7 +125,7 @@ def test_one_entry(cache):
 
 def test_rebuild_in_a_session(cache):
     keys = [f":https://x/{i}" for i in range(3)]
-    put_files(cache, {key: entry_file(key) for key in keys})
+    cache.put({key: entry_file(key) for key in keys})
     talk = Talk(cache)
     assert talk.say(b"rebuild\n") == b"rebuilt 3\n"
     assert index_of(cache) == (index_file(empty_records(keys), 1000, 1), None)
@@ -168,7 +162,7 @@ def test_a_whole_index_at_the_end(cache):
 
 def test_update_in_slices(cache):
     keys = sorted((f":https://slice/{i}" for i in range(5)), key=digest_of)
-    put_files(cache, {key: entry_file(key) for key in keys})
+    cache.put({key: entry_file(key) for key in keys})
     talk = Talk(cache)
     for command, reply in (
         ("state", "updating 5"), ("step 2", "updating 3"),
@@ -188,7 +182,7 @@ def test_update_in_slices(cache):
 
 def test_an_update_that_did_not_end(cache):
     keys = sorted((f":https://slice/{i}" for i in range(4)), key=digest_of)
-    put_files(cache, {key: entry_file(key) for key in keys})
+    cache.put({key: entry_file(key) for key in keys})
     assert cache.run("run", given=b"step 2\n") == (0, b"updating 2\n")
     assert cache.read("index.log") is None
     assert cache.run("run", given=b"state\n", now=1001) == (0, b"updating 4\n")
@@ -252,7 +246,7 @@ def test_data_after_a_body(cache):
     pytest.param(1, None, id="killed")])
 def test_a_folder_of_the_browser(cache, flag, journaled):
     files, records = browser_entries()
-    put_files(cache, files)
+    cache.put(files)
     cache.write(index_file(records[journaled or 0:], 1700000003, flag), "index")
     if journaled is not None:
         cache.write(journal_file(records[:journaled]), "index.log")
@@ -285,7 +279,7 @@ FOREIGN = {"entries/readme": b"foreign", "entries/" + name_of(EXAMPLE).lower(): 
 @pytest.mark.parametrize("log", BAD_LOGS)
 @pytest.mark.parametrize("index", BAD_INDEXES)
 def test_bad_bytes_beside_foreign_files(cache, index, log):
-    put_files(cache, FILES)
+    cache.put(FILES)
     for path, data in {**FOREIGN, "index": BAD_INDEXES[index], "index.log": BAD_LOGS[log]}.items():
         if data is not None:
             cache.write(data, path)
@@ -303,7 +297,7 @@ def many_entries(cache, count):
         key, frecency = f":https://many/{i}", i * 7919 % 13 * 1000
         files[key] = entry_file(key, bytes(i * 104729 % 5000), 1000, (), frecency)
         records[key] = record_of(key, files[key], frecency)
-    put_files(cache, files)
+    cache.put(files)
     assert cache.run("rebuild") == (0, b"rebuilt %d\n" % count)
     return files, records
 
@@ -333,7 +327,7 @@ def test_evictions(cache, count):
 def test_entries_that_stay(cache):
     """Those that are pinned, and those that are open."""
     pinned, opened, neither, new = [f":https://stay/{one}" for one in ("pinned", "open", "not", "new")]
-    put_files(cache, {pinned: entry_file(pinned, flags=1), opened: entry_file(opened), neither: entry_file(neither)})
+    cache.put({pinned: entry_file(pinned, flags=1), opened: entry_file(opened), neither: entry_file(neither)})
     talk = Talk(cache)
     assert talk.say(f"open 0 {opened}\n".encode()) == b"ok\n"
     assert talk.say(f"create 1 {new}\n".encode()) == b"ok\n"
@@ -363,7 +357,7 @@ def test_records_without_files(cache):
 def test_a_use(cache, frecency, moment):
     """The file and the record of an entry that was used once more."""
     key = ":https://used/"
-    put_files(cache, {key: entry_file(key, b"body", 1000, (), frecency)})
+    cache.put({key: entry_file(key, b"body", 1000, (), frecency)})
     assert cache.run("rebuild") == (0, b"rebuilt 1\n")
     assert cache.run("run", given=f"open 0 {key}\nuse 0\n".encode(), now=moment) == (0, b"ok\nok\n")
     after = frecency_after(frecency, moment)
@@ -432,7 +426,7 @@ def test_verify(cache):
     files, records, lines = damaged_and_others()
     for word, file in wrong_files().items():
         files[f":https://wrong/{word}"], lines[name_of(f":https://wrong/{word}")] = file, [f"unfit {word}"]
-    put_files(cache, files)
+    cache.put(files)
     gone, unfit, short = ":https://some/gone", ":https://wrong/hash", ":https://wrong/short"
     records += empty_records([gone, unfit])
     lines[name_of(gone)] = ["extra"]

@@ -111,13 +111,6 @@ def script_of(at, key, length, elements):
 
 # ---- folders
 
-def put_files(cache, files):
-    """Puts entry files, by their keys, in a folder without an index, which is given back."""
-    for key, file in files.items():
-        cache.write(file, cache.entry(key))
-    return cache
-
-
 def forget_index(cache):
     for name in ("index", "index.log", "index.tmp"):
         if os.path.exists(cache.at(name)):
@@ -153,7 +146,7 @@ class Made:
         assert (status, set(text.split())) == (0, {b"ok"})
         entry, version = entry_in(self.cache.read(self.cache.entry(":https://short/")))
         assert version == 3
-        put_files(self.cache, {PINNED: Entry(entry.body, entry.numbers, 1, PINNED, entry.elements).file(3)})
+        self.cache.put({PINNED: Entry(entry.body, entry.numbers, 1, PINNED, entry.elements).file(3)})
         forget_index(self.cache)
         self.files = files_of(self.cache, KEYS)
         self.entries = {key: entry_in(file)[0] for key, file in self.files.items()}
@@ -173,7 +166,7 @@ def old(request, made):
     """A version, a folder with all entries that it can spell, and their files."""
     version = request.param
     files = {key: entry.file(version) for key, entry in made.entries.items() if version != 1 or entry.flags == 0}
-    return version, put_files(made.new(f"version-{version}"), files), files
+    return version, made.new(f"version-{version}").put(files), files
 
 
 # ---- what is tried
@@ -227,8 +220,8 @@ def used_once(cache, key, entry):
 def test_uses(made, old):
     """What one use makes of the frecency is the same as where the file has version 3."""
     version, cache, files = old
-    cache = put_files(made.new(f"used-{version}"), files)
-    three = put_files(made.new(f"used-3-beside-{version}"), made.files)
+    cache = made.new(f"used-{version}").put(files)
+    three = made.new(f"used-3-beside-{version}").put(made.files)
     for key in files:
         assert used_once(cache, key, made.entries[key]) == used_once(three, key, made.entries[key])
     assert cache.run("verify", now=USED_AT) == (0, b"findings 0\n")
@@ -257,7 +250,7 @@ TOO_BIG = {key: of_size(key, version, limit + 1).file(version) for version, limi
 @pytest.mark.parametrize("word, files", [("version", NO_VERSIONS), ("too-big", TOO_BIG)])
 def test_unfit_files(cache, word, files):
     """None of the files is found, `verify` names them, and they stay as they are."""
-    put_files(cache, files)
+    cache.put(files)
     for key in files:
         assert cache.run("get", key, now=USED_AT) == (7, b"absent\n")
     text = "".join(f"{name} unfit {word}\n" for name in sorted(map(name_of, files)))
@@ -275,7 +268,7 @@ def test_the_largest_block(cache, version):
     key = f":https://limit/{version}"
     entry = of_size(key, version, LIMITS[version])
     assert entry.block_len(version) == LIMITS[version]
-    put_files(cache, {key: entry.file(version)})
+    cache.put({key: entry.file(version)})
     assert cache.run("get", key, now=USED_AT) == entry.found()
     used_once(cache, key, entry)
     assert len(cache.read(cache.entry(key))) == len(entry.file(3))

@@ -17,11 +17,10 @@ from cachelib.entries import NO_EXPIRATION
 from cachelib.hashes import CHUNK
 from cachelib.index import index_bytes, mark_bytes, record_bytes
 from cachelib.keys import digest_of, name_of
-from support import Cache, Talk, made_file
+from support import AS_NOBODY, Cache, Talk, made_file
 
 SECONDS = 120
 FLAG_AT = 8
-NOBODY = 65534
 BIG = bytes(i * 7 % 251 for i in range(3 * CHUNK + 1000))
 
 
@@ -302,7 +301,7 @@ def nobody(views):
         views.folder(state)
     subprocess.run(["chmod", "-R", "a+rX,a-w", f"{views.room}/folders"], check=True)
     views.known.clear()
-    return ["setpriv", f"--reuid={NOBODY}", f"--regid={NOBODY}", "--clear-groups"]
+    return AS_NOBODY
 
 
 @pytest.mark.usefixtures("nobody", "as_it_was")
