@@ -28,9 +28,10 @@ def proved(program, room):
     return shutil.copy(program or os.path.join(TOP, "crates/cache2/out/cache2"), os.path.join(room, "cache2"))
 
 
-def build(name, room):
+def build(name, room, plain):
     """Proves and builds a small program, in a repository of its own with the crates as they stand. Of these the proofs
-    that `rt ci` kept on this machine are taken."""
+    that `rt ci` kept on this machine are taken. It also runs the program without words, which has to print what the
+    plain one prints then."""
     below, uses = PROGRAMS[name]
     with tempfile.TemporaryDirectory() as top:
         os.mkdir(os.path.join(top, ".git"))
@@ -47,6 +48,8 @@ def build(name, room):
         shutil.copy(os.path.join(HERE, "programs", f"{name}.rattle"), os.path.join(folder, "src/main.rt"))
         if "cache_io" in uses:
             shutil.copy(os.path.join(HERE, "programs/lines.rattle"), os.path.join(folder, "src/lines.rt"))
+        with open(os.path.join(folder, "stdout"), "wb") as file:
+            subprocess.run([plain], stdout=file, check=True)
         print("proving and building the Rattle program", flush=True)
         ran = subprocess.run(["rt", "ci"], cwd=top, stdout=subprocess.PIPE, stderr=subprocess.STDOUT, check=False)
         if ran.returncode:

@@ -66,7 +66,7 @@ def differ(work):
 class Bench:
     """The programs, and a folder in memory for all that they work on."""
 
-    def __init__(self, room, program):
+    def __init__(self, room, program=None):
         self.room, self.cache2 = room, program
 
     def at(self, name):
