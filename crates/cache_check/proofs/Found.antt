@@ -6,7 +6,7 @@ use Rattle.cache_base.specs.declared.name.Name.{Name}
 use Rattle.cache_check.specs.Findings.{AreFindings, IsTableOf, findings}
 use Rattle.cache_check.specs.Table.{Table}
 use Rattle.cache_check.specs.declared.finding.Finding.{Finding}
-use Rattle.disk_model.specs.Calls.{Counts, counted}
+use Rattle.disk_model.specs.Calls.{Counts, counted_look}
 use Rattle.disk_model.specs.Listing.{AreEntries}
 use Rattle.disk_model.specs.State.{State, standing}
 use Rattle.disk_model.specs.declared.disk.DiskFault.{DiskFault}
@@ -51,8 +51,8 @@ found_all Tells s t names es rs qs w v (Ok list) listed records writing found = 
     ∙ ap (λ ns. findings files rs ns) writing
 
 -- after one look more
-more_looks : (n : ℕ) (before mid now : Counts) → mid ≡ counted before → LooksAtMost n mid now → LooksAtMost (1 + n) before now
-more_looks n before mid now one looks =
+more_looks : {T : Type 0} (answer : Result T DiskFault) (n : ℕ) (before mid now : Counts) → mid ≡ counted_look answer before → LooksAtMost n mid now → LooksAtMost (1 + n) before now
+more_looks answer n before mid now one looks =
     let c : mid.calls ≡ min (before.calls + 1) (2 ^ 64 - 1) = ap (λ (k : Counts). k.calls) one in
     let d : mid.entry_reads ≡ before.entry_reads = ap (λ (k : Counts). k.entry_reads) one in
     let f : mid.failed ≡ before.failed = ap (λ (k : Counts). k.failed) one in
@@ -61,8 +61,8 @@ more_looks n before mid now one looks =
     record { calls = omega (arith, c, e); entry_reads = omega (arith, d, g); no_change = looks.no_change ∙ f }
 
 pub looked_once : (s t : State) (names es : List Name) (w v : List Name) (before mid now : Counts)
-    → Listed s t names es → v ≡ w → mid ≡ counted before → LooksAtMost (looks_over (table_of (standing t) es) v) mid now → LooksOnce (entries_on s) w before now
-looked_once s t names es w v before mid now listed writing one looks = λ files is_table.
+    → Listed s t names es → v ≡ w → {T : Type 0} (answer : Result T DiskFault) → mid ≡ counted_look answer before → LooksAtMost (looks_over (table_of (standing t) es) v) mid now → LooksOnce (entries_on s) w before now
+looked_once s t names es w v before mid now listed writing answer one looks = λ files is_table.
     let n : looks_over (table_of (standing t) es) v ≡ looks_over files w =
     ap (λ f. looks_over f v) (one_table s t names es files listed is_table) ∙ ap (λ ns. looks_over files ns) writing in
-    more_looks (looks_over files w) before mid now one (subst (λ k. LooksAtMost k mid now) n looks)
+    more_looks answer (looks_over files w) before mid now one (subst (λ k. LooksAtMost k mid now) n looks)

@@ -1,5 +1,5 @@
 -- Which calls look at the files of entries, and which change the files of the index.
-use Rattle.std.specs.Prelude.{IsTrue, List, None, Option, Some, [], false, length, take, true, ℕ, ⊤, ◌*◌, ◌+◌, ◌<◌, ◌≡◌, ◌≢◌, ◌≤◌}
+use Rattle.std.specs.Prelude.{IsTrue, List, None, Option, Result, Some, [], false, length, take, true, ℕ, ⊤, ◌*◌, ◌+◌, ◌<◌, ◌≡◌, ◌≢◌, ◌≤◌}
 use Rattle.cache_base.specs.declared.limits.TheConstants.{CHANGED_MAX}
 use Rattle.cache_base.specs.declared.name.Name.{Name}
 use Rattle.cache_store.specs.declared.memory_index.MemoryIndex.{MemoryIndex}
@@ -8,6 +8,7 @@ use Rattle.cache_theory.specs.Command.Command.{At, ClearNames, ClearOrigin, Clos
 use Rattle.disk_model.specs.Calls.{counted_read}
 use Rattle.disk_model.specs.State.{State, settled}
 use Rattle.disk_model.specs.declared.disk.Disk.{Ghosts}
+use Rattle.disk_model.specs.declared.disk.DiskFault.{DiskFault}
 use Rattle.disk_model.specs.declared.place.Place.{Place}
 use Rattle.entry_file.specs.Looks.{meta_looks}
 use Rattle.file_handles.specs.Closing.{writes_draft}
@@ -46,7 +47,8 @@ ReadsEntriesOf D names before now =
 -- the disk is looked at once, at this place, and is as before
 abbrev pub LooksOnceAt : {Self : _} → Ghosts Self → Place → Self → Self → Type 0
 LooksOnceAt D place before now =
-    (D.state now ≡ D.state before) × (D.counts now ≡ counted_read place (D.counts before))
+    (D.state now ≡ D.state before)
+    × ((size : Result (Option ℕ) DiskFault) × (D.counts now ≡ counted_read size place (D.counts before)))
 
 -- a command that makes no call of the disk
 abbrev pub MakesNoCall : Command → Type 0

@@ -1,6 +1,7 @@
 pub mod Answering
 pub mod AtClear
 pub mod Clearing
+pub mod CommandCall
 pub mod DoneFor
 pub mod Dumping
 pub mod EndsUpdate

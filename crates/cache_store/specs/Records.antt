@@ -1,11 +1,11 @@
 -- What the records in memory say of the entries.
-use Rattle.std.specs.Prelude.{Bool, List, None, Some, [], is_some, ℕ, ⊤, ◌≡◌, ◌≢◌}
+use Rattle.std.specs.Prelude.{Bool, List, None, Some, [], drop, is_some, take, ℕ, ⊤, ◌≡◌, ◌≢◌}
 use Rattle.cache_base.specs.declared.name.Name.{Name}
 use Rattle.cache_store.specs.Replied.{reply_of}
 use Rattle.cache_store.specs.declared.answered.Answered.{Answered}
 use Rattle.cache_store.specs.declared.memory_index.MemoryIndex.{MemoryIndex}
 use Rattle.cache_theory.specs.Command.{Command}
-use Rattle.cache_theory.specs.Command.Command.{At, Dump, ElementOf, Get, GetAlt, HasEntry, HasGiven, ListRecords, MainBody, OpenKey, ReadPart, UpdateState, Verify}
+use Rattle.cache_theory.specs.Command.Command.{At, Dump, ElementOf, Get, GetAlt, HasEntry, HasGiven, ListRecords, MainBody, OpenKey, ReadPart, StepUpdate, UpdateState, Verify}
 use Rattle.cache_theory.specs.Machine.{Machine}
 use Rattle.cache_theory.specs.Step.{step}
 use Rattle.cache_theory.specs.Table.{get}
@@ -18,6 +18,7 @@ use Rattle.index_theory.specs.Ever.{Entries}
 use Rattle.index_theory.specs.Scan.{scanned}
 use Rattle.index_update.specs.Reads.{ReadsIn}
 use Rattle.index_update.specs.Rest.{name_bytes, without}
+use Rattle.index_update.specs.Slices.{ReadsSlice}
 use Rattle.index_update.specs.Tells.{TellsAll, TellsSeen}
 use Rattle.record_list.specs.Lists.{AreRising, record_at}
 
@@ -88,7 +89,17 @@ AtEndIsOne =
     (es : Entries) (index : MemoryIndex) (rs more : List IndexRecord)
     → AreAtEnd es index rs → AreAtEnd es index more → rs ≡ more
 
--- the index in memory after a command that only looks: as before, or with the update ended, by what the files say
+-- A step of the update: where it had ended nothing changes. Else the first n names leave the rest, and their records are
+-- set to what the files say; where none is left, only the records that were seen stay.
+pub record StepsUpdate (n : ℕ) (es : Entries) (old new : MemoryIndex) : Type 0 where
+  pub rest : new.update ≡ drop n old.update
+  pub ended : old.update ≡ [] → new ≡ old
+  pub read : old.update ≢ []
+      → ReadsSlice es (take n old.update) old.update new.update old.map new.map
+  pub last : old.update ≢ [] → new.update ≡ [] → new.map.records ≡ new.map.seen
+
+-- the index in memory after a command that only looks: as before, or with the update ended or one step further, by what
+-- the files say
 abbrev pub KeepsRecords : Command → Entries → MemoryIndex → MemoryIndex → Type 0
 KeepsRecords (At now) es old new = new ≡ old
 KeepsRecords (OpenKey s key) es old new = new ≡ old
@@ -99,6 +110,7 @@ KeepsRecords (GetAlt key) es old new = new ≡ old
 KeepsRecords (MainBody key) es old new = new ≡ old
 KeepsRecords (HasEntry key) es old new = new ≡ old
 KeepsRecords UpdateState es old new = new ≡ old
+KeepsRecords (StepUpdate n) es old new = StepsUpdate n es old new
 KeepsRecords ListRecords es old new = (new.update ≡ []) × EndsWith es old new.map.records
 KeepsRecords Verify es old new = (new.update ≡ []) × EndsWith es old new.map.records
 KeepsRecords Dump es old new = (new.update ≡ []) × EndsWith es old new.map.records

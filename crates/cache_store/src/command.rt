@@ -6,13 +6,14 @@ ghost use Rattle.cache_base.specs.declared.limits.TheConstants.{SLOTS};
 ghost use Rattle.cache_script.specs.Command.{command_of};
 ghost use Rattle.cache_store.specs.Answering.{outcome_in, left_to_say};
 ghost use Rattle.cache_store.specs.AtClear.{ChangesAtClear, ClearsInOrder};
+ghost use Rattle.cache_store.specs.CommandCall.{HoldsAtExit, PerformsCommand};
 ghost use Rattle.cache_store.specs.Clearing.{HasNoMark, IsClearing, LeavesResumed, LeavesUncleared, origin_cleared};
 ghost use Rattle.cache_store.specs.Evicting.{IsEviction, LeavesOthers, LooksBeforeChanges};
 ghost use Rattle.cache_store.specs.Faulting.{FailsForGood, LooksAtNothing, LooksFirst, StaysAs};
 ghost use Rattle.cache_store.specs.Faults.{AccountsForSink, OnlySinkFails, ending};
 ghost use Rattle.cache_store.specs.IndexCalls.{Flushes, IsFresh, IsWritten, ReadsEntriesOf, LooksOnceAt, MakesNoCall, NeverSyncs, OnlyLooks, Rebuilds, SyncsAll, names_read};
 ghost use Rattle.cache_store.specs.InUse.{SparesIndex};
-ghost use Rattle.cache_store.specs.Printed.{HasBadKey, IsPlainAnswer, Prints, is_plain};
+ghost use Rattle.cache_store.specs.Printed.{HasBadKey, IsPlainAnswer, is_plain};
 ghost use Rattle.cache_store.specs.Reads.{AreHeld, LastIsFirst, LeavesChunks, PutsChunks};
 ghost use Rattle.cache_store.specs.Records.{KeepsRecords};
 ghost use Rattle.cache_store.specs.Said.{IsCut, saying};
@@ -31,7 +32,6 @@ ghost use Rattle.file_handles.specs.Dooming.{IsUnfinishedFor, TakesEntries};
 ghost use Rattle.file_handles.specs.Unsynced.{SyncsNothing};
 ghost use Rattle.index_map.specs.Known.{SameBase};
 ghost use Rattle.index_theory.specs.Ever.{entries_on};
-ghost use Rattle.index_theory.specs.Honest.{LeavesHonest};
 ghost use Rattle.index_theory.specs.Leaves.{LeavesIndex};
 ghost use Rattle.index_theory.specs.Unclean.{IsUnclean};
 
@@ -131,12 +131,12 @@ fn say_rest<K: Sink>(
 
 impl Store {
     ghost use Rattle.cache_store.specs.Answering.{AnswersOver, CutsRest, IsStillToSay, SendsRest};
-    ghost use Rattle.cache_store.specs.InMemory.{AnswersInMemory, CutsPlainLine, RepliesInMemory};
-    ghost use Rattle.cache_store.specs.Open.{IsOpen, LeavesOpen};
-    ghost use Rattle.cache_store.specs.Performing.{DoesWhatIsDone, HadEffect, PerformsFor};
+    ghost use Rattle.cache_store.specs.InMemory.{AnswersInMemory};
+    ghost use Rattle.cache_store.specs.Open.{IsOpen};
+    ghost use Rattle.cache_store.specs.Performing.{DoesWhatIsDone, HadEffect};
     ghost use Rattle.cache_store.specs.Session.{cache_of, is_faulting, open_of, session};
     ghost use Rattle.cache_store.specs.StoppedClearing.{ClearsUnderMark};
-    ghost use Rattle.cache_store.specs.Verifying.{IsFoundIn, PrintsFound};
+    ghost use Rattle.cache_store.specs.Verifying.{IsFoundIn};
     ghost use Rattle.file_handles.specs.Cache.{cache};
     ghost use Rattle.file_handles.specs.Kept.{kept};
 
@@ -407,110 +407,10 @@ impl Store {
     ) -> Result<Verdict, StoreFault>
         requires given { IsGiven (command_of c.now) }
         requires told { IsTrue D.tells → IsOpen (session D.Disk self.old disk.old) }
-        // What it comes to, by the machine, and what a crash leaves at every exit.
-        ensures performs { let at = session D.Disk in IsTrue D.tells →
-            PerformsFor (command_of c.now) result (at self.old disk.old) (at self.new disk.new)
-            (K.taken sink.old) (K.taken sink.new) }
-        ensures prints { IfOk result (λ o.
-            Prints (command_of c.now) o (K.taken sink.old) (K.taken sink.new)) }
-        ensures verifies { command_of c.now ≡ Verify → OnOk result (IsTrue D.tells →
-            let map = (open_of self.new).index.map in
-            PrintsFound (session D.Disk self.old disk.old) map
-            (K.taken sink.old) (K.taken sink.new)) }
-        ensures in_memory { MakesNoCall (command_of c.now) →
-            RepliesInMemory (open_of self.old) (command_of c.now) result
-            (K.taken sink.old) (K.taken sink.new) }
-        ensures cut { is_plain (command_of c.now) ≡ true →
-            OnErr result (CutsPlainLine (K.taken sink.old) (K.taken sink.new)) }
-        ensures bad_key { HasBadKey (command_of c.now) → result ≢ Ok Verdict.Ok }
-        ensures wordless { command_of c.now ≡ Resume →
-            (sink.new ≡ sink.old) × (result ≢ Err StoreFault.Sink) }
-        ensures grows { IsTrue D.tells → TakesMore (K.taken sink.old) (K.taken sink.new) }
-        ensures open { IsTrue D.tells → LeavesOpen result (session D.Disk self.new disk.new) }
-        ensures honest { IsTrue D.tells → LeavesHonest (D.state disk.new) }
-
-        // The files of the index: they are left alone and the base in memory stays, but by a `rebuild`, and by a
-        // `flush` where the update has ended and not few records differ. Where it has ended, a `flush` leaves an
-        // index with all records but for few; and a `rebuild` leaves one with all. After both nothing is pending.
-        ensures index { SparesIndex (command_of c.now) (open_of self.old).index →
-            Told D.Disk LeavesIndex disk.old disk.new }
-        ensures base { let was = (open_of self.old).index in let now = (open_of self.new).index in
-            SparesIndex (command_of c.now) was → HadEffect result → SameBase was.map now.map }
-        ensures quiet { SyncsAll (command_of c.now) → HadEffect result →
-            IsTrue D.tells → IsQuiet (D.state disk.new) }
-        ensures flushed { let now = (open_of self.new).index in
-            command_of c.now ≡ Flush → OnOk result (now.update ≡ [] → IsFresh now.map) }
-        ensures rebuilt { command_of c.now ≡ Rebuild →
-            OnOk result (IsWritten (open_of self.new).index.map) }
-        ensures evicts { (kb : ℕ) → command_of c.now ≡ Evict kb →
-            HadEffect result → IsTrue D.tells →
-            LeavesOthers (session D.Disk self.old disk.old) kb (open_of self.new).index.map }
-        ensures clears { IfSome
-            (origin_cleared (command_of c.now) (standing (D.state disk.old) Clear)) (λ origin.
-            HadEffect result → IsTrue D.tells →
-            let map = (open_of self.new).index.map in
-            LeavesUncleared (session D.Disk self.old disk.old) origin map) }
-        ensures unmarked { IsClearing (command_of c.now) → HadEffect result →
-            IsTrue D.tells → HasNoMark (D.state disk.new) }
-        ensures stopped { IfSome
-            (origin_cleared (command_of c.now) (standing (D.state disk.old) Clear)) (λ origin.
-            IsTrue D.tells →
-            ClearsUnderMark origin (session D.Disk self.old disk.old) (D.state disk.new)) }
-        ensures ordered { IfSome
-            (origin_cleared (command_of c.now) (standing (D.state disk.old) Clear)) (λ origin.
-            Told D.Disk (ClearsInOrder origin) disk.old disk.new) }
-        ensures at_clear { Told D.Disk (ChangesAtClear (command_of c.now)) disk.old disk.new }
-        ensures resumes { command_of c.now ≡ Resume → HadEffect result → IsTrue D.tells →
-            let mark = mark_of (standing (D.state disk.old) Clear) in
-            LeavesResumed mark (session D.Disk self.old disk.old) (open_of self.new).index }
-        ensures synced { command_of c.now ≡ Resume → HadEffect result → IsTrue D.tells →
-            IsSome (mark_of (standing (D.state disk.old) Clear)) → IsQuiet (D.state disk.new) }
-        ensures flushes { command_of c.now ≡ Flush → HadEffect result →
-            let was = open_of self.old in
-            Told D.Disk (Flushes was.index was.moment) disk.old disk.new }
-        ensures rebuilds { command_of c.now ≡ Rebuild → HadEffect result →
-            let map = (open_of self.new).index.map in
-            Told D.Disk (Rebuilds map (open_of self.old).moment) disk.old disk.new }
-
-        // A `read` makes no call of the disk where all its chunks are held. Afterwards its last one is the most
-        // recent. No other command drops a chunk, but a `close` those of its own entry.
-        ensures held { (slot from len : ℕ) → command_of c.now ≡ ReadPart slot from len →
-            AreHeld (open_of self.old).handles slot from len → disk.new ≡ disk.old }
-        ensures recent { (slot from len : ℕ) → command_of c.now ≡ ReadPart slot from len →
-            result ≡ Ok Verdict.Ok → IsTrue D.tells →
-            LastIsFirst (open_of self.old).handles slot from len (open_of self.new).handles }
-        ensures chunks { let was = open_of self.old in let now = open_of self.new in
-            LeavesChunks (command_of c.now) was.handles now.handles }
-        ensures alt_chunks { (slot : ℕ) (kind bytes : List ℕ) →
-            command_of c.now ≡ PutAlt slot kind bytes → IfOk result (λ o.
-            PutsChunks o slot (open_of self.old).handles (open_of self.new).handles) }
-
-        // The records in memory after a command that only looks.
-        ensures records { OnOk result (IsTrue D.tells →
-            KeepsRecords (command_of c.now) (entries_on (D.state disk.old))
-            (open_of self.old).index (open_of self.new).index) }
-
-        // Calls and faults. Some commands make no call of the disk, and some only look at it. A command that goes by
-        // the index looks at an entry for no name but those that it reads, and an eviction looks at the disk only
-        // before its first removal, and does nothing but take files of entries away.
-        ensures idle { MakesNoCall (command_of c.now) → disk.new ≡ disk.old }
-        ensures unfinished { (key : List ℕ) (place number : ℕ) → command_of c.now ≡ Doom key →
-            IsUnfinishedFor (open_of self.old).handles key place number → disk.new ≡ disk.old }
-        ensures looking { OnlyLooks (command_of c.now) →
-            Looks D.Disk (ending result) disk.old disk.new }
-        ensures unsynced { NeverSyncs (open_of self.old).handles (command_of c.now) →
-            Told D.Disk SyncsNothing disk.old disk.new }
-        ensures looks { let mark = mark_of (standing (D.state disk.old) Clear) in
-            IfSome (names_read (command_of c.now) mark (open_of self.old).index.update)
-            (λ names. ReadsEntriesOf D.Disk names disk.old disk.new) }
-        ensures looks_first { IsEviction (command_of c.now) →
-            LooksBeforeChanges D.Disk (ending result) disk.old disk.new }
-        ensures takes { IsEviction (command_of c.now) →
-            Told D.Disk TakesEntries disk.old disk.new }
-        ensures resumes_first { command_of c.now ≡ Resume →
-            LooksFirst D.Disk (ending result) disk.old disk.new }
-        ensures account { Accounts D.Disk (ending result) disk.old disk.new }
-        ensures sink { AccountsForSink K.Sink result sink.old sink.new }
+        ensures always { HoldsAtExit D.Disk K.Sink (command_of c.now) result
+            self.old self.new disk.old disk.new sink.old sink.new }
+        ensures does { PerformsCommand D.Disk K.Sink (command_of c.now) result
+            self.old self.new disk.old disk.new sink.old sink.new }
 
         // Where a look failed before anything of the reply was out, `faulting` tells it, and all is as it was. Where
         // the disk failed in another way, it was in a change or a sync, as the last call, or the reply is out up to
@@ -530,8 +430,6 @@ impl Store {
             FailsForGood (D.counts disk.new) (command_of c.now) at
             (K.taken sink.old) (K.taken sink.new) }
         ensures bare { LooksAtNothing (command_of c.now) → is_faulting self.new ≡ false }
-        ensures once { command_of c.now ≡ Resume → IsTrue D.tells →
-            standing (D.state disk.old) Clear ≡ None → LooksOnceAt D.Disk Clear disk.old disk.new }
         ensures ends { command_of c.now ≡ Resume → is_faulting self.new ≡ false }
     {
         self.reply.clear();

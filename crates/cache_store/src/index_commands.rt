@@ -10,7 +10,7 @@ ghost use Rattle.cache_store.specs.Kept.{HoldsIndex};
 ghost use Rattle.cache_store.specs.Said.{saying};
 ghost use Rattle.cache_store.specs.Saying.{TakesMore};
 ghost use Rattle.cache_theory.specs.Command.Command.{Flush, ListRecords, Rebuild, StepUpdate};
-ghost use Rattle.cache_store.specs.Records.{EndsWith};
+ghost use Rattle.cache_store.specs.Records.{EndsWith, StepsUpdate};
 ghost use Rattle.index_theory.specs.Ever.{entries_on};
 ghost use Rattle.disk_model.specs.Account.{Accounts, Ending, FailsInChange, Looks, LooksAtNoEntry, ending as disk_ending};
 ghost use Rattle.disk_model.specs.Sound.{IsQuiet};
@@ -130,6 +130,8 @@ impl Store {
         ensures looks { Looks D.Disk (ending result) disk.old disk.new }
         ensures names { let names = length (take n self.old.index.update) in
             ReadsEntriesOf D.Disk names disk.old disk.new }
+        ensures steps { let es = entries_on (D.state disk.old) in OnOk result (IsTrue D.tells →
+            StepsUpdate n es self.old.index self.new.index) }
     {
         match self.index.step(disk, n) {
             Ok(()) => Ok(self.index.state()),

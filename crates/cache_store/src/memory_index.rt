@@ -3,7 +3,7 @@
 ghost use Rattle.std.specs.Prelude.{◌≡◌, ◌≢◌, [], IfOk, IsTrue, OnErr, OnOk, Some, drop, false, length, take};
 ghost use Rattle.cache_store.specs.Evicting.{Forgets};
 ghost use Rattle.cache_store.specs.Printed.{lists_findings};
-ghost use Rattle.cache_store.specs.Records.{AnswersHas, EndsWith, LearnsEffect, TakenOff, TellsAtEnd, TellsOf};
+ghost use Rattle.cache_store.specs.Records.{AnswersHas, EndsWith, LearnsEffect, StepsUpdate, TakenOff, TellsAtEnd, TellsOf};
 ghost use Rattle.cache_store.specs.Replied.{reply_of};
 ghost use Rattle.cache_theory.specs.Step.{state_reply};
 ghost use Rattle.disk_model.specs.Account.{Looks, ending};
@@ -92,6 +92,8 @@ impl MemoryIndex {
         ensures rest { OnOk result (self.new.update ≡ drop n self.old.update) }
         ensures base { SameBase self.old.map self.new.map }
         ensures left { OnErr result (self.new.update ≡ self.old.update) }
+        ensures steps { let es = entries_on (D.state disk.old) in
+            OnOk result (IsTrue D.tells → StepsUpdate n es self.old self.new) }
         ensures tells { let es = entries_on (D.state disk.old) in
             IsTrue D.tells → TellsOf es self.old → TellsOf es self.new }
         ensures looks { let names = length (take n self.old.update) in

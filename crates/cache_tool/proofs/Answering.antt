@@ -21,7 +21,7 @@ use Rattle.cache_tool.specs.Staying.{StaysFor}
 use Rattle.cache_tool.specs.World.{Sitting}
 use Rattle.cache_tool.proofs.ForGood.{disk_of}
 use Rattle.disk_model.specs.Account.{Accounts, Ending}
-use Rattle.disk_model.specs.Calls.{StopsAtFault}
+use Rattle.disk_model.specs.Calls.{LastCallFails, StopsAtFault}
 use Rattle.disk_model.specs.declared.disk.Disk.{Ghosts as OfDisk}
 use Rattle.index_map.specs.Known.{SameBase}
 
@@ -32,6 +32,7 @@ pub record AnswersByReply (tells : Bool) (c : Command) (answer : Result Verdict 
   pub rose : answer ≡ Err fault.Disk → Rose before.disk_faults now.disk_faults
   pub kept : answer ≢ Err fault.Disk → now.disk_faults ≡ before.disk_faults
   pub for_good : c ≢ Resume → answer ≡ Err fault.Disk → IsTrue tells → FailsForGood now.disk_counts c (cache_of before.session) before.taken now.taken
+  pub last : answer ≡ Err fault.Disk → IsTrue tells → LastCallFails now.disk_counts
 
 -- by the line `fault`, where a look at the disk failed and all is as it was
 pub record AnswersByFault (tells : Bool) (answer : Result Verdict StoreFault) (before now : Sitting) : Type 0 where
@@ -88,6 +89,7 @@ module _ {Self : _} (D : OfDisk Self) (result : Result Outcome StoreFault) (old 
           rose = λ e. (account calm).cause.rose (disk_ending result e);
           kept = λ other. (account calm).cause.kept (λ failed. other (ap verdict_in (disk_of result failed)));
           for_good = λ no_resume e told. fails no_resume (disk_in result e) told;
+          last = λ e told. (account calm).last (disk_ending result e) told;
         }),
       ))
       (λ failed.

@@ -1,14 +1,14 @@
 -- How a session ends whose disk failed for good.
-use Rattle.std.proofs.Common.{◌≡◌, ◌≢◌, ◌⊎◌, ◌∙◌, inl, inr, ℕ, List, [], ◌∷◌, Option, Some, None, Result, Ok, Err, IsErrAnd, refl, sym, ap, subst}
+use Rattle.std.proofs.Common.{◌≡◌, ◌≢◌, ◌⊎◌, ◌∙◌, inl, inr, ℕ, List, [], ◌∷◌, Option, Some, None, Result, Ok, Err, refl, sym, subst}
 use Rattle.std.specs.Io.KnownBytes.{Appends}
 use Rattle.std.specs.Prelude.{IfOk, IsErrOf, OnOk}
 use Rattle.cache_base.specs.Causes.{HasCause, Rose}
 use Rattle.cache_base.specs.declared.status.Status.{Status}
 use Rattle.cache_base.specs.declared.status.Status.TheVariants as status
 use Rattle.cache_store.specs.DoneFor.{IsDoneFor}
-use Rattle.cache_store.specs.Faulting.{FailsForGood, SendsReplyFront, reply_front}
+use Rattle.cache_store.specs.Faulting.{FailsForGood, SendsReplyFront}
 use Rattle.cache_store.specs.Faults.{ending}
-use Rattle.cache_store.specs.Open.{IsOpen, Represents}
+use Rattle.cache_store.specs.Open.{IsOpen}
 use Rattle.cache_store.specs.Session.{Session, cache_of}
 use Rattle.cache_store.specs.declared.fault.StoreFault.{StoreFault}
 use Rattle.cache_store.specs.declared.fault.StoreFault.TheVariants as fault
@@ -25,7 +25,7 @@ use Rattle.cache_tool.specs.World.{Output}
 use Rattle.cache_tool.proofs.OneCommand.{CameBy}
 use Rattle.cache_tool.proofs.StatusLaws.{answer_closes}
 use Rattle.disk_model.specs.Account.{Ending}
-use Rattle.disk_model.specs.Calls.{Counts, LastFails}
+use Rattle.disk_model.specs.Calls.{Counts, LastCallFails, LastFails, LastLookFails}
 use Rattle.file_handles.specs.Cache.{Cache}
 use Rattle.file_handles.specs.Stands.{Represents as CacheRepresents}
 
@@ -51,12 +51,12 @@ stops_last m (c ∷ []) before now last = inl last
 stops_last m (c ∷ d ∷ cs) before now last = last
 
 -- the commands failed so, or the closing did
-pub ended_last : (came : Result Status StoreFault) (ended : Status) (mid now : Counts) → IfOk came IsClosing → (IsClosing (status_in came) → ended ≡ status.Disk → LastFails now)
-    → (¬ (IsClosing (status_in came)) → (ended ≡ status_in came) × (now ≡ mid)) → (ending came ≡ Ending.OneFailed → LastFails mid) → ended ≡ status.Disk → LastFails now
-ended_last (Ok s) ended mid now closes closed dropped failed disk = closed closes disk
-ended_last (Err fault.Sink) ended mid now closes closed dropped failed disk = closed tt disk
-ended_last (Err fault.Disk) ended mid now closes closed dropped failed disk = subst LastFails (sym (dropped (λ h. h)).1) (failed refl)
-ended_last (Err fault.Memory) ended mid now closes closed dropped failed disk =
+pub ended_last : (P : Counts → Type 0) (came : Result Status StoreFault) (ended : Status) (mid now : Counts) → (LastFails now → P now) → IfOk came IsClosing → (IsClosing (status_in came) → ended ≡ status.Disk → LastFails now)
+    → (¬ (IsClosing (status_in came)) → (ended ≡ status_in came) × (now ≡ mid)) → (ending came ≡ Ending.OneFailed → P mid) → ended ≡ status.Disk → P now
+ended_last P (Ok s) ended mid now so closes closed dropped failed disk = so (closed closes disk)
+ended_last P (Err fault.Sink) ended mid now so closes closed dropped failed disk = so (closed tt disk)
+ended_last P (Err fault.Disk) ended mid now so closes closed dropped failed disk = subst P (sym (dropped (λ h. h)).1) (failed refl)
+ended_last P (Err fault.Memory) ended mid now so closes closed dropped failed disk =
     absurd (let both : status.Memory ≡ status.Disk = sym (dropped (λ h. h)).0 ∙ disk in cc)
 
 -- what a put comes to closes the store
@@ -77,9 +77,10 @@ front_done right c m d taken now is sent = subst (λ x. SendsReplyFront x m take
 
 -- what failed for good is what is done for the command
 pub stops_for_good : (right : Type 0) (c : Command) (m : Machine) (d : Command) → IsDoneFor right c m d → (counts : Counts) (taken now : Option (List ℕ)) (at : Cache) → CacheRepresents at m
-    → FailsForGood counts c at taken now → LastFails counts ⊎ SendsReplyFront d m taken now
-stops_for_good right c m d is counts taken now at stands (inl last) = inl last
-stops_for_good right c m d is counts taken now at stands (inr sends) = inr (front_done right c m d taken now is (sends m stands))
+    → LastCallFails counts → FailsForGood counts c at taken now → LastFails counts ⊎ (LastLookFails counts × SendsReplyFront d m taken now)
+stops_for_good right c m d is counts taken now at stands call (inl last) = inl last
+stops_for_good right c m d is counts taken now at stands (inl last) (inr sends) = inl last
+stops_for_good right c m d is counts taken now at stands (inr look) (inr sends) = inr (look, front_done right c m d taken now is (sends m stands))
 
 pub no_resume : (c : Command) → IsSpoken c → c ≢ Resume
 no_resume c spoken is = subst IsSpoken is spoken

@@ -24,4 +24,4 @@ handed_account D r f a b c h first last = subst (λ e. Accounts D e a c) (sym (a
 
 -- a call that only looked and did not fail
 pub looks_account : {Self : _} (D : Ghosts Self) (a b : Self) → Looks D Ending.NoneFailed a b → Accounts D Ending.NoneFailed a b
-looks_account D a b looks = record { cause = looks.cause; went_on = λ none. looks.no_change; stops = λ told. inl (looks.no_change told) }
+looks_account D a b looks = record { cause = looks.cause; went_on = λ none. looks.no_change; stops = λ told. inl (looks.no_change told); last = λ failed. absurd (cc) }

@@ -39,7 +39,7 @@ use Rattle.cache_tool.proofs.MarkLeft.{leaves_mark}
 use Rattle.cache_tool.proofs.RightLaws.{leads_begun, leads_none, leads_one, leads_still}
 use Rattle.cache_tool.proofs.SessionEnds.{ends_leave, stops_leave}
 use Rattle.disk_model.specs.Account.{Ending}
-use Rattle.disk_model.specs.Calls.{Counts, LastFails}
+use Rattle.disk_model.specs.Calls.{Counts, LastCallFails, LastFails}
 use Rattle.disk_model.specs.State.{State}
 use Rattle.index_map.specs.Known.{SameBase}
 use Rattle.index_theory.specs.Honest.{LeavesHonest}
@@ -112,13 +112,14 @@ disk_failed fault.Disk ended is disk = refl
 disk_failed fault.Sink ended is disk = absurd (let e : status.Sink ≡ status.Disk = sym is ∙ disk in cc)
 
 pub not_begun : {moment : ℕ} {counts : Counts} {T : Type 0} (before : Output) (t : State) (faults : ℕ) (answer : Result T StoreFault) (f : StoreFault) (ended : Status) → answer ≡ Err f → answer ≢ Err fault.Sink → ended ≡ status_in (Err f)
-    → (ending answer ≡ Ending.OneFailed → Rose before.disk_faults faults) → FailsToBegin moment before.disk t
+    → (ending answer ≡ Ending.OneFailed → Rose before.disk_faults faults) → (ending answer ≡ Ending.OneFailed → LastCallFails counts) → FailsToBegin moment before.disk t
     → (m : Machine) → StartsOn moment before.disk m → HasNotBegun m ended before (record before { disk = t; disk_faults = faults; disk_counts = counts })
-not_begun before t faults answer f ended failed no_sink same rose fails m is =
+not_begun before t faults answer f ended failed no_sink same rose last fails m is =
     let stop : IsStop ended = no_sink_stops answer f ended failed no_sink same in
     record {
       failed = stop;
       rose = λ disk. rose (ap ending failed ∙ disk_failed f ended same disk);
+      last = λ disk. last (ap ending failed ∙ disk_failed f ended same disk);
       silent = Keeps-refl before.taken;
       mark = leaves_mark [] before.disk t fails.mark;
       leaves = elim (fails.crash m is) [

@@ -1,6 +1,7 @@
 -- What a `fill` comes to.
 use Rattle.std.specs.Prelude.{List, [], codes, ℕ, ◌++◌, ◌∷◌, ◌≡◌, ◌⊎◌}
 use Rattle.cache_base.specs.declared.status.Status.{Status}
+use Rattle.cache_base.specs.declared.status.Status.TheVariants as status
 use Rattle.cache_store.specs.Answering.{outcome_of}
 use Rattle.cache_store.specs.Open.{StartsOn}
 use Rattle.cache_theory.specs.Command.{Command, Reply}
@@ -14,6 +15,7 @@ use Rattle.cache_tool.specs.FirstLine.{first_line}
 use Rattle.cache_tool.specs.Statuses.{IsAnswer, status_of}
 use Rattle.cache_tool.specs.Verbs.{HasNotBegun, LeavesDisk, PrintsText, all_begun_none_acked}
 use Rattle.cache_tool.specs.World.{Output}
+use Rattle.disk_model.specs.Calls.{LastCallFails}
 use Rattle.disk_model.specs.State.{standing}
 use Rattle.evictor.specs.Evict.{total_kb}
 use Rattle.index_theory.specs.Honest.{Honest}
@@ -60,6 +62,8 @@ pub record PrintsFill (now count first : ℕ) (m : Machine) (d : Command) (ended
   -- with an answer the status is that of the check
   pub answer : IsAnswer ended → ended ≡ status_in_check filled
   pub text : PrintsText (lines_in filled) ended before after
+  -- no call of the disk follows one that failed
+  pub last : ended ≡ status.Disk → LastCallFails after.disk_counts
   pub leaves : LeavesDisk m (all_begun_none_acked m d (done_in filled)) ended before.disk after.disk
 
 -- `fill`: so many entries are made, half of all is evicted, and all is checked and listed; or the run did not begin

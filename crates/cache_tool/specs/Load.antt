@@ -18,6 +18,7 @@ use Rattle.cache_theory.specs.Text.{line, with_number}
 use Rattle.cache_tool.specs.Beginning.{DoneAtOpening}
 use Rattle.cache_tool.specs.Verbs.{HasNotBegun, LeavesDisk, all_begun_none_acked}
 use Rattle.cache_tool.specs.World.{World, output_of}
+use Rattle.disk_model.specs.Calls.{LastCallFails}
 use Rattle.entry_file.specs.Version.{Version}
 
 -- ---- what was read of a dump
@@ -151,6 +152,8 @@ pub record PrintsLoaded (m : Machine) (d : Command) (bytes : List ℕ) (ended : 
   pub stocked : IsStocked (step m d).next loaded.items
   pub found : FindsStock (step m d).next.shelf loaded.items
   pub prints : PrintsLoadLine bytes loaded read ended before.taken now.taken
+  -- no call of the disk follows one that failed
+  pub last : ended ≡ status.Disk → LastCallFails now.disk_counts
   pub leaves : LeavesDisk m
       (all_begun_none_acked m d (loaded_commands loaded)) ended before.disk now.disk
 

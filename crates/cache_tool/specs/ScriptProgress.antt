@@ -29,7 +29,7 @@ use Rattle.cache_tool.specs.Verbs.{CountsFaults, Reach, begun_of, SendsNextFront
 use Rattle.cache_tool.specs.World.{Progress}
 use Rattle.cache_tool.specs.declared.script.ScriptEnd.{ScriptEnd}
 use Rattle.cache_tool.specs.declared.script.ScriptEnd.TheVariants as ended
-use Rattle.disk_model.specs.Calls.{LastFails}
+use Rattle.disk_model.specs.Calls.{LastFails, LastLookFails}
 use Rattle.disk_model.specs.State.{State}
 
 -- these commands were read from a source, and after them these bytes
@@ -99,7 +99,8 @@ pub record IsCutOff (cs : List Command) (faults : List ℕ) (c : Command) (f : S
       now.session (unanswered c (all_answered (unfaulted faults cs) h))
   -- whatever commands come after it
   pub for_good : (more : List Command) → f ≡ fault.Disk → LastFails now.disk_counts
-      ⊎ SendsNextFront h.machine (cs ++ c ∷ more) (length cs) faults before.taken now.taken
+      ⊎ (LastLookFails now.disk_counts
+      × SendsNextFront h.machine (cs ++ c ∷ more) (length cs) faults before.taken now.taken)
 
 -- of what is done for some commands
 pub record SomeCutOff (cs : List Command) (faults : List ℕ) (c : Command) (f : StoreFault)
@@ -265,7 +266,8 @@ pub record ScriptIsRun (h : History) (bytes : List ℕ) (cs : List Command) (end
   pub is_done : DoneForKept before.session h.machine cs done with_last
   pub tells : TellsAcked h.machine bytes cs done ended acked faults with_last before now
   pub for_good : ended ≡ status.Disk → LastFails now.disk_counts
-      ⊎ SendsNextFront h.machine done acked faults before.taken now.taken
+      ⊎ (LastLookFails now.disk_counts
+      × SendsNextFront h.machine done acked faults before.taken now.taken)
   pub leaves : LeavesScript h.machine
       (one_begun_on h acked with_last ended done) ended before.session now.session
   pub mark : ChangeMark (begun_of acked with_last cs) before.session.disk now.session.disk

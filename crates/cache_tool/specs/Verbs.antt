@@ -30,7 +30,7 @@ use Rattle.cache_tool.specs.Statuses.{IsAnswer, IsClosing, status_of}
 use Rattle.cache_tool.specs.Staying.{EndsInUse, KeepsPast, StaysOverAll}
 use Rattle.cache_tool.specs.Tally.{RoseBy}
 use Rattle.cache_tool.specs.World.{Output, World, output_of}
-use Rattle.disk_model.specs.Calls.{LastFails}
+use Rattle.disk_model.specs.Calls.{LastCallFails, LastFails, LastLookFails}
 use Rattle.disk_model.specs.Sound.{IsQuiet}
 use Rattle.disk_model.specs.State.{State, standing}
 use Rattle.disk_model.specs.declared.place.Place.TheVariants.{Index}
@@ -120,6 +120,8 @@ pub record PrintsText (text : List ℕ) (ended : Status) (before now : Output) :
 pub record HasNotBegun (m : Machine) (ended : Status) (before now : Output) : Type 0 where
   pub failed : (ended ≡ status.Disk) ⊎ (ended ≡ status.Memory)
   pub rose : ended ≡ status.Disk → Rose before.disk_faults now.disk_faults
+  -- no call of the disk follows one that failed
+  pub last : ended ≡ status.Disk → LastCallFails now.disk_counts
   pub silent : Keeps before.taken now.taken
   pub mark : LeavesMark [] before.disk now.disk
   -- no command has begun, or that one alone
@@ -127,11 +129,11 @@ pub record HasNotBegun (m : Machine) (ended : Status) (before now : Output) : Ty
       ⊎ DoneAtOpening before.disk m
       (λ d. LeavesDisk m (none_performed m d) ended before.disk now.disk)
 
--- the disk failed for good: its last call was a change or a sync that failed; or these are one command, and its reply is
--- out up to the end of a first chunk
+-- the disk failed for good: its last call was a change or a sync that failed; or it was a look that failed, these are
+-- one command, and its reply is out up to the end of a first chunk
 abbrev pub StopsForGood : Machine → List Command → Output → Output → Type 0
-StopsForGood m (c ∷ []) before now =
-    LastFails now.disk_counts ⊎ SendsReplyFront c m before.taken now.taken
+StopsForGood m (c ∷ []) before now = LastFails now.disk_counts
+    ⊎ (LastLookFails now.disk_counts × SendsReplyFront c m before.taken now.taken)
 StopsForGood m cs before now = LastFails now.disk_counts
 
 -- It began, and this was done for `Resume`. Then these commands were performed for words other than `run`, and the last
@@ -254,9 +256,10 @@ pub record PrintsReplies (m : Machine) (d : Command) (bytes : List ℕ) (cs : Li
   -- a source that failed gave these commands whole
   pub source : ended ≡ status.Source
       → AreTaken before.source.left now.source.left (take acked cs)
-  -- a look that failed before anything of a reply was out does not end it
+  -- a look that failed before anything of a reply was out does not end it, and no call follows the one that ends it
   pub for_good : ended ≡ status.Disk → LastFails now.disk_counts
-      ⊎ SendsNextFront (step m d).next done acked faults before.taken now.taken
+      ⊎ (LastLookFails now.disk_counts
+      × SendsNextFront (step m d).next done acked faults before.taken now.taken)
   pub leaves : LeavesDisk m
       (one_begun_after m d acked with_last ended done) ended before.disk now.disk
   pub mark : LeavesMark (begun_of acked with_last cs) before.disk now.disk

@@ -27,7 +27,7 @@ pub fn read_chunk<D: Disk>(
     ensures chunk { OnOk result (IsTrue D.tells → IfSome (standing (D.state disk.old) place.now)
         (λ content. offset ≤ length content → buf.new ≡ chunk (take offset content) index)) }
     ensures counts { IsTrue D.tells →
-        D.counts disk.new ≡ counted_read place.now (D.counts disk.old) }
+        D.counts disk.new ≡ counted_read result place.now (D.counts disk.old) }
     ensures looks { Looks D.Disk (ending result) disk.old disk.new }
 {
     let len = CHUNK.min(offset as usize - index as usize * CHUNK);
@@ -60,7 +60,7 @@ pub fn read_chunk_into<D: Disk>(
     ensures chunk { OnOk result (IsTrue D.tells → IfSome (standing (D.state disk.old) place.now)
         (λ content. offset ≤ length content → buf.new ≡ chunk (take offset content) index)) }
     ensures counts { IsTrue D.tells →
-        D.counts disk.new ≡ counted_read place.now (D.counts disk.old) }
+        D.counts disk.new ≡ counted_read result place.now (D.counts disk.old) }
     ensures looks { Looks D.Disk (ending result) disk.old disk.new }
 {
     let n = disk.read(place, index as u64 * CHUNK as u64, buf)?;

@@ -2,7 +2,7 @@
 
 ghost use Rattle.std.specs.Prelude.{◌≡◌, IfOk, IsSome, IsTrue, None, OnOk};
 ghost use Rattle.disk_model.specs.Account.{Accounts, FailsInChange, Looks, LooksAtNoEntry, ending};
-ghost use Rattle.disk_model.specs.Calls.{counted};
+ghost use Rattle.disk_model.specs.Calls.{counted_look};
 ghost use Rattle.disk_model.specs.Standing.{PutsContent};
 ghost use Rattle.disk_model.specs.State.{standing};
 ghost use Rattle.disk_model.specs.Told.{Told};
@@ -61,7 +61,7 @@ pub fn stored<D: Disk>(disk: &mut D) -> Result<Option<u64>, DiskFault>
         IsTrue D.tells → TellsMark (standing (D.state disk.old) Clear) found) }
 
     // Calls and faults.
-    ensures one_call { IsTrue D.tells → D.counts disk.new ≡ counted (D.counts disk.old) }
+    ensures one_call { IsTrue D.tells → D.counts disk.new ≡ counted_look result (D.counts disk.old) }
     ensures looks { Looks D.Disk (ending result) disk.old disk.new }
     ensures no_entry { LooksAtNoEntry D.Disk disk.old disk.new }
 {

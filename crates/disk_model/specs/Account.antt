@@ -1,7 +1,7 @@
 -- How an answer is tied to what a disk counts.
 use Rattle.std.specs.Prelude.{Err, IsTrue, Ok, Result, ◌≡◌}
 use Rattle.cache_base.specs.Causes.{HasCause}
-use Rattle.disk_model.specs.Calls.{LastFails, StopsAtFault}
+use Rattle.disk_model.specs.Calls.{LastCallFails, LastFails, LastLookFails, StopsAtFault}
 use Rattle.disk_model.specs.declared.disk.Disk.{Ghosts}
 use Rattle.disk_model.specs.declared.disk.DiskFault.{DiskFault}
 use Rattle.disk_model.specs.declared.disk.DiskFault.TheVariants.{Failed, Memory}
@@ -32,12 +32,16 @@ pub record Accounts {Self : _} (D : Ghosts Self) (answer : Ending) (before now :
       → (D.counts now).failed ≡ (D.counts before).failed
   -- after a change or a sync that failed no call follows
   pub stops : IsTrue D.tells → StopsAtFault (D.counts before) (D.counts now)
+  -- nor does one after the call that the answer tells of, whatever it was
+  pub last : answer ≡ Ending.OneFailed → IsTrue D.tells → LastCallFails (D.counts now)
 
 -- the call only looked: the disk holds the same, no change and no sync failed, and the faults are accounted for
 pub record Looks {Self : _} (D : Ghosts Self) (answer : Ending) (before now : Self) : Type 0 where
   pub cause : HasCause (answer ≡ Ending.OneFailed) (D.faults before) (D.faults now)
   pub state : IsTrue D.tells → D.state now ≡ D.state before
   pub no_change : IsTrue D.tells → (D.counts now).failed ≡ (D.counts before).failed
+  -- where a look failed no call follows
+  pub last : answer ≡ Ending.OneFailed → IsTrue D.tells → LastLookFails (D.counts now)
 
 -- where the disk failed, its last call was a change or a sync that failed
 abbrev pub FailsInChange : {Self : _} → Ghosts Self → Ending → Self → Type 0

@@ -28,6 +28,8 @@ pub record Counts : Type 0 where
   pub calls : ℕ
   -- which of them that were to change or sync something failed last
   pub failed : LastFailed
+  -- the number of the last look that failed, or 0 where none did
+  pub failed_look : ℕ
   -- the calls so far that look at an entry's place without changing it
   pub entry_reads : ℕ
 
@@ -37,7 +39,16 @@ counted c = record c { calls = one_more c.calls }
 
 -- no call was made, and none failed
 abbrev pub no_counts : Counts
-no_counts = record { calls = 0; failed = record { change = 0; sync = 0 }; entry_reads = 0 }
+no_counts = record { calls = 0; failed = record { change = 0; sync = 0 }; failed_look = 0; entry_reads = 0 }
+
+-- the number of the last look that failed, after one more with this answer and number
+abbrev pub last_look : {T : Type 0} → Result T DiskFault → ℕ → ℕ → ℕ
+last_look (Err Failed) number before = number
+last_look _ number before = before
+
+-- after a look with this answer
+abbrev pub counted_look : {T : Type 0} → Result T DiskFault → Counts → Counts
+counted_look answer c = record c { calls = one_more c.calls; failed_look = last_look answer (one_more c.calls) c.failed_look }
 
 -- after a change with this answer
 abbrev pub counted_change : {T : Type 0} → Result T DiskFault → Counts → Counts
@@ -50,13 +61,21 @@ counted_sync (Err Failed) c = record c { calls = one_more c.calls; failed = reco
 counted_sync _ c = counted c
 
 -- after a look at a place
-abbrev pub counted_read : Place → Counts → Counts
-counted_read (Entry name) c = record c { calls = one_more c.calls; entry_reads = one_more c.entry_reads }
-counted_read _ c = counted c
+abbrev pub counted_read : {T : Type 0} → Result T DiskFault → Place → Counts → Counts
+counted_read answer (Entry name) c = record (counted_look answer c) { entry_reads = one_more c.entry_reads }
+counted_read answer _ c = counted_look answer c
 
 -- the last call was a change or a sync that failed
 abbrev pub LastFails : Counts → Type 0
 LastFails c = (c.failed.change ≡ c.calls) ⊎ (c.failed.sync ≡ c.calls)
+
+-- it was a look that failed
+abbrev pub LastLookFails : Counts → Type 0
+LastLookFails c = c.failed_look ≡ c.calls
+
+-- it failed, whatever it was
+abbrev pub LastCallFails : Counts → Type 0
+LastCallFails c = LastFails c ⊎ LastLookFails c
 
 -- the last call was a change that failed, and nothing else failed since; or a sync, likewise
 abbrev pub FailsLast : LastFailed → Counts → Type 0

@@ -8,7 +8,7 @@ ghost use Rattle.disk_model.specs.State.{State, standing, part_of, created, rena
 ghost use Rattle.disk_model.specs.State.Write.{End, Patch};
 ghost use Rattle.disk_model.specs.Sound.{IsSound};
 ghost use Rattle.disk_model.specs.Listing.{AreEntries, AreDoomed, AreRisingNumbers, IsFinite};
-ghost use Rattle.disk_model.specs.Calls.{Counts, counted, counted_change, counted_read, counted_sync, if_ok, if_done, MayWriteAt, HoldsPart};
+ghost use Rattle.disk_model.specs.Calls.{Counts, counted_change, counted_look, counted_read, counted_sync, if_ok, if_done, MayWriteAt, HoldsPart};
 ghost use Rattle.disk_model.specs.declared.disk.DiskFault.TheVariants.{Memory};
 
 use crate::Place;
@@ -72,7 +72,7 @@ pub trait Disk {
         ensures size { IfOk result (λ size. IsTrue tells →
             size ≡ option_map length (standing (state self.old) place.now)) }
         ensures state { IsTrue tells → state self.new ≡ state self.old }
-        ensures counts { IsTrue tells → counts self.new ≡ counted_read place.now (counts self.old) }
+        ensures counts { IsTrue tells → counts self.new ≡ counted_read result place.now (counts self.old) }
         ensures cause { HasCause (IsErrOf result DiskFault.Failed)
             (faults self.old) (faults self.new) };
 
@@ -85,7 +85,7 @@ pub trait Disk {
             let part = part_of from (length buf.old) (standing (state self.old) place.now) in
             (n ≡ length part) × (buf.new ≡ part ++ drop n buf.old)) }
         ensures state { IsTrue tells → state self.new ≡ state self.old }
-        ensures counts { IsTrue tells → counts self.new ≡ counted_read place.now (counts self.old) }
+        ensures counts { IsTrue tells → counts self.new ≡ counted_read result place.now (counts self.old) }
         ensures cause { HasCause (IsErrOf result DiskFault.Failed)
             (faults self.old) (faults self.new) };
 
@@ -142,7 +142,7 @@ pub trait Disk {
         ensures rising { OnOk result (AreRising out.new) }
         ensures names { OnOk result (IsTrue tells → AreEntries (state self.old) out.new) }
         ensures state { IsTrue tells → state self.new ≡ state self.old }
-        ensures counts { IsTrue tells → counts self.new ≡ counted (counts self.old) }
+        ensures counts { IsTrue tells → counts self.new ≡ counted_look result (counts self.old) }
         ensures cause { HasCause (IsErrOf result DiskFault.Failed)
             (faults self.old) (faults self.new) };
 
@@ -151,7 +151,7 @@ pub trait Disk {
         ensures rising { OnOk result (AreRisingNumbers out.new) }
         ensures numbers { OnOk result (IsTrue tells → AreDoomed (state self.old) out.new) }
         ensures state { IsTrue tells → state self.new ≡ state self.old }
-        ensures counts { IsTrue tells → counts self.new ≡ counted (counts self.old) }
+        ensures counts { IsTrue tells → counts self.new ≡ counted_look result (counts self.old) }
         ensures cause { HasCause (IsErrOf result DiskFault.Failed)
             (faults self.old) (faults self.new) };
 

@@ -2,7 +2,7 @@
 
 ghost use Rattle.std.specs.Prelude.{◌≡◌, ◌≤◌, ◌-◌, ◌^◌, ◌↔◌, if◌then◌else◌, length, IfOk, OnOk, OnErr, IsTrue, IsErrOf, MatchBool};
 ghost use Rattle.cache_base.specs.Causes.{one_more, HasCause, Rose};
-ghost use Rattle.disk_model.specs.Calls.{counted, counted_read, no_counts};
+ghost use Rattle.disk_model.specs.Calls.{counted_look, counted_read, no_counts};
 ghost use Rattle.disk_model.specs.declared.disk.DiskFault.TheVariants.{Failed};
 
 use crate::mem_image::{ImageFault, image};
@@ -25,6 +25,8 @@ pub struct MemDisk {
     planned: Numbers,
     failed_change: u64,
     failed_sync: u64,
+    // The number of the last look that failed, or 0.
+    failed_look: u64,
     entry_reads: u64,
     faults: u64,
 }
@@ -36,7 +38,7 @@ impl MemDisk {
     ghost use Rattle.disk_model.specs.Standing.{PutsContent};
     ghost use Rattle.disk_model.specs.MemImage.{image_of, MayLeave};
     ghost use Rattle.disk_model.specs.declared.place.Place.{Place as Where};
-    ghost use Rattle.disk_model.specs.MemDisk.{state_in, counts_in, faults_in, stop_in, planned_in, FailsNext};
+    ghost use Rattle.disk_model.specs.MemDisk.{state_in, counts_in, faults_in, stop_in, planned_in, look_answer, FailsNext};
 
     /// A disk on which nothing stands, with no faults planned.
     pub fn new(alloc: Global) -> MemDisk
@@ -158,6 +160,7 @@ impl MemDisk {
             planned,
             failed_change: 0,
             failed_sync: 0,
+            failed_look: 0,
             entry_reads: 0,
             faults: 0,
         }
@@ -176,7 +179,8 @@ impl MemDisk {
     fn begin_read(&mut self, place: &Place) -> bool
         ensures fails { IsTrue result ↔ FailsNext self.old }
         ensures table { self.new.table ≡ self.old.table }
-        ensures counts { counts_in self.new ≡ counted_read place.now (counts_in self.old) }
+        ensures counts { counts_in self.new
+            ≡ counted_read (look_answer result) place.now (counts_in self.old) }
         ensures later { self.old.faults ≤ self.new.faults }
         ensures faults { MatchBool result (Rose self.old.faults self.new.faults)
             (self.new.faults ≡ self.old.faults) }
@@ -187,6 +191,7 @@ impl MemDisk {
         }
         if fails {
             self.faults = self.faults.saturating_add(1);
+            self.failed_look = self.calls;
         }
         fails
     }
@@ -195,7 +200,7 @@ impl MemDisk {
     fn begin_list(&mut self) -> bool
         ensures fails { IsTrue result ↔ FailsNext self.old }
         ensures table { self.new.table ≡ self.old.table }
-        ensures counts { counts_in self.new ≡ counted (counts_in self.old) }
+        ensures counts { counts_in self.new ≡ counted_look (look_answer result) (counts_in self.old) }
         ensures later { self.old.faults ≤ self.new.faults }
         ensures faults { MatchBool result (Rose self.old.faults self.new.faults)
             (self.new.faults ≡ self.old.faults) }
@@ -203,6 +208,7 @@ impl MemDisk {
         let fails = self.begin();
         if fails {
             self.faults = self.faults.saturating_add(1);
+            self.failed_look = self.calls;
         }
         fails
     }
@@ -215,6 +221,7 @@ impl MemDisk {
         ensures failed_change { self.new.failed_change
             ≡ (if fails then self.old.calls else self.old.failed_change) }
         ensures failed_sync { self.new.failed_sync ≡ self.old.failed_sync }
+        ensures failed_look { self.new.failed_look ≡ self.old.failed_look }
         ensures entry_reads { self.new.entry_reads ≡ self.old.entry_reads }
         ensures cause { HasCause (IsErrOf result DiskFault.Failed) self.old.faults self.new.faults }
     {
@@ -232,6 +239,7 @@ impl MemDisk {
         ensures calls { self.new.calls ≡ self.old.calls }
         ensures failed_change { self.new.failed_change ≡ self.old.failed_change }
         ensures failed_sync { self.new.failed_sync ≡ self.old.calls }
+        ensures failed_look { self.new.failed_look ≡ self.old.failed_look }
         ensures entry_reads { self.new.entry_reads ≡ self.old.entry_reads }
         ensures later { self.old.faults ≤ self.new.faults }
         ensures rose { Rose self.old.faults self.new.faults }

@@ -15,3 +15,4 @@ pub mod Midway
 pub mod FinishedBody
 pub mod Damaged
 pub mod LookLaws
+pub mod TailLaws

@@ -9,3 +9,4 @@ pub mod NewEntry
 pub mod Rewriting
 pub mod LongerBody
 pub mod Held
+pub mod Tail

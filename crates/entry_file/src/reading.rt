@@ -12,6 +12,7 @@ ghost use Rattle.entry_file.specs.EntryRead.{IfFits, Joins, ReadsAs};
 ghost use Rattle.entry_file.specs.BlockRead.{BlockReadsAs};
 ghost use Rattle.disk_model.specs.Calls.{HoldsPart};
 ghost use Rattle.entry_file.specs.Looks.{LooksAtMost, meta_looks};
+ghost use Rattle.entry_file.specs.Tail.{HoldsBlock, IsTail};
 ghost use Rattle.entry_metadata.specs.Metadata.{Spells};
 
 use crate::{EntryRead, Unfit};
@@ -20,6 +21,9 @@ use disk_model::{Disk, DiskFault, Place};
 use entry_metadata::MetaFault;
 use entry_name::name_of;
 use std::alloc::Global;
+
+// So many of a file's last bytes are read at once. Most blocks lie within them.
+const TAIL_MAX: usize = 4096;
 
 // The failing check that a fault of a block names; that memory ran out names none.
 fn unfit(fault: MetaFault) -> Option<Unfit>
@@ -65,21 +69,15 @@ fn read_of_block(
     }
 }
 
-// The number in the four bytes from `end` on, which are the file's last.
-fn last_offset<D: Disk>(disk: &mut D, place: &Place, end: u64) -> Result<u32, DiskFault>
-    requires { IsTrue D.tells →
-        Some (end + 4) ≡ option_map length (standing (D.state disk.old) place.now) }
-    ensures offset { IfOk result (λ offset. IsTrue D.tells →
-        IfSome (standing (D.state disk.old) place.now) (λ content. offset ≡ offset_in content)) }
-    ensures bytes { OnOk result (IsTrue D.tells → IfSome (standing (D.state disk.old) place.now)
-        (λ content. AreBytes (drop (length content - 4) content))) }
-    ensures calls { IsTrue D.tells → LooksAtMost 1 (D.counts disk.old) (D.counts disk.new) }
-    ensures looks { Looks D.Disk (ending result) disk.old disk.new }
+// The number in the last four of these bytes.
+fn last_offset(tail: &[u8]) -> u32
+    requires { 4 ≤ length tail.now }
+    ensures offset { result ≡ offset_in tail.now }
+    ensures bytes { AreBytes (drop (length tail.now - 4) tail.now) }
 {
-    let mut bytes = [0; 4];
-    disk.read(place, end, &mut bytes)?;
-    bytes_fit(&bytes);
-    Ok(u32::from_be_bytes(bytes))
+    let bytes = &tail[tail.len() - 4..];
+    bytes_fit(bytes);
+    u32::from_be_bytes([bytes[0], bytes[1], bytes[2], bytes[3]])
 }
 
 // The bytes of the file from `from` on, of which it has so many.
@@ -94,12 +92,89 @@ fn part_at<D: Disk>(
     ensures bytes { IfOk result (λ part. IsTrue D.tells →
         IfSome (standing (D.state disk.old) place.now) (λ content.
         part.items ≡ slice_range content from (from + len))) }
+    ensures long { IfOk result (λ part. length part.items ≡ len) }
     ensures calls { IsTrue D.tells → LooksAtMost 1 (D.counts disk.old) (D.counts disk.new) }
     ensures looks { Looks D.Disk (ending result) disk.old disk.new }
 {
     let mut part = vec![in alloc; 0u8; len]?;
     disk.read(place, from, &mut part)?;
     Ok(part)
+}
+
+// The last bytes of a file of `size` bytes, as many as one look takes.
+fn last_bytes<D: Disk>(
+    alloc: Global,
+    disk: &mut D,
+    place: &Place,
+    size: u64,
+) -> Result<Vec<u8>, DiskFault>
+    requires long { 4 ≤ size }
+    requires told { IsTrue D.tells →
+        Some size ≡ option_map length (standing (D.state disk.old) place.now) }
+    ensures long { IfOk result (λ tail. 4 ≤ length tail.items) }
+    ensures tail { IfOk result (λ tail. IsTrue D.tells →
+        IfSome (standing (D.state disk.old) place.now) (IsTail tail.items)) }
+    ensures calls { IsTrue D.tells → LooksAtMost 1 (D.counts disk.old) (D.counts disk.new) }
+    ensures looks { Looks D.Disk (ending result) disk.old disk.new }
+{
+    let len = size.min(TAIL_MAX as u64) as usize;
+    part_at(alloc, disk, place, size - len as u64, len)
+}
+
+// The bytes at the end of a file, and the offset that its last four are.
+struct Tail {
+    bytes: Vec<u8>,
+    offset: u32,
+}
+
+fn read_tail<D: Disk>(
+    alloc: Global,
+    disk: &mut D,
+    place: &Place,
+    size: u64,
+) -> Result<Tail, DiskFault>
+    requires long { 4 ≤ size }
+    requires told { IsTrue D.tells →
+        Some size ≡ option_map length (standing (D.state disk.old) place.now) }
+    ensures long { IfOk result (λ tail. 4 ≤ length tail.bytes.items) }
+    ensures tail { IfOk result (λ tail. IsTrue D.tells →
+        IfSome (standing (D.state disk.old) place.now) (IsTail tail.bytes.items)) }
+    ensures offset { IfOk result (λ tail. IsTrue D.tells →
+        IfSome (standing (D.state disk.old) place.now) (λ content.
+        tail.offset ≡ offset_in content)) }
+    ensures bytes { OnOk result (IsTrue D.tells → IfSome (standing (D.state disk.old) place.now)
+        (λ content. AreBytes (drop (length content - 4) content))) }
+    ensures calls { IsTrue D.tells → LooksAtMost 1 (D.counts disk.old) (D.counts disk.new) }
+    ensures looks { Looks D.Disk (ending result) disk.old disk.new }
+{
+    let bytes = last_bytes(alloc, disk, place, size)?;
+    let offset = last_offset(bytes.as_slice());
+    Ok(Tail { bytes, offset })
+}
+
+// The bytes of the file from `from` up to its last four: of its tail, or read anew where they begin before that.
+fn block_at<D: Disk>(
+    alloc: Global,
+    disk: &mut D,
+    place: &Place,
+    tail: &[u8],
+    from: u64,
+    len: usize,
+) -> Result<Vec<u8>, DiskFault>
+    requires long { 4 ≤ length tail.now }
+    requires told { IsTrue D.tells →
+        HoldsBlock (standing (D.state disk.old) place.now) tail.now from len }
+    ensures bytes { IfOk result (λ block. IsTrue D.tells →
+        IfSome (standing (D.state disk.old) place.now) (λ content.
+        block.items ≡ slice_range content from (from + len))) }
+    ensures calls { IsTrue D.tells → LooksAtMost 1 (D.counts disk.old) (D.counts disk.new) }
+    ensures looks { Looks D.Disk (ending result) disk.old disk.new }
+{
+    let end = tail.len() - 4;
+    if len > end {
+        return part_at(alloc, disk, place, from, len);
+    }
+    Ok(Vec::from_slice(alloc, &tail[end - len..end])?)
 }
 
 // What stands at a place with a file of `size` bytes.
@@ -128,8 +203,8 @@ fn read_sized<D: Disk>(
     if size < 4 {
         return Ok(EntryRead::Unfit(Unfit::Short));
     }
+    let Tail { bytes, offset } = read_tail(alloc, disk, place, size)?;
     let end = size - 4;
-    let offset = last_offset(disk, place, end)?;
     let from = u64::from(offset);
     if offset == u32::MAX || from > end {
         return Ok(EntryRead::Unfit(Unfit::Short));
@@ -138,12 +213,12 @@ fn read_sized<D: Disk>(
     if len > BLOCK_MAX {
         return Ok(EntryRead::Unfit(Unfit::TooBig));
     }
-    let block = part_at(alloc, disk, place, from, len)?;
+    let block = block_at(alloc, disk, place, bytes.as_slice(), from, len)?;
     read_of_block(alloc, block.as_slice(), offset, name, size)
 }
 
-/// What stands at the place, as the file of an entry of this name. Of the file its last four bytes are read, and its
-/// block where that has at most `BLOCK_MAX` bytes. Bytes that the disk does not give, though its size promised them,
+/// What stands at the place, as the file of an entry of this name. Of the file its last 4,096 bytes are read, and its
+/// block where that is longer and has at most `BLOCK_MAX` bytes. Bytes that the disk does not give, though its size promised them,
 /// count as zeros.
 pub fn read_meta<D: Disk>(
     alloc: Global,

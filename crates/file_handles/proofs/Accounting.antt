@@ -18,6 +18,7 @@ accounts_then D e a b c first last = record {
   cause = subst (λ n. HasCause (e ≡ Ending.OneFailed) n (D.faults c)) (first.cause.kept (λ failed. cc)) last.cause;
   went_on = λ none told. last.went_on none told ∙ first.went_on refl told;
   stops = λ told. subst (λ failed. ((D.counts c).failed ≡ failed) ⊎ FailsLast failed (D.counts c)) (first.went_on refl told) (last.stops told);
+  last = last.last;
 }
 
 -- a call that makes none of the disk
@@ -26,6 +27,7 @@ looks_nowhere D answer disk none = record {
   cause = record { later = omega arith; rose = λ failed. absurd (let both : Ending.NoneFailed ≡ Ending.OneFailed = sym none ∙ failed in cc); kept = λ not. refl };
   state = λ told. refl;
   no_change = λ told. refl;
+  last = λ failed. absurd (let both : Ending.NoneFailed ≡ Ending.OneFailed = sym none ∙ failed in cc);
 }
 
 -- a fault of the disk that is handed on
@@ -54,6 +56,7 @@ calm_accounts D a b calm = record {
   cause = record { later = let same = calm.faults in omega (arith, same); rose = λ failed. absurd (cc); kept = λ not. calm.faults };
   went_on = λ none told. calm.no_change told;
   stops = λ told. inl (calm.no_change told);
+  last = λ failed. absurd (cc);
 }
 
 pub fault_handed_on : {T X : Type 0} (r : Result X DiskFault) (f : DiskFault) (out : Result T DiskFault) → r ≡ Err f → IsErrAnd out (λ e. e ≡ f) → disk_ending out ≡ disk_ending r

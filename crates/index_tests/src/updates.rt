@@ -369,15 +369,15 @@ fn a_file_that_is_gone_has_no_record(rt: HostRuntime) -> Result<(), Fail> {
 
 #[test]
 fn a_failed_read_leaves_the_rest(rt: HostRuntime) -> Result<(), Fail> {
-    // The size of the first file is the 12th call, and two reads follow.
+    // The size of the first file is the 12th call, and a read follows.
     let rows = [
         (Act::StepFails(9), 5, 1, b"100000", b"111110"),
-        (Act::Calls(16), 5, 1, b"100000", b"111110"),
+        (Act::Calls(15), 5, 1, b"100000", b"111110"),
         (Act::Finish, 0, 5, b"111110", b"000000"),
-        (Act::Calls(31), 0, 5, b"111110", b"000000"),
+        (Act::Calls(25), 0, 5, b"111110", b"000000"),
     ];
     assert_eq!(rt;
-        run_over(rt.alloc(), &FIVE, Some(16), None, &rows)?,
+        run_over(rt.alloc(), &FIVE, Some(15), None, &rows)?,
         Ok(rows.len())
     );
     Ok(())

@@ -4,6 +4,7 @@ use Rattle.cache_base.specs.Causes.{HasCause}
 use Rattle.cache_base.specs.declared.name.Name.{Name}
 use Rattle.disk_model.specs.Account.{Ending}
 use Rattle.disk_model.specs.Account.Ending.{OneFailed}
+use Rattle.disk_model.specs.Calls.{LastLookFails}
 use Rattle.disk_model.specs.declared.disk.Disk.{Ghosts}
 use Rattle.entry_file.specs.Looks.{LooksAtMost, meta_looks}
 use Rattle.index_map.specs.Known.{Known}
@@ -25,3 +26,5 @@ pub record LooksAtNames {Self : _} (D : Ghosts Self) (answer : Ending) (names : 
   pub cause : HasCause (answer ≡ OneFailed) (D.faults before) (D.faults now)
   pub state : IsTrue D.tells → D.state now ≡ D.state before
   pub looks : IsTrue D.tells → LooksAtMost (meta_looks * names) (D.counts before) (D.counts now)
+  -- where a look failed no call follows
+  pub last : answer ≡ OneFailed → IsTrue D.tells → LastLookFails (D.counts now)

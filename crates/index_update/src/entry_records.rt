@@ -2,6 +2,8 @@
 
 ghost use Rattle.std.specs.Prelude.{◌≡◌, ◌*◌, IfOk, IfSome, IsErrOf, IsTrue, OnErr, OnOk, length};
 ghost use Rattle.cache_base.specs.Causes.{HasCause};
+ghost use Rattle.disk_model.specs.Account.{Ending, ending};
+ghost use Rattle.disk_model.specs.Calls.{LastLookFails};
 ghost use Rattle.disk_model.specs.declared.disk.DiskFault.TheVariants.{Failed};
 ghost use Rattle.entry_file.specs.Looks.{LooksAtMost, meta_looks};
 ghost use Rattle.entry_metadata.specs.Meta.{meta_of};
@@ -43,6 +45,8 @@ fn read_record<D: Disk>(
         LooksAtMost meta_looks (D.counts disk.old) (D.counts disk.new) }
     ensures cause { HasCause (IsErrOf result DiskFault.Failed)
         (D.faults disk.old) (D.faults disk.new) }
+    ensures last { ending result ≡ Ending.OneFailed → IsTrue D.tells →
+        LastLookFails (D.counts disk.new) }
 {
     match read_meta(alloc, disk, &Place::Entry(*name), name)? {
         EntryRead::Absent => Ok(None),
@@ -67,6 +71,8 @@ fn read_one<D: Disk>(
         LooksAtMost meta_looks (D.counts disk.old) (D.counts disk.new) }
     ensures cause { HasCause (IsErrOf result DiskFault.Failed)
         (D.faults disk.old) (D.faults disk.new) }
+    ensures last { ending result ≡ Ending.OneFailed → IsTrue D.tells →
+        LastLookFails (D.counts disk.new) }
 {
     match read_record(alloc, disk, name)? {
         Some(record) => map.set(record)?,
@@ -93,6 +99,8 @@ pub(crate) fn read_each<D: Disk>(
         LooksAtMost (meta_looks * length names.now) (D.counts disk.old) (D.counts disk.new) }
     ensures cause { HasCause (IsErrOf result DiskFault.Failed)
         (D.faults disk.old) (D.faults disk.new) }
+    ensures last { ending result ≡ Ending.OneFailed → IsTrue D.tells →
+        LastLookFails (D.counts disk.new) }
 {
     for name in names {
         read_one(alloc, disk, name, map)?;

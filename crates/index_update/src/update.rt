@@ -3,7 +3,7 @@
 ghost use Rattle.std.specs.Prelude.{◌≡◌, ◌≢◌, ◌↔◌, [], IfOk, IsTrue, OnErr, OnOk, drop, length, take};
 ghost use Rattle.cache_base.specs.Names.{AreRising, has_name};
 ghost use Rattle.disk_model.specs.Account.{Looks, ending};
-ghost use Rattle.disk_model.specs.Calls.{counted};
+ghost use Rattle.disk_model.specs.Calls.{counted_look};
 ghost use Rattle.disk_model.specs.Listing.{AreEntries};
 ghost use Rattle.index_map.specs.Known.{SameBase};
 ghost use Rattle.index_theory.specs.Ever.{entries_on};
@@ -67,7 +67,7 @@ impl Update {
         ensures rest { IfOk result (λ update. IsTrue D.tells →
             AreEntries (D.state disk.old) update) }
         ensures rising { IfOk result (λ update. AreRising update) }
-        ensures counts { IsTrue D.tells → D.counts disk.new ≡ counted (D.counts disk.old) }
+        ensures counts { IsTrue D.tells → D.counts disk.new ≡ counted_look result (D.counts disk.old) }
         ensures looks { Looks D.Disk (ending result) disk.old disk.new }
     {
         let mut listed = Names::new(alloc);

@@ -4,7 +4,7 @@ ghost use Rattle.std.specs.Prelude.{◌≡◌, ◌≤◌, ◌++◌, IfOk, IsErrO
 ghost use Rattle.std.specs.Option.{option_map};
 ghost use Rattle.cache_base.specs.Causes.{HasCause};
 ghost use Rattle.cache_base.specs.Names.{AreRising};
-ghost use Rattle.disk_model.specs.Calls.{counted, counted_read};
+ghost use Rattle.disk_model.specs.Calls.{counted_look, counted_read};
 ghost use Rattle.disk_model.specs.Listing.{AreEntries, AreDoomed, AreRisingNumbers};
 ghost use Rattle.disk_model.specs.State.{part_of, standing};
 ghost use Rattle.overlay_disk.specs.OnlySeen.{IsOnlySeen};
@@ -30,7 +30,7 @@ impl<D: Disk + Drop> ReadOnly<D> {
         ensures size { IfOk result (λ size. IsTrue D.tells →
             size ≡ option_map length (standing (D.state self.old.disk) place.now)) }
         ensures one_call { IsTrue D.tells →
-            D.counts self.new.disk ≡ counted_read place.now (D.counts self.old.disk) }
+            D.counts self.new.disk ≡ counted_read result place.now (D.counts self.old.disk) }
         ensures seen { IsOnlySeen D.Disk self.old.disk self.new.disk }
         ensures cause { HasCause (IsErrOf result DiskFault.Failed)
             (D.faults self.old.disk) (D.faults self.new.disk) }
@@ -49,7 +49,7 @@ impl<D: Disk + Drop> ReadOnly<D> {
             let part = part_of from (length buf.old) (standing (D.state self.old.disk) place.now) in
             (n ≡ length part) × (buf.new ≡ part ++ drop n buf.old)) }
         ensures one_call { IsTrue D.tells →
-            D.counts self.new.disk ≡ counted_read place.now (D.counts self.old.disk) }
+            D.counts self.new.disk ≡ counted_read result place.now (D.counts self.old.disk) }
         ensures seen { IsOnlySeen D.Disk self.old.disk self.new.disk }
         ensures cause { HasCause (IsErrOf result DiskFault.Failed)
             (D.faults self.old.disk) (D.faults self.new.disk) }
@@ -60,7 +60,7 @@ impl<D: Disk + Drop> ReadOnly<D> {
     pub(crate) fn entries(&mut self, out: &mut Names) -> Result<(), DiskFault>
         ensures names { OnOk result (IsTrue D.tells → AreEntries (D.state self.old.disk) out.new) }
         ensures one_call { IsTrue D.tells →
-            D.counts self.new.disk ≡ counted (D.counts self.old.disk) }
+            D.counts self.new.disk ≡ counted_look result (D.counts self.old.disk) }
         ensures rising { OnOk result (AreRising out.new) }
         ensures seen { IsOnlySeen D.Disk self.old.disk self.new.disk }
         ensures cause { HasCause (IsErrOf result DiskFault.Failed)
@@ -72,7 +72,7 @@ impl<D: Disk + Drop> ReadOnly<D> {
     pub(crate) fn doomed(&mut self, out: &mut Numbers) -> Result<(), DiskFault>
         ensures numbers { OnOk result (IsTrue D.tells → AreDoomed (D.state self.old.disk) out.new) }
         ensures one_call { IsTrue D.tells →
-            D.counts self.new.disk ≡ counted (D.counts self.old.disk) }
+            D.counts self.new.disk ≡ counted_look result (D.counts self.old.disk) }
         ensures rising { OnOk result (AreRisingNumbers out.new) }
         ensures seen { IsOnlySeen D.Disk self.old.disk self.new.disk }
         ensures cause { HasCause (IsErrOf result DiskFault.Failed)

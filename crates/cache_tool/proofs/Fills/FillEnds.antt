@@ -23,10 +23,10 @@ use Rattle.cache_tool.specs.Statuses.{IsAnswer, IsClosing, status_in}
 use Rattle.cache_tool.specs.Verbs.{LeavesDisk, all_begun_none_acked}
 use Rattle.cache_tool.specs.World.{Output}
 use Rattle.cache_tool.proofs.DoneLaws.{are_done_where}
-use Rattle.cache_tool.proofs.Puts.PutEnds.{Printed}
+use Rattle.cache_tool.proofs.Puts.PutEnds.{Printed, never_disk}
 use Rattle.cache_tool.proofs.SessionEnds.{begun_leave, leaves_at, resumed_tells}
 use Rattle.cache_tool.proofs.StatusLaws.{EndsAs, answer_closes, closing_same}
-use Rattle.disk_model.specs.Calls.{Counts}
+use Rattle.disk_model.specs.Calls.{Counts, LastCallFails}
 use Rattle.disk_model.specs.State.{State, standing}
 use Rattle.index_theory.specs.Honest.{Honest, LeavesHonest}
 
@@ -89,13 +89,14 @@ module _ {moment : ℕ} (count given : ℕ) (came : Result Status StoreFault) (e
           part = subst (IsPart before.taken taken) text printed.part;
           cut = λ sink. subst (IsCut before.taken taken) text (printed.cut sink);
         };
+        last = λ disk. absurd (never_disk ended final answer printed.same disk);
         leaves = leaves_at m (all_begun_none_acked m (begins.resumed m is_start).done (done_in fill.filled)) ended final before.disk t (λ closing. answer_closes ended answer) left;
       }
 
   -- none is
-  pub not_answered : {faults : ℕ} {counts : Counts} → ¬ (IsAnswer ended) → ended ≢ status.Sink
+  pub not_answered : {faults : ℕ} {counts : Counts} → (ended ≡ status.Disk → LastCallFails counts) → ¬ (IsAnswer ended) → ended ≢ status.Sink
       → PrintsFill moment count given m (begins.resumed m is_start).done ended before (record before { disk = t; disk_faults = faults; disk_counts = counts })
-  not_answered other sink_not = record {
+  not_answered last other sink_not = record {
     filled = filled;
     answer = λ a. absurd (other a);
     text = record {
@@ -103,6 +104,7 @@ module _ {moment : ℕ} (count given : ℕ) (came : Result Status StoreFault) (e
       part = none_printed before.taken _;
       cut = λ sink. absurd (sink_not sink);
     };
+    last = last;
     leaves = left;
   }
 

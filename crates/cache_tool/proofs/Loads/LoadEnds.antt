@@ -43,7 +43,7 @@ use Rattle.cache_tool.proofs.Loads.LoadTurns.{fault_ends}
 use Rattle.cache_tool.proofs.SessionEnds.{begun_leave, leaves_at}
 use Rattle.cache_tool.proofs.StatusLaws.{EndsAs, closing_same}
 use Rattle.context_clear.specs.Mark.{mark_of}
-use Rattle.disk_model.specs.Calls.{Counts}
+use Rattle.disk_model.specs.Calls.{Counts, LastCallFails}
 use Rattle.disk_model.specs.State.{State}
 use Rattle.index_record.specs.declared.record.IndexRecord.{IndexRecord}
 use Rattle.index_theory.specs.Honest.{LeavesHonest}
@@ -315,10 +315,10 @@ module _ {moment : ℕ} (tells : Type 0) (told : tells) (bytes : List ℕ) (came
       subst (λ o. IfSome o (ReadsLoaded final before.source.left left load.loaded)) from
       (reads_at final (status_in came) before.source.left left load.loaded done_so script_so source_so load.reads)
 
-  loads_with : (final : Status) (now : World) (reads : ReadsLoaded final before.source.left now.source.left load.loaded bytes) → final ≢ status.No → PrintsLoadLine bytes load.loaded reads.read final before.taken now.taken
+  loads_with : (final : Status) (now : World) (reads : ReadsLoaded final before.source.left now.source.left load.loaded bytes) → final ≢ status.No → (final ≡ status.Disk → LastCallFails now.disk_counts) → PrintsLoadLine bytes load.loaded reads.read final before.taken now.taken
       → LeavesDisk m (all_begun_none_acked m (begins.resumed m is_start).done (loaded_commands load.loaded)) final before.disk now.disk
       → PrintsLoaded m (begins.resumed m is_start).done bytes final before now
-  loads_with final now reads accepted prints leaves =
+  loads_with final now reads accepted last prints leaves =
       let proper : IsProper (step m (begins.resumed m is_start).done).next = proper_at mid (acked (begins.resumed m is_start).done (settled_at m)) (begins.resumed m is_start).leads.keeps in
       let free = no_slot moment before.disk m (GoesBy begins.first m) (mark_of m.mark) (begins.resumed m is_start).done is_start (begins.resumed m is_start).is_done in
       record {
@@ -331,6 +331,7 @@ module _ {moment : ℕ} (tells : Type 0) (told : tells) (bytes : List ℕ) (came
         stocked = items_are_stocked (step m (begins.resumed m is_start).done).next load.loaded.items proper free reads.read.items;
         found = stock_is_found (step m (begins.resumed m is_start).done).next.shelf load.loaded.items proper.shelf reads.read.items;
         prints = prints;
+        last = last;
         leaves = leaves;
       }
 
@@ -348,14 +349,14 @@ module _ {moment : ℕ} (tells : Type 0) (told : tells) (bytes : List ℕ) (came
         broken = λ e. at_end.broken (same_end ended final status.Source (λ x. cc) (λ x. cc) says.same e);
       } in
       loads_with final _ reads
-      (never_no ended final line says.same) (line_printed bytes load.loaded ended final before.source.left left at_end before.taken taken text line holds says)
+      (never_no ended final line says.same) (λ disk. absurd (never_silent ended final line says.same (inr disk))) (line_printed bytes load.loaded ended final before.source.left left at_end before.taken taken text line holds says)
       (leaves_at m (all_begun_none_acked m (begins.resumed m is_start).done (loaded_commands load.loaded)) ended final before.disk t (λ closing. line_closes ended line) session_left)
 
   -- none is
-  pub none_said : {faults source_faults sink_faults : ℕ} {counts : Counts} → ¬ (IsLine ended) → ended ≢ status.Sink → ended ≢ status.No
+  pub none_said : {faults source_faults sink_faults : ℕ} {counts : Counts} → (ended ≡ status.Disk → LastCallFails counts) → ¬ (IsLine ended) → ended ≢ status.Sink → ended ≢ status.No
       → PrintsLoaded m (begins.resumed m is_start).done bytes ended before (record { source = record { left = left; faults = source_faults }; taken = before.taken; sink_faults = sink_faults; disk = t; disk_faults = faults; disk_counts = counts })
-  none_said other not_sink not_no =
+  none_said last other not_sink not_no =
       let reads : ReadsLoaded ended before.source.left left load.loaded bytes =
       reads_so ended (λ e. came_end ended (status_in came) status.Done (λ x. cc) (λ x. cc) same e) (λ e. came_end ended (status_in came) status.Script (λ x. cc) (λ x. cc) same e)
       (λ e. came_end ended (status_in came) status.Source (λ x. cc) (λ x. cc) same e) in
-      loads_with ended _ reads not_no (none_printed bytes load.loaded reads.read ended before.taken other not_sink) session_left
+      loads_with ended _ reads not_no last (none_printed bytes load.loaded reads.read ended before.taken other not_sink) session_left

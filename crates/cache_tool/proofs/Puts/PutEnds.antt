@@ -59,7 +59,7 @@ never_source ended final (inr nay) (inl same) source = let e : status.No ≡ sta
 never_source ended final answer (inr (inl sink)) source = let e : status.Sink ≡ status.Source = sym sink ∙ source in cc
 never_source ended final answer (inr (inr memory)) source = let e : status.Memory ≡ status.Source = sym memory ∙ source in cc
 
-never_disk : (ended final : Status) → IsAnswer ended → (final ≡ ended) ⊎ ((final ≡ status.Sink) ⊎ (final ≡ status.Memory)) → final ≢ status.Disk
+pub never_disk : (ended final : Status) → IsAnswer ended → (final ≡ ended) ⊎ ((final ≡ status.Sink) ⊎ (final ≡ status.Memory)) → final ≢ status.Disk
 never_disk ended final (inl done) (inl same) disk = let e : status.Done ≡ status.Disk = sym done ∙ sym same ∙ disk in cc
 never_disk ended final (inr nay) (inl same) disk = let e : status.No ≡ status.Disk = sym nay ∙ sym same ∙ disk in cc
 never_disk ended final answer (inr (inl sink)) disk = let e : status.Sink ≡ status.Disk = sym sink ∙ disk in cc

@@ -28,7 +28,7 @@ use Rattle.cache_tool.proofs.Scripts.ScriptTurns.{counts_more, counts_on}
 use Rattle.cache_tool.proofs.SessionEnds.{ends_leave, resumed_done, resumed_tells, stops_leave}
 use Rattle.cache_tool.proofs.StatusLaws.{EndsAs, closes_or_not, closing_same}
 use Rattle.disk_model.specs.Account.{Ending}
-use Rattle.disk_model.specs.Calls.{Counts, LastFails}
+use Rattle.disk_model.specs.Calls.{Counts, LastCallFails, LastFails, LastLookFails}
 use Rattle.disk_model.specs.Listing.{IsFinite}
 use Rattle.disk_model.specs.State.{State, standing}
 use Rattle.index_theory.specs.Honest.{Honest, LeavesHonest}
@@ -40,12 +40,12 @@ abbrev told : World → Option (List ℕ) → World
 told w left = record w { source = record (w.source) { left = left } }
 
 pub runs_not_begun : {T : Type 0} (counts : Counts) (moment : ℕ) (before : World) (t : State) (faults : ℕ) (answer : Result T StoreFault) (f : StoreFault) (ended : Status) → answer ≡ Err f → answer ≢ Err fault.Sink → ended ≡ status_in (Err f)
-    → (ending answer ≡ Ending.OneFailed → Rose before.disk_faults faults) → FailsToBegin moment before.disk t → RunsScript moment ended before (record before { disk = t; disk_faults = faults; disk_counts = counts })
-runs_not_begun counts moment before t faults answer f ended failed no_sink same rose fails = go before.source.left
+    → (ending answer ≡ Ending.OneFailed → Rose before.disk_faults faults) → (ending answer ≡ Ending.OneFailed → LastCallFails counts) → FailsToBegin moment before.disk t → RunsScript moment ended before (record before { disk = t; disk_faults = faults; disk_counts = counts })
+runs_not_begun counts moment before t faults answer f ended failed no_sink same rose last fails = go before.source.left
   where
     go : (left : Option (List ℕ)) → RunsScript moment ended (told before left) (record (told before left) { disk = t; disk_faults = faults; disk_counts = counts })
     go None = tt
-    go (Some bytes) = λ m cs is found. inr (not_begun (output_of (told before (Some bytes))) t faults answer f ended failed no_sink same rose fails m is, refl)
+    go (Some bytes) = λ m cs is found. inr (not_begun (output_of (told before (Some bytes))) t faults answer f ended failed no_sink same rose last fails m is, refl)
 
 -- ---- the session was ended
 
@@ -138,7 +138,7 @@ runs_ended k0 k1 c0 c1 moment ended came s mid last t begun faults calm finite b
                   };
               source = λ e. r.tells.source (as_came (subst IsClosing (sym e) tt) ∙ e);
               for_good = λ e. elim (failed e) [
-                | inl (before, still) ↦ ⊎_elim (λ last_call. inl (subst LastFails (sym still) last_call)) (λ sends. inr sends) (r.for_good before)
+                | inl (before, still) ↦ ⊎_elim (λ last_call. inl (subst LastFails (sym still) last_call)) (λ sends. inr (subst LastLookFails (sym still) sends.0, sends.1)) (r.for_good before)
                 | inr (closing, last_call) ↦ inl last_call
               ];
               leaves = ended_leaves s mid.session begins m is r.acked r.with_last r.done last.session t ended (status_in came) r.leaves ends same dropped kept;

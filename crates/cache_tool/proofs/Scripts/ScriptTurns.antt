@@ -48,7 +48,7 @@ use Rattle.cache_tool.proofs.Moments.{with_source}
 use Rattle.cache_tool.proofs.RightLaws.{leads_none, leads_on, leads_one, leads_still}
 use Rattle.cache_tool.proofs.StayingLaws.{stays_done}
 use Rattle.cache_tool.proofs.Scripts.ScriptBytes.{more_length, nothing_read, read_bad, read_front, read_on, read_taken, read_whole}
-use Rattle.disk_model.specs.Calls.{LastFails}
+use Rattle.disk_model.specs.Calls.{LastCallFails, LastFails, LastLookFails}
 use Rattle.index_map.specs.Known.{SameBase}
 
 -- the machine after some commands and one more
@@ -130,14 +130,14 @@ module _ (before : Progress) where
 
     -- it failed
     broke_off : (f : StoreFault) → IsSpoken d → PerformsAndKeeps d (all_answered kept h) (Err f) mid.session now.session mid.taken now.taken → (f ≡ fault.Sink → StaysOnce d mid.session (after h.machine kept) now.session)
-        → (f ≡ fault.Disk → LastFails now.disk_counts ⊎ SendsReplyFront d (after h.machine kept) mid.taken now.taken) → IsCutOff ds faults d f h before now
+        → (f ≡ fault.Disk → LastFails now.disk_counts ⊎ (LastLookFails now.disk_counts × SendsReplyFront d (after h.machine kept) mid.taken now.taken)) → IsCutOff ds faults d f h before now
     broke_off f spoken next stays good = record {
       safe = next.keeps.safe;
       cut =
           let tail = next.performs.cut (step_spoken (after h.machine kept) d spoken) in
           record { cut = tail.0; short = tail.1.0; out = one_out (take tail.0 (reply_text (step (after h.machine kept) d).reply)) tail.1.1 };
       effect = λ sink. one_leads (unanswered d (all_answered kept h)) (next.keeps.unanswered sink) (next.performs.tells sink) (stays sink);
-      for_good = λ more disk. ⊎_elim (λ last. inl last) (λ sends. inr (sends_next h.machine ds d more faults before.taken mid.taken now.taken so_far.out sends)) (good disk);
+      for_good = λ more disk. ⊎_elim (λ last. inl last) (λ sends. inr (sends.0, sends_next h.machine ds d more faults before.taken mid.taken now.taken so_far.out sends.1)) (good disk);
     }
 
     -- the disk failed in a look, and all is as it was
@@ -181,7 +181,7 @@ module _ (before : Progress) where
 
     -- it failed
     one_failed : (f : StoreFault) → IsSpoken c → PerformsFor c (Err f) mid.session now.session mid.taken now.taken → StaysFor {T = Verdict} c (Err f) mid.session now.session
-        → (f ≡ fault.Disk → FailsForGood now.disk_counts c (cache_of mid.session) mid.taken now.taken) → FailsAfter cs faults c f before now
+        → (f ≡ fault.Disk → LastCallFails now.disk_counts × FailsForGood now.disk_counts c (cache_of mid.session) mid.taken now.taken) → FailsAfter cs faults c f before now
     one_failed f spoken next stays good = record {
       each = λ h keeps.
           let some = performs.each h keeps in
@@ -197,7 +197,7 @@ module _ (before : Progress) where
             is_done = one_done mid now some.done does.0 faults numbers_done h some.performed cs c some.is_done did;
             as_long = some.is_done.as_many;
             cut_off = broke_off mid now some.done does.0 faults numbers_done h some.performed f (done_spoken (Tells mid.session at) c at does.0 did spoken) does.1.1 stays_once
-                (λ disk. stops_for_good (Tells mid.session at) c at does.0 did now.disk_counts mid.taken now.taken (cache_of mid.session) (represents stands).stands (good disk));
+                (λ disk. stops_for_good (Tells mid.session at) c at does.0 did now.disk_counts mid.taken now.taken (cache_of mid.session) (represents stands).stands (good disk).0 (good disk).1);
           };
     }
 
@@ -366,7 +366,7 @@ module _ (tells : Bool) (r q : Reader) (mid now : Progress) (c : Command) (gives
             calm = λ other none. reply.kept (λ e. let is : f ≡ fault.Disk = cc e in other is) ∙ goes.calm none;
             each = λ told.
                 one_failed before mid now goes.commands c goes.faults goes.counts.numbers (goes.performs told) f spoken (reply.performs told) (reply.stays told)
-                (λ disk. reply.for_good (no_resume c spoken) (ap (λ x. Err x) disk) told);
+                (λ disk. (reply.last (ap (λ x. Err x) disk) told, reply.for_good (no_resume c spoken) (ap (λ x. Err x) disk) told));
             mark = begun_mark before goes;
           })
       failed before goes (inr line) = inr (record {

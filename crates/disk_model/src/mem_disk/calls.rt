@@ -4,7 +4,7 @@ ghost use Rattle.std.specs.Prelude.{◌≡◌, ◌≢◌, ◌≤◌, ◌^◌, �
 ghost use Rattle.std.specs.Option.{option_map};
 ghost use Rattle.cache_base.specs.Causes.{HasCause};
 ghost use Rattle.cache_base.specs.Names.{AreRising};
-ghost use Rattle.disk_model.specs.Calls.{counted, counted_change, counted_read, counted_sync, if_ok, if_done, MayWriteAt, HoldsPart};
+ghost use Rattle.disk_model.specs.Calls.{counted_change, counted_look, counted_read, counted_sync, if_ok, if_done, MayWriteAt, HoldsPart};
 
 use super::MemDisk;
 use crate::{Disk, DiskFault, Place};
@@ -50,7 +50,7 @@ impl Disk for MemDisk {
         ensures size { IfOk result (λ size.
             size ≡ option_map length (standing (state_in self.old) place.now)) }
         ensures state { state_in self.new ≡ state_in self.old }
-        ensures counts { counts_in self.new ≡ counted_read place.now (counts_in self.old) }
+        ensures counts { counts_in self.new ≡ counted_read result place.now (counts_in self.old) }
         ensures cause { HasCause (IsErrOf result DiskFault.Failed)
             (faults_in self.old) (faults_in self.new) }
         ensures fails { IsErrOf result DiskFault.Failed ↔ FailsNext self.old }
@@ -70,7 +70,7 @@ impl Disk for MemDisk {
             let part = part_of from (length buf.old) (standing (state_in self.old) place.now) in
             (n ≡ length part) × (buf.new ≡ part ++ drop n buf.old)) }
         ensures state { state_in self.new ≡ state_in self.old }
-        ensures counts { counts_in self.new ≡ counted_read place.now (counts_in self.old) }
+        ensures counts { counts_in self.new ≡ counted_read result place.now (counts_in self.old) }
         ensures cause { HasCause (IsErrOf result DiskFault.Failed)
             (faults_in self.old) (faults_in self.new) }
         ensures fails { IsErrOf result DiskFault.Failed ↔ FailsNext self.old }
@@ -171,7 +171,7 @@ impl Disk for MemDisk {
         ensures rising { OnOk result (AreRising out.new) }
         ensures names { OnOk result (AreEntries (state_in self.old) out.new) }
         ensures state { state_in self.new ≡ state_in self.old }
-        ensures counts { counts_in self.new ≡ counted (counts_in self.old) }
+        ensures counts { counts_in self.new ≡ counted_look result (counts_in self.old) }
         ensures cause { HasCause (IsErrOf result DiskFault.Failed)
             (faults_in self.old) (faults_in self.new) }
         ensures fails { IsErrOf result DiskFault.Failed → FailsNext self.old }
@@ -188,7 +188,7 @@ impl Disk for MemDisk {
         ensures rising { OnOk result (AreRisingNumbers out.new) }
         ensures numbers { OnOk result (AreDoomed (state_in self.old) out.new) }
         ensures state { state_in self.new ≡ state_in self.old }
-        ensures counts { counts_in self.new ≡ counted (counts_in self.old) }
+        ensures counts { counts_in self.new ≡ counted_look result (counts_in self.old) }
         ensures cause { HasCause (IsErrOf result DiskFault.Failed)
             (faults_in self.old) (faults_in self.new) }
         ensures fails { IsErrOf result DiskFault.Failed → FailsNext self.old }

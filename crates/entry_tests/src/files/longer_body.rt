@@ -188,8 +188,8 @@ fn leaves_changed(alloc: Global, disk: &MemDisk, at: usize) -> Result<bool, Fail
     }
 }
 
-// The calls of a growth: three for the metadata, one for the only chunk, one for its hash, and the write.
-const CALLS: u64 = 6;
+// The calls of a growth: two for the metadata, one for the only chunk, one for its hash, and the write.
+const CALLS: u64 = 5;
 
 // Whether a disk that stops after so many calls of a growth has the body in each image, and whether only
 // the body once the write began.
@@ -233,7 +233,7 @@ fn a_stop_at_each_call_keeps_the_body(rt: HostRuntime) -> Result<(), Fail> {
     let mut buf = Buffer::new(rt.alloc())?;
     let body = body_of(rt.alloc(), 262_143)?;
     let alt = vec![in rt.alloc(); b'y'; ALT_MAX]?;
-    assert_eq!(rt; stops_kept(rt.alloc(), &mut buf, &body, &alt)?, 7);
-    assert_eq!(rt; stops_kept(rt.alloc(), &mut buf, b"hello", b"XY")?, 7);
+    assert_eq!(rt; stops_kept(rt.alloc(), &mut buf, &body, &alt)?, 6);
+    assert_eq!(rt; stops_kept(rt.alloc(), &mut buf, b"hello", b"XY")?, 6);
     Ok(())
 }

@@ -122,7 +122,7 @@ fn a_body_in_pieces_makes_the_file_of_the_whole(rt: HostRuntime) -> Result<(), F
     };
     let mut disk = MemDisk::new(rt.alloc());
     let seen = make(rt.alloc(), &mut disk, &PLACE, b"he", b"", b"llo", &grown)?;
-    assert!(rt; became(seen, 5, 69) && disk.calls() == 6);
+    assert!(rt; became(seen, 5, 69) && disk.calls() == 5);
     assert!(rt; disk.file(&PLACE) == Some(HELLO));
     Ok(())
 }
@@ -170,7 +170,7 @@ fn a_whole_chunk_is_written_at_once(rt: HostRuntime) -> Result<(), Fail> {
     let body = body_of(rt.alloc(), 262_144)?;
     let mut disk = MemDisk::new(rt.alloc());
     let seen = make_with_chunk(rt.alloc(), &mut disk, &body)?;
-    assert!(rt; became(seen, 262_144, 262_208) && disk.calls() == 8);
+    assert!(rt; became(seen, 262_144, 262_208) && disk.calls() == 7);
     Ok(())
 }
 

@@ -57,14 +57,14 @@ fn failing_at(alloc: Global, call: u32) -> Result<Seen, DiskFault> {
     seen_at(alloc, &mut disk, &PLACE, &NAME)
 }
 
-// Whether `hello` is read by three calls, with its lengths and its key.
+// Whether `hello` is read by two calls, with its lengths and its key.
 fn reads_hello(alloc: Global, disk: &mut MemDisk) -> bool {
     match read_meta(alloc, disk, &PLACE, &NAME) {
         Ok(EntryRead::Fits { meta, size }) => {
             size == 69
                 && meta.offset == 5
                 && meta.key.as_slice() == b":https://example.com/".as_slice()
-                && disk.calls() == 3
+                && disk.calls() == 2
         }
         _ => false,
     }
@@ -97,6 +97,24 @@ fn a_file_of_version_1_has_a_smaller_block(rt: HostRuntime) {
     assert!(rt; large(rt.alloc(), 262_145, 1) == Ok(Seen::Unfit(Unfit::TooBig)));
     assert!(rt; large(rt.alloc(), 262_144, 1) == Ok(Seen::Unfit(Unfit::Hash)));
     assert!(rt; large(rt.alloc(), 262_148, 2) == Ok(Seen::Unfit(Unfit::Hash)));
+}
+
+// The calls by which a file is read that has a block of zeros and so many bytes in all.
+fn calls_for(alloc: Global, len: usize) -> Result<u64, Fail> {
+    let bytes = vec![in alloc; 0u8; len]?;
+    let mut disk = disk_with(alloc, &bytes)?;
+    seen_at(alloc, &mut disk, &PLACE, &NAME)?;
+    Ok(disk.calls())
+}
+
+#[test]
+fn a_block_is_read_anew_where_it_is_longer_than_a_look(rt: HostRuntime) -> Result<(), Fail> {
+    let rows = [(4, 2), (4096, 2), (4097, 3), (262_148, 3), (262_149, 2)];
+    for index in 0..rows.len() {
+        let (len, calls) = rows[index];
+        assert_eq!(rt; calls_for(rt.alloc(), len)?, calls);
+    }
+    Ok(())
 }
 
 #[test]
@@ -137,11 +155,11 @@ fn each_check_has_a_file_that_fails_it(rt: HostRuntime) -> Result<(), Fail> {
 
 #[test]
 fn a_call_that_fails_is_answered(rt: HostRuntime) {
-    for call in 1..4 {
+    for call in 1..3 {
         assert!(rt;
             failing_at(rt.alloc(), call) == Err(DiskFault::Failed),
             "call {call}"
         );
     }
-    assert!(rt; failing_at(rt.alloc(), 4) == Ok(Seen::Fits(5, 69)));
+    assert!(rt; failing_at(rt.alloc(), 3) == Ok(Seen::Fits(5, 69)));
 }

@@ -132,11 +132,11 @@ pub(super) fn is_file(disk: &MemDisk, body: &[u8], end: &[u8]) -> bool {
     }
 }
 
-// Whether an entry of one chunk is made and rewritten, by fifteen calls.
+// Whether an entry of one chunk is made and rewritten, by twelve calls.
 fn is_rewritten(alloc: Global, disk: &mut MemDisk, buf: &mut Buffer) -> Result<bool, Fail> {
     put(alloc, disk, b"hello")?;
     let set = set(alloc, disk, &PLACE, buf, b"bc")?;
-    Ok(set && is_file(disk, b"hello", HELLO_END) && disk.calls() == 15)
+    Ok(set && is_file(disk, b"hello", HELLO_END) && disk.calls() == 12)
 }
 
 #[test]

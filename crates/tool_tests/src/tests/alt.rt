@@ -584,11 +584,11 @@ fn data_stand_after_more_than_a_chunk(rt: HostRuntime) -> Result<(), Fail> {
 }
 
 // Words over the entry of a chunk and a byte with the element `1;262144,x`, and how many calls follow the opening up
-// to the reply: the size, the last four bytes, the block and both chunks, and each chunk that is printed.
+// to the reply: the size, the last bytes and both chunks, and each chunk that is printed.
 const PRINTING: [(&str, u32); 3] = [
-    ("1000 get :x", 7),
-    ("1000 getalt :x", 6),
-    ("1000 main :x", 6),
+    ("1000 get :x", 6),
+    ("1000 getalt :x", 5),
+    ("1000 main :x", 5),
 ];
 
 // A disk with the entry of a chunk and a byte, and an element `alt-data`, as this sets it.
@@ -654,7 +654,7 @@ const TWO_CHUNKS: [(&str, &[u8], &[u8]); 2] = [
 fn ends_after_a_chunk(alloc: Global, row: &(&str, &[u8], &[u8])) -> Result<bool, Fail> {
     let (line, set, before) = *row;
     let made = disk_of_a_chunk(alloc, set)?;
-    let (status, text) = ends_on_copy(alloc, &made, line, OPENING + 7)?;
+    let (status, text) = ends_on_copy(alloc, &made, line, OPENING + 6)?;
     let due = repeated(alloc, before, b'm', 262_144, b"")?;
     Ok(status == Status::Disk && text.as_slice() == due.as_slice())
 }

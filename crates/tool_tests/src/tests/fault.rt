@@ -186,9 +186,9 @@ const TWO_CHUNKS: [Printing<'static>; 2] = [
     ),
 ];
 
-// The look at the second chunk that is printed, by its number among the calls: the size, the last four bytes, the
-// block and both chunks come before, and the first chunk once more.
-const SECOND_CHUNK: u32 = OPENING + 7;
+// The look at the second chunk that is printed, by its number among the calls: the size, the last bytes and both chunks
+// come before, and the first chunk once more.
+const SECOND_CHUNK: u32 = OPENING + 6;
 
 // Whether the run ends there, with all out up to the first chunk.
 fn ends_after_a_chunk(alloc: Global, file: &[u8], printing: &Printing<'_>) -> Result<bool, Fail> {
@@ -216,7 +216,7 @@ const READ_AGAIN: &[u8] = b"open 1 :https://example.com/\nread 1 0 262145\nread 
 
 fn is_read_again(alloc: Global, file: &[u8]) -> Result<bool, Fail> {
     let mut disk = disk_with(alloc, KEY, file)?;
-    disk.fail_at(one_number(alloc, OPENING + 6)?);
+    disk.fail_at(one_number(alloc, OPENING + 5)?);
     let text = b"ok\nfault\ndata 2\nab\n";
     comes_so(
         alloc,

@@ -288,21 +288,20 @@ fn look_fails(alloc: Global, number: u32, text: &[u8]) -> Result<bool, Fail> {
     Ok(status == Status::Disk && printed.as_slice() == text)
 }
 
-// After the opening the calls look for the size, the last four bytes and the block; the body is read once, to be
-// checked, and printed from there. A short reply goes out as one. So each look of the command is answered by the
-// line.
+// After the opening the calls look for the size and the last bytes; the body is read once, to be checked, and printed
+// from there. A short reply goes out as one. So each look of the command is answered by the line.
 #[test]
 fn each_failing_look_ends_the_run(rt: HostRuntime) -> Result<(), Fail> {
     for number in 1..OPENING + 1 {
         assert!(rt; look_fails(rt.alloc(), number, b"")?, "at call {number}");
     }
-    for number in OPENING + 1..OPENING + 5 {
+    for number in OPENING + 1..OPENING + 4 {
         assert!(rt;
             look_fails(rt.alloc(), number, b"fault\n")?,
             "at call {number}"
         );
     }
-    assert!(rt; look_fails(rt.alloc(), OPENING + 5, FOUND)?);
+    assert!(rt; look_fails(rt.alloc(), OPENING + 4, FOUND)?);
     Ok(())
 }
 

@@ -24,7 +24,7 @@ returns-then-rise-clause-once g c = λ told.
     let es = c.as_slice-listed.result.now in
     let listed : Listed s t names es = listed_by s t names es (c.in_ok-entries.ensures.state told) c.as_slice-listed.ensures c.in_ok-entries.ensures.rising (c.in_ok-entries.ensures.names told) in
     looked_once s t names es c.args.writing.now c.as_slice-skipped.result.now (g.D.Disk.counts c.args.disk.now) (g.D.Disk.counts c.entries.new.self) (g.D.Disk.counts c.check_all.new.disk)
-    listed c.as_slice-skipped.ensures (c.in_ok-entries.ensures.counts told) (c.check_all.ensures.calls told)
+    listed c.as_slice-skipped.ensures c.entries.result (c.entries.ensures.counts told) (c.check_all.ensures.calls told)
 
 pub check_all-requires-2-clause-told : goal.check_all-requires-2-clause-told
 check_all-requires-2-clause-told g c = λ told.
@@ -66,4 +66,4 @@ returns-clause-once g c = λ told.
     let es = c.as_slice-listed.result.now in
     let listed : Listed s t names es = listed_by s t names es (c.in_ok-entries.ensures.state told) c.as_slice-listed.ensures c.in_ok-entries.ensures.rising (c.in_ok-entries.ensures.names told) in
     looked_once s t names es c.args.writing.now c.as_slice-skipped.result.now (g.D.Disk.counts c.args.disk.now) (g.D.Disk.counts c.entries.new.self) (g.D.Disk.counts c.check_all-2.new.disk)
-    listed c.as_slice-skipped.ensures (c.in_ok-entries.ensures.counts told) (c.check_all-2.ensures.calls told)
+    listed c.as_slice-skipped.ensures c.entries.result (c.entries.ensures.counts told) (c.check_all-2.ensures.calls told)

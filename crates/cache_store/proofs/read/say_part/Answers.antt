@@ -3,6 +3,7 @@ use Rattle.cache_theory.specs.Machine.{object_of}
 use Rattle.file_handles.specs.Reading.{part_of_body}
 use Rattle.cache_store.specs.Said.{saying}
 use Rattle.cache_store.specs.Saying.{CutsIn, SaysMore}
+use Rattle.cache_store.proofs.Performing.CalmAccounts.{sink_fault_looks}
 use Rattle.cache_store.proofs.Reading.PartWhole.{part_short}
 use Rattle.cache_store.proofs.Saying.SaidMore.{when_err}
 use Rattle.cache_store.proofs.Saying.SayingLaws.{cut_part, cuts_stop, says_then, stops_here}
@@ -45,3 +46,12 @@ returns-in_ok-send_before-in-Ok-clause-says g c told m represents =
 
 pub returns-in-Err-clause-stops : goal.returns-in-Err-clause-stops
 returns-in-Err-clause-stops g c told m represents = stops_here (saying g.K.Sink c.args.reply.now c.args.sink.now) (part_of_body (object_of m c.args.span.slot).version.body c.args.span.from c.args.span.len)
+
+pub returns-in_err-put-in-Ok-clause-looks : goal.returns-in_err-put-in-Ok-clause-looks
+returns-in_err-put-in-Ok-clause-looks g c =
+    sink_fault_looks g.D.Disk c.in_err-put-in-Ok.field-0.0 c.from_residual.result c.args.disk.now c.read_part.new.disk c.from_residual.ensures.1 c.in-Ok.ensures.looks
+
+pub returns-in_err-send_before-in-Ok-clause-looks : goal.returns-in_err-send_before-in-Ok-clause-looks
+returns-in_err-send_before-in-Ok-clause-looks g c =
+    sink_fault_looks g.D.Disk c.in_err-send_before-in-Ok.field-0.0 c.from_residual-in_err-send_before-in-Ok.result c.args.disk.now c.read_part.new.disk
+    c.from_residual-in_err-send_before-in-Ok.ensures.1 c.in-Ok.ensures.looks

@@ -5,18 +5,20 @@ use Rattle.cache_theory.specs.History.{acked, settled_at}
 use Rattle.cache_tool.specs.Statuses.{status_in}
 use Rattle.cache_tool.specs.World.{output}
 use Rattle.cache_tool.proofs.Fills.FillEnds.{answered, answers_only, ends_so, not_answered, prints_so}
+use Rattle.cache_tool.proofs.ForGood.{ended_last, only_came}
 use Rattle.cache_tool.proofs.Growing.{takes_none, takes_part}
 use Rattle.cache_tool.proofs.MarkLeft.{closed_leaves_mark, kept_change_mark, leaves_mark}
 use Rattle.cache_tool.proofs.OneCommand.{not_begun}
 use Rattle.cache_tool.proofs.Puts.PutEnds.{Printed, disk_cause, ended_no_sink, never_sink, put_stops}
 use Rattle.cache_tool.proofs.SessionEnds.{resumed_done}
 use Rattle.cache_tool.proofs.StatusLaws.{no_answer}
+use Rattle.disk_model.specs.Calls.{LastCallFails}
 use Rattle.cache_tool.proofs.fill.fill.Goals as goal
 
 pub returns-in-Err-clause-fills : goal.returns-in-Err-clause-fills
 returns-in-Err-clause-fills g c = λ told m is.
     inr (not_begun (output g.K.Sink g.D.Disk c.args.sink.now c.args.disk.now) (g.D.Disk.state c.begin.new.disk) (g.D.Disk.faults c.begin.new.disk) c.begin.result c.in-Err.fault c.status_of_fault.result c.in-Err.is
-    c.begin.ensures.no_sink c.status_of_fault.ensures c.begin.ensures.account.cause.rose (c.in-Err.ensures.fails told) m is)
+    c.begin.ensures.no_sink c.status_of_fault.ensures c.begin.ensures.account.cause.rose (λ failed. c.begin.ensures.account.last failed told) (c.in-Err.ensures.fails told) m is)
 
 pub returns-in-Done-clause-fills : goal.returns-in-Done-clause-fills
 returns-in-Done-clause-fills g c = λ told m is.
@@ -89,7 +91,10 @@ returns g c =
               not_answered c.args.count c.args.first came c.end.result (output g.K.Sink g.D.Disk c.args.sink.now c.args.disk.now) mid
                   (session g.D.Disk c.perform_fill-came.new.store c.perform_fill-came.new.disk) (g.D.Disk.state c.end.new.disk) c.perform_fill-came.new.lines begins m is
                   ((c.perform_fill-came.ensures.performs told).each (acked resumed.done (settled_at m)) resumed.leads.keeps) (c.end.ensures.ends told) c.end.ensures.same c.perform_fill-came.ensures.no_sink
-                  (c.perform_fill-came.ensures.honest told) (λ dropped. ap g.D.Disk.state (c.end.ensures.dropped dropped).1) other no_sink,
+                  (c.perform_fill-came.ensures.honest told) (λ dropped. ap g.D.Disk.state (c.end.ensures.dropped dropped).1)
+                  (ended_last LastCallFails came c.end.result (g.D.Disk.counts c.perform_fill-came.new.disk) (g.D.Disk.counts c.end.new.disk) (λ last. inl last) (only_came came only)
+                  (λ closing disk. c.end.ensures.last closing disk told) (λ not. let left = c.end.ensures.dropped not in (left.0, ap g.D.Disk.counts left.1))
+                  (λ failed. c.perform_fill-came.ensures.account.last failed told)) other no_sink,
             ),
           );
       grows = takes_none (g.K.Sink.taken c.args.sink.now);

@@ -6,8 +6,11 @@ use Rattle.cache_theory.specs.Text.{with_number}
 use Rattle.cache_tool.specs.FirstLine.{first_line}
 use Rattle.cache_tool.specs.HeldReply.{said_in}
 use Rattle.cache_tool.proofs.Fills.FillWhole.{checked_fails, checked_keeps, evicted_fails, fill_performed, listed_fails, nothing_fails, unevicted_fails}
+use Rattle.cache_tool.proofs.Handed.{handed_account}
 use Rattle.cache_tool.proofs.MarkLeft.{others_keep, stays_mark, then_stays}
 use Rattle.cache_tool.proofs.RightLaws.{open_leaves_honest}
+use Rattle.disk_model.specs.Account.{Ending}
+use Rattle.file_handles.proofs.Accounting.{accounts_then}
 use Rattle.cache_tool.proofs.fill.perform_fill.Goals as goal
 
 pub returns-in_err-say_made-clause-performs : goal.returns-in_err-say_made-clause-performs
@@ -125,3 +128,15 @@ returns-clause-performs g c = λ told. record {
 
 pub returns-in_err-say_made-clause-honest : goal.returns-in_err-say_made-clause-honest
 returns-in_err-say_made-clause-honest g c = λ told. open_leaves_honest (session g.D.Disk c.args.store.now c.args.disk.now) (c.requires.told told)
+
+-- the faults are accounted for
+pub returns-in_err-checked-clause-account : goal.returns-in_err-checked-clause-account
+returns-in_err-checked-clause-account g c =
+    let halved = accounts_then g.D.Disk Ending.NoneFailed c.args.disk.now c.make_all.new.disk c.evict_half.new.disk c.in_ok-make_all.ensures.account c.in_ok-evict_half.ensures.account in
+    handed_account g.D.Disk c.from_residual-in_err-checked.result c.in_err-checked.field-0.0 c.args.disk.now c.evict_half.new.disk c.send.new.disk c.from_residual-in_err-checked.ensures.1 halved c.in_err-checked.ensures.account
+
+pub returns-in_err-send-clause-account : goal.returns-in_err-send-clause-account
+returns-in_err-send-clause-account g c =
+    let halved = accounts_then g.D.Disk Ending.NoneFailed c.args.disk.now c.make_all.new.disk c.evict_half.new.disk c.in_ok-make_all.ensures.account c.in_ok-evict_half.ensures.account in
+    let checked = accounts_then g.D.Disk Ending.NoneFailed c.args.disk.now c.evict_half.new.disk c.send.new.disk halved c.in_ok-checked.ensures.account in
+    handed_account g.D.Disk c.from_residual-in_err-send.result c.in_err-send.field-0.0 c.args.disk.now c.send.new.disk c.send-2.new.disk c.from_residual-in_err-send.ensures.1 checked c.in_err-send.ensures.account

@@ -5,12 +5,14 @@ use Rattle.cache_base.specs.declared.status.Status.TheVariants as status
 use Rattle.cache_store.specs.Session.{session}
 use Rattle.cache_tool.specs.Statuses.{status_in}
 use Rattle.cache_tool.specs.World.{output, world}
+use Rattle.cache_tool.proofs.ForGood.{ended_last}
 use Rattle.cache_tool.proofs.Growing.{takes_none}
 use Rattle.cache_tool.proofs.Loads.LoadEnds.{SaysLine, came_end, line_or_source_closes, line_said, load_ends, loads_told, never_ends, no_line, none_said, none_told, says_bad, says_loaded}
 use Rattle.cache_tool.proofs.MarkLeft.{closed_leaves_mark, kept_change_mark, leaves_mark}
 use Rattle.cache_tool.proofs.OneCommand.{not_begun}
 use Rattle.cache_tool.proofs.Puts.PutEnds.{closing_cause, put_stops, source_came}
 use Rattle.cache_tool.proofs.SessionEnds.{resumed_done}
+use Rattle.disk_model.specs.Calls.{LastCallFails}
 use Rattle.cache_tool.proofs.load.load.Goals as goal
 
 pub returns-in-Err-clause-loads : goal.returns-in-Err-clause-loads
@@ -18,7 +20,7 @@ returns-in-Err-clause-loads g c = λ told.
     loads_told c.args.now c.status_of_fault.result (world g.S.Source g.K.Sink g.D.Disk c.args.source.now c.args.sink.now c.args.disk.now)
     (world g.S.Source g.K.Sink g.D.Disk c.args.source.now c.args.sink.now c.begin.new.disk) (λ bytes from m is. inr (
       not_begun (output g.K.Sink g.D.Disk c.args.sink.now c.args.disk.now) (g.D.Disk.state c.begin.new.disk) (g.D.Disk.faults c.begin.new.disk) c.begin.result c.in-Err.fault c.status_of_fault.result c.in-Err.is
-          c.begin.ensures.no_sink c.status_of_fault.ensures c.begin.ensures.account.cause.rose (c.in-Err.ensures.fails told) m is,
+          c.begin.ensures.no_sink c.status_of_fault.ensures c.begin.ensures.account.cause.rose (λ failed. c.begin.ensures.account.last failed told) (c.in-Err.ensures.fails told) m is,
       refl,
     ))
 
@@ -114,7 +116,10 @@ returns g c =
               resumed_done s mid begins m is (g.met.D.Disk.finite c.args.disk.now told),
               none_said (IsTrue g.D.Disk.tells) told bytes came ended (world g.S.Source g.K.Sink g.D.Disk c.args.source.now c.args.sink.now c.args.disk.now)
                   (g.S.Source.left c.perform_load-came.new.source) mid (session g.D.Disk c.perform_load-came.new.store c.perform_load-came.new.disk) (g.D.Disk.state c.end.new.disk) c.perform_load-came.new.line begins m is from
-                  load.performs (c.end.ensures.ends told) c.end.ensures.same load.no_sink (load.honest told) (λ dropped. ap g.D.Disk.state (c.end.ensures.dropped dropped).1) (no_line ended not_done not_script) not_sink not_no,
+                  load.performs (c.end.ensures.ends told) c.end.ensures.same load.no_sink (load.honest told) (λ dropped. ap g.D.Disk.state (c.end.ensures.dropped dropped).1)
+                  (ended_last LastCallFails came ended (g.D.Disk.counts c.perform_load-came.new.disk) (g.D.Disk.counts c.end.new.disk) (λ last. inl last) (line_or_source_closes came load.only)
+                  (λ closing disk. c.end.ensures.last closing disk told) (λ not. let left = c.end.ensures.dropped not in (left.0, ap g.D.Disk.counts left.1))
+                  (λ failed. load.account.last failed told)) (no_line ended not_done not_script) not_sink not_no,
             ),
           ));
       grows = takes_none (g.K.Sink.taken c.args.sink.now);

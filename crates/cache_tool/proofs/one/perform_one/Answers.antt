@@ -4,6 +4,7 @@ use Rattle.std.specs.Io.KnownBytes.{Appends}
 use Rattle.cache_base.specs.Causes.{Rose}
 use Rattle.cache_script.specs.Command.{command_of}
 use Rattle.cache_store.specs.Faulting.{FailsForGood}
+use Rattle.cache_store.specs.Faults.{ending}
 use Rattle.cache_store.specs.IndexCalls.{ReadsEntriesOf}
 use Rattle.cache_store.specs.Open.{Tells}
 use Rattle.cache_store.specs.Saying.{IsPart}
@@ -22,6 +23,7 @@ use Rattle.cache_tool.proofs.Puts.PutEnds.{put_stops}
 use Rattle.cache_tool.proofs.SessionEnds.{next_done, resumed_done}
 use Rattle.cache_tool.proofs.StayingLaws.{stays_done, stays_for}
 use Rattle.context_clear.specs.Mark.{mark_of}
+use Rattle.disk_model.specs.Calls.{LastCallFails}
 use Rattle.disk_model.specs.State.{standing}
 use Rattle.disk_model.specs.declared.place.Place.TheVariants.{Clear}
 use Rattle.index_theory.specs.Start.{start_of}
@@ -30,7 +32,7 @@ use Rattle.cache_tool.proofs.one.perform_one.Goals as goal
 pub returns-in-Err-clause-answers : goal.returns-in-Err-clause-answers
 returns-in-Err-clause-answers g c = λ tells m is.
     inr (not_begun (output g.K.Sink g.D.Disk c.args.sink.now c.args.disk.now) (g.D.Disk.state c.begin.new.disk) (g.D.Disk.faults c.begin.new.disk) c.begin.result c.in-Err.fault c.status_of_fault.result c.in-Err.is
-    c.begin.ensures.no_sink c.status_of_fault.ensures c.begin.ensures.account.cause.rose (c.in-Err.ensures.fails tells) m is)
+    c.begin.ensures.no_sink c.status_of_fault.ensures c.begin.ensures.account.cause.rose (λ failed. c.begin.ensures.account.last failed tells) (c.in-Err.ensures.fails tells) m is)
 
 pub returns-then-faulting-clause-answers : goal.returns-then-faulting-clause-answers
 returns-then-faulting-clause-answers g c = λ tells m is.
@@ -67,9 +69,9 @@ returns-clause-answers g c = λ tells m is.
     let finite = g.met.D.Disk.finite c.args.disk.now tells in
     let mid = session g.D.Disk c.in-Ok.store c.begin.new.disk in
     let last = session g.D.Disk c.attempt-answered.new.self c.attempt-answered.new.disk in
-    let does = (c.attempt-answered.ensures.performs tells).crash (acked resumed.done (settled_at m)) resumed.leads.keeps in
+    let does = (c.attempt-answered.ensures.does.reply.performs tells).crash (acked resumed.done (settled_at m)) resumed.leads.keeps in
     let done = done_right mid command next does.0 does.1.0 in
-    let stays = stays_for command c.attempt-answered.result mid last (λ spares. c.attempt-answered.ensures.index spares tells) c.attempt-answered.ensures.base in
+    let stays = stays_for command c.attempt-answered.result mid last (λ spares. c.attempt-answered.ensures.does.files.index spares tells) c.attempt-answered.ensures.does.files.base in
     inl (
       resumed.done,
       (
@@ -80,12 +82,13 @@ returns-clause-answers g c = λ tells m is.
             next_done s mid begins m is finite command does.0 does.1.0,
             performed_prints (output g.K.Sink g.D.Disk c.args.sink.now c.args.disk.now) (output g.K.Sink g.D.Disk c.attempt-answered.new.sink c.end.new.disk) mid last begins m is c.end.result
                 does.0 (c.end.ensures.ends tells) c.attempt-answered.result c.map.result (done_spoken (Tells mid next) command next does.0 done c.requires.spoken) does.1.1.performs does.1.1.keeps
-                (λ had. stays_done (Tells mid next) command mid next last does.0 done (stays next (represents resumed.leads.keeps) had)) (c.attempt-answered.ensures.honest tells) c.map.ensures.cases c.end.ensures.same
+                (λ had. stays_done (Tells mid next) command mid next last does.0 done (stays next (represents resumed.leads.keeps) had)) (c.attempt-answered.ensures.always.honest tells) c.map.ensures.cases c.end.ensures.same
                 (λ not. let kept = c.end.ensures.dropped not in (kept.0, ap (λ d. g.D.Disk.state d) kept.1))
                 (λ closing disk. c.end.ensures.last closing disk tells)
                 (λ failed.
                 let kept = c.end.ensures.dropped (disk_drops c.attempt-answered.result c.map.result c.map.ensures.cases failed) in
                 stops_for_good (Tells mid next) command next does.0 done (g.D.Disk.counts c.end.new.disk) (g.K.Sink.taken c.args.sink.now) (g.K.Sink.taken c.attempt-answered.new.sink) (cache_of mid) (represents resumed.leads.keeps).stands
+                (subst (λ d. LastCallFails (g.D.Disk.counts d)) (sym kept.1) (c.attempt-answered.ensures.does.calls.account.last (ap ending failed) tells))
                 (subst (λ d. FailsForGood (g.D.Disk.counts d) command (cache_of mid) (g.K.Sink.taken c.args.sink.now) (g.K.Sink.taken c.attempt-answered.new.sink)) (sym kept.1)
                 (c.attempt-answered.ensures.fails (sym c.faulting.ensures ∙ c.if-faulting.false) (no_resume command c.requires.spoken) failed tells))),
           ),
@@ -94,7 +97,7 @@ returns-clause-answers g c = λ tells m is.
     )
 
 pub end-requires-clause-told : goal.end-requires-clause-told
-end-requires-clause-told g c = λ tells. came_open c.attempt-answered.result c.map.result _ c.map.ensures.cases (c.attempt-answered.ensures.open tells)
+end-requires-clause-told g c = λ tells. came_open c.attempt-answered.result c.map.result _ c.map.ensures.cases (c.attempt-answered.ensures.always.stays_open tells)
 
 pub end_faulted-requires : goal.end_faulted-requires
 end_faulted-requires g c = record {
@@ -110,7 +113,7 @@ returns-then-faulting-clause-no_entry g c = λ none told.
     let opened = c.begin.ensures.looks told (looks_none command (mark_of (files Clear)) (start_of files) none) told in
     let ready = nothing_to_read c.args.now (g.D.Disk.state c.args.disk.now) (session g.D.Disk c.in-Ok.store c.begin.new.disk) (g.met.D.Disk.finite c.args.disk.now told) (c.in-Ok.ensures.begins told) in
     let performed = reads_none (λ names. ReadsEntriesOf g.D.Disk names c.begin.new.disk c.attempt-answered.new.disk) command (mark_of (files Clear)) (mark_of (standing (g.D.Disk.state c.begin.new.disk) Clear)) (start_of files)
-    c.in-Ok.store.index.update none ready c.attempt-answered.ensures.looks told in
+    c.in-Ok.store.index.update none ready c.attempt-answered.ensures.always.looks told in
     let ended = c.end_faulted.ensures.no_entry told in
     omega (arith, opened, performed, ended)
 
@@ -128,13 +131,13 @@ returns-clause-no_entry g c = λ none told.
     let opened = c.begin.ensures.looks told (looks_none command (mark_of (files Clear)) (start_of files) none) told in
     let ready = nothing_to_read c.args.now (g.D.Disk.state c.args.disk.now) (session g.D.Disk c.in-Ok.store c.begin.new.disk) (g.met.D.Disk.finite c.args.disk.now told) (c.in-Ok.ensures.begins told) in
     let performed = reads_none (λ names. ReadsEntriesOf g.D.Disk names c.begin.new.disk c.attempt-answered.new.disk) command (mark_of (files Clear)) (mark_of (standing (g.D.Disk.state c.begin.new.disk) Clear)) (start_of files)
-    c.in-Ok.store.index.update none ready c.attempt-answered.ensures.looks told in
+    c.in-Ok.store.index.update none ready c.attempt-answered.ensures.always.looks told in
     let ended = c.end.ensures.no_entry told in
     omega (arith, opened, performed, ended)
 
 pub returns-clause-stops : goal.returns-clause-stops
 returns-clause-stops g c = λ told.
-    let command = c.attempt-answered.ensures.account in
+    let command = c.attempt-answered.ensures.does.calls.account in
     put_stops (g.D.Disk.counts c.args.disk.now) (g.D.Disk.counts c.begin.new.disk) (c.in-Ok.ensures.account.went_on refl told) c.map.result
     (g.D.Disk.counts c.attempt-answered.new.disk) (g.D.Disk.counts c.end.new.disk) (λ calm. command.went_on (came_ending c.attempt-answered.result c.map.result c.map.ensures.cases calm) told)
     (command.stops told) (c.end.ensures.stops told) (λ dropped. ap g.D.Disk.counts (c.end.ensures.dropped dropped).1)
@@ -149,9 +152,9 @@ returns-in-Err-clause-mark g c = λ told.
 pub returns-then-faulting-clause-mark : goal.returns-then-faulting-clause-mark
 returns-then-faulting-clause-mark g c = λ told.
     closed_leaves_mark (command_of c.args.command.now ∷ []) _ _ _ _ (c.in-Ok.ensures.begins told).mark
-    (one_changes_mark (command_of c.args.command.now) _ _ c.requires.spoken (may_mark (command_of c.args.command.now) _ _ (c.attempt-answered.ensures.at_clear told))) (c.end_faulted.ensures.ends told).mark
+    (one_changes_mark (command_of c.args.command.now) _ _ c.requires.spoken (may_mark (command_of c.args.command.now) _ _ (c.attempt-answered.ensures.always.at_clear told))) (c.end_faulted.ensures.ends told).mark
 
 pub returns-clause-mark : goal.returns-clause-mark
 returns-clause-mark g c = λ told.
     closed_leaves_mark (command_of c.args.command.now ∷ []) _ _ _ _ (c.in-Ok.ensures.begins told).mark
-    (one_changes_mark (command_of c.args.command.now) _ _ c.requires.spoken (may_mark (command_of c.args.command.now) _ _ (c.attempt-answered.ensures.at_clear told))) (c.end.ensures.ends told).mark
+    (one_changes_mark (command_of c.args.command.now) _ _ c.requires.spoken (may_mark (command_of c.args.command.now) _ _ (c.attempt-answered.ensures.always.at_clear told))) (c.end.ensures.ends told).mark

@@ -13,12 +13,13 @@ use Rattle.cache_tool.proofs.OneCommand.{faulted_prints, not_begun, rose_twice}
 use Rattle.cache_tool.proofs.Puts.PutEnds.{Printed, answered, disk_cause, ended_no_sink, never_others, never_sink, not_answered, put_refuses, put_stops, source_came, stops_after}
 use Rattle.cache_tool.proofs.SessionEnds.{resumed_done}
 use Rattle.cache_tool.proofs.StatusLaws.{no_answer}
+use Rattle.disk_model.specs.Calls.{LastFails}
 use Rattle.cache_tool.proofs.put.put.Goals as goal
 
 pub returns-in-Err-clause-stores : goal.returns-in-Err-clause-stores
 returns-in-Err-clause-stores g c = λ told some m is. inr (
   not_begun (output g.K.Sink g.D.Disk c.args.sink.now c.args.disk.now) (g.D.Disk.state c.begin.new.disk) (g.D.Disk.faults c.begin.new.disk) c.begin.result c.in-Err.fault c.status_of_fault.result c.in-Err.is
-      c.begin.ensures.no_sink c.status_of_fault.ensures c.begin.ensures.account.cause.rose (c.in-Err.ensures.fails told) m is,
+      c.begin.ensures.no_sink c.status_of_fault.ensures c.begin.ensures.account.cause.rose (λ failed. c.begin.ensures.account.last failed told) (c.in-Err.ensures.fails told) m is,
   refl,
 )
 
@@ -82,7 +83,7 @@ returns g c =
                   mid (session g.D.Disk c.perform_put-came.new.store c.perform_put-came.new.disk) (g.D.Disk.state c.end.new.disk) (said_in c.perform_put-came.new.said) begins m is
                   ((c.perform_put-came.ensures.performs told).each some (acked resumed.done (settled_at m)) resumed.leads.keeps) (c.end.ensures.ends told) c.end.ensures.same
                   (c.perform_put-came.ensures.honest told) (λ dropped. ap g.D.Disk.state (c.end.ensures.dropped dropped).1)
-                  (ended_last c.perform_put-came.result c.end.result (g.D.Disk.counts c.perform_put-came.new.disk) (g.D.Disk.counts c.end.new.disk) (only_came c.perform_put-came.result c.perform_put-came.ensures.only)
+                  (ended_last LastFails c.perform_put-came.result c.end.result (g.D.Disk.counts c.perform_put-came.new.disk) (g.D.Disk.counts c.end.new.disk) (λ last. last) (only_came c.perform_put-came.result c.perform_put-came.ensures.only)
                   (λ closing disk. c.end.ensures.last closing disk told) (λ not. let left = c.end.ensures.dropped not in (left.0, ap g.D.Disk.counts left.1))
                   (λ failed. c.perform_put-came.ensures.change (sym c.faulting.ensures ∙ c.if-faulting.false) failed told))
                   (no_answer c.end.result c.in_default.not-Done c.in_default.not-No) (ended_no_sink c.end.result (status_in c.perform_put-came.result) (never_sink c.perform_put-came.result c.perform_put-came.ensures.only c.perform_put-came.ensures.no_sink) c.end.ensures.same)),

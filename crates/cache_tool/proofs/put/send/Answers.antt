@@ -15,9 +15,9 @@ returns-clause-sends g c = λ told. record {
   each = λ h keeps.
       let before = session g.D.Disk c.args.store.now c.args.disk.now in
       let now = session g.D.Disk c.attempt.new.self c.attempt.new.disk in
-      let does = (c.attempt.ensures.performs told).crash h keeps in
+      let does = (c.attempt.ensures.does.reply.performs told).crash h keeps in
       let done = done_right before (command_of c.args.c.now) h.machine does.0 does.1.0 in
-      let stays = stays_for (command_of c.args.c.now) c.attempt.result before now (λ spares. c.attempt.ensures.index spares told) c.attempt.ensures.base in (
+      let stays = stays_for (command_of c.args.c.now) c.attempt.result before now (λ spares. c.attempt.ensures.does.files.index spares told) c.attempt.ensures.does.files.base in (
         does.0,
         (
           done,
@@ -25,7 +25,7 @@ returns-clause-sends g c = λ told. record {
               (λ had. stays_done (Tells before h.machine) (command_of c.args.c.now) before h.machine now does.0 done (stays h.machine (represents keeps) had)),
         ),
       );
-  mark = may_mark (command_of c.args.c.now) _ _ (c.attempt.ensures.at_clear told);
+  mark = may_mark (command_of c.args.c.now) _ _ (c.attempt.ensures.always.at_clear told);
 }
 
 pub returns-clause-change : goal.returns-clause-change

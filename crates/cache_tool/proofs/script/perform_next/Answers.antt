@@ -19,10 +19,10 @@ returns-in_err-command-in-Ok-Some-clause-performs g c =
     c.in-Ok-Some.is c.in-Ok-Some.field-0-is c.next_command.follows.holds-at-none in
     let command = c.in_err-command-in-Ok-Some.ensures in
     let answers = answers_next g.D.Disk (Err c.in_err-command-in-Ok-Some.field-0.0) c.args.store.now c.command.new.self c.args.disk.now c.command.new.disk (g.K.Sink.taken c.args.sink.now) (g.K.Sink.taken c.command.new.sink)
-    command.faults command.account (command_of c.in-Ok-Some.command) command.performs
+    command.faults (λ calm. (command.does calm).calls.account) (command_of c.in-Ok-Some.command) (λ calm told. (command.does calm).reply.performs told)
     (λ calm told. stays_for {T = Verdict} (command_of c.in-Ok-Some.command) (Err c.in_err-command-in-Ok-Some.field-0.0) (session g.D.Disk c.args.store.now c.args.disk.now) (session g.D.Disk c.command.new.self c.command.new.disk)
-    (λ spares. command.index calm spares told) command.base) command.fails in
-    turn_err g.D.Disk.tells c.args.reader.now c.next_command.follows.lender-at-none _ _ (command_of c.in-Ok-Some.command) gives answers.0 command.at_clear c.in_err-command-in-Ok-Some.field-0.0
+    (λ spares. (command.does calm).files.index spares told) (command.does calm).files.base) command.fails in
+    turn_err g.D.Disk.tells c.args.reader.now c.next_command.follows.lender-at-none _ _ (command_of c.in-Ok-Some.command) gives answers.0 command.always.at_clear c.in_err-command-in-Ok-Some.field-0.0
     c.from_residual.result c.from_residual.ensures.1 answers
 
 pub returns-in_ok-command-in-Ok-Some-clause-performs : goal.returns-in_ok-command-in-Ok-Some-clause-performs
@@ -32,10 +32,10 @@ returns-in_ok-command-in-Ok-Some-clause-performs g c =
     let command = c.in_ok-command-in-Ok-Some.ensures in
     let v = verdict_of c.in_ok-command-in-Ok-Some.field-0 in
     let answers = answers_next g.D.Disk (Ok c.in_ok-command-in-Ok-Some.field-0) c.args.store.now c.command.new.self c.args.disk.now c.command.new.disk (g.K.Sink.taken c.args.sink.now) (g.K.Sink.taken c.command.new.sink)
-    command.faults command.account (command_of c.in-Ok-Some.command) command.performs
+    command.faults (λ calm. (command.does calm).calls.account) (command_of c.in-Ok-Some.command) (λ calm told. (command.does calm).reply.performs told)
     (λ calm told. stays_for {T = Verdict} (command_of c.in-Ok-Some.command) (Ok v) (session g.D.Disk c.args.store.now c.args.disk.now) (session g.D.Disk c.command.new.self c.command.new.disk)
-    (λ spares. command.index calm spares told) command.base) command.fails in
-    turn_on g.D.Disk.tells c.args.reader.now c.next_command.follows.lender-at-none _ _ (command_of c.in-Ok-Some.command) gives answers.0 command.at_clear v answers
+    (λ spares. (command.does calm).files.index spares told) (command.does calm).files.base) command.fails in
+    turn_on g.D.Disk.tells c.args.reader.now c.next_command.follows.lender-at-none _ _ (command_of c.in-Ok-Some.command) gives answers.0 command.always.at_clear v answers
 
 pub returns-in-Ok-None-clause-performs : goal.returns-in-Ok-None-clause-performs
 returns-in-Ok-None-clause-performs g c =
@@ -57,7 +57,7 @@ returns-in-Err-Script-clause-performs g c =
 
 pub returns-in_err-command-in-Ok-Some-clause-open : goal.returns-in_err-command-in-Ok-Some-clause-open
 returns-in_err-command-in-Ok-Some-clause-open g c = λ told.
-    handed_open c.from_residual.result c.in_err-command-in-Ok-Some.field-0.0 (session g.D.Disk c.command.new.self c.command.new.disk) c.from_residual.ensures.1 (c.in_err-command-in-Ok-Some.ensures.open told)
+    handed_open c.from_residual.result c.in_err-command-in-Ok-Some.field-0.0 (session g.D.Disk c.command.new.self c.command.new.disk) c.from_residual.ensures.1 (c.in_err-command-in-Ok-Some.ensures.always.stays_open told)
 
 -- the faults are accounted for
 pub returns-in_err-command-in-Ok-Some-clause-account : goal.returns-in_err-command-in-Ok-Some-clause-account
@@ -68,11 +68,11 @@ returns-in_err-command-in-Ok-Some-clause-account g c =
     let taken = g.K.Sink.taken c.args.sink.now in
     let later = g.K.Sink.taken c.command.new.sink in
     command_accounted c.from_residual.result f (at c.args.source.now c.args.sink.now c.args.disk.now) (at c.next_command.new.source c.command.new.sink c.command.new.disk)
-    c.from_residual.ensures.1 (c.in-Ok-Some.ensures.cause.kept (λ failed. cc)) command.sink
-    (answer_later g.D.Disk (Err f) c.args.store.now c.command.new.self c.args.disk.now c.command.new.disk taken later command.faults command.account)
-    (answer_rose g.D.Disk f c.args.store.now c.command.new.self c.args.disk.now c.command.new.disk taken later command.faults command.account)
-    (answer_went_on g.D.Disk (Err f) c.args.store.now c.command.new.self c.args.disk.now c.command.new.disk taken later command.faults command.account)
-    (answer_stops g.D.Disk (Err f) c.args.store.now c.command.new.self c.args.disk.now c.command.new.disk taken later command.faults command.account)
+    c.from_residual.ensures.1 (c.in-Ok-Some.ensures.cause.kept (λ failed. cc)) command.always.sink
+    (answer_later g.D.Disk (Err f) c.args.store.now c.command.new.self c.args.disk.now c.command.new.disk taken later command.faults (λ calm. (command.does calm).calls.account))
+    (answer_rose g.D.Disk f c.args.store.now c.command.new.self c.args.disk.now c.command.new.disk taken later command.faults (λ calm. (command.does calm).calls.account))
+    (answer_went_on g.D.Disk (Err f) c.args.store.now c.command.new.self c.args.disk.now c.command.new.disk taken later command.faults (λ calm. (command.does calm).calls.account))
+    (answer_stops g.D.Disk (Err f) c.args.store.now c.command.new.self c.args.disk.now c.command.new.disk taken later command.faults (λ calm. (command.does calm).calls.account))
 
 pub returns-in_ok-command-in-Ok-Some-clause-account : goal.returns-in_ok-command-in-Ok-Some-clause-account
 returns-in_ok-command-in-Ok-Some-clause-account g c =
@@ -82,10 +82,10 @@ returns-in_ok-command-in-Ok-Some-clause-account g c =
     let taken = g.K.Sink.taken c.args.sink.now in
     let later = g.K.Sink.taken c.command.new.sink in
     answer_accounted o (at c.args.source.now c.args.sink.now c.args.disk.now) (at c.next_command.new.source c.command.new.sink c.command.new.disk)
-    (c.in-Ok-Some.ensures.cause.kept (λ failed. cc)) command.sink
-    (answer_later g.D.Disk (Ok o) c.args.store.now c.command.new.self c.args.disk.now c.command.new.disk taken later command.faults command.account)
-    (answer_went_on g.D.Disk (Ok o) c.args.store.now c.command.new.self c.args.disk.now c.command.new.disk taken later command.faults command.account refl)
-    (answer_stops g.D.Disk (Ok o) c.args.store.now c.command.new.self c.args.disk.now c.command.new.disk taken later command.faults command.account)
+    (c.in-Ok-Some.ensures.cause.kept (λ failed. cc)) command.always.sink
+    (answer_later g.D.Disk (Ok o) c.args.store.now c.command.new.self c.args.disk.now c.command.new.disk taken later command.faults (λ calm. (command.does calm).calls.account))
+    (answer_went_on g.D.Disk (Ok o) c.args.store.now c.command.new.self c.args.disk.now c.command.new.disk taken later command.faults (λ calm. (command.does calm).calls.account) refl)
+    (answer_stops g.D.Disk (Ok o) c.args.store.now c.command.new.self c.args.disk.now c.command.new.disk taken later command.faults (λ calm. (command.does calm).calls.account))
 
 pub returns-in-Ok-None-clause-honest : goal.returns-in-Ok-None-clause-honest
 returns-in-Ok-None-clause-honest g c = λ told. open_leaves_honest (session g.D.Disk c.args.store.now c.args.disk.now) (c.requires.told told)

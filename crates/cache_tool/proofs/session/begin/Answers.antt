@@ -19,26 +19,26 @@ returns-in_err-store-clause-fails g c = on_err c.from_residual.result _ (λ told
 pub returns-in_err-attempt-clause-fails : goal.returns-in_err-attempt-clause-fails
 returns-in_err-attempt-clause-fails g c = on_err c.from_residual-in_err-attempt.result _ (λ told.
     resume_fails c.args.now (g.D.Disk.state c.args.disk.now) (session g.D.Disk c.in_ok-store.store c.open.new.disk) (session g.D.Disk c.attempt.new.self c.attempt.new.disk)
-    (g.met.D.Disk.finite c.args.disk.now told) (c.in_ok-store.ensures.opens told) (c.in_ok-store.ensures.begins told) _ _ (c.open.ensures.at_clear told) (c.attempt.ensures.at_clear told) c.attempt.result (c.attempt.ensures.performs told) (c.attempt.ensures.honest told))
+    (g.met.D.Disk.finite c.args.disk.now told) (c.in_ok-store.ensures.opens told) (c.in_ok-store.ensures.begins told) _ _ (c.open.ensures.at_clear told) (c.attempt.ensures.always.at_clear told) c.attempt.result (c.attempt.ensures.does.reply.performs told) (c.attempt.ensures.always.honest told))
 
 pub returns-in_err-attempt-clause-looks : goal.returns-in_err-attempt-clause-looks
 returns-in_err-attempt-clause-looks g c = λ told none again.
     let opened = c.open.ensures.no_entry told in
     let performed = resume_reads c.args.now (g.D.Disk.state c.args.disk.now) (session g.D.Disk c.in_ok-store.store c.open.new.disk) (λ names. ReadsEntriesOf g.D.Disk names c.open.new.disk c.attempt.new.disk)
-    (g.met.D.Disk.finite c.args.disk.now told) (c.in_ok-store.ensures.opens told) none c.attempt.ensures.looks told in
+    (g.met.D.Disk.finite c.args.disk.now told) (c.in_ok-store.ensures.opens told) none c.attempt.ensures.always.looks told in
     omega (arith, opened, performed)
 
 pub returns-in_err-attempt-clause-account : goal.returns-in_err-attempt-clause-account
 returns-in_err-attempt-clause-account g c =
     let f = c.in_err-attempt.field-0.0 in
     subst (λ e. Accounts g.D.Disk e c.args.disk.now c.attempt.new.disk) (sym (ap (λ r. ending r) (handed_on c.from_residual-in_err-attempt.result f c.from_residual-in_err-attempt.ensures.1)))
-    (accounts_then g.D.Disk (fault_ending f) c.args.disk.now c.open.new.disk c.attempt.new.disk c.in_ok-store.ensures.account c.in_err-attempt.ensures.account)
+    (accounts_then g.D.Disk (fault_ending f) c.args.disk.now c.open.new.disk c.attempt.new.disk c.in_ok-store.ensures.account c.in_err-attempt.ensures.does.calls.account)
 
 pub returns-clause-looks : goal.returns-clause-looks
 returns-clause-looks g c = λ told none again.
     let opened = c.open.ensures.no_entry told in
     let performed = resume_reads c.args.now (g.D.Disk.state c.args.disk.now) (session g.D.Disk c.in_ok-store.store c.open.new.disk) (λ names. ReadsEntriesOf g.D.Disk names c.open.new.disk c.attempt.new.disk)
-    (g.met.D.Disk.finite c.args.disk.now told) (c.in_ok-store.ensures.opens told) none c.attempt.ensures.looks told in
+    (g.met.D.Disk.finite c.args.disk.now told) (c.in_ok-store.ensures.opens told) none c.attempt.ensures.always.looks told in
     omega (arith, opened, performed)
 
 pub returns-clause-begins : goal.returns-clause-begins
@@ -47,5 +47,5 @@ returns-clause-begins g c = λ told.
     let now = session g.D.Disk c.attempt.new.self c.attempt.new.disk in
     let resume = c.in_ok-attempt.ensures in
     resume_done c.args.now (g.D.Disk.state c.args.disk.now) first now (g.met.D.Disk.finite c.args.disk.now told) (c.in_ok-store.ensures.opens told) (c.in_ok-store.ensures.begins told) _ _
-    (c.open.ensures.at_clear told) (c.attempt.ensures.at_clear told) c.in_ok-attempt.field-0 (c.in_ok-store.ensures.based told) (resume.performs told)
-    (stays_for Resume (Ok c.in_ok-attempt.field-0) first now (λ spares. resume.index spares told) resume.base) (resume.resumes refl tt told)
+    (c.open.ensures.at_clear told) (c.attempt.ensures.always.at_clear told) c.in_ok-attempt.field-0 (c.in_ok-store.ensures.based told) (resume.does.reply.performs told)
+    (stays_for Resume (Ok c.in_ok-attempt.field-0) first now (λ spares. resume.does.files.index spares told) resume.does.files.base) (resume.does.others.resumes refl tt told)

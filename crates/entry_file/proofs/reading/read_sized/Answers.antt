@@ -20,37 +20,39 @@ returns-then-offset-clause-reads g c = λ told.
     let o = standing (g.D.Disk.state c.args.disk.now) c.args.place.now in
     elim c.then-offset.branch [
       | then-offset-via-then-offset w ↦
-          no_offset c.args.name.now.0 o c.args.size (c.requires told) (omega arith) c.in_ok-offset.offset (c.in_ok-offset.ensures.offset told) w.if-offset.true
+          no_offset c.args.name.now.0 o c.args.size (c.requires told) (omega arith) c.in_ok-bytes.field-0.offset (c.in_ok-bytes.ensures.offset told) w.if-offset.true
       | then-offset-via-else-offset+then-from-end w ↦
-          outside c.args.name.now.0 o c.args.size (c.requires told) (omega arith) c.in_ok-offset.offset (c.in_ok-offset.ensures.offset told) (omega arith)
+          outside c.args.name.now.0 o c.args.size (c.requires told) (omega arith) c.in_ok-bytes.field-0.offset (c.in_ok-bytes.ensures.offset told) (omega arith)
     ]
 
 pub returns-then-len-gt-BLOCK_MAX-clause-reads : goal.returns-then-len-gt-BLOCK_MAX-clause-reads
 returns-then-len-gt-BLOCK_MAX-clause-reads g c = λ told.
     let o = standing (g.D.Disk.state c.args.disk.now) c.args.place.now in
-    large c.args.name.now.0 o c.args.size (c.requires told) (omega arith) c.in_ok-offset.offset (c.in_ok-offset.ensures.offset told)
+    large c.args.name.now.0 o c.args.size (c.requires told) (omega arith) c.in_ok-bytes.field-0.offset (c.in_ok-bytes.ensures.offset told)
     c.if-offset.false (omega arith) (omega arith) (omega arith)
 
 pub returns-in_err-block-clause-large : goal.returns-in_err-block-clause-large
 returns-in_err-block-clause-large g c = λ told content at big.
-    absurd (not_large c.args.name.now.0 (standing (g.D.Disk.state c.args.disk.now) c.args.place.now) c.args.size (c.requires told) (omega arith) c.in_ok-offset.offset (c.in_ok-offset.ensures.offset told)
+    let o = standing (g.D.Disk.state c.args.disk.now) c.args.place.now in
+    absurd (not_large c.args.name.now.0 o c.args.size (c.requires told) (omega arith) c.in_ok-bytes.field-0.offset (c.in_ok-bytes.ensures.offset told)
     c.if-offset.false (omega arith) (omega arith) content at big)
 
 pub returns-clause-large : goal.returns-clause-large
 returns-clause-large g c = λ told content at big.
-    absurd (not_large c.args.name.now.0 (standing (g.D.Disk.state c.args.disk.now) c.args.place.now) c.args.size (c.requires told) (omega arith) c.in_ok-offset.offset (c.in_ok-offset.ensures.offset told)
+    let o = standing (g.D.Disk.state c.args.disk.now) c.args.place.now in
+    absurd (not_large c.args.name.now.0 o c.args.size (c.requires told) (omega arith) c.in_ok-bytes.field-0.offset (c.in_ok-bytes.ensures.offset told)
     c.if-offset.false (omega arith) (omega arith) content at big)
 
 pub returns-clause-reads : goal.returns-clause-reads
 returns-clause-reads g c =
     let name = c.args.name.now.0 in
     let o = standing (g.D.Disk.state c.args.disk.now) c.args.place.now in
-    let block = c.as_slice.result.now in
-    let offset = c.in_ok-offset.offset in
+    let block = c.as_slice-2.result.now in
+    let offset = c.in_ok-bytes.field-0.offset in
     of_answer (IsTrue g.D.Disk.tells) (BlockReadsAs name block offset c.args.size) (ReadsAs name o) c.read_of_block.result
-    (λ told. as_block name o c.args.size (c.requires told) (omega arith) offset (c.in_ok-offset.ensures.offset told) c.if-offset.false (omega arith)
+    (λ told. as_block name o c.args.size (c.requires told) (omega arith) offset (c.in_ok-bytes.ensures.offset told) c.if-offset.false (omega arith)
     (c.args.size - 4 - c.from-from.result) (omega arith) block
-    (part_along _ _ c.args.place.now c.in_ok-block.block.items block c.from-from.result offset _ (c.in_ok-offset.ensures.looks.state told) c.from-from.ensures c.as_slice.ensures.value
+    (part_along _ _ c.args.place.now c.in_ok-block.block.items block c.from-from.result offset _ (c.in_ok-bytes.ensures.looks.state told) c.from-from.ensures c.as_slice-2.ensures.value
     (c.in_ok-block.ensures.bytes told)))
     c.read_of_block.ensures.reads
 
@@ -66,12 +68,12 @@ pub returns-clause-join : goal.returns-clause-join
 returns-clause-join g c =
     let name = c.args.name.now.0 in
     let o = standing (g.D.Disk.state c.args.disk.now) c.args.place.now in
-    let block = c.as_slice.result.now in
-    let offset = c.in_ok-offset.offset in
+    let block = c.as_slice-2.result.now in
+    let offset = c.in_ok-bytes.field-0.offset in
     of_answers (IsTrue g.D.Disk.tells) (BlockReadsAs name block offset c.args.size) (λ read. IfFits read (Spells block offset)) (λ read. IfFits read (Joins name o)) c.read_of_block.result
-    (λ told. as_join name o c.args.size (c.requires told) (omega arith) offset (c.in_ok-offset.ensures.offset told) c.if-offset.false (omega arith)
+    (λ told. as_join name o c.args.size (c.requires told) (omega arith) offset (c.in_ok-bytes.ensures.offset told) c.if-offset.false (omega arith)
     (c.args.size - 4 - c.from-from.result) (omega arith) block
-    (part_along _ _ c.args.place.now c.in_ok-block.block.items block c.from-from.result offset _ (c.in_ok-offset.ensures.looks.state told) c.from-from.ensures c.as_slice.ensures.value
+    (part_along _ _ c.args.place.now c.in_ok-block.block.items block c.from-from.result offset _ (c.in_ok-bytes.ensures.looks.state told) c.from-from.ensures c.as_slice-2.ensures.value
     (c.in_ok-block.ensures.bytes told))
-    (c.in_ok-offset.ensures.bytes told))
+    (c.in_ok-bytes.ensures.bytes told))
     c.read_of_block.ensures.reads c.read_of_block.ensures.spelled

@@ -1,8 +1,10 @@
-use Rattle.std.proofs.Common.{◌∙◌, ap, refl, rules, subst, sym}
+use Rattle.std.proofs.Common.{◌∙◌, ap, inl, refl, rules, subst, sym}
+use Rattle.disk_model.specs.Account.{FailsInChange}
 use Rattle.disk_model.specs.State.{settled}
 use Rattle.index_theory.specs.Leaves.{LeavesIndex}
 use Rattle.index_theory.proofs.LeavesLaws.{sync_leaves_index}
 use Rattle.file_handles.specs.Kept.{kept}
+use Rattle.cache_store.specs.Faults.{ending}
 use Rattle.cache_store.specs.Session.{session}
 use Rattle.cache_store.proofs.Records.IndexAchieves.{fails_sparing, spared_in_same}
 use Rattle.cache_store.proofs.Records.IndexWrites.{flush_achieves, synced_unclean}
@@ -36,13 +38,16 @@ returns-clause-index g c = λ spares told.
     (sync_leaves_index (g.D.Disk.state c.args.disk.now) (g.met.D.Disk.sound c.args.disk.now told))
 
 pub returns-clause-account : goal.returns-clause-account
-returns-clause-account g c = record { cause = search rules; went_on = search rules; stops = search rules }
+returns-clause-account g c = record { cause = search rules; went_on = search rules; stops = search rules; last = search rules }
 
 pub returns-in_err-sync-clause-account : goal.returns-in_err-sync-clause-account
 returns-in_err-sync-clause-account g c = record {
   cause = search rules;
   went_on = search rules;
   stops = λ told. sync_stops (g.D.Disk.counts c.args.disk.now) (g.D.Disk.counts c.refresh.new.disk) (g.D.Disk.counts c.sync.new.self) c.sync.result (c.sync.ensures.counts told) (c.in_ok-refresh.ensures.account.went_on refl told);
+  last = λ failed told.
+      let change : FailsInChange g.D.Disk (ending c.from_residual-in_err-sync.result) c.sync.new.self = search rules in
+      inl (change failed told);
 }
 
 pub returns-in_err-refresh-clause-change : goal.returns-in_err-refresh-clause-change

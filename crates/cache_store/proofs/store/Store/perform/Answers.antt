@@ -483,6 +483,10 @@ pub returns-in-State-clause-records : goal.returns-in-State-clause-records
 returns-in-State-clause-records g c =
     λ told. subst (λ (x : Command). KeepsRecords x (entries_on (g.D.Disk.state c.args.disk.now)) c.args.self.now.index c.args.self.now.index) (sym (ap command_of c.in-State.is)) refl
 
+pub returns-in-Step-clause-records : goal.returns-in-Step-clause-records
+returns-in-Step-clause-records g c =
+    of_ok c.step.result _ _ (λ steps told. subst (λ (x : Command). KeepsRecords x (entries_on (g.D.Disk.state c.args.disk.now)) c.args.self.now.index c.step.new.self.index) (sym (ap command_of c.in-Step.is)) (steps told)) c.step.ensures.steps
+
 pub returns-in-List-clause-records : goal.returns-in-List-clause-records
 returns-in-List-clause-records g c =
     of_ok c.say_list.result _ _ (λ ended told. subst (λ (x : Command). KeepsRecords x (entries_on (g.D.Disk.state c.args.disk.now)) c.args.self.now.index c.say_list.new.self.index) (sym (ap command_of c.in-List.is)) (ended told)) c.say_list.ensures.ended

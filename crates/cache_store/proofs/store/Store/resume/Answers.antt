@@ -132,6 +132,12 @@ returns-in_ok-end-in-None-clause-index g c = λ told.
 
 -- ---- where no file stands, the length of one is asked for alone
 
+pub returns-in_err-size-clause-once : goal.returns-in_err-size-clause-once
+returns-in_err-size-clause-once g c = λ told none. (c.size.ensures.state told, (c.size.result, c.size.ensures.counts told))
+
+pub returns-then-is_none-clause-once : goal.returns-then-is_none-clause-once
+returns-then-is_none-clause-once g c = λ told none. (c.size.ensures.state told, (c.size.result, c.size.ensures.counts told))
+
 pub returns-in_err-origin-clause-once : goal.returns-in_err-origin-clause-once
 returns-in_err-origin-clause-once g c = λ told none.
     absurd (none_told (standing (g.D.Disk.state c.args.disk.now) Clear) c.in_ok-size.field-0 (c.in_ok-size.ensures.size told) (c.is_none.ensures ∙ ap not c.if-is_none.false) none)

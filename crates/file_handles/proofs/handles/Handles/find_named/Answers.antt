@@ -4,6 +4,7 @@ use Rattle.chunk_store.specs.declared.damage.Damage.{Damage}
 use Rattle.disk_model.specs.State.{State, standing}
 use Rattle.disk_model.specs.declared.place.Place.TheVariants.{Entry}
 use Rattle.entry_file.specs.Damages.{first_damage}
+use Rattle.entry_file.proofs.LookLaws.{looks_handed}
 use Rattle.entry_file.specs.EntryRead.{ReadsAs}
 use Rattle.entry_file.specs.Rewriting.{StoresBody}
 use Rattle.entry_file.specs.declared.entry_read.EntryRead.{EntryRead}
@@ -46,3 +47,8 @@ returns-in-Some-clause-found g c = λ told.
     (subst (λ (r : EntryRead). ReadsAs c.args.name.now.0 content r) c.in-Fits.is (c.in_ok-meta.ensures.reads told))
     c.in-Some.field-0
     (subst R c.in-Some.is (subst P (c.in_ok-meta.ensures.looks.state told) (c.in_ok-check_body.ensures.damage told)))
+
+pub returns-in_err-check_body-clause-looks : goal.returns-in_err-check_body-clause-looks
+returns-in_err-check_body-clause-looks g c =
+    looks_handed g.D.Disk c.from_residual-in_err-check_body.result c.in_err-check_body.field-0.0 c.args.disk.now c.read_meta.new.disk c.check_body.new.disk
+    c.from_residual-in_err-check_body.ensures.1 c.in_ok-meta.ensures.looks c.in_err-check_body.ensures.looks
