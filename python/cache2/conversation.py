@@ -171,7 +171,6 @@ class Conversation:
             # What ends an entry has no moment.
             return
         now = self._now()
-        now = self._now()
         # A clock that goes back is not followed: no entry is used before it was made.
         if now > self.moment:
             self._send(b"at %d" % now, parse_ok, None, LINE, False)

@@ -26,6 +26,7 @@ from .pipes import Bytes
 Text = Union[str, bytes]
 Headers = Union[Mapping[str, Text], Iterable[Tuple[Text, Text]]]
 Pairs = List[Tuple[str, str]]
+StoredPairs = List[Tuple[bytes, bytes]]
 
 METHOD, HEAD, ORIGINAL, SECURITY = "request-method", "response-head", "original-response-headers", "security-info"
 # What Firefox leaves out of `response-head`, since it is of one connection or one user.
@@ -197,13 +198,13 @@ def vary_elements(pairs: Pairs, request_headers: Headers) -> Dict[str, bytes]:
     return found
 
 
-def headers_in(data: bytes) -> Pairs:
+def headers_in(data: bytes) -> StoredPairs:
     """The headers in an element."""
     found = []
-    for line in data.decode("latin-1").split("\r\n"):
-        name, colon, value = line.partition(":")
+    for line in data.split(b"\r\n"):
+        name, colon, value = line.partition(b":")
         if colon:
-            found.append((name, value.strip(" \t")))
+            found.append((name, value.strip(b" \t")))
     return found
 
 
@@ -289,14 +290,20 @@ def store_file(cache: Cache, name: Key, head: Head, file: BinaryIO) -> None:
             writer.set(HEAD, head.line(writer.length))
 
 
-def response_of(entry: Entry) -> Response:
-    """The response in an entry."""
+def head_in(entry: Entry) -> Tuple[StatusLine, StoredPairs]:
+    """The first line and the headers of the response in an entry."""
     first, _, others = entry.elements.get(HEAD, b"").partition(b"\r\n")
     line = status_line(first)
     if not line:
         entry.close()
         raise NotAResponse(f"the entry of {entry.key} has no response in it")
-    pairs = headers_in(entry.elements.get(ORIGINAL, others))
+    return line, headers_in(entry.elements.get(ORIGINAL, others))
+
+
+def response_of(entry: Entry) -> Response:
+    """The response in an entry."""
+    line, headers = head_in(entry)
+    pairs = [(text_of(name), text_of(value)) for name, value in headers]
     method = entry.elements.get(METHOD, b"GET").decode("latin-1")
     return Response(line.status, line.reason, line.version, pairs, method, entry.length, entry.body, entry)
 

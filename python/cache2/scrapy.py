@@ -96,20 +96,21 @@ class Storage:
             key = self._key(request)
             if self._names is not None and digest_of(key) not in self._names:
                 return None
-            response = http.read(self._cache, request.url, key=key)
-            if 0 < self._expiration < time.time() - response.entry.modified:
-                response.entry.close()
+            entry = self._cache.get(key, only_main=True)
+            line, pairs = http.head_in(entry)
+            if 0 < self._expiration < time.time() - entry.modified:
+                entry.close()
                 return None
-            body = response.body.read()
+            body = entry.read()
             if self._counts_uses:
                 self._pipeline.use(key)
         except Cache2Error as error:
             return self._missed(request, error)
-        url = response.entry.elements.get(ADDRESS, b"").decode() or request.url
-        headers = headers_of(response)
+        url = entry.elements.get(ADDRESS, b"").decode() or request.url
+        headers = headers_of(pairs)
         last = {name: values[-1] for name, values in headers.items()}
         kind = responsetypes.from_args(headers=last, url=url, body=body)
-        return kind(url=url, headers=headers, status=response.status, body=body)
+        return kind(url=url, headers=headers, status=line.status, body=body)
 
     def _missed(self, request: Any, error: Cache2Error) -> None:
         """What is not served is fetched anew, and stored in its place."""
@@ -141,9 +142,9 @@ class Storage:
         self._settle(self._waiting)
 
 
-def headers_of(response: http.Response) -> Dict[bytes, List[bytes]]:
+def headers_of(pairs: http.StoredPairs) -> Dict[bytes, List[bytes]]:
     """Headers as Scrapy has them: the values of each name, whose words begin with capitals."""
     found: Dict[bytes, List[bytes]] = {}
-    for name, value in response.headers:
-        found.setdefault(name.encode("latin-1").title(), []).append(value.encode("latin-1"))
+    for name, value in pairs:
+        found.setdefault(name.title(), []).append(value)
     return found
