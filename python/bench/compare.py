@@ -1,9 +1,10 @@
 #!/usr/bin/python3
 """Compares the store with the caches that crawlers use now: those of Scrapy, and the FileCache of CacheControl.
 
-compare.py crawl PAGES ROUNDS [NAME]  a crawl by each, or by that one, with an empty cache, and one more: time,
-                                      processor time, bytes and files
-compare.py fetch PAGES ROUNDS [NAME]  the same by requests with CacheControl
+compare.py crawl PAGES ROUNDS [NAME]  a crawl by each, or by that one, with an empty cache, and one more: time, in
+                                      brackets that of the processor, that of waiting for one and that of the processor
+                                      for the cache, and then bytes and files
+compare.py fetch PAGES ROUNDS [NAME]  the same by requests with CacheControl, without the time for the cache
 compare.py kills COUNT [NAME]         each, or that one, is killed amid storing, so many times: what it serves then
 
 The program is found as by the client. Each line is a row of a table; of the rounds the least counts.
@@ -67,11 +68,11 @@ def installed(room):
 
 
 def timed(words, environment):
-    """The seconds of a process, those of the processor for it and what it started, and those in which the process could
-    have gone on and had no processor.
+    """The seconds of a process, those of the processor for it and what it started, those in which the process could
+    have gone on and had no processor, and the number that it prints, if any.
     """
     begun = time.monotonic()
-    child = subprocess.Popen(words, env=environment)
+    child = subprocess.Popen(words, env=environment, stdout=subprocess.PIPE)
     # It is still there, so that the system tells of it.
     os.waitid(os.P_PID, child.pid, os.WEXITED | os.WNOWAIT)
     ended = time.monotonic()
@@ -80,7 +81,9 @@ def timed(words, environment):
     _, status, usage = os.wait4(child.pid, 0)
     child.returncode = os.waitstatus_to_exitcode(status)
     assert child.returncode == 0, words
-    return ended - begun, usage.ru_utime + usage.ru_stime, queued
+    with child.stdout:
+        printed = child.stdout.read()
+    return ended - begun, usage.ru_utime + usage.ru_stime, queued, *map(float, printed.split())
 
 
 def on_disk(folder):
@@ -132,8 +135,8 @@ def compare_crawls(names, words, pages, rounds, only=""):
                 found[name].append(crawl_twice(server, pages, os.path.join(room, "one"), words(name), environment))
     print(f"load {os.getloadavg()[0]:.1f}, least of {rounds} rounds")
     for name, each in found.items():
-        columns = ["{:.1f} ({:.1f}, {:.1f})".format(*(min(one[at][what] for one in each) for what in range(3)))
-                   for at in (0, 1)]
+        least = [[min(column) for column in zip(*(one[at] for one in each))] for at in (0, 1)]
+        columns = ["{:.2f} ({})".format(first, ", ".join(f"{one:.2f}" for one in others)) for first, *others in least]
         size, count = each[-1][2]
         print(f"| {name} | {' | '.join(columns)} | {size / 1e6:.1f} | {count:,} |", flush=True)
 
