@@ -24,14 +24,6 @@ impl Model for Buffer {
     ghost invariant = { λ s. (vec_len s.room ≤ BUFFER_MAX) × (BUFFER_MAX ≤ vec_capacity s.room) };
 }
 
-// Copies the bytes to the end of the slice, from a place on.
-fn put_end(slice: &mut [u8], at: usize, b: &[u8])
-    requires { at + length b.now ≡ length slice.old }
-    ensures { slice.new ≡ take at slice.old ++ b.now }
-{
-    slice[at..].copy_from_slice(b);
-}
-
 impl Buffer {
     ghost use Rattle.cache_base.specs.Buffer.{LendsBytes};
 
@@ -56,9 +48,7 @@ impl Buffer {
         requires { length self.old + length b.now ≤ BUFFER_MAX }
         ensures { self.new ≡ self.old ++ b.now }
     {
-        let at = self.as_slice().len();
-        self.set_len(at + b.len());
-        put_end(self.as_mut_slice(), at, b);
+        self.room.extend_from_slice(b).unwrap();
     }
 
     /// Cuts the list to `n` bytes, or fills it up to `n` with zero bytes: after a cut and a filling up, no byte that

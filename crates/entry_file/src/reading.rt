@@ -23,7 +23,7 @@ use entry_name::name_of;
 use std::alloc::Global;
 
 // So many of a file's last bytes are read at once. Most blocks lie within them.
-const TAIL_MAX: usize = 4096;
+const TAIL_MAX: usize = 1024;
 
 // The failing check that a fault of a block names; that memory ran out names none.
 fn unfit(fault: MetaFault) -> Option<Unfit>
@@ -217,7 +217,7 @@ fn read_sized<D: Disk>(
     read_of_block(alloc, block.as_slice(), offset, name, size)
 }
 
-/// What stands at the place, as the file of an entry of this name. Of the file its last 4,096 bytes are read, and its
+/// What stands at the place, as the file of an entry of this name. Of the file its last 1,024 bytes are read, and its
 /// block where that is longer and has at most `BLOCK_MAX` bytes. Bytes that the disk does not give, though its size promised them,
 /// count as zeros.
 pub fn read_meta<D: Disk>(

@@ -109,7 +109,7 @@ fn calls_for(alloc: Global, len: usize) -> Result<u64, Fail> {
 
 #[test]
 fn a_block_is_read_anew_where_it_is_longer_than_a_look(rt: HostRuntime) -> Result<(), Fail> {
-    let rows = [(4, 2), (4096, 2), (4097, 3), (262_148, 3), (262_149, 2)];
+    let rows = [(4, 2), (1024, 2), (1025, 3), (262_148, 3), (262_149, 2)];
     for index in 0..rows.len() {
         let (len, calls) = rows[index];
         assert_eq!(rt; calls_for(rt.alloc(), len)?, calls);
