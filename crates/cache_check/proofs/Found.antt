@@ -56,9 +56,10 @@ more_looks answer n before mid now one looks =
     let c : mid.calls ≡ min (before.calls + 1) (2 ^ 64 - 1) = ap (λ (k : Counts). k.calls) one in
     let d : mid.entry_reads ≡ before.entry_reads = ap (λ (k : Counts). k.entry_reads) one in
     let f : mid.failed ≡ before.failed = ap (λ (k : Counts). k.failed) one in
+    let h : mid.syncs ≡ before.syncs = ap (λ (k : Counts). k.syncs) one in
     let e = looks.calls in
     let g = looks.entry_reads in
-    record { calls = omega (arith, c, e); entry_reads = omega (arith, d, g); no_change = looks.no_change ∙ f }
+    record { calls = omega (arith, c, e); entry_reads = omega (arith, d, g); no_change = looks.no_change ∙ f; unsynced = looks.unsynced ∙ h }
 
 pub looked_once : (s t : State) (names es : List Name) (w v : List Name) (before mid now : Counts)
     → Listed s t names es → v ≡ w → {T : Type 0} (answer : Result T DiskFault) → mid ≡ counted_look answer before → LooksAtMost (looks_over (table_of (standing t) es) v) mid now → LooksOnce (entries_on s) w before now

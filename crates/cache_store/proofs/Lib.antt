@@ -9,4 +9,5 @@ pub mod Saying
 pub mod Sessions
 pub mod Shelves
 pub mod Spared
+pub mod SyncLaws
 pub mod Verifying

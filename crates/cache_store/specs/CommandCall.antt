@@ -19,6 +19,7 @@ use Rattle.cache_store.specs.Records.{KeepsRecords}
 use Rattle.cache_store.specs.Saying.{TakesMore}
 use Rattle.cache_store.specs.Session.{open_of, session}
 use Rattle.cache_store.specs.StoppedClearing.{ClearsUnderMark}
+use Rattle.cache_store.specs.Syncs.{syncs_of}
 use Rattle.cache_store.specs.Verifying.{PrintsFound}
 use Rattle.cache_store.specs.declared.fault.StoreFault.{StoreFault}
 use Rattle.cache_store.specs.declared.fault.StoreFault.TheVariants as fault
@@ -28,7 +29,7 @@ use Rattle.cache_store.specs.declared.store.Store.{Store}
 use Rattle.cache_theory.specs.Command.{Command}
 use Rattle.cache_theory.specs.Command.Command.{Doom, Evict, Flush, PutAlt, ReadPart, Rebuild, Resume, Verify}
 use Rattle.context_clear.specs.Mark.{mark_of}
-use Rattle.disk_model.specs.Account.{Accounts, Looks}
+use Rattle.disk_model.specs.Account.{Accounts, Looks, SyncsAtMost}
 use Rattle.disk_model.specs.Sound.{IsQuiet}
 use Rattle.disk_model.specs.State.{standing}
 use Rattle.disk_model.specs.Told.{Told}
@@ -56,9 +57,10 @@ pub record HoldsAtExit {A B : _} {T : Type 0} (D : OfDisk A) (K : OfSink B) (c :
   pub ordered : IfSome (origin_cleared c (standing (D.state before) Clear)) (λ origin.
       Told D (ClearsInOrder origin) before now)
   pub at_clear : Told D (ChangesAtClear c) before now
-  -- an eviction does nothing but take files of entries away, and most commands sync nothing
+  -- an eviction does nothing but take files of entries away, most commands sync nothing, and no command syncs more often than it is to
   pub takes : IsEviction c → Told D TakesEntries before now
   pub unsynced : NeverSyncs (open_of old).handles c → Told D SyncsNothing before now
+  pub syncs : SyncsAtMost D (syncs_of (open_of old).handles c) before now
   -- a command that goes by the index looks at an entry for no name but those that it reads
   pub looks : IfSome (names_read c (mark_of (standing (D.state before) Clear)) (open_of old).index.update)
       (λ names. ReadsEntriesOf D names before now)
@@ -131,14 +133,14 @@ pub record LeavesMemory {A : _} (D : OfDisk A) (c : Command)
 -- Its calls of the disk: some commands make none, and some only look at it. An eviction looks at it only before its
 -- first removal, and `Resume` before its first change; where no mark stands it looks once. Faults are accounted for.
 pub record MakesCalls {A : _} (D : OfDisk A) (c : Command)
-    (answer : Result Verdict StoreFault) (before now : A) : Type 0 where
+    (answer : Result Verdict StoreFault) (old : Store) (before now : A) : Type 0 where
   pub idle : MakesNoCall c → now ≡ before
   pub looking : OnlyLooks c → Looks D (ending answer) before now
   pub looks_first : IsEviction c → LooksBeforeChanges D (ending answer) before now
   pub resumes_first : c ≡ Resume → LooksFirst D (ending answer) before now
   pub once : c ≡ Resume → IsTrue D.tells → standing (D.state before) Clear ≡ None
       → LooksOnceAt D Clear before now
-  pub account : Accounts D (ending answer) before now
+  pub account : Accounts D (ending answer) (syncs_of (open_of old).handles c) before now
 
 -- What holds of a command that was performed.
 pub record PerformsCommand {A B : _} (D : OfDisk A) (K : OfSink B) (c : Command)
@@ -147,4 +149,4 @@ pub record PerformsCommand {A B : _} (D : OfDisk A) (K : OfSink B) (c : Command)
   pub files : LeavesIndexFiles D c answer old new before now
   pub others : LeavesTheOthers D c answer old new before now
   pub memory : LeavesMemory D c answer old new before now
-  pub calls : MakesCalls D c answer before now
+  pub calls : MakesCalls D c answer old before now

@@ -27,5 +27,6 @@ pub mod Said
 pub mod Saying
 pub mod Session
 pub mod StoppedClearing
+pub mod Syncs
 pub mod Texts
 pub mod Verifying

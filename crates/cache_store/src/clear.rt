@@ -12,10 +12,11 @@ ghost use Rattle.cache_store.specs.Faulting.{is_refusal, of_handles};
 ghost use Rattle.cache_store.specs.Faults.{ending, of_disk};
 ghost use Rattle.cache_store.specs.IndexCalls.{ReadsEntriesOf};
 ghost use Rattle.cache_store.specs.StoppedClearing.{ClearsUnderMark};
+ghost use Rattle.cache_store.specs.Syncs.{clearing_syncs};
 ghost use Rattle.cache_theory.specs.Command.Command.{ClearOrigin};
 ghost use Rattle.cache_theory.specs.Covers.{joined_names};
 ghost use Rattle.context_clear.specs.Covered.{covers_record};
-ghost use Rattle.disk_model.specs.Account.{Accounts, Ending, FailsInChange, Looks, LooksAtNoEntry, ending as disk_ending};
+ghost use Rattle.disk_model.specs.Account.{Accounts, Ending, FailsInChange, Looks, LooksAtNoEntry, ending as disk_ending, no_sync};
 ghost use Rattle.disk_model.specs.Sound.{IsQuiet};
 ghost use Rattle.disk_model.specs.Told.{Told};
 ghost use Rattle.entry_key.specs.Tags.{value_hash};
@@ -152,7 +153,7 @@ fn doom_names<D: Disk>(handles: &mut Handles, disk: &mut D, names: &[Name]) -> R
     ensures mark { OnOk result (Told D.Disk LeavesMark disk.old disk.new) }
     ensures takes { Told D.Disk (TakesInOrder names.now) disk.old disk.new }
     ensures index { Told D.Disk LeavesBeside disk.old disk.new }
-    ensures account { Accounts D.Disk (disk_ending result) disk.old disk.new }
+    ensures account { Accounts D.Disk (disk_ending result) no_sync disk.old disk.new }
     ensures change { FailsInChange D.Disk (disk_ending result) disk.new }
     ensures no_entry { LooksAtNoEntry D.Disk disk.old disk.new }
 {
@@ -217,7 +218,7 @@ impl Store {
         ensures same_base { self.new.faulting ≡ true →
             SameBase self.old.index.map self.new.index.map }
         ensures change { self.new.faulting ≡ false → FailsInChange D.Disk (ending result) disk.new }
-        ensures account { Accounts D.Disk (ending result) disk.old disk.new }
+        ensures account { Accounts D.Disk (ending result) clearing_syncs disk.old disk.new }
     {
         let ended = match self.index.finish_apart(disk) {
             Ok(ended) => ended,
@@ -274,7 +275,7 @@ impl Store {
         ensures same_base { self.new.faulting ≡ true →
             SameBase self.old.index.map self.new.index.map }
         ensures change { self.new.faulting ≡ false → FailsInChange D.Disk (ending result) disk.new }
-        ensures account { Accounts D.Disk (ending result) disk.old disk.new }
+        ensures account { Accounts D.Disk (ending result) clearing_syncs disk.old disk.new }
     {
         let names = self.clear_origin(alloc, disk, hash_of_origin(origin))?;
         Ok(Answered::Cleared(names))

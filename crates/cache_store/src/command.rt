@@ -136,6 +136,7 @@ impl Store {
     ghost use Rattle.cache_store.specs.Performing.{DoesWhatIsDone, HadEffect};
     ghost use Rattle.cache_store.specs.Session.{cache_of, is_faulting, open_of, session};
     ghost use Rattle.cache_store.specs.StoppedClearing.{ClearsUnderMark};
+    ghost use Rattle.cache_store.specs.Syncs.{syncs_of};
     ghost use Rattle.cache_store.specs.Verifying.{IsFoundIn};
     ghost use Rattle.file_handles.specs.Cache.{cache};
     ghost use Rattle.file_handles.specs.Kept.{kept};
@@ -280,7 +281,8 @@ impl Store {
             self.old.index self.new.index) }
         ensures unfinished { (key : List ℕ) (place number : ℕ) → command_of c.now ≡ Doom key →
             IsUnfinishedFor (kept self.old.handles) key place number → disk.new ≡ disk.old }
-        ensures account { Accounts D.Disk (ending result) disk.old disk.new }
+        ensures account { let most = syncs_of (kept self.old.handles) (command_of c.now) in
+            Accounts D.Disk (ending result) most disk.old disk.new }
         ensures sink { AccountsForSink K.Sink result sink.old sink.new }
     {
         match *c {

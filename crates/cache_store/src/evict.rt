@@ -9,7 +9,7 @@ ghost use Rattle.cache_store.specs.IndexCalls.{ReadsEntriesOf};
 ghost use Rattle.cache_store.specs.Said.{saying};
 ghost use Rattle.cache_store.specs.Saying.{TakesMore};
 ghost use Rattle.cache_theory.specs.Command.Command.{Evict};
-ghost use Rattle.disk_model.specs.Account.{Accounts, Ending, Looks, LooksAtNoEntry, ending as disk_ending};
+ghost use Rattle.disk_model.specs.Account.{Accounts, Ending, Looks, LooksAtNoEntry, ending as disk_ending, no_sync};
 ghost use Rattle.disk_model.specs.Told.{Told};
 ghost use Rattle.file_handles.specs.Cache.{cache};
 ghost use Rattle.file_handles.specs.Dooming.{TakesEntries};
@@ -76,7 +76,7 @@ fn remove_files<D: Disk>(
     ensures takes { Told D.Disk TakesEntries disk.old disk.new }
     ensures kept { kept handles.new ≡ kept handles.old }
     ensures index { Told D.Disk LeavesBeside disk.old disk.new }
-    ensures account { Accounts D.Disk (disk_ending result) disk.old disk.new }
+    ensures account { Accounts D.Disk (disk_ending result) no_sync disk.old disk.new }
     ensures change { FailsInRemoval D.Disk (disk_ending result) disk.new }
     ensures unsynced { Told D.Disk SyncsNothing disk.old disk.new }
     ensures no_entry { LooksAtNoEntry D.Disk disk.old disk.new }
@@ -141,7 +141,7 @@ impl Store {
             (sink.new ≡ sink.old) × (self.new.reply.held ≡ []) }
         ensures change { self.new.faulting ≡ false →
             FailsInRemoval D.Disk (ending result) disk.new }
-        ensures account { Accounts D.Disk (ending result) disk.old disk.new }
+        ensures account { Accounts D.Disk (ending result) no_sync disk.old disk.new }
         ensures sink { AccountsForSink K.Sink result sink.old sink.new }
     {
         let ended = match self.index.finish_apart(disk) {

@@ -10,7 +10,8 @@ ghost use Rattle.cache_theory.specs.Command.Command.{FinishAs};
 ghost use Rattle.disk_model.specs.Account.{Accounts, FailsInChange};
 ghost use Rattle.disk_model.specs.Told.{Told};
 ghost use Rattle.file_handles.specs.HeldChunks.{SameChunks};
-ghost use Rattle.file_handles.specs.Kept.{kept};
+ghost use Rattle.file_handles.specs.Finishing.{finish_syncs};
+ghost use Rattle.file_handles.specs.Kept.{kept, object_in};
 ghost use Rattle.index_map.specs.Known.{SameBase};
 ghost use Rattle.index_theory.specs.Leaves.{LeavesBeside};
 
@@ -60,7 +61,8 @@ impl Store {
         ensures calm { self.new.faulting ≡ self.old.faulting }
         ensures index { Told D.Disk LeavesBeside disk.old disk.new }
         ensures change { FailsInChange D.Disk (ending result) disk.new }
-        ensures account { Accounts D.Disk (ending result) disk.old disk.new }
+        ensures account { let most = finish_syncs (object_in (kept self.old.handles) slot) in
+            Accounts D.Disk (ending result) most disk.old disk.new }
     {
         let elements = copied(alloc, elements)?;
         let answer = self.handles.finish_as(alloc, disk, slot, header, elements);

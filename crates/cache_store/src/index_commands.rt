@@ -11,8 +11,9 @@ ghost use Rattle.cache_store.specs.Said.{saying};
 ghost use Rattle.cache_store.specs.Saying.{TakesMore};
 ghost use Rattle.cache_theory.specs.Command.Command.{Flush, ListRecords, Rebuild, StepUpdate};
 ghost use Rattle.cache_store.specs.Records.{EndsWith, StepsUpdate};
+ghost use Rattle.cache_store.specs.Syncs.{writing_syncs};
 ghost use Rattle.index_theory.specs.Ever.{entries_on};
-ghost use Rattle.disk_model.specs.Account.{Accounts, Ending, FailsInChange, Looks, LooksAtNoEntry, ending as disk_ending};
+ghost use Rattle.disk_model.specs.Account.{Accounts, Ending, FailsInChange, Looks, LooksAtNoEntry, ending as disk_ending, one_sync};
 ghost use Rattle.disk_model.specs.Sound.{IsQuiet};
 ghost use Rattle.disk_model.specs.Told.{Told};
 ghost use Rattle.index_theory.specs.Apart.{IsApart};
@@ -56,7 +57,7 @@ fn refresh<D: Disk>(
         OnOk result (Told D.Disk (λ s t. HoldsIndex s was → HoldsIndex t map) disk.old disk.new) }
     ensures entries { Told D.Disk (λ s t. IsApart s → SparesEntries s t) disk.old disk.new }
     ensures unclean { Told D.Disk (λ s t. IsApart s → IsUnclean s → IsUnclean t) disk.old disk.new }
-    ensures account { Accounts D.Disk (disk_ending result) disk.old disk.new }
+    ensures account { Accounts D.Disk (disk_ending result) one_sync disk.old disk.new }
     ensures change { FailsInChange D.Disk (disk_ending result) disk.new }
     ensures no_entry { LooksAtNoEntry D.Disk disk.old disk.new }
 {
@@ -163,7 +164,7 @@ impl Store {
         ensures at_clear { Told D.Disk KeepsAtClear disk.old disk.new }
         ensures calm { self.new.faulting ≡ self.old.faulting }
         ensures change { FailsInChange D.Disk (ending result) disk.new }
-        ensures account { Accounts D.Disk (ending result) disk.old disk.new }
+        ensures account { Accounts D.Disk (ending result) writing_syncs disk.old disk.new }
         ensures no_entry { LooksAtNoEntry D.Disk disk.old disk.new }
     {
         refresh(alloc, disk, &mut self.index, self.moment)?;
@@ -195,7 +196,7 @@ impl Store {
             Looks D.Disk Ending.OneFailed disk.old disk.new }
         ensures stays { self.new.faulting ≡ true → open_of self.new ≡ open_of self.old }
         ensures change { self.new.faulting ≡ false → FailsInChange D.Disk (ending result) disk.new }
-        ensures account { Accounts D.Disk (ending result) disk.old disk.new }
+        ensures account { Accounts D.Disk (ending result) writing_syncs disk.old disk.new }
     {
         self.index = match scan(alloc, disk) {
             Ok(index) => index,

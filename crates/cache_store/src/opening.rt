@@ -6,7 +6,7 @@ ghost use Rattle.cache_store.specs.InUse.{OpensInUse};
 ghost use Rattle.cache_store.specs.Kept.{HoldsIndex};
 ghost use Rattle.cache_store.specs.Open.{BeginsOn, IsRest};
 ghost use Rattle.cache_store.specs.Records.{SeesNone, TellsOf};
-ghost use Rattle.disk_model.specs.Account.{Accounts, Looks, LooksAtNoEntry, ending};
+ghost use Rattle.disk_model.specs.Account.{Accounts, Looks, LooksAtNoEntry, ending, one_sync};
 ghost use Rattle.disk_model.specs.Listing.{AreEntries};
 ghost use Rattle.disk_model.specs.State.{standing};
 ghost use Rattle.disk_model.specs.Told.{Told};
@@ -66,7 +66,7 @@ pub(crate) fn begin_index<D: Disk>(alloc: Global, disk: &mut D) -> Result<Memory
     ensures amid { Told D.Disk IsAmidOpening disk.old disk.new }
     ensures entries { Told D.Disk (λ s t. IsApart s → SparesEntries s t) disk.old disk.new }
     ensures honest { Told D.Disk OpensHonest disk.old disk.new }
-    ensures account { Accounts D.Disk (ending result) disk.old disk.new }
+    ensures account { Accounts D.Disk (ending result) one_sync disk.old disk.new }
     ensures no_entry { LooksAtNoEntry D.Disk disk.old disk.new }
 {
     let Opened { start, map } = open_index(alloc, disk)?;

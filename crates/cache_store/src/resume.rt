@@ -8,6 +8,7 @@ ghost use Rattle.cache_store.specs.Faulting.{LooksFirst};
 ghost use Rattle.cache_store.specs.Faults.{ending};
 ghost use Rattle.cache_store.specs.IndexCalls.{ReadsEntriesOf, LooksOnceAt, names_resumed};
 ghost use Rattle.cache_store.specs.StoppedClearing.{ClearsUnderMark};
+ghost use Rattle.cache_store.specs.Syncs.{clearing_syncs};
 ghost use Rattle.cache_theory.specs.Command.Command.{Resume};
 ghost use Rattle.context_clear.specs.Mark.{mark_of};
 ghost use Rattle.disk_model.specs.Account.{Accounts};
@@ -67,7 +68,7 @@ impl Store {
             LooksOnceAt D.Disk Clear disk.old disk.new }
         ensures looks_first { LooksFirst D.Disk (ending result) disk.old disk.new }
         ensures ends { self.new.faulting ≡ false }
-        ensures account { Accounts D.Disk (ending result) disk.old disk.new }
+        ensures account { Accounts D.Disk (ending result) clearing_syncs disk.old disk.new }
     {
         if disk.size(&Place::Clear)?.is_none() {
             return Ok(Answered::Resumed);

@@ -1,7 +1,7 @@
 //! Opens the cache, and closes it.
 
 ghost use Rattle.std.specs.Prelude.{◌≡◌, ◌≢◌, [], IfOk, IsTrue, OnOk, Err};
-ghost use Rattle.disk_model.specs.Account.{Accounts, FailsInChange, LooksAtNoEntry};
+ghost use Rattle.disk_model.specs.Account.{Accounts, FailsInChange, LooksAtNoEntry, one_sync};
 ghost use Rattle.disk_model.specs.Sound.{IsQuiet};
 ghost use Rattle.disk_model.specs.State.{standing};
 ghost use Rattle.disk_model.specs.Told.{Told};
@@ -39,6 +39,7 @@ impl Store {
     ghost use Rattle.cache_store.specs.InUse.{ClosesInUse, ClosesWhole, OpensInUse};
     ghost use Rattle.cache_store.specs.Open.{BeginsOn, Closes, ClosesHonestly, ClosesSafely, HasShelf, IsOpen, KeepsFound, Opens, OpensHonestly, OpensInOrder, OpensSafely};
     ghost use Rattle.cache_store.specs.Session.{is_faulting, open_of, session};
+    ghost use Rattle.cache_store.specs.Syncs.{syncs_of_closing};
 
     /// Opens the cache at this moment: the files of doomed entries that an earlier run left are removed, the index is
     /// opened, and what stands is synced. That counts as a flush. Where the index is not trusted, the names of all
@@ -65,7 +66,7 @@ impl Store {
         // Calls and faults.
         ensures no_sink { result ≢ Err StoreFault.Sink }
         ensures no_entry { LooksAtNoEntry D.Disk disk.old disk.new }
-        ensures account { Accounts D.Disk (ending result) disk.old disk.new }
+        ensures account { Accounts D.Disk (ending result) one_sync disk.old disk.new }
     {
         let handles = Handles::new(alloc)?;
         let reply = Pending::new(alloc)?;
@@ -120,7 +121,8 @@ impl Store {
         ensures no_sink { result ≢ Err StoreFault.Sink }
         ensures change { FailsInChange D.Disk (ending result) disk.new }
         ensures no_entry { LooksAtNoEntry D.Disk disk.old disk.new }
-        ensures account { Accounts D.Disk (ending result) disk.old disk.new }
+        ensures account { let most = syncs_of_closing (open_of self).index.update in
+            Accounts D.Disk (ending result) most disk.old disk.new }
     {
         let Store {
             handles,

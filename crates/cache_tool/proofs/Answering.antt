@@ -71,8 +71,8 @@ on_err_in : (r : Result Outcome StoreFault) (P : Type 0) → OnErr r P → OnErr
 on_err_in (Ok o) P holds = tt
 on_err_in (Err f) P holds = holds
 
-module _ {Self : _} (D : OfDisk Self) (result : Result Outcome StoreFault) (old new : Store) (before now : Self) (taken later : Option (List ℕ))
-    (faults : new.faulting ≡ true → Faults D result old new before now taken later) (account : new.faulting ≡ false → Accounts D (ending result) before now) where
+module _ {Self : _} {most : ℕ} (D : OfDisk Self) (result : Result Outcome StoreFault) (old new : Store) (before now : Self) (taken later : Option (List ℕ))
+    (faults : new.faulting ≡ true → Faults D result old new before now taken later) (account : new.faulting ≡ false → Accounts D (ending result) most before now) where
   -- so the command was answered
   pub answers_next : (c : Command) → (new.faulting ≡ false → IsTrue D.tells → PerformsFor c (verdict_in result) (session D old before) (session D new now) taken later)
       → (new.faulting ≡ false → IsTrue D.tells → StaysFor {T = Verdict} c (verdict_in result) (session D old before) (session D new now))
@@ -116,7 +116,7 @@ module _ {Self : _} (D : OfDisk Self) (result : Result Outcome StoreFault) (old 
   answer_later = by_flag new.faulting (λ calm. (account calm).cause.later) (λ failed. (faults failed).looked.cause.later)
 
 -- and where the disk failed its count rose
-pub answer_rose : {Self : _} (D : OfDisk Self) (f : StoreFault) (old new : Store) (before now : Self) (taken later : Option (List ℕ)) → (new.faulting ≡ true → Faults D (Err f) old new before now taken later)
-    → (new.faulting ≡ false → Accounts D (ending {T = Outcome} (Err f)) before now) → f ≡ fault.Disk → Rose (D.faults before) (D.faults now)
+pub answer_rose : {Self : _} {most : ℕ} (D : OfDisk Self) (f : StoreFault) (old new : Store) (before now : Self) (taken later : Option (List ℕ)) → (new.faulting ≡ true → Faults D (Err f) old new before now taken later)
+    → (new.faulting ≡ false → Accounts D (ending {T = Outcome} (Err f)) most before now) → f ≡ fault.Disk → Rose (D.faults before) (D.faults now)
 answer_rose D f old new before now taken later faults account disk =
     by_flag new.faulting (λ calm. (account calm).cause.rose (ap fault_ending disk)) (λ failed. absurd ((faults failed).no_disk (ap (λ x. Err x) disk)))

@@ -1,14 +1,14 @@
 -- What a `?` hands on.
-use Rattle.std.proofs.Common.{◌≡◌, inl, sym, ap, subst, ◌∙◌}
+use Rattle.std.proofs.Common.{arith, ℕ, ◌+◌, ◌≤◌, ◌≡◌, inl, sym, ap, subst, ◌∙◌}
 use Rattle.std.specs.Prelude.{Err, IsErrAnd, Result}
 use Rattle.std.proofs.lemmas.Result.{err_from_is_err_and}
 use Rattle.cache_store.specs.Faults.{ending, fault_ending}
 use Rattle.cache_store.specs.Open.{IsOpen, LeavesOpen}
 use Rattle.cache_store.specs.Session.{Session}
 use Rattle.cache_store.specs.declared.fault.StoreFault.{StoreFault}
-use Rattle.disk_model.specs.Account.{Accounts, Ending, Looks}
+use Rattle.disk_model.specs.Account.{Accounts, Ending, Looks, no_sync}
 use Rattle.disk_model.specs.declared.disk.Disk.{Ghosts}
-use Rattle.file_handles.proofs.Accounting.{accounts_then}
+use Rattle.file_handles.proofs.Accounting.{accounts_sum}
 
 -- the error
 pub handed_on : {T : Type 0} (r : Result T StoreFault) (f : StoreFault) → IsErrAnd r (λ e. e ≡ f) → r ≡ Err f
@@ -19,9 +19,9 @@ pub handed_open : {T : Type 0} (r : Result T StoreFault) (f : StoreFault) (now :
 handed_open r f now h still none = still (sym (ap ending (handed_on r f h)) ∙ none)
 
 -- and of the calls, where no call before it failed
-pub handed_account : {T : Type 0} {Self : _} (D : Ghosts Self) (r : Result T StoreFault) (f : StoreFault) (a b c : Self) → IsErrAnd r (λ e. e ≡ f) → Accounts D Ending.NoneFailed a b → Accounts D (fault_ending f) b c → Accounts D (ending r) a c
-handed_account D r f a b c h first last = subst (λ e. Accounts D e a c) (sym (ap ending (handed_on r f h))) (accounts_then D (fault_ending f) a b c first last)
+pub handed_account : {T : Type 0} {Self : _} (D : Ghosts Self) {n m : ℕ} (all : ℕ) (r : Result T StoreFault) (f : StoreFault) (a b c : Self) → n + m ≤ all → IsErrAnd r (λ e. e ≡ f) → Accounts D Ending.NoneFailed n a b → Accounts D (fault_ending f) m b c → Accounts D (ending r) all a c
+handed_account D all r f a b c few h first last = subst (λ e. Accounts D e all a c) (sym (ap ending (handed_on r f h))) (accounts_sum D (fault_ending f) all a b c few first last)
 
 -- a call that only looked and did not fail
-pub looks_account : {Self : _} (D : Ghosts Self) (a b : Self) → Looks D Ending.NoneFailed a b → Accounts D Ending.NoneFailed a b
-looks_account D a b looks = record { cause = looks.cause; went_on = λ none. looks.no_change; stops = λ told. inl (looks.no_change told); last = λ failed. absurd (cc) }
+pub looks_account : {Self : _} (D : Ghosts Self) (a b : Self) → Looks D Ending.NoneFailed a b → Accounts D Ending.NoneFailed no_sync a b
+looks_account D a b looks = record { cause = looks.cause; went_on = λ none. looks.no_change; stops = λ told. inl (looks.no_change told); last = λ failed. absurd (cc); syncs = λ told. let same = looks.unsynced told in omega (arith, same) }

@@ -2,6 +2,7 @@ pub mod Accounted
 pub mod Answering
 pub mod Begun
 pub mod ClearedInRun
+pub mod Dated
 pub mod DoneKept
 pub mod DoneLaws
 pub mod EntryLooks
@@ -27,4 +28,5 @@ pub mod SessionEnds
 pub mod StatusLaws
 pub mod StayingLaws
 pub mod Stops
+pub mod SyncLaws
 pub mod WordsTable

@@ -1,5 +1,5 @@
 -- What a run may leave at `clear`, part by part.
-use Rattle.std.proofs.Common.{◌≡◌, ◌∙◌, ◌⊎◌, inl, inr, ⊎_elim, false, true, true≢false, suc, ℕ, ◌+◌, List, [], ◌∷◌, ◌++◌, length, take, Option, None, refl, sym, ap, subst, arith, length-append}
+use Rattle.std.proofs.Common.{◌≡◌, ◌∙◌, inl, inr, ⊎_elim, false, true, true≢false, suc, ℕ, ◌+◌, List, [], ◌∷◌, ◌++◌, length, take, Option, None, refl, sym, ap, subst, arith, length-append}
 use Rattle.std.proofs.Math.Seq.{take-append-add, take-append_seam}
 use Rattle.cache_store.specs.AtClear.{ChangesAtClear, IsNewAfter, IsOfClearing, KeepsAtClear}
 use Rattle.cache_store.specs.Performing.{goes_by_records}

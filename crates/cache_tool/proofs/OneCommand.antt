@@ -30,6 +30,7 @@ use Rattle.cache_theory.proofs.Faults.RepliesApart.{step_spoken}
 use Rattle.cache_tool.specs.Beginning.{BeginsRun, FailsToBegin}
 use Rattle.cache_tool.specs.Ending.{EndsSession}
 use Rattle.cache_tool.specs.Right.{LeadTo}
+use Rattle.cache_tool.specs.Syncs.{SyncsWithin, opening_syncs}
 use Rattle.cache_tool.specs.Statuses.{IsAnswer, IsClosing, status_in, status_of}
 use Rattle.cache_tool.specs.Staying.{StaysOnce}
 use Rattle.cache_tool.specs.Tally.{RoseBy}
@@ -112,9 +113,9 @@ disk_failed fault.Disk ended is disk = refl
 disk_failed fault.Sink ended is disk = absurd (let e : status.Sink ≡ status.Disk = sym is ∙ disk in cc)
 
 pub not_begun : {moment : ℕ} {counts : Counts} {T : Type 0} (before : Output) (t : State) (faults : ℕ) (answer : Result T StoreFault) (f : StoreFault) (ended : Status) → answer ≡ Err f → answer ≢ Err fault.Sink → ended ≡ status_in (Err f)
-    → (ending answer ≡ Ending.OneFailed → Rose before.disk_faults faults) → (ending answer ≡ Ending.OneFailed → LastCallFails counts) → FailsToBegin moment before.disk t
+    → (ending answer ≡ Ending.OneFailed → Rose before.disk_faults faults) → (ending answer ≡ Ending.OneFailed → LastCallFails counts) → SyncsWithin opening_syncs before.disk_counts counts → FailsToBegin moment before.disk t
     → (m : Machine) → StartsOn moment before.disk m → HasNotBegun m ended before (record before { disk = t; disk_faults = faults; disk_counts = counts })
-not_begun before t faults answer f ended failed no_sink same rose last fails m is =
+not_begun before t faults answer f ended failed no_sink same rose last syncs fails m is =
     let stop : IsStop ended = no_sink_stops answer f ended failed no_sink same in
     record {
       failed = stop;
@@ -122,6 +123,7 @@ not_begun before t faults answer f ended failed no_sink same rose last fails m i
       last = λ disk. last (ap ending failed ∙ disk_failed f ended same disk);
       silent = Keeps-refl before.taken;
       mark = leaves_mark [] before.disk t fails.mark;
+      syncs = syncs;
       leaves = elim (fails.crash m is) [
         | inl safe ↦ inl (stops_leave m (none_begun m) ended before.disk t (stop_closes_not ended stop) safe fails.images)
         | inr (d, (done, safe)) ↦ inr (d, (done, stops_leave m (none_performed m d) ended before.disk t (stop_closes_not ended stop) (λ quiet. safe) fails.images))

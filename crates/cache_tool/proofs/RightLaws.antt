@@ -15,6 +15,8 @@ use Rattle.cache_theory.specs.Crash.{IsSafe}
 use Rattle.cache_theory.specs.History.{History, acked, begun, unanswered}
 use Rattle.cache_theory.specs.Machine.{Machine}
 use Rattle.cache_theory.specs.Step.{after}
+use Rattle.cache_tool.proofs.Dated.{none_dated, one_dated, dated_on}
+use Rattle.cache_tool.specs.Dated.{IsDatedIn}
 use Rattle.cache_tool.specs.Right.{AreRight, ComesRight, LeadTo, has_rebuild, is_rebuild}
 use Rattle.cache_tool.specs.Staying.{AreSpared, IsInUse, KeepsPast, StaysOnce, StaysOverAll}
 use Rattle.cache_tool.proofs.StayingLaws.{both_in_use, none_in_use, same_in_use, spared_split, stays_split}
@@ -41,7 +43,7 @@ one_is_right c before m (inr rebuilt) = inr (rebuild_is c rebuilt)
 
 -- no command
 pub leads_none : (now : Session) (h : History) → KeepsTo now h → LeadTo [] now h.machine now h
-leads_none now h keeps = record { keeps = keeps; tells = tells; in_use = λ records told holds over. none_in_use records now holds; unended = λ spared. refl }
+leads_none now h keeps = record { keeps = keeps; tells = tells; in_use = λ records told holds over. none_in_use records now holds; unended = λ spared. refl; dated = none_dated h.machine now.disk }
   where
     tells : AreRight [] now h.machine → Tells now h.machine
     tells (inl told) = told
@@ -55,6 +57,7 @@ leads_one c before m now h keeps tells stays = record {
   tells = λ right. tells (one_is_right c before m right);
   in_use = λ records told holds over. stays.in_use records told holds over.0;
   unended = λ spared. stays.unended spared.0;
+  dated = one_dated m c before.disk now.disk stays.dated;
 }
 
 -- one that is acknowledged has begun for whoever saw no reply
@@ -65,12 +68,13 @@ leads_begun c h before now keeps safe leads = record {
   tells = leads.tells;
   in_use = leads.in_use;
   unended = leads.unended;
+  dated = leads.dated;
 }
 
 -- some, and then more
 pub leads_on : (cs ds : List Command) (before : Session) (m : Machine) (mid : Session) (g : History) (now : Session) (h : History) → g.machine ≡ after m cs → LeadTo cs before m mid g → LeadTo ds mid g.machine now h
     → LeadTo (cs ++ ds) before m now h
-leads_on cs ds before m mid g now h same first second = record { keeps = second.keeps; tells = tells; in_use = in_use; unended = unended }
+leads_on cs ds before m mid g now h same first second = record { keeps = second.keeps; tells = tells; in_use = in_use; unended = unended; dated = dated_on m g.machine cs ds before.disk mid.disk now.disk same first.dated second.dated }
   where
     in_use : (records : List IndexRecord) → Tells before m → HoldsBase records before.open_store.index.map → StaysOverAll records m (cs ++ ds) → IsInUse records before now
     in_use records told holds over =
@@ -100,6 +104,7 @@ leads_still cs before m mid now h leads stays base = record {
       let here = leads.in_use records told holds over in
       both_in_use records before mid now here (same_in_use records mid now base stays.disk here.base);
   unended = λ spared. ap (λ s. past_header (standing s Index)) stays.disk ∙ leads.unended spared;
+  dated = subst (IsDatedIn m cs before.disk) (sym stays.disk) leads.dated;
 }
 
 -- ---- after an opening

@@ -18,6 +18,7 @@ use Rattle.cache_theory.specs.Crash.{IsSafe}
 use Rattle.cache_theory.specs.History.{History, acked, begun, settled_at}
 use Rattle.cache_theory.specs.Machine.{Machine}
 use Rattle.cache_theory.specs.Marks.{marks_of}
+use Rattle.cache_tool.specs.Dated.{IsSameIndex}
 use Rattle.cache_tool.specs.Beginning.{BeginsRun, FailsToBegin}
 use Rattle.cache_tool.specs.Staying.{StaysFor}
 use Rattle.cache_tool.proofs.DoneLaws.{done_right, resumed_at_opening}
@@ -74,13 +75,14 @@ module _ (moment : ℕ) (s : State) (first now : Session) (finite : IsFinite s) 
   }
 
   -- it was done
-  pub resume_done : (o : Verdict) → OpensInUse s first.open_store.index.map first.disk → PerformsFor Resume (Ok o) first now taken later → StaysFor {T = Verdict} Resume (Ok o) first now
+  pub resume_done : (o : Verdict) → OpensInUse s first.open_store.index.map first.disk → IsSameIndex s first.disk → PerformsFor Resume (Ok o) first now taken later → StaysFor {T = Verdict} Resume (Ok o) first now
       → LeavesResumed (mark_of (standing first.disk Clear)) first now.open_store.index → BeginsRun moment s now
-  resume_done o based performs stays left = record {
+  resume_done o based same performs stays left = record {
     first = first;
     opens = opens;
     based = based;
     begins = begins;
+    same = same;
     mark = resumed_changes_mark s first.disk now.disk stood opened resumed;
     resumed = λ m is.
         let keeps = opens.keeps m is in

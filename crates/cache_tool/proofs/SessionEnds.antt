@@ -20,6 +20,7 @@ use Rattle.cache_tool.specs.PutProgress.{all_unanswered}
 use Rattle.cache_tool.specs.Right.{LeadTo}
 use Rattle.cache_tool.specs.Statuses.{IsClosing}
 use Rattle.cache_tool.specs.Verbs.{LeavesDisk, Reach, all_begun_none_acked}
+use Rattle.cache_tool.proofs.Dated.{dated_whole}
 use Rattle.cache_tool.proofs.DoneLaws.{done_on_resumed, resumed_at_opening}
 use Rattle.cache_tool.proofs.EntryLooks.{nothing_to_read, opened_to_read}
 use Rattle.cache_tool.proofs.RightLaws.{leads_on, opened_right}
@@ -40,6 +41,7 @@ stops_leave m r ended s t still safe images = record {
   images = images;
   journal = λ closing over. absurd (still closing);
   index = λ closing. absurd (still closing);
+  dated = λ closing. absurd (still closing);
 }
 
 -- another end, which closes where this one does
@@ -51,6 +53,7 @@ leaves_at m r ended final s t closes leaves = record {
   images = leaves.images;
   journal = λ closing. leaves.journal (closes closing);
   index = λ closing. leaves.index (closes closing);
+  dated = λ closing. leaves.dated (closes closing);
 }
 
 module _ {moment : ℕ} (s : State) (mid : Session) (begins : BeginsRun moment s mid) (m : Machine) (is : StartsOn moment s m) where
@@ -95,6 +98,7 @@ module _ {moment : ℕ} (s : State) (mid : Session) (begins : BeginsRun moment s
           images = λ quiet honest. end.images (all.tells (inl (begins.opens.tells m is honest)));
           journal = λ closing over. end.journal closing (ap (λ (x : Machine). x.rest) same ∙ over);
           index = stays_whole s t m begins.first last (first_done ∷ cs) h ended begins.opens is begins.based all end same;
+          dated = λ closing. dated_whole m h.machine (first_done ∷ cs) s begins.first.disk last.disk t same begins.same all.dated (end.dated closing);
         }
 
     -- all of them have begun, and none is acknowledged

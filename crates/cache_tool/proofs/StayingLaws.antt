@@ -22,6 +22,7 @@ use Rattle.cache_theory.specs.Checks.{checks}
 use Rattle.cache_theory.specs.Step.{after, effect, step}
 use Rattle.cache_theory.proofs.Waiting.{changes_leave_rest}
 use Rattle.cache_tool.specs.Verbs.{KeepsIndex}
+use Rattle.cache_tool.specs.Dated.{IsDatedAt}
 use Rattle.cache_tool.specs.Ending.{IsEnded}
 use Rattle.cache_tool.specs.Right.{LeadTo}
 use Rattle.cache_tool.specs.Statuses.{IsClosing}
@@ -96,12 +97,14 @@ holds_as records base holds = record { has_base = base.has_base ∙ holds.has_ba
 
 -- it leaves the files of the index and the base in memory as they are
 pub stays_for : {T : Type 0} (c : Command) (answer : Result T StoreFault) (before now : Session) → (SparesIndex c before.open_store.index → LeavesIndex before.disk now.disk)
-    → (SparesIndex c before.open_store.index → HadEffect answer → SameBase before.open_store.index.map now.open_store.index.map) → StaysFor c answer before now
-stays_for c answer before now leaves same = λ m stands had. record {
+    → (SparesIndex c before.open_store.index → HadEffect answer → SameBase before.open_store.index.map now.open_store.index.map)
+    → (HadEffect answer → IsDatedAt before.open_store.moment before.disk now.disk) → StaysFor c answer before now
+stays_for c answer before now leaves same dated = λ m stands had. record {
   in_use = λ records told holds over.
       let spares = few_are_spared records before m c stands told holds over in
       record { base = holds_as records (same spares had) holds; past = ap past_header ((leaves spares).stands Index tt) };
   unended = λ spared. ap past_header ((leaves (spares_unended before m c stands spared)).stands Index tt);
+  dated = subst (λ n. IsDatedAt n before.disk now.disk) (sym stands.matches.moment) (dated had);
 }
 
 -- and so it does where all is as it was
@@ -135,6 +138,7 @@ pub stays_done : (right : Type 0) (c : Command) (before : Session) (m : Machine)
 stays_done right c before m now d is stays = record {
   in_use = λ records told holds over. stays.in_use records told holds (stays_over right records c m d is over);
   unended = λ spared. stays.unended (spared_over right c m d is spared);
+  dated = stays.dated;
 }
 
 -- ---- at the end of a session

@@ -15,6 +15,7 @@ use Rattle.cache_theory.specs.History.{acked, settled_at}
 use Rattle.cache_theory.specs.Machine.{Machine}
 use Rattle.cache_theory.specs.Marks.{marks_of}
 use Rattle.cache_theory.specs.Step.{step}
+use Rattle.cache_tool.specs.Dated.{IsSameIndex}
 use Rattle.cache_tool.specs.MarkLeft.{ChangesMark}
 use Rattle.cache_tool.specs.Right.{LeadTo}
 use Rattle.context_clear.specs.Mark.{mark_of}
@@ -82,6 +83,7 @@ pub record BeginsRun (moment : ℕ) (s : State) (now : Session) : Type 0 where
   pub opens : Opens moment s first
   pub based : OpensInUse s first.open_store.index.map first.disk
   pub begins : BeginsOn (standing s) first.open_store.index.map
+  pub same : IsSameIndex s first.disk
   pub resumed : (m : Machine) → StartsOn moment s m → IsResumed first m now
   pub mark : ChangesMark [] s now.disk
 

@@ -6,6 +6,7 @@ use Rattle.cache_store.specs.Open.{IsHonest, IsShut, KeepsTo, Tells}
 use Rattle.cache_store.specs.Session.{Session}
 use Rattle.cache_theory.specs.Crash.{IsSafe}
 use Rattle.cache_theory.specs.History.{History}
+use Rattle.cache_tool.specs.Dated.{IsDatedAt}
 use Rattle.cache_tool.specs.MarkLeft.{KeepsMark}
 use Rattle.cache_tool.specs.Statuses.{IsClosing}
 use Rattle.cache_tool.specs.Staying.{EndsInUse}
@@ -29,6 +30,8 @@ pub record IsEnded (ended : Status) (h : History) (before : Session) (now : Stat
       → StaysInUse records (scan h.machine.shelf) before.disk now
   -- before the update has ended the files of the index are left alone
   pub unended : IsClosing ended → h.machine.rest ≢ [] → LeavesIndex before.disk now
+  -- and an index that was written has the moment of the machine
+  pub dated : IsClosing ended → IsDatedAt h.machine.moment before.disk now
 
 -- whatever history the disk kept to
 pub record EndsSession (ended : Status) (before : Session) (now : State) : Type 0 where

@@ -2,6 +2,7 @@ pub mod AnyDisk
 pub mod Asked
 pub mod Beginning
 pub mod ByVerb
+pub mod Dated
 pub mod DoneFor
 pub mod Ending
 pub mod Fill
@@ -20,9 +21,11 @@ pub mod PutProgress
 pub mod Replies
 pub mod Right
 pub mod SameAsScript
+pub mod RunAccount
 pub mod Script
 pub mod ScriptProgress
 pub mod Statuses
+pub mod Syncs
 pub mod Staying
 pub mod Tally
 pub mod Theorem

@@ -10,12 +10,14 @@ use Rattle.cache_export.specs.declared.limits.TheConstants.{DUMP_MAX}
 use Rattle.cache_store.specs.Open.{StartsOn}
 use Rattle.cache_store.specs.Said.{IsCut}
 use Rattle.cache_store.specs.Saying.{IsPart}
+use Rattle.cache_store.specs.Syncs.{all_syncs}
 use Rattle.cache_theory.specs.Command.{Command}
 use Rattle.cache_theory.specs.Loading.{FindsStock, IsStocked, item_begun, items_written}
 use Rattle.cache_theory.specs.Machine.{Machine}
 use Rattle.cache_theory.specs.Step.{step}
 use Rattle.cache_theory.specs.Text.{line, with_number}
 use Rattle.cache_tool.specs.Beginning.{DoneAtOpening}
+use Rattle.cache_tool.specs.Syncs.{SyncsWithin, run_syncs}
 use Rattle.cache_tool.specs.Verbs.{HasNotBegun, LeavesDisk, all_begun_none_acked}
 use Rattle.cache_tool.specs.World.{World, output_of}
 use Rattle.disk_model.specs.Calls.{LastCallFails}
@@ -152,8 +154,10 @@ pub record PrintsLoaded (m : Machine) (d : Command) (bytes : List ℕ) (ended : 
   pub stocked : IsStocked (step m d).next loaded.items
   pub found : FindsStock (step m d).next.shelf loaded.items
   pub prints : PrintsLoadLine bytes loaded read ended before.taken now.taken
-  -- no call of the disk follows one that failed
+  -- no call of the disk follows one that failed, and no more syncs are made than the entries take
   pub last : ended ≡ status.Disk → LastCallFails now.disk_counts
+  pub syncs : SyncsWithin (run_syncs (all_syncs (loaded_commands loaded)))
+      before.disk_counts now.disk_counts
   pub leaves : LeavesDisk m
       (all_begun_none_acked m d (loaded_commands loaded)) ended before.disk now.disk
 

@@ -16,8 +16,10 @@ use Rattle.cache_theory.specs.Command.Command.{Append, Close, Create, FinishAs}
 use Rattle.cache_tool.specs.FillProgress.{RunsAll}
 use Rattle.cache_tool.specs.Load.{ArePartsTo, BeginsLoaded, GaveLoaded, IsBadBehind, IsNoDump, Loaded, bad_dump_line, begun_parts, loaded_commands, loaded_line}
 use Rattle.cache_tool.specs.Statuses.{status_in}
+use Rattle.cache_tool.specs.Syncs.{SyncsFor}
 use Rattle.cache_tool.specs.declared.load.LoadEnd.{LoadEnd}
 use Rattle.cache_tool.specs.declared.load.LoadEnd.TheVariants as ended
+use Rattle.disk_model.specs.Calls.{Counts}
 use Rattle.entry_file.specs.Version.{Version}
 use Rattle.entry_parts.specs.Elements.{Element}
 use Rattle.entry_parts.specs.declared.header.Header.{Header}
@@ -64,10 +66,12 @@ pub record Loading : Type 0 where
   pub count : ℕ
   pub left : Option (List ℕ)
   pub session : Session
+  -- the counts of the disk
+  pub counts : Counts
 
 -- how far a reader, a source and a session are in a load
-abbrev pub loading : DumpReader → ℕ → Option (List ℕ) → Session → Loading
-loading r count left session = record {
+abbrev pub loading : DumpReader → ℕ → Option (List ℕ) → Session → Counts → Loading
+loading r count left session counts = record {
   stage = stage_in r;
   held = held_in r;
   used = used_in r;
@@ -75,11 +79,12 @@ loading r count left session = record {
   count = count;
   left = left;
   session = session;
+  counts = counts;
 }
 
--- this was read of a source so far, and all of it was done
-pub record HasLoaded (tells : Type 0) (from : Option (List ℕ)) (before : Session) (now : Loading)
-    : Type 0 where
+-- this was read of a source so far, and all of it was done, where the disk had counted this at the beginning
+pub record HasLoaded (tells : Type 0) (from : Option (List ℕ)) (before : Session) (began : Counts)
+    (now : Loading) : Type 0 where
   pub loaded : Loaded
   pub own : List ℕ
   pub are : AreLoaded loaded own now.stage
@@ -91,6 +96,7 @@ pub record HasLoaded (tells : Type 0) (from : Option (List ℕ)) (before : Sessi
   pub given : now.given ≡ length loaded.items
   pub counted : now.count ≡ length loaded.items
   pub runs : tells → RunsAll {T = Unit {0}} (loaded_commands loaded) (Ok tt) before now.session
+  pub syncs : tells → SyncsFor (loaded_commands loaded) began now.counts
 
 -- what the bytes of a source are, by how a load of them ended: they begin with this
 pub record ReadsLoaded (ended : Status) (from left : Option (List ℕ)) (l : Loaded) (bytes : List ℕ)
@@ -125,26 +131,29 @@ TellsNumber (Err f) n = ⊤
 -- this was read, and all of it was done as far as a fault let it
 pub record EndsLoaded (tells : Type 0) (answer : Result LoadEnd StoreFault)
     (from left : Option (List ℕ))
-    (before now : Session) : Type 0 where
+    (before now : Session) (began counts : Counts) : Type 0 where
   pub loaded : Loaded
   pub reads : IfSome from (ReadsLoaded (status_at_end answer) from left loaded)
   pub over : status_at_end answer ≡ status.Done → IsAtEnd left
   pub number : TellsNumber answer (length loaded.items)
   pub runs : tells → RunsAll (loaded_commands loaded) answer before now
+  pub syncs : tells → SyncsFor (loaded_commands loaded) began counts
 
 -- the same after one turn, after which there may be more
 abbrev pub LoadsSoFar :
-    Type 0 → Result (Option LoadEnd) StoreFault → Option (List ℕ) → Session → Loading → Type 0
-LoadsSoFar tells (Ok None) from before now = HasLoaded tells from before now
-LoadsSoFar tells (Ok (Some e)) from before now = EndsLoaded tells (Ok e) from now.left before now.session
-LoadsSoFar tells (Err f) from before now = EndsLoaded tells (Err f) from now.left before now.session
+    Type 0 → Result (Option LoadEnd) StoreFault → Option (List ℕ) → Session → Counts → Loading → Type 0
+LoadsSoFar tells (Ok None) from before began now = HasLoaded tells from before began now
+LoadsSoFar tells (Ok (Some e)) from before began now =
+    EndsLoaded tells (Ok e) from now.left before now.session began now.counts
+LoadsSoFar tells (Err f) from before began now =
+    EndsLoaded tells (Err f) from now.left before now.session began now.counts
 
 -- one turn, whatever the turns before it did
 pub record LoadsNext (tells : Type 0) (answer : Result (Option LoadEnd) StoreFault)
     (mid now : Loading)
     : Type 0 where
-  pub on : (from : Option (List ℕ)) (before : Session) → HasLoaded tells from before mid
-      → LoadsSoFar tells answer from before now
+  pub on : (from : Option (List ℕ)) (before : Session) (began : Counts)
+      → HasLoaded tells from before began mid → LoadsSoFar tells answer from before began now
 
 -- ---- the whole
 
@@ -156,9 +165,10 @@ pub record HoldsLine (ended : Status) (n : ℕ) (text : List ℕ) : Type 0 where
 -- a load was performed: what was read, what is printed, and what it did to the session
 pub record PerformsLoad (tells : Type 0) (came : Result Status StoreFault)
     (from left : Option (List ℕ))
-    (before now : Session) (text : List ℕ) : Type 0 where
+    (before now : Session) (began counts : Counts) (text : List ℕ) : Type 0 where
   pub loaded : Loaded
   pub reads : IfSome from (ReadsLoaded (status_in came) from left loaded)
   pub over : status_in came ≡ status.Done → IsAtEnd left
   pub line : HoldsLine (status_in came) (length loaded.items) text
   pub runs : tells → RunsAll (loaded_commands loaded) came before now
+  pub syncs : tells → SyncsFor (loaded_commands loaded) began counts

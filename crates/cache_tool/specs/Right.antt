@@ -8,6 +8,7 @@ use Rattle.cache_theory.specs.Command.{Command}
 use Rattle.cache_theory.specs.Command.Command.{Rebuild}
 use Rattle.cache_theory.specs.History.{History}
 use Rattle.cache_theory.specs.Machine.{Machine}
+use Rattle.cache_tool.specs.Dated.{IsDatedIn}
 use Rattle.cache_tool.specs.Staying.{AreSpared, IsInUse, KeepsPast, StaysOverAll}
 use Rattle.disk_model.specs.State.{State, standing}
 use Rattle.index_record.specs.declared.record.IndexRecord.{IndexRecord}
@@ -45,3 +46,5 @@ pub record LeadTo (cs : List Command) (before : Session) (m : Machine) (now : Se
       → StaysOverAll records m cs → IsInUse records before now
   -- and before the update has ended it is unchanged, whatever the records are
   pub unended : AreSpared m cs → KeepsPast before.disk now.disk
+  -- and an index that was written has the moment of the machine then
+  pub dated : IsDatedIn m cs before.disk now.disk

@@ -24,6 +24,7 @@ use Rattle.cache_tool.specs.MarkLeft.{ChangeMark}
 use Rattle.cache_tool.specs.Right.{LeadTo}
 use Rattle.cache_tool.specs.Script.{AreTaken, performed}
 use Rattle.cache_tool.specs.Statuses.{IsClosing, status_in}
+use Rattle.cache_tool.specs.Syncs.{SyncsFor}
 use Rattle.cache_tool.specs.Tally.{RoseBy}
 use Rattle.cache_tool.specs.Verbs.{CountsFaults, Reach, begun_of, SendsNextFront, TellsReplies}
 use Rattle.cache_tool.specs.World.{Progress}
@@ -150,6 +151,7 @@ pub record HasPerformed (tells : Bool) (r : Reader) (before now : Progress) : Ty
   pub calm : TellsOfFaults faults before now
   pub performs : IsTrue tells → PerformsAll commands faults before now
   pub mark : IsTrue tells → ChangeMarkBut faults commands before now
+  pub syncs : IsTrue tells → SyncsFor commands before.disk_counts now.disk_counts
 
 -- what the source has, by how the commands ended
 abbrev pub EndsScript : ScriptEnd → Option (List ℕ) → Option (List ℕ) → List Command → Type 0
@@ -168,6 +170,7 @@ pub record PerformsToEnd (tells : Bool) (e : ScriptEnd) (before now : Progress) 
   pub calm : TellsOfFaults faults before now
   pub performs : IsTrue tells → PerformsAll commands faults before now
   pub mark : IsTrue tells → ChangeMarkBut faults commands before now
+  pub syncs : IsTrue tells → SyncsFor commands before.disk_counts now.disk_counts
 
 -- The line `fault` was cut: the disk failed once more than there are such answers, but did not fail for good.
 pub record FailsInLine (tells : Bool) (cs : List Command) (faults : List ℕ) (f : StoreFault)
@@ -197,6 +200,7 @@ pub record FailsMidway (tells : Bool) (f : StoreFault) (before now : Progress) :
   pub disk : f ≡ fault.Disk → RoseBy (suc (length faults)) before.disk_faults now.disk_faults
   pub fails : FailsInReply tells commands faults last f before now
       ⊎ FailsInLine tells commands faults f before now
+  pub syncs : IsTrue tells → SyncsFor (commands ++ last ∷ []) before.disk_counts now.disk_counts
 
 -- how the loop over the commands ended: all were performed, or one failed
 abbrev pub PerformsCommands : Bool → Result ScriptEnd StoreFault → Progress → Progress → Type 0
@@ -271,6 +275,7 @@ pub record ScriptIsRun (h : History) (bytes : List ℕ) (cs : List Command) (end
   pub leaves : LeavesScript h.machine
       (one_begun_on h acked with_last ended done) ended before.session now.session
   pub mark : ChangeMark (begun_of acked with_last cs) before.session.disk now.session.disk
+  pub syncs : SyncsFor (take (acked + 1) cs) before.disk_counts now.disk_counts
 
 -- whatever history the disk kept to
 pub record PerformsScript (came : Result Status StoreFault) (before now : Progress) : Type 0 where

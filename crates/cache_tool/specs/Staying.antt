@@ -9,6 +9,7 @@ use Rattle.cache_theory.specs.Command.{Command}
 use Rattle.cache_theory.specs.Command.Command.{Flush, Rebuild}
 use Rattle.cache_theory.specs.Machine.{Machine}
 use Rattle.cache_theory.specs.Step.{step}
+use Rattle.cache_tool.specs.Dated.{IsDatedAt}
 use Rattle.disk_model.specs.State.{State, standing}
 use Rattle.disk_model.specs.declared.place.Place.TheVariants.{Index}
 use Rattle.index_record.specs.declared.record.IndexRecord.{IndexRecord}
@@ -49,6 +50,8 @@ pub record StaysOnce (c : Command) (before : Session) (m : Machine) (now : Sessi
       → HoldsBase records before.open_store.index.map → StaysOver records m c
       → IsInUse records before now
   pub unended : IsSpared m c → KeepsPast before.disk now.disk
+  -- and an index that was written has the moment of the machine
+  pub dated : IsDatedAt m.moment before.disk now.disk
 
 -- and whatever machine the store stands for, once the command has had its effect
 abbrev pub StaysFor : {T : Type 0} → Command → Result T StoreFault → Session → Session → Type 0

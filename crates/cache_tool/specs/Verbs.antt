@@ -10,6 +10,7 @@ use Rattle.cache_store.specs.InUse.{HasShortJournal, StaysInUse}
 use Rattle.cache_store.specs.Open.{IsHonest, IsShut, StartsOn}
 use Rattle.cache_store.specs.Said.{IsCut}
 use Rattle.cache_store.specs.Saying.{IsPart}
+use Rattle.cache_store.specs.Syncs.{all_syncs}
 use Rattle.cache_theory.specs.Command.{Command}
 use Rattle.cache_theory.specs.Command.Command.{ClearOrigin, Evict, Flush, ListRecords}
 use Rattle.cache_theory.specs.Crash.{IsCrashSafe}
@@ -20,6 +21,7 @@ use Rattle.cache_theory.specs.Session.{BeginsWith, marks_between}
 use Rattle.cache_theory.specs.Step.{after, step}
 use Rattle.cache_theory.specs.Text.{CommandsIn, ScriptSpells, reply_text}
 use Rattle.cache_tool.specs.Beginning.{DoneAtOpening, DoneOnResumed, ReadsNoEntry}
+use Rattle.cache_tool.specs.Dated.{IsDatedIn}
 use Rattle.cache_tool.specs.DoneFor.{AreDoneFor}
 use Rattle.cache_tool.specs.MarkLeft.{LeavesMark}
 use Rattle.cache_tool.specs.Put.{ArePut}
@@ -28,6 +30,7 @@ use Rattle.cache_tool.specs.Right.{ComesRight}
 use Rattle.cache_tool.specs.Script.{AreTaken, bad_line, performed}
 use Rattle.cache_tool.specs.Statuses.{IsAnswer, IsClosing, status_of}
 use Rattle.cache_tool.specs.Staying.{EndsInUse, KeepsPast, StaysOverAll}
+use Rattle.cache_tool.specs.Syncs.{SyncsWithin, opening_syncs, run_syncs}
 use Rattle.cache_tool.specs.Tally.{RoseBy}
 use Rattle.cache_tool.specs.World.{Output, World, output_of}
 use Rattle.disk_model.specs.Calls.{LastCallFails, LastFails, LastLookFails}
@@ -109,6 +112,8 @@ pub record LeavesDisk (m : Machine) (r : Reach) (ended : Status) (s t : State) :
   pub journal : IsClosing ended → (after m r.done).rest ≡ [] → HasShortJournal (standing t)
   -- and of an index that could be read this is left
   pub index : IsClosing ended → start_of (standing s) ≢ Build → KeepsIndex m r.done s t
+  -- an index that was written has the moment of the machine then
+  pub dated : IsClosing ended → IsDatedIn m r.done s t
 
 -- the text of the last reply is printed, or it is cut
 pub record PrintsText (text : List ℕ) (ended : Status) (before now : Output) : Type 0 where
@@ -124,6 +129,7 @@ pub record HasNotBegun (m : Machine) (ended : Status) (before now : Output) : Ty
   pub last : ended ≡ status.Disk → LastCallFails now.disk_counts
   pub silent : Keeps before.taken now.taken
   pub mark : LeavesMark [] before.disk now.disk
+  pub syncs : SyncsWithin opening_syncs before.disk_counts now.disk_counts
   -- no command has begun, or that one alone
   pub leaves : LeavesDisk m (none_begun m) ended before.disk now.disk
       ⊎ DoneAtOpening before.disk m
@@ -263,6 +269,9 @@ pub record PrintsReplies (m : Machine) (d : Command) (bytes : List ℕ) (cs : Li
   pub leaves : LeavesDisk m
       (one_begun_after m d acked with_last ended done) ended before.disk now.disk
   pub mark : LeavesMark (begun_of acked with_last cs) before.disk now.disk
+  -- no more syncs are made than an opening, these commands and a closing take
+  pub syncs : SyncsWithin (run_syncs (all_syncs (take (acked + 1) cs)))
+      before.disk_counts now.disk_counts
 
 -- `run`, of a source that tells its bytes: the commands that these spell are performed; or the run did not begin, and
 -- nothing of them was read

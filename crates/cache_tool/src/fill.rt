@@ -1,5 +1,7 @@
 //! The verb `fill`: entries are made, half of all is evicted, and the rest is checked and listed.
 
+ghost use Rattle.cache_tool.specs.Syncs.{run_syncs};
+ghost use Rattle.cache_store.specs.Syncs.{writing_syncs};
 ghost use Rattle.std.specs.List.{range_with_len};
 ghost use Rattle.std.specs.Prelude.{◌≡◌, ◌≢◌, ◌≤◌, ◌<◌, ◌+◌, ◌++◌, ◌*◌, ◌%◌, ◌^◌, ◌⊎◌, [], ◌∷◌, codes, decimal, drop, length, take, map, Err, IfOk, IsTrue, Ok, OnOk, ℕ};
 ghost use Rattle.cache_base.specs.Causes.{HasCause, Rose};
@@ -16,7 +18,7 @@ ghost use Rattle.cache_tool.specs.HeldReply.{said_in};
 ghost use Rattle.cache_tool.specs.MarkLeft.{LeavesMark};
 ghost use Rattle.cache_tool.specs.Statuses.{IsAnswer, IsClosing};
 ghost use Rattle.cache_tool.specs.World.{output};
-ghost use Rattle.disk_model.specs.Account.{Accounts};
+ghost use Rattle.disk_model.specs.Account.{Accounts, no_sync, SyncsAtMost, one_sync};
 ghost use Rattle.disk_model.specs.Calls.{StopsAtFault};
 ghost use Rattle.disk_model.specs.Sound.{IsQuiet};
 ghost use Rattle.disk_model.specs.Told.{Told};
@@ -125,7 +127,7 @@ fn make_entry<D: Disk>(
     ensures open { IsTrue D.tells → LeavesOpen result (session D.Disk store.new disk.new) }
     ensures honest { IsTrue D.tells → LeavesHonest (D.state disk.new) }
     ensures no_sink { result ≢ Err StoreFault.Sink }
-    ensures account { Accounts D.Disk (ending result) disk.old disk.new }
+    ensures account { Accounts D.Disk (ending result) one_sync disk.old disk.new }
 {
     let key = key(alloc, i)?;
     bytes_fit(key.as_slice());
@@ -162,7 +164,7 @@ fn make_entries<D: Disk>(
     ensures open { IsTrue D.tells → LeavesOpen result (session D.Disk store.new disk.new) }
     ensures honest { IsTrue D.tells → LeavesHonest (D.state disk.new) }
     ensures no_sink { result ≢ Err StoreFault.Sink }
-    ensures account { Accounts D.Disk (ending result) disk.old disk.new }
+    ensures account { Accounts D.Disk (ending result) count disk.old disk.new }
 {
     let pattern = pattern(alloc)?;
     let mut x = first;
@@ -191,7 +193,7 @@ fn make_all<D: Disk>(
     ensures open { IsTrue D.tells → LeavesOpen result (session D.Disk store.new disk.new) }
     ensures honest { IsTrue D.tells → LeavesHonest (D.state disk.new) }
     ensures no_sink { result ≢ Err StoreFault.Sink }
-    ensures account { Accounts D.Disk (ending result) disk.old disk.new }
+    ensures account { Accounts D.Disk (ending result) (count + writing_syncs) disk.old disk.new }
 {
     make_entries(alloc, store, now, count, first, said, disk)?;
     send(alloc, store, &Command::Flush, said, disk)?;
@@ -211,7 +213,7 @@ fn evict_half<D: Disk>(
     ensures open { IsTrue D.tells → LeavesOpen result (session D.Disk store.new disk.new) }
     ensures honest { IsTrue D.tells → LeavesHonest (D.state disk.new) }
     ensures no_sink { result ≢ Err StoreFault.Sink }
-    ensures account { Accounts D.Disk (ending result) disk.old disk.new }
+    ensures account { Accounts D.Disk (ending result) no_sync disk.old disk.new }
 {
     let kb = half_of(store.kilobytes(disk)?);
     send(alloc, store, &Command::Evict { kb }, said, disk)?;
@@ -253,7 +255,7 @@ fn perform_fill<D: Disk>(
     ensures open { IsTrue D.tells → LeavesOpen result (session D.Disk store.new disk.new) }
     ensures honest { IsTrue D.tells → LeavesHonest (D.state disk.new) }
     ensures no_sink { result ≢ Err StoreFault.Sink }
-    ensures account { Accounts D.Disk (ending result) disk.old disk.new }
+    ensures account { Accounts D.Disk (ending result) (count + writing_syncs) disk.old disk.new }
 {
     let mut said = LastReply::new(alloc);
     say_made(alloc, count, lines)?;
@@ -285,6 +287,7 @@ pub(crate) fn fill<D: Disk, K: Sink>(
     ensures quiet { IsClosing result → IsTrue D.tells → IsQuiet (D.state disk.new) }
     ensures mark { Told D.Disk (LeavesMark []) disk.old disk.new }
     ensures stops { IsTrue D.tells → StopsAtFault (D.counts disk.old) (D.counts disk.new) }
+    ensures syncs { SyncsAtMost D.Disk (run_syncs (count + writing_syncs)) disk.old disk.new }
     ensures sink { result ≡ Status.Sink → Rose (K.faults sink.old) (K.faults sink.new) }
     ensures calm { IsAnswer result → K.faults sink.new ≡ K.faults sink.old }
     ensures disk { HasCause (result ≡ Status.Disk) (D.faults disk.old) (D.faults disk.new) }

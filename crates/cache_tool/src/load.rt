@@ -1,5 +1,6 @@
 //! The verb `load`: the entries of a dump are written.
 
+ghost use Rattle.cache_tool.specs.Syncs.{as_made, item_syncs};
 ghost use Rattle.std.specs.Prelude.{◌≡◌, ◌≢◌, ◌≤◌, ◌<◌, ◌⊎◌, ◌++◌, [], ℕ, Err, IfOk, IsTrue, None, Ok, OnOk, Some, suc};
 ghost use Rattle.std.specs.Io.KnownBytes.{Appends, IsAtEnd};
 ghost use Rattle.cache_base.specs.Bytes.{AreBytes};
@@ -16,7 +17,7 @@ ghost use Rattle.cache_tool.specs.FillProgress.{RunsAll};
 ghost use Rattle.cache_tool.specs.MarkLeft.{LeavesMark};
 ghost use Rattle.cache_tool.specs.Statuses.{IsClosing, IsSaid};
 ghost use Rattle.cache_tool.specs.World.{world};
-ghost use Rattle.disk_model.specs.Account.{Accounts};
+ghost use Rattle.disk_model.specs.Account.{Accounts, no_sync};
 ghost use Rattle.disk_model.specs.Calls.{StopsAtFault};
 ghost use Rattle.disk_model.specs.Sound.{IsQuiet};
 ghost use Rattle.disk_model.specs.Told.{Told};
@@ -75,7 +76,7 @@ fn finish_entry<D: Disk>(
     ensures open { IsTrue D.tells → LeavesOpen result (session D.Disk store.new disk.new) }
     ensures honest { IsTrue D.tells → LeavesHonest (D.state disk.new) }
     ensures no_sink { result ≢ Err StoreFault.Sink }
-    ensures account { Accounts D.Disk (ending result) disk.old disk.new }
+    ensures account { Accounts D.Disk (ending result) item_syncs disk.old disk.new }
 {
     let elements = &meta.elements;
     parts_fit(meta.header, elements);
@@ -105,7 +106,7 @@ fn begin_entry<D: Disk>(
     ensures open { IsTrue D.tells → LeavesOpen result (session D.Disk store.new disk.new) }
     ensures honest { IsTrue D.tells → LeavesHonest (D.state disk.new) }
     ensures no_sink { result ≢ Err StoreFault.Sink }
-    ensures account { Accounts D.Disk (ending result) disk.old disk.new }
+    ensures account { Accounts D.Disk (ending result) no_sync disk.old disk.new }
 {
     let key = key.as_slice();
     bytes_fit(key);
@@ -134,7 +135,7 @@ fn append_piece<D: Disk>(
     ensures open { IsTrue D.tells → LeavesOpen result (session D.Disk store.new disk.new) }
     ensures honest { IsTrue D.tells → LeavesHonest (D.state disk.new) }
     ensures no_sink { result ≢ Err StoreFault.Sink }
-    ensures account { Accounts D.Disk (ending result) disk.old disk.new }
+    ensures account { Accounts D.Disk (ending result) no_sync disk.old disk.new }
 {
     let bytes = piece.as_slice();
     bytes_fit(bytes);
@@ -161,8 +162,9 @@ fn load_next<D: Disk, S: Source>(
     requires few { count.old ≤ used_in reader.old }
     requires told { IsTrue D.tells → IsOpen (session D.Disk store.old disk.old) }
     ensures loads { let at = session D.Disk in let left = S.left in
-        let mid = loading reader.old count.old (left source.old) (at store.old disk.old) in
-        let now = loading reader.new count.new (left source.new) (at store.new disk.new) in
+        let was = D.counts disk.old in let counts = D.counts disk.new in
+        let mid = loading reader.old count.old (left source.old) (at store.old disk.old) was in
+        let now = loading reader.new count.new (left source.new) (at store.new disk.new) counts in
         LoadsNext (IsTrue D.tells) result mid now }
     ensures few { result ≡ Ok None → count.new ≤ used_in reader.new }
     ensures further { result ≡ Ok None → used_in reader.old < used_in reader.new }
@@ -171,7 +173,7 @@ fn load_next<D: Disk, S: Source>(
     ensures open { IsTrue D.tells → LeavesOpen result (session D.Disk store.new disk.new) }
     ensures honest { IsTrue D.tells → LeavesHonest (D.state disk.new) }
     ensures no_sink { result ≢ Err StoreFault.Sink }
-    ensures account { Accounts D.Disk (ending result) disk.old disk.new }
+    ensures account { Accounts D.Disk (ending result) item_syncs disk.old disk.new }
 {
     match reader.next(source) {
         Ok(Item::Key(key)) => {
@@ -205,13 +207,14 @@ fn load_parts<D: Disk, S: Source>(
     requires told { IsTrue D.tells → IsOpen (session D.Disk store.old disk.old) }
     ensures loads { let at = session D.Disk in let from = S.left source.old in
         let before = at store.old disk.old in let now = at store.new disk.new in
-        EndsLoaded (IsTrue D.tells) result from (S.left source.new) before now }
+        let was = D.counts disk.old in let counts = D.counts disk.new in
+        EndsLoaded (IsTrue D.tells) result from (S.left source.new) before now was counts }
     ensures source { HasCause (result ≡ Ok LoadEnd.Failed)
         (S.faults source.old) (S.faults source.new) }
     ensures open { IsTrue D.tells → LeavesOpen result (session D.Disk store.new disk.new) }
     ensures honest { IsTrue D.tells → LeavesHonest (D.state disk.new) }
     ensures no_sink { result ≢ Err StoreFault.Sink }
-    ensures account { Accounts D.Disk (ending result) disk.old disk.new }
+    ensures account { Accounts D.Disk (ending result) (as_made D.Disk disk.new) disk.old disk.new }
 {
     let mut reader = DumpReader::new(alloc);
     let mut count = 0;
@@ -252,14 +255,16 @@ fn perform_load<D: Disk, S: Source>(
     requires told { IsTrue D.tells → IsOpen (session D.Disk store.old disk.old) }
     ensures performs { let at = session D.Disk in let from = S.left source.old in
         let before = at store.old disk.old in let now = at store.new disk.new in
-        PerformsLoad (IsTrue D.tells) result from (S.left source.new) before now line.new }
+        let was = D.counts disk.old in let counts = D.counts disk.new in
+        PerformsLoad (IsTrue D.tells) result from (S.left source.new)
+        before now was counts line.new }
     ensures only { IfOk result (λ s. IsLine s ⊎ (s ≡ Status.Source)) }
     ensures source { HasCause (result ≡ Ok Status.Source)
         (S.faults source.old) (S.faults source.new) }
     ensures open { IsTrue D.tells → LeavesOpen result (session D.Disk store.new disk.new) }
     ensures honest { IsTrue D.tells → LeavesHonest (D.state disk.new) }
     ensures no_sink { result ≢ Err StoreFault.Sink }
-    ensures account { Accounts D.Disk (ending result) disk.old disk.new }
+    ensures account { Accounts D.Disk (ending result) (as_made D.Disk disk.new) disk.old disk.new }
 {
     let mut said = LastReply::new(alloc);
     match load_parts(alloc, store, source, &mut said, disk)? {

@@ -1,5 +1,8 @@
 //! One command, which the words give.
 
+ghost use Rattle.disk_model.specs.Account.{SyncsAtMost};
+ghost use Rattle.cache_tool.specs.Syncs.{run_syncs};
+ghost use Rattle.cache_store.specs.Syncs.{all_syncs};
 ghost use Rattle.std.specs.Prelude.{◌≡◌, ◌≢◌, ◌∷◌, ◌⊎◌, [], true, IsTrue};
 ghost use Rattle.cache_base.specs.Causes.{Rose};
 ghost use Rattle.cache_script.specs.Command.{command_of};
@@ -53,6 +56,7 @@ pub(crate) fn perform_one<D: Disk, K: Sink>(
     ensures quiet { IsClosing result → IsTrue D.tells → IsQuiet (D.state disk.new) }
     ensures mark { Told D.Disk (LeavesMark (command_of command.now ∷ [])) disk.old disk.new }
     ensures stops { IsTrue D.tells → StopsAtFault (D.counts disk.old) (D.counts disk.new) }
+    ensures syncs { SyncsAtMost D.Disk (run_syncs (all_syncs (command_of command.now ∷ []))) disk.old disk.new }
     ensures sink { result ≡ Status.Sink → Rose (K.faults sink.old) (K.faults sink.new) }
     ensures calm { IsAnswer result → K.faults sink.new ≡ K.faults sink.old }
     ensures disk { result ≡ Status.Disk → Rose (D.faults disk.old) (D.faults disk.new) }

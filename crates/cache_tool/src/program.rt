@@ -1,17 +1,17 @@
 //! What the program does, over any disk, source and sink.
 
-ghost use Rattle.std.specs.Prelude.{◌≡◌, ◌≢◌, ◌↔◌, ◌⊎◌, IsTrue, IsSome, IsNone};
+ghost use Rattle.std.specs.Prelude.{◌≡◌, ◌↔◌, ◌⊎◌, IsTrue, IsSome, IsNone};
 ghost use Rattle.cache_base.specs.Causes.{Rose};
 ghost use Rattle.cache_store.specs.IndexCalls.{ReadsEntriesOf};
 ghost use Rattle.cache_store.specs.Saying.{TakesMore};
-ghost use Rattle.cache_tool.specs.ByVerb.{IsStatusOf, IsWhole, Performs, PrintsBy, ReadsSource, WentOn};
+ghost use Rattle.cache_tool.specs.ByVerb.{IsStatusOf, IsWhole, Performs, PrintsBy, ReadsSource};
 ghost use Rattle.cache_tool.specs.MarkLeft.{LeavesMarkOf};
+ghost use Rattle.cache_tool.specs.RunAccount.{AccountsForRun};
 ghost use Rattle.cache_tool.specs.Statuses.{IsAnswer, IsClosing};
 ghost use Rattle.cache_tool.specs.Verbs.{LooksAtNone};
 ghost use Rattle.cache_tool.specs.Words.{WhenOne, asked_in};
 ghost use Rattle.cache_tool.specs.World.{world};
 ghost use Rattle.context_clear.specs.Mark.{mark_of};
-ghost use Rattle.disk_model.specs.Calls.{StopsAtFault};
 ghost use Rattle.disk_model.specs.Sound.{IsQuiet};
 ghost use Rattle.disk_model.specs.State.{standing};
 ghost use Rattle.disk_model.specs.Told.{Told};
@@ -89,19 +89,10 @@ pub fn run<D: Disk, S: Source, K: Sink>(
     // Where the store was closed nothing is pending.
     ensures quiet { IsClosing result → IsTrue D.tells → IsQuiet (D.state disk.new) }
 
-    // A fault is answered only where its count rose, and for words other than `run` that of the disk before the
-    // others: where its count rose there is no other answer, unless memory ran out. In a `run` looks may fail and be
-    // answered by the line `fault`, but a change or a sync that fails is answered by the status. After it no call
-    // follows.
-    ensures source { result ≡ Status.Source → Rose (S.faults source.old) (S.faults source.new) }
-    ensures sink { result ≡ Status.Sink → Rose (K.faults sink.old) (K.faults sink.new) }
-    ensures disk { result ≡ Status.Disk → Rose (D.faults disk.old) (D.faults disk.new) }
-    ensures went_on { result ≢ Status.Disk → result ≢ Status.Memory →
-        WentOn (asked_in words.now) (D.faults disk.new ≡ D.faults disk.old)
-        (IsTrue D.tells → (D.counts disk.new).failed ≡ (D.counts disk.old).failed) }
-    ensures calm { IsAnswer result ⊎ (result ≡ Status.Script) →
-        (S.faults source.new ≡ S.faults source.old) × (K.faults sink.new ≡ K.faults sink.old) }
-    ensures stops { IsTrue D.tells → StopsAtFault (D.counts disk.old) (D.counts disk.new) }
+    // The faults of source, sink and disk are accounted for, and the syncs are bounded.
+    ensures account { let at = world S.Source K.Sink D.Disk in
+        AccountsForRun D.tells (asked_in words.now) result
+        (at source.old sink.old disk.old) (at source.new sink.new disk.new) }
 
     // Where nothing fails, and a script or a dump is one, there is no other answer, unless memory ran out.
     ensures complete { IsSome (asked_in words.now)

@@ -1,5 +1,7 @@
 //! The verb `put`: an entry is made of its key and of the bytes of the source.
 
+ghost use Rattle.cache_tool.specs.Syncs.{run_syncs};
+ghost use Rattle.cache_store.specs.Syncs.{most_syncs};
 ghost use Rattle.std.specs.Prelude.{◌≡◌, ◌≢◌, ◌≤◌, ◌<◌, ◌+◌, ◌⊎◌, [], length, false, true, Err, Ok, Some, IfOk, IsTrue, vec_len};
 ghost use Rattle.std.specs.Io.KnownBytes.{IsAtEnd};
 ghost use Rattle.cache_base.specs.Causes.{Rose};
@@ -20,7 +22,7 @@ ghost use Rattle.cache_tool.specs.PutProgress.{AppendsBody, AppendsPiece, HasNoF
 ghost use Rattle.cache_tool.specs.Statuses.{IsAnswer, IsClosing};
 ghost use Rattle.cache_tool.specs.Verbs.{StoresEntry};
 ghost use Rattle.cache_tool.specs.World.{supply, world};
-ghost use Rattle.disk_model.specs.Account.{Accounts, Ending, FailsInChange, Looks};
+ghost use Rattle.disk_model.specs.Account.{Accounts, Ending, FailsInChange, Looks, no_sync, SyncsAtMost, one_sync};
 ghost use Rattle.disk_model.specs.Calls.{StopsAtFault};
 ghost use Rattle.disk_model.specs.Sound.{IsQuiet};
 ghost use Rattle.disk_model.specs.Told.{Told};
@@ -60,7 +62,7 @@ pub(crate) fn send<D: Disk>(
     ensures open { IsTrue D.tells → LeavesOpen result (session D.Disk store.new disk.new) }
     ensures honest { IsTrue D.tells → LeavesHonest (D.state disk.new) }
     ensures no_sink { result ≢ Err StoreFault.Sink }
-    ensures account { Accounts D.Disk (ending result) disk.old disk.new }
+    ensures account { Accounts D.Disk (ending result) (most_syncs (command_of c.now)) disk.old disk.new }
     ensures faulted { is_faulting store.new ≡ true → result ≡ Err StoreFault.Disk }
     ensures looked { is_faulting store.new ≡ true →
         Looks D.Disk Ending.OneFailed disk.old disk.new }
@@ -95,7 +97,7 @@ fn append_piece<D: Disk>(
     ensures open { IsTrue D.tells → LeavesOpen result (session D.Disk store.new disk.new) }
     ensures honest { IsTrue D.tells → LeavesHonest (D.state disk.new) }
     ensures no_sink { result ≢ Err StoreFault.Sink }
-    ensures account { Accounts D.Disk (ending result) disk.old disk.new }
+    ensures account { Accounts D.Disk (ending result) no_sync disk.old disk.new }
     ensures bare { is_faulting store.old ≡ false → is_faulting store.new ≡ false }
     ensures change { is_faulting store.old ≡ false →
         FailsInChange D.Disk (ending result) disk.new }
@@ -145,7 +147,7 @@ fn append_all<D: Disk, S: Source>(
     ensures open { IsTrue D.tells → LeavesOpen result (session D.Disk store.new disk.new) }
     ensures honest { IsTrue D.tells → LeavesHonest (D.state disk.new) }
     ensures no_sink { result ≢ Err StoreFault.Sink }
-    ensures account { Accounts D.Disk (ending result) disk.old disk.new }
+    ensures account { Accounts D.Disk (ending result) no_sync disk.old disk.new }
     ensures bare { is_faulting store.old ≡ false → is_faulting store.new ≡ false }
     ensures change { is_faulting store.old ≡ false →
         FailsInChange D.Disk (ending result) disk.new }
@@ -192,7 +194,7 @@ fn perform_put<D: Disk, S: Source>(
     ensures open { IsTrue D.tells → LeavesOpen result (session D.Disk store.new disk.new) }
     ensures honest { IsTrue D.tells → LeavesHonest (D.state disk.new) }
     ensures no_sink { result ≢ Err StoreFault.Sink }
-    ensures account { Accounts D.Disk (ending result) disk.old disk.new }
+    ensures account { Accounts D.Disk (ending result) one_sync disk.old disk.new }
     // A look at the disk fails in the first command alone.
     ensures faulted { is_faulting store.new ≡ true → result ≡ Err StoreFault.Disk }
     ensures looked { result ≡ Err StoreFault.Disk → is_faulting store.new ≡ true →
@@ -244,6 +246,7 @@ pub(crate) fn put<D: Disk, S: Source, K: Sink>(
     ensures quiet { IsClosing result → IsTrue D.tells → IsQuiet (D.state disk.new) }
     ensures mark { Told D.Disk (LeavesMark []) disk.old disk.new }
     ensures stops { IsTrue D.tells → StopsAtFault (D.counts disk.old) (D.counts disk.new) }
+    ensures syncs { SyncsAtMost D.Disk (run_syncs one_sync) disk.old disk.new }
     ensures source { result ≡ Status.Source → Rose (S.faults source.old) (S.faults source.new) }
     ensures sink { result ≡ Status.Sink → Rose (K.faults sink.old) (K.faults sink.new) }
     ensures calm { IsAnswer result →

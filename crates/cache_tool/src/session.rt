@@ -1,5 +1,6 @@
 //! How a session begins and ends, and how its answer is printed.
 
+ghost use Rattle.cache_tool.specs.Syncs.{ending_syncs, opening_syncs};
 ghost use Rattle.std.specs.Prelude.{◌≡◌, ◌≢◌, ◌⊎◌, ◌≤◌, Err, IfOk, IsTrue, OnErr, false};
 ghost use Rattle.std.specs.Io.KnownBytes.{Appends};
 ghost use Rattle.cache_base.specs.Causes.{HasCause, Rose};
@@ -14,7 +15,7 @@ ghost use Rattle.cache_tool.specs.Beginning.{BeginsRun, FailsToBegin, ReadsNoEnt
 ghost use Rattle.cache_tool.specs.Ending.{EndsSession};
 ghost use Rattle.cache_tool.specs.Statuses.{IsAnswer, IsClosing, IsSaid, status_in, status_of as status_of_outcome};
 ghost use Rattle.context_clear.specs.Mark.{mark_of};
-ghost use Rattle.disk_model.specs.Account.{Accounts, LooksAtNoEntry};
+ghost use Rattle.disk_model.specs.Account.{Accounts, LooksAtNoEntry, SyncsAtMost};
 ghost use Rattle.disk_model.specs.Calls.{LastFails, StopsAtFault};
 ghost use Rattle.disk_model.specs.Sound.{IsQuiet};
 ghost use Rattle.disk_model.specs.State.{standing};
@@ -43,7 +44,7 @@ pub(crate) fn begin<D: Disk>(alloc: Global, now: Moment, disk: &mut D) -> Result
         ReadsEntriesOf D.Disk 0 disk.old disk.new }
     ensures calm { IfOk result (λ store. is_faulting store ≡ false) }
     ensures no_sink { result ≢ Err StoreFault.Sink }
-    ensures account { Accounts D.Disk (ending result) disk.old disk.new }
+    ensures account { Accounts D.Disk (ending result) opening_syncs disk.old disk.new }
 {
     let mut store = Store::open(alloc, disk, now)?;
     let mut reply = LastReply::new(alloc);
@@ -88,6 +89,7 @@ pub(crate) fn end<D: Disk>(store: Store, came: Result<Status, StoreFault>, disk:
         IsTrue D.tells → (D.counts disk.new).failed ≡ (D.counts disk.old).failed }
     ensures later { D.faults disk.old ≤ D.faults disk.new }
     ensures stops { IsTrue D.tells → StopsAtFault (D.counts disk.old) (D.counts disk.new) }
+    ensures syncs { SyncsAtMost D.Disk ending_syncs disk.old disk.new }
     ensures cause { IsClosing (status_in came) →
         HasCause (result ≡ Status.Disk) (D.faults disk.old) (D.faults disk.new) }
     ensures last { IsClosing (status_in came) → result ≡ Status.Disk → IsTrue D.tells →
@@ -134,6 +136,7 @@ pub(crate) fn end_faulted<D: Disk, K: Sink>(mut store: Store, sink: &mut K, disk
     ensures no_entry { LooksAtNoEntry D.Disk disk.old disk.new }
     ensures later { D.faults disk.old ≤ D.faults disk.new }
     ensures stops { IsTrue D.tells → StopsAtFault (D.counts disk.old) (D.counts disk.new) }
+    ensures syncs { SyncsAtMost D.Disk ending_syncs disk.old disk.new }
 {
     let came = after_line(store.say_fault(sink));
     match end(store, came, disk) {

@@ -1,5 +1,5 @@
 -- How an answer is tied to what a disk counts.
-use Rattle.std.specs.Prelude.{Err, IsTrue, Ok, Result, ◌≡◌}
+use Rattle.std.specs.Prelude.{Err, IsTrue, Ok, Result, ℕ, ◌+◌, ◌≡◌, ◌≤◌}
 use Rattle.cache_base.specs.Causes.{HasCause}
 use Rattle.disk_model.specs.Calls.{LastCallFails, LastFails, LastLookFails, StopsAtFault}
 use Rattle.disk_model.specs.declared.disk.Disk.{Ghosts}
@@ -22,8 +22,19 @@ abbrev pub ending : {T : Type 0} → Result T DiskFault → Ending
 ending (Ok value) = Ending.NoneFailed
 ending (Err fault) = fault_ending fault
 
--- the faults of the disk are accounted for by the answer
-pub record Accounts {Self : _} (D : Ghosts Self) (answer : Ending) (before now : Self)
+-- how many syncs a call makes at the most
+abbrev pub no_sync : ℕ
+no_sync = 0
+
+abbrev pub one_sync : ℕ
+one_sync = 1
+
+-- so many syncs were made at the most, those that failed too
+abbrev pub SyncsAtMost : {Self : _} → Ghosts Self → ℕ → Self → Self → Type 0
+SyncsAtMost D most before now = IsTrue D.tells → (D.counts now).syncs ≤ (D.counts before).syncs + most
+
+-- the faults of the disk are accounted for by the answer, and so many syncs were made at the most
+pub record Accounts {Self : _} (D : Ghosts Self) (answer : Ending) (most : ℕ) (before now : Self)
     : Type 0 where
   -- a fault is answered only where the count of faults rose, and otherwise the count is the same
   pub cause : HasCause (answer ≡ Ending.OneFailed) (D.faults before) (D.faults now)
@@ -34,23 +45,27 @@ pub record Accounts {Self : _} (D : Ghosts Self) (answer : Ending) (before now :
   pub stops : IsTrue D.tells → StopsAtFault (D.counts before) (D.counts now)
   -- nor does one after the call that the answer tells of, whatever it was
   pub last : answer ≡ Ending.OneFailed → IsTrue D.tells → LastCallFails (D.counts now)
+  pub syncs : SyncsAtMost D most before now
 
--- the call only looked: the disk holds the same, no change and no sync failed, and the faults are accounted for
+-- the call only looked: the disk holds the same, nothing was synced, no change and no sync failed, and the faults are
+-- accounted for
 pub record Looks {Self : _} (D : Ghosts Self) (answer : Ending) (before now : Self) : Type 0 where
   pub cause : HasCause (answer ≡ Ending.OneFailed) (D.faults before) (D.faults now)
   pub state : IsTrue D.tells → D.state now ≡ D.state before
   pub no_change : IsTrue D.tells → (D.counts now).failed ≡ (D.counts before).failed
   -- where a look failed no call follows
   pub last : answer ≡ Ending.OneFailed → IsTrue D.tells → LastLookFails (D.counts now)
+  pub unsynced : IsTrue D.tells → (D.counts now).syncs ≡ (D.counts before).syncs
 
 -- where the disk failed, its last call was a change or a sync that failed
 abbrev pub FailsInChange : {Self : _} → Ghosts Self → Ending → Self → Type 0
 FailsInChange D answer now = answer ≡ Ending.OneFailed → IsTrue D.tells → LastFails (D.counts now)
 
--- no call failed in between, as at each turn of a loop
-pub record IsCalm {Self : _} (D : Ghosts Self) (before now : Self) : Type 0 where
+-- no call failed in between, as at each turn of a loop, and so many syncs were made at the most
+pub record IsCalm {Self : _} (D : Ghosts Self) (most : ℕ) (before now : Self) : Type 0 where
   pub faults : D.faults now ≡ D.faults before
   pub no_change : IsTrue D.tells → (D.counts now).failed ≡ (D.counts before).failed
+  pub syncs : SyncsAtMost D most before now
 
 -- no entry was looked at
 abbrev pub LooksAtNoEntry : {Self : _} → Ghosts Self → Self → Self → Type 0

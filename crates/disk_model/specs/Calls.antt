@@ -32,6 +32,8 @@ pub record Counts : Type 0 where
   pub failed_look : ℕ
   -- the calls so far that look at an entry's place without changing it
   pub entry_reads : ℕ
+  -- the syncs so far, those that failed too
+  pub syncs : ℕ
 
 -- the counts after one call more
 abbrev pub counted : Counts → Counts
@@ -39,7 +41,7 @@ counted c = record c { calls = one_more c.calls }
 
 -- no call was made, and none failed
 abbrev pub no_counts : Counts
-no_counts = record { calls = 0; failed = record { change = 0; sync = 0 }; failed_look = 0; entry_reads = 0 }
+no_counts = record { calls = 0; failed = record { change = 0; sync = 0 }; failed_look = 0; entry_reads = 0; syncs = 0 }
 
 -- the number of the last look that failed, after one more with this answer and number
 abbrev pub last_look : {T : Type 0} → Result T DiskFault → ℕ → ℕ → ℕ
@@ -57,8 +59,9 @@ counted_change _ c = counted c
 
 -- after a sync with this answer
 abbrev pub counted_sync : {T : Type 0} → Result T DiskFault → Counts → Counts
-counted_sync (Err Failed) c = record c { calls = one_more c.calls; failed = record (c.failed) { sync = one_more c.calls } }
-counted_sync _ c = counted c
+counted_sync (Err Failed) c =
+    record c { calls = one_more c.calls; failed = record (c.failed) { sync = one_more c.calls }; syncs = one_more c.syncs }
+counted_sync _ c = record c { calls = one_more c.calls; syncs = one_more c.syncs }
 
 -- after a look at a place
 abbrev pub counted_read : {T : Type 0} → Result T DiskFault → Place → Counts → Counts

@@ -28,6 +28,7 @@ pub struct MemDisk {
     // The number of the last look that failed, or 0.
     failed_look: u64,
     entry_reads: u64,
+    syncs: u64,
     faults: u64,
 }
 
@@ -162,6 +163,7 @@ impl MemDisk {
             failed_sync: 0,
             failed_look: 0,
             entry_reads: 0,
+            syncs: 0,
             faults: 0,
         }
     }
@@ -223,6 +225,7 @@ impl MemDisk {
         ensures failed_sync { self.new.failed_sync ≡ self.old.failed_sync }
         ensures failed_look { self.new.failed_look ≡ self.old.failed_look }
         ensures entry_reads { self.new.entry_reads ≡ self.old.entry_reads }
+        ensures syncs { self.new.syncs ≡ self.old.syncs }
         ensures cause { HasCause (IsErrOf result DiskFault.Failed) self.old.faults self.new.faults }
     {
         if fails {
@@ -241,6 +244,7 @@ impl MemDisk {
         ensures failed_sync { self.new.failed_sync ≡ self.old.calls }
         ensures failed_look { self.new.failed_look ≡ self.old.failed_look }
         ensures entry_reads { self.new.entry_reads ≡ self.old.entry_reads }
+        ensures syncs { self.new.syncs ≡ self.old.syncs }
         ensures later { self.old.faults ≤ self.new.faults }
         ensures rose { Rose self.old.faults self.new.faults }
     {

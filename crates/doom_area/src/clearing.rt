@@ -1,7 +1,7 @@
 //! The folder of doomed files is cleared, as when the cache is opened and no entry is in use.
 
 ghost use Rattle.std.specs.Prelude.{OnOk, IsTrue};
-ghost use Rattle.disk_model.specs.Account.{Accounts, LooksAtNoEntry, ending};
+ghost use Rattle.disk_model.specs.Account.{Accounts, LooksAtNoEntry, ending, no_sync};
 ghost use Rattle.disk_model.specs.Listing.{AreDoomed, AreRisingNumbers};
 ghost use Rattle.disk_model.specs.Told.{Told};
 ghost use Rattle.doom_area.specs.DoomArea.{RemovesDoomed, IsCleared};
@@ -16,7 +16,7 @@ fn remove_each<D: Disk>(disk: &mut D, numbers: &[u32]) -> Result<(), DiskFault>
     requires told { IsTrue D.tells → AreDoomed (D.state disk.old) numbers.now }
     ensures removes { Told D.Disk RemovesDoomed disk.old disk.new }
     ensures cleared { OnOk result (Told D.Disk IsCleared disk.old disk.new) }
-    ensures account { Accounts D.Disk (ending result) disk.old disk.new }
+    ensures account { Accounts D.Disk (ending result) no_sync disk.old disk.new }
     ensures no_entry { LooksAtNoEntry D.Disk disk.old disk.new }
 {
     for number in numbers {
@@ -31,7 +31,7 @@ pub fn clear<D: Disk>(alloc: Global, disk: &mut D) -> Result<(), DiskFault>
     // Nothing but doomed files was removed, and after an Ok none stands.
     ensures removes { Told D.Disk RemovesDoomed disk.old disk.new }
     ensures cleared { OnOk result (Told D.Disk IsCleared disk.old disk.new) }
-    ensures account { Accounts D.Disk (ending result) disk.old disk.new }
+    ensures account { Accounts D.Disk (ending result) no_sync disk.old disk.new }
     ensures no_entry { LooksAtNoEntry D.Disk disk.old disk.new }
 {
     let mut numbers = Numbers::new(alloc);

@@ -16,19 +16,19 @@ looks_then n more all before mid now enough one two =
     let d = two.calls in
     let e = one.entry_reads in
     let f = two.entry_reads in
-    record { calls = omega (arith, enough, c, d); entry_reads = omega (arith, enough, e, f); no_change = two.no_change ∙ one.no_change }
+    record { calls = omega (arith, enough, c, d); entry_reads = omega (arith, enough, e, f); no_change = two.no_change ∙ one.no_change; unsynced = two.unsynced ∙ one.unsynced }
 
 -- one look at a place
 pub one_look : {T : Type 0} (answer : Result T DiskFault) (place : Place) (before now : Counts) → now ≡ counted_read answer place before → LooksAtMost 1 before now
 one_look answer place before now is = subst (λ (c : Counts). LooksAtMost 1 before c) (sym is) (go place)
   where
     go : (p : Place) → LooksAtMost 1 before (counted_read answer p before)
-    go (Entry name) = record { calls = omega arith; entry_reads = omega arith; no_change = refl }
-    go (Doomed n) = record { calls = omega arith; entry_reads = omega arith; no_change = refl }
-    go Index = record { calls = omega arith; entry_reads = omega arith; no_change = refl }
-    go Log = record { calls = omega arith; entry_reads = omega arith; no_change = refl }
-    go Tmp = record { calls = omega arith; entry_reads = omega arith; no_change = refl }
-    go Clear = record { calls = omega arith; entry_reads = omega arith; no_change = refl }
+    go (Entry name) = record { calls = omega arith; entry_reads = omega arith; no_change = refl; unsynced = refl }
+    go (Doomed n) = record { calls = omega arith; entry_reads = omega arith; no_change = refl; unsynced = refl }
+    go Index = record { calls = omega arith; entry_reads = omega arith; no_change = refl; unsynced = refl }
+    go Log = record { calls = omega arith; entry_reads = omega arith; no_change = refl; unsynced = refl }
+    go Tmp = record { calls = omega arith; entry_reads = omega arith; no_change = refl; unsynced = refl }
+    go Clear = record { calls = omega arith; entry_reads = omega arith; no_change = refl; unsynced = refl }
 
 -- after a call that only looked and did not fail, another one
 pub looks_on : {Self : _} (D : Ghosts Self) (e : Ending) (a b c : Self) → Looks D Ending.NoneFailed a b → Looks D e b c → Looks D e a c
@@ -37,6 +37,7 @@ looks_on D e a b c first more = record {
   state = λ told. more.state told ∙ first.state told;
   no_change = λ told. more.no_change told ∙ first.no_change told;
   last = more.last;
+  unsynced = λ told. more.unsynced told ∙ first.unsynced told;
 }
 
 -- and one whose fault is handed on

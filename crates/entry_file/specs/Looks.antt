@@ -6,8 +6,9 @@ use Rattle.disk_model.specs.Calls.{Counts}
 abbrev pub meta_looks : ℕ
 meta_looks = 4
 
--- at most n calls were made, and no change failed
+-- at most n calls were made, none of them a sync, and no change failed
 pub record LooksAtMost (n : ℕ) (before now : Counts) : Type 0 where
   pub calls : now.calls ≤ before.calls + n
   pub entry_reads : now.entry_reads ≤ before.entry_reads + n
   pub no_change : now.failed ≡ before.failed
+  pub unsynced : now.syncs ≡ before.syncs

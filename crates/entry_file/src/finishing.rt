@@ -5,7 +5,7 @@ ghost use Rattle.cache_base.specs.Bytes.{AreBytes, be32};
 ghost use Rattle.cache_base.specs.Limits.{chunks};
 ghost use Rattle.cache_base.specs.declared.limits.TheConstants.{BLOCK_MAX, BODY_MAX, CHUNK};
 ghost use Rattle.chunk_store.specs.Stored.{unfinished_file};
-ghost use Rattle.disk_model.specs.Account.{Accounts, FailsInChange, ending};
+ghost use Rattle.disk_model.specs.Account.{Accounts, FailsInChange, ending, no_sync};
 ghost use Rattle.disk_model.specs.State.{standing, wrote};
 ghost use Rattle.disk_model.specs.Writes.{WritesAt};
 ghost use Rattle.disk_model.specs.Calls.{counted, if_done};
@@ -118,7 +118,7 @@ impl NewEntry {
             ≡ Some (file_of (finished header key elements body))) }
         ensures calls { OnOk result (IsTrue D.tells →
             D.counts disk.new ≡ counted (D.counts disk.old)) }
-        ensures account { Accounts D.Disk (ending result) disk.old disk.new }
+        ensures account { Accounts D.Disk (ending result) no_sync disk.old disk.new }
         ensures change { FailsInChange D.Disk (ending result) disk.new }
     {
         self.makes_version(header, &key, &elements);

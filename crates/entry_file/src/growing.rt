@@ -4,7 +4,7 @@ ghost use Rattle.std.specs.Prelude.{◌≡◌, ◌≤◌, ◌<◌, ◌+◌, ◌*
 ghost use Rattle.cache_base.specs.Limits.{chunk_size};
 ghost use Rattle.cache_base.specs.declared.limits.TheConstants.{BODY_MAX, BUFFER_MAX, CHUNK};
 ghost use Rattle.chunk_store.specs.Stored.{chunk_write, unfinished_file};
-ghost use Rattle.disk_model.specs.Account.{Accounts, FailsInChange, ending};
+ghost use Rattle.disk_model.specs.Account.{Accounts, FailsInChange, ending, no_sync};
 ghost use Rattle.disk_model.specs.State.{standing, wrote};
 ghost use Rattle.disk_model.specs.Writes.{WritesAt};
 ghost use Rattle.disk_model.specs.Calls.{MayWriteAt, if_done};
@@ -36,7 +36,7 @@ fn put_full<D: Disk>(
         (wrote place.now (chunk_write (length hashes.old) chunk.old) (D.state disk.old))
         (D.state disk.old) }
     ensures calls { IsTrue D.tells → (D.counts disk.new).calls ≤ (D.counts disk.old).calls + 1 }
-    ensures account { Accounts D.Disk (ending result) disk.old disk.new }
+    ensures account { Accounts D.Disk (ending result) no_sync disk.old disk.new }
     ensures change { FailsInChange D.Disk (ending result) disk.new }
 {
     let index = hashes.as_slice().len() as u32;
@@ -63,7 +63,7 @@ impl NewEntry {
         ensures writes { IsTrue D.tells →
             WritesAt place.now IsUnfinished (D.state disk.old) (D.state disk.new) }
         ensures calls { IsTrue D.tells → (D.counts disk.new).calls ≤ (D.counts disk.old).calls + 1 }
-        ensures account { Accounts D.Disk (ending result) disk.old disk.new }
+        ensures account { Accounts D.Disk (ending result) no_sync disk.old disk.new }
         ensures change { FailsInChange D.Disk (ending result) disk.new }
     {
         self.rest.extend(b);
@@ -99,7 +99,7 @@ impl NewEntry {
             WritesAt place.now IsUnfinished (D.state disk.old) (D.state disk.new) }
         ensures calls { IsTrue D.tells → (D.counts disk.new).calls ≤ (D.counts disk.old).calls
             + (length (held self.old).rest + length b.now) / chunk_size }
-        ensures account { Accounts D.Disk (ending result) disk.old disk.new }
+        ensures account { Accounts D.Disk (ending result) no_sync disk.old disk.new }
         ensures change { FailsInChange D.Disk (ending result) disk.new }
     {
         let mut left = b;

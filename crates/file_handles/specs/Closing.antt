@@ -10,13 +10,15 @@ use Rattle.cache_theory.specs.Machine.{Machine, is_writer, object_of}
 use Rattle.cache_theory.specs.Step.{finished_by, released}
 use Rattle.cache_theory.specs.Table.{get}
 use Rattle.chunk_cache.specs.Cached.{CachedChunk, without_entry}
+use Rattle.disk_model.specs.Account.{no_sync}
 use Rattle.disk_model.specs.Image.{Files}
 use Rattle.disk_model.specs.State.{State, removed, standing}
 use Rattle.disk_model.specs.declared.disk.DiskFault.{DiskFault}
 use Rattle.disk_model.specs.declared.place.Place.TheVariants.{Doomed}
 use Rattle.file_handles.specs.Cache.{Cache}
 use Rattle.file_handles.specs.Held.{is_draft, object_place}
-use Rattle.file_handles.specs.Kept.{Kept, number_at, object_at, use_at, with_use}
+use Rattle.file_handles.specs.Finishing.{finish_syncs}
+use Rattle.file_handles.specs.Kept.{Kept, number_at, object_at, object_in, use_at, with_use}
 use Rattle.file_handles.specs.Seats.{is_use_of}
 use Rattle.file_handles.specs.Stands.{KeepsTo, KeepsWhere, ReachesHistory, Represents}
 use Rattle.file_handles.specs.declared.fault.HandleFault.{HandleFault}
@@ -35,6 +37,10 @@ is_some_draft (Some x) = is_draft x.entry
 abbrev pub writes_draft : Kept → ℕ → Bool
 writes_draft k slot = unwrap_or
     (option_map (λ u. u.writes && is_some_draft (object_at k u.place)) (use_at k slot)) false
+
+-- the most syncs that closing the slot takes: those of finishing what it writes, if that is not finished
+abbrev pub close_syncs : Kept → ℕ → ℕ
+close_syncs k slot = if writes_draft k slot then finish_syncs (object_in k slot) else no_sync
 
 -- the disk without the file that stands aside, if it does
 abbrev pub without_doomed : Option ℕ → State → State

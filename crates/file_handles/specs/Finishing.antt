@@ -7,6 +7,7 @@ use Rattle.cache_theory.specs.Machine.{Object as MachineObject}
 use Rattle.cache_theory.specs.Step.{finished_as}
 use Rattle.cache_theory.specs.declared.refusal.Refusal.{Refusal}
 use Rattle.cache_theory.specs.declared.refusal.Refusal.TheVariants as refused
+use Rattle.disk_model.specs.Account.{no_sync, one_sync}
 use Rattle.entry_parts.specs.Elements.{AreElements, elements_bytes}
 use Rattle.entry_parts.specs.Header.{IsHeader}
 use Rattle.file_handles.specs.Changes.{completed}
@@ -46,6 +47,11 @@ finish_fault x given = if is_draft x then size_fault x given else Some refused.F
 -- the most calls of the disk that finishing an object takes: one write, and a sync and a renaming unless it is doomed
 abbrev pub finish_calls : Object → ℕ
 finish_calls x = if x.doomed then 1 else 3
+
+-- the most syncs that finishing what stands in a place takes: one, and none where it is doomed
+abbrev pub finish_syncs : Option Object → ℕ
+finish_syncs None = no_sync
+finish_syncs (Some x) = if x.doomed then no_sync else one_sync
 
 -- the numbers and the bytes of the parts are such
 pub record AreParts (parts : Parts) : Type 0 where

@@ -4,7 +4,7 @@ ghost use Rattle.std.specs.Prelude.{◌≡◌, ◌<◌, ◌&&◌, IfOk, IsSome, 
 ghost use Rattle.std.specs.List.{list_any};
 ghost use Rattle.cache_base.specs.declared.limits.TheConstants.{SLOTS};
 ghost use Rattle.cache_theory.specs.Command.Command.{Close};
-ghost use Rattle.disk_model.specs.Account.{Accounts, FailsInChange, LooksAtNoEntry, ending as disk_ending};
+ghost use Rattle.disk_model.specs.Account.{Accounts, FailsInChange, LooksAtNoEntry, ending as disk_ending, no_sync};
 ghost use Rattle.disk_model.specs.Calls.{if_done};
 ghost use Rattle.disk_model.specs.State.{standing};
 ghost use Rattle.disk_model.specs.Told.{Told};
@@ -50,7 +50,7 @@ fn let_go<D: Disk>(disk: &mut D, object: &Object) -> Result<(), DiskFault>
     ensures state { Told D.Disk (λ s t. t ≡ if_done result (let_go_by object.now s) s)
         disk.old disk.new }
     ensures calls { IsTrue D.tells → (D.counts disk.new).calls ≤ (D.counts disk.old).calls + 1 }
-    ensures account { Accounts D.Disk (disk_ending result) disk.old disk.new }
+    ensures account { Accounts D.Disk (disk_ending result) no_sync disk.old disk.new }
     ensures no_entry { LooksAtNoEntry D.Disk disk.old disk.new }
     ensures change { FailsInChange D.Disk (disk_ending result) disk.new }
 {
@@ -63,7 +63,7 @@ fn let_go<D: Disk>(disk: &mut D, object: &Object) -> Result<(), DiskFault>
 impl Handles {
     ghost use Rattle.file_handles.specs.Cache.{cache};
     ghost use Rattle.file_handles.specs.Carries.{CarriesOut};
-    ghost use Rattle.file_handles.specs.Closing.{ClosesAll, ClosesChunks, FinishesFirst, GivesUp, MayGiveUp, chunks_left, writes_draft};
+    ghost use Rattle.file_handles.specs.Closing.{ClosesAll, ClosesChunks, FinishesFirst, GivesUp, MayGiveUp, chunks_left, close_syncs, writes_draft};
     ghost use Rattle.file_handles.specs.HeldChunks.{SameChunks};
     ghost use Rattle.file_handles.specs.Kept.{kept, number_at, object_at as object_kept_at, object_in, use_at};
     ghost use Rattle.file_handles.specs.Refuses.{TellsNoSlot};
@@ -107,7 +107,8 @@ impl Handles {
             IfSome (object_kept_at (kept self.old) used.place) (λ x. (D.counts disk.new).calls
             ≤ (D.counts disk.old).calls + finish_calls x)) }
         ensures index { Told D.Disk LeavesBeside disk.old disk.new }
-        ensures account { Accounts D.Disk (ending result) disk.old disk.new }
+        ensures account { let most = close_syncs (kept self.old) slot in
+            Accounts D.Disk (ending result) most disk.old disk.new }
         ensures change { FailsInChange D.Disk (ending result) disk.new }
     {
         if self.is_finished_by(used) {
@@ -132,7 +133,7 @@ impl Handles {
         ensures index { Told D.Disk LeavesBeside disk.old disk.new }
         ensures calls { IsTrue D.tells →
             (D.counts disk.new).calls ≤ (D.counts disk.old).calls + 1 }
-        ensures account { Accounts D.Disk (disk_ending result) disk.old disk.new }
+        ensures account { Accounts D.Disk (disk_ending result) no_sync disk.old disk.new }
         ensures change { FailsInChange D.Disk (disk_ending result) disk.new }
     {
         // Each object has a slot that uses it: so it goes with its last one.
@@ -174,7 +175,8 @@ impl Handles {
         ensures calls { OnOk result (IsTrue D.tells →
             IfSome (object_in (kept self.old) slot) (λ x. (D.counts disk.new).calls
             ≤ (D.counts disk.old).calls + finish_calls x + 1)) }
-        ensures account { Accounts D.Disk (ending result) disk.old disk.new }
+        ensures account { let most = close_syncs (kept self.old) slot in
+            Accounts D.Disk (ending result) most disk.old disk.new }
         ensures change { FailsInChange D.Disk (ending result) disk.new }
     {
         let used = self.live_use(slot)?;
@@ -191,7 +193,7 @@ impl Handles {
             ClosesAll result (cache D.Disk self disk.old) (D.state disk.new) }
         ensures removes { Told D.Disk RemovesDoomed disk.old disk.new }
         ensures index { Told D.Disk LeavesBeside disk.old disk.new }
-        ensures account { Accounts D.Disk (disk_ending result) disk.old disk.new }
+        ensures account { Accounts D.Disk (disk_ending result) no_sync disk.old disk.new }
         ensures change { FailsInChange D.Disk (disk_ending result) disk.new }
         ensures no_entry { LooksAtNoEntry D.Disk disk.old disk.new }
     {

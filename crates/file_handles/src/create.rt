@@ -4,7 +4,7 @@ ghost use Rattle.std.specs.Prelude.{◌≡◌, ◌≢◌, ◌<◌, Err, false, t
 ghost use Rattle.cache_base.specs.declared.limits.TheConstants.{SLOTS};
 ghost use Rattle.cache_theory.specs.Command.Command.{Create};
 ghost use Rattle.cache_theory.specs.Step.{fresh};
-ghost use Rattle.disk_model.specs.Account.{Accounts, Ending, FailsInChange, Looks};
+ghost use Rattle.disk_model.specs.Account.{Accounts, Ending, FailsInChange, Looks, no_sync};
 ghost use Rattle.disk_model.specs.State.{standing};
 ghost use Rattle.disk_model.specs.Told.{Told};
 ghost use Rattle.disk_model.specs.declared.place.Place.TheVariants.{Doomed as DoomedAt, Entry as EntryAt};
@@ -51,7 +51,7 @@ fn drafted<D: Disk>(
     ensures state { Told D.Disk (MayHaveMade (DoomedAt aside) result) disk.old disk.new }
     ensures refused { OnRefused result (λ _. ⊥) }
     ensures no_read { result ≢ Err HandleFault.Read }
-    ensures account { Accounts D.Disk (ending result) disk.old disk.new }
+    ensures account { Accounts D.Disk (ending result) no_sync disk.old disk.new }
     ensures change { FailsInChange D.Disk (ending result) disk.new }
 {
     let bytes = Bytes::from_slice(alloc, key)?;
@@ -90,7 +90,7 @@ fn remove_file<D: Disk>(disk: &mut D, name: &Name) -> Result<(), HandleFault>
     ensures state { Told D.Disk (MayHaveRemoved (EntryAt name.now) result) disk.old disk.new }
     ensures refused { OnRefused result (λ _. ⊥) }
     ensures read { OnRead result (Looks D.Disk Ending.OneFailed disk.old disk.new) }
-    ensures account { Accounts D.Disk (ending result) disk.old disk.new }
+    ensures account { Accounts D.Disk (ending result) no_sync disk.old disk.new }
     ensures change { result ≡ Err HandleFault.Disk → FailsInChange D.Disk (ending result) disk.new }
 {
     if !is_there(disk, name)? {
@@ -124,7 +124,7 @@ impl Handles {
             FailsInChange D.Disk (ending result) disk.new }
         ensures unsynced { Told D.Disk SyncsNothing disk.old disk.new }
         ensures index { Told D.Disk LeavesBeside disk.old disk.new }
-        ensures account { Accounts D.Disk (ending result) disk.old disk.new }
+        ensures account { Accounts D.Disk (ending result) no_sync disk.old disk.new }
     {
         if self.doom_user(disk, name)? {
             return Ok(());
@@ -172,7 +172,7 @@ impl Handles {
             FailsInChange D.Disk (ending result) disk.new }
         ensures unsynced { Told D.Disk SyncsNothing disk.old disk.new }
         ensures index { Told D.Disk LeavesBeside disk.old disk.new }
-        ensures account { Accounts D.Disk (ending result) disk.old disk.new }
+        ensures account { Accounts D.Disk (ending result) no_sync disk.old disk.new }
     {
         if self.use_of(slot).is_ok() {
             return Err(HandleFault::Refused(Refusal::SlotTaken));

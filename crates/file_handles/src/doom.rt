@@ -4,7 +4,7 @@ ghost use Rattle.std.specs.Prelude.{◌≡◌, ◌≢◌, ◌<◌, ◌≤◌, �
 ghost use Rattle.cache_base.specs.declared.limits.TheConstants.{SLOTS};
 ghost use Rattle.cache_theory.specs.Command.Command.{Doom};
 ghost use Rattle.cache_theory.specs.Machine.{Machine};
-ghost use Rattle.disk_model.specs.Account.{Accounts, FailsInChange, Looks, LooksAtNoEntry, ending as disk_ending};
+ghost use Rattle.disk_model.specs.Account.{Accounts, FailsInChange, Looks, LooksAtNoEntry, ending as disk_ending, no_sync};
 ghost use Rattle.disk_model.specs.Told.{Told};
 ghost use Rattle.entry_name.specs.EntryName.{file_name};
 ghost use Rattle.file_handles.specs.Answers.{OnRead, OnRefused, done_or, ending};
@@ -69,7 +69,7 @@ fn set_aside<D: Disk>(
     ensures takes { Told D.Disk (TakesEntry name.now) disk.old disk.new }
     ensures low { IsLow aside → IfOk result (λ number. number < SLOTS) }
     ensures no_entry { LooksAtNoEntry D.Disk disk.old disk.new }
-    ensures account { Accounts D.Disk (disk_ending result) disk.old disk.new }
+    ensures account { Accounts D.Disk (disk_ending result) no_sync disk.old disk.new }
     ensures change { FailsInChange D.Disk (disk_ending result) disk.new }
 {
     match aside {
@@ -116,7 +116,7 @@ impl Handles {
         ensures unsynced { Told D.Disk SyncsNothing disk.old disk.new }
         ensures index { Told D.Disk LeavesBeside disk.old disk.new }
         ensures no_entry { LooksAtNoEntry D.Disk disk.old disk.new }
-        ensures account { Accounts D.Disk (ending result) disk.old disk.new }
+        ensures account { Accounts D.Disk (ending result) no_sync disk.old disk.new }
         ensures change { FailsInChange D.Disk (ending result) disk.new }
     {
         let (label, entry) = self.take_apart(place);
@@ -160,7 +160,7 @@ impl Handles {
         ensures unsynced { Told D.Disk SyncsNothing disk.old disk.new }
         ensures index { Told D.Disk LeavesBeside disk.old disk.new }
         ensures no_entry { LooksAtNoEntry D.Disk disk.old disk.new }
-        ensures account { Accounts D.Disk (ending result) disk.old disk.new }
+        ensures account { Accounts D.Disk (ending result) no_sync disk.old disk.new }
         ensures change { FailsInChange D.Disk (ending result) disk.new }
     {
         match self.user(name) {
@@ -201,7 +201,7 @@ impl Handles {
         ensures unsynced { Told D.Disk SyncsNothing disk.old disk.new }
         ensures index { Told D.Disk LeavesBeside disk.old disk.new }
         ensures no_entry { LooksAtNoEntry D.Disk disk.old disk.new }
-        ensures account { Accounts D.Disk (ending result) disk.old disk.new }
+        ensures account { Accounts D.Disk (ending result) no_sync disk.old disk.new }
         ensures change { FailsInChange D.Disk (ending result) disk.new }
     {
         if self.doom_user(disk, name)? {
@@ -269,7 +269,7 @@ impl Handles {
             FailsInChange D.Disk (ending result) disk.new }
         ensures unsynced { Told D.Disk SyncsNothing disk.old disk.new }
         ensures index { Told D.Disk LeavesBeside disk.old disk.new }
-        ensures account { Accounts D.Disk (ending result) disk.old disk.new }
+        ensures account { Accounts D.Disk (ending result) no_sync disk.old disk.new }
     {
         let name = self.may_doom(alloc, disk, key)?;
         self.doom_name(disk, &name)

@@ -6,7 +6,7 @@ ghost use Rattle.cache_base.specs.declared.limits.TheConstants.{BLOCK_MAX, ELEME
 ghost use Rattle.cache_theory.specs.Command.Command.{ElementOf, SetElement, UnsetElement};
 ghost use Rattle.cache_theory.specs.Command.Reply.{Refused};
 ghost use Rattle.cache_theory.specs.Step.{element_reply};
-ghost use Rattle.disk_model.specs.Account.{Accounts, FailsInChange};
+ghost use Rattle.disk_model.specs.Account.{Accounts, FailsInChange, no_sync};
 ghost use Rattle.disk_model.specs.Told.{Told};
 ghost use Rattle.entry_metadata.specs.Metadata.{block_length};
 ghost use Rattle.entry_parts.specs.Elements.{elements_bytes};
@@ -170,7 +170,7 @@ impl Handles {
         ensures index { Told D.Disk LeavesBeside disk.old disk.new }
         ensures calls { OnOk result (IsTrue D.tells →
             (D.counts disk.new).calls ≤ (D.counts disk.old).calls + 1) }
-        ensures account { Accounts D.Disk (ending result) disk.old disk.new }
+        ensures account { Accounts D.Disk (ending result) no_sync disk.old disk.new }
         ensures change { FailsInChange D.Disk (ending result) disk.new }
     {
         let place = self.may_set(slot, name, value)?;
@@ -203,7 +203,7 @@ impl Handles {
         ensures index { Told D.Disk LeavesBeside disk.old disk.new }
         ensures calls { OnOk result (IsTrue D.tells →
             (D.counts disk.new).calls ≤ (D.counts disk.old).calls + 1) }
-        ensures account { Accounts D.Disk (ending result) disk.old disk.new }
+        ensures account { Accounts D.Disk (ending result) no_sync disk.old disk.new }
         ensures change { FailsInChange D.Disk (ending result) disk.new }
     {
         let place = self.may_change(slot)?;

@@ -1,7 +1,7 @@
 //! Evicts an entry that is not in use.
 
 ghost use Rattle.std.specs.Prelude.{◌≡◌, IsSome, IsTrue};
-ghost use Rattle.disk_model.specs.Account.{Accounts, LooksAtNoEntry, ending as disk_ending};
+ghost use Rattle.disk_model.specs.Account.{Accounts, LooksAtNoEntry, ending as disk_ending, no_sync};
 ghost use Rattle.disk_model.specs.State.{standing};
 ghost use Rattle.disk_model.specs.Told.{Told};
 ghost use Rattle.disk_model.specs.declared.place.Place.TheVariants.{Entry as EntryAt};
@@ -32,7 +32,7 @@ impl Handles {
         ensures unsynced { Told D.Disk SyncsNothing disk.old disk.new }
         ensures index { Told D.Disk LeavesBeside disk.old disk.new }
         ensures no_entry { LooksAtNoEntry D.Disk disk.old disk.new }
-        ensures account { Accounts D.Disk (disk_ending result) disk.old disk.new }
+        ensures account { Accounts D.Disk (disk_ending result) no_sync disk.old disk.new }
         ensures change { FailsInRemoval D.Disk (disk_ending result) disk.new }
     {
         disk.remove(&Place::Entry(*name))

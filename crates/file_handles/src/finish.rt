@@ -4,7 +4,7 @@ ghost use Rattle.std.specs.Prelude.{◌≡◌, ◌≢◌, ◌<◌, ◌≤◌, Er
 ghost use Rattle.cache_base.specs.Bytes.{AreBytes};
 ghost use Rattle.cache_base.specs.declared.limits.TheConstants.{KEY_MAX, SLOTS};
 ghost use Rattle.cache_theory.specs.Command.Command.{Finish, FinishAs};
-ghost use Rattle.disk_model.specs.Account.{Accounts, FailsInChange, ending as disk_ending};
+ghost use Rattle.disk_model.specs.Account.{Accounts, FailsInChange, ending as disk_ending, no_sync, one_sync};
 ghost use Rattle.disk_model.specs.State.{standing};
 ghost use Rattle.disk_model.specs.Told.{Told};
 ghost use Rattle.entry_metadata.specs.Meta.{meta_of};
@@ -12,7 +12,7 @@ ghost use Rattle.entry_parts.specs.Elements.{AreElements, elements_bytes};
 ghost use Rattle.entry_parts.specs.Header.{IsHeader};
 ghost use Rattle.file_handles.specs.Answers.{OnRefused, done_or, ending};
 ghost use Rattle.file_handles.specs.Effects.{HasEffect, IsLearntOf, IsPlainEffect, file_len as file_len_of, learnt_of_held};
-ghost use Rattle.file_handles.specs.Finishing.{AreParts, completed_by, finish_calls, finish_command, finish_fault as finish_fault_of, parts_by as parts_by_of};
+ghost use Rattle.file_handles.specs.Finishing.{AreParts, completed_by, finish_calls, finish_command, finish_fault as finish_fault_of, finish_syncs, parts_by as parts_by_of};
 ghost use Rattle.file_handles.specs.Held.{place_of};
 ghost use Rattle.file_handles.specs.Publishing.{MayPublish};
 ghost use Rattle.file_handles.specs.Seats.{IsLow};
@@ -63,7 +63,8 @@ fn publish<D: Disk>(
     ensures low { IsLow aside → IfOk result IsLow }
     ensures calls { IsTrue D.tells → (D.counts disk.new).calls
         ≤ (D.counts disk.old).calls + (if doomed then 0 else 2) }
-    ensures account { Accounts D.Disk (disk_ending result) disk.old disk.new }
+    ensures account { let most = if doomed then no_sync else one_sync in
+        Accounts D.Disk (disk_ending result) most disk.old disk.new }
     ensures change { FailsInChange D.Disk (disk_ending result) disk.new }
 {
     if doomed {
@@ -183,7 +184,8 @@ impl Handles {
         ensures calls { OnOk result (IsTrue D.tells →
             IfSome (object_kept_at (kept self.old) place) (λ x. (D.counts disk.new).calls
             ≤ (D.counts disk.old).calls + finish_calls x)) }
-        ensures account { Accounts D.Disk (ending result) disk.old disk.new }
+        ensures account { let most = finish_syncs (object_kept_at (kept self.old) place) in
+            Accounts D.Disk (ending result) most disk.old disk.new }
         ensures change { FailsInChange D.Disk (ending result) disk.new }
     {
         let (label, entry) = self.take_apart(place);
@@ -232,7 +234,8 @@ impl Handles {
         ensures calls { OnOk result (IsTrue D.tells →
             IfSome (object_in (kept self.old) slot) (λ x. (D.counts disk.new).calls
             ≤ (D.counts disk.old).calls + finish_calls x)) }
-        ensures account { Accounts D.Disk (ending result) disk.old disk.new }
+        ensures account { let most = finish_syncs (object_in (kept self.old) slot) in
+            Accounts D.Disk (ending result) most disk.old disk.new }
         ensures change { FailsInChange D.Disk (ending result) disk.new }
     {
         let place = self.may_finish(slot, &given)?;
@@ -261,7 +264,8 @@ impl Handles {
         ensures calls { OnOk result (IsTrue D.tells →
             IfSome (object_in (kept self.old) slot) (λ x. (D.counts disk.new).calls
             ≤ (D.counts disk.old).calls + finish_calls x)) }
-        ensures account { Accounts D.Disk (ending result) disk.old disk.new }
+        ensures account { let most = finish_syncs (object_in (kept self.old) slot) in
+            Accounts D.Disk (ending result) most disk.old disk.new }
         ensures change { FailsInChange D.Disk (ending result) disk.new }
     {
         self.finish_by(alloc, disk, slot, None)
@@ -292,7 +296,8 @@ impl Handles {
         ensures calls { OnOk result (IsTrue D.tells →
             IfSome (object_in (kept self.old) slot) (λ x. (D.counts disk.new).calls
             ≤ (D.counts disk.old).calls + finish_calls x)) }
-        ensures account { Accounts D.Disk (ending result) disk.old disk.new }
+        ensures account { let most = finish_syncs (object_in (kept self.old) slot) in
+            Accounts D.Disk (ending result) most disk.old disk.new }
         ensures change { FailsInChange D.Disk (ending result) disk.new }
     {
         parts_fit(header, &elements);

@@ -2,7 +2,7 @@
 
 ghost use Rattle.std.specs.Prelude.{◌≡◌, ◌≢◌, ◌<◌, Bool, Err, IfErr, IfOk, IsSomeAnd, IsTrue, OnOk, ◌≤◌, ◌+◌};
 ghost use Rattle.cache_base.specs.declared.limits.TheConstants.{SLOTS};
-ghost use Rattle.disk_model.specs.Account.{Accounts, FailsInChange};
+ghost use Rattle.disk_model.specs.Account.{Accounts, FailsInChange, no_sync};
 ghost use Rattle.disk_model.specs.Told.{Told};
 ghost use Rattle.file_handles.specs.Answers.{OnRefused, done_or, ending};
 ghost use Rattle.file_handles.specs.Effects.{HasEffect, IsPlainEffect};
@@ -63,7 +63,7 @@ impl Handles {
         ensures index { Told D.Disk LeavesBeside disk.old disk.new }
         ensures calls { OnOk result (IsTrue D.tells →
             (D.counts disk.new).calls ≤ (D.counts disk.old).calls + 1) }
-        ensures account { Accounts D.Disk (ending result) disk.old disk.new }
+        ensures account { Accounts D.Disk (ending result) no_sync disk.old disk.new }
         ensures change { FailsInChange D.Disk (ending result) disk.new }
     {
         let place = self.written_place(slot)?;

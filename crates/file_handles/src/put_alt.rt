@@ -7,7 +7,7 @@ ghost use Rattle.cache_base.specs.declared.limits.TheConstants.{BODY_MAX, ELEMEN
 ghost use Rattle.cache_theory.specs.Checks.{with_alt_data};
 ghost use Rattle.cache_theory.specs.Command.Command.{PutAlt};
 ghost use Rattle.chunk_store.specs.Prefixes.{HasChunks, HasChunksWith};
-ghost use Rattle.disk_model.specs.Account.{Accounts, FailsInChange, Looks};
+ghost use Rattle.disk_model.specs.Account.{Accounts, FailsInChange, Looks, no_sync};
 ghost use Rattle.disk_model.specs.Prefixes.{KeepsPrefix};
 ghost use Rattle.disk_model.specs.State.{standing};
 ghost use Rattle.disk_model.specs.Told.{Told};
@@ -266,7 +266,7 @@ impl Handles {
         ensures no_read { result ≢ Err HandleFault.Read }
         ensures calls { OnOk result (IsTrue D.tells →
             (D.counts disk.new).calls ≤ (D.counts disk.old).calls + 1) }
-        ensures account { Accounts D.Disk (ending result) disk.old disk.new }
+        ensures account { Accounts D.Disk (ending result) no_sync disk.old disk.new }
         ensures change { FailsInChange D.Disk (ending result) disk.new }
     {
         let (label, entry) = self.take_apart(place);
@@ -324,7 +324,7 @@ impl Handles {
             FailsInChange D.Disk (ending result) disk.new }
         ensures unsynced { Told D.Disk SyncsNothing disk.old disk.new }
         ensures index { Told D.Disk LeavesBeside disk.old disk.new }
-        ensures account { Accounts D.Disk (ending result) disk.old disk.new }
+        ensures account { Accounts D.Disk (ending result) no_sync disk.old disk.new }
         ensures calls { OnOk result (IsTrue D.tells →
             (D.counts disk.new).calls ≤ (D.counts disk.old).calls + 2) }
         ensures read_calls { OnRead result (IsTrue D.tells →

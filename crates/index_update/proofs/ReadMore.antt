@@ -71,13 +71,14 @@ pub base_then : (k l m : Known) → SameBase k l → SameBase l m → SameBase k
 base_then k l m one two = record { records = λ name. two.records name ∙ one.records name; has_base = two.has_base ∙ one.has_base }
 
 pub looks_none : (c : Counts) → LooksAtMost (4 * 0) c c
-looks_none c = record { calls = omega arith; entry_reads = omega arith; no_change = refl }
+looks_none c = record { calls = omega arith; entry_reads = omega arith; no_change = refl; unsynced = refl }
 
 pub looks_more : (i : ℕ) (before mid now : Counts) → LooksAtMost (4 * i) before mid → LooksAtMost 4 mid now → LooksAtMost (4 * (i + 1)) before now
 looks_more i before mid now one more = record {
   calls = let a = one.calls in let b = more.calls in omega (arith, a, b);
   entry_reads = let a = one.entry_reads in let b = more.entry_reads in omega (arith, a, b);
   no_change = more.no_change ∙ one.no_change;
+  unsynced = more.unsynced ∙ one.unsynced;
 }
 
 -- at a call that fails there were at most so many as for all names
@@ -86,6 +87,7 @@ looks_all i n before mid now low one more = record {
   calls = let a = one.calls in let b = more.calls in omega (arith, a, b, low);
   entry_reads = let a = one.entry_reads in let b = more.entry_reads in omega (arith, a, b, low);
   no_change = more.no_change ∙ one.no_change;
+  unsynced = more.unsynced ∙ one.unsynced;
 }
 
 -- the same over a disk that is read meanwhile

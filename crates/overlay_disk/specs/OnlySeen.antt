@@ -7,3 +7,4 @@ use Rattle.disk_model.specs.declared.disk.Disk.{Ghosts}
 pub record IsOnlySeen {Self : _} (D : Ghosts Self) (before now : Self) : Type 0 where
   pub state : IsTrue D.tells → D.state now ≡ D.state before
   pub no_change : IsTrue D.tells → (D.counts now).failed ≡ (D.counts before).failed
+  pub unsynced : IsTrue D.tells → (D.counts now).syncs ≡ (D.counts before).syncs

@@ -1,6 +1,7 @@
 -- A closing of the index, in its steps.
-use Rattle.std.specs.Prelude.{Bool, List, length, true, ℕ, ◌≡◌, ◌⊎◌}
+use Rattle.std.specs.Prelude.{Bool, List, if◌then◌else◌, length, true, ℕ, ◌≡◌, ◌⊎◌}
 use Rattle.cache_base.specs.Bytes.{be32}
+use Rattle.disk_model.specs.Account.{one_sync}
 use Rattle.disk_model.specs.State.{State, settled, standing}
 use Rattle.index_journal.specs.Journal.{IsPrinted}
 use Rattle.index_map.specs.Known.{IsKnown, Known, changed}
@@ -51,6 +52,11 @@ IsAmidLogging bytes s t = (moment : ClosingMoment) × (t ≡ closing_at moment b
 -- the flag was cleared or not, and that was synced or not
 abbrev pub IsAmidClearing : State → State → Type 0
 IsAmidClearing s t = (t ≡ s) ⊎ ((t ≡ flagged (be32 0) s) ⊎ (t ≡ settled (flagged (be32 0) s)))
+
+-- the most syncs that a closing of the index takes: of an index that is written, of its journal and of its flag; and one
+-- where the update has not ended
+abbrev pub closing_syncs : Bool → ℕ
+closing_syncs ended = if ended then 3 else one_sync
 
 -- ---- both
 

@@ -12,7 +12,7 @@ ghost use Rattle.index_theory.specs.Apart.{IsApart};
 ghost use Rattle.index_theory.specs.Closing.{closed, flagged, log_synced};
 ghost use Rattle.disk_model.specs.Told.{Told};
 ghost use Rattle.index_theory.specs.Unclean.{IsUnclean};
-ghost use Rattle.disk_model.specs.Account.{Accounts, FailsInChange, LooksAtNoEntry, ending};
+ghost use Rattle.disk_model.specs.Account.{Accounts, FailsInChange, LooksAtNoEntry, ending, one_sync};
 ghost use Rattle.startup_read.specs.Closing as spec;
 ghost use Rattle.startup_read.specs.Kept.{KeepsIndex};
 ghost use Rattle.startup_read.specs.Spares.{SparesEntries};
@@ -40,7 +40,7 @@ fn write_log<D: Disk>(disk: &mut D, bytes: &[u8]) -> Result<(), DiskFault>
     ensures written { OnOk result
         (Told D.Disk (λ s t. t ≡ log_synced bytes.now s) disk.old disk.new) }
     ensures amid { Told D.Disk (spec.IsAmidLogging bytes.now) disk.old disk.new }
-    ensures account { Accounts D.Disk (ending result) disk.old disk.new }
+    ensures account { Accounts D.Disk (ending result) one_sync disk.old disk.new }
     ensures change { FailsInChange D.Disk (ending result) disk.new }
     ensures no_entry { LooksAtNoEntry D.Disk disk.old disk.new }
 {
@@ -55,7 +55,7 @@ fn clear_flag<D: Disk>(disk: &mut D) -> Result<(), DiskFault>
     ensures cleared { OnOk result
         (Told D.Disk (λ s t. t ≡ settled (flagged (be32 0) s)) disk.old disk.new) }
     ensures amid { Told D.Disk spec.IsAmidClearing disk.old disk.new }
-    ensures account { Accounts D.Disk (ending result) disk.old disk.new }
+    ensures account { Accounts D.Disk (ending result) one_sync disk.old disk.new }
     ensures change { FailsInChange D.Disk (ending result) disk.new }
     ensures no_entry { LooksAtNoEntry D.Disk disk.old disk.new }
 {
@@ -68,7 +68,7 @@ fn log_and_clear<D: Disk>(disk: &mut D, bytes: &[u8]) -> Result<(), DiskFault>
     requires { IsTrue D.tells → HoldsPart (standing (D.state disk.old) Index) flag_at 4 }
     ensures closed { OnOk result (Told D.Disk (λ s t. t ≡ closed bytes.now s) disk.old disk.new) }
     ensures amid { Told D.Disk (spec.IsAmidLogging bytes.now) disk.old disk.new }
-    ensures account { Accounts D.Disk (ending result) disk.old disk.new }
+    ensures account { Accounts D.Disk (ending result) 2 disk.old disk.new }
     ensures change { FailsInChange D.Disk (ending result) disk.new }
     ensures no_entry { LooksAtNoEntry D.Disk disk.old disk.new }
 {
@@ -88,7 +88,7 @@ fn close_ended<D: Disk>(
     ensures known { map.old.has_base ≡ true → IsKnown map.old }
     ensures closed { OnOk result (Told D.Disk (spec.ClosesIndex map.old now) disk.old disk.new) }
     ensures amid { Told D.Disk (spec.IsAmidClosing map.old now) disk.old disk.new }
-    ensures account { Accounts D.Disk (ending result) disk.old disk.new }
+    ensures account { Accounts D.Disk (ending result) 3 disk.old disk.new }
     ensures change { FailsInChange D.Disk (ending result) disk.new }
     ensures no_entry { LooksAtNoEntry D.Disk disk.old disk.new }
 {
@@ -132,7 +132,7 @@ pub fn close_index<D: Disk>(
         Told D.Disk (λ s t. IsUnclean s → IsUnclean t) disk.old disk.new }
 
     // Calls and faults.
-    ensures account { Accounts D.Disk (ending result) disk.old disk.new }
+    ensures account { Accounts D.Disk (ending result) (spec.closing_syncs ended) disk.old disk.new }
     ensures change { FailsInChange D.Disk (ending result) disk.new }
     ensures no_entry { LooksAtNoEntry D.Disk disk.old disk.new }
 {

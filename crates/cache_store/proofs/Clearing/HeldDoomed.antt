@@ -14,7 +14,7 @@ use Rattle.cache_theory.specs.Proper.{IsProper}
 use Rattle.cache_theory.specs.Step.{doomed_under}
 use Rattle.cache_theory.specs.Table.{get}
 use Rattle.cache_theory.proofs.Names.{get-remove_other}
-use Rattle.disk_model.specs.Account.{Accounts, FailsInChange, IsCalm, fault_ending as disk_fault_ending}
+use Rattle.disk_model.specs.Account.{Accounts, FailsInChange, IsCalm, no_sync, fault_ending as disk_fault_ending}
 use Rattle.disk_model.specs.declared.disk.Disk.{Ghosts}
 use Rattle.disk_model.specs.declared.disk.DiskFault.{DiskFault}
 use Rattle.disk_model.specs.declared.disk.DiskFault.TheVariants as disk
@@ -83,9 +83,9 @@ handed_ending handle.Read disk.Memory is never = absurd (cc)
 handed_ending handle.Disk disk.Memory is never = absurd (cc)
 handed_ending handle.Memory disk.Failed is never = absurd (cc)
 
-pub handed_account : {Self : _} (D : Ghosts Self) (f : HandleFault) (d : DiskFault) → of_disk d ≡ of_handles f → ((r : Refusal) → f ≡ handle.Refused r → ⊥)
-    → (a b c : Self) → IsCalm D a b → Accounts D (handle_fault_ending f) b c → Accounts D (disk_fault_ending d) a c
-handed_account D f d is never a b c calm account = subst (λ e. Accounts D e a c) (handed_ending f d is never) (accounts_after D (handle_fault_ending f) a b c calm account)
+pub handed_account : {Self : _} (D : Ghosts Self) {n : ℕ} (f : HandleFault) (d : DiskFault) → of_disk d ≡ of_handles f → ((r : Refusal) → f ≡ handle.Refused r → ⊥)
+    → (a b c : Self) → IsCalm D no_sync a b → Accounts D (handle_fault_ending f) n b c → Accounts D (disk_fault_ending d) n a c
+handed_account D {n} f d is never a b c calm account = subst (λ e. Accounts D e n a c) (handed_ending f d is never) (accounts_after D (handle_fault_ending f) a b c calm account)
 
 pub handed_change : {Self : _} (D : Ghosts Self) (f : HandleFault) (d : DiskFault) → of_disk d ≡ of_handles f → ((r : Refusal) → f ≡ handle.Refused r → ⊥)
     → (c : Self) → FailsInChange D (handle_fault_ending f) c → FailsInChange D (disk_fault_ending d) c

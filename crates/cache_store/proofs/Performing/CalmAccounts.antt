@@ -1,29 +1,32 @@
 -- The account of a call that failed after calls none of which did, where its fault is handed on.
-use Rattle.std.proofs.Common.{◌≡◌, ◌≢◌, ◌⊎◌, inl, inr, ◌∙◌, Result, Ok, Err, IsErrAnd, ap, sym, subst}
+use Rattle.std.proofs.Common.{arith, ℕ, ◌≡◌, ◌≢◌, ◌⊎◌, inl, inr, ◌∙◌, Result, Ok, Err, IsErrAnd, ap, sym, subst}
 use Rattle.cache_base.specs.Causes.{HasCause}
 use Rattle.cache_io.specs.declared.sink.SinkFault.{SinkFault}
 use Rattle.cache_io.specs.declared.sink.SinkFault.TheVariants as sink
 use Rattle.cache_store.specs.Faults.{ending as store_ending, fault_ending as store_fault_ending, of_sink}
 use Rattle.cache_store.specs.declared.fault.StoreFault.{StoreFault}
 use Rattle.cache_store.specs.declared.fault.StoreFault.TheVariants as fault
-use Rattle.disk_model.specs.Account.{Accounts, Ending, IsCalm, Looks, ending, fault_ending}
+use Rattle.disk_model.specs.Account.{Accounts, Ending, IsCalm, Looks, ending, fault_ending, no_sync}
 use Rattle.disk_model.specs.Calls.{Counts, FailsLast, StopsAtFault, counted_sync}
 use Rattle.disk_model.specs.declared.disk.Disk.{Ghosts}
 use Rattle.disk_model.specs.declared.disk.DiskFault.{DiskFault}
 use Rattle.disk_model.specs.declared.disk.DiskFault.TheVariants.{Failed, Memory}
+use Rattle.file_handles.proofs.Accounting.{syncs_then}
 
-pub accounts_after : {Self : _} (D : Ghosts Self) (e : Ending) (a b c : Self) → IsCalm D a b → Accounts D e b c → Accounts D e a c
-accounts_after D e a b c calm last = record {
+-- the calls before synced nothing
+pub accounts_after : {Self : _} (D : Ghosts Self) (e : Ending) {n : ℕ} (a b c : Self) → IsCalm D no_sync a b → Accounts D e n b c → Accounts D e n a c
+accounts_after D e {n} a b c calm last = record {
   cause = subst (λ n. HasCause (e ≡ Ending.OneFailed) n (D.faults c)) calm.faults last.cause;
   went_on = λ none told. last.went_on none told ∙ calm.no_change told;
   stops = λ told. subst (λ failed. ((D.counts c).failed ≡ failed) ⊎ FailsLast failed (D.counts c)) (calm.no_change told) (last.stops told);
   last = last.last;
+  syncs = syncs_then D no_sync n n a b c (omega arith) calm.syncs last.syncs;
 }
 
-pub fault_handed_on : {T : Type 0} {Self : _} (D : Ghosts Self) (f : DiskFault) (out : Result T DiskFault) (a b c : Self) → IsErrAnd out (λ e. e ≡ f)
-    → IsCalm D a b → Accounts D (fault_ending f) b c → Accounts D (ending out) a c
+pub fault_handed_on : {T : Type 0} {Self : _} (D : Ghosts Self) {n : ℕ} (f : DiskFault) (out : Result T DiskFault) (a b c : Self) → IsErrAnd out (λ e. e ≡ f)
+    → IsCalm D no_sync a b → Accounts D (fault_ending f) n b c → Accounts D (ending out) n a c
 fault_handed_on D f (Ok value) a b c is calm last = absurd is
-fault_handed_on D f (Err e) a b c is calm last = subst (λ e. Accounts D (fault_ending e) a c) (sym is) (accounts_after D (fault_ending f) a b c calm last)
+fault_handed_on D {n} f (Err e) a b c is calm last = subst (λ e. Accounts D (fault_ending e) n a c) (sym is) (accounts_after D (fault_ending f) a b c calm last)
 
 -- a sync after calls none of which failed
 pub sync_stops : {T : Type 0} (before mid now : Counts) (r : Result T DiskFault) → now ≡ counted_sync r mid → mid.failed ≡ before.failed → StopsAtFault before now
@@ -44,10 +47,11 @@ sink_fault_looks D f (Err e) a b is looks = subst (λ e. Looks D (store_fault_en
       state = looks.state;
       no_change = looks.no_change;
       last = λ failed. absurd (cc);
+      unsynced = looks.unsynced;
     }
 
 -- where the sink alone may fail after calls that are accounted for
-pub sink_alone_accounts : {T : Type 0} {Self : _} (D : Ghosts Self) (out : Result T StoreFault) (a b : Self) → out ≢ Err fault.Disk → Accounts D Ending.NoneFailed a b → Accounts D (store_ending out) a b
+pub sink_alone_accounts : {T : Type 0} {Self : _} (D : Ghosts Self) {n : ℕ} (out : Result T StoreFault) (a b : Self) → out ≢ Err fault.Disk → Accounts D Ending.NoneFailed n a b → Accounts D (store_ending out) n a b
 sink_alone_accounts D (Ok value) a b no_disk account = account
 sink_alone_accounts D (Err fault.Sink) a b no_disk account = account
 sink_alone_accounts D (Err fault.Disk) a b no_disk account = absurd (no_disk (λ i. Err fault.Disk))
@@ -56,4 +60,5 @@ sink_alone_accounts D (Err fault.Memory) a b no_disk account = record {
   went_on = λ none. absurd (cc);
   stops = account.stops;
   last = λ failed. absurd (cc);
+  syncs = account.syncs;
 }

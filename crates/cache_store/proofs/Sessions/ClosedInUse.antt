@@ -64,7 +64,7 @@ module _ (u : State) (bytes : List ℕ) (sound : IsSound u) where
 
 -- ---- the index before
 
-refreshed_sound : (map : Known) (now : ℕ) (d u : State) → IsSound d → Refreshes map now d u → IsSound u
+pub refreshed_sound : (map : Known) (now : ℕ) (d u : State) → IsSound d → Refreshes map now d u → IsSound u
 refreshed_sound map now d u sound refreshes = go (is_due map) refl
   where
     go : (b : Bool) → is_due map ≡ b → IsSound u

@@ -22,6 +22,8 @@ use Rattle.cache_tool.specs.Fill.{half_of}
 use Rattle.cache_tool.specs.FillProgress.{EvictsHalf, HalfIsEvicted}
 use Rattle.cache_tool.specs.PutProgress.{IsSent, SendsCommand}
 use Rattle.cache_tool.specs.Right.{LeadTo}
+use Rattle.cache_tool.proofs.Dated.{dated_like}
+use Rattle.cache_tool.specs.Dated.{IsDatedIn}
 use Rattle.cache_tool.proofs.DoneLaws.{done_where, some_done}
 use Rattle.cache_tool.proofs.Fills.FillRuns.{ok_then}
 use Rattle.cache_tool.proofs.MarkLeft.{others_keep, stays_mark, then_stays}
@@ -53,6 +55,8 @@ module _ (before mid now : Session) (answer : Result Verdict StoreFault) (said :
         let used = leads.in_use records (so told) (record { has_base = base.has_base ∙ holds.has_base; same = λ name. base.records name ∙ holds.same name }) (tt, tt) in
         record { base = used.base; past = used.past ∙ ap (λ (s : State). past_header (standing s Index)) looked };
     unended = λ spared. leads.unended (tt, tt) ∙ ap (λ (s : State). past_header (standing s Index)) looked;
+    dated = subst (λ (s : State). IsDatedIn h.machine (EvictNames names ∷ []) s now.disk) looked
+        (dated_like (update_ended h.machine) h.machine (EvictNames names) mid.disk now.disk refl (ap (λ (g : History). g.machine.moment) (over_is names h)) leads.dated);
   }
 
   sent_over : (names : List Name) (h : History) (kb : ℕ) → (Tells before h.machine → kb ≡ total_kb (scan h.machine.shelf)) → (Tells before h.machine → Tells mid (update_ended h.machine))

@@ -1,10 +1,9 @@
 -- What the bytes of a source are, by how a load of them ended.
-use Rattle.std.proofs.Common.{◌≡◌, ◌∙◌, ℕ, ◌+◌, ◌-◌, ◌<◌, ◌≤◌, List, [], ◌∷◌, ◌++◌, length, drop, get_or, Option, None, Some, refl, sym, ap, subst, arith}
+use Rattle.std.proofs.Common.{◌≡◌, ◌∙◌, ℕ, ◌+◌, ◌<◌, ◌≤◌, List, [], ◌∷◌, ◌++◌, length, drop, get_or, Option, None, Some, refl, sym, ap, subst, arith}
 use Rattle.std.specs.Prelude.{flat_map}
 use Rattle.std.proofs.lemmas.List.{append_assoc, append_cancel_left, append-nil, length-append}
 use Rattle.cache_base.proofs.ByteLaws.{be32_front}
 use Rattle.cache_base.specs.Bytes.{be32, be32_at}
-use Rattle.cache_base.specs.declared.limits.TheConstants.{BODY_MAX}
 use Rattle.cache_export.proofs.FieldLaws.{key_sizes, same_field, same_split}
 use Rattle.cache_export.proofs.JoinedLaws.{dump_is_parts}
 use Rattle.cache_export.specs.Dump.{IsDump, back_bytes, head, item_bytes}

@@ -30,6 +30,9 @@ use Rattle.cache_tool.specs.Beginning.{BeginsRun, DoneAtOpening}
 use Rattle.cache_tool.specs.Ending.{EndsSession}
 use Rattle.cache_tool.specs.Load.{BeginsLoaded, HasDump, HasNoDump, IsDumpOf, IsLoadLine, Loaded, LoadsDump, PrintsLoadLine, PrintsLoaded, bad_dump_line, loaded_commands, loaded_line}
 use Rattle.cache_tool.specs.Load.IsLoadLine.{TellsBad, TellsDump}
+use Rattle.cache_store.specs.Syncs.{all_syncs}
+use Rattle.cache_tool.specs.Syncs.{SyncsWithin, ending_syncs, opening_syncs}
+use Rattle.cache_tool.proofs.SyncLaws.{syncs_run}
 use Rattle.cache_tool.specs.LoadProgress.{EndsLoaded, HoldsLine, IsLine, PerformsLoad, ReadsLoaded, TellsNumber, status_at_end}
 use Rattle.cache_tool.specs.PutProgress.{all_unanswered}
 use Rattle.cache_tool.specs.Right.{LeadTo}
@@ -76,15 +79,16 @@ no_slot moment s m Holds mark d is done =
 -- ---- what the parts came to
 
 -- the line is held, and the status is that of the end
-pub performs_load : (tells : Type 0) (e : LoadEnd) (from left : Option (List ℕ)) (before now : Session) (s : Status) (text : List ℕ) → s ≡ status_at_end (Ok e)
+pub performs_load : (tells : Type 0) (e : LoadEnd) (from left : Option (List ℕ)) (before now : Session) (began counts : Counts) (s : Status) (text : List ℕ) → s ≡ status_at_end (Ok e)
     → ((n : ℕ) → e ≡ ended.Whole n → text ≡ loaded_line n) → ((n : ℕ) → e ≡ ended.Bad n → text ≡ bad_dump_line n)
-    → EndsLoaded tells (Ok e) from left before now → PerformsLoad tells (Ok s) from left before now text
-performs_load tells e from left before now s text is whole bad ends = record {
+    → EndsLoaded tells (Ok e) from left before now began counts → PerformsLoad tells (Ok s) from left before now began counts text
+performs_load tells e from left before now began counts s text is whole bad ends = record {
   loaded = ends.loaded;
   reads = subst (λ x. IfSome from (ReadsLoaded x from left ends.loaded)) (sym is) ends.reads;
   over = λ done. ends.over (sym is ∙ done);
   line = line_of e is whole bad ends.number;
   runs = λ told. run_ok (loaded_commands ends.loaded) e s before now (ends.runs told);
+  syncs = ends.syncs;
 }
   where
     line_of : (e : LoadEnd) → s ≡ status_at_end (Ok e) → ((n : ℕ) → e ≡ ended.Whole n → text ≡ loaded_line n) → ((n : ℕ) → e ≡ ended.Bad n → text ≡ bad_dump_line n)
@@ -114,18 +118,19 @@ reads_at ended came (Some bytes) left l done script source reads = record {
 }
 
 -- a fault, in what was done or in the line
-pub load_fails : (tells : Type 0) (answer : Result LoadEnd StoreFault) (came : Result Status StoreFault) (f : StoreFault) (from left : Option (List ℕ)) (before now : Session) (text : List ℕ) → came ≡ Err f
-    → EndsLoaded tells answer from left before now → PerformsLoad tells came from left before now text
-load_fails tells answer came f from left before now text is ends =
+pub load_fails : (tells : Type 0) (answer : Result LoadEnd StoreFault) (came : Result Status StoreFault) (f : StoreFault) (from left : Option (List ℕ)) (before now : Session) (began counts : Counts) (text : List ℕ) → came ≡ Err f
+    → EndsLoaded tells answer from left before now began counts → PerformsLoad tells came from left before now began counts text
+load_fails tells answer came f from left before now began counts text is ends =
     let none = fault_ends f in
-    let failed : PerformsLoad tells (Err f) from left before now text = record {
+    let failed : PerformsLoad tells (Err f) from left before now began counts text = record {
       loaded = ends.loaded;
       reads = reads_at (status_in (Err f)) (status_at_end answer) from left ends.loaded (λ e. absurd (none.0 e)) (λ e. absurd (none.1.0 e)) (λ e. absurd (none.1.1 e)) ends.reads;
       over = λ e. absurd (none.0 e);
       line = record { done = λ e. absurd (none.0 e); bad = λ e. absurd (none.1.0 e) };
       runs = λ told. record { each = λ h keeps. record { safe = ((ends.runs told).each h keeps).safe; stands = tt }; mark = (ends.runs told).mark };
+      syncs = ends.syncs;
     } in
-    subst (λ (r : Result Status StoreFault). PerformsLoad tells r from left before now text) (sym is) failed
+    subst (λ (r : Result Status StoreFault). PerformsLoad tells r from left before now began counts text) (sym is) failed
 
 -- ---- the end of the session
 
@@ -248,7 +253,7 @@ none_printed bytes l read ended known other no_sink = record {
 
 -- ---- what is known of the source and of the line on any disk
 
-pub load_dump : (tells : Type 0) (came : Result Status StoreFault) (from left : Option (List ℕ)) (before now : Session) (text : List ℕ) → PerformsLoad tells came from left before now text
+pub load_dump : (tells : Type 0) (came : Result Status StoreFault) (from left : Option (List ℕ)) {began counts : Counts} (before now : Session) (text : List ℕ) → PerformsLoad tells came from left before now began counts text
     → status_in came ≡ status.Done → HasDump from
 load_dump tells came from left before now text load is = go from load.reads
   where
@@ -256,7 +261,7 @@ load_dump tells came from left before now text load is = go from load.reads
     go None reads = tt
     go (Some bytes) reads = (load.loaded.items, (reads.whole is).0)
 
-pub load_no_dump : (tells : Type 0) (came : Result Status StoreFault) (from left : Option (List ℕ)) (before now : Session) (text : List ℕ) → PerformsLoad tells came from left before now text
+pub load_no_dump : (tells : Type 0) (came : Result Status StoreFault) (from left : Option (List ℕ)) {began counts : Counts} (before now : Session) (text : List ℕ) → PerformsLoad tells came from left before now began counts text
     → status_in came ≡ status.Script → HasNoDump from
 load_no_dump tells came from left before now text load is = go from load.reads
   where
@@ -264,12 +269,12 @@ load_no_dump tells came from left before now text load is = go from load.reads
     go None reads = tt
     go (Some bytes) reads = (reads.bad is).0
 
-pub says_loaded : (tells : Type 0) (came : Result Status StoreFault) (from left : Option (List ℕ)) (before now : Session) (text : List ℕ) (taken later : Option (List ℕ))
-    → PerformsLoad tells came from left before now text → status_in came ≡ status.Done → Appends taken later text → (n : ℕ) × Appends taken later (loaded_line n)
+pub says_loaded : (tells : Type 0) (came : Result Status StoreFault) (from left : Option (List ℕ)) {began counts : Counts} (before now : Session) (text : List ℕ) (taken later : Option (List ℕ))
+    → PerformsLoad tells came from left before now began counts text → status_in came ≡ status.Done → Appends taken later text → (n : ℕ) × Appends taken later (loaded_line n)
 says_loaded tells came from left before now text taken later load is out = (length load.loaded.items, subst (Appends taken later) (load.line.done is) out)
 
-pub says_bad : (tells : Type 0) (came : Result Status StoreFault) (from left : Option (List ℕ)) (before now : Session) (text : List ℕ) (taken later : Option (List ℕ))
-    → PerformsLoad tells came from left before now text → status_in came ≡ status.Script → Appends taken later text → (n : ℕ) × Appends taken later (bad_dump_line (suc n))
+pub says_bad : (tells : Type 0) (came : Result Status StoreFault) (from left : Option (List ℕ)) {began counts : Counts} (before now : Session) (text : List ℕ) (taken later : Option (List ℕ))
+    → PerformsLoad tells came from left before now began counts text → status_in came ≡ status.Script → Appends taken later text → (n : ℕ) × Appends taken later (bad_dump_line (suc n))
 says_bad tells came from left before now text taken later load is out = (length load.loaded.items, subst (Appends taken later) (load.line.bad is) out)
 
 -- a dump is not bad
@@ -293,10 +298,10 @@ loads_told moment ended before now h =
 proper_at : (now : Session) (h : History) → KeepsTo now h → IsProper h.machine
 proper_at now h keeps = keeps.stands.stands.proper
 
-module _ {moment : ℕ} (tells : Type 0) (told : tells) (bytes : List ℕ) (came : Result Status StoreFault) (ended : Status) (before : World) (left : Option (List ℕ)) (mid last : Session) (t : State) (text : List ℕ)
+module _ {moment : ℕ} (tells : Type 0) (told : tells) (bytes : List ℕ) (came : Result Status StoreFault) (ended : Status) (before : World) (left : Option (List ℕ)) (mid last : Session) {k0 k1 : Counts} (t : State) (text : List ℕ)
     (begins : BeginsRun moment before.disk mid) (m : Machine) (is_start : StartsOn moment before.disk m) (from : before.source.left ≡ Some bytes)
-    (load : PerformsLoad tells came before.source.left left mid last text) (ends : EndsSession ended last t) (same : EndsAs ended (status_in came)) (no_sink : came ≢ Err fault.Sink)
-    (kept : LeavesHonest last.disk) (dropped : ¬ (IsClosing (status_in came)) → t ≡ last.disk) where
+    (load : PerformsLoad tells came before.source.left left mid last k0 k1 text) (ends : EndsSession ended last t) (same : EndsAs ended (status_in came)) (no_sink : came ≢ Err fault.Sink)
+    (kept : LeavesHonest last.disk) (dropped : ¬ (IsClosing (status_in came)) → t ≡ last.disk) (opened : SyncsWithin opening_syncs before.disk_counts k0) where
   abbrev done : Command
   done = (begins.resumed m is_start).done
 
@@ -315,10 +320,10 @@ module _ {moment : ℕ} (tells : Type 0) (told : tells) (bytes : List ℕ) (came
       subst (λ o. IfSome o (ReadsLoaded final before.source.left left load.loaded)) from
       (reads_at final (status_in came) before.source.left left load.loaded done_so script_so source_so load.reads)
 
-  loads_with : (final : Status) (now : World) (reads : ReadsLoaded final before.source.left now.source.left load.loaded bytes) → final ≢ status.No → (final ≡ status.Disk → LastCallFails now.disk_counts) → PrintsLoadLine bytes load.loaded reads.read final before.taken now.taken
+  loads_with : (final : Status) (now : World) (reads : ReadsLoaded final before.source.left now.source.left load.loaded bytes) → final ≢ status.No → (final ≡ status.Disk → LastCallFails now.disk_counts) → SyncsWithin ending_syncs k1 now.disk_counts → PrintsLoadLine bytes load.loaded reads.read final before.taken now.taken
       → LeavesDisk m (all_begun_none_acked m (begins.resumed m is_start).done (loaded_commands load.loaded)) final before.disk now.disk
       → PrintsLoaded m (begins.resumed m is_start).done bytes final before now
-  loads_with final now reads accepted last prints leaves =
+  loads_with final now reads accepted last closed prints leaves =
       let proper : IsProper (step m (begins.resumed m is_start).done).next = proper_at mid (acked (begins.resumed m is_start).done (settled_at m)) (begins.resumed m is_start).leads.keeps in
       let free = no_slot moment before.disk m (GoesBy begins.first m) (mark_of m.mark) (begins.resumed m is_start).done is_start (begins.resumed m is_start).is_done in
       record {
@@ -332,13 +337,14 @@ module _ {moment : ℕ} (tells : Type 0) (told : tells) (bytes : List ℕ) (came
         found = stock_is_found (step m (begins.resumed m is_start).done).next.shelf load.loaded.items proper.shelf reads.read.items;
         prints = prints;
         last = last;
+        syncs = syncs_run (all_syncs (loaded_commands load.loaded)) before.disk_counts k0 k1 now.disk_counts opened (load.syncs told) closed;
         leaves = leaves;
       }
 
   -- a line is printed
-  pub line_said : {faults source_faults sink_faults : ℕ} {counts : Counts} (final : Status) (taken : Option (List ℕ)) → IsLine ended → SaysLine ended final before.taken taken text
+  pub line_said : {faults source_faults sink_faults : ℕ} {counts : Counts} (final : Status) (taken : Option (List ℕ)) → SyncsWithin ending_syncs k1 counts → IsLine ended → SaysLine ended final before.taken taken text
       → PrintsLoaded m (begins.resumed m is_start).done bytes final before (record { source = record { left = left; faults = source_faults }; taken = taken; sink_faults = sink_faults; disk = t; disk_faults = faults; disk_counts = counts })
-  line_said final taken line says =
+  line_said final taken closed line says =
       let is : ended ≡ status_in came = closing_same ended (status_in came) same (line_closes ended line) in
       let holds : HoldsLine ended (length load.loaded.items) text = subst (λ s. HoldsLine s (length load.loaded.items) text) (sym is) load.line in
       let at_end : ReadsLoaded ended before.source.left left load.loaded bytes = reads_so ended (λ e. sym is ∙ e) (λ e. sym is ∙ e) (λ e. sym is ∙ e) in
@@ -349,14 +355,14 @@ module _ {moment : ℕ} (tells : Type 0) (told : tells) (bytes : List ℕ) (came
         broken = λ e. at_end.broken (same_end ended final status.Source (λ x. cc) (λ x. cc) says.same e);
       } in
       loads_with final _ reads
-      (never_no ended final line says.same) (λ disk. absurd (never_silent ended final line says.same (inr disk))) (line_printed bytes load.loaded ended final before.source.left left at_end before.taken taken text line holds says)
+      (never_no ended final line says.same) (λ disk. absurd (never_silent ended final line says.same (inr disk))) closed (line_printed bytes load.loaded ended final before.source.left left at_end before.taken taken text line holds says)
       (leaves_at m (all_begun_none_acked m (begins.resumed m is_start).done (loaded_commands load.loaded)) ended final before.disk t (λ closing. line_closes ended line) session_left)
 
   -- none is
-  pub none_said : {faults source_faults sink_faults : ℕ} {counts : Counts} → (ended ≡ status.Disk → LastCallFails counts) → ¬ (IsLine ended) → ended ≢ status.Sink → ended ≢ status.No
+  pub none_said : {faults source_faults sink_faults : ℕ} {counts : Counts} → (ended ≡ status.Disk → LastCallFails counts) → SyncsWithin ending_syncs k1 counts → ¬ (IsLine ended) → ended ≢ status.Sink → ended ≢ status.No
       → PrintsLoaded m (begins.resumed m is_start).done bytes ended before (record { source = record { left = left; faults = source_faults }; taken = before.taken; sink_faults = sink_faults; disk = t; disk_faults = faults; disk_counts = counts })
-  none_said last other not_sink not_no =
+  none_said last closed other not_sink not_no =
       let reads : ReadsLoaded ended before.source.left left load.loaded bytes =
       reads_so ended (λ e. came_end ended (status_in came) status.Done (λ x. cc) (λ x. cc) same e) (λ e. came_end ended (status_in came) status.Script (λ x. cc) (λ x. cc) same e)
       (λ e. came_end ended (status_in came) status.Source (λ x. cc) (λ x. cc) same e) in
-      loads_with ended _ reads not_no last (none_printed bytes load.loaded reads.read ended before.taken other not_sink) session_left
+      loads_with ended _ reads not_no last closed (none_printed bytes load.loaded reads.read ended before.taken other not_sink) session_left

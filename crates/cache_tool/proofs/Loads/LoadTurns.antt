@@ -19,6 +19,9 @@ use Rattle.cache_store.specs.declared.fault.StoreFault.TheVariants as fault
 use Rattle.cache_theory.specs.Command.{Command}
 use Rattle.cache_tool.specs.FillProgress.{RunsAll}
 use Rattle.cache_tool.specs.Load.{Loaded, loaded_commands}
+use Rattle.cache_tool.specs.Syncs.{SyncsFor}
+use Rattle.cache_tool.proofs.SyncLaws.{syncs_then}
+use Rattle.disk_model.specs.Calls.{Counts}
 use Rattle.cache_tool.specs.LoadProgress.{AreLoaded, EndsLoaded, HasLoaded, LoadsNext, ReadsLoaded, loading, part_commands}
 use Rattle.cache_tool.specs.Statuses.{status_in}
 use Rattle.cache_tool.specs.declared.load.LoadEnd.{LoadEnd}
@@ -134,10 +137,15 @@ none_whole r bytes wants p mine rest s e = past (used_in r + length mine) (λ fi
     let both = sym wants ∙ ap (front_at r.progress.due (left_of r.progress.len (length r.progress.hashes)) r.used) e ∙ f.found in
     absurd (cc))
 
-module _ (tells : Type 0) (from : Option (List ℕ)) (before : Session) (old : DumpReader) (count : ℕ) (left : Option (List ℕ)) (s1 : Session) (so : HasLoaded tells from before (loading old count left s1)) where
+module _ (tells : Type 0) (from : Option (List ℕ)) (before : Session) (began : Counts) (old : DumpReader) (count : ℕ) (left : Option (List ℕ)) (s1 : Session) (k1 : Counts) (so : HasLoaded tells from before began (loading old count left s1 k1)) where
   -- a part was read, and its commands were done
-  module _ (new : DumpReader) (now : Option (List ℕ)) (s2 : Session) (p : Part) (n : ℕ) (is : n ≡ whole_by p) (g : Gives old new left now p n) where
-    part_on : (tells → RunsAll {T = Unit {0}} (part_commands p) (Ok tt) s1 s2) → HasLoaded tells from before (loading new (count + n) now s2)
+  module _ (new : DumpReader) (now : Option (List ℕ)) (s2 : Session) (k2 : Counts) (p : Part) (n : ℕ) (is : n ≡ whole_by p) (g : Gives old new left now p n) (syncs : tells → SyncsFor (part_commands p) k1 k2) where
+    part_syncs : tells → SyncsFor (loaded_commands (adds_part so.loaded so.own (stage_in old) p g.own so.are g.part).next) began k2
+    part_syncs told =
+        subst (λ (cs : List Command). SyncsFor cs began k2) (sym (adds_part so.loaded so.own (stage_in old) p g.own so.are g.part).commands)
+        (syncs_then (loaded_commands so.loaded) (part_commands p) began k1 k2 (so.syncs told) (syncs told))
+
+    part_on : (tells → RunsAll {T = Unit {0}} (part_commands p) (Ok tt) s1 s2) → HasLoaded tells from before began (loading new (count + n) now s2 k2)
     part_on runs =
         let add = adds_part so.loaded so.own (stage_in old) p g.own so.are g.part in
         let used = g.used in
@@ -157,10 +165,11 @@ module _ (tells : Type 0) (from : Option (List ℕ)) (before : Session) (old : D
           counted = omega (arith, so.counted, add.counted, is);
           runs = λ told. run_same (loaded_commands so.loaded ++ part_commands p) (loaded_commands add.next) (Ok tt) before s2 (sym add.commands)
               (run_then (loaded_commands so.loaded) (part_commands p) tt (Ok tt) before s1 s2 (so.runs told) (runs told));
+          syncs = part_syncs;
         }
 
     -- or failed
-    part_fails : (f : StoreFault) → (tells → RunsAll {T = Unit {0}} (part_commands p) (Err f) s1 s2) → EndsLoaded tells (Err f) from now before s2
+    part_fails : (f : StoreFault) → (tells → RunsAll {T = Unit {0}} (part_commands p) (Err f) s1 s2) → EndsLoaded tells (Err f) from now before s2 began k2
     part_fails f runs =
         let add = adds_part so.loaded so.own (stage_in old) p g.own so.are g.part in
         let used = g.used in
@@ -175,10 +184,11 @@ module _ (tells : Type 0) (from : Option (List ℕ)) (before : Session) (old : D
           number = tt;
           runs = λ told. run_stops f (loaded_commands add.next) (Err f) before s2 (run_same {T = Unit {0}} (loaded_commands so.loaded ++ part_commands p) (loaded_commands add.next) (Err f) before s2 (sym add.commands)
               (run_then (loaded_commands so.loaded) (part_commands p) tt (Err f) before s1 s2 (so.runs told) (runs told)));
+          syncs = part_syncs;
         }
 
   -- the dump has ended
-  ends_on : (new : DumpReader) (now : Option (List ℕ)) → Ends old left now → EndsLoaded tells (Ok (ended.Whole count)) from now before s1
+  ends_on : (new : DumpReader) (now : Option (List ℕ)) → Ends old left now → EndsLoaded tells (Ok (ended.Whole count)) from now before s1 began k1
   ends_on new now e =
       let size = so.used in
       let short = e.short in
@@ -190,10 +200,11 @@ module _ (tells : Type 0) (from : Option (List ℕ)) (before : Session) (old : D
         over = λ is. e.over;
         number = so.counted;
         runs = λ told. run_ok (loaded_commands so.loaded) tt (ended.Whole count) before s1 (so.runs told);
+        syncs = so.syncs;
       }
 
   -- the item is bad
-  bad_on : (now : Option (List ℕ)) (number : ℕ) → Refuses old left (faults.Bad number) → EndsLoaded tells (Ok (ended.Bad number)) from now before s1
+  bad_on : (now : Option (List ℕ)) (number : ℕ) → Refuses old left (faults.Bad number) → EndsLoaded tells (Ok (ended.Bad number)) from now before s1 began k1
   bad_on now number bad =
       let of = bad.0 in
       let given = so.given in
@@ -203,10 +214,11 @@ module _ (tells : Type 0) (from : Option (List ℕ)) (before : Session) (old : D
         over = λ e. absurd (let d : status.Script ≡ status.Done = e in cc);
         number = omega (arith, of, given);
         runs = λ told. run_ok (loaded_commands so.loaded) tt (ended.Bad number) before s1 (so.runs told);
+        syncs = so.syncs;
       }
 
   -- the source failed
-  failed_on : (now : Option (List ℕ)) → BreaksOff old left now faults.Source → EndsLoaded tells (Ok ended.Failed) from now before s1
+  failed_on : (now : Option (List ℕ)) → BreaksOff old left now faults.Source → EndsLoaded tells (Ok ended.Failed) from now before s1 began k1
   failed_on now broken = record {
     loaded = so.loaded;
     reads = reads_broken so.loaded so.own (held_in old) so.read broken.0 (stage_in old) from left now so.are so.taken so.spelled so.short broken.1.0
@@ -214,49 +226,51 @@ module _ (tells : Type 0) (from : Option (List ℕ)) (before : Session) (old : D
     over = λ e. absurd (let d : status.Source ≡ status.Done = e in cc);
     number = tt;
     runs = λ told. run_ok (loaded_commands so.loaded) tt ended.Failed before s1 (so.runs told);
+    syncs = so.syncs;
   }
 
   -- memory ran out
-  stops_on : (now : Option (List ℕ)) (f : StoreFault) → EndsLoaded tells (Err f) from now before s1
+  stops_on : (now : Option (List ℕ)) (f : StoreFault) → EndsLoaded tells (Err f) from now before s1 began k1
   stops_on now f = record {
     loaded = so.loaded;
     reads = reads_fault f so.loaded so.own (held_in old) so.read (stage_in old) from left now so.are so.taken so.spelled so.short;
     over = λ e. absurd ((fault_ends f).0 e);
     number = tt;
     runs = λ told. run_stops f (loaded_commands so.loaded) (Ok tt) before s1 (so.runs told);
+    syncs = so.syncs;
   }
 
 -- the turns
 
-module _ (tells : Type 0) (old new : DumpReader) (count : ℕ) (left now : Option (List ℕ)) (s1 : Session) where
-  module _ (s2 : Session) (p : Part) (n : ℕ) (is : n ≡ whole_by p) (g : Gives old new left now p n) where
-    pub turn_on : (later : ℕ) → later ≡ count + n → (tells → RunsAll {T = Unit {0}} (part_commands p) (Ok tt) s1 s2) → LoadsNext tells (Ok None) (loading old count left s1) (loading new later now s2)
-    turn_on later more runs = subst (λ k. LoadsNext tells (Ok None) (loading old count left s1) (loading new k now s2)) (sym more)
-        (record { on = λ from before so. part_on tells from before old count left s1 so new now s2 p n is g runs })
+module _ (tells : Type 0) (old new : DumpReader) (count : ℕ) (left now : Option (List ℕ)) (s1 : Session) (k1 : Counts) where
+  module _ (s2 : Session) (k2 : Counts) (p : Part) (n : ℕ) (is : n ≡ whole_by p) (g : Gives old new left now p n) (syncs : tells → SyncsFor (part_commands p) k1 k2) where
+    pub turn_on : (later : ℕ) → later ≡ count + n → (tells → RunsAll {T = Unit {0}} (part_commands p) (Ok tt) s1 s2) → LoadsNext tells (Ok None) (loading old count left s1 k1) (loading new later now s2 k2)
+    turn_on later more runs = subst (λ k. LoadsNext tells (Ok None) (loading old count left s1 k1) (loading new k now s2 k2)) (sym more)
+        (record { on = λ from before began so. part_on tells from before began old count left s1 k1 so new now s2 k2 p n is g syncs runs })
 
     -- a fault is handed on
     pub turn_fails : (f : StoreFault) (answer : Result (Option LoadEnd) StoreFault) (later : ℕ) → IsErrAnd answer (λ e. e ≡ f) → (tells → RunsAll {T = Unit {0}} (part_commands p) (Err f) s1 s2)
-        → LoadsNext tells answer (loading old count left s1) (loading new later now s2)
-    turn_fails f answer later failed runs = subst (λ r. LoadsNext tells r (loading old count left s1) (loading new later now s2)) (sym (handed_on answer f failed))
-        (record { on = λ from before so. part_fails tells from before old count left s1 so new now s2 p n is g f runs })
+        → LoadsNext tells answer (loading old count left s1 k1) (loading new later now s2 k2)
+    turn_fails f answer later failed runs = subst (λ r. LoadsNext tells r (loading old count left s1 k1) (loading new later now s2 k2)) (sym (handed_on answer f failed))
+        (record { on = λ from before began so. part_fails tells from before began old count left s1 k1 so new now s2 k2 p n is g syncs f runs })
 
-  pub turn_ends : Ends old left now → LoadsNext tells (Ok (Some (ended.Whole count))) (loading old count left s1) (loading new count now s1)
-  turn_ends e = record { on = λ from before so. ends_on tells from before old count left s1 so new now e }
+  pub turn_ends : Ends old left now → LoadsNext tells (Ok (Some (ended.Whole count))) (loading old count left s1 k1) (loading new count now s1 k1)
+  turn_ends e = record { on = λ from before began so. ends_on tells from before began old count left s1 k1 so new now e }
 
-  pub turn_bad : (number : ℕ) → Refuses old left (faults.Bad number) → LoadsNext tells (Ok (Some (ended.Bad number))) (loading old count left s1) (loading new count now s1)
-  turn_bad number bad = record { on = λ from before so. bad_on tells from before old count left s1 so now number bad }
+  pub turn_bad : (number : ℕ) → Refuses old left (faults.Bad number) → LoadsNext tells (Ok (Some (ended.Bad number))) (loading old count left s1 k1) (loading new count now s1 k1)
+  turn_bad number bad = record { on = λ from before began so. bad_on tells from before began old count left s1 k1 so now number bad }
 
-  pub turn_failed : BreaksOff old left now faults.Source → LoadsNext tells (Ok (Some ended.Failed)) (loading old count left s1) (loading new count now s1)
-  turn_failed broken = record { on = λ from before so. failed_on tells from before old count left s1 so now broken }
+  pub turn_failed : BreaksOff old left now faults.Source → LoadsNext tells (Ok (Some ended.Failed)) (loading old count left s1 k1) (loading new count now s1 k1)
+  turn_failed broken = record { on = λ from before began so. failed_on tells from before began old count left s1 k1 so now broken }
 
-  pub turn_stops : (f : StoreFault) → LoadsNext tells (Err f) (loading old count left s1) (loading new count now s1)
-  turn_stops f = record { on = λ from before so. stops_on tells from before old count left s1 so now f }
+  pub turn_stops : (f : StoreFault) → LoadsNext tells (Err f) (loading old count left s1 k1) (loading new count now s1 k1)
+  turn_stops f = record { on = λ from before began so. stops_on tells from before began old count left s1 k1 so now f }
 
 -- ---- the beginning
 
-pub starts : (tells : Type 0) (r : DumpReader) (left : Option (List ℕ)) (now : Session) → held_in r ≡ [] → stage_in r ≡ Stage.AtItem None → given_in r ≡ 0 → used_in r ≡ 0
-    → HasLoaded tells left now (loading r 0 left now)
-starts tells r left now held stage given used = record {
+pub starts : (tells : Type 0) (r : DumpReader) (left : Option (List ℕ)) (now : Session) (counts : Counts) → held_in r ≡ [] → stage_in r ≡ Stage.AtItem None → given_in r ≡ 0 → used_in r ≡ 0
+    → HasLoaded tells left now counts (loading r 0 left now counts)
+starts tells r left now counts held stage given used = record {
   loaded = record { items = []; begun = None };
   own = [];
   are = record { front = []; tail = []; both = refl; items = tt; whole = (refl, refl); begun = (refl, stage); spelled = refl };
@@ -268,4 +282,5 @@ starts tells r left now held stage given used = record {
   given = given;
   counted = refl;
   runs = λ told. run_none now;
+  syncs = λ told. omega arith;
 }

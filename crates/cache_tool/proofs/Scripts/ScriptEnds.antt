@@ -1,5 +1,5 @@
 -- What the verb `run` comes to, by what its commands and the end of the session came to.
-use Rattle.std.proofs.Common.{◌≡◌, ◌≢◌, ◌⊎◌, inl, inr, ⊎_elim, ℕ, suc, ◌≤◌, List, length, Option, None, Some, Result, Err, refl, sym, subst, ◌∙◌}
+use Rattle.std.proofs.Common.{◌≡◌, ◌≢◌, ◌⊎◌, inl, inr, ⊎_elim, ℕ, suc, ◌+◌, ◌≤◌, List, length, take, Option, None, Some, Result, Err, refl, sym, subst, ◌∙◌}
 use Rattle.cache_base.specs.Causes.{Rose}
 use Rattle.cache_base.specs.declared.status.Status.{Status}
 use Rattle.cache_base.specs.declared.status.Status.TheVariants as status
@@ -23,6 +23,9 @@ use Rattle.cache_tool.specs.World.{Progress, World, output_of, world_of}
 use Rattle.cache_tool.proofs.DoneLaws.{are_done_where}
 use Rattle.cache_tool.proofs.MarkLeft.{closed_leaves_mark}
 use Rattle.cache_tool.proofs.Moments.{with_left}
+use Rattle.cache_tool.proofs.SyncLaws.{syncs_run}
+use Rattle.cache_tool.specs.Syncs.{SyncsWithin, ending_syncs, opening_syncs}
+use Rattle.cache_store.specs.Syncs.{all_syncs}
 use Rattle.cache_tool.proofs.OneCommand.{not_begun}
 use Rattle.cache_tool.proofs.Scripts.ScriptTurns.{counts_more, counts_on}
 use Rattle.cache_tool.proofs.SessionEnds.{ends_leave, resumed_done, resumed_tells, stops_leave}
@@ -40,12 +43,12 @@ abbrev told : World → Option (List ℕ) → World
 told w left = record w { source = record (w.source) { left = left } }
 
 pub runs_not_begun : {T : Type 0} (counts : Counts) (moment : ℕ) (before : World) (t : State) (faults : ℕ) (answer : Result T StoreFault) (f : StoreFault) (ended : Status) → answer ≡ Err f → answer ≢ Err fault.Sink → ended ≡ status_in (Err f)
-    → (ending answer ≡ Ending.OneFailed → Rose before.disk_faults faults) → (ending answer ≡ Ending.OneFailed → LastCallFails counts) → FailsToBegin moment before.disk t → RunsScript moment ended before (record before { disk = t; disk_faults = faults; disk_counts = counts })
-runs_not_begun counts moment before t faults answer f ended failed no_sink same rose last fails = go before.source.left
+    → (ending answer ≡ Ending.OneFailed → Rose before.disk_faults faults) → (ending answer ≡ Ending.OneFailed → LastCallFails counts) → SyncsWithin opening_syncs before.disk_counts counts → FailsToBegin moment before.disk t → RunsScript moment ended before (record before { disk = t; disk_faults = faults; disk_counts = counts })
+runs_not_begun counts moment before t faults answer f ended failed no_sink same rose last syncs fails = go before.source.left
   where
     go : (left : Option (List ℕ)) → RunsScript moment ended (told before left) (record (told before left) { disk = t; disk_faults = faults; disk_counts = counts })
     go None = tt
-    go (Some bytes) = λ m cs is found. inr (not_begun (output_of (told before (Some bytes))) t faults answer f ended failed no_sink same rose last fails m is, refl)
+    go (Some bytes) = λ m cs is found. inr (not_begun (output_of (told before (Some bytes))) t faults answer f ended failed no_sink same rose last syncs fails m is, refl)
 
 -- ---- the session was ended
 
@@ -88,8 +91,9 @@ pub runs_ended : (k0 k1 : ℕ) (c0 c1 : Counts) (moment : ℕ) (ended : Status) 
     → EndsSession ended last.session t → EndsAs ended (status_in came) → (¬ (IsClosing (status_in came)) → t ≡ last.session.disk)
     → last.disk_faults ≤ faults → (ended ≡ status.Disk → ((status_in came ≡ status.Disk) × (c1 ≡ last.disk_counts)) ⊎ (Rose last.disk_faults faults × LastFails c1))
     → (ended ≢ status.Disk → (status_in came ≢ status.Disk) × (faults ≡ last.disk_faults))
+    → SyncsWithin opening_syncs c0 mid.disk_counts → SyncsWithin ending_syncs last.disk_counts c1
     → RunsScript moment ended (record (world_of mid k0 c0) { disk = s; disk_faults = begun }) (record (world_of last k1 c1) { disk = t; disk_faults = faults })
-runs_ended k0 k1 c0 c1 moment ended came s mid last t begun faults calm finite begins performs kept ends same dropped later failed sound =
+runs_ended k0 k1 c0 c1 moment ended came s mid last t begun faults calm finite begins performs kept ends same dropped later failed sound opened closed =
     subst (λ n. RunsScript moment ended (record (world_of mid k0 c0) { disk = s; disk_faults = n }) (record (world_of last k1 c1) { disk = t; disk_faults = faults })) calm (go mid.source.left performs)
   where
     go : (left : Option (List ℕ)) → PerformsScript came (with_left mid left) last → RunsScript moment ended (record (world_of (with_left mid left) k0 c0) { disk = s }) (record (world_of last k1 c1) { disk = t; disk_faults = faults })
@@ -143,6 +147,7 @@ runs_ended k0 k1 c0 c1 moment ended came s mid last t begun faults calm finite b
               ];
               leaves = ended_leaves s mid.session begins m is r.acked r.with_last r.done last.session t ended (status_in came) r.leaves ends same dropped kept;
               mark = closed_leaves_mark (begun_of r.acked r.with_last cs) s mid.session.disk last.session.disk t begins.mark r.mark ends.mark;
+              syncs = syncs_run (all_syncs (take (r.acked + 1) cs)) c0 mid.disk_counts last.disk_counts c1 opened r.syncs closed;
             },
           ),
         )

@@ -30,6 +30,9 @@ use Rattle.cache_theory.specs.Text.{IsSpoken, reply_text, script_bytes}
 use Rattle.cache_theory.proofs.Faults.RepliesApart.{step_spoken}
 use Rattle.cache_theory.proofs.Faults.FaultedOn.{faults_are_in_front, faults_are_within, next_may_fault}
 use Rattle.cache_tool.specs.MarkLeft.{ChangeMark}
+use Rattle.cache_tool.specs.Syncs.{SyncsFor, SyncsWithin}
+use Rattle.cache_tool.proofs.SyncLaws.{syncs_next}
+use Rattle.cache_store.specs.Syncs.{most_syncs}
 use Rattle.cache_tool.specs.Right.{LeadTo, has_rebuild}
 use Rattle.cache_tool.specs.ScriptProgress.{AreRead, ArePerformed, DoneForKept, EndsScript, FailsAfter, FailsInLine, FailsInReply, FaultsAfter, HasPerformed, IsCutOff, PerformsAll, PerformsNext, all_answered, ChangeMarkBut}
 use Rattle.cache_tool.specs.Staying.{StaysFor, StaysOnce}
@@ -256,6 +259,7 @@ starts tells r before held given used = record {
   calm = λ none. refl;
   performs = λ told. none_performed before;
   mark = λ told. none_change_mark [] before.session.disk before.session.disk refl;
+  syncs = λ told. omega arith;
 }
 
 -- the disk failed as often at least, or once more
@@ -266,7 +270,7 @@ pub counts_more : (n a b c : ℕ) → Rose b c → RoseBy n a b → RoseBy (suc 
 counts_more n a b c once rose = omega arith
 
 module _ (tells : Bool) (r q : Reader) (mid now : Progress) (c : Command) (gives : Gives r q mid.source.left now.source.left c) (later : mid.disk_faults ≤ now.disk_faults)
-    (at_clear : IsTrue tells → ChangesAtClear c mid.session.disk now.session.disk) where
+    (at_clear : IsTrue tells → ChangesAtClear c mid.session.disk now.session.disk) (synced : IsTrue tells → SyncsWithin (most_syncs c) mid.disk_counts now.disk_counts) where
   module _ (before : Progress) (goes : HasPerformed tells r before mid) where
     -- this was read so far
     so_read : AreRead before.source.left now.source.left (goes.commands ++ c ∷ []) (held_in q)
@@ -298,6 +302,9 @@ module _ (tells : Bool) (r q : Reader) (mid now : Progress) (c : Command) (gives
         (next_changes_mark (unfaulted goes.faults goes.commands) c before.session.disk mid.session.disk now.session.disk spoken_next (goes.mark told)
         (may_mark c mid.session.disk now.session.disk (at_clear told)))
 
+    begun_syncs : IsTrue tells → SyncsFor (goes.commands ++ c ∷ []) before.disk_counts now.disk_counts
+    begun_syncs told = syncs_next goes.commands c before.disk_counts mid.disk_counts now.disk_counts (goes.syncs told) (synced told)
+
     -- or it changed nothing
     left_mark : (IsTrue tells → StaysAs mid.session now.session) → IsTrue tells → ChangeMarkBut goes.faults goes.commands before now
     left_mark stays told = same_changes_mark (unfaulted goes.faults goes.commands) before.session.disk mid.session.disk now.session.disk (stays told).disk (goes.mark told)
@@ -316,6 +323,7 @@ module _ (tells : Bool) (r q : Reader) (mid now : Progress) (c : Command) (gives
       calm = λ none. calm ∙ goes.calm none;
       performs = λ told. one_performed before mid now goes.commands c goes.faults goes.counts.numbers (goes.performs told) o (performs told) (stays told);
       mark = begun_mark before goes;
+      syncs = begun_syncs before goes;
     };
   }
 
@@ -336,6 +344,7 @@ module _ (tells : Bool) (r q : Reader) (mid now : Progress) (c : Command) (gives
       calm = λ none. absurd (some_next (length goes.commands) goes.faults none);
       performs = λ told. one_faulted before mid now goes.commands c goes.faults goes.counts.numbers (goes.performs told) (stays told) base said;
       mark = λ told. subst (λ l. ChangeMark l before.session.disk now.session.disk) (sym (but_next goes.commands c goes.faults goes.counts.numbers)) (left_mark before goes stays told);
+      syncs = begun_syncs before goes;
     };
   }
 
@@ -354,6 +363,7 @@ module _ (tells : Bool) (r q : Reader) (mid now : Progress) (c : Command) (gives
       counts = record { numbers = goes.counts.numbers; counted = still_counted before goes };
       disk = λ e. once_more before goes (answered_rose (later_too, answer) e);
       fails = failed before goes answer;
+      syncs = begun_syncs before goes;
     };
   }
     where
@@ -398,6 +408,7 @@ module _ (tells : Bool) (r q : Reader) (mid : Progress) (source : Supply) where
             record { done = some.done; is_done = some.is_done; performed = record { stands = some.performed.stands; out = some.performed.out } };
       };
       mark = goes.mark;
+      syncs = goes.syncs;
     };
   }
 

@@ -16,6 +16,8 @@ use Rattle.cache_theory.specs.History.{History}
 use Rattle.cache_theory.specs.Text.{AreSpoken, CommandsIn, ScriptSpells, SpellsFront, command_bytes, command_data, command_words, script_bytes, spaced}
 use Rattle.cache_theory.proofs.Faults.FaultedOn.{faults_are_within}
 use Rattle.cache_tool.specs.MarkLeft.{ChangeMark}
+use Rattle.cache_tool.specs.Syncs.{SyncsFor}
+use Rattle.cache_tool.proofs.SyncLaws.{syncs_front}
 use Rattle.cache_tool.specs.Script.{AreTaken, bad_line, performed}
 use Rattle.cache_tool.specs.ScriptProgress.{AreCounted, DoneForKept, FailsInLine, FailsMidway, LeavesScript, PerformsScript, PerformsToEnd, ScriptIsRun, SomeCutOff, SomeFaultCut, SomePerformed, TellsOfFaults, one_begun_on, ChangeMarkBut}
 use Rattle.cache_tool.specs.Statuses.{status_in}
@@ -95,10 +97,10 @@ module _ (bytes : List ℕ) (h : History) (start : Progress) where
   before = with_left start (Some bytes)
 
   -- the first commands were performed, and no more
-  ran_front : (now : Progress) (cs read rest : List Command) (faults : List ℕ) (came : Status) → cs ≡ read ++ rest → AreSpoken cs → AreCounted (length read) faults before now → TellsOfFaults faults before now → ChangeMarkBut faults read before now → SomePerformed read faults h before now
+  ran_front : (now : Progress) (cs read rest : List Command) (faults : List ℕ) (came : Status) → cs ≡ read ++ rest → AreSpoken cs → AreCounted (length read) faults before now → TellsOfFaults faults before now → ChangeMarkBut faults read before now → SyncsFor read before.disk_counts now.disk_counts → SomePerformed read faults h before now
       → (came ≡ status.Done → rest ≡ []) → came ≢ status.Script → came ≢ status.Disk
       → (came ≡ status.Source → AreTaken (Some bytes) now.source.left read) → ((a n : ℕ) → performed came a n ≡ a) → ScriptIsRun h bytes cs came before now
-  ran_front now cs read rest faults came e spoken counts calm mark some all unnamed sound taken same =
+  ran_front now cs read rest faults came e spoken counts calm mark syncs some all unnamed sound taken same =
       let numbers = subst (λ n. AreFaults n faults) (sym some.is_done.as_many) counts.numbers in
       let others = done_kept_rest before.session h.machine read some.done faults some.is_done numbers rest in
       subst (λ l. ScriptIsRun h bytes l came before now) (sym e) (record {
@@ -112,14 +114,15 @@ module _ (bytes : List ℕ) (h : History) (start : Progress) where
         tells = tells_front h.machine bytes before now read rest some.done others.0 faults came (others.1.0.spoken (subst AreSpoken e spoken)) some.is_done.as_many others.1.1 numbers some.performed.out all unnamed taken;
         leaves = keeps_front h some.done others.0 faults came before.session now.session numbers some.performed.stands (same (length some.done) (length (some.done ++ others.0)));
         mark = begun_front read rest faults counts.numbers (length some.done) some.is_done.as_many before.session.disk now.session.disk mark;
+        syncs = syncs_front read rest (length some.done + 1) before.disk_counts now.disk_counts (omega (arith, some.is_done.as_many)) syncs;
       })
 
   -- all were performed, and a part of the line that names a bad one went out
-  ran_line : (mid : Progress) (taken : Option (List ℕ)) (cs read : List Command) (faults : List ℕ) (n : ℕ) (came : Status) → cs ≡ read → AreSpoken cs → AreCounted (length read) faults before mid → TellsOfFaults faults before mid → ChangeMarkBut faults read before mid → SomePerformed read faults h before mid
+  ran_line : (mid : Progress) (taken : Option (List ℕ)) (cs read : List Command) (faults : List ℕ) (n : ℕ) (came : Status) → cs ≡ read → AreSpoken cs → AreCounted (length read) faults before mid → TellsOfFaults faults before mid → ChangeMarkBut faults read before mid → SyncsFor read before.disk_counts mid.disk_counts → SomePerformed read faults h before mid
       → Appends mid.taken taken (take n (bad_line (length read + 1)))
       → (came ≡ status.Script → take n (bad_line (length read + 1)) ≡ bad_line (length read + 1)) → came ≢ status.Done → came ≢ status.Source → came ≢ status.Disk → ¬ (ScriptSpells bytes read)
       → ((a : ℕ) → performed came a a ≡ a) → ScriptIsRun h bytes cs came before (with_taken mid taken)
-  ran_line mid taken cs read faults n came e spoken counts calm mark some part all undone unfailed sound unspelled same =
+  ran_line mid taken cs read faults n came e spoken counts calm mark syncs some part all undone unfailed sound unspelled same =
       let ds : List Command = some.done in
       let numbers = subst (λ n. AreFaults n faults) (sym some.is_done.as_many) counts.numbers in
       subst (λ l. ScriptIsRun h bytes l came before (with_taken mid taken)) (sym e) (record {
@@ -139,13 +142,16 @@ module _ (bytes : List ℕ) (h : History) (start : Progress) where
         mark =
             subst (λ l. ChangeMark (begun_of (length ds) faults l) before.session.disk mid.session.disk) (append-nil read)
             (begun_front read [] faults counts.numbers (length ds) some.is_done.as_many before.session.disk mid.session.disk mark);
+        syncs =
+            subst (λ l. SyncsFor (take (length ds + 1) l) before.disk_counts mid.disk_counts) (append-nil read)
+            (syncs_front read [] (length ds + 1) before.disk_counts mid.disk_counts (omega (arith, some.is_done.as_many)) syncs);
       })
 
   module _ (now : Progress) (cs read rest : List Command) (c : Command) (faults : List ℕ) (f : StoreFault) (e : cs ≡ (read ++ c ∷ []) ++ rest) (spoken : AreSpoken cs) (counts : AreCounted (length read) faults before now) where
     -- one more was begun
-    ran_cut : (f ≡ fault.Disk → RoseBy (suc (length faults)) before.disk_faults now.disk_faults) → (f ≢ fault.Disk → TellsOfFaults faults before now) → ChangeMarkBut faults (read ++ c ∷ []) before now → SomeCutOff read faults c f h before now
+    ran_cut : (f ≡ fault.Disk → RoseBy (suc (length faults)) before.disk_faults now.disk_faults) → (f ≢ fault.Disk → TellsOfFaults faults before now) → ChangeMarkBut faults (read ++ c ∷ []) before now → SyncsFor (read ++ c ∷ []) before.disk_counts now.disk_counts → SomeCutOff read faults c f h before now
         → ScriptIsRun h bytes cs (status_in (Err f)) before now
-    ran_cut disk calm mark some =
+    ran_cut disk calm mark syncs some =
         let ds : List Command = some.done in
         let d : Command = some.last in
         let all : List Command = (read ++ c ∷ []) ++ rest in
@@ -169,11 +175,12 @@ module _ (bytes : List ℕ) (h : History) (start : Progress) where
           for_good = λ is. some.cut_off.for_good others.0 (is_disk f is);
           leaves = keeps_cut h ds others.0 d faults numbers f before.session now.session some.cut_off.safe some.cut_off.effect;
           mark = begun_next read rest faults counts.numbers (length ds) some.as_long before.session.disk now.session.disk c mark;
+          syncs = syncs_front (read ++ c ∷ []) rest (length ds + 1) before.disk_counts now.disk_counts (omega (arith, some.as_long, length-append read (c ∷ []))) syncs;
         })
 
     -- one more was to be answered `fault`
-    ran_fault_cut : {tells : Bool} → FailsInLine tells read faults f before now → ChangeMarkBut faults read before now → SomeFaultCut read faults h before now → ScriptIsRun h bytes cs (status_in (Err f)) before now
-    ran_fault_cut line mark some =
+    ran_fault_cut : {tells : Bool} → FailsInLine tells read faults f before now → ChangeMarkBut faults read before now → SyncsFor (read ++ c ∷ []) before.disk_counts now.disk_counts → SomeFaultCut read faults h before now → ScriptIsRun h bytes cs (status_in (Err f)) before now
+    ran_fault_cut line mark syncs some =
         let ds : List Command = some.done in
         let all : List Command = (read ++ c ∷ []) ++ rest in
         let numbers = subst (λ n. AreFaults n faults) (sym some.is_done.as_many) counts.numbers in
@@ -196,6 +203,7 @@ module _ (bytes : List ℕ) (h : History) (start : Progress) where
           for_good = λ is. absurd (line.no_disk (is_disk f is));
           leaves = keeps_fault_cut h ds others.0 c faults numbers f before.session now.session some.stands;
           mark = begun_but_next read rest faults counts.numbers (length ds) some.is_done.as_many before.session.disk now.session.disk c mark;
+          syncs = syncs_front (read ++ c ∷ []) rest (length ds + 1) before.disk_counts now.disk_counts (omega (arith, some.is_done.as_many, length-append read (c ∷ []))) syncs;
         })
 
 -- ---- by how they ended
@@ -210,7 +218,7 @@ ran_nothing (Err f) before is = subst (λ x. PerformsScript (Err x) before befor
     go (Some bytes) = record {
       each = λ h cs keeps found.
           ran_front bytes h before (with_left before (Some bytes)) cs [] cs [] status.Memory refl (script_is_spoken cs found.front.commands) (record { numbers = tt; counted = omega arith }) (λ none. refl)
-          (none_change_mark [] before.session.disk before.session.disk refl) (record {
+          (none_change_mark [] before.session.disk before.session.disk refl) (omega arith) (record {
             done = [];
             is_done = record { as_many = refl; spoken = λ spoken. spoken; are_done = tt };
             performed = record { stands = leads_none before.session h keeps; out = Appends-nil before.taken };
@@ -227,7 +235,7 @@ module _ (before : Progress) where
         each = λ h cs keeps found.
             let ds : List Command = p.commands in
             ran_front bytes h before now cs ds [] p.faults status.Done (commands_are_one bytes cs ds found (whole_is_longest bytes ds p.ends.1) ∙ sym (append-nil ds)) (script_is_spoken cs found.front.commands) p.counts p.calm
-            (p.mark refl) ((p.performs refl).each h keeps) (λ e. refl) (λ e. absurd (cc e)) (λ e. absurd (cc e)) (λ e. absurd (cc e)) (λ a n. refl);
+            (p.mark refl) (p.syncs refl) ((p.performs refl).each h keeps) (λ e. refl) (λ e. absurd (cc e)) (λ e. absurd (cc e)) (λ e. absurd (cc e)) (λ a n. refl);
       }
 
   pub ran_failed : (now : Progress) → PerformsToEnd true ended.Failed before now → PerformsScript (Ok status.Source) before now
@@ -238,7 +246,7 @@ module _ (before : Progress) where
       go (Some bytes) p = record {
         each = λ h cs keeps found.
             let first = taken_first bytes now.source.left cs p.commands found p.ends in
-            ran_front bytes h before now cs p.commands first.0 p.faults status.Source first.1 (script_is_spoken cs found.front.commands) p.counts p.calm (p.mark refl) ((p.performs refl).each h keeps) (λ e. absurd (cc e)) (λ e. absurd (cc e))
+            ran_front bytes h before now cs p.commands first.0 p.faults status.Source first.1 (script_is_spoken cs found.front.commands) p.counts p.calm (p.mark refl) (p.syncs refl) ((p.performs refl).each h keeps) (λ e. absurd (cc e)) (λ e. absurd (cc e))
             (λ e. absurd (cc e)) (λ e. p.ends) (λ a n. refl);
       }
 
@@ -252,7 +260,7 @@ module _ (before : Progress) where
             let ds : List Command = p.commands in
             let text : List ℕ = bad_line (length ds + 1) in
             let whole : take (length text) text ≡ text = take_all (length text) text (omega arith) in
-            ran_line bytes h before mid taken cs ds p.faults (length text) status.Script (commands_are_one bytes cs ds found p.ends.1.0) (script_is_spoken cs found.front.commands) p.counts p.calm (p.mark refl) ((p.performs refl).each h keeps)
+            ran_line bytes h before mid taken cs ds p.faults (length text) status.Script (commands_are_one bytes cs ds found p.ends.1.0) (script_is_spoken cs found.front.commands) p.counts p.calm (p.mark refl) (p.syncs refl) ((p.performs refl).each h keeps)
             (subst (Appends mid.taken taken) (ap bad_line p.ends.0 ∙ sym whole) said) (λ e. whole) (λ e. absurd (cc e)) (λ e. absurd (cc e)) (λ e. absurd (cc e)) p.ends.1.1 (λ a. refl);
       }
 
@@ -267,7 +275,7 @@ module _ (before : Progress) where
       go (Some bytes) p = record {
         each = λ h cs keeps found.
             let ds : List Command = p.commands in
-            ran_line bytes h before mid taken cs ds p.faults cut.0 (status_in (Err x)) (commands_are_one bytes cs ds found p.ends.1.0) (script_is_spoken cs found.front.commands) p.counts p.calm (p.mark refl) ((p.performs refl).each h keeps)
+            ran_line bytes h before mid taken cs ds p.faults cut.0 (status_in (Err x)) (commands_are_one bytes cs ds found p.ends.1.0) (script_is_spoken cs found.front.commands) p.counts p.calm (p.mark refl) (p.syncs refl) ((p.performs refl).each h keeps)
             (subst (λ k. Appends mid.taken taken (take cut.0 (bad_line k))) p.ends.0 cut.1.1) (λ e. absurd (not_script x e)) (not_done x) (not_source x) (λ e. sound (sym is ∙ is_disk x e)) p.ends.1.1 (none_more x);
       }
 
@@ -282,7 +290,7 @@ module _ (before : Progress) where
             let first = front_is_first bytes b.front.0 cs (b.commands ++ b.last ∷ []) found b.front.1 in
             let counts = b.counts in
             elim b.fails [
-              | inl fails ↦ ran_cut bytes h before now cs b.commands first.0 b.last b.faults x first.1 (script_is_spoken cs found.front.commands) counts b.disk fails.calm (fails.mark refl) ((fails.each refl).each h keeps)
-              | inr line ↦ ran_fault_cut bytes h before now cs b.commands first.0 b.last b.faults x first.1 (script_is_spoken cs found.front.commands) counts line (line.mark refl) ((line.each refl).each h keeps)
+              | inl fails ↦ ran_cut bytes h before now cs b.commands first.0 b.last b.faults x first.1 (script_is_spoken cs found.front.commands) counts b.disk fails.calm (fails.mark refl) (b.syncs refl) ((fails.each refl).each h keeps)
+              | inr line ↦ ran_fault_cut bytes h before now cs b.commands first.0 b.last b.faults x first.1 (script_is_spoken cs found.front.commands) counts line (line.mark refl) (b.syncs refl) ((line.each refl).each h keeps)
             ];
       }

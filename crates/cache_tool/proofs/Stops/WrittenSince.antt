@@ -1,29 +1,25 @@
 -- What is found after some commands was found before them, or one of them wrote it.
-use Rattle.std.proofs.Common.{◌≡◌, ◌⊎◌, inl, inr, ℕ, zero, suc, ◌+◌, ◌≤◌, List, [], ◌∷◌, length, get_or, false, Option, Some, None, refl, sym, ap, subst, ◌∙◌, arith}
+use Rattle.std.proofs.Common.{◌≡◌, ◌⊎◌, inl, inr, ℕ, zero, suc, ◌+◌, ◌≤◌, List, [], ◌∷◌, length, get_or, Some, None, refl, sym, ap, subst, ◌∙◌, arith}
 use Rattle.std.specs.List.{AllByRecursion}
-use Rattle.std.specs.Prelude.{slice_get, unwrap_or}
+use Rattle.std.specs.Prelude.{slice_get}
 use Rattle.std.proofs.lemmas.Option.{slice_get-get_or}
 use Rattle.cache_theory.specs.Command.{Command}
 use Rattle.cache_theory.specs.Command.Command.{ClearNames, ClearOrigin, Flush, Resume, ResumeNames}
 use Rattle.cache_theory.specs.Given.{IsGiven}
-use Rattle.cache_theory.specs.Machine.{Machine, Object, nobody, object}
+use Rattle.cache_theory.specs.Machine.{Machine, object}
 use Rattle.cache_theory.specs.Proper.{IsProper}
 use Rattle.cache_theory.specs.Step.{after, step}
 use Rattle.cache_theory.specs.Table.{get}
 use Rattle.cache_theory.specs.Wording.{IsWrittenIn, state_at}
-use Rattle.cache_theory.proofs.Clears.ClearedNames.{found_by}
+use Rattle.cache_theory.proofs.Clears.ClearedGone.{filed_version}
 use Rattle.cache_theory.proofs.Clears.ClearedSessions.{grow_between, proper_at, written_among_more}
 use Rattle.cache_theory.proofs.Clears.MarkStays.{mark_stays, no_mark_is_left}
-use Rattle.cache_theory.proofs.CrashImages.Readings.{reads_whole}
 use Rattle.cache_theory.proofs.ObjectLaws.DoomedObjects.{undoomed_before, undoomed_object}
-use Rattle.cache_theory.proofs.ObjectLaws.Objects.{nth}
-use Rattle.cache_theory.proofs.ShelfSteps.{IsFiled, IsShelvedBy, shelved_by}
+use Rattle.cache_theory.proofs.ShelfSteps.{IsShelvedBy, shelved_by}
 use Rattle.cache_theory.proofs.ShelfSteps.IsShelvedBy.{Comes, Goes, Stays}
 use Rattle.cache_theory.proofs.Wording.Worded.{state_next}
-use Rattle.entry_file.specs.EntryFile.{found, read, read_for, whole_in}
-use Rattle.entry_file.specs.EntryFile.Reading.{Whole}
-use Rattle.entry_file.specs.Version.{IsVersion, Version, file_of}
-use Rattle.entry_file.proofs.EntryLaws.{is_file_of}
+use Rattle.entry_file.specs.EntryFile.{found, read_for, whole_in}
+use Rattle.entry_file.specs.Version.{Version}
 use Rattle.entry_name.specs.EntryName.{file_name}
 
 -- ---- no mark is left by commands that begin without one
@@ -40,26 +36,6 @@ no_mark_after_all t [] is = is
 no_mark_after_all t (c ∷ cs) is = no_mark_after_all (step t c).next cs (no_mark_after t c is)
 
 -- ---- versions
-
--- an undoomed object is there
-undoomed_there : (objects : List Object) (i : ℕ) → (nth objects i).doomed ≡ false → slice_get objects i ≡ Some (nth objects i)
-undoomed_there objects i un = go (slice_get objects i) refl un
-  where
-    go : (o : Option Object) → slice_get objects i ≡ o → (unwrap_or o nobody).doomed ≡ false → slice_get objects i ≡ Some (unwrap_or o nobody)
-    go None at un = absurd (cc)
-    go (Some x) at un = at
-
--- what is found for a key where an object's file stands is the object's version
-filed_version : (t : Machine) (i : ℕ) (key : List ℕ) (v : Version) → IsProper t → IsFiled t i (file_name key) → found (get t.shelf) key ≡ Some v → (object t i).version ≡ v
-filed_version t i key v proper filed is =
-    let o : Object = object t i in
-    let version : IsVersion o.version = (proper.objects i o (undoomed_there t.objects i filed.undoomed)).version filed.finished in
-    let by = found_by (get t.shelf (file_name key)) key v is in
-    let content : file_of o.version ≡ by.content = let same = sym filed.content ∙ by.is in cc in
-    let reads : read (file_name key) by.content ≡ Whole o.version =
-    subst (λ c. read (file_name key) c ≡ Whole o.version) content (reads_whole (file_name key) (file_of o.version) o.version version filed.named (is_file_of o.version)) in
-    let same : Whole o.version ≡ Whole v = sym reads ∙ by.whole in
-    cc
 
 module _ (m : Machine) (cs : List Command) (proper : IsProper m) (given : AllByRecursion IsGiven cs) (f : ℕ) (key : List ℕ) (v : Version) where
   -- it was found after the first f commands, or was written after them and up to n

@@ -38,6 +38,7 @@ impl Disk for MemDisk {
         ensures fails { IsErrOf result DiskFault.Failed → FailsNext self.old }
         ensures done { OnOk result (¬ (FailsNext self.old)) }
     {
+        self.syncs = self.syncs.saturating_add(1);
         if self.begin() {
             self.fail_sync();
             return Err(DiskFault::Failed);

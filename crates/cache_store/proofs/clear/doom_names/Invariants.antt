@@ -1,7 +1,7 @@
 use Rattle.std.proofs.Common.{IsTrue, drop, take}
 use Rattle.cache_store.specs.Clearing.{HoldsNames}
 use Rattle.cache_store.proofs.Clearing.NamesDoomed.{Completes}
-use Rattle.disk_model.specs.Account.{IsCalm, LooksAtNoEntry}
+use Rattle.disk_model.specs.Account.{IsCalm, LooksAtNoEntry, no_sync}
 use Rattle.disk_model.specs.Told.{Told}
 use Rattle.file_handles.specs.Cache.{cache}
 use Rattle.file_handles.specs.Dooming.{LeavesMark, TakesInOrder}
@@ -20,6 +20,6 @@ invariant-loop-name g l = record {
   mark : Told g.D.Disk LeavesMark l.fn.disk l.disk;
   takes : Told g.D.Disk (TakesInOrder (take l.name-index l.names)) l.fn.disk l.disk;
   index : Told g.D.Disk LeavesBeside l.fn.disk l.disk;
-  calm : IsCalm g.D.Disk l.fn.disk l.disk;
+  calm : IsCalm g.D.Disk no_sync l.fn.disk l.disk;
   looks : LooksAtNoEntry g.D.Disk l.fn.disk l.disk;
 }

@@ -49,5 +49,6 @@ loop-name-preserved g c =
       kept = search rules;
       state = search rules;
       calm = search rules;
+      unsynced = search rules;
       sink = search rules;
     }

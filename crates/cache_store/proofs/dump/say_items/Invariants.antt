@@ -1,7 +1,7 @@
 use Rattle.std.proofs.Common.{◌≡◌, ◌≤◌, IsTrue, drop}
 use Rattle.cache_check.specs.Checks.{AllStand, files_of}
 use Rattle.cache_export.specs.declared.limits.TheConstants.{DUMP_MAX}
-use Rattle.disk_model.specs.Account.{IsCalm}
+use Rattle.disk_model.specs.Account.{IsCalm, no_sync}
 use Rattle.file_handles.specs.Kept.{kept}
 use Rattle.cache_store.specs.Dumping.{items_from}
 use Rattle.cache_store.specs.Said.{saying}
@@ -17,6 +17,7 @@ invariant-loop-name g l = record {
       (items_from l.used (files_of (g.D.Disk.state l.fn.disk) (drop l.name-index l.names))) (items_from 8 (files_of (g.D.Disk.state l.fn.disk) l.fn.names));
   kept : kept l.handles ≡ kept l.fn.handles;
   state : IsTrue g.D.Disk.tells → g.D.Disk.state l.disk ≡ g.D.Disk.state l.fn.disk;
-  calm : IsCalm g.D.Disk l.fn.disk l.disk;
+  calm : IsCalm g.D.Disk no_sync l.fn.disk l.disk;
+  unsynced : IsTrue g.D.Disk.tells → (g.D.Disk.counts l.disk).syncs ≡ (g.D.Disk.counts l.fn.disk).syncs;
   sink : g.K.Sink.faults l.sink ≡ g.K.Sink.faults l.fn.sink;
 }

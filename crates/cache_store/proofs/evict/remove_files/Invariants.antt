@@ -1,7 +1,7 @@
 use Rattle.std.proofs.Common.{◌≡◌, IsTrue, drop}
 use Rattle.cache_store.specs.Evicting.{AreUnused, HoldsFiles}
 use Rattle.cache_store.proofs.Clearing.NamesDoomed.{Completes}
-use Rattle.disk_model.specs.Account.{IsCalm, LooksAtNoEntry}
+use Rattle.disk_model.specs.Account.{IsCalm, LooksAtNoEntry, no_sync}
 use Rattle.disk_model.specs.Told.{Told}
 use Rattle.file_handles.specs.Cache.{cache}
 use Rattle.file_handles.specs.Dooming.{TakesEntries}
@@ -21,6 +21,6 @@ invariant-loop-name g l = record {
   index : Told g.D.Disk LeavesBeside l.fn.disk l.disk;
   takes : Told g.D.Disk TakesEntries l.fn.disk l.disk;
   unsynced : Told g.D.Disk SyncsNothing l.fn.disk l.disk;
-  calm : IsCalm g.D.Disk l.fn.disk l.disk;
+  calm : IsCalm g.D.Disk no_sync l.fn.disk l.disk;
   looks : LooksAtNoEntry g.D.Disk l.fn.disk l.disk;
 }

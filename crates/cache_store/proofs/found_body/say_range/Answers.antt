@@ -77,7 +77,8 @@ loop-at-preserved g c =
       kept = search rules;
       first = λ told here. absurd (let behind = l.invariant.behind in let on = next_on l.at r.to some in omega (arith, behind, here, on, next));
       state = search rules;
-      calm = record { faults = search rules; no_change = search rules };
+      calm = record { faults = search rules; no_change = search rules; syncs = search rules };
+      unsynced = search rules;
       sink = search rules;
     }
 

@@ -1,7 +1,7 @@
 use Rattle.std.proofs.Common.{◌≡◌, ◌-◌, ◌<◌, ◌≤◌, ◌/◌}
 use Rattle.std.specs.Bool.{IsTrue}
 use Rattle.cache_base.specs.Limits.{chunk_size}
-use Rattle.disk_model.specs.Account.{IsCalm}
+use Rattle.disk_model.specs.Account.{IsCalm, no_sync}
 use Rattle.disk_model.specs.State.{standing}
 use Rattle.file_handles.specs.Kept.{kept}
 use Rattle.cache_store.specs.Prefix.{ForPrefix, HasChunkAt, range_of}
@@ -22,7 +22,8 @@ invariant-loop-at g l = record {
   kept : kept l.handles ≡ kept l.fn.handles;
   first : IsTrue g.D.Disk.tells → l.at ≡ l.range.from → l.range.from < l.range.to → HasChunkAt (standing (g.D.Disk.state l.fn.disk) l.range.place.now) l.range.len (l.at / chunk_size) l.handles.chunk;
   state : IsTrue g.D.Disk.tells → g.D.Disk.state l.disk ≡ g.D.Disk.state l.fn.disk;
-  calm : IsCalm g.D.Disk l.fn.disk l.disk;
+  calm : IsCalm g.D.Disk no_sync l.fn.disk l.disk;
+  unsynced : IsTrue g.D.Disk.tells → (g.D.Disk.counts l.disk).syncs ≡ (g.D.Disk.counts l.fn.disk).syncs;
   sink : g.K.Sink.faults l.sink ≡ g.K.Sink.faults l.fn.sink;
 }
 

@@ -1,5 +1,7 @@
 use Rattle.std.proofs.Common.{◌≡◌, ◌∙◌, ◌+◌, ◌-◌, ◌<◌, List, ℕ, ap, drop, rules, take, subst, sym, arith, length}
 use Rattle.cache_theory.specs.Machine.{object_of}
+use Rattle.disk_model.specs.Account.{no_sync}
+use Rattle.file_handles.proofs.Accounting.{syncs_same}
 use Rattle.file_handles.specs.Kept.{Kept, kept}
 use Rattle.file_handles.specs.Reading.{IsPartHeld}
 use Rattle.cache_store.specs.Reads.{LastIsFirst}
@@ -97,7 +99,9 @@ loop-done-preserved g c = record {
   calm = record {
     faults = search rules;
     no_change = λ told. c.say_part.ensures.looks.no_change told ∙ c.loop-done.invariant.calm.no_change told;
+    syncs = syncs_same g.D.Disk no_sync _ _ _ c.loop-done.invariant.calm.syncs c.say_part.ensures.looks.unsynced;
   };
+  unsynced = λ told. c.say_part.ensures.looks.unsynced told ∙ c.loop-done.invariant.unsynced told;
   sink = search rules;
 }
 

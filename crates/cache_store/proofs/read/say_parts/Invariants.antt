@@ -1,5 +1,5 @@
 use Rattle.std.proofs.Common.{◌-◌, ◌≡◌, ◌<◌, ◌≤◌, [], IsTrue, drop, length, take}
-use Rattle.disk_model.specs.Account.{IsCalm}
+use Rattle.disk_model.specs.Account.{IsCalm, no_sync}
 use Rattle.file_handles.specs.Cache.{cache}
 use Rattle.file_handles.specs.Kept.{kept}
 use Rattle.file_handles.specs.Reading.{ForBody, HoldsAsBefore, LosesNone, SameButChunks, part_of_body}
@@ -23,7 +23,8 @@ invariant-loop-done g l = record {
   held : AreHeld (kept l.fn.handles) l.span.slot l.span.from l.span.len → (l.disk ≡ l.fn.disk) × LosesNone (kept l.fn.handles) (kept l.handles);
   recent : IsTrue g.D.Disk.tells → LastIsFirst (kept l.fn.handles) l.span.slot l.span.from l.done (kept l.handles);
   state : IsTrue g.D.Disk.tells → g.D.Disk.state l.disk ≡ g.D.Disk.state l.fn.disk;
-  calm : IsCalm g.D.Disk l.fn.disk l.disk;
+  calm : IsCalm g.D.Disk no_sync l.fn.disk l.disk;
+  unsynced : IsTrue g.D.Disk.tells → (g.D.Disk.counts l.disk).syncs ≡ (g.D.Disk.counts l.fn.disk).syncs;
   sink : g.K.Sink.faults l.sink ≡ g.K.Sink.faults l.fn.sink;
 }
 

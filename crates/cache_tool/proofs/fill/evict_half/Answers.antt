@@ -1,7 +1,9 @@
+use Rattle.std.proofs.Common.{arith}
 use Rattle.cache_store.specs.Session.{session}
 use Rattle.cache_tool.specs.HeldReply.{said_in}
 use Rattle.cache_tool.proofs.Fills.FillHalf.{half_evicted, half_fails, half_handed, half_ok}
 use Rattle.cache_tool.proofs.Handed.{handed_open, handed_account, looks_account}
+use Rattle.disk_model.specs.Account.{no_sync}
 use Rattle.cache_tool.proofs.fill.evict_half.Goals as goal
 
 pub returns-in_err-kilobytes-clause-evicts : goal.returns-in_err-kilobytes-clause-evicts
@@ -34,5 +36,5 @@ returns-in_err-send-clause-open g c = λ told.
 
 pub returns-in_err-send-clause-account : goal.returns-in_err-send-clause-account
 returns-in_err-send-clause-account g c =
-    handed_account g.D.Disk c.from_residual-in_err-send.result c.in_err-send.field-0.0 c.args.disk.now c.kilobytes.new.disk c.send.new.disk c.from_residual-in_err-send.ensures.1
+    handed_account g.D.Disk no_sync c.from_residual-in_err-send.result c.in_err-send.field-0.0 c.args.disk.now c.kilobytes.new.disk c.send.new.disk (omega arith) c.from_residual-in_err-send.ensures.1
     (looks_account g.D.Disk c.args.disk.now c.kilobytes.new.disk c.in_ok-kilobytes.ensures.looks) c.in_err-send.ensures.account

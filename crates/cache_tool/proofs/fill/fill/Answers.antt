@@ -1,9 +1,11 @@
-use Rattle.std.proofs.Common.{ap, inl, inr, refl, subst, []}
+use Rattle.std.proofs.Common.{◌+◌, ap, inl, inr, refl, subst, []}
 use Rattle.cache_base.specs.declared.status.Status.TheVariants as status
 use Rattle.cache_store.specs.Session.{session}
 use Rattle.cache_theory.specs.History.{acked, settled_at}
 use Rattle.cache_tool.specs.Statuses.{status_in}
 use Rattle.cache_tool.specs.World.{output}
+use Rattle.cache_tool.proofs.SyncLaws.{syncs_run}
+use Rattle.cache_store.specs.Syncs.{writing_syncs}
 use Rattle.cache_tool.proofs.Fills.FillEnds.{answered, answers_only, ends_so, not_answered, prints_so}
 use Rattle.cache_tool.proofs.ForGood.{ended_last, only_came}
 use Rattle.cache_tool.proofs.Growing.{takes_none, takes_part}
@@ -18,7 +20,7 @@ use Rattle.cache_tool.proofs.fill.fill.Goals as goal
 pub returns-in-Err-clause-fills : goal.returns-in-Err-clause-fills
 returns-in-Err-clause-fills g c = λ told m is.
     inr (not_begun (output g.K.Sink g.D.Disk c.args.sink.now c.args.disk.now) (g.D.Disk.state c.begin.new.disk) (g.D.Disk.faults c.begin.new.disk) c.begin.result c.in-Err.fault c.status_of_fault.result c.in-Err.is
-    c.begin.ensures.no_sink c.status_of_fault.ensures c.begin.ensures.account.cause.rose (λ failed. c.begin.ensures.account.last failed told) (c.in-Err.ensures.fails told) m is)
+    c.begin.ensures.no_sink c.status_of_fault.ensures c.begin.ensures.account.cause.rose (λ failed. c.begin.ensures.account.last failed told) (c.begin.ensures.account.syncs told) (c.in-Err.ensures.fails told) m is)
 
 pub returns-in-Done-clause-fills : goal.returns-in-Done-clause-fills
 returns-in-Done-clause-fills g c = λ told m is.
@@ -101,6 +103,9 @@ returns g c =
       others = ends_so came c.end.result c.perform_fill-came.ensures.only c.perform_fill-came.ensures.no_sink c.end.ensures.same;
       mark = λ told. closed_leaves_mark [] _ _ _ _ (c.in-Ok.ensures.begins told).mark (kept_change_mark _ _ (c.perform_fill-came.ensures.performs told).mark) (c.end.ensures.ends told).mark;
       quiet = c.end.ensures.quiet;
+      syncs = λ told.
+          syncs_run (c.args.count + writing_syncs) (g.D.Disk.counts c.args.disk.now) (g.D.Disk.counts c.begin.new.disk) (g.D.Disk.counts c.perform_fill-came.new.disk) (g.D.Disk.counts c.end.new.disk)
+          (c.in-Ok.ensures.account.syncs told) (c.perform_fill-came.ensures.account.syncs told) (c.end.ensures.syncs told);
       stops = λ told.
           put_stops (g.D.Disk.counts c.args.disk.now) (g.D.Disk.counts c.begin.new.disk) (c.in-Ok.ensures.account.went_on refl told) came
           (g.D.Disk.counts c.perform_fill-came.new.disk) (g.D.Disk.counts c.end.new.disk) (λ calm. c.perform_fill-came.ensures.account.went_on calm told)

@@ -1,7 +1,7 @@
 use Rattle.std.proofs.Common.{◌∙◌, ◌+◌, ap, arith, refl, sym}
 use Rattle.cache_store.specs.Session.{session}
 use Rattle.cache_tool.specs.Fill.{entries_commands, next_number}
-use Rattle.file_handles.proofs.Accounting.{calm_then}
+use Rattle.file_handles.proofs.Accounting.{calm_sum}
 use Rattle.cache_tool.proofs.Fills.FillRuns.{entries_fail, entries_then, number_next, run_never, run_none}
 use Rattle.cache_tool.proofs.RightLaws.{open_leaves_honest}
 use Rattle.cache_tool.proofs.fill.make_entries.Goals as goal
@@ -21,7 +21,7 @@ loop-i-init g c = record {
   x = refl;
   runs = λ told. run_none (session g.D.Disk c.args.store.now c.args.disk.now);
   stands = c.requires.told;
-  calm = record { faults = refl; no_change = λ told. refl };
+  calm = record { faults = refl; no_change = λ told. refl; syncs = λ told. omega arith };
 }
 
 pub loop-i-preserved : goal.loop-i-preserved
@@ -34,7 +34,7 @@ loop-i-preserved g c =
       x = x;
       runs = λ told. entries_then c.args.now c.args.first c.loop-i.i c.next-x.result _ s0 s1 s2 x (c.loop-i.invariant.runs told) (c.in_ok-make_entry.ensures.runs told c.next-x.result c.body-bytes.ensures);
       stands = λ told. c.in_ok-make_entry.ensures.open told refl;
-      calm = calm_then g.D.Disk c.args.disk.now c.loop-i.disk c.make_entry.new.disk c.loop-i.invariant.calm c.in_ok-make_entry.ensures.account;
+      calm = calm_sum g.D.Disk (c.loop-i.i + 1) c.args.disk.now c.loop-i.disk c.make_entry.new.disk (omega arith) c.loop-i.invariant.calm c.in_ok-make_entry.ensures.account;
     }
 
 pub returns-in_err-make_entry-clause-runs : goal.returns-in_err-make_entry-clause-runs

@@ -12,5 +12,5 @@ invariant-loop-i g l = record {
   x : l.x ≡ number_at l.first l.i;
   runs : IsTrue g.D.Disk.tells → RunsAll {T = Unit {0}} (entries_commands l.now l.first l.i) (Ok tt) (session g.D.Disk l.fn.store l.fn.disk) (session g.D.Disk l.store l.disk);
   stands : IsTrue g.D.Disk.tells → IsOpen (session g.D.Disk l.store l.disk);
-  calm : IsCalm g.D.Disk l.fn.disk l.disk;
+  calm : IsCalm g.D.Disk l.i l.fn.disk l.disk;
 }

@@ -7,7 +7,7 @@ use Rattle.cache_tool.specs.HeldReply.{said_in}
 use Rattle.cache_tool.proofs.Fills.FillRuns.{appending_fails, closing_fails, creating_fails, entry_made, run_never, timing_fails}
 use Rattle.cache_tool.proofs.Handed.{handed_account, handed_open}
 use Rattle.cache_tool.proofs.RightLaws.{open_leaves_honest}
-use Rattle.disk_model.specs.Account.{Ending}
+use Rattle.disk_model.specs.Account.{Ending, one_sync}
 use Rattle.file_handles.proofs.Accounting.{accounts_then}
 use Rattle.cache_tool.proofs.fill.make_entry.Goals as goal
 
@@ -64,17 +64,17 @@ send-requires-3-clause-given g c = (omega arith, all_below 256 c.args.bytes.now 
 
 pub returns-in_err-send-4-clause-account : goal.returns-in_err-send-4-clause-account
 returns-in_err-send-4-clause-account g c =
-    handed_account g.D.Disk c.from_residual-in_err-send-4.result c.in_err-send-4.field-0.0 c.args.disk.now c.send-3.new.disk c.send-4.new.disk c.from_residual-in_err-send-4.ensures.1
+    handed_account g.D.Disk one_sync c.from_residual-in_err-send-4.result c.in_err-send-4.field-0.0 c.args.disk.now c.send-3.new.disk c.send-4.new.disk (omega arith) c.from_residual-in_err-send-4.ensures.1
     (accounts_then g.D.Disk Ending.NoneFailed c.args.disk.now c.send-2.new.disk c.send-3.new.disk (accounts_then g.D.Disk Ending.NoneFailed c.args.disk.now c.send.new.disk c.send-2.new.disk c.in_ok-send.ensures.account c.in_ok-send-2.ensures.account) c.in_ok-send-3.ensures.account) c.in_err-send-4.ensures.account
 
 pub returns-in_err-send-2-clause-account : goal.returns-in_err-send-2-clause-account
 returns-in_err-send-2-clause-account g c =
-    handed_account g.D.Disk c.from_residual-in_err-send-2.result c.in_err-send-2.field-0.0 c.args.disk.now c.send.new.disk c.send-2.new.disk c.from_residual-in_err-send-2.ensures.1
+    handed_account g.D.Disk one_sync c.from_residual-in_err-send-2.result c.in_err-send-2.field-0.0 c.args.disk.now c.send.new.disk c.send-2.new.disk (omega arith) c.from_residual-in_err-send-2.ensures.1
     c.in_ok-send.ensures.account c.in_err-send-2.ensures.account
 
 pub returns-in_err-send-3-clause-account : goal.returns-in_err-send-3-clause-account
 returns-in_err-send-3-clause-account g c =
-    handed_account g.D.Disk c.from_residual-in_err-send-3.result c.in_err-send-3.field-0.0 c.args.disk.now c.send-2.new.disk c.send-3.new.disk c.from_residual-in_err-send-3.ensures.1
+    handed_account g.D.Disk one_sync c.from_residual-in_err-send-3.result c.in_err-send-3.field-0.0 c.args.disk.now c.send-2.new.disk c.send-3.new.disk (omega arith) c.from_residual-in_err-send-3.ensures.1
     (accounts_then g.D.Disk Ending.NoneFailed c.args.disk.now c.send.new.disk c.send-2.new.disk c.in_ok-send.ensures.account c.in_ok-send-2.ensures.account) c.in_err-send-3.ensures.account
 
 pub returns-in_err-send-2-clause-open : goal.returns-in_err-send-2-clause-open

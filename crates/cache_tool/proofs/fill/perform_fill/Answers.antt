@@ -1,4 +1,5 @@
-use Rattle.std.proofs.Common.{◌∙◌, ◌++◌, ap, refl}
+use Rattle.std.proofs.Common.{◌+◌, ◌∙◌, ◌++◌, ap, arith, refl, rules}
+use Rattle.cache_store.specs.Syncs.{writing_syncs}
 use Rattle.std.specs.Prelude.{codes}
 use Rattle.cache_store.specs.Session.{session}
 use Rattle.cache_theory.specs.Command.Command.{ListRecords, Verify}
@@ -10,7 +11,7 @@ use Rattle.cache_tool.proofs.Handed.{handed_account}
 use Rattle.cache_tool.proofs.MarkLeft.{others_keep, stays_mark, then_stays}
 use Rattle.cache_tool.proofs.RightLaws.{open_leaves_honest}
 use Rattle.disk_model.specs.Account.{Ending}
-use Rattle.file_handles.proofs.Accounting.{accounts_then}
+use Rattle.file_handles.proofs.Accounting.{accounts_sum}
 use Rattle.cache_tool.proofs.fill.perform_fill.Goals as goal
 
 pub returns-in_err-say_made-clause-performs : goal.returns-in_err-say_made-clause-performs
@@ -132,11 +133,27 @@ returns-in_err-say_made-clause-honest g c = λ told. open_leaves_honest (session
 -- the faults are accounted for
 pub returns-in_err-checked-clause-account : goal.returns-in_err-checked-clause-account
 returns-in_err-checked-clause-account g c =
-    let halved = accounts_then g.D.Disk Ending.NoneFailed c.args.disk.now c.make_all.new.disk c.evict_half.new.disk c.in_ok-make_all.ensures.account c.in_ok-evict_half.ensures.account in
-    handed_account g.D.Disk c.from_residual-in_err-checked.result c.in_err-checked.field-0.0 c.args.disk.now c.evict_half.new.disk c.send.new.disk c.from_residual-in_err-checked.ensures.1 halved c.in_err-checked.ensures.account
+    let all = c.args.count + writing_syncs in
+    let halved = accounts_sum g.D.Disk Ending.NoneFailed all c.args.disk.now c.make_all.new.disk c.evict_half.new.disk (omega arith) c.in_ok-make_all.ensures.account c.in_ok-evict_half.ensures.account in
+    handed_account g.D.Disk all c.from_residual-in_err-checked.result c.in_err-checked.field-0.0 c.args.disk.now c.evict_half.new.disk c.send.new.disk (omega arith) c.from_residual-in_err-checked.ensures.1 halved c.in_err-checked.ensures.account
 
 pub returns-in_err-send-clause-account : goal.returns-in_err-send-clause-account
 returns-in_err-send-clause-account g c =
-    let halved = accounts_then g.D.Disk Ending.NoneFailed c.args.disk.now c.make_all.new.disk c.evict_half.new.disk c.in_ok-make_all.ensures.account c.in_ok-evict_half.ensures.account in
-    let checked = accounts_then g.D.Disk Ending.NoneFailed c.args.disk.now c.evict_half.new.disk c.send.new.disk halved c.in_ok-checked.ensures.account in
-    handed_account g.D.Disk c.from_residual-in_err-send.result c.in_err-send.field-0.0 c.args.disk.now c.send.new.disk c.send-2.new.disk c.from_residual-in_err-send.ensures.1 checked c.in_err-send.ensures.account
+    let all = c.args.count + writing_syncs in
+    let halved = accounts_sum g.D.Disk Ending.NoneFailed all c.args.disk.now c.make_all.new.disk c.evict_half.new.disk (omega arith) c.in_ok-make_all.ensures.account c.in_ok-evict_half.ensures.account in
+    let checked = accounts_sum g.D.Disk Ending.NoneFailed all c.args.disk.now c.evict_half.new.disk c.send.new.disk (omega arith) halved c.in_ok-checked.ensures.account in
+    handed_account g.D.Disk all c.from_residual-in_err-send.result c.in_err-send.field-0.0 c.args.disk.now c.send.new.disk c.send-2.new.disk (omega arith) c.from_residual-in_err-send.ensures.1 checked c.in_err-send.ensures.account
+
+pub returns-in_err-keep_line-3-clause-account : goal.returns-in_err-keep_line-3-clause-account
+returns-in_err-keep_line-3-clause-account g c = record {
+  cause = search rules;
+  went_on = search rules;
+  stops = search rules;
+  last = search rules;
+  syncs = λ told.
+      let made = c.in_ok-make_all.ensures.account.syncs told in
+      let halved = c.in_ok-evict_half.ensures.account.syncs told in
+      let checked = c.in_ok-checked.ensures.account.syncs told in
+      let listed = c.in_ok-send.ensures.account.syncs told in
+      omega (arith, made, halved, checked, listed);
+}

@@ -1,4 +1,5 @@
-use Rattle.std.proofs.Common.{[], ◌∷◌, refl}
+use Rattle.std.proofs.Common.{[], ◌∷◌, arith, refl}
+use Rattle.cache_tool.specs.Syncs.{item_syncs}
 use Rattle.cache_store.specs.Session.{session}
 use Rattle.cache_theory.specs.Command.Command.{Close, FinishAs}
 use Rattle.cache_tool.specs.HeldReply.{said_in}
@@ -44,5 +45,5 @@ returns-clause-runs g c = λ told.
 
 pub returns-in_err-send-2-clause-account : goal.returns-in_err-send-2-clause-account
 returns-in_err-send-2-clause-account g c =
-    handed_account g.D.Disk c.from_residual-in_err-send-2.result c.in_err-send-2.field-0.0 c.args.disk.now c.send.new.disk c.send-2.new.disk c.from_residual-in_err-send-2.ensures.1
+    handed_account g.D.Disk item_syncs c.from_residual-in_err-send-2.result c.in_err-send-2.field-0.0 c.args.disk.now c.send.new.disk c.send-2.new.disk (omega arith) c.from_residual-in_err-send-2.ensures.1
     c.in_ok-send.ensures.account c.in_err-send-2.ensures.account

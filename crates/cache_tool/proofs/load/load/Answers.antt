@@ -20,7 +20,7 @@ returns-in-Err-clause-loads g c = λ told.
     loads_told c.args.now c.status_of_fault.result (world g.S.Source g.K.Sink g.D.Disk c.args.source.now c.args.sink.now c.args.disk.now)
     (world g.S.Source g.K.Sink g.D.Disk c.args.source.now c.args.sink.now c.begin.new.disk) (λ bytes from m is. inr (
       not_begun (output g.K.Sink g.D.Disk c.args.sink.now c.args.disk.now) (g.D.Disk.state c.begin.new.disk) (g.D.Disk.faults c.begin.new.disk) c.begin.result c.in-Err.fault c.status_of_fault.result c.in-Err.is
-          c.begin.ensures.no_sink c.status_of_fault.ensures c.begin.ensures.account.cause.rose (λ failed. c.begin.ensures.account.last failed told) (c.in-Err.ensures.fails told) m is,
+          c.begin.ensures.no_sink c.status_of_fault.ensures c.begin.ensures.account.cause.rose (λ failed. c.begin.ensures.account.last failed told) (c.begin.ensures.account.syncs told) (c.in-Err.ensures.fails told) m is,
       refl,
     ))
 
@@ -39,7 +39,7 @@ returns-in-Done-clause-loads g c = λ told.
         line_said (IsTrue g.D.Disk.tells) told bytes c.perform_load-came.result c.end.result (world g.S.Source g.K.Sink g.D.Disk c.args.source.now c.args.sink.now c.args.disk.now)
             (g.S.Source.left c.perform_load-came.new.source) mid (session g.D.Disk c.perform_load-came.new.store c.perform_load-came.new.disk) (g.D.Disk.state c.end.new.disk) c.perform_load-came.new.line begins m is from
             c.perform_load-came.ensures.performs (c.end.ensures.ends told) c.end.ensures.same c.perform_load-came.ensures.no_sink (c.perform_load-came.ensures.honest told)
-            (λ dropped. ap g.D.Disk.state (c.end.ensures.dropped dropped).1) c.print_answer.result (g.K.Sink.taken c.print_answer.new.sink) (inl c.in-Done.is)
+            (λ dropped. ap g.D.Disk.state (c.end.ensures.dropped dropped).1) (c.in-Ok.ensures.account.syncs told) c.print_answer.result (g.K.Sink.taken c.print_answer.new.sink) (c.end.ensures.syncs told) (inl c.in-Done.is)
             (subst (SaysLine c.end.result c.print_answer.result (g.K.Sink.taken c.args.sink.now) (g.K.Sink.taken c.print_answer.new.sink)) c.as_slice.ensures
             (record {
               same = rw c.in-Done.is c.print_answer.ensures.same;
@@ -73,7 +73,7 @@ returns-in-Script-clause-loads g c = λ told.
         line_said (IsTrue g.D.Disk.tells) told bytes c.perform_load-came.result c.end.result (world g.S.Source g.K.Sink g.D.Disk c.args.source.now c.args.sink.now c.args.disk.now)
             (g.S.Source.left c.perform_load-came.new.source) mid (session g.D.Disk c.perform_load-came.new.store c.perform_load-came.new.disk) (g.D.Disk.state c.end.new.disk) c.perform_load-came.new.line begins m is from
             c.perform_load-came.ensures.performs (c.end.ensures.ends told) c.end.ensures.same c.perform_load-came.ensures.no_sink (c.perform_load-came.ensures.honest told)
-            (λ dropped. ap g.D.Disk.state (c.end.ensures.dropped dropped).1) c.print_answer-in-Script.result (g.K.Sink.taken c.print_answer-in-Script.new.sink) (inr c.in-Script.is)
+            (λ dropped. ap g.D.Disk.state (c.end.ensures.dropped dropped).1) (c.in-Ok.ensures.account.syncs told) c.print_answer-in-Script.result (g.K.Sink.taken c.print_answer-in-Script.new.sink) (c.end.ensures.syncs told) (inr c.in-Script.is)
             (subst (SaysLine c.end.result c.print_answer-in-Script.result (g.K.Sink.taken c.args.sink.now) (g.K.Sink.taken c.print_answer-in-Script.new.sink)) c.as_slice-in-Script.ensures
             (record {
               same = rw c.in-Script.is c.print_answer-in-Script.ensures.same;
@@ -116,10 +116,10 @@ returns g c =
               resumed_done s mid begins m is (g.met.D.Disk.finite c.args.disk.now told),
               none_said (IsTrue g.D.Disk.tells) told bytes came ended (world g.S.Source g.K.Sink g.D.Disk c.args.source.now c.args.sink.now c.args.disk.now)
                   (g.S.Source.left c.perform_load-came.new.source) mid (session g.D.Disk c.perform_load-came.new.store c.perform_load-came.new.disk) (g.D.Disk.state c.end.new.disk) c.perform_load-came.new.line begins m is from
-                  load.performs (c.end.ensures.ends told) c.end.ensures.same load.no_sink (load.honest told) (λ dropped. ap g.D.Disk.state (c.end.ensures.dropped dropped).1)
+                  load.performs (c.end.ensures.ends told) c.end.ensures.same load.no_sink (load.honest told) (λ dropped. ap g.D.Disk.state (c.end.ensures.dropped dropped).1) (c.in-Ok.ensures.account.syncs told)
                   (ended_last LastCallFails came ended (g.D.Disk.counts c.perform_load-came.new.disk) (g.D.Disk.counts c.end.new.disk) (λ last. inl last) (line_or_source_closes came load.only)
                   (λ closing disk. c.end.ensures.last closing disk told) (λ not. let left = c.end.ensures.dropped not in (left.0, ap g.D.Disk.counts left.1))
-                  (λ failed. load.account.last failed told)) (no_line ended not_done not_script) not_sink not_no,
+                  (λ failed. load.account.last failed told)) (c.end.ensures.syncs told) (no_line ended not_done not_script) not_sink not_no,
             ),
           ));
       grows = takes_none (g.K.Sink.taken c.args.sink.now);

@@ -8,11 +8,11 @@ pub parts-init : goal.parts-init
 parts-init g c =
     let new = c.new-reader.ensures in
     record {
-      so_far = starts (IsTrue g.D.Disk.tells) c.new-reader.result (g.S.Source.left c.args.source.now) (session g.D.Disk c.args.store.now c.args.disk.now) new.held new.stage new.given new.used;
+      so_far = starts (IsTrue g.D.Disk.tells) c.new-reader.result (g.S.Source.left c.args.source.now) (session g.D.Disk c.args.store.now c.args.disk.now) (g.D.Disk.counts c.args.disk.now) new.held new.stage new.given new.used;
       few = omega arith;
       stands = c.requires.told;
       source = refl;
-      calm = record { faults = refl; no_change = λ told. refl };
+      calm = record { faults = refl; no_change = λ told. refl; syncs = λ told. omega arith };
     }
 
 pub returns-in_err-ended-clause-open : goal.returns-in_err-ended-clause-open
@@ -21,4 +21,4 @@ returns-in_err-ended-clause-open g c = λ told.
 
 pub returns-in-Some-clause-loads : goal.returns-in-Some-clause-loads
 returns-in-Some-clause-loads g c =
-    rw c.in-Some.is at (c.in_ok-ended.ensures.loads.on (g.S.Source.left c.args.source.now) (session g.D.Disk c.args.store.now c.args.disk.now) c.parts.invariant.so_far)
+    rw c.in-Some.is at (c.in_ok-ended.ensures.loads.on (g.S.Source.left c.args.source.now) (session g.D.Disk c.args.store.now c.args.disk.now) (g.D.Disk.counts c.args.disk.now) c.parts.invariant.so_far)

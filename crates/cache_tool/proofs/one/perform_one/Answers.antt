@@ -8,12 +8,16 @@ use Rattle.cache_store.specs.Faults.{ending}
 use Rattle.cache_store.specs.IndexCalls.{ReadsEntriesOf}
 use Rattle.cache_store.specs.Open.{Tells}
 use Rattle.cache_store.specs.Saying.{IsPart}
-use Rattle.cache_store.specs.Session.{cache_of, session}
+use Rattle.cache_store.specs.Session.{cache_of, open_of, session}
 use Rattle.cache_store.proofs.Performing.Represented.{represents}
 use Rattle.cache_theory.specs.Faulted.{fault_line}
 use Rattle.cache_theory.specs.History.{acked, settled_at}
 use Rattle.cache_theory.specs.Step.{step}
 use Rattle.cache_tool.specs.World.{output}
+use Rattle.cache_tool.proofs.SyncLaws.{syncs_run}
+use Rattle.cache_store.proofs.SyncLaws.{of_most}
+use Rattle.cache_store.specs.Syncs.{all_syncs}
+use Rattle.cache_tool.proofs.Dated.{dated_by}
 use Rattle.cache_tool.proofs.DoneLaws.{done_right, done_spoken}
 use Rattle.cache_tool.proofs.EntryLooks.{looks_none, nothing_to_read, reads_none}
 use Rattle.cache_tool.proofs.ForGood.{disk_drops, no_resume, stops_for_good}
@@ -32,7 +36,7 @@ use Rattle.cache_tool.proofs.one.perform_one.Goals as goal
 pub returns-in-Err-clause-answers : goal.returns-in-Err-clause-answers
 returns-in-Err-clause-answers g c = λ tells m is.
     inr (not_begun (output g.K.Sink g.D.Disk c.args.sink.now c.args.disk.now) (g.D.Disk.state c.begin.new.disk) (g.D.Disk.faults c.begin.new.disk) c.begin.result c.in-Err.fault c.status_of_fault.result c.in-Err.is
-    c.begin.ensures.no_sink c.status_of_fault.ensures c.begin.ensures.account.cause.rose (λ failed. c.begin.ensures.account.last failed tells) (c.in-Err.ensures.fails tells) m is)
+    c.begin.ensures.no_sink c.status_of_fault.ensures c.begin.ensures.account.cause.rose (λ failed. c.begin.ensures.account.last failed tells) (c.begin.ensures.account.syncs tells) (c.in-Err.ensures.fails tells) m is)
 
 pub returns-then-faulting-clause-answers : goal.returns-then-faulting-clause-answers
 returns-then-faulting-clause-answers g c = λ tells m is.
@@ -71,7 +75,8 @@ returns-clause-answers g c = λ tells m is.
     let last = session g.D.Disk c.attempt-answered.new.self c.attempt-answered.new.disk in
     let does = (c.attempt-answered.ensures.does.reply.performs tells).crash (acked resumed.done (settled_at m)) resumed.leads.keeps in
     let done = done_right mid command next does.0 does.1.0 in
-    let stays = stays_for command c.attempt-answered.result mid last (λ spares. c.attempt-answered.ensures.does.files.index spares tells) c.attempt-answered.ensures.does.files.base in
+    let stays = stays_for command c.attempt-answered.result mid last (λ spares. c.attempt-answered.ensures.does.files.index spares tells) c.attempt-answered.ensures.does.files.base
+    (λ had. dated_by g.D.Disk command c.attempt-answered.result c.in-Ok.store c.attempt-answered.new.self c.begin.new.disk c.attempt-answered.new.disk c.attempt-answered.ensures.does.files had tells (g.met.D.Disk.sound c.begin.new.disk tells)) in
     inl (
       resumed.done,
       (
@@ -158,3 +163,11 @@ pub returns-clause-mark : goal.returns-clause-mark
 returns-clause-mark g c = λ told.
     closed_leaves_mark (command_of c.args.command.now ∷ []) _ _ _ _ (c.in-Ok.ensures.begins told).mark
     (one_changes_mark (command_of c.args.command.now) _ _ c.requires.spoken (may_mark (command_of c.args.command.now) _ _ (c.attempt-answered.ensures.always.at_clear told))) (c.end.ensures.ends told).mark
+
+pub returns-clause-syncs : goal.returns-clause-syncs
+returns-clause-syncs g c = λ told.
+    let command = command_of c.args.command.now in
+    let made = c.attempt-answered.ensures.always.syncs told in
+    let most = of_most (open_of c.in-Ok.store).handles command in
+    syncs_run (all_syncs (command ∷ [])) (g.D.Disk.counts c.args.disk.now) (g.D.Disk.counts c.begin.new.disk) (g.D.Disk.counts c.attempt-answered.new.disk) (g.D.Disk.counts c.end.new.disk)
+    (c.in-Ok.ensures.account.syncs told) (omega (arith, made, most)) (c.end.ensures.syncs told)

@@ -1,6 +1,6 @@
 -- The words tell which part of the program answers them; and where nothing fails, a script that the source spells is
 -- performed.
-use Rattle.std.proofs.Common.{◌≡◌, ◌∙◌, None, Some, ap, refl, subst, sym}
+use Rattle.std.proofs.Common.{arith, rules, ◌≡◌, ◌∙◌, None, Some, ap, refl, subst, sym}
 use Rattle.std.specs.Option.{option_map}
 use Rattle.cache_tool.proofs.Loads.LoadEnds.{dump_is_not_bad}
 use Rattle.cache_tool.proofs.MarkLeft.{idle_leaves_mark}
@@ -11,6 +11,7 @@ use Rattle.cache_tool.specs.ByVerb.{IsWhole, Performs}
 use Rattle.cache_tool.specs.Load.{IsDumpOf}
 use Rattle.cache_tool.specs.MarkLeft.{LeavesMarkOf}
 use Rattle.cache_tool.specs.Script.{IsScript}
+use Rattle.cache_tool.specs.Syncs.{SyncsBy}
 use Rattle.cache_tool.specs.World.{world}
 use Rattle.cache_tool.specs.Words.{Asked, asked_in}
 use Rattle.cache_script.specs.Command.{command_of}
@@ -75,3 +76,82 @@ pub returns-in-Some-Load-clause-mark : goal.returns-in-Some-Load-clause-mark
 returns-in-Some-Load-clause-mark g c =
     let words : asked_in c.args.words.now ≡ Some (Asked.Load c.in-Some-Load.now) = sym c.read_words.ensures.asked ∙ ap (λ r. option_map asked r) (c.in-Some-Load.is ∙ ap (λ a. Some a) c.in-Some-Load.field-0-is) in
     λ told. subst (λ asks. LeavesMarkOf asks (g.D.Disk.state c.args.disk.now) (g.D.Disk.state c.load.new.disk)) (sym words) (c.load.ensures.mark told)
+
+-- what failed, and how many syncs were made
+pub returns-in-Some-Run-clause-account : goal.returns-in-Some-Run-clause-account
+returns-in-Some-Run-clause-account g c =
+    let words : asked_in c.args.words.now ≡ Some (Asked.Run c.in-Some-Run.now) = sym c.read_words.ensures.asked ∙ ap (λ r. option_map asked r) (c.in-Some-Run.is ∙ ap (λ a. Some a) c.in-Some-Run.field-0-is) in
+    record {
+      source = search rules;
+      sink = search rules;
+      disk = search rules;
+      went_on = search rules;
+      calm = search rules;
+      stops = search rules;
+      syncs = λ told. subst (λ asks. SyncsBy asks (g.D.Disk.counts c.args.disk.now) (g.D.Disk.counts c.run_script.new.disk)) (sym words) tt;
+    }
+
+pub returns-in-Some-Put-clause-account : goal.returns-in-Some-Put-clause-account
+returns-in-Some-Put-clause-account g c =
+    let words : asked_in c.args.words.now ≡ Some (Asked.Put c.in-Some-Put.now c.in-Some-Put.key.now) = sym c.read_words.ensures.asked ∙ ap (λ r. option_map asked r) (c.in-Some-Put.is ∙ ap (λ a. Some a) c.in-Some-Put.field-0-is) in
+    record {
+      source = search rules;
+      sink = search rules;
+      disk = search rules;
+      went_on = search rules;
+      calm = search rules;
+      stops = search rules;
+      syncs = λ told. subst (λ asks. SyncsBy asks (g.D.Disk.counts c.args.disk.now) (g.D.Disk.counts c.put.new.disk)) (sym words) (c.put.ensures.syncs told);
+    }
+
+pub returns-in-Some-One-clause-account : goal.returns-in-Some-One-clause-account
+returns-in-Some-One-clause-account g c =
+    let words : asked_in c.args.words.now ≡ Some (Asked.One c.in-Some-One.now (command_of c.in-Some-One.command)) = sym c.read_words.ensures.asked ∙ ap (λ r. option_map asked r) (c.in-Some-One.is ∙ ap (λ a. Some a) c.in-Some-One.field-0-is) in
+    record {
+      source = search rules;
+      sink = search rules;
+      disk = search rules;
+      went_on = search rules;
+      calm = search rules;
+      stops = search rules;
+      syncs = λ told. subst (λ asks. SyncsBy asks (g.D.Disk.counts c.args.disk.now) (g.D.Disk.counts c.perform_one.new.disk)) (sym words) (c.perform_one.ensures.syncs told);
+    }
+
+pub returns-in-Some-Fill-clause-account : goal.returns-in-Some-Fill-clause-account
+returns-in-Some-Fill-clause-account g c =
+    let words : asked_in c.args.words.now ≡ Some (Asked.Fill c.in-Some-Fill.now c.in-Some-Fill.count c.in-Some-Fill.first) = sym c.read_words.ensures.asked ∙ ap (λ r. option_map asked r) (c.in-Some-Fill.is ∙ ap (λ a. Some a) c.in-Some-Fill.field-0-is) in
+    record {
+      source = search rules;
+      sink = search rules;
+      disk = search rules;
+      went_on = search rules;
+      calm = search rules;
+      stops = search rules;
+      syncs = λ told. subst (λ asks. SyncsBy asks (g.D.Disk.counts c.args.disk.now) (g.D.Disk.counts c.fill.new.disk)) (sym words) (c.fill.ensures.syncs told);
+    }
+
+pub returns-in-Some-Load-clause-account : goal.returns-in-Some-Load-clause-account
+returns-in-Some-Load-clause-account g c =
+    let words : asked_in c.args.words.now ≡ Some (Asked.Load c.in-Some-Load.now) = sym c.read_words.ensures.asked ∙ ap (λ r. option_map asked r) (c.in-Some-Load.is ∙ ap (λ a. Some a) c.in-Some-Load.field-0-is) in
+    record {
+      source = search rules;
+      sink = search rules;
+      disk = search rules;
+      went_on = search rules;
+      calm = search rules;
+      stops = search rules;
+      syncs = λ told. subst (λ asks. SyncsBy asks (g.D.Disk.counts c.args.disk.now) (g.D.Disk.counts c.load.new.disk)) (sym words) tt;
+    }
+
+pub returns-in-None-clause-account : goal.returns-in-None-clause-account
+returns-in-None-clause-account g c =
+    let words : asked_in c.args.words.now ≡ None = sym c.read_words.ensures.asked ∙ ap (λ r. option_map asked r) c.in-None.is in
+    record {
+      source = search rules;
+      sink = search rules;
+      disk = search rules;
+      went_on = search rules;
+      calm = search rules;
+      stops = search rules;
+      syncs = λ told. subst (λ asks. SyncsBy asks (g.D.Disk.counts c.args.disk.now) (g.D.Disk.counts c.args.disk.now)) (sym words) (omega arith);
+    }

@@ -16,7 +16,7 @@ pieces-init g c = record {
   is_open = search rules;
   long = search rules;
   calm = search rules;
-  sound = record { faults = refl; no_change = λ told. refl };
+  sound = record { faults = refl; no_change = λ told. refl; syncs = λ told. omega arith };
   bare = λ calm. calm;
 }
 

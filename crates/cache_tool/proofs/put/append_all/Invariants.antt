@@ -4,7 +4,7 @@ use Rattle.cache_base.specs.declared.limits.TheConstants.{PIECE_MAX}
 use Rattle.cache_store.specs.Open.{IsOpen}
 use Rattle.cache_store.specs.Session.{session}
 use Rattle.cache_tool.specs.PutProgress.{AppendsSoFar}
-use Rattle.disk_model.specs.Account.{IsCalm}
+use Rattle.disk_model.specs.Account.{IsCalm, no_sync}
 use Rattle.cache_tool.proofs.put.append_all.Given as goal
 
 -- the body has what the source gave so far, and nothing has failed
@@ -14,7 +14,7 @@ invariant-pieces g l = record {
   is_open : IsTrue g.D.Disk.tells → IsOpen (session g.D.Disk l.store l.disk);
   long : length l.piece ≡ PIECE_MAX;
   calm : g.S.Source.faults l.source ≡ g.S.Source.faults l.fn.source;
-  sound : IsCalm g.D.Disk l.fn.disk l.disk;
+  sound : IsCalm g.D.Disk no_sync l.fn.disk l.disk;
   bare : l.fn.store.faulting ≡ false → l.store.faulting ≡ false;
 }
 

@@ -6,6 +6,8 @@ use Rattle.cache_theory.specs.History.{acked, settled_at}
 use Rattle.cache_tool.specs.HeldReply.{said_in}
 use Rattle.cache_tool.specs.Statuses.{status_in}
 use Rattle.cache_tool.specs.World.{output, supply}
+use Rattle.cache_tool.proofs.SyncLaws.{syncs_run}
+use Rattle.disk_model.specs.Account.{one_sync}
 use Rattle.cache_tool.proofs.Growing.{takes_none, takes_part}
 use Rattle.cache_tool.proofs.ForGood.{ended_last, only_came}
 use Rattle.cache_tool.proofs.MarkLeft.{closed_leaves_mark, kept_change_mark, leaves_mark}
@@ -19,7 +21,7 @@ use Rattle.cache_tool.proofs.put.put.Goals as goal
 pub returns-in-Err-clause-stores : goal.returns-in-Err-clause-stores
 returns-in-Err-clause-stores g c = λ told some m is. inr (
   not_begun (output g.K.Sink g.D.Disk c.args.sink.now c.args.disk.now) (g.D.Disk.state c.begin.new.disk) (g.D.Disk.faults c.begin.new.disk) c.begin.result c.in-Err.fault c.status_of_fault.result c.in-Err.is
-      c.begin.ensures.no_sink c.status_of_fault.ensures c.begin.ensures.account.cause.rose (λ failed. c.begin.ensures.account.last failed told) (c.in-Err.ensures.fails told) m is,
+      c.begin.ensures.no_sink c.status_of_fault.ensures c.begin.ensures.account.cause.rose (λ failed. c.begin.ensures.account.last failed told) (c.begin.ensures.account.syncs told) (c.in-Err.ensures.fails told) m is,
   refl,
 )
 
@@ -98,6 +100,9 @@ returns g c =
       others = never_others c.perform_put-came.result c.end.result c.perform_put-came.ensures.only c.perform_put-came.ensures.no_sink c.end.ensures.same;
       mark = λ told. closed_leaves_mark [] _ _ _ _ (c.in-Ok.ensures.begins told).mark (kept_change_mark _ _ (c.perform_put-came.ensures.performs told).mark) (c.end.ensures.ends told).mark;
       quiet = c.end.ensures.quiet;
+      syncs = λ told.
+          syncs_run one_sync (g.D.Disk.counts c.args.disk.now) (g.D.Disk.counts c.begin.new.disk) (g.D.Disk.counts c.perform_put-came.new.disk) (g.D.Disk.counts c.end.new.disk)
+          (c.in-Ok.ensures.account.syncs told) (c.perform_put-came.ensures.account.syncs told) (c.end.ensures.syncs told);
       stops = λ told.
           put_stops (g.D.Disk.counts c.args.disk.now) (g.D.Disk.counts c.begin.new.disk) (c.in-Ok.ensures.account.went_on refl told) c.perform_put-came.result
           (g.D.Disk.counts c.perform_put-came.new.disk) (g.D.Disk.counts c.end.new.disk) (λ calm. c.perform_put-came.ensures.account.went_on calm told)

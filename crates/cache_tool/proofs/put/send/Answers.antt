@@ -3,6 +3,7 @@ use Rattle.cache_store.specs.Open.{Tells}
 use Rattle.cache_store.specs.Session.{session}
 use Rattle.cache_store.proofs.Performing.Represented.{represents}
 use Rattle.cache_tool.specs.HeldReply.{said_in}
+use Rattle.cache_tool.proofs.Dated.{dated_by}
 use Rattle.cache_tool.proofs.DoneLaws.{done_right}
 use Rattle.cache_tool.proofs.ForGood.{disk_of, no_front}
 use Rattle.cache_tool.proofs.MarkLeft.{may_mark}
@@ -17,7 +18,8 @@ returns-clause-sends g c = λ told. record {
       let now = session g.D.Disk c.attempt.new.self c.attempt.new.disk in
       let does = (c.attempt.ensures.does.reply.performs told).crash h keeps in
       let done = done_right before (command_of c.args.c.now) h.machine does.0 does.1.0 in
-      let stays = stays_for (command_of c.args.c.now) c.attempt.result before now (λ spares. c.attempt.ensures.does.files.index spares told) c.attempt.ensures.does.files.base in (
+      let stays = stays_for (command_of c.args.c.now) c.attempt.result before now (λ spares. c.attempt.ensures.does.files.index spares told) c.attempt.ensures.does.files.base
+      (λ had. dated_by g.D.Disk (command_of c.args.c.now) c.attempt.result c.args.store.now c.attempt.new.self c.args.disk.now c.attempt.new.disk c.attempt.ensures.does.files had told (g.met.D.Disk.sound c.args.disk.now told)) in (
         does.0,
         (
           done,

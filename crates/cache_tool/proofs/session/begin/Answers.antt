@@ -4,13 +4,15 @@ use Rattle.cache_store.specs.Faults.{ending, fault_ending}
 use Rattle.cache_store.specs.IndexCalls.{ReadsEntriesOf}
 use Rattle.cache_store.specs.Session.{session}
 use Rattle.cache_theory.specs.Command.Command.{Resume}
+use Rattle.cache_tool.proofs.Dated.{opens_same, dated_by}
 use Rattle.cache_tool.proofs.EntryLooks.{resume_reads}
 use Rattle.cache_tool.proofs.Handed.{handed_on}
 use Rattle.cache_tool.proofs.RunBegins.{never_opened, on_err, resume_done, resume_fails}
 use Rattle.cache_tool.proofs.StayingLaws.{stays_for}
+use Rattle.file_handles.proofs.Accounting.{accounts_sum}
+use Rattle.cache_tool.specs.Syncs.{opening_syncs}
 use Rattle.cache_tool.proofs.session.begin.Goals as goal
 use Rattle.disk_model.specs.Account.{Accounts}
-use Rattle.file_handles.proofs.Accounting.{accounts_then}
 
 pub returns-in_err-store-clause-fails : goal.returns-in_err-store-clause-fails
 returns-in_err-store-clause-fails g c = on_err c.from_residual.result _ (λ told.
@@ -31,8 +33,8 @@ returns-in_err-attempt-clause-looks g c = λ told none again.
 pub returns-in_err-attempt-clause-account : goal.returns-in_err-attempt-clause-account
 returns-in_err-attempt-clause-account g c =
     let f = c.in_err-attempt.field-0.0 in
-    subst (λ e. Accounts g.D.Disk e c.args.disk.now c.attempt.new.disk) (sym (ap (λ r. ending r) (handed_on c.from_residual-in_err-attempt.result f c.from_residual-in_err-attempt.ensures.1)))
-    (accounts_then g.D.Disk (fault_ending f) c.args.disk.now c.open.new.disk c.attempt.new.disk c.in_ok-store.ensures.account c.in_err-attempt.ensures.does.calls.account)
+    subst (λ e. Accounts g.D.Disk e opening_syncs c.args.disk.now c.attempt.new.disk) (sym (ap (λ r. ending r) (handed_on c.from_residual-in_err-attempt.result f c.from_residual-in_err-attempt.ensures.1)))
+    (accounts_sum g.D.Disk (fault_ending f) opening_syncs c.args.disk.now c.open.new.disk c.attempt.new.disk (omega arith) c.in_ok-store.ensures.account c.in_err-attempt.ensures.does.calls.account)
 
 pub returns-clause-looks : goal.returns-clause-looks
 returns-clause-looks g c = λ told none again.
@@ -47,5 +49,6 @@ returns-clause-begins g c = λ told.
     let now = session g.D.Disk c.attempt.new.self c.attempt.new.disk in
     let resume = c.in_ok-attempt.ensures in
     resume_done c.args.now (g.D.Disk.state c.args.disk.now) first now (g.met.D.Disk.finite c.args.disk.now told) (c.in_ok-store.ensures.opens told) (c.in_ok-store.ensures.begins told) _ _
-    (c.open.ensures.at_clear told) (c.attempt.ensures.always.at_clear told) c.in_ok-attempt.field-0 (c.in_ok-store.ensures.based told) (resume.does.reply.performs told)
-    (stays_for Resume (Ok c.in_ok-attempt.field-0) first now (λ spares. resume.does.files.index spares told) resume.does.files.base) (resume.does.others.resumes refl tt told)
+    (c.open.ensures.at_clear told) (c.attempt.ensures.always.at_clear told) c.in_ok-attempt.field-0 (c.in_ok-store.ensures.based told) (opens_same _ _ (c.in_ok-store.ensures.ordered told)) (resume.does.reply.performs told)
+    (stays_for Resume (Ok c.in_ok-attempt.field-0) first now (λ spares. resume.does.files.index spares told) resume.does.files.base
+    (λ had. dated_by g.D.Disk Resume (Ok c.in_ok-attempt.field-0) c.in_ok-store.store c.attempt.new.self c.open.new.disk c.attempt.new.disk resume.does.files had told (g.met.D.Disk.sound c.open.new.disk told))) (resume.does.others.resumes refl tt told)

@@ -1,16 +1,18 @@
 -- What the store's closing ensures is what the end of a session ensures.
-use Rattle.std.proofs.Common.{◌≡◌, ◌≢◌, ◌∙◌, Err, Result, ap, subst, refl}
+use Rattle.std.proofs.Common.{◌≡◌, ◌≢◌, ◌∙◌, Err, Result, ap, subst, sym, refl}
 use Rattle.cache_base.specs.declared.status.Status.{Status}
 use Rattle.cache_base.specs.declared.status.Status.TheVariants as status
 use Rattle.cache_store.specs.Faults.{ending, fault_ending}
 use Rattle.cache_store.specs.Open.{KeepsTo}
-use Rattle.cache_store.specs.Session.{Session}
+use Rattle.cache_store.specs.Session.{Session, open_of}
 use Rattle.cache_store.specs.declared.fault.StoreFault.{StoreFault}
 use Rattle.cache_store.specs.declared.fault.StoreFault.TheVariants as fault
 use Rattle.cache_store.proofs.Performing.Represented.{represents}
 use Rattle.cache_theory.specs.History.{History}
+use Rattle.cache_tool.specs.Dated.{IsDatedAt}
 use Rattle.cache_tool.specs.Ending.{IsEnded}
 use Rattle.cache_tool.specs.Statuses.{IsClosing, status_in}
+use Rattle.cache_tool.proofs.Dated.{closes_at}
 use Rattle.cache_tool.proofs.MarkLeft.{stays_mark, kept_mark}
 use Rattle.cache_tool.proofs.OneCommand.{disk_failed}
 use Rattle.cache_tool.proofs.RightLaws.{open_leaves_honest}
@@ -40,6 +42,7 @@ dropped ended still now h keeps = record {
   journal = λ closing over. absurd (still closing);
   in_use = λ records closing. absurd (still closing);
   unended = λ closing. absurd (still closing);
+  dated = λ closing. absurd (still closing);
 }
 
 pub close-requires : goal.close-requires
@@ -72,6 +75,9 @@ returns-in-Ok-close-clause-ends g c = λ tells. record {
         journal = λ closing over. ends_short _ _ h keeps closes over;
         in_use = λ records closing right holds ends. ends_in_use _ _ h keeps closes records right holds ends;
         unended = λ closing rest. c.in-Ok-close.ensures.spares (rest_left _ h keeps rest) tells;
+        dated = λ closing.
+            subst (λ n. IsDatedAt n (g.D.Disk.state c.args.disk.now) (g.D.Disk.state c.close.new.disk)) (sym keeps.matches.moment)
+            (closes_at (open_of c.args.store).index (open_of c.args.store).moment _ _ (g.met.D.Disk.sound c.args.disk.now tells) keeps.matches.holds.files (c.in-Ok-close.ensures.whole tells));
       };
   mark = kept_mark _ _ (c.in-Ok-close.ensures.at_clear tells);
 }
@@ -90,6 +96,7 @@ returns-in-Err-clause-ends g c = λ tells. record {
         journal = λ closing over. absurd (still closing);
         in_use = λ records closing. absurd (still closing);
         unended = λ closing. absurd (still closing);
+        dated = λ closing. absurd (still closing);
       };
   mark = kept_mark _ _ (c.in-Err.ensures.at_clear tells);
 }

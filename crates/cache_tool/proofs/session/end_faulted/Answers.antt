@@ -29,4 +29,5 @@ returns-in_default g c = record {
   no_entry = c.end.ensures.no_entry;
   later = c.end.ensures.later;
   stops = c.end.ensures.stops;
+  syncs = c.end.ensures.syncs;
 }

@@ -19,6 +19,11 @@ loop-at-preserved g c =
       fed = λ told. fed_on c.feed_piece.new.hasher file (standing (g.D.Disk.state l.disk) place) c.args.from l.at len _ held.after
           (ap (λ (s : State). standing s place) (held.state told)) fits (step.fed told (part_of c.args.from (l.at - c.args.from) file) (held.fed told));
       state = λ told. step.looks.state told ∙ held.state told;
-      calm = record { faults = search rules; no_change = λ told. step.looks.no_change told ∙ held.calm.no_change told };
+      calm = record {
+        faults = search rules;
+        no_change = λ told. step.looks.no_change told ∙ held.calm.no_change told;
+        syncs = λ told. let same = step.looks.unsynced told in let before = held.calm.syncs told in omega (arith, same, before);
+      };
+      unsynced = λ told. step.looks.unsynced told ∙ held.unsynced told;
       no_entry = λ told. step.no_entry told ∙ held.no_entry told;
     }

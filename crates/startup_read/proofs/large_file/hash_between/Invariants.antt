@@ -1,6 +1,6 @@
 use Rattle.std.proofs.Common.{◌≡◌, ◌-◌, ◌≤◌}
 use Rattle.std.specs.Bool.{IsTrue}
-use Rattle.disk_model.specs.Account.{IsCalm, LooksAtNoEntry}
+use Rattle.disk_model.specs.Account.{IsCalm, LooksAtNoEntry, no_sync}
 use Rattle.disk_model.specs.State.{part_of, standing}
 use Rattle.jenkins_hash.specs.Hasher.{WasFedBytes}
 use Rattle.startup_read.proofs.large_file.hash_between.Given as goal
@@ -12,7 +12,8 @@ invariant-loop-at g l = record {
   before : l.at ≤ l.end;
   fed : IsTrue g.D.Disk.tells → WasFedBytes l.hasher (part_of l.from (l.at - l.from) (standing (g.D.Disk.state l.fn.disk) l.place));
   state : IsTrue g.D.Disk.tells → g.D.Disk.state l.disk ≡ g.D.Disk.state l.fn.disk;
-  calm : IsCalm g.D.Disk l.fn.disk l.disk;
+  calm : IsCalm g.D.Disk no_sync l.fn.disk l.disk;
+  unsynced : IsTrue g.D.Disk.tells → (g.D.Disk.counts l.disk).syncs ≡ (g.D.Disk.counts l.fn.disk).syncs;
   no_entry : LooksAtNoEntry g.D.Disk l.fn.disk l.disk;
 }
 

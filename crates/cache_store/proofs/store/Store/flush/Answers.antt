@@ -1,8 +1,9 @@
-use Rattle.std.proofs.Common.{◌∙◌, ap, inl, refl, rules, subst, sym}
+use Rattle.std.proofs.Common.{◌∙◌, ap, arith, inl, refl, rules, subst, sym}
 use Rattle.disk_model.specs.Account.{FailsInChange}
 use Rattle.disk_model.specs.State.{settled}
 use Rattle.index_theory.specs.Leaves.{LeavesIndex}
 use Rattle.index_theory.proofs.LeavesLaws.{sync_leaves_index}
+use Rattle.index_theory.specs.Unclean.{IsUnclean}
 use Rattle.file_handles.specs.Kept.{kept}
 use Rattle.cache_store.specs.Faults.{ending}
 use Rattle.cache_store.specs.Session.{session}
@@ -38,7 +39,7 @@ returns-clause-index g c = λ spares told.
     (sync_leaves_index (g.D.Disk.state c.args.disk.now) (g.met.D.Disk.sound c.args.disk.now told))
 
 pub returns-clause-account : goal.returns-clause-account
-returns-clause-account g c = record { cause = search rules; went_on = search rules; stops = search rules; last = search rules }
+returns-clause-account g c = record { cause = search rules; went_on = search rules; stops = search rules; last = search rules; syncs = search rules }
 
 pub returns-in_err-sync-clause-account : goal.returns-in_err-sync-clause-account
 returns-in_err-sync-clause-account g c = record {
@@ -48,6 +49,7 @@ returns-in_err-sync-clause-account g c = record {
   last = λ failed told.
       let change : FailsInChange g.D.Disk (ending c.from_residual-in_err-sync.result) c.sync.new.self = search rules in
       inl (change failed told);
+  syncs = search rules;
 }
 
 pub returns-in_err-refresh-clause-change : goal.returns-in_err-refresh-clause-change
@@ -72,3 +74,17 @@ pub returns-clause-at_clear : goal.returns-clause-at_clear
 returns-clause-at_clear g c = λ told.
     then_synced (g.D.Disk.state c.args.disk.now) (g.D.Disk.state c.refresh.new.disk) (g.D.Disk.state c.sync.new.self)
     (spared_keeps (g.D.Disk.state c.args.disk.now) (g.D.Disk.state c.refresh.new.disk) (c.in_ok-refresh.ensures.entries told (c.requires.told told).1.matches.holds.apart)) (c.in_ok-sync.ensures.state told)
+
+pub returns-in_err-refresh-clause-account : goal.returns-in_err-refresh-clause-account
+returns-in_err-refresh-clause-account g c = record {
+  cause = search rules;
+  went_on = search rules;
+  stops = search rules;
+  last = search rules;
+  syncs = λ told. let made = c.in_err-refresh.ensures.account.syncs told in omega (arith, made);
+}
+
+pub returns-in_err-sync-clause-unclean : goal.returns-in_err-sync-clause-unclean
+returns-in_err-sync-clause-unclean g c = λ told.
+    let holds = (c.requires.told told).1.matches.holds in
+    subst IsUnclean (sym (c.in_err-sync.ensures.state told)) (c.in_ok-refresh.ensures.unclean told holds.apart holds.unclean)

@@ -37,6 +37,7 @@ loop-left-preserved g c =
       calls = λ told. let before = old.calls told in let one = c.put_chunk.ensures.calls told in omega (arith, before, one, long, short, test, test_long, none, behind);
       went_on = λ told. c.in_ok-put_chunk.ensures.account.went_on refl told ∙ old.went_on told;
       faults = c.in_ok-put_chunk.ensures.account.cause.kept (λ e. cc) ∙ old.faults;
+      syncs = λ told. let before = old.syncs told in let one = c.in_ok-put_chunk.ensures.account.syncs told in omega (arith, before, one);
     }
 
 pub returns-clause-body : goal.returns-clause-body

@@ -2,6 +2,7 @@ use Rattle.std.proofs.Common.{◌≡◌, ◌≤◌, ◌<◌, ◌+◌, ◌/◌, �
 use Rattle.cache_base.specs.Limits.{chunk_size}
 use Rattle.cache_base.specs.declared.limits.TheConstants.{CHUNK}
 use Rattle.chunk_store.specs.Stored.{unfinished_file}
+use Rattle.disk_model.specs.Account.{SyncsAtMost, no_sync}
 use Rattle.disk_model.specs.State.{standing}
 use Rattle.disk_model.specs.Writes.{WritesAt}
 use Rattle.entry_file.specs.NewEntry.{HasBody, grown_len}
@@ -21,6 +22,7 @@ invariant-loop-left g l = record {
   calls : IsTrue g.D.Disk.tells → (g.D.Disk.counts l.disk).calls + (length (held l.self).rest + length l.left) / chunk_size ≤ (g.D.Disk.counts l.fn.disk).calls + (length (held l.fn.self).rest + length l.b) / chunk_size;
   went_on : IsTrue g.D.Disk.tells → (g.D.Disk.counts l.disk).failed ≡ (g.D.Disk.counts l.fn.disk).failed;
   faults : g.D.Disk.faults l.disk ≡ g.D.Disk.faults l.fn.disk;
+  syncs : SyncsAtMost g.D.Disk no_sync l.fn.disk l.disk;
 }
 
 abbrev pub decreases-loop-left : goal.decreases-loop-left

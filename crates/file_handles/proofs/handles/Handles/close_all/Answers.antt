@@ -1,6 +1,6 @@
 use Rattle.std.proofs.Common.{◌<◌, ◌≤◌, length, Ok, sym, ap, subst, ◌∙◌, arith}
 use Rattle.std.proofs.lemmas.Result.{IfOk-from_err}
-use Rattle.disk_model.specs.Account.{IsCalm}
+use Rattle.disk_model.specs.Account.{IsCalm, no_sync}
 use Rattle.doom_area.specs.DoomArea.{RemovesDoomed}
 use Rattle.index_theory.specs.Leaves.{LeavesBeside}
 use Rattle.file_handles.specs.Kept.{kept}
@@ -41,7 +41,7 @@ loop-object-preserved g c =
         left = λ told. then_left s t (g.D.Disk.state c.match-object.disk) (before.left told)
             (let_go_left {T = Unit {0}} (Ok tt) t (g.D.Disk.state c.match-object.disk) w.in-Some.object (ap g.D.Disk.state w.disk-is ∙ w.in_ok-let_go.ensures.state told));
         gone = λ told. let_go_removes {T = Unit {0}} (Ok tt) w.in-Some.object s t (g.D.Disk.state c.match-object.disk) (before.gone told) (ap g.D.Disk.state w.disk-is ∙ w.in_ok-let_go.ensures.state told);
-        calm = subst (IsCalm g.D.Disk c.args.disk.now) (sym w.disk-is) (calm_then g.D.Disk _ _ _ before.calm w.in_ok-let_go.ensures.account);
+        calm = subst (IsCalm g.D.Disk no_sync c.args.disk.now) (sym w.disk-is) (calm_then g.D.Disk _ _ _ before.calm w.in_ok-let_go.ensures.account);
         looks = λ told. ap (λ d. (g.D.Disk.counts d).entry_reads) w.disk-is ∙ w.in_ok-let_go.ensures.no_entry told ∙ before.looks told;
       }
       | in_default w ↦ record {
@@ -50,7 +50,7 @@ loop-object-preserved g c =
             (subst (λ d. IsDroppedTo k i s (g.D.Disk.state d)) (sym w.disk-is) (before.to told));
         left = λ told. subst (λ d. LeavesBeside s (g.D.Disk.state d)) (sym w.disk-is) (before.left told);
         gone = λ told. subst (λ d. RemovesDoomed s (g.D.Disk.state d)) (sym w.disk-is) (before.gone told);
-        calm = subst (IsCalm g.D.Disk c.args.disk.now) (sym w.disk-is) before.calm;
+        calm = subst (IsCalm g.D.Disk no_sync c.args.disk.now) (sym w.disk-is) before.calm;
         looks = λ told. ap (λ d. (g.D.Disk.counts d).entry_reads) w.disk-is ∙ before.looks told;
       }
     ]

@@ -1,5 +1,5 @@
 use Rattle.std.proofs.Common.{◌≡◌, IsTrue, length}
-use Rattle.disk_model.specs.Account.{IsCalm, LooksAtNoEntry}
+use Rattle.disk_model.specs.Account.{IsCalm, LooksAtNoEntry, no_sync}
 use Rattle.doom_area.specs.DoomArea.{RemovesDoomed}
 use Rattle.index_theory.specs.Leaves.{LeavesBeside}
 use Rattle.file_handles.specs.Kept.{kept}
@@ -12,6 +12,6 @@ invariant-loop-object g l = record {
   to : IsTrue g.D.Disk.tells → IsDroppedTo (kept l.fn.self) l.object-index (g.D.Disk.state l.fn.disk) (g.D.Disk.state l.disk);
   left : IsTrue g.D.Disk.tells → LeavesBeside (g.D.Disk.state l.fn.disk) (g.D.Disk.state l.disk);
   gone : IsTrue g.D.Disk.tells → RemovesDoomed (g.D.Disk.state l.fn.disk) (g.D.Disk.state l.disk);
-  calm : IsCalm g.D.Disk l.fn.disk l.disk;
+  calm : IsCalm g.D.Disk no_sync l.fn.disk l.disk;
   looks : LooksAtNoEntry g.D.Disk l.fn.disk l.disk;
 }
