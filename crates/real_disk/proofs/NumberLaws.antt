@@ -1,10 +1,15 @@
 -- The numbers in the names of doomed files.
-use Rattle.std.proofs.Common.{arith, ◌+◌, IfSome, IsNone, Option, Some, None, ◌≡◌, ◌≤◌, ◌<◌, ℕ, suc, List, [], ◌∷◌, inl, inr, ap, ◌∙◌, sym}
+use Rattle.std.proofs.Common.{arith, refl, subst, Less, ◌+◌, IfSome, IsNone, Option, Some, None, ◌≡◌, ◌≤◌, ◌<◌, ℕ, suc, List, [], ◌∷◌, inl, inr, ap, ◌∙◌, sym}
 use Rattle.std.specs.Prelude.{if◌then◌else◌}
+use Rattle.std.specs.List.{AllByRecursion}
+use Rattle.std.specs.List.Sorted.{IsStrictlySortedBy}
+use Rattle.std.specs.Ordering.{nat_cmp}
+use Rattle.std.proofs.lemmas.Cmp.{ranked}
+use Rattle.std.proofs.lemmas.List.Elements.{All-cons, All-nil}
 use Rattle.std.specs.Option.{SomeIff}
 use Rattle.std.proofs.lemmas.Bool.{cases_lt}
 use Rattle.std.proofs.lemmas.Bool.Decides.{leb_tells}
-use Rattle.real_disk.specs.Numbers.{named, past}
+use Rattle.real_disk.specs.Numbers.{IsFree, named, past}
 
 pub past_next : (folder number : ℕ) → folder ≤ number → past folder number ≡ suc number
 past_next folder number le = elim (leb_tells folder number) [
@@ -66,3 +71,32 @@ pub past_end : (folders iterator rest : List ℕ) (folder current number : ℕ) 
 past_end folders iterator rest folder current number whole steps over =
     let now : named rest (past folder current) ≡ named folders number = ap (λ left. named left current) (sym steps) ∙ whole in
     omega (arith, now, over, named_grows rest (past folder current))
+
+-- a number below the folder stays where the others are above it
+named_below : (folder number : ℕ) (folders : List ℕ) → number < folder → AllByRecursion (λ other. nat_cmp folder other ≡ Less) folders → named folders number ≡ number
+named_below folder number [] lt above = refl
+named_below folder number (other ∷ folders) lt (first, above) =
+    let next : folder < other = ranked folder other Less (sym first) in
+    ap (named folders) (past_same other number (omega (arith, lt, next))) ∙ named_below folder number folders lt above
+
+-- the first folder has another number than the name
+first_free : (folder number : ℕ) (folders : List ℕ) → AllByRecursion (λ other. nat_cmp folder other ≡ Less) folders → folder ≡ named folders (past folder number) → ⊥
+first_free folder number folders above same = elim (leb_tells folder number) [
+  | inl t ↦ omega (arith, same, past_next folder number t.1, named_grows folders (past folder number))
+  | inr t ↦
+      let stays : named folders (past folder number) ≡ number = ap (named folders) (past_same folder number t.1) ∙ named_below folder number folders t.1 above in
+      omega (arith, same, stays, t.1)
+]
+
+-- no folder stands under the number in a name
+pub named_free : (folders : List ℕ) (number : ℕ) → IsStrictlySortedBy nat_cmp folders → IsFree folders (named folders number)
+unfolding IsStrictlySortedBy
+named_free [] number rising = All-nil (λ folder. folder ≡ number → ⊥)
+named_free (folder ∷ folders) number (above, rising) =
+    All-cons (λ other. other ≡ named folders (past folder number) → ⊥) folder folders (first_free folder number folders above) (named_free folders (past folder number) rising)
+
+-- so it is of the number once every folder was passed
+pub passed_free : (folders iterator : List ℕ) (current number : ℕ) → iterator ≡ [] → named iterator current ≡ named folders number
+    → IsStrictlySortedBy nat_cmp folders → IsFree folders current
+passed_free folders iterator current number passed whole rising =
+    subst (IsFree folders) (sym whole ∙ ap (λ left. named left current) passed) (named_free folders number rising)

@@ -1,7 +1,7 @@
 -- What calls of the machine have shown.
 use Rattle.std.specs.Prelude.{◌≡◌, ◌⊎◌, ℕ, List}
 use Rattle.std.specs.declared.fs.attrs.Metadata.{Metadata}
-use Rattle.std.specs.Fs.{file_type, IsFile}
+use Rattle.std.specs.Fs.{file_type, metadata_len, IsFile}
 use Rattle.real_disk.specs.declared.machine.Machine.{Ghosts}
 
 module _ {R File Dir : Type 0} (M : Ghosts R File Dir) (rt : R) where
@@ -26,3 +26,10 @@ module _ {R File Dir : Type 0} (M : Ghosts R File Dir) (rt : R) where
     pub attributes : Metadata
     pub found : M.found rt path attributes
     pub is_file : IsFile (file_type attributes)
+
+  -- so it did, and the file had this length
+  pub record FoundLengthAt (path : List ℕ) (len : ℕ) : Type 0 where
+    pub attributes : Metadata
+    pub found : M.found rt path attributes
+    pub is_file : IsFile (file_type attributes)
+    pub has_len : metadata_len attributes ≡ len

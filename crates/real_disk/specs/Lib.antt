@@ -8,6 +8,7 @@ pub mod Roots
 pub mod Changes
 pub mod OpenFolders
 pub mod Opening
+pub mod Used
 pub mod Reasons
 pub mod Folders
 pub mod Files

@@ -1,6 +1,7 @@
 -- The numbers in the names of doomed files.
-use Rattle.std.specs.Prelude.{◌≡◌, ℕ, suc, IsSome, List, [], ◌∷◌, Option, Some, None, nat_le, if◌then◌else◌}
+use Rattle.std.specs.Prelude.{◌≡◌, ◌≢◌, ℕ, suc, IsSome, List, [], ◌∷◌, Option, Some, None, nat_le, if◌then◌else◌}
 use Rattle.std.specs.BTreeSet.{BTreeSet}
+use Rattle.std.specs.List.{All}
 use Rattle.real_disk.specs.declared.numbers.Folders.{Folders}
 
 abbrev keys_of : Option (BTreeSet ℕ) → List ℕ
@@ -19,6 +20,14 @@ past folder number = if nat_le folder number then suc number else number
 abbrev pub named : List ℕ → ℕ → ℕ
 named [] number = number
 named (folder ∷ folders) number = named folders (past folder number)
+
+-- no folder stands under the number
+abbrev pub IsFree : List ℕ → ℕ → Type 0
+IsFree folders number = All (λ folder. folder ≢ number) folders
+
+-- a listing has told them
+abbrev pub AreKnown : Folders → Type 0
+AreKnown folders = IsSome folders.numbers
 
 -- once they are known they stay
 abbrev pub KeepsNumbers : Folders → Folders → Type 0

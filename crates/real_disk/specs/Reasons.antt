@@ -1,5 +1,5 @@
 -- Why no change of an earlier process waits: the cache was closed, or a process left the note that all was synced.
-use Rattle.std.specs.Prelude.{◌≡◌, ◌⊎◌, ℕ, List, [], ◌∷◌, ◌++◌, codes, decimal}
+use Rattle.std.specs.Prelude.{◌≡◌, ◌⊎◌, ℕ, List, ◌∷◌, ◌++◌, codes, decimal}
 use Rattle.std.specs.Fmt.{signed_decimal}
 use Rattle.std.specs.Int.{from_be_bytes, w32}
 use Rattle.std.specs.declared.fs.attrs.Metadata.{Metadata}

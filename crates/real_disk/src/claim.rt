@@ -118,7 +118,7 @@ pub(crate) fn ask_made<R: Files<File = File> + AllocGlobal + Clock>(
 }
 
 // Whether a file or a folder of the cache stands there.
-fn has_files<R: Files + AllocGlobal>(rt: &R, dir: &str) -> io::Result<bool> {
+fn has_files<R: Files<File = File> + AllocGlobal>(rt: &R, dir: &str) -> io::Result<bool> {
     'names: for name in [ENTRIES, DOOMED, INDEX, LOG, TMP, CLEAR] {
         if !is_missing(rt, path_in(rt, dir, name)?.as_str())? {
             return Ok(true);

@@ -1,9 +1,10 @@
 //! What is read from an open file and written to it.
 
-ghost use Rattle.std.specs.Prelude.{◌≡◌, ◌≢◌, ◌≤◌, IfOk, Ok, OnOk, length};
+ghost use Rattle.std.specs.Prelude.{◌≡◌, ◌≢◌, ◌≤◌, IfOk, Ok, OnOk, length, take};
 ghost use Rattle.disk_model.specs.declared.place.Place.TheVariants.{Clear};
 ghost use Rattle.std.specs.Io.KnownBytes.{Appends, Consumes};
 
+use crate::machine::Machine;
 use disk_model::Place;
 use std::fs::OpenFile;
 use std::io::{self, ErrorKind, Read, Seek, SeekFrom, Write};
@@ -18,34 +19,37 @@ pub(crate) fn read_whole<F: Read + Seek>(file: &mut F, from: u64, buf: &mut [u8]
 }
 
 // Fills the beginning of the buffer from the offset on, as far as the file goes, and tells how many bytes that are.
-fn read_front<F: Read + Seek>(file: &mut F, from: u64, buf: &mut [u8]) -> io::Result<usize>
+fn read_front<R: Machine>(rt: &R, file: &R::File, from: u64, buf: &mut [u8]) -> io::Result<usize>
     ensures len { IfOk result (λ n. n ≤ length buf.old) }
+    ensures held { IfOk result (λ n. R.Machine.held rt.now file.now from (take n buf.new)) }
 {
-    let left = file.seek(SeekFrom::End(0))?.saturating_sub(from);
+    let left = rt.end_of(file)?.saturating_sub(from);
     let len = if left < buf.len() as u64 {
         left as usize
     } else {
         buf.len()
     };
-    read_whole(file, from, &mut buf[..len])?;
+    rt.read_from(file, from, &mut buf[..len])?;
     Ok(len)
 }
 
 /// Reads what stands at a place, and tells how many bytes that is. What stands at `clear` is read as far as it goes,
 /// since a mark may be shorter than the buffer; another file has all these bytes.
-pub(crate) fn read_at<F: Read + Seek>(
+pub(crate) fn read_at<R: Machine>(
+    rt: &R,
     place: &Place,
-    file: &mut F,
+    file: &R::File,
     from: u64,
     buf: &mut [u8],
 ) -> io::Result<usize>
     ensures len { IfOk result (λ n. n ≤ length buf.old) }
     ensures whole { place.now ≢ Clear → IfOk result (λ n. n ≡ length buf.old) }
+    ensures held { IfOk result (λ n. R.Machine.held rt.now file.now from (take n buf.new)) }
 {
     if *place == Place::Clear {
-        return read_front(file, from, buf);
+        return read_front(rt, file, from, buf);
     }
-    read_whole(file, from, buf)?;
+    rt.read_from(file, from, buf)?;
     Ok(buf.len())
 }
 
@@ -66,20 +70,21 @@ fn write_whole<F: Write>(file: &mut F, bytes: &[u8]) -> io::Result<()>
 }
 
 /// Writes all the bytes from the offset on. The length is set only where older bytes are left after the new ones. A
-/// file that is new has none, and stands at its beginning.
-pub(crate) fn write_end<F: Write + Seek + OpenFile>(
-    file: &mut F,
+/// file that is new has none, and stands at its beginning. What is written to the `writer` is written to the file.
+pub(crate) fn write_end<W: Write + Seek, F: OpenFile>(
+    writer: &mut W,
+    file: &F,
     is_new: bool,
     from: u64,
     bytes: &[u8],
 ) -> io::Result<()>
     ensures whole { OnOk result
-        ((begun : F) × Appends (F.contents begun) (F.contents file.new) bytes.now) }
+        ((begun : W) × Appends (W.contents begun) (W.contents writer.new) bytes.now) }
 {
     if is_new && from == 0 {
-        return write_whole(file, bytes);
+        return write_whole(writer, bytes);
     }
-    write_over(file, from, bytes)?;
+    write_over(writer, from, bytes)?;
     let end = from.saturating_add(bytes.len() as u64);
     after_change(cut_after(file, end))
 }

@@ -165,8 +165,8 @@ pub(crate) fn is_missing<R: Machine>(rt: &R, path: &str) -> io::Result<bool>
 fn is_flag_clear<R: Machine>(rt: &R, path: &str) -> io::Result<bool>
     ensures { IfOk result (λ is. IsTrue is → IsFlagClear R.Machine rt.now path.now) }
 {
-    let mut file = open_regular(rt, &read_only(), path)?;
+    let file = open_regular(rt, &read_only(), path)?;
     let mut flag = [0; 4];
-    rt.read_from(&mut file, FLAG_AT as u64, &mut flag)?;
+    rt.read_from(&file, FLAG_AT as u64, &mut flag)?;
     Ok(u32::from_be_bytes(flag) == 0)
 }

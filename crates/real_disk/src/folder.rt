@@ -1,7 +1,7 @@
 //! The folder by its places, and how each call on it begins.
 
 ghost use Rattle.std.specs.Prelude.{◌≡◌, OnOk, OnErr, false, string_bytes};
-ghost use Rattle.real_disk.specs.Numbers.{KeepsNumbers};
+ghost use Rattle.real_disk.specs.Numbers.{AreKnown, KeepsNumbers};
 ghost use Rattle.real_disk.specs.Roots.{HasSameRoot};
 ghost use Rattle.real_disk.specs.Folders.{NoneLost};
 ghost use Rattle.real_disk.specs.Claims.{IsAsked, IsClaimed};
@@ -152,6 +152,7 @@ impl<R: Machine<File = File> + AllocGlobal + Clock + Clone + Drop> Folder<'_, R>
         ensures files { self.new.files ≡ self.old.files }
         ensures folders { self.new.tree.folders ≡ self.old.tree.folders }
         ensures numbers { KeepsNumbers self.old.tree.numbers self.new.tree.numbers }
+        ensures known { OnOk result (AreKnown self.new.tree.numbers) }
         ensures earlier { self.new.earlier ≡ self.old.earlier }
     {
         self.claim()?;

@@ -8,10 +8,10 @@ ghost use Rattle.std.specs.IoError.{error_kind};
 ghost use Rattle.std.specs.declared.fs.attrs.Metadata.{Metadata as Attributes};
 ghost use Rattle.real_disk.specs.declared.machine.Stamp.{Stamp as Stamped};
 
-use crate::contents::read_whole;
+use crate::contents::{read_whole, write_end, write_over};
 use crate::tree::made_new;
-use std::fs::{self, Metadata, OpenFile, OpenOptions, symlink_metadata};
-use std::io::{self, ErrorKind};
+use std::fs::{self, File, Metadata, OpenFile, OpenOptions, symlink_metadata};
+use std::io::{self, ErrorKind, Seek, SeekFrom};
 use std::os::unix::fs::MetadataExt;
 use std::rt::Files;
 
@@ -56,6 +56,12 @@ pub trait Machine: Files {
     /// From this offset on the file had these bytes.
     ghost held: { Self → Self.File → ℕ → List ℕ → Type 0 };
 
+    /// From this offset on these bytes were written to the file.
+    ghost written: { Self → Self.File → ℕ → List ℕ → Type 0 };
+
+    /// So they were, and the file was then made to end after them.
+    ghost ended: { Self → Self.File → ℕ → List ℕ → Type 0 };
+
     /// Opens a file or a folder.
     fn open_at(&self, how: &OpenOptions, path: &str) -> io::Result<Self::File>
         ensures opened { IfOk result (λ file. opened self.now path.now file) }
@@ -92,12 +98,23 @@ pub trait Machine: Files {
     fn stamp(&self, seen: &Metadata) -> Stamp
         ensures { stamped self.now seen.now result };
 
+    /// Where an open file ends.
+    fn end_of(&self, file: &Self::File) -> io::Result<u64>;
+
     /// Fills the buffer from the offset on. A file that does not have all these bytes is an error.
-    fn read_from(&self, file: &mut Self::File, from: u64, buf: &mut [u8]) -> io::Result<()>
-        ensures { OnOk result (held self.now file.old from buf.new) };
+    fn read_from(&self, file: &Self::File, from: u64, buf: &mut [u8]) -> io::Result<()>
+        ensures { OnOk result (held self.now file.now from buf.new) };
+
+    /// Writes all the bytes over what stands from the offset on.
+    fn write_over(&self, file: &Self::File, from: u64, bytes: &[u8]) -> io::Result<()>
+        ensures { OnOk result (written self.now file.now from bytes.now) };
+
+    /// So it does, and the file then ends after them. A file that is new has no bytes, and stands at its beginning.
+    fn write_end(&self, file: &Self::File, is_new: bool, from: u64, bytes: &[u8]) -> io::Result<()>
+        ensures { OnOk result (ended self.now file.now from bytes.now) };
 }
 
-impl<R: Files> Machine for R {
+impl<R: Files<File = File>> Machine for R {
     ghost opened = { λ _ _ _. Unit {0} };
 
     ghost made = { λ _ _ _. Unit {0} };
@@ -118,11 +135,15 @@ impl<R: Files> Machine for R {
 
     ghost held = { λ _ _ _ _. Unit {0} };
 
-    fn open_at(&self, how: &OpenOptions, path: &str) -> io::Result<R::File> {
+    ghost written = { λ _ _ _ _. Unit {0} };
+
+    ghost ended = { λ _ _ _ _. Unit {0} };
+
+    fn open_at(&self, how: &OpenOptions, path: &str) -> io::Result<File> {
         how.open(self, path)
     }
 
-    fn make_at(&self, path: &str) -> io::Result<R::File> {
+    fn make_at(&self, path: &str) -> io::Result<File> {
         made_new().open(self, path)
     }
 
@@ -134,7 +155,7 @@ impl<R: Files> Machine for R {
         fs::remove_file(self, path)
     }
 
-    fn sync(&self, file: &R::File) -> io::Result<()> {
+    fn sync(&self, file: &File) -> io::Result<()> {
         file.sync_all()
     }
 
@@ -142,7 +163,7 @@ impl<R: Files> Machine for R {
         symlink_metadata(self, path)
     }
 
-    fn look_at_open(&self, file: &R::File) -> io::Result<Metadata> {
+    fn look_at_open(&self, file: &File) -> io::Result<Metadata> {
         file.metadata()
     }
 
@@ -155,7 +176,20 @@ impl<R: Files> Machine for R {
         }
     }
 
-    fn read_from(&self, file: &mut R::File, from: u64, buf: &mut [u8]) -> io::Result<()> {
-        read_whole(file, from, buf)
+    fn end_of(&self, mut file: &File) -> io::Result<u64> {
+        file.seek(SeekFrom::End(0))
+    }
+
+    fn read_from(&self, mut file: &File, from: u64, buf: &mut [u8]) -> io::Result<()> {
+        read_whole(&mut file, from, buf)
+    }
+
+    fn write_over(&self, mut file: &File, from: u64, bytes: &[u8]) -> io::Result<()> {
+        write_over(&mut file, from, bytes)
+    }
+
+    fn write_end(&self, file: &File, is_new: bool, from: u64, bytes: &[u8]) -> io::Result<()> {
+        let mut writer = file;
+        write_end(&mut writer, file, is_new, from, bytes)
     }
 }

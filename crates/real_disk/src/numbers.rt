@@ -4,7 +4,7 @@
 //! names of files pass over the numbers of folders.
 
 ghost use Rattle.std.specs.Prelude.{◌≡◌, ◌≤◌, ◌^◌, IfSome, IsNone, Some};
-ghost use Rattle.real_disk.specs.Numbers.{KeepsNumbers, folder_numbers, named as named_past, past as past_one};
+ghost use Rattle.real_disk.specs.Numbers.{AreKnown, IsFree, KeepsNumbers, folder_numbers, named as named_past, past as past_one};
 
 use std::alloc::Global;
 use std::collections::BTreeSet;
@@ -24,6 +24,7 @@ impl Folders {
     pub(crate) fn learn(&mut self, numbers: BTreeSet<u32, Global>)
         ensures learned { IsNone self.old.numbers → self.new.numbers ≡ Some numbers }
         ensures kept { KeepsNumbers self.old self.new }
+        ensures known { AreKnown self.new }
     {
         if self.numbers.is_none() {
             self.numbers = Some(numbers);
@@ -33,6 +34,7 @@ impl Folders {
     /// The number in the name of the file with this number. There is none where it would be past the last number.
     pub(crate) fn named(&self, number: u32) -> Option<u32>
         ensures named { IfSome result (λ named. named ≡ named_past (folder_numbers self.now) number) }
+        ensures free { IfSome result (IsFree (folder_numbers self.now)) }
         ensures none { IsNone result → 2 ^ 32 ≤ named_past (folder_numbers self.now) number }
     {
         match &self.numbers {
@@ -60,6 +62,7 @@ impl Folders {
 
 fn past_all(folders: &BTreeSet<u32, Global>, number: u32) -> Option<u32>
     ensures named { IfSome result (λ named. named ≡ named_past folders.now.keys number) }
+    ensures free { IfSome result (IsFree folders.now.keys) }
     ensures none { IsNone result → 2 ^ 32 ≤ named_past folders.now.keys number }
 {
     let mut named = number;

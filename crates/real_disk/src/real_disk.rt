@@ -1,6 +1,6 @@
 //! A folder of the machine as a disk.
 
-ghost use Rattle.std.specs.Prelude.{◌≡◌, IfOk, OnOk, IsErrOf, false};
+ghost use Rattle.std.specs.Prelude.{◌≡◌, IfOk, OnOk, OnErr, IsErr, IsErrOf, false};
 ghost use Rattle.cache_base.specs.Causes.{HasCause};
 ghost use Rattle.disk_model.specs.Calls.{no_counts};
 ghost use Rattle.disk_model.specs.Silent.{nothing, never, never_finite};
@@ -43,6 +43,8 @@ pub struct RealDisk<'a, R: Files + AllocGlobal> {
 }
 
 impl<'a, R: Machine<File = File> + AllocGlobal + Clock + Clone + Drop> RealDisk<'a, R> {
+    ghost use Rattle.real_disk.specs.Handed.{KeepsAllOpen};
+
     /// Makes no call of the machine.
     pub fn new(rt: &'a R, dir: String) -> Self
         ensures faults { ⟦<RealDisk<'a, R> as Disk>⟧.faults result ≡ 0 }
@@ -56,6 +58,7 @@ impl<'a, R: Machine<File = File> + AllocGlobal + Clock + Clone + Drop> RealDisk<
     /// The last call. Where all that stands is synced and the cache was not closed, it leaves a note of that, so that
     /// the next process does not sync it all again. Nothing is told of whether it could.
     pub fn leave(&mut self)
+        ensures kept { KeepsAllOpen self.old self.new }
         ensures faults { let f = ⟦<RealDisk<'a, R> as Disk>⟧.faults in f self.new ≡ f self.old }
     {
         self.folder.leave_note();
@@ -66,6 +69,7 @@ impl<R: Files + AllocGlobal> RealDisk<'_, R> {
     // The answer of a call. Here alone a failure is counted.
     fn answer<T>(&mut self, outcome: io::Result<T>) -> Result<T, DiskFault>
         ensures value { IfOk result (λ value. outcome ≡ Ok value) }
+        ensures failed { OnErr result (IsErr outcome) }
         ensures folder { self.new.folder ≡ self.old.folder }
         ensures cause { HasCause (IsErrOf result DiskFault.Failed) self.old.faults self.new.faults }
     {
@@ -81,12 +85,17 @@ impl<R: Files + AllocGlobal> RealDisk<'_, R> {
 }
 
 impl<R: Machine<File = File> + AllocGlobal + Clock + Clone + Drop> Disk for RealDisk<'_, R> {
-    ghost use Rattle.std.specs.Prelude.{IsSome, IsTrue, ◌≢◌};
+    ghost use Rattle.std.specs.Prelude.{IsSome, IsTrue, ◌≢◌, ◌≤◌, ◌^◌, ◌++◌, length, take, drop};
+    ghost use Rattle.std.specs.Option.{option_map};
     ghost use Rattle.disk_model.specs.State.{settled};
-    ghost use Rattle.disk_model.specs.Calls.{if_ok, counted_sync};
-    ghost use Rattle.disk_model.specs.State.{created, removed, renamed, standing};
+    ghost use Rattle.disk_model.specs.Calls.{if_ok, counted_look, counted_read, counted_sync, HoldsPart, MayWriteAt};
+    ghost use Rattle.cache_base.specs.Names.{AreRising};
+    ghost use Rattle.disk_model.specs.Listing.{AreDoomed, AreEntries, AreRisingNumbers};
+    ghost use Rattle.disk_model.specs.declared.place.Place.TheVariants.{Clear};
+    ghost use Rattle.disk_model.specs.State.{created, part_of, removed, renamed, standing, wrote};
+    ghost use Rattle.disk_model.specs.State.Write.{End, Patch};
     ghost use Rattle.disk_model.specs.Calls.{counted_change, if_done};
-    ghost use Rattle.real_disk.specs.Handed.{CreatesAt, KeepsElsewhere, RemovesAt, RenamesTo};
+    ghost use Rattle.real_disk.specs.Handed.{ClosesIdle, CreatesAt, EndsKept, KeepsAllOpen, KeepsElsewhere, KeepsOrCloses, KeepsOthersOpen, KeepsOwnFile, KeepsSameFiles, PatchesKept, ReadsKept, RemovesAt, RenamesTo, ToldAt};
     ghost use Rattle.real_disk.specs.Pending.{NothingPending};
 
     ghost tells = { false };
@@ -103,6 +112,7 @@ impl<R: Machine<File = File> + AllocGlobal + Clock + Clone + Drop> Disk for Real
 
     fn sync(&mut self) -> Result<(), DiskFault>
         ensures synced { OnOk result (NothingPending self.new) }
+        ensures files { KeepsSameFiles self.old self.new }
         ensures state { IsTrue false → nothing ≡ if_ok result (settled nothing) nothing }
         ensures counts { IsTrue false → no_counts ≡ counted_sync result no_counts }
         ensures cause { HasCause (IsErrOf result DiskFault.Failed) self.old.faults self.new.faults }
@@ -111,18 +121,42 @@ impl<R: Machine<File = File> + AllocGlobal + Clock + Clone + Drop> Disk for Real
         self.answer(outcome)
     }
 
-    fn size(&mut self, place: &Place) -> Result<Option<u64>, DiskFault> {
+    fn size(&mut self, place: &Place) -> Result<Option<u64>, DiskFault>
+        ensures told { IfOk result (ToldAt R.Machine place.now self.old) }
+        ensures failed { OnErr result (KeepsAllOpen self.old self.new) }
+        ensures own { KeepsOwnFile R.Machine place.now self.old self.new }
+        ensures others { ClosesIdle place.now self.old self.new }
+        ensures size { IfOk result (λ size. IsTrue false →
+            size ≡ option_map length (standing nothing place.now)) }
+        ensures state { IsTrue false → nothing ≡ nothing }
+        ensures counts { IsTrue false → no_counts ≡ counted_read result place.now no_counts }
+        ensures cause { HasCause (IsErrOf result DiskFault.Failed) self.old.faults self.new.faults }
+    {
         let outcome = self.folder.size(place);
         self.answer(outcome)
     }
 
-    fn read(&mut self, place: &Place, from: u64, buf: &mut [u8]) -> Result<usize, DiskFault> {
+    fn read(&mut self, place: &Place, from: u64, buf: &mut [u8]) -> Result<usize, DiskFault>
+        ensures used { IfOk result (λ n.
+            ReadsKept R.Machine place.now from (take n buf.new) self.old self.new) }
+        ensures own { KeepsOwnFile R.Machine place.now self.old self.new }
+        ensures others { ClosesIdle place.now self.old self.new }
+        ensures whole { place.now ≢ Clear → IfOk result (λ n. n ≡ length buf.old) }
+        ensures len { IfOk result (λ n. n ≤ length buf.old) }
+        ensures bytes { IfOk result (λ n. IsTrue false →
+            let part = part_of from (length buf.old) (standing nothing place.now) in
+            (n ≡ length part) × (buf.new ≡ part ++ drop n buf.old)) }
+        ensures state { IsTrue false → nothing ≡ nothing }
+        ensures counts { IsTrue false → no_counts ≡ counted_read result place.now no_counts }
+        ensures cause { HasCause (IsErrOf result DiskFault.Failed) self.old.faults self.new.faults }
+    {
         let outcome = self.folder.read(place, from, buf);
         self.answer(outcome)
     }
 
     fn create(&mut self, place: &Place) -> Result<(), DiskFault>
         ensures made { OnOk result (CreatesAt R.Machine place.now self.old self.new) }
+        ensures failed { OnErr result (KeepsOrCloses place.now self.old self.new) }
         ensures others { KeepsElsewhere R.Machine place.now self.old self.new }
         ensures state { IsTrue false →
             nothing ≡ if_done result (created place.now nothing) nothing }
@@ -133,12 +167,33 @@ impl<R: Machine<File = File> + AllocGlobal + Clock + Clone + Drop> Disk for Real
         self.answer(outcome)
     }
 
-    fn write_end(&mut self, place: &Place, from: u64, bytes: &[u8]) -> Result<(), DiskFault> {
+    fn write_end(&mut self, place: &Place, from: u64, bytes: &[u8]) -> Result<(), DiskFault>
+        requires limit { from ≤ 2 ^ 40 }
+        requires told { IsTrue false → MayWriteAt (standing nothing place.now) from }
+        ensures used { OnOk result (EndsKept R.Machine place.now from bytes.now self.old self.new) }
+        ensures own { KeepsOwnFile R.Machine place.now self.old self.new }
+        ensures others { KeepsElsewhere R.Machine place.now self.old self.new }
+        ensures state { IsTrue false → nothing
+            ≡ if_done result (wrote place.now (End from bytes.now) nothing) nothing }
+        ensures counts { IsTrue false → no_counts ≡ counted_change result no_counts }
+        ensures cause { HasCause (IsErrOf result DiskFault.Failed) self.old.faults self.new.faults }
+    {
         let outcome = self.folder.write_end(place, from, bytes);
         self.answer(outcome)
     }
 
-    fn patch(&mut self, place: &Place, from: u64, bytes: &[u8]) -> Result<(), DiskFault> {
+    fn patch(&mut self, place: &Place, from: u64, bytes: &[u8]) -> Result<(), DiskFault>
+        requires limit { from ≤ 2 ^ 40 }
+        requires told { IsTrue false → HoldsPart (standing nothing place.now) from (length bytes.now) }
+        ensures used { OnOk result
+            (PatchesKept R.Machine place.now from bytes.now self.old self.new) }
+        ensures own { KeepsOwnFile R.Machine place.now self.old self.new }
+        ensures others { KeepsElsewhere R.Machine place.now self.old self.new }
+        ensures state { IsTrue false → nothing
+            ≡ if_done result (wrote place.now (Patch from bytes.now) nothing) nothing }
+        ensures counts { IsTrue false → no_counts ≡ counted_change result no_counts }
+        ensures cause { HasCause (IsErrOf result DiskFault.Failed) self.old.faults self.new.faults }
+    {
         let outcome = self.folder.patch(place, from, bytes);
         self.answer(outcome)
     }
@@ -147,6 +202,7 @@ impl<R: Machine<File = File> + AllocGlobal + Clock + Clone + Drop> Disk for Real
         requires stands { IsTrue false → IsSome (standing nothing from.now) }
         requires differ { IsTrue false → from.now ≢ to.now }
         ensures renamed { OnOk result (RenamesTo R.Machine from.now to.now self.old self.new) }
+        ensures failed { OnErr result (KeepsAllOpen self.old self.new) }
         ensures state { IsTrue false →
             nothing ≡ if_done result (renamed from.now to.now nothing) nothing }
         ensures counts { IsTrue false → no_counts ≡ counted_change result no_counts }
@@ -159,6 +215,8 @@ impl<R: Machine<File = File> + AllocGlobal + Clock + Clone + Drop> Disk for Real
     fn remove(&mut self, place: &Place) -> Result<(), DiskFault>
         requires { IsTrue false → IsSome (standing nothing place.now) }
         ensures removed { OnOk result (RemovesAt R.Machine place.now self.old self.new) }
+        ensures failed { OnErr result (KeepsOrCloses place.now self.old self.new) }
+        ensures others { KeepsOthersOpen place.now self.old self.new }
         ensures state { IsTrue false →
             nothing ≡ if_done result (removed place.now nothing) nothing }
         ensures counts { IsTrue false → no_counts ≡ counted_change result no_counts }
@@ -168,14 +226,28 @@ impl<R: Machine<File = File> + AllocGlobal + Clock + Clone + Drop> Disk for Real
         self.answer(outcome)
     }
 
-    fn entries(&mut self, out: &mut Names) -> Result<(), DiskFault> {
+    fn entries(&mut self, out: &mut Names) -> Result<(), DiskFault>
+        ensures kept { KeepsAllOpen self.old self.new }
+        ensures rising { OnOk result (AreRising out.new) }
+        ensures names { OnOk result (IsTrue false → AreEntries nothing out.new) }
+        ensures state { IsTrue false → nothing ≡ nothing }
+        ensures counts { IsTrue false → no_counts ≡ counted_look result no_counts }
+        ensures cause { HasCause (IsErrOf result DiskFault.Failed) self.old.faults self.new.faults }
+    {
         let outcome = self.folder.entries();
         let names = self.answer(outcome)?;
         *out = rising(self.folder.alloc(), names)?;
         Ok(())
     }
 
-    fn doomed(&mut self, out: &mut Numbers) -> Result<(), DiskFault> {
+    fn doomed(&mut self, out: &mut Numbers) -> Result<(), DiskFault>
+        ensures kept { KeepsAllOpen self.old self.new }
+        ensures rising { OnOk result (AreRisingNumbers out.new) }
+        ensures numbers { OnOk result (IsTrue false → AreDoomed nothing out.new) }
+        ensures state { IsTrue false → nothing ≡ nothing }
+        ensures counts { IsTrue false → no_counts ≡ counted_look result no_counts }
+        ensures cause { HasCause (IsErrOf result DiskFault.Failed) self.old.faults self.new.faults }
+    {
         let outcome = self.folder.doomed();
         let numbers = self.answer(outcome)?;
         *out = rising(self.folder.alloc(), numbers)?;

@@ -2,7 +2,7 @@
 
 ghost use Rattle.std.specs.Prelude.{◌≡◌, OnOk};
 ghost use Rattle.real_disk.specs.Files.{SyncsPlace};
-ghost use Rattle.real_disk.specs.Numbers.{KeepsNumbers};
+ghost use Rattle.real_disk.specs.Numbers.{AreKnown, KeepsNumbers};
 
 use crate::listing::{Found, read_names};
 use crate::machine::Machine;
@@ -48,6 +48,7 @@ impl<R: Machine + AllocGlobal + Clone + Drop> Tree<'_, R> {
         ensures dir { self.new.dir ≡ self.old.dir }
         ensures folders { self.new.folders ≡ self.old.folders }
         ensures numbers { KeepsNumbers self.old.numbers self.new.numbers }
+        ensures known { OnOk result (AreKnown self.new.numbers) }
     {
         let found = self.find_doomed()?;
         self.numbers.learn(found.folders);

@@ -63,10 +63,10 @@ fn read_note<R: Machine + AllocGlobal>(rt: &R, path: &str) -> io::Result<Note>
     ensures { IfOk result (λ note.
         IsNoteAt R.Machine rt.now path.now note.text.items note.itself) }
 {
-    let mut file = open_regular(rt, &read_only(), path)?;
+    let file = open_regular(rt, &read_only(), path)?;
     let found = rt.look_at_open(&file)?;
     let mut text = vec![in rt.alloc(); 0u8; found.len().min(LONGEST) as usize]?;
-    rt.read_from(&mut file, 0, &mut text)?;
+    rt.read_from(&file, 0, &mut text)?;
     Ok(Note {
         text,
         itself: rt.stamp(&found),

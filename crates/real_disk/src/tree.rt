@@ -2,13 +2,13 @@
 
 ghost use Rattle.std.specs.Prelude.{◌≡◌, OnOk, IfOk, IfErr, string_bytes};
 ghost use Rattle.std.specs.IoError.{error_kind};
-ghost use Rattle.std.specs.Fs.{file_type, IsFile};
+ghost use Rattle.std.specs.Fs.{file_type, metadata_len, IsFile};
 ghost use Rattle.std.specs.List.{All};
 ghost use Rattle.real_disk.specs.OpenFolders.{SyncsFolder};
 ghost use Rattle.real_disk.specs.Folders.{NoneLost, NoneLeft, HasNote};
 ghost use Rattle.real_disk.specs.Roots.{HasSameRoot};
 ghost use Rattle.real_disk.specs.Paths.{IsPathOf};
-ghost use Rattle.real_disk.specs.Called.{FoundFileAt};
+ghost use Rattle.real_disk.specs.Called.{FoundFileAt, FoundLengthAt};
 
 use crate::machine::{Machine, Stamp};
 use crate::notes::FolderNotes;
@@ -154,6 +154,7 @@ impl Seen {
 /// The regular file that stands at the path. A link is none.
 pub(crate) fn seen_at<R: Machine>(rt: &R, path: &str) -> io::Result<Seen>
     ensures found { OnOk result (FoundFileAt R.Machine rt.now path.now) }
+    ensures len { IfOk result (λ seen. FoundLengthAt R.Machine rt.now path.now seen.len) }
     ensures missing { IfErr result
         (λ e. error_kind e ≡ ErrorKind.NotFound → R.Machine.missing rt.now path.now) }
 {
@@ -163,6 +164,7 @@ pub(crate) fn seen_at<R: Machine>(rt: &R, path: &str) -> io::Result<Seen>
 
 fn seen_in<R: Machine>(rt: &R, found: &Metadata) -> io::Result<Seen>
     ensures file { OnOk result (IsFile (file_type found.now)) }
+    ensures len { IfOk result (λ seen. seen.len ≡ metadata_len found.now) }
     ensures other { IfErr result (λ e. error_kind e ≡ ErrorKind.Other) }
 {
     if !found.is_file() {

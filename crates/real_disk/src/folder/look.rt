@@ -1,9 +1,10 @@
 //! The calls that ask for the length of a file or read it.
 
-ghost use Rattle.std.specs.Prelude.{◌≡◌, ◌⊎◌, IfOk, IfSome, length, ◌≢◌, ◌≤◌, string_bytes};
+ghost use Rattle.std.specs.Prelude.{◌≡◌, ◌⊎◌, IfOk, IfSome, None, OnErr, length, take, ◌≢◌, ◌≤◌, string_bytes};
 ghost use Rattle.disk_model.specs.declared.place.Place.TheVariants.{Clear};
 ghost use Rattle.real_disk.specs.Kept.{opened_at, ClosesElsewhere, IsIdle, SameElsewhere};
 ghost use Rattle.real_disk.specs.Opening.{IsFileOf, IsOpenedAt};
+ghost use Rattle.real_disk.specs.Used.{IsToldOf, KeepsOwn, KeepsRead};
 
 use super::Folder;
 use crate::contents::read_at;
@@ -18,6 +19,9 @@ use std::rt::Clock;
 impl<R: Machine<File = File> + AllocGlobal + Clock> Folder<'_, R> {
     /// The length of the file, which is then kept open, since it is mostly read next. A missing file has none.
     pub(crate) fn size(&mut self, place: &Place) -> io::Result<Option<u64>>
+        ensures told { IfOk result (IsToldOf R.Machine self.old.tree place.now) }
+        ensures failed { OnErr result (self.new.kept ≡ self.old.kept) }
+        ensures own { KeepsOwn R.Machine self.old.tree place.now self.old.kept self.new.kept }
         ensures here { (opened_at self.new.kept place.now ≡ opened_at self.old.kept place.now)
             ⊎ IfSome (opened_at self.new.kept place.now) (λ opened. IsOpenedAt R.Machine
             self.old.tree.rt.now (string_bytes self.old.tree.dir) self.old.tree.numbers place.now opened.file) }
@@ -62,6 +66,9 @@ impl<R: Machine<File = File> + AllocGlobal + Clock> Folder<'_, R> {
     pub(crate) fn read(&mut self, place: &Place, from: u64, buf: &mut [u8]) -> io::Result<usize>
         ensures len { IfOk result (λ n. n ≤ length buf.old) }
         ensures whole { place.now ≢ Clear → IfOk result (λ n. n ≡ length buf.old) }
+        ensures used { IfOk result (λ n. KeepsRead R.Machine self.old.tree place.now from
+            (take n buf.new) self.old.kept self.new.kept) }
+        ensures own { KeepsOwn R.Machine self.old.tree place.now self.old.kept self.new.kept }
         ensures others { ClosesElsewhere IsIdle place.now self.old.kept self.new.kept }
         ensures files { self.new.files ≡ self.old.files }
         ensures folders { self.new.tree ≡ self.old.tree }
@@ -75,7 +82,7 @@ impl<R: Machine<File = File> + AllocGlobal + Clock> Folder<'_, R> {
             outcome => outcome?,
         };
         opened.is_new = false;
-        let outcome = read_at(place, &mut opened.file, from, buf);
+        let outcome = read_at(self.tree.rt, place, &opened.file, from, buf);
         let _outcome = self.kept.keep(place, opened);
         outcome
     }
@@ -84,6 +91,7 @@ impl<R: Machine<File = File> + AllocGlobal + Clock> Folder<'_, R> {
     fn open_to_read(&mut self, place: &Place) -> io::Result<Opened<R::File>>
         ensures file { IfOk result (λ opened. IsFileOf R.Machine self.old.tree.rt.now
             (string_bytes self.old.tree.dir) self.old.tree.numbers self.old.kept place.now opened) }
+        ensures gone { opened_at self.new.kept place.now ≡ None }
         ensures others { SameElsewhere place.now self.old.kept self.new.kept }
         ensures files { self.new.files ≡ self.old.files }
         ensures folders { self.new.tree ≡ self.old.tree }

@@ -1,14 +1,15 @@
 //! The writing of a file, which is then kept open.
 
 ghost use Rattle.std.specs.Prelude.{◌≡◌, IfOk, OnOk, OnErr, None, Some, false, string_bytes};
+ghost use Rattle.real_disk.specs.Changes.{StaysOrGoes};
 ghost use Rattle.real_disk.specs.Kept.{opened_at, ClosesElsewhere, IsIdle, IsSettled};
 ghost use Rattle.real_disk.specs.Opening.{IsFileOf};
+ghost use Rattle.real_disk.specs.Used.{KeepsEnded, KeepsOwn, KeepsWritten};
 ghost use Rattle.real_disk.specs.Files.{IsNoted, KeepsNote, KeepsOthers};
 ghost use Rattle.real_disk.specs.Claims.{IsClaimed};
 ghost use Rattle.real_disk.specs.Earlier.{HasLooked};
 
 use super::Folder;
-use crate::contents::{write_end, write_over};
 use crate::kept::Opened;
 use crate::machine::Machine;
 use crate::tree::read_and_write;
@@ -20,6 +21,9 @@ use std::rt::Clock;
 impl<R: Machine<File = File> + AllocGlobal + Clock> Folder<'_, R> {
     /// The file then ends after the bytes.
     pub(crate) fn write_end(&mut self, place: &Place, from: u64, bytes: &[u8]) -> io::Result<()>
+        ensures used { OnOk result (KeepsEnded R.Machine self.old.tree place.now from bytes.now
+            self.old.kept self.new.kept) }
+        ensures own { KeepsOwn R.Machine self.old.tree place.now self.old.kept self.new.kept }
         ensures elsewhere { ClosesElsewhere (IsSettled R.Machine self.old.tree.rt.now)
             place.now self.old.kept self.new.kept }
         ensures noted { OnOk result (IsNoted self.new.files place.now) }
@@ -31,12 +35,8 @@ impl<R: Machine<File = File> + AllocGlobal + Clock> Folder<'_, R> {
         ensures looked { IsClaimed self.new.claim → HasLooked self.old.earlier self.new.earlier }
     {
         self.begin_change()?;
-        let Opened {
-            mut file,
-            is_new,
-            ..
-        } = self.open_to_write(place)?;
-        let outcome = write_end(&mut file, is_new, from, bytes);
+        let Opened { file, is_new, .. } = self.open_to_write(place)?;
+        let outcome = self.tree.rt.write_end(&file, is_new, from, bytes);
         let kept = self.keep_changed(place, Opened::to_write(file));
         outcome?;
         kept
@@ -44,6 +44,9 @@ impl<R: Machine<File = File> + AllocGlobal + Clock> Folder<'_, R> {
 
     /// The file keeps what lies after the bytes.
     pub(crate) fn patch(&mut self, place: &Place, from: u64, bytes: &[u8]) -> io::Result<()>
+        ensures used { OnOk result (KeepsWritten R.Machine self.old.tree place.now from bytes.now
+            self.old.kept self.new.kept) }
+        ensures own { KeepsOwn R.Machine self.old.tree place.now self.old.kept self.new.kept }
         ensures elsewhere { ClosesElsewhere (IsSettled R.Machine self.old.tree.rt.now)
             place.now self.old.kept self.new.kept }
         ensures noted { OnOk result (IsNoted self.new.files place.now) }
@@ -55,8 +58,8 @@ impl<R: Machine<File = File> + AllocGlobal + Clock> Folder<'_, R> {
         ensures looked { IsClaimed self.new.claim → HasLooked self.old.earlier self.new.earlier }
     {
         self.begin_change()?;
-        let mut file = self.open_to_write(place)?.file;
-        let outcome = write_over(&mut file, from, bytes);
+        let file = self.open_to_write(place)?.file;
+        let outcome = self.tree.rt.write_over(&file, from, bytes);
         let kept = self.keep_changed(place, Opened::to_write(file));
         outcome?;
         kept
@@ -85,6 +88,7 @@ impl<R: Machine<File = File> + AllocGlobal + Clock> Folder<'_, R> {
             (string_bytes self.old.tree.dir) self.old.tree.numbers self.old.kept place.now opened) }
         ensures elsewhere { ClosesElsewhere (IsSettled R.Machine self.old.tree.rt.now)
             place.now self.old.kept self.new.kept }
+        ensures failed { OnErr result (StaysOrGoes place.now self.old.kept self.new.kept) }
         ensures noted { OnOk result (IsNoted self.new.files place.now) }
         ensures kept { KeepsNote place.now self.old.files self.new.files }
         ensures others { KeepsOthers place.now self.old.files self.new.files }
