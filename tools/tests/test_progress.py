@@ -8,7 +8,7 @@ import time
 import types
 
 import pytest
-from cachelib import output, progress
+from cachelib import output, page, progress
 from support import NUMBERS, TOOLS, dump_of
 
 
@@ -123,7 +123,7 @@ def shown_by(words, dump):
 
 @pytest.mark.parametrize("tool", ["extract", "report"])
 def test_a_tool_on_a_terminal(tool, tmp_path):
-    if tool == "report" and not os.path.isdir("/usr/share/javascript/chart.js"):
+    if tool == "report" and not all(os.path.exists(path) for _, path in page.LIBRARIES):
         pytest.skip("the packages for the page are missing")
     dump = dump_of([(b":https://example.com/%d" % n, bytes(100000), NUMBERS, b"") for n in range(40)])
     words = [tool, "-", str(tmp_path / "to")] if tool == "extract" else [tool]
