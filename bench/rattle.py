@@ -7,7 +7,7 @@ import tempfile
 
 HERE = os.path.dirname(os.path.realpath(__file__))
 TOP = os.path.dirname(HERE)
-ENTRIES = ("cache_base cache_io disk_model jenkins_hash entry_name entry_key entry_parts entry_metadata chunk_store "
+ENTRIES = ("cache_base cache_io disk_theory jenkins_hash entry_name entry_key entry_parts entry_metadata chunk_store "
            "entry_file index_record record_list index_file index_journal index_map index_theory")
 # The crates below each small program, and those that it names itself.
 PROGRAMS = {
@@ -15,9 +15,9 @@ PROGRAMS = {
     "index": ("cache_base jenkins_hash entry_key entry_parts entry_metadata index_record record_list index_file",
               "cache_base jenkins_hash index_record record_list index_file"),
     "open_index": (f"{ENTRIES} startup_read real_disk",
-                   "cache_base cache_io disk_model index_record index_map startup_read real_disk"),
+                   "cache_base cache_io disk_theory index_record index_map startup_read real_disk"),
     "update": (f"{ENTRIES} index_update real_disk",
-               "cache_base cache_io disk_model index_record index_map index_update real_disk"),
+               "cache_base cache_io disk_theory index_record index_map index_update real_disk"),
 }
 
 

@@ -5,13 +5,12 @@ ghost use Rattle.cache_base.specs.Limits.{chunks as chunks_of};
 ghost use Rattle.cache_base.specs.declared.limits.TheConstants.{BODY_MAX, CHUNK};
 ghost use Rattle.chunk_store.specs.Chunks.{chunk_hashes};
 ghost use Rattle.chunk_store.specs.Prefixes.{HasChunks, HasChunksWith};
-ghost use Rattle.disk_model.specs.Account.{Looks, ending};
-ghost use Rattle.disk_model.specs.State.{standing};
+ghost use Rattle.disk_theory.specs.Account.{Looks, ending};
+ghost use Rattle.disk_theory.specs.State.{standing};
 
 use cache_base::{Buffer, CHUNK, Hashes, NoMemory};
-use chunk_store::read_chunk;
-use disk_model::{Disk, DiskFault, Place};
-use jenkins_hash::hash16;
+use chunk_store::{chunk_hash, read_chunk};
+use disk_theory::{Disk, DiskFault, Place};
 use std::alloc::Global;
 
 // These hashes, as a list that may grow.
@@ -28,7 +27,7 @@ fn push_hashes(hashes: &mut Hashes, body: &[u8]) -> Result<(), NoMemory>
     let mut rest = body;
     while !rest.is_empty() {
         let (piece, after) = rest.split_at(CHUNK.min(rest.len()));
-        hashes.push(hash16(piece))?;
+        hashes.push(chunk_hash(piece))?;
         rest = after;
     }
     Ok(())
@@ -43,7 +42,7 @@ fn push_joined(hashes: &mut Hashes, part: &mut Buffer, more: &[u8]) -> Result<()
     let room = CHUNK - part.as_slice().len();
     let (first, rest) = more.split_at(room.min(more.len()));
     part.extend(first);
-    hashes.push(hash16(part.as_slice()))?;
+    hashes.push(chunk_hash(part.as_slice()))?;
     push_hashes(hashes, rest)
 }
 

@@ -1,7 +1,8 @@
 //! The disks in memory: tables of calls, each with its answer.
 
 use cache_base::{Bytes, Name, Names, NoMemory, Numbers};
-use disk_model::{Disk, DiskFault, ImageFault, MemDisk, Place};
+use disk_model::{ImageFault, MemDisk};
+use disk_theory::{Disk, DiskFault, Place};
 use std::alloc::Global;
 use std::process::Abort;
 use std::test::Fail;

@@ -4,8 +4,8 @@ use Rattle.std.specs.Prelude.{IfSome, if◌then◌else◌, is_none}
 use Rattle.cache_base.specs.declared.name.Name.{Name}
 use Rattle.cache_check.specs.Findings.{content_findings, damaged, file_findings}
 use Rattle.cache_check.specs.declared.finding.Finding.{Finding}
-use Rattle.disk_model.specs.State.{State, standing}
-use Rattle.disk_model.specs.declared.place.Place.TheVariants.{Entry}
+use Rattle.disk_theory.specs.State.{State, standing}
+use Rattle.disk_theory.specs.declared.place.Place.TheVariants.{Entry}
 use Rattle.entry_file.specs.EntryFile.{file_fault, file_meta}
 use Rattle.entry_file.specs.EntryRead.{ReadsAs}
 use Rattle.entry_file.specs.declared.entry_read.EntryRead.{EntryRead}
@@ -15,7 +15,7 @@ use Rattle.entry_metadata.specs.Metadata.{Meta as Said}
 use Rattle.entry_metadata.specs.declared.meta.Meta.{Meta}
 use Rattle.cache_base.specs.Limits.{chunks}
 use Rattle.cache_check.specs.Checks.{looks_at, named}
-use Rattle.disk_model.specs.Calls.{Counts}
+use Rattle.disk_theory.specs.Calls.{Counts}
 use Rattle.entry_file.specs.Looks.{LooksAtMost, meta_looks}
 
 -- the findings of a content that fits are those of its body

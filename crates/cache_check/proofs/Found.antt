@@ -6,10 +6,10 @@ use Rattle.cache_base.specs.declared.name.Name.{Name}
 use Rattle.cache_check.specs.Findings.{AreFindings, IsTableOf, findings}
 use Rattle.cache_check.specs.Table.{Table}
 use Rattle.cache_check.specs.declared.finding.Finding.{Finding}
-use Rattle.disk_model.specs.Calls.{Counts, counted_look}
-use Rattle.disk_model.specs.Listing.{AreEntries}
-use Rattle.disk_model.specs.State.{State, standing}
-use Rattle.disk_model.specs.declared.disk.DiskFault.{DiskFault}
+use Rattle.disk_theory.specs.Calls.{Counts, counted_look}
+use Rattle.disk_theory.specs.Listing.{AreEntries}
+use Rattle.disk_theory.specs.State.{State, standing}
+use Rattle.disk_theory.specs.declared.disk.DiskFault.{DiskFault}
 use Rattle.entry_file.specs.Looks.{LooksAtMost}
 use Rattle.index_record.specs.declared.record.IndexRecord.{IndexRecord}
 use Rattle.index_theory.specs.Ever.{entries_on}

@@ -1,6 +1,6 @@
 -- The looks that a check still takes, of all that it takes.
 use Rattle.std.proofs.Common.{◌≡◌, ◌≤◌, ◌+◌, ℕ, refl, ◌∙◌, arith}
-use Rattle.disk_model.specs.Calls.{Counts}
+use Rattle.disk_theory.specs.Calls.{Counts}
 use Rattle.entry_file.specs.Looks.{LooksAtMost}
 
 -- with those that are left the calls come to no more than these

@@ -9,8 +9,8 @@ use Rattle.cache_check.specs.Table.{IsTable}
 use Rattle.cache_check.specs.declared.finding.Finding.{Finding}
 use Rattle.cache_check.proofs.Agreement.{findings_agree}
 use Rattle.cache_check.proofs.Tables.{table_rises}
-use Rattle.disk_model.specs.Image.{Files}
-use Rattle.disk_model.specs.declared.disk.DiskFault.{DiskFault}
+use Rattle.disk_theory.specs.Image.{Files}
+use Rattle.disk_theory.specs.declared.disk.DiskFault.{DiskFault}
 use Rattle.index_record.specs.declared.record.IndexRecord.{IndexRecord}
 use Rattle.record_list.proofs.SortedLaws.{by_name_keeps}
 use Rattle.record_list.specs.Lists.{HasNames, IsByName}

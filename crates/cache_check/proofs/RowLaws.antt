@@ -11,7 +11,7 @@ use Rattle.cache_base.specs.declared.name.Name.{Name}
 use Rattle.cache_check.specs.Findings.{findings, findings_at, findings_of, names_alone, names_of_both, with_names}
 use Rattle.cache_check.specs.Table.{Table, bytes_cmp, get, insert, keys, name_of}
 use Rattle.cache_check.specs.declared.finding.Finding.{Finding}
-use Rattle.disk_model.specs.Image.{Files}
+use Rattle.disk_theory.specs.Image.{Files}
 use Rattle.index_record.specs.declared.record.IndexRecord.{IndexRecord}
 use Rattle.record_list.proofs.ChangeLaws.{below_all}
 use Rattle.record_list.proofs.NameLaws.{below_apart, below_trans, same_itself, tied_same}

@@ -12,8 +12,8 @@ use Rattle.cache_base.specs.declared.name.Name.{Name}
 use Rattle.cache_check.specs.Findings.{findings, findings_of}
 use Rattle.cache_check.specs.Table.{name_of}
 use Rattle.cache_check.specs.declared.finding.Finding.{Finding}
-use Rattle.disk_model.specs.Image.{Files}
-use Rattle.disk_model.specs.declared.place.Place.TheVariants.{Entry}
+use Rattle.disk_theory.specs.Image.{Files}
+use Rattle.disk_theory.specs.declared.place.Place.TheVariants.{Entry}
 use Rattle.index_record.specs.declared.record.IndexRecord.{IndexRecord}
 use Rattle.record_list.proofs.NameLaws.{above_below}
 use Rattle.record_list.specs.Lists.{AreRising as AreByName, names_of}

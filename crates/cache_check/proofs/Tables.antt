@@ -14,10 +14,10 @@ use Rattle.cache_base.specs.declared.name.Name.{Name}
 use Rattle.cache_base.proofs.NameLaws.{name_cmp_total}
 use Rattle.cache_check.proofs.TableLaws.{same_table}
 use Rattle.cache_check.specs.Table.{Table, bytes_cmp, get, name_of}
-use Rattle.disk_model.specs.Image.{Files}
-use Rattle.disk_model.specs.Listing.{AreEntries}
-use Rattle.disk_model.specs.State.{State, standing}
-use Rattle.disk_model.specs.declared.place.Place.TheVariants.{Entry}
+use Rattle.disk_theory.specs.Image.{Files}
+use Rattle.disk_theory.specs.Listing.{AreEntries}
+use Rattle.disk_theory.specs.State.{State, standing}
+use Rattle.disk_theory.specs.declared.place.Place.TheVariants.{Entry}
 use Rattle.index_theory.specs.Ever.{entries_on}
 use Rattle.cache_check.specs.Checks.{table_of}
 use Rattle.cache_check.specs.Findings.{IsTableOf}

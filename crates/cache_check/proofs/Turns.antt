@@ -5,7 +5,7 @@ use Rattle.cache_base.specs.Names.{AreRising, has_name}
 use Rattle.cache_base.specs.declared.name.Name.{Name}
 use Rattle.cache_check.specs.Findings.{findings}
 use Rattle.cache_check.specs.declared.finding.Finding.{Finding}
-use Rattle.disk_model.specs.State.{State, standing}
+use Rattle.disk_theory.specs.State.{State, standing}
 use Rattle.index_record.specs.declared.record.IndexRecord.{IndexRecord}
 use Rattle.record_list.specs.Lists.{AreRising as AreByName}
 use Rattle.cache_check.specs.Checks.{looks_over, table_of}

@@ -8,10 +8,10 @@ use Rattle.cache_check.specs.Findings.{IsTableOf}
 use Rattle.cache_check.specs.Table.{Table, name_of}
 use Rattle.cache_check.specs.declared.finding.Finding.{Finding}
 use Rattle.cache_check.specs.declared.finding.What.{What}
-use Rattle.disk_model.specs.Calls.{Counts}
-use Rattle.disk_model.specs.Image.{Files}
-use Rattle.disk_model.specs.State.{State, standing}
-use Rattle.disk_model.specs.declared.place.Place.TheVariants.{Entry}
+use Rattle.disk_theory.specs.Calls.{Counts}
+use Rattle.disk_theory.specs.Image.{Files}
+use Rattle.disk_theory.specs.State.{State, standing}
+use Rattle.disk_theory.specs.declared.place.Place.TheVariants.{Entry}
 use Rattle.entry_file.specs.EntryFile.{file_meta, fits}
 use Rattle.entry_file.specs.Looks.{LooksAtMost, meta_looks}
 use Rattle.index_theory.specs.Ever.{Entries}

@@ -5,8 +5,8 @@ use Rattle.cache_base.specs.Names.{name_cmp}
 use Rattle.cache_base.specs.declared.name.Name.{Name}
 use Rattle.cache_check.specs.declared.finding.Finding.{Finding}
 use Rattle.cache_check.specs.declared.finding.What.{What}
-use Rattle.disk_model.specs.Image.{Files}
-use Rattle.disk_model.specs.declared.place.Place.TheVariants.{Entry}
+use Rattle.disk_theory.specs.Image.{Files}
+use Rattle.disk_theory.specs.declared.place.Place.TheVariants.{Entry}
 use Rattle.index_record.specs.declared.record.IndexRecord.{IndexRecord}
 use Rattle.cache_check.specs.Checks.{looks_at, named}
 use Rattle.cache_check.specs.Findings.{findings_of}

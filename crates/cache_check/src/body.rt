@@ -2,7 +2,7 @@
 
 ghost use Rattle.std.specs.Prelude.{map, option_to_list, OnOk, IfSome, IsTrue};
 ghost use Rattle.cache_base.specs.Limits.{chunks as chunks_of};
-ghost use Rattle.disk_model.specs.Account.{Looks, ending};
+ghost use Rattle.disk_theory.specs.Account.{Looks, ending};
 ghost use Rattle.entry_file.specs.Damages.{HasMeta};
 ghost use Rattle.entry_file.specs.Looks.{LooksAtMost};
 ghost use Rattle.entry_metadata.specs.Meta.{meta_of};
@@ -11,7 +11,7 @@ ghost use Rattle.cache_check.specs.Findings.{damaged};
 
 use crate::{Finding, FindingList, What};
 use cache_base::{Buffer, Name, NoMemory, chunks};
-use disk_model::{Disk, DiskFault, Place};
+use disk_theory::{Disk, DiskFault, Place};
 use entry_file::{Damage, check_chunk_at};
 use entry_metadata::Meta;
 

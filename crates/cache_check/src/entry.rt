@@ -2,7 +2,7 @@
 
 ghost use Rattle.std.specs.Prelude.{◌≡◌, IfOk, OnOk, IsTrue, option_and_then};
 ghost use Rattle.cache_check.specs.Findings.{file_findings, findings_of, record_findings};
-ghost use Rattle.disk_model.specs.Account.{Looks, ending};
+ghost use Rattle.disk_theory.specs.Account.{Looks, ending};
 ghost use Rattle.index_theory.specs.Scan.{record_of};
 ghost use Rattle.entry_file.specs.Looks.{LooksAtMost};
 ghost use Rattle.cache_check.specs.Checks as spec;
@@ -10,7 +10,7 @@ ghost use Rattle.cache_check.specs.Checks as spec;
 use crate::body::add_damages;
 use crate::{Finding, FindingList, What};
 use cache_base::{Buffer, Name, NoMemory};
-use disk_model::{Disk, DiskFault, Place};
+use disk_theory::{Disk, DiskFault, Place};
 use entry_file::{EntryRead, read_meta};
 use index_record::{IndexRecord, of_meta};
 use std::alloc::Global;

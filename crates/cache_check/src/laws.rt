@@ -6,7 +6,7 @@ ghost use Rattle.cache_check.specs.Findings.{IsTableOf};
 ghost use Rattle.cache_check.specs.Laws.{FindingsAgree, FindingsAreExact, ListedNamesRise, OnlyOneTable, RightRecordsAreSilent};
 ghost use Rattle.index_theory.specs.Ever.{entries_on};
 
-use disk_model::Disk;
+use disk_theory::Disk;
 
 /// The entry files that stand on a disk have a table.
 pub fn files_have_table<D: Disk>(_disk: &D)

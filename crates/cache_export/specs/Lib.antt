@@ -8,5 +8,4 @@ pub mod Progress
 pub mod Reader
 pub mod Reading
 pub mod Stages
-pub mod Window
 pub mod Writing

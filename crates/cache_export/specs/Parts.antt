@@ -3,9 +3,9 @@ use Rattle.std.specs.Prelude.{◌≡◌, ℕ, ◌+◌, ◌-◌, ◌*◌, ◌<◌
 use Rattle.cache_base.specs.Bytes.{AreBytes, be32, be32_at}
 use Rattle.cache_base.specs.Limits.{chunk_size}
 use Rattle.cache_base.specs.declared.limits.TheConstants.{BODY_MAX}
+use Rattle.chunk_store.specs.Chunks.{chunk_hash_of}
 use Rattle.entry_key.specs.Writing.{may_write}
 use Rattle.entry_metadata.specs.Metadata.{IsMeta, Meta, block_bytes}
-use Rattle.jenkins_hash.specs.Hash.{hash16_of}
 use Rattle.cache_export.specs.Dump.{IsAbove, back_bytes, head}
 use Rattle.cache_export.specs.declared.limits.TheConstants.{DUMP_MAX}
 
@@ -59,9 +59,9 @@ Spells (Stage.InBody key len hashes) part bytes = SpellsRest key len hashes part
 -- what is due after a part of these bytes
 abbrev pub after : Stage → Part → List ℕ → Stage
 after (Stage.AtItem before) (Part.KeyPart key) bytes = Stage.AtLength key
-after (Stage.AtLength key) (Part.PiecePart piece) bytes = Stage.InBody key (be32_at bytes 0) (hash16_of piece ∷ [])
+after (Stage.AtLength key) (Part.PiecePart piece) bytes = Stage.InBody key (be32_at bytes 0) (chunk_hash_of piece ∷ [])
 after (Stage.AtLength key) (Part.BlockPart said) bytes = Stage.AtItem (Some key)
-after (Stage.InBody key len hashes) (Part.PiecePart piece) bytes = Stage.InBody key len (hashes ++ hash16_of piece ∷ [])
+after (Stage.InBody key len hashes) (Part.PiecePart piece) bytes = Stage.InBody key len (hashes ++ chunk_hash_of piece ∷ [])
 after (Stage.InBody key len hashes) (Part.BlockPart said) bytes = Stage.AtItem (Some key)
 after stage part bytes = stage
 

@@ -6,7 +6,7 @@ use Rattle.cache_export.specs.Front.{front_at}
 use Rattle.cache_export.specs.Parts.{NoPart, Part, Spells, SpellsEnd, Stage, after, left_of}
 use Rattle.cache_export.specs.PartRead.{IfPart, IsWholePart, completed_by}
 use Rattle.cache_export.specs.Progress.{stage_of}
-use Rattle.cache_export.specs.Window.{items}
+use Rattle.cache_io.specs.Window.{items}
 use Rattle.cache_export.specs.declared.front.Front.TheVariants.{More}
 use Rattle.cache_export.specs.declared.item.DumpFault.{DumpFault}
 use Rattle.cache_export.specs.declared.item.DumpFault.TheVariants as faults

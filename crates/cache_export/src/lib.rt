@@ -11,7 +11,6 @@ mod parts;
 mod progress;
 mod reader;
 mod reading;
-mod window;
 mod writing;
 
 pub use item::{DumpFault, Item};

@@ -2,14 +2,13 @@
 
 ghost use Rattle.std.specs.Prelude.{◌≡◌, ◌≤◌, ◌++◌, ◌∷◌, [], None, OnOk, length};
 ghost use Rattle.cache_base.specs.declared.limits.TheConstants.{BODY_MAX};
-ghost use Rattle.jenkins_hash.specs.Hash.{hash16_of};
 ghost use Rattle.cache_export.specs.Parts.{Part, Spells, Stage, after, left_of};
 ghost use Rattle.cache_export.specs.PartRead.{IfPart};
 
 use crate::Item;
 use crate::front::Due;
 use cache_base::{Bytes, CHUNK, Hashes, NoMemory, u32_at};
-use jenkins_hash::hash16;
+use chunk_store::chunk_hash;
 use std::alloc::Global;
 
 /// What is due in a dump, and what is needed to judge it.
@@ -69,7 +68,7 @@ impl Progress {
             ≡ after (begun (stage_of self.old) part.now) (Part.PiecePart piece.now) part.now) }
     {
         self.begin_body(part);
-        self.hashes.push(hash16(piece))?;
+        self.hashes.push(chunk_hash(piece))?;
         self.due = Due::Body;
         Ok(())
     }

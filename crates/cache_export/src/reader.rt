@@ -4,13 +4,13 @@ ghost use Rattle.std.specs.Prelude.{◌≡◌, ◌+◌, ◌≤◌, [], None, len
 ghost use Rattle.cache_base.specs.Causes.{HasCause};
 ghost use Rattle.cache_export.specs.Parts.{Stage};
 ghost use Rattle.cache_export.specs.declared.limits.TheConstants.{DUMP_MAX, HELD_MAX};
+ghost use Rattle.cache_io.specs.Window.{most_of};
 
 use crate::parts::{PartFault, part_in};
 use crate::progress::Progress;
 use crate::reading::{Next, read_next};
-use crate::window::{ReadFault, Window};
-use crate::{DumpFault, Item};
-use cache_io::Source;
+use crate::{DumpFault, HELD_MAX, Item};
+use cache_io::{ReadFault, Source, Window};
 use std::alloc::Global;
 
 /// A reader of a dump. It holds no more than a piece of a body or a block, with the lengths before it.
@@ -21,6 +21,7 @@ pub struct DumpReader {
     progress: Progress,
     given: u64,
     used: u64,
+    ghost bounded: { most_of window ≡ HELD_MAX },
     ghost short: { used ≤ DUMP_MAX },
     ghost counted: { given ≤ used },
 }
@@ -37,7 +38,7 @@ impl DumpReader {
     {
         DumpReader {
             alloc,
-            window: Window::new(alloc),
+            window: Window::new(alloc, HELD_MAX),
             progress: Progress::new(alloc),
             given: 0,
             used: 0,

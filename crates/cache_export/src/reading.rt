@@ -4,15 +4,13 @@ ghost use Rattle.std.specs.Prelude.{◌≡◌, ◌≤◌, ◌↔◌, IfOk, IsErr
 ghost use Rattle.cache_base.specs.Causes.{HasCause};
 ghost use Rattle.cache_export.specs.Front.{front_at};
 ghost use Rattle.cache_export.specs.Reading.{IsEnd, Reached};
-ghost use Rattle.cache_export.specs.Window.{items};
-ghost use Rattle.cache_io.specs.Window.{Grew};
+ghost use Rattle.cache_io.specs.Window.{items, most_of, Grew};
 ghost use Rattle.cache_export.specs.declared.front.Front.TheVariants.{More};
-ghost use Rattle.cache_export.specs.declared.limits.TheConstants.{DUMP_MAX};
-ghost use Rattle.cache_export.specs.declared.window.ReadFault.TheVariants as faults;
+ghost use Rattle.cache_export.specs.declared.limits.TheConstants.{DUMP_MAX, HELD_MAX};
+ghost use Rattle.cache_io.specs.declared.window.ReadFault.TheVariants as faults;
 
 use crate::front::{Due, Front, front_of};
-use crate::window::{ReadFault, Window};
-use cache_io::Source;
+use cache_io::{ReadFault, Source, Window};
 
 /// What comes next in a dump.
 #[derive(Clone, Copy, Debug, PartialEq, Eq)]
@@ -53,9 +51,11 @@ pub(crate) fn read_next<S: Source>(
     left: usize,
     used: u64,
 ) -> Result<Next, ReadFault>
-    requires { used ≤ DUMP_MAX }
+    requires used { used ≤ DUMP_MAX }
+    requires most { most_of window.old ≡ HELD_MAX }
     ensures grew { Grew (items window.old) (items window.new)
         (S.left source.old) (S.left source.new) }
+    ensures most { most_of window.new ≡ most_of window.old }
     ensures reached { IfOk result (λ next.
         Reached due left used next (items window.new) (S.left source.new)) }
     ensures cause { HasCause (IsErrOf result faults.Source)

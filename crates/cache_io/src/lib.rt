@@ -6,8 +6,10 @@ mod mem;
 mod sink;
 mod source;
 mod stdio;
+mod window;
 
 pub use mem::{MemSink, MemSource};
 pub use sink::{Sink, SinkFault, write_whole};
 pub use source::{Source, SourceFault, read_after};
 pub use stdio::{StdSink, StdSource};
+pub use window::{ReadFault, Window};

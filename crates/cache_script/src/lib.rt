@@ -12,7 +12,7 @@ mod reader;
 mod reading;
 mod records;
 mod refusals;
-mod window;
+mod room;
 
 pub use command::Command;
 pub use findings::finding_text;

@@ -7,8 +7,8 @@ use Rattle.cache_theory.specs.Machine.{Machine}
 use Rattle.cache_theory.specs.Marks.{Marks}
 use Rattle.cache_theory.specs.Proper.{IsProper}
 use Rattle.cache_theory.specs.Stands.{AsideStand, IsHeldAside}
-use Rattle.disk_model.specs.Image.{Files}
-use Rattle.disk_model.specs.State.{State, standing}
+use Rattle.disk_theory.specs.Image.{Files}
+use Rattle.disk_theory.specs.State.{State, standing}
 use Rattle.file_handles.proofs.Reading.HeldChunkLaws.{chunks_on}
 use Rattle.file_handles.specs.Cache.{Cache}
 use Rattle.file_handles.specs.Kept.{Kept}

@@ -10,8 +10,8 @@ use Rattle.std.proofs.lemmas.List.Elements.{Contains-append_cases}
 use Rattle.cache_base.specs.declared.name.Name.{Name}
 use Rattle.cache_theory.specs.Ever.{entries}
 use Rattle.cache_theory.specs.Table.{IsTable, Table, bytes_cmp, get, insert}
-use Rattle.disk_model.specs.Listing.{IsFinite}
-use Rattle.disk_model.specs.State.{State, standing}
+use Rattle.disk_theory.specs.Listing.{IsFinite}
+use Rattle.disk_theory.specs.State.{State, standing}
 use Rattle.file_handles.specs.Carries.{IsShelf}
 
 -- names that the order takes for one are one

@@ -6,8 +6,8 @@ use Rattle.cache_theory.specs.Machine.{object}
 use Rattle.cache_theory.specs.Stands.{HasObjectFile}
 use Rattle.cache_theory.specs.Step.{unmarked, update_ended}
 use Rattle.cache_theory.proofs.Rested.{proper_rested, proper_unmarked, with_rest}
-use Rattle.disk_model.specs.State.{State}
-use Rattle.disk_model.specs.declared.place.Place.TheVariants.{Doomed}
+use Rattle.disk_theory.specs.State.{State}
+use Rattle.disk_theory.specs.declared.place.Place.TheVariants.{Doomed}
 use Rattle.file_handles.specs.Cache.{Cache, cache_at}
 use Rattle.file_handles.specs.Kept.{Kept}
 use Rattle.file_handles.specs.Stands.{IsAt, KeepsWhere}

@@ -5,8 +5,8 @@ use Rattle.cache_store.specs.Syncs.{all_syncs, most_syncs, syncs_of, syncs_of_cl
 use Rattle.cache_base.specs.declared.name.Name.{Name}
 use Rattle.cache_theory.specs.Command.{Command}
 use Rattle.cache_theory.specs.Command.Command.{ClearOrigin, Close, Finish, FinishAs, Flush, Rebuild, Resume}
-use Rattle.disk_model.specs.Account.{Accounts, Ending}
-use Rattle.disk_model.specs.declared.disk.Disk.{Ghosts}
+use Rattle.disk_theory.specs.Account.{Accounts, Ending}
+use Rattle.disk_theory.specs.declared.disk.Disk.{Ghosts}
 use Rattle.file_handles.specs.Closing.{writes_draft}
 use Rattle.file_handles.specs.Finishing.{finish_syncs}
 use Rattle.file_handles.specs.Kept.{Kept, object_in}

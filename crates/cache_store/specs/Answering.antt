@@ -5,8 +5,8 @@ use Rattle.cache_store.specs.Printed.{is_check, lists_findings}
 use Rattle.cache_store.specs.Said.{IsCut, Said, Saying}
 use Rattle.cache_store.specs.declared.answered.Answered.{Answered}
 use Rattle.cache_store.specs.declared.answered.Answered.TheVariants as answered
-use Rattle.cache_store.specs.declared.fault.Verdict.{Verdict}
-use Rattle.cache_store.specs.declared.fault.Verdict.TheVariants as outcome
+use Rattle.cache_store.specs.declared.outcome.Verdict.{Verdict}
+use Rattle.cache_store.specs.declared.outcome.Verdict.TheVariants as outcome
 use Rattle.cache_store.specs.declared.fault.StoreFault.{StoreFault}
 use Rattle.cache_store.specs.declared.fault.StoreFault.TheVariants as fault
 use Rattle.cache_store.specs.declared.pending.Pending.{Pending}
@@ -15,7 +15,7 @@ use Rattle.cache_theory.specs.Command.Reply.{Findings, Refused, Resumed}
 use Rattle.cache_theory.specs.Machine.{Machine}
 use Rattle.cache_theory.specs.Step.{step}
 use Rattle.cache_theory.specs.Text.{findings_text, refusal_words, reply_text, line, with_number}
-use Rattle.disk_model.specs.State.{State}
+use Rattle.disk_theory.specs.State.{State}
 use Rattle.file_handles.specs.Cache.{Cache, cache_at}
 use Rattle.file_handles.specs.Kept.{Kept}
 use Rattle.file_handles.specs.Stands.{Represents}

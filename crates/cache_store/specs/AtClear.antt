@@ -8,8 +8,8 @@ use Rattle.cache_theory.specs.Command.{Command}
 use Rattle.cache_theory.specs.Command.Command.{ClearOrigin, Resume}
 use Rattle.context_clear.specs.Mark.{mark_bytes, mark_of}
 use Rattle.context_clear.specs.MarkFile.{IsAmidEnding, IsAmidStoring, StoresMark}
-use Rattle.disk_model.specs.State.{State, standing}
-use Rattle.disk_model.specs.declared.place.Place.TheVariants.{Clear}
+use Rattle.disk_theory.specs.State.{State, standing}
+use Rattle.disk_theory.specs.declared.place.Place.TheVariants.{Clear}
 use Rattle.entry_key.specs.Tags.{value_hash}
 use Rattle.file_handles.specs.Dooming.{TakesInOrder}
 use Rattle.index_theory.specs.AtClear.{IsClearApart, KeepsClear, LeavesAtClear}

@@ -9,7 +9,7 @@ use Rattle.cache_store.specs.Performing.{GoesBy, HadEffect, PerformsFor}
 use Rattle.cache_store.specs.Records.{AreAtEnd}
 use Rattle.cache_store.specs.Session.{Session}
 use Rattle.cache_store.specs.declared.fault.StoreFault.{StoreFault}
-use Rattle.cache_store.specs.declared.fault.Verdict.{Verdict}
+use Rattle.cache_store.specs.declared.outcome.Verdict.{Verdict}
 use Rattle.cache_store.specs.declared.memory_index.MemoryIndex.{MemoryIndex}
 use Rattle.cache_theory.specs.Command.{Command}
 use Rattle.cache_theory.specs.Command.Command.{ClearNames, ClearOrigin, Resume}
@@ -21,10 +21,10 @@ use Rattle.cache_theory.specs.Machine.{Machine}
 use Rattle.cache_theory.specs.Proper.{IsProper}
 use Rattle.cache_theory.specs.Step.{cleared_of}
 use Rattle.context_clear.specs.Mark.{mark_of}
-use Rattle.disk_model.specs.Image.{Files, IsImage}
-use Rattle.disk_model.specs.Sound.{IsQuiet}
-use Rattle.disk_model.specs.State.{State, standing}
-use Rattle.disk_model.specs.declared.place.Place.TheVariants.{Clear, Entry}
+use Rattle.disk_theory.specs.Image.{Files, IsImage}
+use Rattle.disk_theory.specs.Sound.{IsQuiet}
+use Rattle.disk_theory.specs.State.{State, standing}
+use Rattle.disk_theory.specs.declared.place.Place.TheVariants.{Clear, Entry}
 use Rattle.entry_file.specs.EntryFile.{found}
 use Rattle.entry_file.specs.Version.{Version}
 use Rattle.entry_key.specs.Tags.{value_hash}

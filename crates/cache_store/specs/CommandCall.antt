@@ -23,18 +23,18 @@ use Rattle.cache_store.specs.Syncs.{syncs_of}
 use Rattle.cache_store.specs.Verifying.{PrintsFound}
 use Rattle.cache_store.specs.declared.fault.StoreFault.{StoreFault}
 use Rattle.cache_store.specs.declared.fault.StoreFault.TheVariants as fault
-use Rattle.cache_store.specs.declared.fault.Verdict.{Verdict}
-use Rattle.cache_store.specs.declared.fault.Verdict.TheVariants as verdict
+use Rattle.cache_store.specs.declared.outcome.Verdict.{Verdict}
+use Rattle.cache_store.specs.declared.outcome.Verdict.TheVariants as verdict
 use Rattle.cache_store.specs.declared.store.Store.{Store}
 use Rattle.cache_theory.specs.Command.{Command}
 use Rattle.cache_theory.specs.Command.Command.{Doom, Evict, Flush, PutAlt, ReadPart, Rebuild, Resume, Verify}
 use Rattle.context_clear.specs.Mark.{mark_of}
-use Rattle.disk_model.specs.Account.{Accounts, Looks, SyncsAtMost}
-use Rattle.disk_model.specs.Sound.{IsQuiet}
-use Rattle.disk_model.specs.State.{standing}
-use Rattle.disk_model.specs.Told.{Told}
-use Rattle.disk_model.specs.declared.disk.Disk.{Ghosts as OfDisk}
-use Rattle.disk_model.specs.declared.place.Place.TheVariants.{Clear}
+use Rattle.disk_theory.specs.Account.{Accounts, Looks, SyncsAtMost}
+use Rattle.disk_theory.specs.Sound.{IsQuiet}
+use Rattle.disk_theory.specs.State.{standing}
+use Rattle.disk_theory.specs.Told.{Told}
+use Rattle.disk_theory.specs.declared.disk.Disk.{Ghosts as OfDisk}
+use Rattle.disk_theory.specs.declared.place.Place.TheVariants.{Clear}
 use Rattle.file_handles.specs.Dooming.{IsUnfinishedFor, TakesEntries}
 use Rattle.file_handles.specs.Unsynced.{SyncsNothing}
 use Rattle.index_map.specs.Known.{SameBase}

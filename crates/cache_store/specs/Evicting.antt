@@ -13,11 +13,11 @@ use Rattle.cache_theory.specs.Laws.{is_among}
 use Rattle.cache_theory.specs.Machine.{Machine, open_names}
 use Rattle.cache_theory.specs.Marks.{is_touched}
 use Rattle.cache_theory.specs.Step.{all_doomed}
-use Rattle.disk_model.specs.Account.{Ending}
-use Rattle.disk_model.specs.State.{State, standing}
-use Rattle.disk_model.specs.declared.disk.Disk.{Ghosts}
-use Rattle.disk_model.specs.declared.disk.DiskFault.{DiskFault}
-use Rattle.disk_model.specs.declared.place.Place.TheVariants.{Entry}
+use Rattle.disk_theory.specs.Account.{Ending}
+use Rattle.disk_theory.specs.State.{State, standing}
+use Rattle.disk_theory.specs.declared.disk.Disk.{Ghosts}
+use Rattle.disk_theory.specs.declared.disk.DiskFault.{DiskFault}
+use Rattle.disk_theory.specs.declared.place.Place.TheVariants.{Entry}
 use Rattle.evictor.specs.Evict.{victims}
 use Rattle.file_handles.specs.Cache.{Cache}
 use Rattle.file_handles.specs.Kept.{Kept}

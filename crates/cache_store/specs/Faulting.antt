@@ -16,11 +16,11 @@ use Rattle.cache_theory.specs.History.{History}
 use Rattle.cache_theory.specs.Machine.{Machine}
 use Rattle.cache_theory.specs.Step.{step}
 use Rattle.cache_theory.specs.Text.{alt_line, with_number}
-use Rattle.disk_model.specs.Account.{Ending}
-use Rattle.disk_model.specs.Calls.{Counts, LastFails}
-use Rattle.disk_model.specs.declared.disk.Disk.{Ghosts}
-use Rattle.disk_model.specs.declared.disk.DiskFault.{DiskFault}
-use Rattle.disk_model.specs.declared.disk.DiskFault.TheVariants as disk
+use Rattle.disk_theory.specs.Account.{Ending}
+use Rattle.disk_theory.specs.Calls.{Counts, LastFails}
+use Rattle.disk_theory.specs.declared.disk.Disk.{Ghosts}
+use Rattle.disk_theory.specs.declared.disk.DiskFault.{DiskFault}
+use Rattle.disk_theory.specs.declared.disk.DiskFault.TheVariants as disk
 use Rattle.entry_file.specs.Version.{version_meta}
 use Rattle.file_handles.specs.Cache.{Cache}
 use Rattle.file_handles.specs.Stands.{Represents as CacheRepresents}

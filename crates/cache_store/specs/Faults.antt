@@ -6,9 +6,9 @@ use Rattle.cache_io.specs.declared.sink.SinkFault.{SinkFault}
 use Rattle.cache_io.specs.declared.sink.SinkFault.TheVariants as sink
 use Rattle.cache_store.specs.declared.fault.StoreFault.{StoreFault}
 use Rattle.cache_store.specs.declared.fault.StoreFault.TheVariants.{Disk, Memory, Sink}
-use Rattle.disk_model.specs.Account.{Ending}
-use Rattle.disk_model.specs.declared.disk.DiskFault.{DiskFault}
-use Rattle.disk_model.specs.declared.disk.DiskFault.TheVariants as disk
+use Rattle.disk_theory.specs.Account.{Ending}
+use Rattle.disk_theory.specs.declared.disk.DiskFault.{DiskFault}
+use Rattle.disk_theory.specs.declared.disk.DiskFault.TheVariants as disk
 
 -- what a fault of the disk is to the store
 abbrev pub of_disk : DiskFault → StoreFault

@@ -8,7 +8,7 @@ use Rattle.cache_store.specs.Said.{IsCut, Saying}
 use Rattle.cache_store.specs.Session.{Open}
 use Rattle.cache_store.specs.declared.answered.Answered.{Answered}
 use Rattle.cache_store.specs.declared.fault.StoreFault.{StoreFault}
-use Rattle.cache_store.specs.declared.fault.Verdict.{Verdict}
+use Rattle.cache_store.specs.declared.outcome.Verdict.{Verdict}
 use Rattle.cache_store.specs.declared.memory_index.MemoryIndex.{MemoryIndex}
 use Rattle.cache_theory.specs.Command.{Command, Reply}
 use Rattle.cache_theory.specs.Command.Command.{HasEntry, HasGiven}
@@ -16,7 +16,7 @@ use Rattle.cache_theory.specs.Machine.{Machine}
 use Rattle.cache_theory.specs.Step.{step}
 use Rattle.cache_theory.specs.Text.{line, refusal_words, reply_text}
 use Rattle.cache_theory.specs.declared.refusal.Refusal.{Refusal}
-use Rattle.disk_model.specs.State.{State}
+use Rattle.disk_theory.specs.State.{State}
 
 -- what is done for such a command
 abbrev pub done_in_memory : MemoryIndex → Command → Command

@@ -8,9 +8,9 @@ use Rattle.cache_store.specs.declared.memory_index.MemoryIndex.{MemoryIndex}
 use Rattle.cache_theory.specs.Command.{Command}
 use Rattle.cache_theory.specs.Command.Command.{Flush, Rebuild}
 use Rattle.cache_theory.specs.Machine.{Machine}
-use Rattle.disk_model.specs.Image.{Files}
-use Rattle.disk_model.specs.State.{State, settled, standing}
-use Rattle.disk_model.specs.declared.place.Place.TheVariants.{Index, Log}
+use Rattle.disk_theory.specs.Image.{Files}
+use Rattle.disk_theory.specs.State.{State, settled, standing}
+use Rattle.disk_theory.specs.declared.place.Place.TheVariants.{Index, Log}
 use Rattle.doom_area.specs.DoomArea.{RemovesDoomed}
 use Rattle.index_file.specs.Index.{header_size}
 use Rattle.index_journal.specs.Journal.{JournalSpells}

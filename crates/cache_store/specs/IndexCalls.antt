@@ -5,11 +5,11 @@ use Rattle.cache_base.specs.declared.name.Name.{Name}
 use Rattle.cache_store.specs.declared.memory_index.MemoryIndex.{MemoryIndex}
 use Rattle.cache_theory.specs.Command.{Command}
 use Rattle.cache_theory.specs.Command.Command.{At, ClearNames, ClearOrigin, Close, ElementOf, Dump, Evict, EvictNames, Finish, FinishAs, Flush, Get, GetAlt, HasEntry, ListRecords, MainBody, OpenKey, ReadPart, Rebuild, Resume, ResumeNames, StepUpdate, UpdateState, Verify}
-use Rattle.disk_model.specs.Calls.{counted_read}
-use Rattle.disk_model.specs.State.{State, settled}
-use Rattle.disk_model.specs.declared.disk.Disk.{Ghosts}
-use Rattle.disk_model.specs.declared.disk.DiskFault.{DiskFault}
-use Rattle.disk_model.specs.declared.place.Place.{Place}
+use Rattle.disk_theory.specs.Calls.{counted_read}
+use Rattle.disk_theory.specs.State.{State, settled}
+use Rattle.disk_theory.specs.declared.disk.Disk.{Ghosts}
+use Rattle.disk_theory.specs.declared.disk.DiskFault.{DiskFault}
+use Rattle.disk_theory.specs.declared.place.Place.{Place}
 use Rattle.entry_file.specs.Looks.{meta_looks}
 use Rattle.file_handles.specs.Closing.{writes_draft}
 use Rattle.file_handles.specs.Kept.{Kept}

@@ -2,8 +2,8 @@
 use Rattle.std.specs.Prelude.{◌≡◌}
 use Rattle.cache_store.specs.Session.{Session}
 use Rattle.cache_theory.specs.Machine.{Machine}
-use Rattle.disk_model.specs.State.{State, standing}
-use Rattle.disk_model.specs.declared.place.Place.TheVariants.{Clear}
+use Rattle.disk_theory.specs.State.{State, standing}
+use Rattle.disk_theory.specs.declared.place.Place.TheVariants.{Clear}
 use Rattle.index_map.specs.Known.{Known}
 use Rattle.index_theory.specs.Apart.{IsApart}
 use Rattle.index_theory.specs.Unclean.{IsUnclean}

@@ -13,12 +13,12 @@ use Rattle.cache_theory.specs.History.{History, settled_at}
 use Rattle.cache_theory.specs.Machine.{Machine, opened}
 use Rattle.cache_theory.specs.Marks.{marks_of}
 use Rattle.cache_theory.specs.Table.{Table}
-use Rattle.disk_model.specs.Account.{Ending}
-use Rattle.disk_model.specs.Image.{Files, IsImage}
-use Rattle.disk_model.specs.Listing.{AreEntries}
-use Rattle.disk_model.specs.Sound.{IsQuiet}
-use Rattle.disk_model.specs.State.{State, standing}
-use Rattle.disk_model.specs.declared.place.Place.TheVariants.{Clear, Index, Log}
+use Rattle.disk_theory.specs.Account.{Ending}
+use Rattle.disk_theory.specs.Image.{Files, IsImage}
+use Rattle.disk_theory.specs.Listing.{AreEntries}
+use Rattle.disk_theory.specs.Sound.{IsQuiet}
+use Rattle.disk_theory.specs.State.{State, standing}
+use Rattle.disk_theory.specs.declared.place.Place.TheVariants.{Clear, Index, Log}
 use Rattle.doom_area.specs.DoomArea.{RemovesDoomed}
 use Rattle.entry_file.specs.EntryFile.{found}
 use Rattle.file_handles.specs.Carries.{IsShelf}

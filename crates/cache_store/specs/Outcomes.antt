@@ -4,16 +4,16 @@ use Rattle.std.specs.Prelude.{Err, IfOk, IsTrue, List, Ok, OnErr, OnOk, Option, 
 use Rattle.cache_store.specs.Faulting.{StaysAs}
 use Rattle.cache_store.specs.Said.{IsCut}
 use Rattle.cache_store.specs.Session.{open_of, session}
-use Rattle.cache_store.specs.declared.fault.Outcome.{Outcome}
-use Rattle.cache_store.specs.declared.fault.Outcome.TheVariants as outcome
+use Rattle.cache_store.specs.declared.outcome.Outcome.{Outcome}
+use Rattle.cache_store.specs.declared.outcome.Outcome.TheVariants as outcome
 use Rattle.cache_store.specs.declared.fault.StoreFault.{StoreFault}
 use Rattle.cache_store.specs.declared.fault.StoreFault.TheVariants as fault
-use Rattle.cache_store.specs.declared.fault.Verdict.{Verdict}
-use Rattle.cache_store.specs.declared.fault.Verdict.TheVariants as verdict
+use Rattle.cache_store.specs.declared.outcome.Verdict.{Verdict}
+use Rattle.cache_store.specs.declared.outcome.Verdict.TheVariants as verdict
 use Rattle.cache_store.specs.declared.store.Store.{Store}
 use Rattle.cache_theory.specs.Faulted.{fault_line}
-use Rattle.disk_model.specs.Account.{Ending, Looks}
-use Rattle.disk_model.specs.declared.disk.Disk.{Ghosts}
+use Rattle.disk_theory.specs.Account.{Ending, Looks}
+use Rattle.disk_theory.specs.declared.disk.Disk.{Ghosts}
 use Rattle.index_map.specs.Known.{SameBase}
 
 -- what a command came to that was performed

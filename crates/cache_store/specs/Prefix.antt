@@ -1,8 +1,8 @@
 -- What a file begins with.
 use Rattle.std.specs.Prelude.{IfSome, List, Option, Some, drop, length, take, ℕ, ◌-◌, ◌≡◌, ◌≤◌}
 use Rattle.chunk_store.specs.Chunks.{chunk}
-use Rattle.disk_model.specs.State.{State, standing}
-use Rattle.disk_model.specs.declared.place.Place.{Place}
+use Rattle.disk_theory.specs.State.{State, standing}
+use Rattle.disk_theory.specs.declared.place.Place.{Place}
 
 -- the bytes are this chunk of the body of so many bytes at the beginning of the file, if there is one that has so many
 abbrev pub HasChunkAt : Option (List ℕ) → ℕ → ℕ → List ℕ → Type 0

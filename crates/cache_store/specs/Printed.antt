@@ -4,8 +4,8 @@ use Rattle.std.specs.Prelude.{Bool, List, Option, [], codes, false, true, â„•, â
 use Rattle.cache_check.specs.declared.finding.Finding.{Finding}
 use Rattle.cache_store.specs.declared.answered.Answered.{Answered}
 use Rattle.cache_store.specs.declared.answered.Answered.TheVariants as answered
-use Rattle.cache_store.specs.declared.fault.Verdict.{Verdict}
-use Rattle.cache_store.specs.declared.fault.Verdict.TheVariants as outcome
+use Rattle.cache_store.specs.declared.outcome.Verdict.{Verdict}
+use Rattle.cache_store.specs.declared.outcome.Verdict.TheVariants as outcome
 use Rattle.cache_theory.specs.Command.{Command}
 use Rattle.cache_theory.specs.Command.Command.{Create, UnsetElement, ElementOf, ReadPart, Get, GetAlt, MainBody, HasEntry, ListRecords, Evict, EvictNames, ClearOrigin, ClearNames, Resume, ResumeNames, StepUpdate, UpdateState, Verify, VerifyRecords, Rebuild, Dump}
 use Rattle.cache_theory.specs.Text.{findings_text, line, refusal_words}

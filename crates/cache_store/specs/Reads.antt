@@ -1,8 +1,8 @@
 -- What a `read` finds held, and what it leaves so.
 use Rattle.std.specs.Prelude.{Some, if◌then◌else◌, is_some, min, ℕ, ⊤, ◌+◌, ◌<◌, ◌≡◌, ◌≤◌, ◌⊎◌}
 use Rattle.chunk_cache.specs.Cached.{StandsFirst}
-use Rattle.cache_store.specs.declared.fault.Verdict.{Verdict}
-use Rattle.cache_store.specs.declared.fault.Verdict.TheVariants as outcome
+use Rattle.cache_store.specs.declared.outcome.Verdict.{Verdict}
+use Rattle.cache_store.specs.declared.outcome.Verdict.TheVariants as outcome
 use Rattle.cache_theory.specs.Command.{Command}
 use Rattle.cache_theory.specs.Command.Command.{Close, PutAlt, ReadPart}
 use Rattle.file_handles.specs.Closing.{chunks_closed}

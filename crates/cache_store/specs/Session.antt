@@ -2,8 +2,8 @@
 use Rattle.std.specs.Prelude.{Bool, ℕ}
 use Rattle.cache_store.specs.declared.memory_index.MemoryIndex.{MemoryIndex}
 use Rattle.cache_store.specs.declared.store.Store.{Store}
-use Rattle.disk_model.specs.State.{State}
-use Rattle.disk_model.specs.declared.disk.Disk.{Ghosts}
+use Rattle.disk_theory.specs.State.{State}
+use Rattle.disk_theory.specs.declared.disk.Disk.{Ghosts}
 use Rattle.file_handles.specs.Cache.{Cache}
 use Rattle.file_handles.specs.Kept.{Kept, kept}
 

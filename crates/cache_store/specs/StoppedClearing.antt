@@ -15,10 +15,10 @@ use Rattle.cache_theory.specs.Marks.{Marks}
 use Rattle.cache_theory.specs.Step.{step}
 use Rattle.cache_theory.specs.Table.{get}
 use Rattle.context_clear.specs.Mark.{mark_bytes, mark_of}
-use Rattle.disk_model.specs.Image.{Files, IsImage}
-use Rattle.disk_model.specs.State.{State, standing}
-use Rattle.disk_model.specs.declared.place.Place.{Place}
-use Rattle.disk_model.specs.declared.place.Place.TheVariants.{Clear, Doomed, Entry}
+use Rattle.disk_theory.specs.Image.{Files, IsImage}
+use Rattle.disk_theory.specs.State.{State, standing}
+use Rattle.disk_theory.specs.declared.place.Place.{Place}
+use Rattle.disk_theory.specs.declared.place.Place.TheVariants.{Clear, Doomed, Entry}
 use Rattle.entry_file.specs.EntryFile.{found}
 use Rattle.entry_file.specs.Version.{Version}
 use Rattle.entry_key.specs.Tags.{value_hash}

@@ -3,7 +3,7 @@ use Rattle.std.specs.Prelude.{List, [], false, true, ℕ, ◌+◌, ◌∷◌}
 use Rattle.cache_base.specs.declared.name.Name.{Name}
 use Rattle.cache_theory.specs.Command.{Command}
 use Rattle.cache_theory.specs.Command.Command.{ClearOrigin, Close, Finish, FinishAs, Flush, Rebuild, Resume}
-use Rattle.disk_model.specs.Account.{no_sync, one_sync}
+use Rattle.disk_theory.specs.Account.{no_sync, one_sync}
 use Rattle.file_handles.specs.Closing.{close_syncs}
 use Rattle.file_handles.specs.Finishing.{finish_syncs}
 use Rattle.file_handles.specs.Kept.{Kept, object_in}

@@ -16,9 +16,9 @@ ghost use Rattle.cache_store.specs.Syncs.{clearing_syncs};
 ghost use Rattle.cache_theory.specs.Command.Command.{ClearOrigin};
 ghost use Rattle.cache_theory.specs.Covers.{joined_names};
 ghost use Rattle.context_clear.specs.Covered.{covers_record};
-ghost use Rattle.disk_model.specs.Account.{Accounts, Ending, FailsInChange, Looks, LooksAtNoEntry, ending as disk_ending, no_sync};
-ghost use Rattle.disk_model.specs.Sound.{IsQuiet};
-ghost use Rattle.disk_model.specs.Told.{Told};
+ghost use Rattle.disk_theory.specs.Account.{Accounts, Ending, FailsInChange, Looks, LooksAtNoEntry, ending as disk_ending, no_sync};
+ghost use Rattle.disk_theory.specs.Sound.{IsQuiet};
+ghost use Rattle.disk_theory.specs.Told.{Told};
 ghost use Rattle.entry_key.specs.Tags.{value_hash};
 ghost use Rattle.file_handles.specs.Cache.{cache};
 ghost use Rattle.file_handles.specs.Dooming.{LeavesMark, TakesInOrder};
@@ -31,24 +31,17 @@ use crate::StoreFault;
 use crate::answered::Answered;
 use crate::look_faults::look_fault;
 use crate::store::Store;
-use cache_base::{Name, Names, NoMemory, has_name, listed, name_set};
-use context_clear::{end as end_clearing, store as store_mark};
-use disk_model::{Disk, DiskFault};
+use cache_base::{Name, Names, NoMemory, SLOTS, has_name, listed, name_set};
+use context_clear::{covers, end as end_clearing, store as store_mark};
+use disk_theory::{Disk, DiskFault};
 use entry_key::hash_of_origin;
 use file_handles::{HandleFault, Handles};
-use index_record::{IndexRecord, is_pinned};
+use index_record::IndexRecord;
 use std::alloc::Global;
 use std::collections::BTreeSet;
 
-// The number under which the mark is written: no entry in use has it.
-const MARK_NUMBER: u32 = 64;
-
-// Whether a clearing of the origin takes the entry of a record.
-fn covers(r: &IndexRecord, origin: u64) -> bool
-    ensures { result ≡ covers_record origin r.now }
-{
-    r.origin == origin && !is_pinned(r)
-}
+// The number under which the mark is written: no entry in use has it, since those have one for each slot at most.
+const MARK_NUMBER: u32 = SLOTS as u32;
 
 // The names of the records that a clearing of the origin takes.
 fn covered_names(alloc: Global, records: &[IndexRecord], origin: u64) -> Result<Names, NoMemory>

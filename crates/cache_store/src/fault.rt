@@ -1,4 +1,4 @@
-//! What a call of the store answers.
+//! Why a call of the store was not done.
 
 ghost use Rattle.std.specs.Prelude.{◌≡◌};
 ghost use Rattle.cache_store.specs.Faults.{of_disk, of_sink};
@@ -6,7 +6,7 @@ ghost use Rattle.cache_store.specs.declared.fault.StoreFault.TheVariants.{Memory
 
 use cache_base::NoMemory;
 use cache_io::SinkFault;
-use disk_model::DiskFault;
+use disk_theory::DiskFault;
 
 /// Why a command was not performed, or its reply is not out.
 #[derive(Clone, Copy, Debug, PartialEq, Eq)]
@@ -18,27 +18,6 @@ pub enum StoreFault {
     Disk,
     /// The sink failed. The command has had its effect, and the store may only be closed.
     Sink,
-}
-
-/// Whether a command that was performed did what it says, or was refused.
-#[derive(Clone, Copy, Debug, PartialEq, Eq)]
-pub enum Verdict {
-    /// It was done, or it told that there is nothing.
-    Ok,
-    /// It was refused, and changed nothing.
-    Refused,
-}
-
-/// How a command was answered.
-#[derive(Clone, Copy, Debug, PartialEq, Eq)]
-pub enum Outcome {
-    /// It was done, or it told that there is nothing.
-    Ok,
-    /// It was refused, and changed nothing.
-    Refused,
-    /// A look at the disk failed before anything of the reply was out. The reply is the line `fault`, and all is as it
-    /// was.
-    Faulted,
 }
 
 impl From<NoMemory> for StoreFault {

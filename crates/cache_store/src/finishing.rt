@@ -1,14 +1,14 @@
 //! Finishes an entry with metadata that are given.
 
-ghost use Rattle.std.specs.Prelude.{◌≡◌, ◌<◌, Err, IfOk, IsTrue, Ok};
+ghost use Rattle.std.specs.Prelude.{◌≡◌, ◌<◌, IfOk, IsTrue};
 ghost use Rattle.cache_base.specs.declared.limits.TheConstants.{SLOTS};
 ghost use Rattle.cache_store.specs.Answering.{SaysNothing};
 ghost use Rattle.cache_store.specs.Faults.{ending};
 ghost use Rattle.cache_store.specs.Performing.{HadEffect};
 ghost use Rattle.cache_store.specs.Printed.{IsPlainAnswer};
 ghost use Rattle.cache_theory.specs.Command.Command.{FinishAs};
-ghost use Rattle.disk_model.specs.Account.{Accounts, FailsInChange};
-ghost use Rattle.disk_model.specs.Told.{Told};
+ghost use Rattle.disk_theory.specs.Account.{Accounts, FailsInChange};
+ghost use Rattle.disk_theory.specs.Told.{Told};
 ghost use Rattle.file_handles.specs.HeldChunks.{SameChunks};
 ghost use Rattle.file_handles.specs.Finishing.{finish_syncs};
 ghost use Rattle.file_handles.specs.Kept.{kept, object_in};
@@ -18,21 +18,9 @@ ghost use Rattle.index_theory.specs.Leaves.{LeavesBeside};
 use crate::StoreFault;
 use crate::answered::Answered;
 use crate::store::Store;
-use cache_base::NoMemory;
-use disk_model::Disk;
-use entry_parts::{Elements, Header, elements_read_back};
+use disk_theory::Disk;
+use entry_parts::{Elements, Header};
 use std::alloc::Global;
-
-// A copy of the elements.
-fn copied(alloc: Global, elements: &Elements) -> Result<Elements, NoMemory>
-    ensures { IfOk result (λ copy. copy ≡ elements.now) }
-{
-    elements_read_back();
-    match Elements::parse(alloc, elements.print()) {
-        Ok(copy) => Ok(copy),
-        Err(_) => Err(NoMemory),
-    }
-}
 
 impl Store {
     ghost use Rattle.cache_store.specs.Open.{IsOpen};
@@ -64,7 +52,7 @@ impl Store {
         ensures account { let most = finish_syncs (object_in (kept self.old.handles) slot) in
             Accounts D.Disk (ending result) most disk.old disk.new }
     {
-        let elements = copied(alloc, elements)?;
+        let elements = elements.copy(alloc)?;
         let answer = self.handles.finish_as(alloc, disk, slot, header, elements);
         self.index.learn_of(answer)
     }

@@ -6,8 +6,8 @@ ghost use Rattle.cache_store.specs.Faults.{AccountsForSink, ending};
 ghost use Rattle.cache_store.specs.Prefix.{ForPrefix, HasChunkAt, range_of};
 ghost use Rattle.cache_store.specs.Said.{saying};
 ghost use Rattle.cache_store.specs.Saying.{CutsIn, SaysMore, SendsFront};
-ghost use Rattle.disk_model.specs.Account.{Looks, ending as disk_ending};
-ghost use Rattle.disk_model.specs.State.{standing};
+ghost use Rattle.disk_theory.specs.Account.{Looks, ending as disk_ending};
+ghost use Rattle.disk_theory.specs.State.{standing};
 ghost use Rattle.entry_file.specs.Held.{IsLastOf};
 ghost use Rattle.file_handles.specs.Kept.{kept, last_read};
 ghost use Rattle.file_handles.specs.Reading.{part_of_body};
@@ -18,7 +18,7 @@ use crate::pending::Pending;
 use crate::store::Store;
 use cache_base::CHUNK;
 use cache_io::Sink;
-use disk_model::{Disk, DiskFault, Place};
+use disk_theory::{Disk, DiskFault, Place};
 use file_handles::Handles;
 
 /// What is said before bytes of a body, and after them.

@@ -13,9 +13,9 @@ ghost use Rattle.cache_theory.specs.Command.Command.{Flush, ListRecords, Rebuild
 ghost use Rattle.cache_store.specs.Records.{EndsWith, StepsUpdate};
 ghost use Rattle.cache_store.specs.Syncs.{writing_syncs};
 ghost use Rattle.index_theory.specs.Ever.{entries_on};
-ghost use Rattle.disk_model.specs.Account.{Accounts, Ending, FailsInChange, Looks, LooksAtNoEntry, ending as disk_ending, one_sync};
-ghost use Rattle.disk_model.specs.Sound.{IsQuiet};
-ghost use Rattle.disk_model.specs.Told.{Told};
+ghost use Rattle.disk_theory.specs.Account.{Accounts, Ending, FailsInChange, Looks, LooksAtNoEntry, ending as disk_ending, one_sync};
+ghost use Rattle.disk_theory.specs.Sound.{IsQuiet};
+ghost use Rattle.disk_theory.specs.Told.{Told};
 ghost use Rattle.index_theory.specs.Apart.{IsApart};
 ghost use Rattle.index_theory.specs.Leaves.{LeavesIndex};
 ghost use Rattle.index_map.specs.Known.{SameBase};
@@ -31,7 +31,7 @@ use crate::memory_index::{MemoryIndex, scan};
 use crate::store::Store;
 use cache_base::Moment;
 use cache_io::Sink;
-use disk_model::{Disk, DiskFault};
+use disk_theory::{Disk, DiskFault};
 use startup_read::{refresh_index, write_index};
 use std::alloc::Global;
 

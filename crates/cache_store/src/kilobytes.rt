@@ -3,14 +3,14 @@
 ghost use Rattle.std.specs.Prelude.{◌≡◌, ◌≢◌, [], Err, IfOk, IsTrue, OnOk, length};
 ghost use Rattle.cache_store.specs.Faults.{ending};
 ghost use Rattle.cache_store.specs.IndexCalls.{ReadsEntriesOf};
-ghost use Rattle.disk_model.specs.Account.{Looks};
+ghost use Rattle.disk_theory.specs.Account.{Looks};
 ghost use Rattle.evictor.specs.Evict.{total_kb};
 ghost use Rattle.index_map.specs.Known.{IsKnown, SameBase};
 ghost use Rattle.index_theory.specs.Honest.{LeavesHonest};
 
 use crate::StoreFault;
 use crate::store::Store;
-use disk_model::Disk;
+use disk_theory::Disk;
 use index_map::RecordMap;
 
 // The sum of the sizes of the records now.

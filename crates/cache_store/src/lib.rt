@@ -3,6 +3,7 @@
 #![tactic(auto)]
 
 mod answered;
+mod attempt;
 mod clear;
 mod command;
 mod dump;
@@ -27,8 +28,9 @@ mod shown;
 mod store;
 mod verify;
 
-pub use fault::{Outcome, StoreFault, Verdict};
+pub use fault::StoreFault;
 pub use laws::{
     clearing_leaves_none, few_leave_index, records_at_end_are_one, stopped_clearing_is_none_or_all,
 };
+pub use outcome::{Outcome, Verdict};
 pub use store::Store;

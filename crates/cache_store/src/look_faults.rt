@@ -5,7 +5,7 @@ ghost use Rattle.cache_store.specs.Faulting.{has_failed_look, is_failed_look, is
 ghost use Rattle.cache_store.specs.Faults.{of_disk};
 
 use crate::StoreFault;
-use disk_model::DiskFault;
+use disk_theory::DiskFault;
 use file_handles::HandleFault;
 
 /// The store's fault for a look at the disk, before anything of the reply is said. Notes whether the disk failed.

@@ -6,10 +6,10 @@ ghost use Rattle.cache_store.specs.InUse.{OpensInUse};
 ghost use Rattle.cache_store.specs.Kept.{HoldsIndex};
 ghost use Rattle.cache_store.specs.Open.{BeginsOn, IsRest};
 ghost use Rattle.cache_store.specs.Records.{SeesNone, TellsOf};
-ghost use Rattle.disk_model.specs.Account.{Accounts, Looks, LooksAtNoEntry, ending, one_sync};
-ghost use Rattle.disk_model.specs.Listing.{AreEntries};
-ghost use Rattle.disk_model.specs.State.{standing};
-ghost use Rattle.disk_model.specs.Told.{Told};
+ghost use Rattle.disk_theory.specs.Account.{Accounts, Looks, LooksAtNoEntry, ending, one_sync};
+ghost use Rattle.disk_theory.specs.Listing.{AreEntries};
+ghost use Rattle.disk_theory.specs.State.{standing};
+ghost use Rattle.disk_theory.specs.Told.{Told};
 ghost use Rattle.index_map.specs.Known.{SameBase};
 ghost use Rattle.index_theory.specs.Apart.{IsApart};
 ghost use Rattle.index_theory.specs.Ever.{entries_on};
@@ -18,7 +18,7 @@ ghost use Rattle.startup_read.specs.Opening.{IsAmidOpening, OpensHonest, opened 
 ghost use Rattle.startup_read.specs.Spares.{SparesEntries};
 
 use crate::memory_index::MemoryIndex;
-use disk_model::{Disk, DiskFault};
+use disk_theory::{Disk, DiskFault};
 use index_map::RecordMap;
 use index_update::Update;
 use startup_read::{Opened, Start, open_index};

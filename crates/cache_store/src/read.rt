@@ -10,7 +10,7 @@ ghost use Rattle.cache_store.specs.Said.{saying};
 ghost use Rattle.cache_store.specs.Saying.{CutsIn, SaysMore, SaysPart, SendsFront, StopsIn};
 ghost use Rattle.cache_theory.specs.Command.Command.{ReadPart};
 ghost use Rattle.cache_theory.specs.Text.{with_bytes, with_number};
-ghost use Rattle.disk_model.specs.Account.{Looks};
+ghost use Rattle.disk_theory.specs.Account.{Looks};
 ghost use Rattle.file_handles.specs.Answers.{ending as handle_ending};
 ghost use Rattle.file_handles.specs.Cache.{cache};
 ghost use Rattle.file_handles.specs.Kept.{kept, object_in};
@@ -24,7 +24,7 @@ use crate::replies::counted;
 use crate::store::Store;
 use crate::{StoreFault, Verdict};
 use cache_io::Sink;
-use disk_model::Disk;
+use disk_theory::Disk;
 use file_handles::{HandleFault, Handles};
 use std::alloc::Global;
 

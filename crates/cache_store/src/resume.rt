@@ -11,11 +11,11 @@ ghost use Rattle.cache_store.specs.StoppedClearing.{ClearsUnderMark};
 ghost use Rattle.cache_store.specs.Syncs.{clearing_syncs};
 ghost use Rattle.cache_theory.specs.Command.Command.{Resume};
 ghost use Rattle.context_clear.specs.Mark.{mark_of};
-ghost use Rattle.disk_model.specs.Account.{Accounts};
-ghost use Rattle.disk_model.specs.Sound.{IsQuiet};
-ghost use Rattle.disk_model.specs.State.{standing};
-ghost use Rattle.disk_model.specs.Told.{Told};
-ghost use Rattle.disk_model.specs.declared.place.Place.TheVariants.{Clear};
+ghost use Rattle.disk_theory.specs.Account.{Accounts};
+ghost use Rattle.disk_theory.specs.Sound.{IsQuiet};
+ghost use Rattle.disk_theory.specs.State.{standing};
+ghost use Rattle.disk_theory.specs.Told.{Told};
+ghost use Rattle.disk_theory.specs.declared.place.Place.TheVariants.{Clear};
 ghost use Rattle.file_handles.specs.HeldChunks.{SameChunks};
 ghost use Rattle.file_handles.specs.Kept.{kept};
 ghost use Rattle.index_map.specs.Known.{SameBase};
@@ -25,7 +25,7 @@ use crate::StoreFault;
 use crate::answered::Answered;
 use crate::store::Store;
 use context_clear::{end as end_clearing, stored};
-use disk_model::{Disk, Place};
+use disk_theory::{Disk, Place};
 use std::alloc::Global;
 
 impl Store {

@@ -5,7 +5,7 @@ ghost use Rattle.cache_store.specs.Faulting.{SendsFrontFor};
 ghost use Rattle.cache_store.specs.Faults.{AccountsForSink, ending};
 ghost use Rattle.cache_store.specs.Said.{saying};
 ghost use Rattle.cache_store.specs.Showing.{alt_shown, main_length, main_shown, part_said, part_shown, showing};
-ghost use Rattle.disk_model.specs.Account.{Looks};
+ghost use Rattle.disk_theory.specs.Account.{Looks};
 ghost use Rattle.entry_metadata.specs.Meta.{meta_of};
 
 use crate::StoreFault;
@@ -18,7 +18,7 @@ use alt_data::info;
 use cache_base::{Bytes, NoMemory};
 use cache_io::Sink;
 use cache_theory::Refusal;
-use disk_model::{Disk, Place};
+use disk_theory::{Disk, Place};
 use entry_metadata::Meta;
 use entry_name::name_of;
 use std::alloc::Global;

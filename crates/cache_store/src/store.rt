@@ -1,10 +1,10 @@
 //! Opens the cache, and closes it.
 
 ghost use Rattle.std.specs.Prelude.{◌≡◌, ◌≢◌, [], IfOk, IsTrue, OnOk, Err};
-ghost use Rattle.disk_model.specs.Account.{Accounts, FailsInChange, LooksAtNoEntry, one_sync};
-ghost use Rattle.disk_model.specs.Sound.{IsQuiet};
-ghost use Rattle.disk_model.specs.State.{standing};
-ghost use Rattle.disk_model.specs.Told.{Told};
+ghost use Rattle.disk_theory.specs.Account.{Accounts, FailsInChange, LooksAtNoEntry, one_sync};
+ghost use Rattle.disk_theory.specs.Sound.{IsQuiet};
+ghost use Rattle.disk_theory.specs.State.{standing};
+ghost use Rattle.disk_theory.specs.Told.{Told};
 ghost use Rattle.cache_store.specs.AtClear.{KeepsAtClear};
 ghost use Rattle.index_theory.specs.AtClear.{KeepsClear};
 ghost use Rattle.index_theory.specs.Leaves.{LeavesIndex};
@@ -14,7 +14,7 @@ use crate::memory_index::MemoryIndex;
 use crate::opening::begin_index;
 use crate::pending::Pending;
 use cache_base::Moment;
-use disk_model::Disk;
+use disk_theory::Disk;
 use doom_area::clear;
 use file_handles::Handles;
 use startup_read::close_index;

@@ -9,7 +9,7 @@ ghost use Rattle.cache_theory.specs.Command.Reply.{Findings};
 ghost use Rattle.cache_theory.specs.Text.{findings_text};
 ghost use Rattle.cache_store.specs.Records.{EndsWith};
 ghost use Rattle.index_theory.specs.Ever.{entries_on};
-ghost use Rattle.disk_model.specs.Account.{Looks};
+ghost use Rattle.disk_theory.specs.Account.{Looks};
 ghost use Rattle.index_map.specs.Known.{SameBase};
 
 use crate::answered::Answered;
@@ -20,7 +20,7 @@ use crate::store::Store;
 use crate::{StoreFault, Verdict};
 use cache_check::{Finding, findings};
 use cache_io::Sink;
-use disk_model::Disk;
+use disk_theory::Disk;
 use std::alloc::Global;
 
 /// Says what was found, and tells whether that is anything.

@@ -16,6 +16,7 @@ use Rattle.entry_metadata.specs.Metadata.{block_length}
 use Rattle.entry_parts.specs.Elements.{Element, element, elements_bytes}
 use Rattle.entry_parts.specs.Setting.{has_zero, with_element}
 use Rattle.entry_parts.specs.declared.header.Header.{Header}
+use Rattle.entry_parts.specs.declared.header.TheConstants.{VERSION}
 
 -- a check: it holds, or the command is refused so
 abbrev pub Check : Type 0
@@ -105,7 +106,7 @@ has_alt Nothing = (true, refused.NoAlt)
 -- the version with this header and these elements, as one that is written: in version 3 of the format, and with its
 -- key's length
 abbrev pub with_parts : Header → List Element → Version → Version
-with_parts header elements v = record v { header = record header { version = 3; key_size = length v.key }; elements = elements }
+with_parts header elements v = record v { header = record header { version = VERSION; key_size = length v.key }; elements = elements }
 
 -- the block of a version is not too large
 abbrev pub small_block : Version → Check

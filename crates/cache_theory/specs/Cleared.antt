@@ -15,8 +15,8 @@ use Rattle.cache_theory.specs.Step.{step}
 use Rattle.cache_theory.specs.Table.{get}
 use Rattle.cache_theory.specs.Wording.{IsWrittenIn, state_at}
 use Rattle.context_clear.specs.Mark.{mark_of}
-use Rattle.disk_model.specs.Image.{Files}
-use Rattle.disk_model.specs.State.{State}
+use Rattle.disk_theory.specs.Image.{Files}
+use Rattle.disk_theory.specs.State.{State}
 use Rattle.entry_file.specs.EntryFile.{found}
 use Rattle.entry_file.specs.Version.{Version}
 use Rattle.entry_key.specs.Tags.{value_hash}

@@ -13,7 +13,7 @@ use Rattle.cache_theory.specs.Machine.{Machine, open_names, waits_for}
 use Rattle.cache_theory.specs.Marks.{Marks, begun, touches}
 use Rattle.cache_theory.specs.Step.{after, all_doomed, alt_reply_of, evicted, fits_there, main_reply_of, step, unmarked, update_ended}
 use Rattle.cache_theory.specs.Table.{IsTable, get}
-use Rattle.disk_model.specs.State.{State}
+use Rattle.disk_theory.specs.State.{State}
 use Rattle.context_clear.specs.Covered.{covers_record}
 use Rattle.entry_file.specs.EntryFile.{file_meta, fits}
 use Rattle.entry_name.specs.EntryName.{file_name}

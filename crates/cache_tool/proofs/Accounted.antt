@@ -3,13 +3,13 @@ use Rattle.std.proofs.Common.{◌≡◌, ◌≢◌, ◌≤◌, ℕ, IsErrAnd, Is
 use Rattle.std.specs.Prelude.{IsErrOf}
 use Rattle.cache_base.specs.Causes.{HasCause, Rose}
 use Rattle.cache_store.specs.Faults.{fault_ending}
-use Rattle.cache_store.specs.declared.fault.Outcome.{Outcome}
+use Rattle.cache_store.specs.declared.outcome.Outcome.{Outcome}
 use Rattle.cache_store.specs.declared.fault.StoreFault.{StoreFault}
 use Rattle.cache_store.specs.declared.fault.StoreFault.TheVariants as fault
 use Rattle.cache_tool.specs.Tally.{Failure, IsAccounted, Tally, fault_failure, turn_failure}
 use Rattle.cache_tool.specs.declared.script.ScriptEnd.{ScriptEnd}
-use Rattle.disk_model.specs.Account.{Ending}
-use Rattle.disk_model.specs.Calls.{StopsAtFault}
+use Rattle.disk_theory.specs.Account.{Ending}
+use Rattle.disk_theory.specs.Calls.{StopsAtFault}
 
 -- the same failure by another name
 renamed : {P Q : Type 0} (before now : ℕ) → (P → Q) → (Q → P) → HasCause P before now → HasCause Q before now

@@ -9,10 +9,10 @@ use Rattle.cache_store.specs.Outcomes.{Faults, verdict_in}
 use Rattle.cache_store.specs.Performing.{PerformsFor}
 use Rattle.cache_store.specs.Said.{IsCut}
 use Rattle.cache_store.specs.Session.{cache_of, session}
-use Rattle.cache_store.specs.declared.fault.Outcome.{Outcome}
+use Rattle.cache_store.specs.declared.outcome.Outcome.{Outcome}
 use Rattle.cache_store.specs.declared.fault.StoreFault.{StoreFault}
 use Rattle.cache_store.specs.declared.fault.StoreFault.TheVariants as fault
-use Rattle.cache_store.specs.declared.fault.Verdict.{Verdict}
+use Rattle.cache_store.specs.declared.outcome.Verdict.{Verdict}
 use Rattle.cache_store.specs.declared.store.Store.{Store}
 use Rattle.cache_theory.specs.Command.{Command}
 use Rattle.cache_theory.specs.Command.Command.{Resume}
@@ -20,9 +20,9 @@ use Rattle.cache_theory.specs.Faulted.{fault_line}
 use Rattle.cache_tool.specs.Staying.{StaysFor}
 use Rattle.cache_tool.specs.World.{Sitting}
 use Rattle.cache_tool.proofs.ForGood.{disk_of}
-use Rattle.disk_model.specs.Account.{Accounts, Ending}
-use Rattle.disk_model.specs.Calls.{LastCallFails, StopsAtFault}
-use Rattle.disk_model.specs.declared.disk.Disk.{Ghosts as OfDisk}
+use Rattle.disk_theory.specs.Account.{Accounts, Ending}
+use Rattle.disk_theory.specs.Calls.{LastCallFails, StopsAtFault}
+use Rattle.disk_theory.specs.declared.disk.Disk.{Ghosts as OfDisk}
 use Rattle.index_map.specs.Known.{SameBase}
 
 -- by its reply, as the store performed it

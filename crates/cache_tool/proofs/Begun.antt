@@ -6,7 +6,7 @@ use Rattle.cache_theory.specs.Machine.{Machine}
 use Rattle.cache_theory.specs.Marks.{Marks, all_begun, begun}
 use Rattle.cache_theory.specs.Step.{step}
 use Rattle.cache_theory.proofs.Begins.{begin_keeps}
-use Rattle.disk_model.specs.State.{State}
+use Rattle.disk_theory.specs.State.{State}
 
 -- they keep the disk safe
 pub all_begin_keep : (s : State) (m : Machine) (cs : List Command) (w : Marks) → IsSafe s w → IsSafe s (all_begun m cs w)

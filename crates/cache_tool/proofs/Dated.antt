@@ -13,7 +13,7 @@ use Rattle.cache_store.specs.Open.{OpensInOrder}
 use Rattle.cache_store.specs.Performing.{HadEffect}
 use Rattle.cache_store.specs.Session.{open_of}
 use Rattle.cache_store.specs.declared.fault.StoreFault.{StoreFault}
-use Rattle.cache_store.specs.declared.fault.Verdict.{Verdict}
+use Rattle.cache_store.specs.declared.outcome.Verdict.{Verdict}
 use Rattle.cache_store.specs.declared.store.Store.{Store}
 use Rattle.cache_store.specs.declared.memory_index.MemoryIndex.{MemoryIndex}
 use Rattle.cache_store.proofs.Records.SparedIndex.{not_due_fresh}
@@ -24,15 +24,15 @@ use Rattle.cache_theory.specs.Machine.{Machine}
 use Rattle.cache_theory.specs.Step.{after}
 use Rattle.cache_theory.proofs.InTurn.{after-append}
 use Rattle.cache_tool.specs.Dated.{HasMoment, HasMomentIn, IsSameIndex, IsDatedAt, IsDatedIn, before_flag, behind_flag}
-use Rattle.disk_model.specs.Calls.{HoldsPart}
-use Rattle.disk_model.specs.Sound.{IsSound}
-use Rattle.disk_model.specs.State.{State, add_write, content, content_of, names_now, removed, renamed, settled, standing, write_to, written}
-use Rattle.disk_model.specs.State.Write.{Patch}
-use Rattle.disk_model.specs.declared.disk.Disk.{Ghosts}
-use Rattle.disk_model.specs.declared.place.Place.TheVariants.{Doomed, Index, Log, Tmp}
-use Rattle.disk_model.proofs.Files.{with_file-same}
-use Rattle.disk_model.proofs.Sound.{sound_removed}
-use Rattle.disk_model.proofs.Standing.{settled_same}
+use Rattle.disk_theory.specs.Calls.{HoldsPart}
+use Rattle.disk_theory.specs.Sound.{IsSound}
+use Rattle.disk_theory.specs.State.{State, add_write, content, content_of, names_now, removed, renamed, settled, standing, write_to, written}
+use Rattle.disk_theory.specs.State.Write.{Patch}
+use Rattle.disk_theory.specs.declared.disk.Disk.{Ghosts}
+use Rattle.disk_theory.specs.declared.place.Place.TheVariants.{Doomed, Index, Log, Tmp}
+use Rattle.disk_theory.proofs.Files.{with_file-same}
+use Rattle.disk_theory.proofs.Sound.{sound_removed}
+use Rattle.disk_theory.proofs.Standing.{settled_same}
 use Rattle.doom_area.specs.DoomArea.{RemovesDoomed, removed_each}
 use Rattle.file_handles.proofs.IndexLeft.{cleared_left}
 use Rattle.index_file.specs.Index.{header_bytes, index_bytes}

@@ -25,7 +25,7 @@ use Rattle.cache_tool.specs.Beginning.{AreAtOpening, AreIndexed, AreOnResumed, n
 use Rattle.cache_tool.specs.DoneFor.{AreDoneFor}
 use Rattle.cache_tool.specs.Right.{has_rebuild, is_rebuild}
 use Rattle.context_clear.specs.Mark.{mark_of}
-use Rattle.disk_model.specs.State.{State, standing}
+use Rattle.disk_theory.specs.State.{State, standing}
 use Rattle.entry_name.specs.EntryName.{file_name}
 use Rattle.evictor.specs.Evict.{victims}
 use Rattle.index_record.specs.declared.record.IndexRecord.{IndexRecord}

@@ -13,9 +13,9 @@ use Rattle.cache_tool.specs.Beginning.{BeginsRun, ReadsNoEntry}
 use Rattle.cache_tool.specs.Verbs.{LooksAtNone}
 use Rattle.cache_tool.proofs.StayingLaws.{step_ended}
 use Rattle.context_clear.specs.Mark.{mark_of}
-use Rattle.disk_model.specs.Listing.{IsFinite}
-use Rattle.disk_model.specs.State.{State, standing}
-use Rattle.disk_model.specs.declared.place.Place.TheVariants.{Clear}
+use Rattle.disk_theory.specs.Listing.{IsFinite}
+use Rattle.disk_theory.specs.State.{State, standing}
+use Rattle.disk_theory.specs.declared.place.Place.TheVariants.{Clear}
 use Rattle.index_theory.specs.Start.{start_of}
 use Rattle.index_theory.specs.declared.kinds.Start.{Start}
 use Rattle.index_theory.specs.declared.kinds.Start.TheVariants.{Ready}

@@ -10,8 +10,8 @@ use Rattle.cache_store.specs.declared.fault.StoreFault.{StoreFault}
 use Rattle.cache_store.specs.declared.fault.StoreFault.TheVariants as fault
 use Rattle.cache_tool.specs.Ending.{EndsSession}
 use Rattle.cache_tool.specs.Statuses.{IsClosing, status_in}
-use Rattle.disk_model.specs.Account.{Ending}
-use Rattle.disk_model.specs.State.{State}
+use Rattle.disk_theory.specs.Account.{Ending}
+use Rattle.disk_theory.specs.State.{State}
 use Rattle.index_map.specs.Known.{Known, SameBase}
 
 pub is_false : (b : Bool) → ¬ (b ≡ true) → b ≡ false

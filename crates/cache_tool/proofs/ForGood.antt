@@ -12,7 +12,7 @@ use Rattle.cache_store.specs.Open.{IsOpen}
 use Rattle.cache_store.specs.Session.{Session, cache_of}
 use Rattle.cache_store.specs.declared.fault.StoreFault.{StoreFault}
 use Rattle.cache_store.specs.declared.fault.StoreFault.TheVariants as fault
-use Rattle.cache_store.specs.declared.fault.Verdict.{Verdict}
+use Rattle.cache_store.specs.declared.outcome.Verdict.{Verdict}
 use Rattle.cache_theory.specs.Command.{Command}
 use Rattle.cache_theory.specs.Command.Command.{ClearOrigin, Evict, HasEntry, ListRecords, Resume, Verify}
 use Rattle.cache_theory.specs.Machine.{Machine}
@@ -24,8 +24,8 @@ use Rattle.cache_tool.specs.Verbs.{StopsForGood}
 use Rattle.cache_tool.specs.World.{Output}
 use Rattle.cache_tool.proofs.OneCommand.{CameBy}
 use Rattle.cache_tool.proofs.StatusLaws.{answer_closes}
-use Rattle.disk_model.specs.Account.{Ending}
-use Rattle.disk_model.specs.Calls.{Counts, LastCallFails, LastFails, LastLookFails}
+use Rattle.disk_theory.specs.Account.{Ending}
+use Rattle.disk_theory.specs.Calls.{Counts, LastCallFails, LastFails, LastLookFails}
 use Rattle.file_handles.specs.Cache.{Cache}
 use Rattle.file_handles.specs.Stands.{Represents as CacheRepresents}
 

@@ -6,8 +6,8 @@ use Rattle.cache_store.specs.Faults.{ending, fault_ending}
 use Rattle.cache_store.specs.Open.{IsOpen, LeavesOpen}
 use Rattle.cache_store.specs.Session.{Session}
 use Rattle.cache_store.specs.declared.fault.StoreFault.{StoreFault}
-use Rattle.disk_model.specs.Account.{Accounts, Ending, Looks, no_sync}
-use Rattle.disk_model.specs.declared.disk.Disk.{Ghosts}
+use Rattle.disk_theory.specs.Account.{Accounts, Ending, Looks, no_sync}
+use Rattle.disk_theory.specs.declared.disk.Disk.{Ghosts}
 use Rattle.file_handles.proofs.Accounting.{accounts_sum}
 
 -- the error

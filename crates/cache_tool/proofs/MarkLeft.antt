@@ -12,9 +12,9 @@ use Rattle.cache_theory.proofs.Faults.FaultedOn.{unfaulted_next, unfaulted_on}
 use Rattle.cache_tool.specs.MarkLeft.{ChangeMark, ChangesMark, IsLeftByOne, IsLeftInRun, KeepsMark, LeavesMark, MayMark}
 use Rattle.cache_tool.specs.Verbs.{begun_of}
 use Rattle.context_clear.specs.Mark.{mark_of}
-use Rattle.disk_model.specs.Sound.{IsQuiet, IsSound}
-use Rattle.disk_model.specs.State.{State, standing}
-use Rattle.disk_model.specs.declared.place.Place.TheVariants.{Clear}
+use Rattle.disk_theory.specs.Sound.{IsQuiet, IsSound}
+use Rattle.disk_theory.specs.State.{State, standing}
+use Rattle.disk_theory.specs.declared.place.Place.TheVariants.{Clear}
 use Rattle.index_theory.specs.AtClear.{KeepsClear}
 use Rattle.index_theory.proofs.AtClearLaws.{image_may_be_at_clear, quiet_is_at_clear, quiet_is_clear_apart}
 

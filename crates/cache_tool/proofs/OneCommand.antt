@@ -15,8 +15,8 @@ use Rattle.cache_store.specs.Performing.{HadEffect, KeepsHistory, Performs}
 use Rattle.cache_store.specs.Said.{IsCut}
 use Rattle.cache_store.specs.Saying.{IsPart}
 use Rattle.cache_store.specs.Session.{Session}
-use Rattle.cache_store.specs.declared.fault.Verdict.{Verdict}
-use Rattle.cache_store.specs.declared.fault.Verdict.TheVariants as outcome
+use Rattle.cache_store.specs.declared.outcome.Verdict.{Verdict}
+use Rattle.cache_store.specs.declared.outcome.Verdict.TheVariants as outcome
 use Rattle.cache_store.specs.declared.fault.StoreFault.{StoreFault}
 use Rattle.cache_store.specs.declared.fault.StoreFault.TheVariants as fault
 use Rattle.cache_theory.specs.Command.{Command}
@@ -39,9 +39,9 @@ use Rattle.cache_tool.specs.World.{Output}
 use Rattle.cache_tool.proofs.MarkLeft.{leaves_mark}
 use Rattle.cache_tool.proofs.RightLaws.{leads_begun, leads_none, leads_one, leads_still}
 use Rattle.cache_tool.proofs.SessionEnds.{ends_leave, stops_leave}
-use Rattle.disk_model.specs.Account.{Ending}
-use Rattle.disk_model.specs.Calls.{Counts, LastCallFails, LastFails}
-use Rattle.disk_model.specs.State.{State}
+use Rattle.disk_theory.specs.Account.{Ending}
+use Rattle.disk_theory.specs.Calls.{Counts, LastCallFails, LastFails}
+use Rattle.disk_theory.specs.State.{State}
 use Rattle.index_map.specs.Known.{SameBase}
 use Rattle.index_theory.specs.Honest.{LeavesHonest}
 

@@ -25,9 +25,9 @@ use Rattle.cache_tool.proofs.DoneLaws.{all_done, done_as_long, done_joined}
 use Rattle.cache_tool.proofs.FaultedParts.{kept_before, kept_before_from, next_kept}
 use Rattle.cache_tool.proofs.SameLaws.{done_front}
 use Rattle.cache_tool.proofs.Scripts.ScriptMarks.{begun_next, between, between_joined, marks_at}
-use Rattle.disk_model.specs.Image.{Files}
-use Rattle.disk_model.specs.Sound.{IsQuiet}
-use Rattle.disk_model.specs.State.{State, standing}
+use Rattle.disk_theory.specs.Image.{Files}
+use Rattle.disk_theory.specs.Sound.{IsQuiet}
+use Rattle.disk_theory.specs.State.{State, standing}
 use Rattle.cache_theory.specs.Ever.{entries}
 use Rattle.cache_theory.specs.Table.{get}
 use Rattle.entry_file.specs.EntryFile.{found}

@@ -20,8 +20,8 @@ use Rattle.cache_tool.specs.Dated.{IsDatedIn}
 use Rattle.cache_tool.specs.Right.{AreRight, ComesRight, LeadTo, has_rebuild, is_rebuild}
 use Rattle.cache_tool.specs.Staying.{AreSpared, IsInUse, KeepsPast, StaysOnce, StaysOverAll}
 use Rattle.cache_tool.proofs.StayingLaws.{both_in_use, none_in_use, same_in_use, spared_split, stays_split}
-use Rattle.disk_model.specs.State.{State, standing}
-use Rattle.disk_model.specs.declared.place.Place.TheVariants.{Index}
+use Rattle.disk_theory.specs.State.{State, standing}
+use Rattle.disk_theory.specs.declared.place.Place.TheVariants.{Index}
 use Rattle.index_map.specs.Known.{SameBase}
 use Rattle.index_record.specs.declared.record.IndexRecord.{IndexRecord}
 use Rattle.index_theory.specs.Honest.{LeavesHonest}

@@ -9,7 +9,7 @@ use Rattle.cache_store.specs.Open.{BeginsOn, Opens, OpensHonestly, StartsOn, Tel
 use Rattle.cache_store.specs.Performing.{GoesBy, PerformsFor}
 use Rattle.cache_store.specs.Session.{Session}
 use Rattle.cache_store.specs.declared.fault.StoreFault.{StoreFault}
-use Rattle.cache_store.specs.declared.fault.Verdict.{Verdict}
+use Rattle.cache_store.specs.declared.outcome.Verdict.{Verdict}
 use Rattle.cache_store.proofs.Performing.Represented.{represents}
 use Rattle.cache_store.proofs.Sessions.Opened.{starts_on}
 use Rattle.cache_theory.specs.Command.{Command}
@@ -27,10 +27,10 @@ use Rattle.cache_tool.proofs.MarkLeft.{opened_changes_mark, resumed_changes_mark
 use Rattle.cache_tool.proofs.RightLaws.{leads_one}
 use Rattle.cache_tool.proofs.StayingLaws.{stays_done}
 use Rattle.context_clear.specs.Mark.{mark_of}
-use Rattle.disk_model.specs.Listing.{IsFinite}
-use Rattle.disk_model.specs.Sound.{IsQuiet}
-use Rattle.disk_model.specs.State.{State, standing}
-use Rattle.disk_model.specs.declared.place.Place.TheVariants.{Clear}
+use Rattle.disk_theory.specs.Listing.{IsFinite}
+use Rattle.disk_theory.specs.Sound.{IsQuiet}
+use Rattle.disk_theory.specs.State.{State, standing}
+use Rattle.disk_theory.specs.declared.place.Place.TheVariants.{Clear}
 use Rattle.index_record.specs.declared.record.IndexRecord.{IndexRecord}
 use Rattle.index_theory.specs.AtClear.{KeepsClear}
 use Rattle.index_theory.specs.Honest.{LeavesHonest}

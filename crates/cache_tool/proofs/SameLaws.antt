@@ -22,7 +22,7 @@ use Rattle.cache_tool.specs.Script.{performed}
 use Rattle.cache_tool.specs.Verbs.{marks_behind}
 use Rattle.cache_tool.proofs.DoneLaws.{done_as_long}
 use Rattle.context_clear.specs.Mark.{mark_of}
-use Rattle.disk_model.specs.State.{standing}
+use Rattle.disk_theory.specs.State.{standing}
 use Rattle.evictor.specs.Evict.{victims}
 use Rattle.index_record.specs.declared.record.IndexRecord.{IndexRecord}
 use Rattle.index_theory.specs.Honest.{Honest}

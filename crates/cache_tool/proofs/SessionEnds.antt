@@ -27,9 +27,9 @@ use Rattle.cache_tool.proofs.RightLaws.{leads_on, opened_right}
 use Rattle.cache_tool.proofs.StatusLaws.{EndsAs, closes_or_not, closing_same}
 use Rattle.cache_tool.proofs.StayingLaws.{stays_whole}
 use Rattle.context_clear.specs.Mark.{mark_of}
-use Rattle.disk_model.specs.Listing.{IsFinite}
-use Rattle.disk_model.specs.Sound.{IsQuiet}
-use Rattle.disk_model.specs.State.{State, standing}
+use Rattle.disk_theory.specs.Listing.{IsFinite}
+use Rattle.disk_theory.specs.Sound.{IsQuiet}
+use Rattle.disk_theory.specs.State.{State, standing}
 use Rattle.index_theory.specs.Honest.{Honest, LeavesHonest}
 
 -- the store was not closed

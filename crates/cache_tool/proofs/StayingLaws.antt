@@ -27,8 +27,8 @@ use Rattle.cache_tool.specs.Ending.{IsEnded}
 use Rattle.cache_tool.specs.Right.{LeadTo}
 use Rattle.cache_tool.specs.Statuses.{IsClosing}
 use Rattle.cache_tool.specs.Staying.{AreSpared, EndsInUse, IsInUse, IsSpared, StaysFor, StaysOnce, StaysOverAll}
-use Rattle.disk_model.specs.State.{State, standing}
-use Rattle.disk_model.specs.declared.place.Place.TheVariants.{Index}
+use Rattle.disk_theory.specs.State.{State, standing}
+use Rattle.disk_theory.specs.declared.place.Place.TheVariants.{Index}
 use Rattle.index_map.specs.Known.{Known, SameBase}
 use Rattle.index_record.specs.declared.record.IndexRecord.{IndexRecord}
 use Rattle.index_theory.specs.Honest.{index_records}

@@ -4,7 +4,7 @@ use Rattle.cache_store.proofs.SyncLaws.{all_append, all_front}
 use Rattle.cache_store.specs.Syncs.{most_syncs}
 use Rattle.cache_theory.specs.Command.{Command}
 use Rattle.cache_tool.specs.Syncs.{SyncsFor, SyncsWithin, ending_syncs, opening_syncs, run_syncs}
-use Rattle.disk_model.specs.Calls.{Counts}
+use Rattle.disk_theory.specs.Calls.{Counts}
 
 -- some commands more
 pub syncs_then : (cs ds : List Command) (before mid now : Counts) → SyncsFor cs before mid → SyncsFor ds mid now → SyncsFor (cs ++ ds) before now

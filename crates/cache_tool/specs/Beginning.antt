@@ -19,9 +19,9 @@ use Rattle.cache_tool.specs.Dated.{IsSameIndex}
 use Rattle.cache_tool.specs.MarkLeft.{ChangesMark}
 use Rattle.cache_tool.specs.Right.{LeadTo}
 use Rattle.context_clear.specs.Mark.{mark_of}
-use Rattle.disk_model.specs.Sound.{IsQuiet}
-use Rattle.disk_model.specs.State.{State, standing}
-use Rattle.disk_model.specs.declared.place.Place.TheVariants.{Index, Log}
+use Rattle.disk_theory.specs.Sound.{IsQuiet}
+use Rattle.disk_theory.specs.State.{State, standing}
+use Rattle.disk_theory.specs.declared.place.Place.TheVariants.{Index, Log}
 use Rattle.index_record.specs.declared.record.IndexRecord.{IndexRecord}
 use Rattle.index_theory.specs.Honest.{Honest, index_records, journal_records}
 use Rattle.index_theory.specs.Start.{start_of}

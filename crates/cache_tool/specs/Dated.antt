@@ -4,8 +4,8 @@ use Rattle.cache_base.specs.Bytes.{be32}
 use Rattle.cache_theory.specs.Command.{Command}
 use Rattle.cache_theory.specs.Machine.{Machine}
 use Rattle.cache_theory.specs.Step.{after}
-use Rattle.disk_model.specs.State.{State, standing}
-use Rattle.disk_model.specs.declared.place.Place.TheVariants.{Index}
+use Rattle.disk_theory.specs.State.{State, standing}
+use Rattle.disk_theory.specs.declared.place.Place.TheVariants.{Index}
 use Rattle.index_file.specs.Index.{flag_at}
 use Rattle.index_file.specs.declared.TheConstants.{VERSION}
 

@@ -10,7 +10,7 @@ use Rattle.cache_tool.specs.Dated.{IsDatedAt}
 use Rattle.cache_tool.specs.MarkLeft.{KeepsMark}
 use Rattle.cache_tool.specs.Statuses.{IsClosing}
 use Rattle.cache_tool.specs.Staying.{EndsInUse}
-use Rattle.disk_model.specs.State.{State, standing}
+use Rattle.disk_theory.specs.State.{State, standing}
 use Rattle.index_record.specs.declared.record.IndexRecord.{IndexRecord}
 use Rattle.index_theory.specs.Leaves.{LeavesIndex}
 use Rattle.index_theory.specs.Honest.{LeavesHonest}

@@ -15,8 +15,8 @@ use Rattle.cache_tool.specs.FirstLine.{first_line}
 use Rattle.cache_tool.specs.Statuses.{IsAnswer, status_of}
 use Rattle.cache_tool.specs.Verbs.{HasNotBegun, LeavesDisk, PrintsText, all_begun_none_acked}
 use Rattle.cache_tool.specs.World.{Output}
-use Rattle.disk_model.specs.Calls.{LastCallFails}
-use Rattle.disk_model.specs.State.{standing}
+use Rattle.disk_theory.specs.Calls.{LastCallFails}
+use Rattle.disk_theory.specs.State.{standing}
 use Rattle.evictor.specs.Evict.{total_kb}
 use Rattle.index_theory.specs.Honest.{Honest}
 use Rattle.index_theory.specs.Scan.{scan}

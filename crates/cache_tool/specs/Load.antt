@@ -20,7 +20,7 @@ use Rattle.cache_tool.specs.Beginning.{DoneAtOpening}
 use Rattle.cache_tool.specs.Syncs.{SyncsWithin, run_syncs}
 use Rattle.cache_tool.specs.Verbs.{HasNotBegun, LeavesDisk, all_begun_none_acked}
 use Rattle.cache_tool.specs.World.{World, output_of}
-use Rattle.disk_model.specs.Calls.{LastCallFails}
+use Rattle.disk_theory.specs.Calls.{LastCallFails}
 use Rattle.entry_file.specs.Version.{Version}
 
 -- ---- what was read of a dump

@@ -19,7 +19,7 @@ use Rattle.cache_tool.specs.Statuses.{status_in}
 use Rattle.cache_tool.specs.Syncs.{SyncsFor}
 use Rattle.cache_tool.specs.declared.load.LoadEnd.{LoadEnd}
 use Rattle.cache_tool.specs.declared.load.LoadEnd.TheVariants as ended
-use Rattle.disk_model.specs.Calls.{Counts}
+use Rattle.disk_theory.specs.Calls.{Counts}
 use Rattle.entry_file.specs.Version.{Version}
 use Rattle.entry_parts.specs.Elements.{Element}
 use Rattle.entry_parts.specs.declared.header.Header.{Header}

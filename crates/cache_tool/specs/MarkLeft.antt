@@ -4,10 +4,10 @@ use Rattle.cache_store.specs.AtClear.{ChangesAtClear, IsNewAfter, IsOfClearing, 
 use Rattle.cache_theory.specs.Command.{Command}
 use Rattle.cache_tool.specs.Words.{Asked}
 use Rattle.context_clear.specs.Mark.{mark_of}
-use Rattle.disk_model.specs.Image.{Files, IsImage}
-use Rattle.disk_model.specs.Sound.{IsQuiet}
-use Rattle.disk_model.specs.State.{State, standing}
-use Rattle.disk_model.specs.declared.place.Place.TheVariants.{Clear}
+use Rattle.disk_theory.specs.Image.{Files, IsImage}
+use Rattle.disk_theory.specs.Sound.{IsQuiet}
+use Rattle.disk_theory.specs.State.{State, standing}
+use Rattle.disk_theory.specs.declared.place.Place.TheVariants.{Clear}
 use Rattle.index_theory.specs.AtClear.{IsClearApart, LeavesAtClear}
 
 -- one of these commands clears an origin, and this may be left of it: no file, or the mark of the origin

@@ -9,8 +9,8 @@ use Rattle.cache_theory.specs.Step.{step}
 use Rattle.cache_tool.specs.DoneFor.{AreDoneFor}
 use Rattle.cache_tool.specs.Verbs.{PrintsReplies, marks_behind}
 use Rattle.cache_tool.specs.World.{World}
-use Rattle.disk_model.specs.Sound.{IsQuiet}
-use Rattle.disk_model.specs.State.{State, standing}
+use Rattle.disk_theory.specs.Sound.{IsQuiet}
+use Rattle.disk_theory.specs.State.{State, standing}
 use Rattle.index_theory.specs.Honest.{Honest}
 
 -- Those alone are left out that are answered `fault`: for all other commands of the script something is done, the first

@@ -10,7 +10,7 @@ use Rattle.cache_theory.specs.History.{History}
 use Rattle.cache_theory.specs.Machine.{Machine}
 use Rattle.cache_tool.specs.Dated.{IsDatedIn}
 use Rattle.cache_tool.specs.Staying.{AreSpared, IsInUse, KeepsPast, StaysOverAll}
-use Rattle.disk_model.specs.State.{State, standing}
+use Rattle.disk_theory.specs.State.{State, standing}
 use Rattle.index_record.specs.declared.record.IndexRecord.{IndexRecord}
 use Rattle.index_theory.specs.Honest.{Honest}
 

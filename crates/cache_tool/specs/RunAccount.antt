@@ -8,7 +8,7 @@ use Rattle.cache_tool.specs.Statuses.{IsAnswer}
 use Rattle.cache_tool.specs.Syncs.{SyncsBy}
 use Rattle.cache_tool.specs.Words.{Asked}
 use Rattle.cache_tool.specs.World.{World}
-use Rattle.disk_model.specs.Calls.{StopsAtFault}
+use Rattle.disk_theory.specs.Calls.{StopsAtFault}
 
 -- A fault is answered only where its count rose, and for words other than `run` that of the disk before the others:
 -- where its count rose there is no other answer, unless memory ran out. In a `run` looks may fail and be answered by

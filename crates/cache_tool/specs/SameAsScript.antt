@@ -21,9 +21,9 @@ use Rattle.cache_tool.specs.DoneFor.{AreDoneFor}
 use Rattle.cache_tool.specs.Verbs.{PrintsReplies, one_begun_after}
 use Rattle.cache_tool.specs.World.{World}
 use Rattle.context_clear.specs.Mark.{mark_of}
-use Rattle.disk_model.specs.Image.{Files, IsImage}
-use Rattle.disk_model.specs.Sound.{IsQuiet}
-use Rattle.disk_model.specs.State.{State, standing}
+use Rattle.disk_theory.specs.Image.{Files, IsImage}
+use Rattle.disk_theory.specs.Sound.{IsQuiet}
+use Rattle.disk_theory.specs.State.{State, standing}
 use Rattle.entry_file.specs.EntryFile.{found}
 use Rattle.entry_file.specs.Version.{Version}
 use Rattle.entry_name.specs.EntryName.{file_name}

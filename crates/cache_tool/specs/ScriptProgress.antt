@@ -30,8 +30,8 @@ use Rattle.cache_tool.specs.Verbs.{CountsFaults, Reach, begun_of, SendsNextFront
 use Rattle.cache_tool.specs.World.{Progress}
 use Rattle.cache_tool.specs.declared.script.ScriptEnd.{ScriptEnd}
 use Rattle.cache_tool.specs.declared.script.ScriptEnd.TheVariants as ended
-use Rattle.disk_model.specs.Calls.{LastFails, LastLookFails}
-use Rattle.disk_model.specs.State.{State}
+use Rattle.disk_theory.specs.Calls.{LastFails, LastLookFails}
+use Rattle.disk_theory.specs.State.{State}
 
 -- these commands were read from a source, and after them these bytes
 pub record AreRead (left now : Option (List ℕ)) (cs : List Command) (held : List ℕ) : Type 0 where

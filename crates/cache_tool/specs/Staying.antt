@@ -10,8 +10,8 @@ use Rattle.cache_theory.specs.Command.Command.{Flush, Rebuild}
 use Rattle.cache_theory.specs.Machine.{Machine}
 use Rattle.cache_theory.specs.Step.{step}
 use Rattle.cache_tool.specs.Dated.{IsDatedAt}
-use Rattle.disk_model.specs.State.{State, standing}
-use Rattle.disk_model.specs.declared.place.Place.TheVariants.{Index}
+use Rattle.disk_theory.specs.State.{State, standing}
+use Rattle.disk_theory.specs.declared.place.Place.TheVariants.{Index}
 use Rattle.index_record.specs.declared.record.IndexRecord.{IndexRecord}
 
 -- an index of these records stays in use over all of the commands

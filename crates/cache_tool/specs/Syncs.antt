@@ -3,9 +3,9 @@ use Rattle.std.specs.Prelude.{List, None, Option, Some, [], true, ℕ, ⊤, ◌+
 use Rattle.cache_store.specs.Syncs.{all_syncs, clearing_syncs, writing_syncs}
 use Rattle.cache_theory.specs.Command.{Command}
 use Rattle.cache_tool.specs.Words.{Asked}
-use Rattle.disk_model.specs.Account.{one_sync}
-use Rattle.disk_model.specs.Calls.{Counts}
-use Rattle.disk_model.specs.declared.disk.Disk.{Ghosts}
+use Rattle.disk_theory.specs.Account.{one_sync}
+use Rattle.disk_theory.specs.Calls.{Counts}
+use Rattle.disk_theory.specs.declared.disk.Disk.{Ghosts}
 use Rattle.startup_read.specs.Closing.{closing_syncs}
 
 -- an opening: of the files of the index, and of a clearing that is resumed

@@ -9,8 +9,8 @@ use Rattle.cache_store.specs.declared.fault.StoreFault.{StoreFault}
 use Rattle.cache_store.specs.declared.fault.StoreFault.TheVariants as fault
 use Rattle.cache_tool.specs.declared.script.ScriptEnd.{ScriptEnd}
 use Rattle.cache_tool.specs.declared.script.ScriptEnd.TheVariants as ended
-use Rattle.disk_model.specs.Calls.{Counts, StopsAtFault}
-use Rattle.disk_model.specs.declared.disk.Disk.{Ghosts as OfDisk}
+use Rattle.disk_theory.specs.Calls.{Counts, StopsAtFault}
+use Rattle.disk_theory.specs.declared.disk.Disk.{Ghosts as OfDisk}
 
 -- the count rose by so much, or stands at its end
 abbrev pub RoseBy : ℕ → ℕ → ℕ → Type 0

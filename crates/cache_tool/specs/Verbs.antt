@@ -33,10 +33,10 @@ use Rattle.cache_tool.specs.Staying.{EndsInUse, KeepsPast, StaysOverAll}
 use Rattle.cache_tool.specs.Syncs.{SyncsWithin, opening_syncs, run_syncs}
 use Rattle.cache_tool.specs.Tally.{RoseBy}
 use Rattle.cache_tool.specs.World.{Output, World, output_of}
-use Rattle.disk_model.specs.Calls.{LastCallFails, LastFails, LastLookFails}
-use Rattle.disk_model.specs.Sound.{IsQuiet}
-use Rattle.disk_model.specs.State.{State, standing}
-use Rattle.disk_model.specs.declared.place.Place.TheVariants.{Index}
+use Rattle.disk_theory.specs.Calls.{LastCallFails, LastFails, LastLookFails}
+use Rattle.disk_theory.specs.Sound.{IsQuiet}
+use Rattle.disk_theory.specs.State.{State, standing}
+use Rattle.disk_theory.specs.declared.place.Place.TheVariants.{Index}
 use Rattle.index_theory.specs.Honest.{Honest, LeavesHonest, index_records}
 use Rattle.index_theory.specs.Scan.{scan}
 use Rattle.index_theory.specs.Start.{start_of}

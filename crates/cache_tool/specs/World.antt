@@ -4,9 +4,9 @@ use Rattle.cache_io.specs.declared.sink.Sink.{Ghosts as OfSink}
 use Rattle.cache_io.specs.declared.source.Source.{Ghosts as OfSource}
 use Rattle.cache_store.specs.Session.{Session, open_of}
 use Rattle.cache_store.specs.declared.store.Store.{Store}
-use Rattle.disk_model.specs.Calls.{Counts}
-use Rattle.disk_model.specs.State.{State}
-use Rattle.disk_model.specs.declared.disk.Disk.{Ghosts as OfDisk}
+use Rattle.disk_theory.specs.Calls.{Counts}
+use Rattle.disk_theory.specs.State.{State}
+use Rattle.disk_theory.specs.declared.disk.Disk.{Ghosts as OfDisk}
 
 -- what a source has left, and how often it has failed
 pub record Supply : Type 0 where

@@ -18,10 +18,10 @@ ghost use Rattle.cache_tool.specs.HeldReply.{said_in};
 ghost use Rattle.cache_tool.specs.MarkLeft.{LeavesMark};
 ghost use Rattle.cache_tool.specs.Statuses.{IsAnswer, IsClosing};
 ghost use Rattle.cache_tool.specs.World.{output};
-ghost use Rattle.disk_model.specs.Account.{Accounts, no_sync, SyncsAtMost, one_sync};
-ghost use Rattle.disk_model.specs.Calls.{StopsAtFault};
-ghost use Rattle.disk_model.specs.Sound.{IsQuiet};
-ghost use Rattle.disk_model.specs.Told.{Told};
+ghost use Rattle.disk_theory.specs.Account.{Accounts, no_sync, SyncsAtMost, one_sync};
+ghost use Rattle.disk_theory.specs.Calls.{StopsAtFault};
+ghost use Rattle.disk_theory.specs.Sound.{IsQuiet};
+ghost use Rattle.disk_theory.specs.Told.{Told};
 ghost use Rattle.index_theory.specs.Honest.{LeavesHonest};
 
 use crate::last_reply::LastReply;
@@ -31,7 +31,7 @@ use cache_base::{Bytes, Moment, NoMemory, Status, bytes_fit};
 use cache_io::Sink;
 use cache_script::Command;
 use cache_store::{Store, StoreFault};
-use disk_model::Disk;
+use disk_theory::Disk;
 use std::alloc::Global;
 
 // The slot by which the entries are written.

@@ -3,7 +3,6 @@
 ghost use Rattle.cache_tool.specs.Syncs.{as_made, item_syncs};
 ghost use Rattle.std.specs.Prelude.{◌≡◌, ◌≢◌, ◌≤◌, ◌<◌, ◌⊎◌, ◌++◌, [], ℕ, Err, IfOk, IsTrue, None, Ok, OnOk, Some, suc};
 ghost use Rattle.std.specs.Io.KnownBytes.{Appends, IsAtEnd};
-ghost use Rattle.cache_base.specs.Bytes.{AreBytes};
 ghost use Rattle.cache_base.specs.Causes.{HasCause, Rose};
 ghost use Rattle.cache_export.specs.Parts.{Part};
 ghost use Rattle.cache_export.specs.Reader.{used_in};
@@ -17,12 +16,10 @@ ghost use Rattle.cache_tool.specs.FillProgress.{RunsAll};
 ghost use Rattle.cache_tool.specs.MarkLeft.{LeavesMark};
 ghost use Rattle.cache_tool.specs.Statuses.{IsClosing, IsSaid};
 ghost use Rattle.cache_tool.specs.World.{world};
-ghost use Rattle.disk_model.specs.Account.{Accounts, no_sync};
-ghost use Rattle.disk_model.specs.Calls.{StopsAtFault};
-ghost use Rattle.disk_model.specs.Sound.{IsQuiet};
-ghost use Rattle.disk_model.specs.Told.{Told};
-ghost use Rattle.entry_parts.specs.Elements.{AreElements, elements_bytes};
-ghost use Rattle.entry_parts.specs.Header.{IsHeader};
+ghost use Rattle.disk_theory.specs.Account.{Accounts, no_sync};
+ghost use Rattle.disk_theory.specs.Calls.{StopsAtFault};
+ghost use Rattle.disk_theory.specs.Sound.{IsQuiet};
+ghost use Rattle.disk_theory.specs.Told.{Told};
 ghost use Rattle.index_theory.specs.Honest.{LeavesHonest};
 
 use crate::last_reply::LastReply;
@@ -33,9 +30,9 @@ use cache_export::{DumpFault, DumpReader, Item};
 use cache_io::{Sink, Source};
 use cache_script::Command;
 use cache_store::{Store, StoreFault};
-use disk_model::Disk;
+use disk_theory::Disk;
 use entry_metadata::Meta;
-use entry_parts::{Elements, Header};
+use entry_parts::parts_fit;
 use std::alloc::Global;
 
 // The slot by which the entries are written.
@@ -50,15 +47,6 @@ pub(crate) enum LoadEnd {
     Bad(u64),
     /// The source failed.
     Failed,
-}
-
-// What the types of a header and of elements promise.
-fn parts_fit(header: Header, elements: &Elements)
-    ensures header { IsHeader header }
-    ensures elements { AreElements elements.now }
-    ensures bytes { AreBytes (elements_bytes elements.now) }
-{
-    bytes_fit(elements.print());
 }
 
 // Finishes the entry as the block of its item says, and gives up the slot.

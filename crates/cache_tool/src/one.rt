@@ -1,6 +1,6 @@
 //! One command, which the words give.
 
-ghost use Rattle.disk_model.specs.Account.{SyncsAtMost};
+ghost use Rattle.disk_theory.specs.Account.{SyncsAtMost};
 ghost use Rattle.cache_tool.specs.Syncs.{run_syncs};
 ghost use Rattle.cache_store.specs.Syncs.{all_syncs};
 ghost use Rattle.std.specs.Prelude.{◌≡◌, ◌≢◌, ◌∷◌, ◌⊎◌, [], true, IsTrue};
@@ -16,18 +16,18 @@ ghost use Rattle.cache_tool.specs.Statuses.{IsAnswer, IsClosing};
 ghost use Rattle.cache_tool.specs.Verbs.{AnswersCommand, LooksAtNone};
 ghost use Rattle.cache_tool.specs.World.{output};
 ghost use Rattle.context_clear.specs.Mark.{mark_of};
-ghost use Rattle.disk_model.specs.Calls.{StopsAtFault};
-ghost use Rattle.disk_model.specs.Sound.{IsQuiet};
-ghost use Rattle.disk_model.specs.State.{standing};
-ghost use Rattle.disk_model.specs.Told.{Told};
-ghost use Rattle.disk_model.specs.declared.place.Place.TheVariants.{Clear};
+ghost use Rattle.disk_theory.specs.Calls.{StopsAtFault};
+ghost use Rattle.disk_theory.specs.Sound.{IsQuiet};
+ghost use Rattle.disk_theory.specs.State.{standing};
+ghost use Rattle.disk_theory.specs.Told.{Told};
+ghost use Rattle.disk_theory.specs.declared.place.Place.TheVariants.{Clear};
 ghost use Rattle.index_theory.specs.Start.{start_of};
 
 use crate::session::{begin, end, end_faulted, status_of, status_of_fault};
 use cache_base::{Moment, Status};
 use cache_io::Sink;
 use cache_script::Command;
-use disk_model::Disk;
+use disk_theory::Disk;
 use std::alloc::Global;
 
 /// Performs the command and prints its reply. Where a look at the disk failed before anything of it was out, the line

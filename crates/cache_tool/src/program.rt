@@ -12,10 +12,10 @@ ghost use Rattle.cache_tool.specs.Verbs.{LooksAtNone};
 ghost use Rattle.cache_tool.specs.Words.{WhenOne, asked_in};
 ghost use Rattle.cache_tool.specs.World.{world};
 ghost use Rattle.context_clear.specs.Mark.{mark_of};
-ghost use Rattle.disk_model.specs.Sound.{IsQuiet};
-ghost use Rattle.disk_model.specs.State.{standing};
-ghost use Rattle.disk_model.specs.Told.{Told};
-ghost use Rattle.disk_model.specs.declared.place.Place.TheVariants.{Clear};
+ghost use Rattle.disk_theory.specs.Sound.{IsQuiet};
+ghost use Rattle.disk_theory.specs.State.{standing};
+ghost use Rattle.disk_theory.specs.Told.{Told};
+ghost use Rattle.disk_theory.specs.declared.place.Place.TheVariants.{Clear};
 ghost use Rattle.index_theory.specs.Start.{start_of};
 
 use crate::fill::fill;
@@ -26,7 +26,7 @@ use crate::script::run_script;
 use crate::words::{Asked, read_words};
 use cache_base::Status;
 use cache_io::{Sink, Source};
-use disk_model::Disk;
+use disk_theory::Disk;
 use std::alloc::Global;
 
 /// Does what the words say. These are the words after the directory: `NOW run` performs the script that the source

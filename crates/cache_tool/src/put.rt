@@ -22,10 +22,10 @@ ghost use Rattle.cache_tool.specs.PutProgress.{AppendsBody, AppendsPiece, HasNoF
 ghost use Rattle.cache_tool.specs.Statuses.{IsAnswer, IsClosing};
 ghost use Rattle.cache_tool.specs.Verbs.{StoresEntry};
 ghost use Rattle.cache_tool.specs.World.{supply, world};
-ghost use Rattle.disk_model.specs.Account.{Accounts, Ending, FailsInChange, Looks, no_sync, SyncsAtMost, one_sync};
-ghost use Rattle.disk_model.specs.Calls.{StopsAtFault};
-ghost use Rattle.disk_model.specs.Sound.{IsQuiet};
-ghost use Rattle.disk_model.specs.Told.{Told};
+ghost use Rattle.disk_theory.specs.Account.{Accounts, Ending, FailsInChange, Looks, no_sync, SyncsAtMost, one_sync};
+ghost use Rattle.disk_theory.specs.Calls.{StopsAtFault};
+ghost use Rattle.disk_theory.specs.Sound.{IsQuiet};
+ghost use Rattle.disk_theory.specs.Told.{Told};
 ghost use Rattle.entry_key.specs.Writing.{may_write};
 ghost use Rattle.index_map.specs.Known.{SameBase};
 ghost use Rattle.index_theory.specs.Honest.{LeavesHonest};
@@ -37,7 +37,7 @@ use cache_base::{BODY_MAX, Moment, NoMemory, PIECE_MAX, Status};
 use cache_io::{Sink, Source};
 use cache_script::Command;
 use cache_store::{Store, StoreFault, Verdict};
-use disk_model::Disk;
+use disk_theory::Disk;
 use std::alloc::Global;
 
 // The slot by which the entry is written.

@@ -14,8 +14,8 @@ ghost use Rattle.cache_tool.specs.Statuses.{IsClosing};
 ghost use Rattle.cache_tool.specs.Tally.{IsAccounted, failure, script_failure, tally, turn_failure};
 ghost use Rattle.cache_tool.specs.Verbs.{RunsScript};
 ghost use Rattle.cache_tool.specs.World.{progress, world};
-ghost use Rattle.disk_model.specs.Calls.{StopsAtFault};
-ghost use Rattle.disk_model.specs.Sound.{IsQuiet};
+ghost use Rattle.disk_theory.specs.Calls.{StopsAtFault};
+ghost use Rattle.disk_theory.specs.Sound.{IsQuiet};
 ghost use Rattle.index_theory.specs.Honest.{LeavesHonest};
 
 use crate::session::{begin, end, status_of_fault};
@@ -23,7 +23,7 @@ use cache_base::{Bytes, Moment, NoMemory, Status};
 use cache_io::{Sink, Source, write_whole};
 use cache_script::{Reader, ScriptFault};
 use cache_store::{Store, StoreFault};
-use disk_model::Disk;
+use disk_theory::Disk;
 use std::alloc::Global;
 
 /// How the commands of a script came to their end.

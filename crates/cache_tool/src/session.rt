@@ -15,12 +15,12 @@ ghost use Rattle.cache_tool.specs.Beginning.{BeginsRun, FailsToBegin, ReadsNoEnt
 ghost use Rattle.cache_tool.specs.Ending.{EndsSession};
 ghost use Rattle.cache_tool.specs.Statuses.{IsAnswer, IsClosing, IsSaid, status_in, status_of as status_of_outcome};
 ghost use Rattle.context_clear.specs.Mark.{mark_of};
-ghost use Rattle.disk_model.specs.Account.{Accounts, LooksAtNoEntry, SyncsAtMost};
-ghost use Rattle.disk_model.specs.Calls.{LastFails, StopsAtFault};
-ghost use Rattle.disk_model.specs.Sound.{IsQuiet};
-ghost use Rattle.disk_model.specs.State.{standing};
-ghost use Rattle.disk_model.specs.Told.{Told};
-ghost use Rattle.disk_model.specs.declared.place.Place.TheVariants.{Clear};
+ghost use Rattle.disk_theory.specs.Account.{Accounts, LooksAtNoEntry, SyncsAtMost};
+ghost use Rattle.disk_theory.specs.Calls.{LastFails, StopsAtFault};
+ghost use Rattle.disk_theory.specs.Sound.{IsQuiet};
+ghost use Rattle.disk_theory.specs.State.{standing};
+ghost use Rattle.disk_theory.specs.Told.{Told};
+ghost use Rattle.disk_theory.specs.declared.place.Place.TheVariants.{Clear};
 ghost use Rattle.index_theory.specs.Start.{start_of};
 
 use crate::last_reply::LastReply;
@@ -28,7 +28,7 @@ use cache_base::{Moment, Status};
 use cache_io::{Sink, SinkFault, write_whole};
 use cache_script::Command;
 use cache_store::{Store, StoreFault, Verdict};
-use disk_model::Disk;
+use disk_theory::Disk;
 use std::alloc::Global;
 
 /// Begins a run: the store is opened at this moment, and the clearing is done that an earlier run left undone, if the

@@ -4,8 +4,8 @@ use Rattle.std.specs.Prelude.{min, replicate, IfSome, OnOk}
 use Rattle.std.proofs.lemmas.Grind.{common_steps}
 use Rattle.std.proofs.lemmas.List.{drop-take, take_at}
 use Rattle.cache_base.specs.Limits.{chunk_size, chunks}
-use Rattle.disk_model.specs.State.{part_of}
-use Rattle.disk_model.specs.declared.disk.DiskFault.{DiskFault}
+use Rattle.disk_theory.specs.State.{part_of}
+use Rattle.disk_theory.specs.declared.disk.DiskFault.{DiskFault}
 use Rattle.chunk_store.specs.Chunks.{chunk}
 use Rattle.chunk_store.specs.Stored.{filled_up, read_as, chunk_len}
 

@@ -9,15 +9,19 @@ use Rattle.jenkins_hash.specs.Hash.{hash16_of}
 abbrev pub chunk : List ℕ → ℕ → List ℕ
 chunk body i = take chunk_size (drop (i * chunk_size) body)
 
--- the 16-bit hash of each chunk
+-- the hash of a chunk with these bytes
+abbrev pub chunk_hash_of : List ℕ → ℕ
+chunk_hash_of bytes = hash16_of bytes
+
+-- the hash of each chunk
 abbrev pub chunk_hashes : List ℕ → List ℕ
-chunk_hashes body = map (λ i. hash16_of (chunk body i)) (range_with_len 0 (chunks (length body)))
+chunk_hashes body = map (λ i. chunk_hash_of (chunk body i)) (range_with_len 0 (chunks (length body)))
 
 -- the damage of chunk i, if its hash is not the stored one of these
 abbrev pub damage_at : List ℕ → List ℕ → ℕ → Option Damage
 damage_at hashes body i =
-    if hash16_of (chunk body i) == slice_index hashes i then None
-    else Some (record { chunk = i; stored = slice_index hashes i; found = hash16_of (chunk body i) })
+    if chunk_hash_of (chunk body i) == slice_index hashes i then None
+    else Some (record { chunk = i; stored = slice_index hashes i; found = chunk_hash_of (chunk body i) })
 
 -- the damages of the chunks of a body of this length, in order
 unfoldable pub damages : List ℕ → ℕ → List ℕ → List Damage

@@ -1,8 +1,8 @@
 -- How chunks stand in the file of an entry.
 use Rattle.std.specs.Prelude.{ℕ, List, [], ◌∷◌, ◌++◌, ◌*◌, ◌-◌, ◌/◌, ◌==◌, if◌then◌else◌, min, length, take, replicate, Option}
 use Rattle.cache_base.specs.Limits.{chunk_size}
-use Rattle.disk_model.specs.State.{part_of, Write}
-use Rattle.disk_model.specs.State.Write.{End}
+use Rattle.disk_theory.specs.State.{part_of, Write}
+use Rattle.disk_theory.specs.State.Write.{End}
 
 -- the length of chunk i of a body of this length
 abbrev pub chunk_len : ℕ → ℕ → ℕ

@@ -2,13 +2,13 @@
 
 ghost use Rattle.std.specs.Prelude.{◌≡◌, ◌*◌, ◌^◌, ◌≤◌, ◌++◌, ◌<◌, ◌+◌, length, IsTrue};
 ghost use Rattle.cache_base.specs.Limits.{chunk_size};
-ghost use Rattle.disk_model.specs.Account.{Accounts, FailsInChange, ending, no_sync};
-ghost use Rattle.disk_model.specs.State.{standing, wrote};
-ghost use Rattle.disk_model.specs.Calls.{counted_change, if_done, MayWriteAt};
+ghost use Rattle.disk_theory.specs.Account.{Accounts, FailsInChange, ending, no_sync};
+ghost use Rattle.disk_theory.specs.State.{standing, wrote};
+ghost use Rattle.disk_theory.specs.Calls.{counted_change, if_done, MayWriteAt};
 ghost use Rattle.chunk_store.specs.Stored.{stop_tail, chunk_write};
 
 use cache_base::{Buffer, CHUNK};
-use disk_model::{Disk, DiskFault, Place};
+use disk_theory::{Disk, DiskFault, Place};
 
 // Adds the stop tail.
 fn push_tail(buf: &mut Buffer)

@@ -7,6 +7,6 @@ mod damage;
 mod reading;
 
 pub use appending::append_chunk;
-pub use checking::{ChunkAnswer, check_chunk};
+pub use checking::{ChunkAnswer, check_chunk, chunk_hash};
 pub use damage::Damage;
 pub use reading::{read_chunk, read_chunk_into};

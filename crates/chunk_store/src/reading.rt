@@ -2,14 +2,14 @@
 
 ghost use Rattle.std.specs.Prelude.{◌≡◌, ◌+◌, ◌-◌, ◌*◌, ◌<◌, ◌≤◌, ◌++◌, length, take, replicate, IfSome, OnOk, IsTrue};
 ghost use Rattle.cache_base.specs.Limits.{chunks};
-ghost use Rattle.disk_model.specs.Account.{Looks, ending};
-ghost use Rattle.disk_model.specs.State.{standing};
-ghost use Rattle.disk_model.specs.Calls.{counted_read};
+ghost use Rattle.disk_theory.specs.Account.{Looks, ending};
+ghost use Rattle.disk_theory.specs.State.{standing};
+ghost use Rattle.disk_theory.specs.Calls.{counted_read};
 ghost use Rattle.chunk_store.specs.Chunks.{chunk};
 ghost use Rattle.chunk_store.specs.Stored.{chunk_len, read_as};
 
 use cache_base::{Buffer, CHUNK};
-use disk_model::{Disk, DiskFault, Place};
+use disk_theory::{Disk, DiskFault, Place};
 
 /// Makes the buffer the chunk `index` of a body of `offset` bytes that stands at the beginning of the file, by one call
 /// of the disk. Where the file is shorter, or no file stands there, the bytes that it does not have are zeros.

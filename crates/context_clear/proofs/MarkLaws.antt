@@ -7,7 +7,7 @@ use Rattle.std.proofs.lemmas.List.{length-drop, length-take-le, take_all, take_a
 use Rattle.std.proofs.lemmas.Nat.{from_be_bytes-to_be_bytes_4, from_be_bytes-to_be_bytes_8}
 use Rattle.cache_base.specs.Bytes.{AreBytes, be32, be32_at}
 use Rattle.cache_base.proofs.ByteLaws.{bytes_drop, bytes_take, eight, four, small64}
-use Rattle.disk_model.specs.State.{part_of}
+use Rattle.disk_theory.specs.State.{part_of}
 use Rattle.jenkins_hash.specs.Hash.{hash_of}
 use Rattle.jenkins_hash.proofs.HashLaws.{hash_of-lt}
 use Rattle.context_clear.specs.Mark.{IsMark, MarkIsRead, MarkIsSpelled, TellsMark, mark_bytes, mark_of, marked_in, origin_bytes}

@@ -1,21 +1,21 @@
 -- What a crash leaves at `clear` while a mark is stored.
 use Rattle.std.proofs.Common.{◌≡◌, ◌≢◌, ◌⊎◌, if◌then◌else◌, inl, inr, ℕ, zero, suc, ◌-◌, ◌<◌, ◌≤◌, Bool, true, false, List, [], length, Option, Some, None, refl, sym, ap, subst, ◌∙◌, arith}
-use Rattle.disk_model.specs.declared.place.Place.{Place}
-use Rattle.disk_model.specs.declared.place.Place.TheVariants.{Clear, Doomed}
+use Rattle.disk_theory.specs.declared.place.Place.{Place}
+use Rattle.disk_theory.specs.declared.place.Place.TheVariants.{Clear, Doomed}
 use Rattle.std.specs.Prelude.{Result, Ok, Err, OnOk}
-use Rattle.disk_model.specs.Calls.{if_ok}
-use Rattle.disk_model.specs.declared.disk.DiskFault.{DiskFault}
-use Rattle.disk_model.specs.Image.{Files, IsImage, MayHold, MayStand}
-use Rattle.disk_model.specs.Place.{is_same}
-use Rattle.disk_model.specs.Sound.{IsQuiet, IsSound, names_before, room}
-use Rattle.disk_model.specs.Standing.{Moves, PutsContent}
-use Rattle.disk_model.specs.State.{File, State, Write, content, content_of, created, empty_file, names_now, removed, renamed, settled, standing, write_to, wrote}
-use Rattle.disk_model.specs.State.Write.{End}
-use Rattle.disk_model.proofs.Files.{with_file-apart, with_file-below}
-use Rattle.disk_model.proofs.Images.{now_may_stand, only_now, only_stands}
-use Rattle.disk_model.proofs.Places.{is_same-refl, never, one_same}
-use Rattle.disk_model.proofs.Sound.{no_writes, sound_added, sound_settled, sound_written}
-use Rattle.disk_model.proofs.Standing.{added_puts, puts_kept, removed_puts, renamed_moves, settled_same, wrote_puts}
+use Rattle.disk_theory.specs.Calls.{if_ok}
+use Rattle.disk_theory.specs.declared.disk.DiskFault.{DiskFault}
+use Rattle.disk_theory.specs.Image.{Files, IsImage, MayHold, MayStand}
+use Rattle.disk_theory.specs.Place.{is_same}
+use Rattle.disk_theory.specs.Sound.{IsQuiet, IsSound, names_before, room}
+use Rattle.disk_theory.specs.Standing.{Moves, PutsContent}
+use Rattle.disk_theory.specs.State.{File, State, Write, content, content_of, created, empty_file, names_now, removed, renamed, settled, standing, write_to, wrote}
+use Rattle.disk_theory.specs.State.Write.{End}
+use Rattle.disk_theory.proofs.Files.{with_file-apart, with_file-below}
+use Rattle.disk_theory.proofs.Images.{now_may_stand, only_now, only_stands}
+use Rattle.disk_theory.proofs.Places.{is_same-refl, never, one_same}
+use Rattle.disk_theory.proofs.Sound.{no_writes, sound_added, sound_settled, sound_written}
+use Rattle.disk_theory.proofs.Standing.{added_puts, puts_kept, removed_puts, renamed_moves, settled_same, wrote_puts}
 use Rattle.context_clear.specs.Mark.{mark_bytes}
 use Rattle.context_clear.specs.MarkFile.{IsAmidStoring, LeavesNoFile, LeavesWholeMark, PutsMark, StoresMark, StoringMoment, storing_at}
 use Rattle.context_clear.specs.MarkFile.StoringMoment.{Begun, Filled, Placed, Synced, Unstored}

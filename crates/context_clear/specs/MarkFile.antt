@@ -1,10 +1,10 @@
 -- A mark is stored and removed: the changes in their order, and what a crash leaves at `clear`.
 use Rattle.std.specs.Prelude.{ℕ, ◌≡◌, ◌⊎◌, List, Some, None}
-use Rattle.disk_model.specs.Image.{Files, IsImage}
-use Rattle.disk_model.specs.Standing.{PutsContent}
-use Rattle.disk_model.specs.State.{State, created, removed, renamed, settled, wrote}
-use Rattle.disk_model.specs.State.Write.{End}
-use Rattle.disk_model.specs.declared.place.Place.TheVariants.{Clear, Doomed}
+use Rattle.disk_theory.specs.Image.{Files, IsImage}
+use Rattle.disk_theory.specs.Standing.{PutsContent}
+use Rattle.disk_theory.specs.State.{State, created, removed, renamed, settled, wrote}
+use Rattle.disk_theory.specs.State.Write.{End}
+use Rattle.disk_theory.specs.declared.place.Place.TheVariants.{Clear, Doomed}
 use Rattle.context_clear.specs.Mark.{mark_bytes}
 
 -- how far the storing of a mark has come

@@ -10,4 +10,4 @@ mod origin_records;
 
 pub use laws::{mark_is_read, mark_is_spelled};
 pub use mark_file::{end, store, stored};
-pub use origin_records::victims;
+pub use origin_records::{covers, victims};

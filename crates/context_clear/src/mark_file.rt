@@ -1,18 +1,18 @@
 //! The mark on the disk, the file `clear`.
 
 ghost use Rattle.std.specs.Prelude.{◌≡◌, IfOk, IsSome, IsTrue, None, OnOk};
-ghost use Rattle.disk_model.specs.Account.{Accounts, FailsInChange, Looks, LooksAtNoEntry, ending, one_sync};
-ghost use Rattle.disk_model.specs.Calls.{counted_look};
-ghost use Rattle.disk_model.specs.Standing.{PutsContent};
-ghost use Rattle.disk_model.specs.State.{standing};
-ghost use Rattle.disk_model.specs.Told.{Told};
-ghost use Rattle.disk_model.specs.declared.place.Place.TheVariants.{Clear, Doomed};
+ghost use Rattle.disk_theory.specs.Account.{Accounts, FailsInChange, Looks, LooksAtNoEntry, ending, one_sync};
+ghost use Rattle.disk_theory.specs.Calls.{counted_look};
+ghost use Rattle.disk_theory.specs.Standing.{PutsContent};
+ghost use Rattle.disk_theory.specs.State.{standing};
+ghost use Rattle.disk_theory.specs.Told.{Told};
+ghost use Rattle.disk_theory.specs.declared.place.Place.TheVariants.{Clear, Doomed};
 ghost use Rattle.context_clear.specs.Mark.{TellsMark, mark_bytes, mark_of};
 ghost use Rattle.context_clear.specs.MarkFile as spec;
 
 use crate::mark::{MARK_LEN, read_mark, write_mark};
 use cache_base::bytes_fit;
-use disk_model::{Disk, DiskFault, Place};
+use disk_theory::{Disk, DiskFault, Place};
 
 // Writes these bytes to a new file among the doomed, which is synced and then takes the place `clear`.
 fn place_mark<D: Disk>(disk: &mut D, number: u32, bytes: &[u8]) -> Result<(), DiskFault>

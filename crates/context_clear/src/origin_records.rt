@@ -9,13 +9,21 @@ use index_map::RecordMap;
 use index_record::{IndexRecord, is_pinned};
 use std::alloc::Global;
 
+/// Whether a clearing of the origin with this hash takes the entry of a record: whether it is of the origin, and is not
+/// pinned.
+pub fn covers(r: &IndexRecord, origin: u64) -> bool
+    ensures { result ≡ spec.covers_record origin r.now }
+{
+    r.origin == origin && !is_pinned(r)
+}
+
 // Whether there is a record, and a clearing of the origin takes it.
 fn is_covered(found: Option<IndexRecord>, origin: u64) -> bool
     ensures { result ≡ spec.covers_found origin found }
 {
     match found {
         None => false,
-        Some(r) => r.origin == origin && !is_pinned(&r),
+        Some(r) => covers(&r, origin),
     }
 }
 

@@ -2,16 +2,16 @@
 use Rattle.std.proofs.Common.{◌≡◌, inl, inr, ℕ, ◌+◌, ◌<◌, List, [], ◌∷◌, ◌++◌, length, take, get_or, Option, Some, None, IsSome, Bool, true, false, refl, sym, ◌∙◌, ap, subst, if◌then◌else◌}
 use Rattle.std.proofs.lemmas.List.{take_more}
 use Rattle.std.proofs.lemmas.Bool.{cases_Bool}
-use Rattle.disk_model.specs.declared.place.Place.{Place}
-use Rattle.disk_model.specs.Place.{is_same}
-use Rattle.disk_model.specs.State.{File, Names, State, with_name, standing}
-use Rattle.disk_model.specs.Image.{MayStand}
-use Rattle.disk_model.specs.Standing.{PutsContent}
+use Rattle.disk_theory.specs.declared.place.Place.{Place}
+use Rattle.disk_theory.specs.Place.{is_same}
+use Rattle.disk_theory.specs.State.{File, Names, State, with_name, standing}
+use Rattle.disk_theory.specs.Image.{MayStand}
+use Rattle.disk_theory.specs.Standing.{PutsContent}
 use Rattle.disk_model.specs.MemFile.{nth_file}
 use Rattle.disk_model.specs.MemImage.{Given, image_of, ArePlacesApart}
 use Rattle.disk_model.specs.MemFill.{IsAnywhere, IsNowhere, AreMade, MayStandAll, IsTaken, AreTaken}
 use Rattle.disk_model.specs.declared.mem_file.MemFile.{MemFile}
-use Rattle.disk_model.proofs.Places.{one_same, never}
+use Rattle.disk_theory.proofs.Places.{one_same, never}
 use Rattle.disk_model.proofs.MemSlots.{none_stands}
 use Rattle.disk_model.proofs.MemImages.{image_here, image_late, image_beside, apart_pushed, none_before, image_at}
 

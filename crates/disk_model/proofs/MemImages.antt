@@ -4,10 +4,10 @@ use Rattle.std.proofs.Math.Seq.{drop-cons}
 use Rattle.std.proofs.lemmas.List.{take-append-drop, length_push}
 use Rattle.std.proofs.lemmas.Bool.{cases_Bool, cases_lt}
 use Rattle.std.proofs.lemmas.Grind.{common_steps}
-use Rattle.disk_model.specs.declared.place.Place.{Place}
-use Rattle.disk_model.specs.Place.{is_same}
+use Rattle.disk_theory.specs.declared.place.Place.{Place}
+use Rattle.disk_theory.specs.Place.{is_same}
 use Rattle.disk_model.specs.MemImage.{Given, image_of, ArePlacesApart}
-use Rattle.disk_model.proofs.Places.{is_same-refl, is_same-apart, one_same}
+use Rattle.disk_theory.proofs.Places.{is_same-refl, is_same-apart, one_same}
 
 -- the one content is first, and the other places have theirs after it
 pub image_here : (place : Place) (content : List ℕ) (rest : Given) → image_of ((place, content) ∷ rest) place ≡ Some content

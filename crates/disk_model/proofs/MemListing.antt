@@ -13,11 +13,11 @@ use Rattle.std.proofs.lemmas.Bool.{cases_Bool}
 use Rattle.std.proofs.lemmas.Map.Keys.{sorted_head, sorted_tail}
 use Rattle.std.proofs.lemmas.Map.Views.{tells_apart}
 use Rattle.std.proofs.lemmas.List.Elements.{Contains-append_left, Contains-append_right, Contains-append_cases, Contains-push}
-use Rattle.disk_model.specs.declared.place.Place.{Place}
-use Rattle.disk_model.specs.contracts.place.PlaceOrd.TheImpl as place_ord
+use Rattle.disk_theory.specs.declared.place.Place.{Place}
+use Rattle.disk_theory.specs.contracts.place.PlaceOrd.TheImpl as place_ord
 use Rattle.disk_model.specs.MemSlots.{now_of}
 use Rattle.disk_model.specs.declared.mem_slots.Slot.{Slot}
-use Rattle.disk_model.proofs.Places.{places_total, places_apart}
+use Rattle.disk_theory.proofs.Places.{places_total, places_apart}
 use Rattle.disk_model.proofs.MemSlots.{none_stands}
 
 -- one more, where it is of the kind and a file stands

@@ -4,11 +4,11 @@ use Rattle.std.proofs.Math.Seq.{drop-cons}
 use Rattle.std.proofs.lemmas.List.{drop_all}
 use Rattle.std.proofs.lemmas.Bool.{cases_eq}
 use Rattle.std.proofs.lemmas.Bool.Decides.{nat_tests}
-use Rattle.disk_model.specs.State.{File, with_file}
+use Rattle.disk_theory.specs.State.{File, with_file}
 use Rattle.disk_model.specs.MemFile.{file_of, nth_file, at_rest}
 use Rattle.disk_model.specs.MemState.{is_in, ArePending}
 use Rattle.disk_model.specs.declared.mem_file.MemFile.{MemFile}
-use Rattle.disk_model.proofs.Files.{with_file-cases, with_file-same, with_file-apart}
+use Rattle.disk_theory.proofs.Files.{with_file-cases, with_file-same, with_file-apart}
 use Rattle.disk_model.proofs.MemState.{nth_pushed, nth_set}
 
 -- a new file with no writes

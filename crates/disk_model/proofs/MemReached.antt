@@ -2,9 +2,9 @@
 use Rattle.std.proofs.Common.{◌≡◌, ◌⊎◌, inl, inr, ⊎_elim, ℕ, ◌+◌, ◌^◌, ◌<◌, ◌≤◌, List, [], ◌∷◌, ◌++◌, length, map, take, drop, reverse, get_or, sym, ◌∙◌, ap, subst, arith}
 use Rattle.std.proofs.lemmas.List.{take_more, take-append-drop, map_push, map-append, reverse-append, take_all}
 use Rattle.std.proofs.lemmas.Bool.{cases_lt}
-use Rattle.disk_model.specs.State.{Write}
-use Rattle.disk_model.specs.State.Write.{End, Patch}
-use Rattle.disk_model.specs.Image.{IsReached}
+use Rattle.disk_theory.specs.State.{Write}
+use Rattle.disk_theory.specs.State.Write.{End, Patch}
+use Rattle.disk_theory.specs.Image.{IsReached}
 use Rattle.disk_model.specs.MemWrite.{write_of, newest_first, least_end, Patches, IsPatched}
 use Rattle.disk_model.specs.declared.mem_file.MemWrite.{MemWrite}
 

@@ -6,18 +6,18 @@ use Rattle.std.proofs.lemmas.Bool.{cases_Bool}
 use Rattle.std.proofs.lemmas.List.{take-append-drop, reverse-append, length-reverse, length-drop}
 use Rattle.std.proofs.lemmas.List.Elements.{Contains-append_left, Contains-append_right, Contains-append_cases, Contains-push}
 use Rattle.std.proofs.lemmas.Map.Views.{tells_apart}
-use Rattle.disk_model.specs.declared.place.Place.{Place}
-use Rattle.disk_model.specs.declared.place.NameStep.{NameStep}
-use Rattle.disk_model.specs.contracts.place.PlaceOrd.TheImpl as place_ord
-use Rattle.disk_model.specs.Place.{is_same}
-use Rattle.disk_model.specs.State.{Names, with_name, names_after}
-use Rattle.disk_model.specs.Sound.{IsSound, names_before}
+use Rattle.disk_theory.specs.declared.place.Place.{Place}
+use Rattle.disk_theory.specs.declared.place.NameStep.{NameStep}
+use Rattle.disk_theory.specs.contracts.place.PlaceOrd.TheImpl as place_ord
+use Rattle.disk_theory.specs.Place.{is_same}
+use Rattle.disk_theory.specs.State.{Names, with_name, names_after}
+use Rattle.disk_theory.specs.Sound.{IsSound, names_before}
 use Rattle.disk_model.specs.MemSlots.{Slots, slot_at, now_of, synced_of, names_in, synced_names_in}
 use Rattle.disk_model.specs.MemState.{state_from}
 use Rattle.disk_model.specs.MemFill.{AreMade}
 use Rattle.disk_model.specs.declared.mem_slots.Slot.{Slot}
 use Rattle.disk_model.specs.declared.mem_file.MemFile.{MemFile}
-use Rattle.disk_model.proofs.Places.{one_same, never, places_apart}
+use Rattle.disk_theory.proofs.Places.{one_same, never, places_apart}
 
 -- The keys of a map.
 

@@ -1,16 +1,16 @@
 -- The names in a map of slots, one of which is changed.
-use Rattle.std.proofs.Common.{◌≡◌, ◌⊎◌, inl, inr, ⊎_elim, ℕ, suc, ◌+◌, ◌<◌, ◌≤◌, List, ◌∷◌, length, drop, get_or, Bool, true, false, Option, Some, None, IsSome, is_some, if◌then◌else◌, refl, sym, ◌∙◌, ap, subst, arith}
+use Rattle.std.proofs.Common.{◌≡◌, ◌⊎◌, inl, inr, ⊎_elim, ℕ, suc, ◌+◌, ◌<◌, ◌≤◌, List, ◌∷◌, length, drop, get_or, Bool, true, false, Option, Some, None, IsSome, if◌then◌else◌, refl, sym, ◌∙◌, ap, subst, arith}
 use Rattle.std.proofs.Math.Seq.{drop-cons}
 use Rattle.std.proofs.lemmas.List.{drop_all}
 use Rattle.std.specs.BTreeMap.{Updates}
-use Rattle.disk_model.specs.declared.place.Place.{Place}
-use Rattle.disk_model.specs.contracts.place.PlaceOrd.TheImpl as place_ord
-use Rattle.disk_model.specs.Place.{is_same}
-use Rattle.disk_model.specs.State.{Names, with_name}
+use Rattle.disk_theory.specs.declared.place.Place.{Place}
+use Rattle.disk_theory.specs.contracts.place.PlaceOrd.TheImpl as place_ord
+use Rattle.disk_theory.specs.Place.{is_same}
+use Rattle.disk_theory.specs.State.{Names, with_name}
 use Rattle.disk_model.specs.MemSlots.{Slots, slot_at, now_of, synced_of, names_in, synced_names_in, HasSlot, SameNames, IsNamedBy, AreSettled}
 use Rattle.disk_model.specs.declared.mem_slots.Slot.{Slot}
-use Rattle.disk_model.specs.declared.place.NameStep.{NameStep}
-use Rattle.disk_model.proofs.Places.{same_test, one_same, never}
+use Rattle.disk_theory.specs.declared.place.NameStep.{NameStep}
+use Rattle.disk_theory.proofs.Places.{same_test, one_same, never}
 
 -- equal at each place
 pub names_from : (f g : Names) → ((p : Place) → f p ≡ g p) → f ≡ g
@@ -71,10 +71,6 @@ nothing_settled m n p same none =
     ap synced_names_in same
     ∙ sym (with_name-same p (synced_names_in m))
     ∙ ap (λ file. with_name p file (synced_names_in m)) (ap synced_of none ∙ sym (ap now_of none))
-
-pub none_there : {X : Type 0} (o : Option X) → is_some o ≡ false → o ≡ None
-none_there None is = refl
-none_there (Some x) is = cc
 
 pub none_stands : (file : Option ℕ) → file ≡ None → IsSome file → ⊥
 none_stands None is some = cc

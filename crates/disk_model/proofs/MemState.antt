@@ -4,19 +4,19 @@ use Rattle.std.specs.Vec.{with_items}
 use Rattle.std.proofs.lemmas.List.{reverse-append, map_push, map-set, length-map, length-set, length_push, drop_all, take_all, append-nil, get_or-map}
 use Rattle.std.proofs.lemmas.Bool.Decides.{nat_tests}
 use Rattle.std.proofs.lemmas.Grind.{common_steps}
-use Rattle.disk_model.specs.declared.place.Place.{Place}
-use Rattle.disk_model.specs.declared.place.NameStep.{NameStep}
-use Rattle.disk_model.specs.declared.place.NameStep.TheVariants.{Create, Rename, Remove}
-use Rattle.disk_model.specs.Place.{is_same}
-use Rattle.disk_model.specs.State.{Names, File, State, with_name, named, names_after, empty_file, with_file, add_write, added, settled, Write}
-use Rattle.disk_model.specs.Sound.{IsSound, names_before}
+use Rattle.disk_theory.specs.declared.place.Place.{Place}
+use Rattle.disk_theory.specs.declared.place.NameStep.{NameStep}
+use Rattle.disk_theory.specs.declared.place.NameStep.TheVariants.{Create, Rename, Remove}
+use Rattle.disk_theory.specs.Place.{is_same}
+use Rattle.disk_theory.specs.State.{Names, File, State, with_name, named, names_after, empty_file, with_file, add_write, added, settled, Write}
+use Rattle.disk_theory.specs.Sound.{IsSound, names_before}
 use Rattle.disk_model.specs.MemFile.{file_of, nth_file, at_rest}
 use Rattle.disk_model.specs.MemSlots.{Slots, names_in, synced_names_in, SameNames, NamesPlace, IsNamedBy}
 use Rattle.disk_model.specs.MemState.{state_from, stepped}
-use Rattle.disk_model.specs.MemTable.{written_to}
+use Rattle.disk_theory.specs.State.{written_to}
 use Rattle.disk_model.specs.declared.mem_file.MemFile.{MemFile}
-use Rattle.disk_model.proofs.Places.{one_same}
-use Rattle.disk_model.proofs.Sound.{names_settled}
+use Rattle.disk_theory.proofs.Places.{one_same}
+use Rattle.disk_theory.proofs.Sound.{names_settled}
 
 -- The files.
 

@@ -1,14 +1,14 @@
 -- A write to a file of a table, whether it was done or not.
 use Rattle.std.proofs.Common.{◌≡◌, ℕ, ◌<◌, ◌≤◌, List, length, get_or, set, Result, Ok, Err, OnOk, OnErr, sym, ◌∙◌, ap, subst}
-use Rattle.disk_model.specs.declared.place.NameStep.{NameStep}
-use Rattle.disk_model.specs.State.{Write, content, add_write}
-use Rattle.disk_model.specs.Sound.{IsSound, room}
+use Rattle.disk_theory.specs.declared.place.NameStep.{NameStep}
+use Rattle.disk_theory.specs.State.{Write, content, add_write}
+use Rattle.disk_theory.specs.Sound.{IsSound, room}
 use Rattle.disk_model.specs.MemFile.{file_of, nth_file}
 use Rattle.disk_model.specs.MemSlots.{Slots}
 use Rattle.disk_model.specs.MemState.{state_from}
-use Rattle.disk_model.specs.MemTable.{written_to}
+use Rattle.disk_theory.specs.State.{written_to}
 use Rattle.disk_model.specs.declared.mem_file.MemFile.{MemFile}
-use Rattle.disk_model.proofs.Sound.{sound_written}
+use Rattle.disk_theory.proofs.Sound.{sound_written}
 use Rattle.disk_model.proofs.MemState.{here_file, wrote_state, unwritten_state}
 
 module _ {E : Type 0} (slots : Slots) (steps : List NameStep) (fs : List MemFile) (i : ℕ) (old f : MemFile) (w : Write) (lt : i < length fs) (was : old ≡ get_or fs i old) where

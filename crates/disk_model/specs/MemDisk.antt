@@ -1,11 +1,11 @@
 -- A disk in memory: its state, its counts and its plan of faults.
 use Rattle.std.specs.Prelude.{◌≡◌, ◌⊎◌, ℕ, ◌<◌, Bool, Err, List, Ok, Result, Any, if◌then◌else◌}
 use Rattle.cache_base.specs.Causes.{one_more}
-use Rattle.disk_model.specs.State.{State}
-use Rattle.disk_model.specs.Calls.{Counts}
+use Rattle.disk_theory.specs.State.{State}
+use Rattle.disk_theory.specs.Calls.{Counts}
 use Rattle.disk_model.specs.MemTable.{state_of}
-use Rattle.disk_model.specs.declared.disk.DiskFault.{DiskFault}
-use Rattle.disk_model.specs.declared.disk.DiskFault.TheVariants.{Failed}
+use Rattle.disk_theory.specs.declared.disk.DiskFault.{DiskFault}
+use Rattle.disk_theory.specs.declared.disk.DiskFault.TheVariants.{Failed}
 use Rattle.disk_model.specs.declared.mem_disk.MemDisk.{MemDisk}
 
 -- the state of a disk in memory, which is that of its table

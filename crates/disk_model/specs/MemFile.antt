@@ -1,6 +1,6 @@
 -- Files in memory, as the definitions see them.
 use Rattle.std.specs.Prelude.{ℕ, List, [], map, get_or}
-use Rattle.disk_model.specs.State.{File, empty_file, content}
+use Rattle.disk_theory.specs.State.{File, empty_file, content}
 use Rattle.disk_model.specs.MemWrite.{history, synced_in}
 use Rattle.disk_model.specs.declared.mem_file.MemFile.{MemFile}
 

@@ -1,8 +1,8 @@
 -- Contents that are laid over names, one after another.
 use Rattle.std.specs.Prelude.{◌≡◌, ℕ, ◌<◌, List, length, Option, Some, None, IsSome}
-use Rattle.disk_model.specs.declared.place.Place.{Place}
-use Rattle.disk_model.specs.State.{File, Names}
-use Rattle.disk_model.specs.Image.{MayStand}
+use Rattle.disk_theory.specs.declared.place.Place.{Place}
+use Rattle.disk_theory.specs.State.{File, Names}
+use Rattle.disk_theory.specs.Image.{MayStand}
 use Rattle.disk_model.specs.MemFile.{nth_file}
 use Rattle.disk_model.specs.MemImage.{Given, image_of}
 use Rattle.disk_model.specs.declared.mem_file.MemFile.{MemFile}

@@ -17,12 +17,12 @@ use Rattle.std.proofs.lemmas.Map.Views.{tells_apart, Contains-from_any, list_any
 use Rattle.cache_base.specs.Bytes.{AreBytes}
 use Rattle.cache_base.specs.Names.{name_cmp}
 use Rattle.cache_base.specs.declared.name.Name.{Name}
-use Rattle.disk_model.specs.declared.place.Place.{Place}
-use Rattle.disk_model.specs.declared.place.Place.TheVariants.{Entry, Doomed, Index, Log, Tmp, Clear}
-use Rattle.disk_model.specs.declared.place.NameStep.{NameStep}
-use Rattle.disk_model.specs.contracts.place.PlaceOrd.TheImpl as place_ord
-use Rattle.disk_model.specs.State.{File, content, content_of, names_now, names_after}
-use Rattle.disk_model.specs.Listing.{IsFinite}
+use Rattle.disk_theory.specs.declared.place.Place.{Place}
+use Rattle.disk_theory.specs.declared.place.Place.TheVariants.{Entry, Doomed, Index, Log, Tmp, Clear}
+use Rattle.disk_theory.specs.declared.place.NameStep.{NameStep}
+use Rattle.disk_theory.specs.contracts.place.PlaceOrd.TheImpl as place_ord
+use Rattle.disk_theory.specs.State.{File, content, content_of, names_now, names_after}
+use Rattle.disk_theory.specs.Listing.{IsFinite}
 use Rattle.disk_model.specs.MemFile.{nth_file}
 use Rattle.disk_model.specs.MemSlots.{Slots, now_of, names_in, synced_names_in}
 use Rattle.disk_model.specs.MemState.{state_from}

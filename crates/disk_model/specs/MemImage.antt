@@ -1,9 +1,9 @@
 -- Contents that are handed over as a list, as an image.
 use Rattle.std.specs.Prelude.{◌≡◌, ℕ, ◌<◌, List, [], ◌∷◌, length, slice_index_or, Some, None, if◌then◌else◌}
-use Rattle.disk_model.specs.declared.place.Place.{Place}
-use Rattle.disk_model.specs.Place.{is_same}
-use Rattle.disk_model.specs.State.{State}
-use Rattle.disk_model.specs.Image.{Files, IsImageAfter}
+use Rattle.disk_theory.specs.declared.place.Place.{Place}
+use Rattle.disk_theory.specs.Place.{is_same}
+use Rattle.disk_theory.specs.State.{State}
+use Rattle.disk_theory.specs.Image.{Files, IsImageAfter}
 
 -- places, and the content of each
 abbrev pub Given : Type 0

@@ -1,8 +1,8 @@
 -- The names and files of a disk in memory as a state.
 use Rattle.std.specs.Prelude.{◌≡◌, ◌==◌, ℕ, Bool, false, List, ◌∷◌, reverse, length}
 use Rattle.std.specs.List.{list_any}
-use Rattle.disk_model.specs.declared.place.NameStep.{NameStep}
-use Rattle.disk_model.specs.State.{State}
+use Rattle.disk_theory.specs.declared.place.NameStep.{NameStep}
+use Rattle.disk_theory.specs.State.{State}
 use Rattle.disk_model.specs.MemFile.{nth_file}
 use Rattle.disk_model.specs.MemSlots.{Slots, synced_names_in}
 use Rattle.disk_model.specs.declared.mem_file.MemFile.{MemFile}

@@ -1,8 +1,8 @@
 -- Writes in memory, as the definitions see them.
 use Rattle.std.specs.Prelude.{◌⊎◌, ℕ, ◌+◌, ◌-◌, ◌^◌, ◌≤◌, ◌<◌, List, [], ◌∷◌, map, reverse, length, min, Option, Some, None, Vec}
 use Rattle.std.specs.declared.alloc.Global.{Global}
-use Rattle.disk_model.specs.State.{Write, File}
-use Rattle.disk_model.specs.State.Write.{End, Patch}
+use Rattle.disk_theory.specs.State.{Write, File}
+use Rattle.disk_theory.specs.State.Write.{End, Patch}
 use Rattle.disk_model.specs.declared.mem_file.MemWrite.{MemWrite}
 use Rattle.disk_model.specs.declared.mem_file.MemWrite.TheVariants.{AtEnd, Inside}
 

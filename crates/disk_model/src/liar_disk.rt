@@ -2,13 +2,13 @@
 
 ghost use Rattle.std.specs.Prelude.{[], ◌∷◌, ◌++◌, ◌+◌, ◌/◌, ◌≡◌, Some, drop, false, length, replicate, IfErr, IsOk, OnOk};
 ghost use Rattle.cache_base.specs.Names.{AreRising};
-ghost use Rattle.disk_model.specs.Calls.{no_counts};
-ghost use Rattle.disk_model.specs.Listing.{AreRisingNumbers};
-ghost use Rattle.disk_model.specs.Silent.{nothing, never, never_finite};
-ghost use Rattle.disk_model.specs.declared.disk.DiskFault.TheVariants.{Memory};
+ghost use Rattle.disk_theory.specs.Calls.{no_counts};
+ghost use Rattle.disk_theory.specs.Listing.{AreRisingNumbers};
+ghost use Rattle.disk_theory.specs.Silent.{nothing, never, never_finite};
+ghost use Rattle.disk_theory.specs.declared.disk.DiskFault.TheVariants.{Memory};
 
-use crate::{Disk, DiskFault, Place};
 use cache_base::{Name, Names, Numbers};
+use disk_theory::{Disk, DiskFault, Place};
 
 /// A disk whose answers have nothing to do with what was written: what stands in a folder that someone made to harm
 /// may be anything, and this may be all of it. It tells contracts nothing of what it holds, takes no memory, and

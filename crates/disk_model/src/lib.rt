@@ -1,9 +1,7 @@
-//! The disk as the cache sees it: names and contents at the last sync, the steps since, and what stands now; the
-//! trait whose calls are said over that state, and a disk in memory that keeps it.
+//! A disk in memory that keeps all that a crash may leave, and a disk that says of itself what is not so. The model
+//! that both follow, and the trait, are of `disk_theory`, and are named here, too.
 #![tactic(auto)]
 
-mod disk;
-mod laws;
 mod liar_disk;
 mod mem_disk;
 mod mem_file;
@@ -11,11 +9,8 @@ mod mem_image;
 mod mem_listing;
 mod mem_slots;
 mod mem_table;
-mod place;
 
-pub use disk::{Disk, DiskFault};
-pub use laws::{reads_as_image, unreached_is_kept};
+pub use disk_theory::{Disk, DiskFault, NameStep, Place, reads_as_image, unreached_is_kept};
 pub use liar_disk::LiarDisk;
 pub use mem_disk::MemDisk;
 pub use mem_image::ImageFault;
-pub use place::{NameStep, Place};

@@ -2,13 +2,13 @@
 
 ghost use Rattle.std.specs.Prelude.{◌≡◌, ◌≤◌, ◌-◌, ◌^◌, ◌↔◌, if◌then◌else◌, length, IfOk, OnOk, OnErr, IsTrue, IsErrOf, MatchBool};
 ghost use Rattle.cache_base.specs.Causes.{one_more, HasCause, Rose};
-ghost use Rattle.disk_model.specs.Calls.{counted_look, counted_read, no_counts};
-ghost use Rattle.disk_model.specs.declared.disk.DiskFault.TheVariants.{Failed};
+ghost use Rattle.disk_theory.specs.Calls.{counted_look, counted_read, no_counts};
+ghost use Rattle.disk_theory.specs.declared.disk.DiskFault.TheVariants.{Failed};
 
 use crate::mem_image::{ImageFault, image};
 use crate::mem_table::Table;
-use crate::{DiskFault, Place};
 use cache_base::{Bytes, NoMemory, Numbers};
+use disk_theory::{DiskFault, Place};
 use std::alloc::Global;
 
 mod calls;
@@ -34,11 +34,11 @@ pub struct MemDisk {
 
 impl MemDisk {
     ghost use Rattle.std.specs.Prelude.{None, [], MatchOption};
-    ghost use Rattle.disk_model.specs.State.{standing, synced_at};
-    ghost use Rattle.disk_model.specs.Sound.{IsQuiet};
-    ghost use Rattle.disk_model.specs.Standing.{PutsContent};
+    ghost use Rattle.disk_theory.specs.State.{standing, synced_at};
+    ghost use Rattle.disk_theory.specs.Sound.{IsQuiet};
+    ghost use Rattle.disk_theory.specs.Standing.{PutsContent};
     ghost use Rattle.disk_model.specs.MemImage.{image_of, MayLeave};
-    ghost use Rattle.disk_model.specs.declared.place.Place.{Place as Where};
+    ghost use Rattle.disk_theory.specs.declared.place.Place.{Place as Where};
     ghost use Rattle.disk_model.specs.MemDisk.{state_in, counts_in, faults_in, stop_in, planned_in, look_answer, FailsNext};
 
     /// A disk on which nothing stands, with no faults planned.

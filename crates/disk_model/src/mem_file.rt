@@ -3,8 +3,8 @@
 ghost use Rattle.std.specs.Prelude.{◌≡◌, ◌≤◌, ◌<◌, ◌+◌, ◌^◌, ◌↔◌, ◌++◌, IsTrue, IsSome, OnErr, IfOk, OnOk, [], length as len_of, take, drop, slice_index, vec_len, vec_capacity};
 ghost use Rattle.std.proofs.Props.{props};
 ghost use Rattle.cache_base.specs.Bytes.{AreBytes};
-ghost use Rattle.disk_model.specs.State.{content};
-ghost use Rattle.disk_model.specs.Image.{shortest as shortest_of, longest as longest_of};
+ghost use Rattle.disk_theory.specs.State.{content};
+ghost use Rattle.disk_theory.specs.Image.{shortest as shortest_of, longest as longest_of};
 ghost use Rattle.disk_model.specs.MemWrite.{history, newest_first, write_of, synced_in, least_end, Patches, IsPatched};
 
 use cache_base::bytes_fit;
@@ -63,9 +63,9 @@ fn overwrite(buf: &mut [u8], from: usize, bytes: &[u8])
 }
 
 impl MemFile {
-    ghost use Rattle.disk_model.specs.State.{empty_file, add_write};
-    ghost use Rattle.disk_model.specs.State.Write.{End, Patch};
-    ghost use Rattle.disk_model.specs.Image.{IsReached, MayHold};
+    ghost use Rattle.disk_theory.specs.State.{empty_file, add_write};
+    ghost use Rattle.disk_theory.specs.State.Write.{End, Patch};
+    ghost use Rattle.disk_theory.specs.Image.{IsReached, MayHold};
     ghost use Rattle.disk_model.specs.MemFile.{file_of, at_rest};
 
     /// An empty file, with nothing pending.

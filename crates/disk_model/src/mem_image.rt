@@ -1,22 +1,22 @@
 // The disks that a crash may leave.
 
 ghost use Rattle.std.specs.Prelude.{◌≡◌, ◌≤◌, ◌-◌, ◌↔◌, length, reverse, IfOk, OnOk, IsTrue, MatchBool, Some, Err};
-ghost use Rattle.disk_model.specs.State.{names_after, standing};
-ghost use Rattle.disk_model.specs.Sound.{IsQuiet, names_before};
-ghost use Rattle.disk_model.specs.Image.{MayStand};
+ghost use Rattle.disk_theory.specs.State.{names_after, standing};
+ghost use Rattle.disk_theory.specs.Sound.{IsQuiet, names_before};
+ghost use Rattle.disk_theory.specs.Image.{MayStand};
 ghost use Rattle.disk_model.specs.MemFile.{nth_file};
 ghost use Rattle.disk_model.specs.MemSlots.{names_in, synced_names_in};
 ghost use Rattle.disk_model.specs.MemTable.{state_of};
 ghost use Rattle.disk_model.specs.MemImage.{image_of, ArePlacesApart, MayLeave};
 ghost use Rattle.disk_model.specs.MemFill.{IsAnywhere, IsNowhere, AreMade, MayStandAll, AreTaken};
-ghost use Rattle.disk_model.specs.declared.place.Place.{Place as Where};
+ghost use Rattle.disk_theory.specs.declared.place.Place.{Place as Where};
 ghost use Rattle.disk_model.specs.declared.mem_image.ImageFault.TheVariants.{Memory, NotAnImage};
 
 use crate::mem_file::MemFile;
 use crate::mem_slots::{Slot, file_at, make_slot, make_slots, set_file, synced_at, take_step};
 use crate::mem_table::Table;
-use crate::{NameStep, Place};
 use cache_base::{Bytes, NoMemory};
+use disk_theory::{NameStep, Place};
 use std::alloc::{AllocError, Global};
 use std::collections::BTreeMap;
 

@@ -3,13 +3,13 @@
 ghost use Rattle.std.specs.Prelude.{◌↔◌, ℕ, IfOk, IsSome, Contains};
 ghost use Rattle.cache_base.specs.Names.{AreRising};
 ghost use Rattle.cache_base.specs.declared.name.Name.{Name as NameValue};
-ghost use Rattle.disk_model.specs.declared.place.Place.TheVariants.{Entry, Doomed};
-ghost use Rattle.disk_model.specs.Listing.{AreRisingNumbers};
+ghost use Rattle.disk_theory.specs.declared.place.Place.TheVariants.{Entry, Doomed};
+ghost use Rattle.disk_theory.specs.Listing.{AreRisingNumbers};
 ghost use Rattle.disk_model.specs.MemSlots.{names_in};
 
-use crate::Place;
 use crate::mem_slots::Slot;
 use cache_base::{Names, NoMemory, Numbers};
+use disk_theory::Place;
 use std::alloc::Global;
 use std::collections::BTreeMap;
 

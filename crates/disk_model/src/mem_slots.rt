@@ -1,11 +1,11 @@
 // Which files stand at the places of a disk in memory.
 
 ghost use Rattle.std.specs.Prelude.{◌≡◌, ◌⊎◌, OnOk, Option, Some};
-ghost use Rattle.disk_model.specs.State.{with_name, named};
+ghost use Rattle.disk_theory.specs.State.{with_name, named};
 ghost use Rattle.disk_model.specs.MemSlots.{names_in, synced_names_in, HasSlot, HasSlots, SameNames, AreSettled, IsNamedBy};
-ghost use Rattle.disk_model.specs.declared.place.Place.{Place as Where};
+ghost use Rattle.disk_theory.specs.declared.place.Place.{Place as Where};
 
-use crate::{NameStep, Place};
+use disk_theory::{NameStep, Place};
 use std::alloc::AllocError;
 use std::collections::BTreeMap;
 

@@ -1,8 +1,8 @@
 // The names and files of a disk in memory.
 
 ghost use Rattle.std.specs.Prelude.{◌≡◌, ◌≤◌, ◌<◌, ◌+◌, ℕ, OnOk, OnErr, IfOk, IfSome, length, reverse, None, Some};
-ghost use Rattle.disk_model.specs.State.{names_after, with_file};
-ghost use Rattle.disk_model.specs.Sound.{IsSound};
+ghost use Rattle.disk_theory.specs.State.{names_after, with_file};
+ghost use Rattle.disk_theory.specs.Sound.{IsSound};
 ghost use Rattle.disk_model.specs.MemFile.{nth_file, at_rest};
 ghost use Rattle.disk_model.specs.MemSlots.{names_in, synced_names_in};
 ghost use Rattle.disk_model.specs.MemState.{state_from, stepped, ArePending};
@@ -12,8 +12,8 @@ use crate::mem_listing::{doomed_numbers, entry_names};
 use crate::mem_slots::{
     Slot, file_at, make_slot, make_slots, put_file, settle_names, synced_at, take_step,
 };
-use crate::{NameStep, Place};
 use cache_base::{Names, NoMemory, Numbers};
+use disk_theory::{NameStep, Place};
 use std::alloc::{AllocError, Global};
 use std::collections::BTreeMap;
 
@@ -54,14 +54,14 @@ fn settle_files(files: &mut [MemFile], written: &[usize])
 }
 
 impl Table {
-    ghost use Rattle.disk_model.specs.State.{names_now, content, standing, created, renamed, removed, settled};
+    ghost use Rattle.disk_theory.specs.State.{names_now, content, standing, created, renamed, removed, settled, written_to};
     ghost use Rattle.cache_base.specs.Names.{AreRising};
-    ghost use Rattle.disk_model.specs.Listing.{AreEntries, AreDoomed, AreRisingNumbers};
-    ghost use Rattle.disk_model.specs.Standing.{PutsContent};
-    ghost use Rattle.disk_model.specs.State.Write.{End, Patch};
-    ghost use Rattle.disk_model.specs.Sound.{IsQuiet};
-    ghost use Rattle.disk_model.specs.declared.place.Place.{Place as Where};
-    ghost use Rattle.disk_model.specs.MemTable.{state_of, written_to};
+    ghost use Rattle.disk_theory.specs.Listing.{AreEntries, AreDoomed, AreRisingNumbers};
+    ghost use Rattle.disk_theory.specs.Standing.{PutsContent};
+    ghost use Rattle.disk_theory.specs.State.Write.{End, Patch};
+    ghost use Rattle.disk_theory.specs.Sound.{IsQuiet};
+    ghost use Rattle.disk_theory.specs.declared.place.Place.{Place as Where};
+    ghost use Rattle.disk_model.specs.MemTable.{state_of};
 
     /// A table in which no file stands anywhere, with nothing pending.
     pub fn new(alloc: Global) -> Table

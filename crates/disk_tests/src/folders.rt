@@ -6,7 +6,7 @@ mod files;
 mod names;
 
 use cache_base::Name;
-use disk_model::{Disk, DiskFault, Place};
+use disk_theory::{Disk, DiskFault, Place};
 use real_disk::RealDisk;
 use std::alloc::AllocError;
 use std::fs;

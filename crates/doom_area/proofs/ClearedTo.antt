@@ -4,15 +4,15 @@ use Rattle.std.proofs.lemmas.Bool.{cases_eq}
 use Rattle.std.proofs.lemmas.List.Elements.{Contains-append_right}
 use Rattle.std.proofs.lemmas.Map.Keys.{below_from_sorted, sorted_tail}
 use Rattle.std.specs.Ordering.{nat_cmp}
-use Rattle.disk_model.specs.declared.place.Place.{Place}
-use Rattle.disk_model.specs.declared.place.Place.TheVariants.{Doomed}
-use Rattle.disk_model.specs.State.{State, standing, removed}
-use Rattle.disk_model.specs.Listing.{AreDoomed, AreRisingNumbers}
-use Rattle.disk_model.specs.Standing.{PutsContent}
-use Rattle.disk_model.proofs.Standing.{removed_puts}
-use Rattle.disk_model.specs.Calls.{if_done}
-use Rattle.disk_model.specs.declared.disk.DiskFault.{DiskFault}
-use Rattle.disk_model.specs.declared.disk.DiskFault.TheVariants.{Failed, Memory}
+use Rattle.disk_theory.specs.declared.place.Place.{Place}
+use Rattle.disk_theory.specs.declared.place.Place.TheVariants.{Doomed}
+use Rattle.disk_theory.specs.State.{State, standing, removed}
+use Rattle.disk_theory.specs.Listing.{AreDoomed, AreRisingNumbers}
+use Rattle.disk_theory.specs.Standing.{PutsContent}
+use Rattle.disk_theory.proofs.Standing.{removed_puts}
+use Rattle.disk_theory.specs.Calls.{if_done}
+use Rattle.disk_theory.specs.declared.disk.DiskFault.{DiskFault}
+use Rattle.disk_theory.specs.declared.disk.DiskFault.TheVariants.{Failed, Memory}
 use Rattle.doom_area.specs.DoomArea.{RemovesDoomed, removed_each}
 
 -- of the doomed files those of these numbers are left, the others were removed, and nothing else was done

@@ -1,8 +1,8 @@
 -- The numbers of doomed entries, and what clearing their folder changes.
 use Rattle.std.specs.Prelude.{◌≡◌, ◌≢◌, ◌<◌, ℕ, List, [], ◌∷◌, Contains, None}
-use Rattle.disk_model.specs.declared.place.Place.{Place}
-use Rattle.disk_model.specs.declared.place.Place.TheVariants.{Doomed}
-use Rattle.disk_model.specs.State.{State, standing, removed}
+use Rattle.disk_theory.specs.declared.place.Place.{Place}
+use Rattle.disk_theory.specs.declared.place.Place.TheVariants.{Doomed}
+use Rattle.disk_theory.specs.State.{State, standing, removed}
 
 -- the number is not in the list, and every lesser one is
 pub record IsLeastFree (numbers : List ℕ) (n : ℕ) : Type 0 where

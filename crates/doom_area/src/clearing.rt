@@ -1,13 +1,13 @@
 //! The folder of doomed files is cleared, as when the cache is opened and no entry is in use.
 
 ghost use Rattle.std.specs.Prelude.{OnOk, IsTrue};
-ghost use Rattle.disk_model.specs.Account.{Accounts, LooksAtNoEntry, ending, no_sync};
-ghost use Rattle.disk_model.specs.Listing.{AreDoomed, AreRisingNumbers};
-ghost use Rattle.disk_model.specs.Told.{Told};
+ghost use Rattle.disk_theory.specs.Account.{Accounts, LooksAtNoEntry, ending, no_sync};
+ghost use Rattle.disk_theory.specs.Listing.{AreDoomed, AreRisingNumbers};
+ghost use Rattle.disk_theory.specs.Told.{Told};
 ghost use Rattle.doom_area.specs.DoomArea.{RemovesDoomed, IsCleared};
 
 use cache_base::Numbers;
-use disk_model::{Disk, DiskFault, Place};
+use disk_theory::{Disk, DiskFault, Place};
 use std::alloc::Global;
 
 // Removes the doomed files, whose numbers these are.

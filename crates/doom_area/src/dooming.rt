@@ -2,15 +2,15 @@
 
 ghost use Rattle.std.specs.Prelude.{◌≡◌, ◌<◌, ℕ, length, IfOk, IsTrue, IsSome};
 ghost use Rattle.cache_base.specs.declared.limits.TheConstants.{SLOTS};
-ghost use Rattle.disk_model.specs.Account.{Accounts, FailsInChange, ending, no_sync};
-ghost use Rattle.disk_model.specs.State.{standing, renamed, removed};
-ghost use Rattle.disk_model.specs.Calls.{counted_change, if_done};
-ghost use Rattle.disk_model.specs.declared.place.Place.TheVariants.{Entry, Doomed};
-ghost use Rattle.disk_model.specs.Told.{Told};
+ghost use Rattle.disk_theory.specs.Account.{Accounts, FailsInChange, ending, no_sync};
+ghost use Rattle.disk_theory.specs.State.{standing, renamed, removed};
+ghost use Rattle.disk_theory.specs.Calls.{counted_change, if_done};
+ghost use Rattle.disk_theory.specs.declared.place.Place.TheVariants.{Entry, Doomed};
+ghost use Rattle.disk_theory.specs.Told.{Told};
 ghost use Rattle.doom_area.specs.DoomArea.{IsLeastFree};
 
 use cache_base::Name;
-use disk_model::{Disk, DiskFault, Place};
+use disk_theory::{Disk, DiskFault, Place};
 
 /// The least number that is not in use. It takes no memory.
 pub fn least(in_use: &[u32]) -> u32

@@ -8,8 +8,8 @@ use Rattle.std.proofs.lemmas.List.FromFn.{fill_by_all, get_or-map-range_with_len
 use Rattle.cache_base.specs.Limits.{chunk_size}
 use Rattle.chunk_store.specs.Chunks.{chunk}
 use Rattle.chunk_store.specs.Stored.{chunk_write, stop_tail, unfinished_file, whole_len}
-use Rattle.disk_model.specs.Calls.{MayWriteAt}
-use Rattle.disk_model.specs.State.{written}
+use Rattle.disk_theory.specs.Calls.{MayWriteAt}
+use Rattle.disk_theory.specs.State.{written}
 use Rattle.entry_file.specs.NewEntry.{Growing, HasBody, IsItsFile, grown_len}
 use Rattle.jenkins_hash.specs.Hash.{hash16_of}
 

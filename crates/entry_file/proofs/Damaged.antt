@@ -6,8 +6,8 @@ use Rattle.cache_base.specs.Limits.{chunks}
 use Rattle.chunk_store.specs.Chunks.{chunk, damage_at, damages}
 use Rattle.chunk_store.specs.declared.damage.Damage.{Damage}
 use Rattle.entry_file.specs.Damages.{HasMeta, first, first_damage}
-use Rattle.disk_model.specs.State.{State, standing}
-use Rattle.disk_model.specs.declared.place.Place.{Place}
+use Rattle.disk_theory.specs.State.{State, standing}
+use Rattle.disk_theory.specs.declared.place.Place.{Place}
 use Rattle.entry_file.specs.Held.{IsLastOf}
 use Rattle.entry_metadata.specs.Metadata.{Meta}
 use Rattle.jenkins_hash.specs.Hash.{hash16_of}

@@ -10,11 +10,11 @@ use Rattle.cache_base.specs.Limits.{chunks}
 use Rattle.cache_base.specs.declared.limits.TheConstants.{BLOCK_MAX, BODY_MAX}
 use Rattle.chunk_store.specs.Chunks.{chunk, chunk_hashes}
 use Rattle.chunk_store.specs.Stored.{unfinished_file, whole_len}
-use Rattle.disk_model.specs.declared.disk.DiskFault.{DiskFault}
-use Rattle.disk_model.specs.declared.place.Place.{Place}
-use Rattle.disk_model.specs.Calls.{if_done}
-use Rattle.disk_model.specs.State.{State, Write, written, wrote}
-use Rattle.disk_model.specs.State.Write.{End}
+use Rattle.disk_theory.specs.declared.disk.DiskFault.{DiskFault}
+use Rattle.disk_theory.specs.declared.place.Place.{Place}
+use Rattle.disk_theory.specs.Calls.{if_done}
+use Rattle.disk_theory.specs.State.{State, Write, written, wrote}
+use Rattle.disk_theory.specs.State.Write.{End}
 use Rattle.entry_key.specs.Walk.{read_key, reads}
 use Rattle.entry_metadata.specs.Metadata.{Meta, block_bytes, block_length}
 use Rattle.entry_metadata.proofs.PrintedBlock.{is_meta}

@@ -2,17 +2,17 @@
 use Rattle.std.proofs.Common.{◌≡◌, ◌≤◌, ℕ, List, [], ◌∷◌, ◌++◌, length, length-append, take, append_assoc, Option, None, Some, Result, Ok, Err, refl, sym, ap, subst, ◌∙◌, arith}
 use Rattle.std.proofs.lemmas.List.{length-take-le}
 use Rattle.cache_base.specs.Bytes.{AreBytes, be32}
-use Rattle.disk_model.specs.Calls.{if_done}
-use Rattle.disk_model.specs.Prefixes.{KeepsPrefix}
-use Rattle.disk_model.specs.Sound.{IsSound}
-use Rattle.disk_model.specs.State.{State, Write, standing, written, wrote}
-use Rattle.disk_model.specs.State.Write.{End}
-use Rattle.disk_model.specs.Writes.{WritesAt}
-use Rattle.disk_model.specs.declared.disk.DiskFault.{DiskFault}
-use Rattle.disk_model.specs.declared.disk.DiskFault.TheVariants.{Failed, Memory}
-use Rattle.disk_model.specs.declared.place.Place.{Place}
-use Rattle.disk_model.proofs.Prefixes.{end_keeps_prefix, unreached_is_kept}
-use Rattle.disk_model.proofs.Standing.{wrote_puts}
+use Rattle.disk_theory.specs.Calls.{if_done}
+use Rattle.disk_theory.specs.Prefixes.{KeepsPrefix}
+use Rattle.disk_theory.specs.Sound.{IsSound}
+use Rattle.disk_theory.specs.State.{State, Write, standing, written, wrote}
+use Rattle.disk_theory.specs.State.Write.{End}
+use Rattle.disk_theory.specs.Writes.{WritesAt}
+use Rattle.disk_theory.specs.declared.disk.DiskFault.{DiskFault}
+use Rattle.disk_theory.specs.declared.disk.DiskFault.TheVariants.{Failed, Memory}
+use Rattle.disk_theory.specs.declared.place.Place.{Place}
+use Rattle.disk_theory.proofs.Prefixes.{end_keeps_prefix, unreached_is_kept}
+use Rattle.disk_theory.proofs.Standing.{wrote_puts}
 use Rattle.entry_metadata.specs.Metadata.{Meta, IsMeta, block_bytes}
 use Rattle.entry_file.specs.LongerBody.{StoresShorter, len_before, lengthened, longer_write}
 use Rattle.entry_file.specs.Version.{version_meta, IsVersion, file_of}

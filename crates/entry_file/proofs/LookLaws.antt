@@ -1,12 +1,12 @@
 -- Looks at a disk, one after another.
 use Rattle.std.proofs.Common.{ℕ, ◌+◌, ◌≡◌, ◌≤◌, ◌∙◌, Err, IsErrAnd, Ok, Result, arith, refl, subst, sym}
 use Rattle.cache_base.specs.Causes.{HasCause}
-use Rattle.disk_model.specs.Account.{Ending, Looks, ending, fault_ending}
-use Rattle.disk_model.specs.Calls.{Counts, counted_read}
-use Rattle.disk_model.specs.declared.disk.Disk.{Ghosts}
-use Rattle.disk_model.specs.declared.disk.DiskFault.{DiskFault}
-use Rattle.disk_model.specs.declared.place.Place.{Place}
-use Rattle.disk_model.specs.declared.place.Place.TheVariants.{Clear, Doomed, Entry, Index, Log, Tmp}
+use Rattle.disk_theory.specs.Account.{Ending, Looks, ending, fault_ending}
+use Rattle.disk_theory.specs.Calls.{Counts, counted_read}
+use Rattle.disk_theory.specs.declared.disk.Disk.{Ghosts}
+use Rattle.disk_theory.specs.declared.disk.DiskFault.{DiskFault}
+use Rattle.disk_theory.specs.declared.place.Place.{Place}
+use Rattle.disk_theory.specs.declared.place.Place.TheVariants.{Clear, Doomed, Entry, Index, Log, Tmp}
 use Rattle.entry_file.specs.Looks.{LooksAtMost}
 
 -- after some looks, some more

@@ -1,12 +1,12 @@
 -- What one chunk more does to an entry and to its file.
 use Rattle.std.proofs.Common.{◌≡◌, ℕ, ◌+◌, List, [], ◌∷◌, ◌++◌, length, Some, Result, Ok, Err, OnOk, sym, ap, subst, ◌∙◌}
 use Rattle.chunk_store.specs.Stored.{chunk_write, unfinished_file}
-use Rattle.disk_model.specs.declared.disk.DiskFault.{DiskFault}
-use Rattle.disk_model.specs.declared.place.Place.{Place}
-use Rattle.disk_model.specs.Calls.{if_done}
-use Rattle.disk_model.specs.Sound.{IsSound}
-use Rattle.disk_model.specs.State.{State, standing, written, wrote}
-use Rattle.disk_model.proofs.Standing.{wrote_puts}
+use Rattle.disk_theory.specs.declared.disk.DiskFault.{DiskFault}
+use Rattle.disk_theory.specs.declared.place.Place.{Place}
+use Rattle.disk_theory.specs.Calls.{if_done}
+use Rattle.disk_theory.specs.Sound.{IsSound}
+use Rattle.disk_theory.specs.State.{State, standing, written, wrote}
+use Rattle.disk_theory.proofs.Standing.{wrote_puts}
 use Rattle.entry_file.specs.NewEntry.{Growing, HasBody}
 use Rattle.entry_file.proofs.Bodies.{chunk_written, has_chunk}
 use Rattle.jenkins_hash.specs.Hash.{hash16_of}

@@ -6,9 +6,9 @@ use Rattle.std.specs.Str.{bytes_eq}
 use Rattle.cache_base.specs.Bytes.{AreBytes}
 use Rattle.cache_base.specs.Limits.{chunks}
 use Rattle.cache_base.specs.declared.limits.TheConstants.{BLOCK_MAX}
-use Rattle.disk_model.specs.State.{State, standing}
-use Rattle.disk_model.specs.declared.disk.DiskFault.{DiskFault}
-use Rattle.disk_model.specs.declared.place.Place.{Place}
+use Rattle.disk_theory.specs.State.{State, standing}
+use Rattle.disk_theory.specs.declared.disk.DiskFault.{DiskFault}
+use Rattle.disk_theory.specs.declared.place.Place.{Place}
 use Rattle.entry_name.specs.EntryName.{file_name}
 use Rattle.entry_metadata.specs.declared.fault.MetaFault.{MetaFault}
 use Rattle.entry_metadata.specs.declared.fault.MetaFault.TheVariants as faults

@@ -5,7 +5,7 @@ use Rattle.std.specs.Int.{w32, from_be_bytes}
 use Rattle.std.proofs.lemmas.List.{drop_at}
 use Rattle.cache_base.specs.Bytes.{be32_at}
 use Rattle.chunk_store.specs.Stored.{chunk_write, stop_tail, whole_len}
-use Rattle.disk_model.specs.State.{written}
+use Rattle.disk_theory.specs.State.{written}
 use Rattle.entry_file.specs.EntryFile.{file_fault, fits, offset_in}
 use Rattle.entry_file.specs.declared.entry_read.Unfit.{Unfit}
 use Rattle.entry_file.specs.declared.entry_read.Unfit.TheVariants as unfit

@@ -8,13 +8,13 @@ use Rattle.cache_base.specs.Limits.{chunks}
 use Rattle.chunk_store.specs.Chunks.{chunk, chunk_hashes, damages}
 use Rattle.chunk_store.specs.declared.damage.Damage.{Damage}
 use Rattle.chunk_store.proofs.ChunkLaws.{chunk_good}
-use Rattle.disk_model.specs.Calls.{if_done}
-use Rattle.disk_model.specs.Sound.{IsSound}
-use Rattle.disk_model.specs.State.{State, Write, standing, written, wrote}
-use Rattle.disk_model.specs.Writes.{WritesAt}
-use Rattle.disk_model.specs.declared.disk.DiskFault.{DiskFault}
-use Rattle.disk_model.specs.declared.place.Place.{Place}
-use Rattle.disk_model.proofs.Standing.{wrote_puts}
+use Rattle.disk_theory.specs.Calls.{if_done}
+use Rattle.disk_theory.specs.Sound.{IsSound}
+use Rattle.disk_theory.specs.State.{State, Write, standing, written, wrote}
+use Rattle.disk_theory.specs.Writes.{WritesAt}
+use Rattle.disk_theory.specs.declared.disk.DiskFault.{DiskFault}
+use Rattle.disk_theory.specs.declared.place.Place.{Place}
+use Rattle.disk_theory.proofs.Standing.{wrote_puts}
 use Rattle.entry_metadata.specs.Metadata.{Meta, IsMeta, block_as, block_bytes}
 use Rattle.entry_file.specs.Damages.{HasMeta, first, first_damage}
 use Rattle.entry_file.specs.Rewriting.{StoresBody, StoresWhole, RewritesToVersion, block_write, rewritten}

@@ -2,14 +2,14 @@
 use Rattle.std.proofs.Common.{◌≡◌, ◌⊎◌, inl, inr, ℕ, zero, suc, ◌+◌, ◌-◌, ◌<◌, ◌≤◌, List, [], ◌∷◌, ◌++◌, length, length-append, append_assoc, drop, Option, Some, Result, Ok, Err, refl, sym, ap, subst, ◌∙◌, arith}
 use Rattle.std.proofs.lemmas.Bool.{cases_lt}
 use Rattle.std.proofs.lemmas.List.{drop_at, drop-drop}
-use Rattle.disk_model.specs.declared.disk.DiskFault.{DiskFault}
-use Rattle.disk_model.specs.declared.disk.DiskFault.TheVariants.{Failed, Memory}
-use Rattle.disk_model.specs.declared.place.Place.{Place}
-use Rattle.disk_model.specs.Calls.{if_done}
-use Rattle.disk_model.specs.Image.{moment}
-use Rattle.disk_model.specs.State.{File, State, Write, add_write, content, content_after, content_of, names_after, standing, with_file, write_to, written, wrote}
-use Rattle.disk_model.specs.Writes.{WritesAt, WritesTo}
-use Rattle.disk_model.proofs.Files.{with_file-apart, with_file-same}
+use Rattle.disk_theory.specs.declared.disk.DiskFault.{DiskFault}
+use Rattle.disk_theory.specs.declared.disk.DiskFault.TheVariants.{Failed, Memory}
+use Rattle.disk_theory.specs.declared.place.Place.{Place}
+use Rattle.disk_theory.specs.Calls.{if_done}
+use Rattle.disk_theory.specs.Image.{moment}
+use Rattle.disk_theory.specs.State.{File, State, Write, add_write, content, content_after, content_of, names_after, standing, with_file, write_to, written, wrote}
+use Rattle.disk_theory.specs.Writes.{WritesAt, WritesTo}
+use Rattle.disk_theory.proofs.Files.{with_file-apart, with_file-same}
 
 -- nothing is added
 pub not_written : (place : Place) (P : List ℕ → Type 0) (s : State) → WritesAt place P s s

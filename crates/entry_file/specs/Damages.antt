@@ -3,7 +3,7 @@ use Rattle.std.specs.Prelude.{ℕ, ◌≡◌, ◌≤◌, ◌+◌, List, [], ◌�
 use Rattle.cache_base.specs.Limits.{chunks}
 use Rattle.chunk_store.specs.Chunks.{damages}
 use Rattle.chunk_store.specs.declared.damage.Damage.{Damage}
-use Rattle.disk_model.specs.declared.disk.DiskFault.{DiskFault}
+use Rattle.disk_theory.specs.declared.disk.DiskFault.{DiskFault}
 use Rattle.entry_metadata.specs.Metadata.{Meta}
 use Rattle.entry_file.specs.EntryFile.{file_meta}
 

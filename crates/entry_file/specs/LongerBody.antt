@@ -2,8 +2,8 @@
 use Rattle.std.specs.Prelude.{ℕ, ◌-◌, List, ◌++◌, length, take, Option}
 use Rattle.cache_base.specs.Bytes.{be32}
 use Rattle.chunk_store.specs.Prefixes.{HasChunksWith}
-use Rattle.disk_model.specs.State.{Write}
-use Rattle.disk_model.specs.State.Write.{End}
+use Rattle.disk_theory.specs.State.{Write}
+use Rattle.disk_theory.specs.State.Write.{End}
 use Rattle.entry_metadata.specs.Metadata.{Meta, block_bytes}
 use Rattle.entry_file.specs.NewEntry.{finished}
 use Rattle.entry_file.specs.Version.{Version}

@@ -1,6 +1,6 @@
 -- Calls of a disk that only look.
 use Rattle.std.specs.Prelude.{ℕ, ◌≡◌, ◌≤◌, ◌+◌}
-use Rattle.disk_model.specs.Calls.{Counts}
+use Rattle.disk_theory.specs.Calls.{Counts}
 
 -- the looks that are enough for the metadata of an entry
 abbrev pub meta_looks : ℕ

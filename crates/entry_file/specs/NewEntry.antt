@@ -2,14 +2,13 @@
 use Rattle.std.specs.Prelude.{ℕ, ◌≡◌, ◌+◌, ◌*◌, ◌/◌, List, length, drop, map, Option, Some}
 use Rattle.std.specs.List.{range_with_len}
 use Rattle.cache_base.specs.Limits.{chunk_size}
-use Rattle.chunk_store.specs.Chunks.{chunk}
+use Rattle.chunk_store.specs.Chunks.{chunk, chunk_hash_of}
 use Rattle.chunk_store.specs.Stored.{unfinished_file, whole_len}
-use Rattle.disk_model.specs.State.{Write}
-use Rattle.disk_model.specs.State.Write.{End}
+use Rattle.disk_theory.specs.State.{Write}
+use Rattle.disk_theory.specs.State.Write.{End}
 use Rattle.entry_file.specs.Version.{Version, file_of}
 use Rattle.entry_parts.specs.Elements.{Element}
 use Rattle.entry_parts.specs.declared.header.Header.{Header}
-use Rattle.jenkins_hash.specs.Hash.{hash16_of}
 
 -- what is held of it: the hashes of the chunks that are on the disk, and the bytes of the body after these
 pub record Growing : Type 0 where
@@ -23,7 +22,7 @@ grown_len e = length e.hashes * chunk_size + length e.rest
 -- this is the body so far: its whole chunks are on the disk, and the rest is held
 pub record HasBody (e : Growing) (body : List ℕ) : Type 0 where
   pub hashes : e.hashes
-      ≡ map (λ i. hash16_of (chunk body i)) (range_with_len 0 (length body / chunk_size))
+      ≡ map (λ i. chunk_hash_of (chunk body i)) (range_with_len 0 (length body / chunk_size))
   pub rest : e.rest ≡ drop (whole_len body) body
 
 -- the file that stands there is the entry's, with the whole chunks of its body

@@ -3,8 +3,8 @@ use Rattle.std.specs.Prelude.{ℕ, ◌≡◌, List, ◌++◌, take, Option, None
 use Rattle.cache_base.specs.Bytes.{be32}
 use Rattle.chunk_store.specs.Prefixes.{HasChunks}
 use Rattle.chunk_store.specs.declared.damage.Damage.{Damage}
-use Rattle.disk_model.specs.State.{Write}
-use Rattle.disk_model.specs.State.Write.{End}
+use Rattle.disk_theory.specs.State.{Write}
+use Rattle.disk_theory.specs.State.Write.{End}
 use Rattle.entry_metadata.specs.Metadata.{Meta, block_bytes}
 use Rattle.entry_file.specs.Damages.{first_damage}
 use Rattle.entry_file.specs.EntryFile.{Fits, Reading, Whole, Damaged, read}

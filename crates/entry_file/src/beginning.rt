@@ -1,16 +1,16 @@
 //! A new entry.
 
 ghost use Rattle.std.specs.Prelude.{◌≡◌, [], IfOk, OnOk, IsTrue};
-ghost use Rattle.disk_model.specs.Account.{Accounts, FailsInChange, ending, no_sync};
-ghost use Rattle.disk_model.specs.State.{created};
-ghost use Rattle.disk_model.specs.Calls.{counted, if_done};
+ghost use Rattle.disk_theory.specs.Account.{Accounts, FailsInChange, ending, no_sync};
+ghost use Rattle.disk_theory.specs.State.{created};
+ghost use Rattle.disk_theory.specs.Calls.{counted, if_done};
 ghost use Rattle.entry_file.specs.NewEntry.{HasBody};
 ghost use Rattle.entry_file.specs.Held.{held};
 
 use crate::NewEntry;
 use crate::chunk_hashes::ChunkHashes;
 use cache_base::Buffer;
-use disk_model::{Disk, DiskFault, Place};
+use disk_theory::{Disk, DiskFault, Place};
 use std::alloc::Global;
 
 /// A new entry with an empty body: a new empty file takes the place. The memory that its body takes while it grows is

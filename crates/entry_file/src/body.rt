@@ -3,8 +3,8 @@
 ghost use Rattle.std.specs.Prelude.{◌≡◌, ◌<◌, ◌+◌, take, IfOk, IfSome, IsTrue, None, OnOk};
 ghost use Rattle.cache_base.specs.Limits.{chunks as chunks_of};
 ghost use Rattle.chunk_store.specs.Chunks.{damage_at};
-ghost use Rattle.disk_model.specs.Account.{Looks, ending};
-ghost use Rattle.disk_model.specs.State.{standing};
+ghost use Rattle.disk_theory.specs.Account.{Looks, ending};
+ghost use Rattle.disk_theory.specs.State.{standing};
 ghost use Rattle.entry_file.specs.Damages.{HasMeta, chunks_read, first_damage};
 ghost use Rattle.entry_file.specs.Held.{IsLastOf};
 ghost use Rattle.entry_file.specs.Looks.{LooksAtMost};
@@ -13,7 +13,7 @@ ghost use Rattle.entry_metadata.specs.Meta.{meta_of};
 
 use cache_base::{Buffer, chunks};
 use chunk_store::{ChunkAnswer, Damage, check_chunk, read_chunk};
-use disk_model::{Disk, DiskFault, Place};
+use disk_theory::{Disk, DiskFault, Place};
 use entry_metadata::Meta;
 
 /// The damage of one chunk of the body that stands at the place with these metadata, or none. The chunk is read into

@@ -4,17 +4,17 @@ ghost use Rattle.std.specs.Prelude.{◌≡◌, ◌≤◌, ◌==◌, ◌++◌, �
 ghost use Rattle.cache_base.specs.Bytes.{AreBytes, be32};
 ghost use Rattle.cache_base.specs.Limits.{chunks};
 ghost use Rattle.cache_base.specs.declared.limits.TheConstants.{BLOCK_MAX, BODY_MAX, CHUNK};
+ghost use Rattle.chunk_store.specs.Chunks.{chunk_hash_of};
 ghost use Rattle.chunk_store.specs.Stored.{unfinished_file};
-ghost use Rattle.disk_model.specs.Account.{Accounts, FailsInChange, ending, no_sync};
-ghost use Rattle.disk_model.specs.State.{standing, wrote};
-ghost use Rattle.disk_model.specs.Writes.{WritesAt};
-ghost use Rattle.disk_model.specs.Calls.{counted, if_done};
+ghost use Rattle.disk_theory.specs.Account.{Accounts, FailsInChange, ending, no_sync};
+ghost use Rattle.disk_theory.specs.State.{standing, wrote};
+ghost use Rattle.disk_theory.specs.Writes.{WritesAt};
+ghost use Rattle.disk_theory.specs.Calls.{counted, if_done};
 ghost use Rattle.entry_key.specs.Walk.{read_key, reads};
 ghost use Rattle.entry_metadata.specs.Meta.{meta_of};
 ghost use Rattle.entry_metadata.specs.Metadata.{IsMeta, block_bytes, block_length};
-ghost use Rattle.entry_parts.specs.Elements.{AreElements, elements_bytes};
-ghost use Rattle.entry_parts.specs.Header.{IsHeader};
-ghost use Rattle.jenkins_hash.specs.Hash.{hash16_of};
+ghost use Rattle.entry_parts.specs.Elements.{elements_bytes};
+ghost use Rattle.entry_parts.specs.declared.header.TheConstants.{VERSION};
 ghost use Rattle.entry_file.specs.NewEntry.{HasBody, IsItsFile, finished, grown_len, last_write};
 ghost use Rattle.entry_file.specs.Held.{held};
 ghost use Rattle.entry_file.specs.Version.{IsVersion, file_of, version_meta};
@@ -22,32 +22,21 @@ ghost use Rattle.entry_file.specs.Version.{IsVersion, file_of, version_meta};
 use crate::NewEntry;
 use crate::chunk_hashes::ChunkHashes;
 use cache_base::{Bytes, CHUNK, Hashes, NoMemory, bytes_fit};
-use disk_model::{Disk, DiskFault, Place};
+use chunk_store::chunk_hash;
+use disk_theory::{Disk, DiskFault, Place};
 use entry_metadata::Meta;
-use entry_parts::{Elements, Header};
-use jenkins_hash::hash16;
+use entry_parts::{Elements, Header, VERSION, parts_fit};
 use std::alloc::Global;
-
-// Values of these types may stand in a block.
-fn parts_fit(header: Header, key: &[u8], elements: &Elements)
-    ensures header { IsHeader header }
-    ensures key { AreBytes key.now }
-    ensures elements { AreElements elements.now }
-    ensures element_bytes { AreBytes (elements_bytes elements.now) }
-{
-    bytes_fit(key);
-    bytes_fit(elements.print());
-}
 
 // The hashes of the whole chunks, and after them that of the rest, where there is one.
 fn all_hashes(hashes: ChunkHashes, rest: &[u8]) -> Hashes
     requires { length hashes * CHUNK + length rest.now ≤ BODY_MAX }
     ensures { result
-        ≡ (if length rest.now == 0 then hashes else (hashes ++ hash16_of rest.now ∷ [])) }
+        ≡ (if length rest.now == 0 then hashes else (hashes ++ chunk_hash_of rest.now ∷ [])) }
 {
     let mut hashes = hashes;
     if !rest.is_empty() {
-        hashes.push(hash16(rest));
+        hashes.push(chunk_hash(rest));
     }
     hashes.into_hashes()
 }
@@ -68,7 +57,7 @@ pub(crate) fn tail_of(alloc: Global, rest: &[u8], meta: &Meta) -> Result<Bytes, 
 impl NewEntry {
     // With these parts a body of bytes makes a version.
     fn makes_version(&self, header: Header, key: &Bytes, elements: &Elements)
-        requires version { header.version ≡ 3 }
+        requires version { header.version ≡ VERSION }
         requires key_size { header.key_size ≡ length key.now }
         requires grammar { reads (read_key key.now) ≡ true }
         requires small { block_length (chunks (grown_len (held self.now))) (length key.now)
@@ -76,7 +65,8 @@ impl NewEntry {
         ensures { (body : List ℕ) → HasBody (held self.now) body → AreBytes body →
             IsVersion (finished header key.now elements.now body) }
     {
-        parts_fit(header, key.as_slice(), elements);
+        bytes_fit(key.as_slice());
+        parts_fit(header, elements);
     }
 
     /// Makes the file that of a version with this header, this key and these elements: what the file does not have yet
@@ -90,7 +80,7 @@ impl NewEntry {
         key: Bytes,
         elements: Elements,
     ) -> Result<Meta, DiskFault>
-        requires version { header.version ≡ 3 }
+        requires version { header.version ≡ VERSION }
         requires key_size { header.key_size ≡ length key }
         requires grammar { reads (read_key key) ≡ true }
         requires small { block_length (chunks (grown_len (held self))) (length key)

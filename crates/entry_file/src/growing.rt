@@ -3,22 +3,21 @@
 ghost use Rattle.std.specs.Prelude.{◌≡◌, ◌≤◌, ◌<◌, ◌+◌, ◌*◌, ◌/◌, ◌++◌, ℕ, List, [], ◌∷◌, length, take, OnOk, IsTrue, Some, Ok};
 ghost use Rattle.cache_base.specs.Limits.{chunk_size};
 ghost use Rattle.cache_base.specs.declared.limits.TheConstants.{BODY_MAX, BUFFER_MAX, CHUNK};
+ghost use Rattle.chunk_store.specs.Chunks.{chunk_hash_of};
 ghost use Rattle.chunk_store.specs.Stored.{chunk_write, unfinished_file};
-ghost use Rattle.disk_model.specs.Account.{Accounts, FailsInChange, ending, no_sync};
-ghost use Rattle.disk_model.specs.State.{standing, wrote};
-ghost use Rattle.disk_model.specs.Writes.{WritesAt};
-ghost use Rattle.disk_model.specs.Calls.{MayWriteAt, if_done};
+ghost use Rattle.disk_theory.specs.Account.{Accounts, FailsInChange, ending, no_sync};
+ghost use Rattle.disk_theory.specs.State.{standing, wrote};
+ghost use Rattle.disk_theory.specs.Writes.{WritesAt};
+ghost use Rattle.disk_theory.specs.Calls.{MayWriteAt, if_done};
 ghost use Rattle.entry_file.specs.NewEntry.{HasBody, IsItsFile, grown_len};
 ghost use Rattle.entry_file.specs.Held.{held};
 ghost use Rattle.entry_file.specs.Unfinished.{IsUnfinished};
-ghost use Rattle.jenkins_hash.specs.Hash.{hash16_of};
 
 use crate::NewEntry;
 use crate::chunk_hashes::ChunkHashes;
 use cache_base::{Buffer, CHUNK};
-use chunk_store::append_chunk;
-use disk_model::{Disk, DiskFault, Place};
-use jenkins_hash::hash16;
+use chunk_store::{append_chunk, chunk_hash};
+use disk_theory::{Disk, DiskFault, Place};
 
 // Adds the hash of the whole chunk, and writes the chunk.
 fn put_full<D: Disk>(
@@ -31,7 +30,7 @@ fn put_full<D: Disk>(
     requires limit { length hashes.old * CHUNK + CHUNK ≤ BODY_MAX }
     requires told { IsTrue D.tells →
         MayWriteAt (standing (D.state disk.old) place.now) (length hashes.old * chunk_size) }
-    ensures hashes { hashes.new ≡ hashes.old ++ hash16_of chunk.old ∷ [] }
+    ensures hashes { hashes.new ≡ hashes.old ++ chunk_hash_of chunk.old ∷ [] }
     ensures state { IsTrue D.tells → D.state disk.new ≡ if_done result
         (wrote place.now (chunk_write (length hashes.old) chunk.old) (D.state disk.old))
         (D.state disk.old) }
@@ -40,7 +39,7 @@ fn put_full<D: Disk>(
     ensures change { FailsInChange D.Disk (ending result) disk.new }
 {
     let index = hashes.as_slice().len() as u32;
-    hashes.push(hash16(chunk.as_slice()));
+    hashes.push(chunk_hash(chunk.as_slice()));
     append_chunk(disk, place, index, chunk)
 }
 

@@ -2,18 +2,18 @@
 
 ghost use Rattle.std.specs.Prelude.{◌≡◌, ◌≤◌, ℕ, List, length, take, OnOk, IsTrue, Some};
 ghost use Rattle.cache_base.specs.Bytes.{AreBytes};
-ghost use Rattle.disk_model.specs.Account.{Accounts, FailsInChange, ending, no_sync};
-ghost use Rattle.disk_model.specs.State.{standing, wrote};
-ghost use Rattle.disk_model.specs.Writes.{WritesAt};
-ghost use Rattle.disk_model.specs.Prefixes.{KeepsPrefix};
-ghost use Rattle.disk_model.specs.Calls.{counted, if_done};
+ghost use Rattle.disk_theory.specs.Account.{Accounts, FailsInChange, ending, no_sync};
+ghost use Rattle.disk_theory.specs.State.{standing, wrote};
+ghost use Rattle.disk_theory.specs.Writes.{WritesAt};
+ghost use Rattle.disk_theory.specs.Prefixes.{KeepsPrefix};
+ghost use Rattle.disk_theory.specs.Calls.{counted, if_done};
 ghost use Rattle.entry_metadata.specs.Meta.{meta_of};
 ghost use Rattle.entry_file.specs.LongerBody.{StoresShorter, len_before, lengthened, longer_write};
 ghost use Rattle.entry_file.specs.Version.{IsVersion, file_of, version_meta};
 
 use crate::finishing::tail_of;
 use cache_base::bytes_fit;
-use disk_model::{Disk, DiskFault, Place};
+use disk_theory::{Disk, DiskFault, Place};
 use entry_metadata::Meta;
 use std::alloc::Global;
 

@@ -4,20 +4,20 @@ ghost use Rattle.std.specs.Prelude.{◌≡◌, ◌≤◌, ◌<◌, ◌+◌, ◌-
 ghost use Rattle.std.specs.Option.{option_map};
 ghost use Rattle.cache_base.specs.Bytes.{AreBytes};
 ghost use Rattle.cache_base.specs.declared.limits.TheConstants.{BLOCK_MAX};
-ghost use Rattle.disk_model.specs.Account.{Looks, ending};
-ghost use Rattle.disk_model.specs.State.{standing};
+ghost use Rattle.disk_theory.specs.Account.{Looks, ending};
+ghost use Rattle.disk_theory.specs.State.{standing};
 ghost use Rattle.entry_file.specs.EntryFile.{block_in, offset_in, unfit_of};
 ghost use Rattle.entry_file.specs.Damages.{HasMeta};
 ghost use Rattle.entry_file.specs.EntryRead.{IfFits, Joins, ReadsAs};
 ghost use Rattle.entry_file.specs.BlockRead.{BlockReadsAs};
-ghost use Rattle.disk_model.specs.Calls.{HoldsPart};
+ghost use Rattle.disk_theory.specs.Calls.{HoldsPart};
 ghost use Rattle.entry_file.specs.Looks.{LooksAtMost, meta_looks};
 ghost use Rattle.entry_file.specs.Tail.{HoldsBlock, IsTail};
 ghost use Rattle.entry_metadata.specs.Metadata.{Spells};
 
 use crate::{EntryRead, Unfit};
 use cache_base::{BLOCK_MAX, Name, bytes_fit};
-use disk_model::{Disk, DiskFault, Place};
+use disk_theory::{Disk, DiskFault, Place};
 use entry_metadata::MetaFault;
 use entry_name::name_of;
 use std::alloc::Global;

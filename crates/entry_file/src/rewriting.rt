@@ -2,15 +2,15 @@
 
 ghost use Rattle.std.specs.Prelude.{◌≡◌, ℕ, List, take, OnOk, IsTrue, Some};
 ghost use Rattle.cache_base.specs.Bytes.{AreBytes};
-ghost use Rattle.disk_model.specs.Account.{Accounts, FailsInChange, ending, no_sync};
-ghost use Rattle.disk_model.specs.State.{standing, wrote};
-ghost use Rattle.disk_model.specs.Writes.{WritesAt};
-ghost use Rattle.disk_model.specs.Calls.{counted, if_done};
+ghost use Rattle.disk_theory.specs.Account.{Accounts, FailsInChange, ending, no_sync};
+ghost use Rattle.disk_theory.specs.State.{standing, wrote};
+ghost use Rattle.disk_theory.specs.Writes.{WritesAt};
+ghost use Rattle.disk_theory.specs.Calls.{counted, if_done};
 ghost use Rattle.entry_metadata.specs.Meta.{meta_of};
 ghost use Rattle.entry_file.specs.Rewriting.{StoresBody, block_write, rewritten};
 ghost use Rattle.entry_file.specs.Version.{IsVersion, file_of, version_meta};
 
-use disk_model::{Disk, DiskFault, Place};
+use disk_theory::{Disk, DiskFault, Place};
 use entry_metadata::Meta;
 use std::alloc::Global;
 

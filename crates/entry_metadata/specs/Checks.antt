@@ -10,6 +10,7 @@ use Rattle.entry_key.specs.Walk.{read_key, reads}
 use Rattle.entry_parts.specs.Elements.{elements_of, have_form}
 use Rattle.entry_parts.specs.Header.{header_in}
 use Rattle.entry_parts.specs.declared.header.Header.{Header}
+use Rattle.entry_parts.specs.declared.header.TheConstants.{VERSION}
 use Rattle.entry_metadata.specs.Metadata.{Meta}
 use Rattle.entry_metadata.specs.declared.fault.MetaFault.{MetaFault}
 use Rattle.entry_metadata.specs.declared.fault.MetaFault.TheVariants as faults
@@ -36,7 +37,7 @@ block_max version = if version == 1 then BLOCK_MAX - 4 else BLOCK_MAX
 
 -- whether there is such a version
 unfoldable pub is_version : ℕ → Bool
-is_version version = nat_le 1 version && nat_le version 3
+is_version version = nat_le 1 version && nat_le version VERSION
 
 -- the header in these bytes: that of version 1 has no flags, and they are read as 0
 abbrev pub stored_header : List ℕ → Header
@@ -49,7 +50,7 @@ meta_in block offset =
     let header = stored_header (drop (header_place h) block) in
     let key = key_place h header.version in
     record {
-      header = record header { version = 3 };
+      header = record header { version = VERSION };
       key = slice_range block key (key + header.key_size);
       elements = elements_of (drop (key + header.key_size + 1) block);
       hashes = map (λ i. be16_at block (hash_place i)) (range_with_len 0 h);

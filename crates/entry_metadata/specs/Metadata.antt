@@ -9,6 +9,7 @@ use Rattle.entry_key.specs.Key.{KeyReads, Tag}
 use Rattle.entry_parts.specs.Elements.{AreElements, Element, elements_bytes}
 use Rattle.entry_parts.specs.Header.{IsHeader, header_bytes, short_header_bytes}
 use Rattle.entry_parts.specs.declared.header.Header.{Header}
+use Rattle.entry_parts.specs.declared.header.TheConstants.{VERSION}
 
 -- what a block says: the key and the elements, the hashes of the body's chunks, and the body's length
 pub record Meta : Type 0 where
@@ -60,7 +61,7 @@ block_length hashes key elements = 4 + 2 * hashes + 32 + key + 1 + elements
 -- written is not too big: one of version 1 is four bytes shorter
 pub record IsMeta (m : Meta) : Type 0 where
   pub header : IsHeader m.header
-  pub version : m.header.version ≡ 3
+  pub version : m.header.version ≡ VERSION
   pub key_size : m.header.key_size ≡ length m.key
   pub key : (tags : List Tag) × (address : List ℕ) × KeyReads m.key tags address
   pub key_bytes : AreBytes m.key

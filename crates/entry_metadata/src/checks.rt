@@ -9,7 +9,7 @@ ghost use Rattle.entry_parts.specs.Header.{header_in, short_header_in};
 
 use crate::MetaFault;
 use cache_base::{BLOCK_MAX, chunks, u32_at};
-use entry_parts::Header;
+use entry_parts::{Header, VERSION};
 
 /// The number of hashes in the block of a body of `offset` bytes.
 pub(crate) fn hash_count(offset: u32) -> usize
@@ -43,7 +43,7 @@ fn block_max(version: u32) -> usize
 fn is_version(version: u32) -> bool
     ensures { result ≡ there_is version }
 {
-    1 <= version && version <= 3
+    1 <= version && version <= VERSION
 }
 
 fn full_header_at(b: &[u8], at: usize) -> Header

@@ -6,6 +6,7 @@ ghost use Rattle.cache_base.specs.declared.limits.TheConstants.{BLOCK_MAX};
 ghost use Rattle.entry_key.specs.Walk.{read_key, reads};
 ghost use Rattle.entry_metadata.specs.Metadata.{block_length};
 ghost use Rattle.entry_parts.specs.Elements.{elements_bytes};
+ghost use Rattle.entry_parts.specs.declared.header.TheConstants.{VERSION};
 
 use cache_base::{Bytes, Hashes};
 use entry_parts::{Elements, Header};
@@ -23,7 +24,7 @@ pub struct Meta {
     pub hashes: Hashes,
     /// The bytes of the body, and so where the block begins.
     pub offset: u32,
-    pub ghost version: { header.version ≡ 3 },
+    pub ghost version: { header.version ≡ VERSION },
     pub ghost key_size: { header.key_size ≡ length key },
     pub ghost grammar: { reads (read_key key) ≡ true },
     pub ghost hash_count: { length hashes ≡ chunks offset },

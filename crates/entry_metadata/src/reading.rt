@@ -11,7 +11,7 @@ ghost use Rattle.entry_metadata.specs.declared.fault.MetaFault.TheVariants.{Memo
 use crate::checks::{check, hash_count, header_len};
 use crate::{Meta, MetaFault};
 use cache_base::{Bytes, Hashes, NoMemory, u16_at};
-use entry_parts::{Elements, Header};
+use entry_parts::{Elements, Header, VERSION};
 use std::alloc::Global;
 
 fn hashes_in(alloc: Global, block: &[u8], count: usize) -> Result<Hashes, NoMemory>
@@ -41,7 +41,7 @@ fn read_all(alloc: Global, block: &[u8], offset: u32) -> Result<Meta, MetaFault>
     let key = Bytes::from_slice(alloc, &block[key_place..key_end])?;
     Ok(Meta {
         header: Header {
-            version: 3,
+            version: VERSION,
             ..header
         },
         key,

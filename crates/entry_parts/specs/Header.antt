@@ -2,6 +2,7 @@
 use Rattle.std.specs.Prelude.{min, ℕ, ◌≡◌, ◌<◌, ◌≤◌, ◌+◌, ◌^◌, List, ◌++◌, length, take}
 use Rattle.cache_base.specs.Bytes.{AreBytes, be32, be32_at}
 use Rattle.entry_parts.specs.declared.header.Header.{Header}
+use Rattle.entry_parts.specs.declared.header.TheConstants.{VERSION}
 
 -- the 32 bytes of a header
 abbrev pub header_bytes : Header → List ℕ
@@ -55,7 +56,7 @@ pub record IsHeader (h : Header) : Type 0 where
 -- the header of an entry that is made at a moment, and never expires
 abbrev pub fresh_header : ℕ → ℕ → Header
 fresh_header now key_size = record {
-  version = 3;
+  version = VERSION;
   fetch_count = 1;
   last_fetched = now;
   last_modified = now;

@@ -5,6 +5,7 @@ ghost use Rattle.entry_parts.specs.Elements.{AreElements, Element, HasNoZero, el
 ghost use Rattle.entry_parts.specs.declared.fault.PartsFault.TheVariants.{BadForm, Memory};
 
 use crate::PartsFault;
+use cache_base::NoMemory;
 use std::alloc::Global;
 use std::marker::Model;
 
@@ -80,6 +81,15 @@ impl Elements {
         }
         Ok(Elements {
             bytes: Vec::from_slice(alloc, b)?,
+        })
+    }
+
+    /// The same elements once more.
+    pub fn copy(&self, alloc: Global) -> Result<Elements, NoMemory>
+        ensures { IfOk result (λ copy. copy ≡ self.now) }
+    {
+        Ok(Elements {
+            bytes: Vec::from_slice(alloc, self.bytes.as_slice())?,
         })
     }
 

@@ -6,10 +6,13 @@ ghost use Rattle.entry_parts.specs.Header.{IsHeader, header_bytes, header_in, sh
 use byteorder::{BigEndian, ByteOrder};
 use cache_base::Moment;
 
+/// The version of the format that is written (`kCacheEntryVersion` of Firefox's CacheFileMetadata.h).
+pub const VERSION: u32 = 3;
+
 /// The numbers of an entry's metadata. In a file each is four big-endian bytes, in this order.
 #[derive(Clone, Copy, Debug, PartialEq, Eq)]
 pub struct Header {
-    /// The version of the format: 3 in what is written, 1 or 2 in an old file.
+    /// The version of the format: `VERSION` in what is written, 1 or 2 in an old file.
     pub version: u32,
     /// How often the entry was opened.
     pub fetch_count: u32,
@@ -94,7 +97,7 @@ impl Header {
         ensures { result ≡ fresh_header now key_size }
     {
         Header {
-            version: 3,
+            version: VERSION,
             fetch_count: 1,
             last_fetched: now,
             last_modified: now,

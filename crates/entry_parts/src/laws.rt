@@ -1,9 +1,16 @@
 //! Headers and elements that are written are read back, and each that is read has one spelling.
 
 ghost use Rattle.std.specs.Int.{w16, w32, w64};
+ghost use Rattle.std.specs.Prelude.{◌≡◌};
 ghost use Rattle.entry_parts.specs.Elements.{ElementsReadBack, ElementsSpell};
 ghost use Rattle.entry_parts.specs.Header.{HeaderReadsBack, HeaderSpells, ShortHeaderReadsBack, ShortHeaderSpells};
 ghost use Rattle.entry_parts.specs.Numbers.{NumberSpells};
+ghost use Rattle.entry_parts.specs.declared.header.TheConstants.{VERSION};
+
+/// What is written has version 3.
+pub fn version_is()
+    ensures { VERSION ≡ 3 }
+{}
 
 /// A header that is written is read back, also without its flags where these are 0.
 pub fn header_reads_back()

@@ -8,10 +8,12 @@ mod fault;
 mod header;
 mod laws;
 mod setting;
+mod storing;
 
 pub use elements::Elements;
 pub use fault::PartsFault;
-pub use header::Header;
+pub use header::{Header, VERSION};
 pub use laws::{
-    elements_read_back, elements_spell, header_reads_back, header_spells, numbers_spell,
+    elements_read_back, elements_spell, header_reads_back, header_spells, numbers_spell, version_is,
 };
+pub use storing::parts_fit;

@@ -4,7 +4,8 @@ ghost use Rattle.std.specs.Prelude.{◌≡◌, IfOk};
 
 use alt_data::{AltInfo, alt_value, grown_hashes, info};
 use cache_base::{BODY_MAX, Hashes, Name, NoMemory, chunks};
-use disk_model::{DiskFault, LiarDisk, Place};
+use disk_model::LiarDisk;
+use disk_theory::{DiskFault, Place};
 use entry_parts::{Elements, PartsFault};
 use std::alloc::Global;
 use std::test::Fail;

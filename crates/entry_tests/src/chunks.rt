@@ -2,7 +2,8 @@ ghost use Rattle.std.specs.Prelude.{◌≡◌, length, IfOk};
 
 use cache_base::{Buffer, Bytes, CHUNK, Name, NoMemory};
 use chunk_store::{ChunkAnswer, append_chunk, check_chunk, read_chunk};
-use disk_model::{Disk, DiskFault, MemDisk, Place};
+use disk_model::MemDisk;
+use disk_theory::{Disk, DiskFault, Place};
 use std::alloc::Global;
 use std::test::Fail;
 

@@ -1,6 +1,6 @@
 //! Entry files on a disk in memory.
 
-ghost use Rattle.disk_model.specs.Account.{Looks, ending};
+ghost use Rattle.disk_theory.specs.Account.{Looks, ending};
 
 mod longer_body;
 mod new_entry;
@@ -8,7 +8,8 @@ mod reading;
 mod rewriting;
 
 use cache_base::{Bytes, Name, NoMemory};
-use disk_model::{Disk, DiskFault, MemDisk, Place};
+use disk_model::MemDisk;
+use disk_theory::{Disk, DiskFault, Place};
 use entry_file::{EntryRead, Unfit, read_meta};
 use std::alloc::Global;
 

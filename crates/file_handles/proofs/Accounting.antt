@@ -1,11 +1,11 @@
 -- The account of calls in sequence, and of one whose answer is handed on.
 use Rattle.std.proofs.Common.{ℕ, ◌+◌, ◌≤◌, ◌≡◌, ◌⊎◌, ◌∙◌, inl, IsTrue, Result, Ok, Err, IsErrAnd, ap, refl, sym, subst, arith}
 use Rattle.cache_base.specs.Causes.{HasCause}
-use Rattle.disk_model.specs.Account.{Accounts, Ending, FailsInChange, IsCalm, Looks, SyncsAtMost, no_sync, ending as disk_ending, fault_ending as disk_fault_ending}
-use Rattle.disk_model.specs.Calls.{FailsLast}
-use Rattle.disk_model.specs.declared.disk.Disk.{Ghosts}
-use Rattle.disk_model.specs.declared.disk.DiskFault.{DiskFault}
-use Rattle.disk_model.specs.declared.disk.DiskFault.TheVariants as disk
+use Rattle.disk_theory.specs.Account.{Accounts, Ending, FailsInChange, IsCalm, Looks, SyncsAtMost, no_sync, ending as disk_ending, fault_ending as disk_fault_ending}
+use Rattle.disk_theory.specs.Calls.{FailsLast}
+use Rattle.disk_theory.specs.declared.disk.Disk.{Ghosts}
+use Rattle.disk_theory.specs.declared.disk.DiskFault.{DiskFault}
+use Rattle.disk_theory.specs.declared.disk.DiskFault.TheVariants as disk
 use Rattle.file_handles.specs.Answers.{ending, fault_ending, fault_of}
 use Rattle.file_handles.specs.declared.fault.HandleFault.{HandleFault}
 

@@ -20,7 +20,7 @@ use Rattle.file_handles.specs.declared.object.Use.{Use}
 use Rattle.cache_theory.specs.Crash.{IsCrashKept, IsSafe}
 use Rattle.cache_theory.specs.Ever.{IsFiledOnce}
 use Rattle.cache_theory.specs.Marks.{marks_of}
-use Rattle.disk_model.specs.State.{standing}
+use Rattle.disk_theory.specs.State.{standing}
 
 -- every element of a list of one value
 pub same_in : {X : Type 0} (n i : ℕ) (x : X) → get_or (replicate n x) i x ≡ x

@@ -5,7 +5,7 @@ use Rattle.cache_theory.specs.Crash.{WasUnder}
 use Rattle.cache_theory.specs.Machine.{Machine, Object as MachineObject}
 use Rattle.cache_theory.specs.Marks.{Marks, begun, is_buried}
 use Rattle.cache_theory.proofs.Begins.{begin_keeps, begun_marked, begun_touched}
-use Rattle.disk_model.specs.State.{State}
+use Rattle.disk_theory.specs.State.{State}
 use Rattle.file_handles.specs.Cache.{cache_at}
 use Rattle.file_handles.specs.Kept.{Kept}
 use Rattle.file_handles.specs.Stands.{KeepsWhere}

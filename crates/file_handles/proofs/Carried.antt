@@ -12,8 +12,8 @@ use Rattle.cache_theory.specs.Marks.{Marks, acked, begun}
 use Rattle.cache_theory.specs.Proper.{IsObject, IsProper}
 use Rattle.cache_theory.specs.Step.{Answer, answer, effect, step, stepped, stored}
 use Rattle.cache_theory.proofs.ObjectLaws.Storing.{MayStand, stored_here}
-use Rattle.disk_model.specs.Sound.{IsSound}
-use Rattle.disk_model.specs.State.{State}
+use Rattle.disk_theory.specs.Sound.{IsSound}
+use Rattle.disk_theory.specs.State.{State}
 use Rattle.file_handles.specs.Answers.{OnRefused, done_or}
 use Rattle.file_handles.specs.Cache.{cache_at}
 use Rattle.file_handles.specs.Carries.{CarriesOut, CarriesOutAt}

@@ -20,12 +20,12 @@ use Rattle.cache_theory.proofs.ObjectLaws.Objects.{nth_there, object_at as machi
 use Rattle.cache_theory.proofs.CrashImages.Reading.{some_of}
 use Rattle.cache_theory.proofs.CrashImages.Readings.{reads_whole}
 use Rattle.cache_theory.proofs.ObjectLaws.Storing.{MayStand, proper_stored, stored_here, stored_there}
-use Rattle.disk_model.specs.Sound.{IsSound}
-use Rattle.disk_model.specs.Standing.{PutsContent}
-use Rattle.disk_model.specs.State.{State, content, content_of, names_now, standing}
-use Rattle.disk_model.specs.Writes.{WritesAt, WritesTo}
-use Rattle.disk_model.specs.declared.place.Place.TheVariants.{Doomed}
-use Rattle.disk_model.proofs.Written.{writes_puts}
+use Rattle.disk_theory.specs.Sound.{IsSound}
+use Rattle.disk_theory.specs.Standing.{PutsContent}
+use Rattle.disk_theory.specs.State.{State, content, content_of, names_now, standing}
+use Rattle.disk_theory.specs.Writes.{WritesAt, WritesTo}
+use Rattle.disk_theory.specs.declared.place.Place.TheVariants.{Doomed}
+use Rattle.disk_theory.proofs.Written.{writes_puts}
 use Rattle.entry_file.specs.Version.{IsFileOf}
 use Rattle.entry_file.proofs.EntryLaws.{is_file_of}
 use Rattle.entry_name.specs.EntryName.{file_name}

@@ -13,7 +13,7 @@ use Rattle.cache_theory.proofs.ObjectLaws.Objects.{nth_is, nth_there}
 use Rattle.cache_theory.proofs.ObjectLaws.Storing.{MayStand, stored_here, stored_like, stored_there}
 use Rattle.cache_theory.proofs.ObjectLaws.Users.{in_use_along}
 use Rattle.chunk_cache.specs.Cached.{CachedChunk}
-use Rattle.disk_model.specs.State.{State}
+use Rattle.disk_theory.specs.State.{State}
 use Rattle.entry_name.specs.EntryName.{file_name}
 use Rattle.file_handles.specs.Held.{IsHeldAs}
 use Rattle.file_handles.specs.HeldChunks.{ChunksStand, HasNoneOf, IsChunkInUse, KeepsChunks}

@@ -3,12 +3,12 @@ use Rattle.std.proofs.Common.{◌≡◌, ⊎_elim, inl, inr, ℕ, List, [], ◌�
 use Rattle.cache_base.specs.declared.name.Name.{Name}
 use Rattle.cache_theory.specs.Machine.{Object as MachineObject}
 use Rattle.cache_theory.proofs.CrashImages.Reading.{some_of}
-use Rattle.disk_model.specs.Calls.{if_done, if_ok}
-use Rattle.disk_model.specs.Sound.{IsSound}
-use Rattle.disk_model.specs.State.{File, State, content_of, created, names_now, removed, renamed, settled}
-use Rattle.disk_model.specs.declared.disk.DiskFault.{DiskFault}
-use Rattle.disk_model.specs.declared.disk.DiskFault.TheVariants.{Failed, Memory}
-use Rattle.disk_model.specs.declared.place.Place.TheVariants.{Doomed, Entry}
+use Rattle.disk_theory.specs.Calls.{if_done, if_ok}
+use Rattle.disk_theory.specs.Sound.{IsSound}
+use Rattle.disk_theory.specs.State.{File, State, content_of, created, names_now, removed, renamed, settled}
+use Rattle.disk_theory.specs.declared.disk.DiskFault.{DiskFault}
+use Rattle.disk_theory.specs.declared.disk.DiskFault.TheVariants.{Failed, Memory}
+use Rattle.disk_theory.specs.declared.place.Place.TheVariants.{Doomed, Entry}
 use Rattle.doom_area.specs.DoomArea.{RemovesDoomed, removed_each}
 use Rattle.index_theory.specs.Apart.{IsBeside}
 use Rattle.index_theory.specs.Leaves.{LeavesBeside}

@@ -7,8 +7,8 @@ use Rattle.cache_theory.proofs.EntryFiles.{entry_used}
 use Rattle.cache_theory.proofs.ObjectLaws.HeldAside.{published_is}
 use Rattle.cache_theory.proofs.ObjectLaws.Objects.{object_at as machine_object_at}
 use Rattle.cache_theory.proofs.ObjectLaws.Users.{undoomed_user}
-use Rattle.disk_model.specs.State.{State, standing}
-use Rattle.disk_model.specs.declared.place.Place.TheVariants.{Doomed}
+use Rattle.disk_theory.specs.State.{State, standing}
+use Rattle.disk_theory.specs.declared.place.Place.TheVariants.{Doomed}
 use Rattle.entry_name.specs.EntryName.{file_name}
 use Rattle.file_handles.specs.Cache.{cache_at}
 use Rattle.file_handles.specs.Changes.{IsFiledAs, IsFiledAt}

@@ -5,9 +5,9 @@ use Rattle.std.specs.Result.{IsErr}
 use Rattle.std.proofs.lemmas.Result.{IfOk-from_err}
 use Rattle.cache_theory.specs.Machine.{Object as MachineObject}
 use Rattle.cache_theory.specs.Stands.{object_file}
-use Rattle.disk_model.specs.Sound.{IsSound}
-use Rattle.disk_model.specs.State.{State, standing}
-use Rattle.disk_model.specs.Writes.{WritesAt}
+use Rattle.disk_theory.specs.Sound.{IsSound}
+use Rattle.disk_theory.specs.State.{State, standing}
+use Rattle.disk_theory.specs.Writes.{WritesAt}
 use Rattle.file_handles.specs.Cache.{cache_at}
 use Rattle.file_handles.specs.Changes.{Becomes, ChangesAt, IsFiledAs, IsMomentOf}
 use Rattle.file_handles.specs.Held.{object_place}

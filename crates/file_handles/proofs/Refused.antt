@@ -13,10 +13,10 @@ use Rattle.cache_theory.specs.Step.{step, stepped}
 use Rattle.cache_theory.specs.declared.refusal.Refusal.{Refusal}
 use Rattle.cache_theory.proofs.CrashImages.EverSteps.{ever_created, ever_made}
 use Rattle.cache_theory.proofs.CrashImages.Kept.{kept_created}
-use Rattle.disk_model.specs.Sound.{IsSound}
-use Rattle.disk_model.specs.State.{File, State, created, empty_file}
-use Rattle.disk_model.specs.declared.place.Place.TheVariants.{Index}
-use Rattle.disk_model.proofs.Files.{with_file-below}
+use Rattle.disk_theory.specs.Sound.{IsSound}
+use Rattle.disk_theory.specs.State.{File, State, created, empty_file}
+use Rattle.disk_theory.specs.declared.place.Place.TheVariants.{Index}
+use Rattle.disk_theory.proofs.Files.{with_file-below}
 use Rattle.file_handles.specs.Answers.{done_or, done_or_none, reply_in}
 use Rattle.file_handles.specs.Cache.{cache_at}
 use Rattle.file_handles.specs.Carries.{CarriesOut}

@@ -2,14 +2,14 @@
 use Rattle.std.proofs.Common.{◌≡◌, ◌∙◌, ◌++◌, inl, inr, ℕ, List, [], ◌∷◌, Result, Ok, Err, refl, sym, ap, subst, append_assoc}
 use Rattle.std.specs.List.{AllByRecursion}
 use Rattle.cache_base.specs.declared.name.Name.{Name}
-use Rattle.disk_model.specs.Calls.{if_done}
-use Rattle.disk_model.specs.State.{State, removed, renamed}
-use Rattle.disk_model.specs.declared.disk.DiskFault.{DiskFault}
-use Rattle.disk_model.specs.declared.disk.DiskFault.TheVariants.{Failed, Memory}
-use Rattle.disk_model.specs.declared.place.NameStep.{NameStep}
-use Rattle.disk_model.specs.declared.place.NameStep.TheVariants.{Create, Remove, Rename}
-use Rattle.disk_model.specs.declared.place.Place.{Place}
-use Rattle.disk_model.specs.declared.place.Place.TheVariants.{Clear, Doomed, Entry, Index, Log, Tmp}
+use Rattle.disk_theory.specs.Calls.{if_done}
+use Rattle.disk_theory.specs.State.{State, removed, renamed}
+use Rattle.disk_theory.specs.declared.disk.DiskFault.{DiskFault}
+use Rattle.disk_theory.specs.declared.disk.DiskFault.TheVariants.{Failed, Memory}
+use Rattle.disk_theory.specs.declared.place.NameStep.{NameStep}
+use Rattle.disk_theory.specs.declared.place.NameStep.TheVariants.{Create, Remove, Rename}
+use Rattle.disk_theory.specs.declared.place.Place.{Place}
+use Rattle.disk_theory.specs.declared.place.Place.TheVariants.{Clear, Doomed, Entry, Index, Log, Tmp}
 use Rattle.doom_area.specs.DoomArea.{IsLeastFree}
 use Rattle.file_handles.specs.Dooming.{IsTaking, IsTakingOf, TakesEntries, TakesEntry, TakesInOrder}
 use Rattle.file_handles.proofs.Dooming.DoomedUser.{least_free}

@@ -5,14 +5,14 @@ use Rattle.std.proofs.lemmas.Bool.{cases_eq}
 use Rattle.cache_base.specs.declared.name.Name.{Name}
 use Rattle.cache_theory.specs.Machine.{Object as MachineObject}
 use Rattle.cache_theory.proofs.CrashImages.Reading.{some_of}
-use Rattle.disk_model.specs.Calls.{if_done}
-use Rattle.disk_model.specs.State.{File, State, Write, add_write, content_of, created, empty_file, names_now, removed, renamed, write_to, wrote}
-use Rattle.disk_model.specs.Writes.{WritesTo}
-use Rattle.disk_model.specs.declared.disk.DiskFault.{DiskFault}
-use Rattle.disk_model.specs.declared.disk.DiskFault.TheVariants.{Failed, Memory}
-use Rattle.disk_model.specs.declared.place.Place.{Place}
-use Rattle.disk_model.specs.declared.place.Place.TheVariants.{Doomed, Entry}
-use Rattle.disk_model.proofs.Files.{with_file-below, with_file-cases}
+use Rattle.disk_theory.specs.Calls.{if_done}
+use Rattle.disk_theory.specs.State.{File, State, Write, add_write, content_of, created, empty_file, names_now, removed, renamed, write_to, wrote}
+use Rattle.disk_theory.specs.Writes.{WritesTo}
+use Rattle.disk_theory.specs.declared.disk.DiskFault.{DiskFault}
+use Rattle.disk_theory.specs.declared.disk.DiskFault.TheVariants.{Failed, Memory}
+use Rattle.disk_theory.specs.declared.place.Place.{Place}
+use Rattle.disk_theory.specs.declared.place.Place.TheVariants.{Doomed, Entry}
+use Rattle.disk_theory.proofs.Files.{with_file-below, with_file-cases}
 use Rattle.file_handles.specs.Cache.{cache_at}
 use Rattle.file_handles.specs.Changes.{ChangesThere, IsFiledAt}
 use Rattle.file_handles.specs.Closing.{is_some_draft, let_go_by, without_doomed, writes_draft}

@@ -3,9 +3,9 @@ use Rattle.std.specs.Prelude.{Err, IfErr, None, Ok, Option, Result, Some, ◌≡
 use Rattle.cache_theory.specs.declared.refusal.Refusal.{Refusal}
 use Rattle.cache_theory.specs.Command.{Reply}
 use Rattle.cache_theory.specs.Command.Reply.{Done, Refused, NoneThere}
-use Rattle.disk_model.specs.Account.{Ending}
-use Rattle.disk_model.specs.declared.disk.DiskFault.{DiskFault}
-use Rattle.disk_model.specs.declared.disk.DiskFault.TheVariants as disk
+use Rattle.disk_theory.specs.Account.{Ending}
+use Rattle.disk_theory.specs.declared.disk.DiskFault.{DiskFault}
+use Rattle.disk_theory.specs.declared.disk.DiskFault.TheVariants as disk
 use Rattle.file_handles.specs.declared.fault.HandleFault.{HandleFault}
 use Rattle.file_handles.specs.declared.fault.HandleFault.TheVariants as fault
 

@@ -1,6 +1,6 @@
 -- The handles, and the disk under them.
-use Rattle.disk_model.specs.State.{State}
-use Rattle.disk_model.specs.declared.disk.Disk.{Ghosts}
+use Rattle.disk_theory.specs.State.{State}
+use Rattle.disk_theory.specs.declared.disk.Disk.{Ghosts}
 use Rattle.file_handles.specs.Kept.{Kept, kept}
 use Rattle.file_handles.specs.declared.handles.Handles.{Handles}
 

@@ -9,8 +9,8 @@ use Rattle.cache_theory.specs.Machine.{Machine, opened}
 use Rattle.cache_theory.specs.Marks.{marks_of}
 use Rattle.cache_theory.specs.Step.{step}
 use Rattle.cache_theory.specs.Table.{IsTable, Table, get}
-use Rattle.disk_model.specs.State.{State, standing}
-use Rattle.disk_model.specs.declared.place.Place.TheVariants.{Doomed}
+use Rattle.disk_theory.specs.State.{State, standing}
+use Rattle.disk_theory.specs.declared.place.Place.TheVariants.{Doomed}
 use Rattle.file_handles.specs.Cache.{Cache, cache_at}
 use Rattle.file_handles.specs.Kept.{Kept}
 use Rattle.file_handles.specs.Stands.{KeepsTo, Represents}

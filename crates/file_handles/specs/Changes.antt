@@ -4,8 +4,8 @@ use Rattle.cache_theory.specs.Machine.{Object as MachineObject}
 use Rattle.cache_theory.specs.Proper.{IsObject}
 use Rattle.cache_theory.specs.Stands.{HasObjectFile, object_file}
 use Rattle.chunk_cache.specs.Cached.{CachedChunk}
-use Rattle.disk_model.specs.State.{State, standing}
-use Rattle.disk_model.specs.Writes.{WritesAt}
+use Rattle.disk_theory.specs.State.{State, standing}
+use Rattle.disk_theory.specs.Writes.{WritesAt}
 use Rattle.entry_file.specs.EntryFile.{fits}
 use Rattle.entry_file.specs.Version.{Version, file_of}
 use Rattle.file_handles.specs.Cache.{Cache}

@@ -10,11 +10,11 @@ use Rattle.cache_theory.specs.Machine.{Machine, is_writer, object_of}
 use Rattle.cache_theory.specs.Step.{finished_by, released}
 use Rattle.cache_theory.specs.Table.{get}
 use Rattle.chunk_cache.specs.Cached.{CachedChunk, without_entry}
-use Rattle.disk_model.specs.Account.{no_sync}
-use Rattle.disk_model.specs.Image.{Files}
-use Rattle.disk_model.specs.State.{State, removed, standing}
-use Rattle.disk_model.specs.declared.disk.DiskFault.{DiskFault}
-use Rattle.disk_model.specs.declared.place.Place.TheVariants.{Doomed}
+use Rattle.disk_theory.specs.Account.{no_sync}
+use Rattle.disk_theory.specs.Image.{Files}
+use Rattle.disk_theory.specs.State.{State, removed, standing}
+use Rattle.disk_theory.specs.declared.disk.DiskFault.{DiskFault}
+use Rattle.disk_theory.specs.declared.place.Place.TheVariants.{Doomed}
 use Rattle.file_handles.specs.Cache.{Cache}
 use Rattle.file_handles.specs.Held.{is_draft, object_place}
 use Rattle.file_handles.specs.Finishing.{finish_syncs}

@@ -1,7 +1,7 @@
 -- How a new file is made, and one that stood under the name is removed.
 use Rattle.std.specs.Prelude.{OnErr, OnOk, None, Result, ◌≡◌, ◌⊎◌}
-use Rattle.disk_model.specs.State.{State, created, removed, standing}
-use Rattle.disk_model.specs.declared.place.Place.{Place}
+use Rattle.disk_theory.specs.State.{State, created, removed, standing}
+use Rattle.disk_theory.specs.declared.place.Place.{Place}
 use Rattle.file_handles.specs.declared.fault.HandleFault.{HandleFault}
 
 -- after an Ok the file is made, and otherwise it may be

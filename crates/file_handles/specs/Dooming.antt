@@ -11,12 +11,12 @@ use Rattle.cache_theory.specs.Marks.{is_touched}
 use Rattle.cache_theory.specs.Step.{doomed_under}
 use Rattle.cache_theory.specs.declared.refusal.Refusal.{Refusal}
 use Rattle.cache_base.specs.declared.name.Name.{Name}
-use Rattle.disk_model.specs.Calls.{if_done}
-use Rattle.disk_model.specs.State.{State, renamed, standing}
-use Rattle.disk_model.specs.declared.disk.DiskFault.{DiskFault}
-use Rattle.disk_model.specs.declared.place.NameStep.{NameStep}
-use Rattle.disk_model.specs.declared.place.NameStep.TheVariants.{Remove, Rename}
-use Rattle.disk_model.specs.declared.place.Place.TheVariants.{Clear, Doomed, Entry}
+use Rattle.disk_theory.specs.Calls.{if_done}
+use Rattle.disk_theory.specs.State.{State, renamed, standing}
+use Rattle.disk_theory.specs.declared.disk.DiskFault.{DiskFault}
+use Rattle.disk_theory.specs.declared.place.NameStep.{NameStep}
+use Rattle.disk_theory.specs.declared.place.NameStep.TheVariants.{Remove, Rename}
+use Rattle.disk_theory.specs.declared.place.Place.TheVariants.{Clear, Doomed, Entry}
 use Rattle.doom_area.specs.DoomArea.{IsLeastFree}
 use Rattle.entry_name.specs.EntryName.{file_name}
 use Rattle.file_handles.specs.Cache.{Cache}

@@ -1,7 +1,7 @@
 -- What stands after a look at the disk that failed.
 use Rattle.std.specs.Prelude.{◌≡◌}
-use Rattle.disk_model.specs.Account.{Ending, Looks}
-use Rattle.disk_model.specs.declared.disk.Disk.{Ghosts}
+use Rattle.disk_theory.specs.Account.{Ending, Looks}
+use Rattle.disk_theory.specs.declared.disk.Disk.{Ghosts}
 use Rattle.file_handles.specs.Kept.{Kept}
 
 -- the handles are as before, and of the disk nothing but a look failed: it holds what it held

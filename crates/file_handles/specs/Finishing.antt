@@ -7,9 +7,10 @@ use Rattle.cache_theory.specs.Machine.{Object as MachineObject}
 use Rattle.cache_theory.specs.Step.{finished_as}
 use Rattle.cache_theory.specs.declared.refusal.Refusal.{Refusal}
 use Rattle.cache_theory.specs.declared.refusal.Refusal.TheVariants as refused
-use Rattle.disk_model.specs.Account.{no_sync, one_sync}
+use Rattle.disk_theory.specs.Account.{no_sync, one_sync}
 use Rattle.entry_parts.specs.Elements.{AreElements, elements_bytes}
 use Rattle.entry_parts.specs.Header.{IsHeader}
+use Rattle.entry_parts.specs.declared.header.TheConstants.{VERSION}
 use Rattle.file_handles.specs.Changes.{completed}
 use Rattle.file_handles.specs.Held.{is_draft}
 use Rattle.file_handles.specs.Setting.{has_small_block}
@@ -32,7 +33,7 @@ completed_by (Some parts) = finished_as parts.header parts.elements
 abbrev pub parts_by : Option Parts → List ℕ → Parts → Parts
 parts_by None key own = own
 parts_by (Some parts) key own =
-    record { header = record parts.header { version = 3; key_size = length key }; elements = parts.elements }
+    record { header = record parts.header { version = VERSION; key_size = length key }; elements = parts.elements }
 
 -- the block of the entry is too large with the parts that are given
 abbrev pub size_fault : Entry → Option Parts → Option Refusal

@@ -7,8 +7,8 @@ use Rattle.cache_theory.specs.Command.Reply.{Found, Refused}
 use Rattle.cache_theory.specs.Ever.{entries}
 use Rattle.cache_theory.specs.Machine.{Machine}
 use Rattle.cache_theory.specs.Step.{step}
-use Rattle.disk_model.specs.State.{State, standing}
-use Rattle.disk_model.specs.declared.place.Place.TheVariants.{Entry as EntryAt}
+use Rattle.disk_theory.specs.State.{State, standing}
+use Rattle.disk_theory.specs.declared.place.Place.TheVariants.{Entry as EntryAt}
 use Rattle.entry_file.specs.EntryFile.{read, whole_in}
 use Rattle.entry_file.specs.EntryFile.Reading.{Whole}
 use Rattle.entry_file.specs.Held.{IsLastOf}

@@ -2,8 +2,8 @@
 use Rattle.std.specs.Prelude.{Bool, List, [], None, Option, Some, is_some, false, true, ℕ, ◌≡◌}
 use Rattle.cache_theory.specs.Machine.{Object as MachineObject}
 use Rattle.cache_theory.specs.Stands.{is_aside}
-use Rattle.disk_model.specs.declared.place.Place.{Place}
-use Rattle.disk_model.specs.declared.place.Place.TheVariants as place
+use Rattle.disk_theory.specs.declared.place.Place.{Place}
+use Rattle.disk_theory.specs.declared.place.Place.TheVariants as place
 use Rattle.entry_file.specs.Held.{held}
 use Rattle.entry_file.specs.NewEntry.{HasBody, grown_len}
 use Rattle.entry_file.specs.Version.{Version, version_meta}

@@ -3,11 +3,11 @@ use Rattle.std.specs.Prelude.{Bool, IfOk, IsOkAnd, None, OnErr, OnOk, Option, Re
 use Rattle.cache_base.specs.declared.name.Name.{Name}
 use Rattle.cache_theory.specs.Machine.{Object as MachineObject}
 use Rattle.cache_theory.specs.Stands.{object_file}
-use Rattle.disk_model.specs.Sound.{IsSound}
-use Rattle.disk_model.specs.State.{State, renamed, settled, standing}
-use Rattle.disk_model.specs.Writes.{WritesAt}
-use Rattle.disk_model.specs.declared.disk.DiskFault.{DiskFault}
-use Rattle.disk_model.specs.declared.place.Place.TheVariants.{Doomed, Entry}
+use Rattle.disk_theory.specs.Sound.{IsSound}
+use Rattle.disk_theory.specs.State.{State, renamed, settled, standing}
+use Rattle.disk_theory.specs.Writes.{WritesAt}
+use Rattle.disk_theory.specs.declared.disk.DiskFault.{DiskFault}
+use Rattle.disk_theory.specs.declared.place.Place.TheVariants.{Doomed, Entry}
 use Rattle.file_handles.specs.Cache.{Cache}
 use Rattle.file_handles.specs.Changes.{IsFiledAs, IsMomentOf}
 use Rattle.file_handles.specs.Held.{IsHeldAs, object_place}

@@ -9,8 +9,8 @@ use Rattle.cache_theory.specs.declared.refusal.Refusal.{Refusal}
 use Rattle.cache_theory.specs.declared.refusal.Refusal.TheVariants as refused
 use Rattle.chunk_cache.specs.Cached.{CachedChunk}
 use Rattle.chunk_store.specs.Prefixes.{HasChunksWith}
-use Rattle.disk_model.specs.Prefixes.{BeginsInImages, IsUnreachedBelow}
-use Rattle.disk_model.specs.State.{State, names_now, standing}
+use Rattle.disk_theory.specs.Prefixes.{BeginsInImages, IsUnreachedBelow}
+use Rattle.disk_theory.specs.State.{State, names_now, standing}
 use Rattle.entry_file.specs.Version.{IsVersion, Version, file_of}
 use Rattle.entry_metadata.specs.Metadata.{block_length}
 use Rattle.entry_parts.specs.Elements.{Element, element, elements_bytes}

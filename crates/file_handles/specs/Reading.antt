@@ -4,7 +4,7 @@ use Rattle.cache_base.specs.Limits.{chunk_size}
 use Rattle.cache_theory.specs.Machine.{Machine, object_of}
 use Rattle.cache_theory.specs.Proper.{IsProper}
 use Rattle.chunk_cache.specs.Cached.{StandsFirst, bytes_of}
-use Rattle.disk_model.specs.State.{standing}
+use Rattle.disk_theory.specs.State.{standing}
 use Rattle.file_handles.specs.Answers.{OnRead}
 use Rattle.file_handles.specs.Cache.{Cache}
 use Rattle.file_handles.specs.Held.{body_len_in, object_place, rest_in}

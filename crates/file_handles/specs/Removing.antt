@@ -1,8 +1,8 @@
 -- How the removal of a file fails.
 use Rattle.std.specs.Prelude.{IsTrue, ◌≡◌}
-use Rattle.disk_model.specs.Account.{Ending}
-use Rattle.disk_model.specs.Calls.{Counts}
-use Rattle.disk_model.specs.declared.disk.Disk.{Ghosts}
+use Rattle.disk_theory.specs.Account.{Ending}
+use Rattle.disk_theory.specs.Calls.{Counts}
+use Rattle.disk_theory.specs.declared.disk.Disk.{Ghosts}
 
 -- the last call was a change that failed
 abbrev pub LastChangeFails : Counts → Type 0

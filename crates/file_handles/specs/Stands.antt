@@ -6,8 +6,8 @@ use Rattle.cache_theory.specs.History.{History}
 use Rattle.cache_theory.specs.Machine.{Machine, Slot, object}
 use Rattle.cache_theory.specs.Proper.{IsInUse, IsProper}
 use Rattle.cache_theory.specs.Stands.{AsideStand, EntriesStand}
-use Rattle.disk_model.specs.Image.{Files}
-use Rattle.disk_model.specs.State.{standing}
+use Rattle.disk_theory.specs.Image.{Files}
+use Rattle.disk_theory.specs.State.{standing}
 use Rattle.file_handles.specs.Cache.{Cache}
 use Rattle.file_handles.specs.Held.{IsHeldAs}
 use Rattle.file_handles.specs.HeldChunks.{ChunksStand}

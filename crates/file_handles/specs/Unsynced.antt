@@ -1,6 +1,6 @@
 -- Calls that sync nothing.
 use Rattle.std.specs.Prelude.{ℕ, ◌<◌, ◌≡◌, ◌≤◌}
-use Rattle.disk_model.specs.State.{State}
+use Rattle.disk_theory.specs.State.{State}
 
 -- what the last sync covered is the same: the names, and the contents of the files made before
 pub record SyncsNothing (s t : State) : Type 0 where

@@ -4,8 +4,8 @@ ghost use Rattle.std.specs.Prelude.{ℕ, List, ◌≡◌, ◌+◌, ◌<◌, IfEr
 ghost use Rattle.cache_base.specs.declared.limits.TheConstants.{CHUNK, SLOTS};
 ghost use Rattle.cache_theory.specs.Command.Command.{Append};
 ghost use Rattle.cache_theory.specs.Machine.{Machine};
-ghost use Rattle.disk_model.specs.Account.{Accounts, FailsInChange, no_sync};
-ghost use Rattle.disk_model.specs.Told.{Told};
+ghost use Rattle.disk_theory.specs.Account.{Accounts, FailsInChange, no_sync};
+ghost use Rattle.disk_theory.specs.Told.{Told};
 ghost use Rattle.file_handles.specs.Answers.{OnRefused, done_or, ending};
 ghost use Rattle.file_handles.specs.Growing.{AnswersInChunk, FitsInChunk, grow_fault};
 ghost use Rattle.file_handles.specs.Held.{rest_in};
@@ -16,7 +16,7 @@ use crate::object::{Draft, Entry};
 use crate::{HandleFault, Handles};
 use cache_base::BODY_MAX;
 use cache_theory::Refusal;
-use disk_model::Disk;
+use disk_theory::Disk;
 
 // The first reason why so many bytes may not be appended to an entry, if there is one.
 fn may_grow(entry: &Entry, more: usize) -> Result<(), Refusal>

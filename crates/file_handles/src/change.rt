@@ -2,7 +2,7 @@
 
 ghost use Rattle.std.specs.Prelude.{◌*◌, ◌+◌, ◌/◌, ◌≡◌, ◌<◌, ◌≤◌, IfOk, IfSome, IsSomeAnd, IsTrue, length, true, ◌≢◌, Err, OnOk};
 ghost use Rattle.cache_base.specs.declared.limits.TheConstants.{ELEMENTS_MAX, SLOTS};
-ghost use Rattle.disk_model.specs.Account.{Accounts, FailsInChange, no_sync};
+ghost use Rattle.disk_theory.specs.Account.{Accounts, FailsInChange, no_sync};
 ghost use Rattle.entry_parts.specs.Elements.{elements_bytes};
 ghost use Rattle.entry_parts.specs.declared.fault.PartsFault;
 ghost use Rattle.index_record.specs.Filling.{bit_if};
@@ -15,7 +15,7 @@ use crate::finish::learnt_of;
 use crate::object::{Draft, Entry};
 use crate::{Effect, HandleFault, Handles};
 use cache_base::{Moment, NoMemory};
-use disk_model::Disk;
+use disk_theory::Disk;
 use entry_file::rewrite_meta;
 use entry_metadata::Meta;
 use entry_parts::{Elements, Header, PartsFault};

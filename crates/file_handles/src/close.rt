@@ -4,10 +4,10 @@ ghost use Rattle.std.specs.Prelude.{◌≡◌, ◌<◌, ◌&&◌, IfOk, IsSome, 
 ghost use Rattle.std.specs.List.{list_any};
 ghost use Rattle.cache_base.specs.declared.limits.TheConstants.{SLOTS};
 ghost use Rattle.cache_theory.specs.Command.Command.{Close};
-ghost use Rattle.disk_model.specs.Account.{Accounts, FailsInChange, LooksAtNoEntry, ending as disk_ending, no_sync};
-ghost use Rattle.disk_model.specs.Calls.{if_done};
-ghost use Rattle.disk_model.specs.State.{standing};
-ghost use Rattle.disk_model.specs.Told.{Told};
+ghost use Rattle.disk_theory.specs.Account.{Accounts, FailsInChange, LooksAtNoEntry, ending as disk_ending, no_sync};
+ghost use Rattle.disk_theory.specs.Calls.{if_done};
+ghost use Rattle.disk_theory.specs.State.{standing};
+ghost use Rattle.disk_theory.specs.Told.{Told};
 ghost use Rattle.doom_area.specs.DoomArea.{RemovesDoomed};
 ghost use Rattle.file_handles.specs.Answers.{OnRefused, done_or, ending};
 ghost use Rattle.file_handles.specs.Closing.{is_some_draft, let_go_by};
@@ -22,7 +22,7 @@ use crate::handles::take_at;
 use crate::object::{Entry, Object, Use};
 use crate::{Effect, HandleFault, Handles};
 use cache_base::SLOTS;
-use disk_model::{Disk, DiskFault};
+use disk_theory::{Disk, DiskFault};
 use doom_area::release;
 use std::alloc::Global;
 

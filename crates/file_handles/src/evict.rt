@@ -1,16 +1,16 @@
 //! Evicts an entry that is not in use.
 
 ghost use Rattle.std.specs.Prelude.{◌≡◌, IsSome, IsTrue};
-ghost use Rattle.disk_model.specs.Account.{Accounts, LooksAtNoEntry, ending as disk_ending, no_sync};
-ghost use Rattle.disk_model.specs.State.{standing};
-ghost use Rattle.disk_model.specs.Told.{Told};
-ghost use Rattle.disk_model.specs.declared.place.Place.TheVariants.{Entry as EntryAt};
+ghost use Rattle.disk_theory.specs.Account.{Accounts, LooksAtNoEntry, ending as disk_ending, no_sync};
+ghost use Rattle.disk_theory.specs.State.{standing};
+ghost use Rattle.disk_theory.specs.Told.{Told};
+ghost use Rattle.disk_theory.specs.declared.place.Place.TheVariants.{Entry as EntryAt};
 ghost use Rattle.file_handles.specs.Unsynced.{SyncsNothing};
 ghost use Rattle.index_theory.specs.Leaves.{LeavesBeside};
 
 use crate::Handles;
 use cache_base::Name;
-use disk_model::{Disk, DiskFault, Place};
+use disk_theory::{Disk, DiskFault, Place};
 
 impl Handles {
     ghost use Rattle.file_handles.specs.Cache.{cache};

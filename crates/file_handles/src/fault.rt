@@ -6,7 +6,7 @@ ghost use Rattle.file_handles.specs.declared.fault.HandleFault.TheVariants.{Memo
 
 use cache_base::{Name, NoMemory};
 use cache_theory::Refusal;
-use disk_model::DiskFault;
+use disk_theory::DiskFault;
 use index_record::IndexRecord;
 
 /// Why a call did nothing, or failed.

@@ -1,15 +1,13 @@
 //! Finishes the entry of a slot, with its own header and elements or with given ones: its file becomes whole.
 
 ghost use Rattle.std.specs.Prelude.{◌≡◌, ◌≢◌, ◌<◌, ◌≤◌, Err, IfErr, IfOk, IfSome, IsSome, IsSomeAnd, IsTrue, None, OnOk, length, ◌+◌, if◌then◌else◌};
-ghost use Rattle.cache_base.specs.Bytes.{AreBytes};
 ghost use Rattle.cache_base.specs.declared.limits.TheConstants.{KEY_MAX, SLOTS};
 ghost use Rattle.cache_theory.specs.Command.Command.{Finish, FinishAs};
-ghost use Rattle.disk_model.specs.Account.{Accounts, FailsInChange, ending as disk_ending, no_sync, one_sync};
-ghost use Rattle.disk_model.specs.State.{standing};
-ghost use Rattle.disk_model.specs.Told.{Told};
+ghost use Rattle.disk_theory.specs.Account.{Accounts, FailsInChange, ending as disk_ending, no_sync, one_sync};
+ghost use Rattle.disk_theory.specs.State.{standing};
+ghost use Rattle.disk_theory.specs.Told.{Told};
 ghost use Rattle.entry_metadata.specs.Meta.{meta_of};
-ghost use Rattle.entry_parts.specs.Elements.{AreElements, elements_bytes};
-ghost use Rattle.entry_parts.specs.Header.{IsHeader};
+ghost use Rattle.entry_parts.specs.declared.header.TheConstants.{VERSION};
 ghost use Rattle.file_handles.specs.Answers.{OnRefused, done_or, ending};
 ghost use Rattle.file_handles.specs.Effects.{HasEffect, IsLearntOf, IsPlainEffect, file_len as file_len_of, learnt_of_held};
 ghost use Rattle.file_handles.specs.Finishing.{AreParts, completed_by, finish_calls, finish_command, finish_fault as finish_fault_of, finish_syncs, parts_by as parts_by_of};
@@ -21,11 +19,11 @@ ghost use Rattle.index_theory.specs.Leaves.{LeavesBeside};
 use crate::elements::has_small_block;
 use crate::object::{Draft, Entry, Label, Parts};
 use crate::{Effect, HandleFault, Handles};
-use cache_base::{Bytes, Name, bytes_fit};
+use cache_base::{Bytes, Name};
 use cache_theory::Refusal;
-use disk_model::{Disk, DiskFault, Place};
+use disk_theory::{Disk, DiskFault, Place};
 use entry_metadata::{Meta, block_len};
-use entry_parts::{Elements, Header};
+use entry_parts::{Elements, Header, VERSION, parts_fit};
 use index_record::of_meta;
 use std::alloc::Global;
 
@@ -78,15 +76,6 @@ fn publish<D: Disk>(
     Ok(None)
 }
 
-// Values of these types may stand in a block.
-fn parts_fit(header: Header, elements: &Elements)
-    ensures header { IsHeader header }
-    ensures elements { AreElements elements.now }
-    ensures bytes { AreBytes (elements_bytes elements.now) }
-{
-    bytes_fit(elements.print());
-}
-
 // The first reason why an entry may not be finished with the parts that are given, or else with its own, if there is
 // one.
 fn finish_fault(entry: &Entry, given: &Option<Parts>) -> Option<Refusal>
@@ -109,10 +98,10 @@ fn finish_fault(entry: &Entry, given: &Option<Parts>) -> Option<Refusal>
 // key's length, or else its own.
 fn parts_by(given: Option<Parts>, key: &Bytes, own: Parts) -> Parts
     requires short { length key.now ≤ KEY_MAX }
-    requires version { own.header.version ≡ 3 }
+    requires version { own.header.version ≡ VERSION }
     requires key_size { own.header.key_size ≡ length key.now }
     ensures parts { result ≡ parts_by_of given key.now own }
-    ensures version { result.header.version ≡ 3 }
+    ensures version { result.header.version ≡ VERSION }
     ensures key_size { result.header.key_size ≡ length key.now }
 {
     let Some(parts) = given else {
@@ -121,7 +110,7 @@ fn parts_by(given: Option<Parts>, key: &Bytes, own: Parts) -> Parts
     let Parts { header, elements } = parts;
     Parts {
         header: Header {
-            version: 3,
+            version: VERSION,
             key_size: key.as_slice().len() as u32,
             ..header
         },

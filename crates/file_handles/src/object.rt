@@ -4,9 +4,10 @@ ghost use Rattle.std.specs.Prelude.{◌≡◌, ◌<◌, ◌≤◌, length, true}
 ghost use Rattle.cache_base.specs.declared.limits.TheConstants.{ELEMENTS_MAX, KEY_MAX, SLOTS};
 ghost use Rattle.entry_key.specs.Walk.{read_key, reads};
 ghost use Rattle.entry_parts.specs.Elements.{elements_bytes};
+ghost use Rattle.entry_parts.specs.declared.header.TheConstants.{VERSION};
 
 use cache_base::{Bytes, Name};
-use disk_model::Place;
+use disk_theory::Place;
 use entry_file::NewEntry;
 use entry_metadata::Meta;
 use entry_parts::{Elements, Header};
@@ -18,7 +19,7 @@ pub(crate) struct Draft {
     pub(crate) header: Header,
     pub(crate) key: Bytes,
     pub(crate) elements: Elements,
-    pub(crate) ghost version: { header.version ≡ 3 },
+    pub(crate) ghost version: { header.version ≡ VERSION },
     pub(crate) ghost key_size: { header.key_size ≡ length key },
     pub(crate) ghost grammar: { reads (read_key key) ≡ true },
     pub(crate) ghost short_key: { length key ≤ KEY_MAX },

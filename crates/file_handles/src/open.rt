@@ -6,7 +6,7 @@ ghost use Rattle.cache_base.specs.declared.limits.TheConstants.{SLOTS};
 ghost use Rattle.cache_theory.specs.Command.Command.{OpenKey};
 ghost use Rattle.cache_theory.specs.Machine.{Machine, used_by};
 ghost use Rattle.cache_theory.specs.Proper.{IsProper};
-ghost use Rattle.disk_model.specs.Account.{Looks};
+ghost use Rattle.disk_theory.specs.Account.{Looks};
 ghost use Rattle.file_handles.specs.Answers.{OnRead, done_or, ending};
 ghost use Rattle.file_handles.specs.Seats.{IsLow, is_use_of};
 
@@ -14,7 +14,7 @@ use crate::find::load;
 use crate::object::{Entry, Object, Use};
 use crate::{HandleFault, Handles};
 use cache_theory::Refusal;
-use disk_model::Disk;
+use disk_theory::Disk;
 use entry_key::may_write;
 use entry_name::name_of;
 use std::alloc::Global;

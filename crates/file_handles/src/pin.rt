@@ -2,8 +2,8 @@
 
 ghost use Rattle.std.specs.Prelude.{◌≡◌, ◌≢◌, ◌<◌, Bool, Err, IfErr, IfOk, IsSomeAnd, IsTrue, OnOk, ◌≤◌, ◌+◌};
 ghost use Rattle.cache_base.specs.declared.limits.TheConstants.{SLOTS};
-ghost use Rattle.disk_model.specs.Account.{Accounts, FailsInChange, no_sync};
-ghost use Rattle.disk_model.specs.Told.{Told};
+ghost use Rattle.disk_theory.specs.Account.{Accounts, FailsInChange, no_sync};
+ghost use Rattle.disk_theory.specs.Told.{Told};
 ghost use Rattle.file_handles.specs.Answers.{OnRefused, done_or, ending};
 ghost use Rattle.file_handles.specs.Effects.{HasEffect, IsPlainEffect};
 ghost use Rattle.file_handles.specs.Setting.{pin_command};
@@ -13,7 +13,7 @@ ghost use Rattle.index_theory.specs.Leaves.{LeavesBeside};
 use crate::change::Change;
 use crate::{Effect, HandleFault, Handles};
 use cache_theory::Refusal;
-use disk_model::Disk;
+use disk_theory::Disk;
 use std::alloc::Global;
 
 impl Handles {

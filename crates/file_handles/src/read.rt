@@ -7,8 +7,8 @@ ghost use Rattle.cache_base.specs.declared.limits.TheConstants.{SLOTS};
 ghost use Rattle.cache_theory.specs.Command.Command.{ReadPart};
 ghost use Rattle.chunk_cache.specs.Cached.{bytes_of, looked_at};
 ghost use Rattle.chunk_store.specs.Chunks.{chunk as chunk_of};
-ghost use Rattle.disk_model.specs.Account.{Looks};
-ghost use Rattle.disk_model.specs.State.{standing};
+ghost use Rattle.disk_theory.specs.Account.{Looks};
+ghost use Rattle.disk_theory.specs.State.{standing};
 ghost use Rattle.file_handles.specs.Answers.{OnRead, OnRefused, ending};
 ghost use Rattle.file_handles.specs.Held.{body_len_in, rest_in};
 ghost use Rattle.file_handles.specs.Reading.{ForBody, ForBodyHeld, HasReadOrNot, HoldsAsBefore, IsPartHeld, IsStoredChunk, LosesNone, SameButChunks, part_of_body, rest_part};
@@ -19,7 +19,7 @@ use crate::{HandleFault, Handles};
 use cache_base::{Bytes, CHUNK};
 use cache_theory::Refusal;
 use chunk_store::read_chunk_into;
-use disk_model::{Disk, Place};
+use disk_theory::{Disk, Place};
 use std::alloc::Global;
 
 /// A chunk of a body that is on the disk.

@@ -3,8 +3,8 @@
 ghost use Rattle.std.specs.Prelude.{◌≡◌, ◌<◌, IfErr, IfOk, IsSomeAnd, IsTrue, OnOk, ◌≢◌, Err, ◌≤◌, ◌+◌};
 ghost use Rattle.cache_base.specs.declared.limits.TheConstants.{SLOTS};
 ghost use Rattle.cache_theory.specs.Command.Command.{UseEntry};
-ghost use Rattle.disk_model.specs.Account.{Accounts, FailsInChange, no_sync};
-ghost use Rattle.disk_model.specs.Told.{Told};
+ghost use Rattle.disk_theory.specs.Account.{Accounts, FailsInChange, no_sync};
+ghost use Rattle.disk_theory.specs.Told.{Told};
 ghost use Rattle.file_handles.specs.Answers.{OnRefused, done_or, ending};
 ghost use Rattle.file_handles.specs.Effects.{HasEffectAt, IsPlainEffect};
 ghost use Rattle.file_handles.specs.Unsynced.{SyncsNothing};
@@ -14,7 +14,7 @@ use crate::change::Change;
 use crate::{Effect, HandleFault, Handles};
 use cache_base::Moment;
 use cache_theory::Refusal;
-use disk_model::Disk;
+use disk_theory::Disk;
 use std::alloc::Global;
 
 impl Handles {

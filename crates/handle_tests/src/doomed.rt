@@ -1,5 +1,6 @@
 use cache_base::{Bytes, Name, NoMemory, Numbers};
-use disk_model::{Disk, DiskFault, MemDisk, Place};
+use disk_model::MemDisk;
+use disk_theory::{Disk, DiskFault, Place};
 use doom_area::{clear, doom, release};
 use std::alloc::Global;
 use std::test::Fail;

@@ -13,7 +13,7 @@ mod slots;
 mod users;
 
 use cache_base::{Bytes, Moment, Name, Names, NoMemory};
-use disk_model::DiskFault;
+use disk_theory::DiskFault;
 use entry_metadata::Meta;
 use entry_name::name_of;
 use entry_parts::{Elements, Header};

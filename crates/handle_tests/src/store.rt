@@ -2,7 +2,7 @@ use cache_base::Bytes;
 use cache_io::{MemSink, MemSource};
 use cache_script::{Command, Reader};
 use cache_store::{Outcome, Store, StoreFault};
-use disk_model::Disk;
+use disk_theory::Disk;
 use entry_name::{name_of, text_of};
 use real_disk::RealDisk;
 use std::alloc::Global;

@@ -4,7 +4,7 @@ use Rattle.cache_theory.specs.Crash.{IsCrashKept, IsSafe, MayBeFiled}
 use Rattle.cache_theory.specs.Ever.{IsFiledOnce, IsKept, entry_place}
 use Rattle.cache_theory.specs.Machine.{Machine}
 use Rattle.cache_theory.specs.Marks.{Marks}
-use Rattle.disk_model.specs.State.{File, State, settled}
+use Rattle.disk_theory.specs.State.{File, State, settled}
 use Rattle.index_keeps.specs.Keeps.{LeftIsFiledOnce, LeftIsSafe, SparedIsFiledOnce, SparedIsSafe}
 use Rattle.index_theory.specs.Leaves.{LeavesEntries}
 use Rattle.startup_read.specs.Spares.{LeavesOverSyncs, SparesEntries}

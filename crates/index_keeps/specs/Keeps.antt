@@ -7,8 +7,8 @@ use Rattle.cache_theory.specs.Machine.{Machine}
 use Rattle.cache_theory.specs.Marks.{Marks}
 use Rattle.cache_theory.specs.Stands.{EntriesStand}
 use Rattle.cache_theory.specs.Table.{get}
-use Rattle.disk_model.specs.Image.{Files}
-use Rattle.disk_model.specs.State.{State}
+use Rattle.disk_theory.specs.Image.{Files}
+use Rattle.disk_theory.specs.State.{State}
 use Rattle.index_theory.specs.Ever.{entries}
 use Rattle.index_theory.specs.Leaves.{LeavesEntries}
 use Rattle.index_theory.specs.Scan.{scanned}

@@ -2,7 +2,7 @@
 
 ghost use Rattle.std.specs.Prelude.{◌≡◌, IfOk};
 ghost use Rattle.disk_model.specs.MemDisk.{state_in};
-ghost use Rattle.disk_model.specs.Sound.{IsQuiet};
+ghost use Rattle.disk_theory.specs.Sound.{IsQuiet};
 ghost use Rattle.record_list.specs.Lists.{HasNames};
 
 use cache_base::{Bytes, Name, Names, NoMemory, Numbers};
@@ -11,7 +11,8 @@ use cache_check::{
     only_one_table,
 };
 use chunk_store::Damage;
-use disk_model::{DiskFault, MemDisk, Place};
+use disk_model::MemDisk;
+use disk_theory::{DiskFault, Place};
 use entry_file::Unfit;
 use index_record::{IndexRecord, Records};
 use std::alloc::Global;

@@ -1,11 +1,12 @@
 ghost use Rattle.disk_model.specs.MemDisk.{state_in};
-ghost use Rattle.disk_model.specs.Sound.{IsQuiet};
-ghost use Rattle.disk_model.specs.State.{State};
+ghost use Rattle.disk_theory.specs.Sound.{IsQuiet};
+ghost use Rattle.disk_theory.specs.State.{State};
 ghost use Rattle.startup_read.specs.Kept.{KeepsIndex};
 
 use crate::examples::{CHANGES, CLEAN, NOTHING};
 use cache_base::{Bytes, Moment, Name, NoMemory, Numbers};
-use disk_model::{Disk, DiskFault, MemDisk, Place};
+use disk_model::MemDisk;
+use disk_theory::{Disk, DiskFault, Place};
 use index_map::RecordMap;
 use startup_read::{Start, close_index, open_index};
 use std::alloc::Global;

@@ -4,7 +4,8 @@ ghost use Rattle.index_map.specs.Known.{ArePlain, IsPlain};
 
 use crate::examples::record;
 use cache_base::{Name, NoMemory, Numbers};
-use disk_model::{Disk, DiskFault, MemDisk, Place};
+use disk_model::MemDisk;
+use disk_theory::{Disk, DiskFault, Place};
 use index_map::RecordMap;
 use index_record::{IndexRecord, Records};
 use index_update::Update;

@@ -1,16 +1,16 @@
 -- What a crash may leave at `clear`, and what each change of the disk adds to it.
 use Rattle.std.proofs.Common.{◌≡◌, ◌≢◌, ◌⊎◌, ◌<◌, arith, zero, suc, inl, inr, ℕ, List, [], Option, Some, None, refl, sym, ap, subst, ◌∙◌, ⊎_elim}
 use Rattle.std.specs.Prelude.{length, ⊤, ◌-◌}
-use Rattle.disk_model.specs.declared.place.Place.{Place}
-use Rattle.disk_model.specs.declared.place.Place.TheVariants.{Clear}
-use Rattle.disk_model.specs.Image.{MayStand}
-use Rattle.disk_model.specs.Sound.{IsSound, names_before}
-use Rattle.disk_model.specs.State.{File, State, Write, content_after, content_of, created, empty_file, names_now, removed, renamed, settled, standing, with_name, wrote}
-use Rattle.disk_model.specs.Writes.{WritesTo}
-use Rattle.disk_model.proofs.Files.{with_file-below}
-use Rattle.disk_model.proofs.Images.{holds_synced}
-use Rattle.disk_model.proofs.Places.{never}
-use Rattle.disk_model.proofs.Sound.{found}
+use Rattle.disk_theory.specs.declared.place.Place.{Place}
+use Rattle.disk_theory.specs.declared.place.Place.TheVariants.{Clear}
+use Rattle.disk_theory.specs.Image.{MayStand}
+use Rattle.disk_theory.specs.Sound.{IsSound, names_before}
+use Rattle.disk_theory.specs.State.{File, State, Write, content_after, content_of, created, empty_file, names_now, removed, renamed, settled, standing, with_name, wrote}
+use Rattle.disk_theory.specs.Writes.{WritesTo}
+use Rattle.disk_theory.proofs.Files.{with_file-below}
+use Rattle.disk_theory.proofs.Images.{holds_synced}
+use Rattle.disk_theory.proofs.Places.{never}
+use Rattle.disk_theory.proofs.Sound.{found}
 use Rattle.index_theory.specs.AtClear.{ImageMayBeAtClear, IsClearApart, KeepsClear, MayBeAtClear, QuietIsAtClear, QuietIsClearApart, RemoveAtClear, RenameToClear, SyncKeepsClear}
 use Rattle.index_theory.specs.Ever.{EverAt, EverNone}
 use Rattle.index_theory.proofs.ApartLaws.{untouched}

@@ -3,14 +3,14 @@ use Rattle.std.proofs.Common.{◌≡◌, ◌≢◌, ◌⊎◌, inl, inr, ℕ, ze
 use Rattle.std.specs.List.{AllByRecursion}
 use Rattle.std.specs.Prelude.{is_some}
 use Rattle.cache_base.specs.Bytes.{be32}
-use Rattle.disk_model.specs.declared.place.Place.{Place}
-use Rattle.disk_model.specs.declared.place.Place.TheVariants.{Doomed, Index, Log, Tmp}
-use Rattle.disk_model.specs.Image.{Files, MayStand}
-use Rattle.disk_model.specs.Sound.{IsQuiet, IsSound, names_before}
-use Rattle.disk_model.specs.State.{File, State, Write, add_write, content_after, content_of, names_now, removed, renamed, standing, write_to, written, wrote, content}
-use Rattle.disk_model.specs.State.Write.{Patch}
-use Rattle.disk_model.proofs.Files.{with_file-cases}
-use Rattle.disk_model.proofs.Standing.{wrote_puts}
+use Rattle.disk_theory.specs.declared.place.Place.{Place}
+use Rattle.disk_theory.specs.declared.place.Place.TheVariants.{Doomed, Index, Log, Tmp}
+use Rattle.disk_theory.specs.Image.{Files, MayStand}
+use Rattle.disk_theory.specs.Sound.{IsQuiet, IsSound, names_before}
+use Rattle.disk_theory.specs.State.{File, State, Write, add_write, content_after, content_of, names_now, removed, renamed, standing, write_to, written, wrote, content}
+use Rattle.disk_theory.specs.State.Write.{Patch}
+use Rattle.disk_theory.proofs.Files.{with_file-cases}
+use Rattle.disk_theory.proofs.Standing.{wrote_puts}
 use Rattle.index_theory.specs.Ever.{entry_place}
 use Rattle.index_theory.specs.Honest.{Agrees, Honest, journal_records}
 use Rattle.index_theory.specs.IndexKind.{index_kind}

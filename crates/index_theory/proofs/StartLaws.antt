@@ -1,9 +1,9 @@
 -- How an opening starts, and what an index and a journal that stand say.
 use Rattle.std.proofs.Common.{◌≡◌, ◌≢◌, ℕ, List, Bool, true, false, cond, Option, Some, None, refl, sym, ap, ◌∙◌, subst}
 use Rattle.std.specs.Prelude.{is_none, is_some}
-use Rattle.disk_model.specs.Image.{Files}
-use Rattle.disk_model.proofs.Images.{only_now}
-use Rattle.disk_model.specs.declared.place.Place.TheVariants.{Index, Log}
+use Rattle.disk_theory.specs.Image.{Files}
+use Rattle.disk_theory.proofs.Images.{only_now}
+use Rattle.disk_theory.specs.declared.place.Place.TheVariants.{Index, Log}
 use Rattle.index_file.specs.Checks.{index_fault, is_dirty_in}
 use Rattle.index_file.specs.declared.fault.IndexFault.{IndexFault}
 use Rattle.index_file.proofs.IndexLaws.{index_reads_back}

@@ -1,10 +1,10 @@
 -- What a crash may leave at `clear`, the place of the mark of a clearing.
 use Rattle.std.specs.Prelude.{List, None, Option, Some, [], ℕ, ◌≡◌, ◌≢◌, ◌⊎◌}
-use Rattle.disk_model.specs.Image.{Files, IsImage}
-use Rattle.disk_model.specs.Sound.{IsQuiet, IsSound}
-use Rattle.disk_model.specs.State.{State, names_now, removed, renamed, settled, standing}
-use Rattle.disk_model.specs.declared.place.Place.{Place}
-use Rattle.disk_model.specs.declared.place.Place.TheVariants.{Clear}
+use Rattle.disk_theory.specs.Image.{Files, IsImage}
+use Rattle.disk_theory.specs.Sound.{IsQuiet, IsSound}
+use Rattle.disk_theory.specs.State.{State, names_now, removed, renamed, settled, standing}
+use Rattle.disk_theory.specs.declared.place.Place.{Place}
+use Rattle.disk_theory.specs.declared.place.Place.TheVariants.{Clear}
 use Rattle.index_theory.specs.Ever.{EverAt, EverNone}
 
 -- a file that ever stood at `clear` since the sync is unwritten since then, and stands nowhere else now

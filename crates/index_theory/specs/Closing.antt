@@ -2,10 +2,10 @@
 use Rattle.std.specs.Prelude.{Bool, List, None, false, length, ℕ, ◌≡◌}
 use Rattle.cache_base.specs.Bytes.{be32}
 use Rattle.cache_base.specs.declared.name.Name.{Name}
-use Rattle.disk_model.specs.Sound.{IsQuiet, IsSound}
-use Rattle.disk_model.specs.State.{State, created, settled, standing, wrote}
-use Rattle.disk_model.specs.State.Write.{End, Patch}
-use Rattle.disk_model.specs.declared.place.Place.TheVariants.{Index, Log, Tmp}
+use Rattle.disk_theory.specs.Sound.{IsQuiet, IsSound}
+use Rattle.disk_theory.specs.State.{State, created, settled, standing, wrote}
+use Rattle.disk_theory.specs.State.Write.{End, Patch}
+use Rattle.disk_theory.specs.declared.place.Place.TheVariants.{Index, Log, Tmp}
 use Rattle.index_file.specs.Index.{flag_at}
 use Rattle.index_record.specs.declared.record.IndexRecord.{IndexRecord}
 use Rattle.index_theory.specs.Apart.{IsApart}

@@ -1,10 +1,10 @@
 -- What stood at a place after some number of the name steps since the last sync.
 use Rattle.std.specs.Prelude.{List, None, Option, Some, [], ℕ, ◌≡◌}
-use Rattle.disk_model.specs.Image.{Files}
-use Rattle.disk_model.specs.Sound.{names_before}
-use Rattle.disk_model.specs.State.{State, standing}
-use Rattle.disk_model.specs.declared.place.Place.{Place}
-use Rattle.disk_model.specs.declared.place.Place.TheVariants.{Entry}
+use Rattle.disk_theory.specs.Image.{Files}
+use Rattle.disk_theory.specs.Sound.{names_before}
+use Rattle.disk_theory.specs.State.{State, standing}
+use Rattle.disk_theory.specs.declared.place.Place.{Place}
+use Rattle.disk_theory.specs.declared.place.Place.TheVariants.{Entry}
 
 -- the place of the entry of a name
 abbrev pub entry_place : List ℕ → Place

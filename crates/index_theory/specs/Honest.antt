@@ -1,10 +1,10 @@
 -- Directories whose index, where it is trusted, says what a scan would.
 use Rattle.std.specs.Prelude.{Bool, List, None, Option, Some, [], false, if◌then◌else◌, ℕ, ◌↔◌, ◌≡◌}
 use Rattle.cache_base.specs.declared.name.Name.{Name}
-use Rattle.disk_model.specs.Image.{Files, IsImage}
-use Rattle.disk_model.specs.Sound.{IsQuiet}
-use Rattle.disk_model.specs.State.{State, standing}
-use Rattle.disk_model.specs.declared.place.Place.TheVariants.{Index, Log, Tmp}
+use Rattle.disk_theory.specs.Image.{Files, IsImage}
+use Rattle.disk_theory.specs.Sound.{IsQuiet}
+use Rattle.disk_theory.specs.State.{State, standing}
+use Rattle.disk_theory.specs.declared.place.Place.TheVariants.{Index, Log, Tmp}
 use Rattle.index_file.specs.Checks.{index_fault, index_in}
 use Rattle.index_file.specs.Index.{IndexSpells}
 use Rattle.index_file.specs.declared.fault.IndexFault.{IndexFault}

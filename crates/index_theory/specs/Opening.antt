@@ -2,10 +2,10 @@
 use Rattle.std.specs.List.{AllByRecursion}
 use Rattle.std.specs.Prelude.{Bool, List, None, Some, length, not, ℕ, ◌<◌, ◌==◌, ◌^◌, ◌≡◌, ◌⊎◌}
 use Rattle.cache_base.specs.Bytes.{be32}
-use Rattle.disk_model.specs.Sound.{IsQuiet, IsSound, names_before}
-use Rattle.disk_model.specs.State.{File, State, Write, names_now, removed, renamed, settled, standing, written, wrote}
-use Rattle.disk_model.specs.State.Write.{End, Patch}
-use Rattle.disk_model.specs.declared.place.Place.TheVariants.{Doomed, Index, Log, Tmp}
+use Rattle.disk_theory.specs.Sound.{IsQuiet, IsSound, names_before}
+use Rattle.disk_theory.specs.State.{File, State, Write, names_now, removed, renamed, settled, standing, written, wrote}
+use Rattle.disk_theory.specs.State.Write.{End, Patch}
+use Rattle.disk_theory.specs.declared.place.Place.TheVariants.{Doomed, Index, Log, Tmp}
 use Rattle.index_file.specs.Index.{IndexSpells, flag_at}
 use Rattle.index_record.specs.declared.record.IndexRecord.{IndexRecord}
 use Rattle.index_theory.specs.Ever.{entry_place}

@@ -2,8 +2,8 @@
 use Rattle.std.specs.Prelude.{Bool, false, is_some, true}
 use Rattle.index_theory.specs.declared.kinds.Start.{Start}
 use Rattle.index_theory.specs.declared.kinds.Start.TheVariants.{Ready, Update, Build}
-use Rattle.disk_model.specs.Image.{Files}
-use Rattle.disk_model.specs.declared.place.Place.TheVariants.{Index, Log, Tmp}
+use Rattle.disk_theory.specs.Image.{Files}
+use Rattle.disk_theory.specs.declared.place.Place.TheVariants.{Index, Log, Tmp}
 use Rattle.index_theory.specs.declared.kinds.IndexKind.{IndexKind}
 use Rattle.index_theory.specs.IndexKind.{index_kind}
 use Rattle.index_theory.specs.declared.kinds.IndexKind.TheVariants.{Missing as NoIndex, Invalid as BadIndex, Dirty, Clean}

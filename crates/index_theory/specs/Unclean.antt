@@ -1,11 +1,11 @@
 -- While a cache is open, no crash leaves an index that is trusted.
 use Rattle.std.specs.Prelude.{List, Option, Some, [], ℕ, ⊤, ◌≡◌, ◌≢◌}
-use Rattle.disk_model.specs.Image.{Files, IsImage}
-use Rattle.disk_model.specs.Sound.{IsSound}
-use Rattle.disk_model.specs.State.{State, created, names_now, removed, renamed, settled, standing}
-use Rattle.disk_model.specs.Writes.{WritesTo}
-use Rattle.disk_model.specs.declared.place.Place.{Place}
-use Rattle.disk_model.specs.declared.place.Place.TheVariants.{Index}
+use Rattle.disk_theory.specs.Image.{Files, IsImage}
+use Rattle.disk_theory.specs.Sound.{IsSound}
+use Rattle.disk_theory.specs.State.{State, created, names_now, removed, renamed, settled, standing}
+use Rattle.disk_theory.specs.Writes.{WritesTo}
+use Rattle.disk_theory.specs.declared.place.Place.{Place}
+use Rattle.disk_theory.specs.declared.place.Place.TheVariants.{Index}
 use Rattle.index_theory.specs.Ever.{EverAt, IsKept}
 use Rattle.index_theory.specs.Honest.{Honest, LeavesHonest}
 use Rattle.index_theory.specs.IndexKind.{index_kind}

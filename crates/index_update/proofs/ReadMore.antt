@@ -3,8 +3,8 @@ use Rattle.std.proofs.Common.{◌≡◌, ◌+◌, ◌*◌, ◌<◌, ℕ, Bool, t
 use Rattle.std.proofs.lemmas.List.{take_more}
 use Rattle.std.proofs.lemmas.List.Elements.{Contains-append_left, Contains-push, Contains-push_cases}
 use Rattle.cache_base.specs.declared.name.Name.{Name}
-use Rattle.disk_model.specs.Calls.{Counts}
-use Rattle.disk_model.specs.State.{State, standing}
+use Rattle.disk_theory.specs.Calls.{Counts}
+use Rattle.disk_theory.specs.State.{State, standing}
 use Rattle.entry_file.specs.Looks.{LooksAtMost}
 use Rattle.index_map.specs.Known.{Known, SameBase, Sets}
 use Rattle.index_record.specs.declared.record.IndexRecord.{IndexRecord}

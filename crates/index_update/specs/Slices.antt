@@ -2,10 +2,10 @@
 use Rattle.std.specs.Prelude.{IsTrue, List, [], ℕ, ◌*◌, ◌≡◌, ◌≢◌}
 use Rattle.cache_base.specs.Causes.{HasCause}
 use Rattle.cache_base.specs.declared.name.Name.{Name}
-use Rattle.disk_model.specs.Account.{Ending}
-use Rattle.disk_model.specs.Account.Ending.{OneFailed}
-use Rattle.disk_model.specs.Calls.{LastLookFails}
-use Rattle.disk_model.specs.declared.disk.Disk.{Ghosts}
+use Rattle.disk_theory.specs.Account.{Ending}
+use Rattle.disk_theory.specs.Account.Ending.{OneFailed}
+use Rattle.disk_theory.specs.Calls.{LastLookFails}
+use Rattle.disk_theory.specs.declared.disk.Disk.{Ghosts}
 use Rattle.entry_file.specs.Looks.{LooksAtMost, meta_looks}
 use Rattle.index_map.specs.Known.{Known}
 use Rattle.index_theory.specs.Ever.{Entries}

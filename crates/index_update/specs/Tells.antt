@@ -1,8 +1,8 @@
 -- What the records in memory say of the entries, while an update has a rest and when it has ended.
 use Rattle.std.specs.Prelude.{Contains, List, None, Option, [], ℕ, ◌≡◌, ◌≢◌}
 use Rattle.cache_base.specs.declared.name.Name.{Name}
-use Rattle.disk_model.specs.Listing.{AreEntries}
-use Rattle.disk_model.specs.State.{State}
+use Rattle.disk_theory.specs.Listing.{AreEntries}
+use Rattle.disk_theory.specs.State.{State}
 use Rattle.index_map.specs.Known.{Known, Sets}
 use Rattle.index_record.specs.declared.record.IndexRecord.{IndexRecord}
 use Rattle.index_theory.specs.Scan.{IsScan, TellsScan, scanned}

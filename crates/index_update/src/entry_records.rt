@@ -2,9 +2,9 @@
 
 ghost use Rattle.std.specs.Prelude.{◌≡◌, ◌*◌, IfOk, IfSome, IsErrOf, IsTrue, OnErr, OnOk, length};
 ghost use Rattle.cache_base.specs.Causes.{HasCause};
-ghost use Rattle.disk_model.specs.Account.{Ending, ending};
-ghost use Rattle.disk_model.specs.Calls.{LastLookFails};
-ghost use Rattle.disk_model.specs.declared.disk.DiskFault.TheVariants.{Failed};
+ghost use Rattle.disk_theory.specs.Account.{Ending, ending};
+ghost use Rattle.disk_theory.specs.Calls.{LastLookFails};
+ghost use Rattle.disk_theory.specs.declared.disk.DiskFault.TheVariants.{Failed};
 ghost use Rattle.entry_file.specs.Looks.{LooksAtMost, meta_looks};
 ghost use Rattle.entry_metadata.specs.Meta.{meta_of};
 ghost use Rattle.index_map.specs.Known.{IsPlain, SameBase, Sets};
@@ -14,7 +14,7 @@ ghost use Rattle.index_theory.specs.Ever.{entries_on};
 ghost use Rattle.index_update.specs.Reads.{Reads, ReadsSome};
 
 use cache_base::Name;
-use disk_model::{Disk, DiskFault, Place};
+use disk_theory::{Disk, DiskFault, Place};
 use entry_file::{EntryRead, read_meta};
 use entry_metadata::Meta;
 use index_map::RecordMap;

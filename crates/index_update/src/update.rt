@@ -2,9 +2,9 @@
 
 ghost use Rattle.std.specs.Prelude.{◌≡◌, ◌≢◌, ◌↔◌, [], IfOk, IsTrue, OnErr, OnOk, drop, length, take};
 ghost use Rattle.cache_base.specs.Names.{AreRising, has_name};
-ghost use Rattle.disk_model.specs.Account.{Looks, ending};
-ghost use Rattle.disk_model.specs.Calls.{counted_look};
-ghost use Rattle.disk_model.specs.Listing.{AreEntries};
+ghost use Rattle.disk_theory.specs.Account.{Looks, ending};
+ghost use Rattle.disk_theory.specs.Calls.{counted_look};
+ghost use Rattle.disk_theory.specs.Listing.{AreEntries};
 ghost use Rattle.index_map.specs.Known.{SameBase};
 ghost use Rattle.index_theory.specs.Ever.{entries_on};
 ghost use Rattle.index_update.specs.Reads.{ReadsSome};
@@ -15,7 +15,7 @@ ghost use Rattle.index_update.specs.Tells.{GoesOnTelling};
 use crate::entry_records::read_each;
 use crate::names::{first_of, take_off};
 use cache_base::{Name, Names, NoMemory, name_set};
-use disk_model::{Disk, DiskFault};
+use disk_theory::{Disk, DiskFault};
 use index_map::RecordMap;
 use std::alloc::Global;
 use std::collections::BTreeSet;

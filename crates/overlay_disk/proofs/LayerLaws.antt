@@ -2,11 +2,11 @@
 use Rattle.std.proofs.Common.{ℕ, List, length, take, ◌≡◌, ◌∙◌, Option, Some, None, IsSome, OnErr, OnOk, Result, Ok, Err, Bool, true, false, if◌then◌else◌, arith, refl, sym, ap, subst}
 use Rattle.std.specs.Option.{option_map}
 use Rattle.std.proofs.lemmas.List.{take_all}
-use Rattle.disk_model.specs.declared.place.Place.{Place}
-use Rattle.disk_model.specs.Image.{Files}
-use Rattle.disk_model.specs.Place.{is_same}
-use Rattle.disk_model.specs.State.{Write, written}
-use Rattle.disk_model.proofs.Places.{is_same-refl, is_same-apart, never, one_same}
+use Rattle.disk_theory.specs.declared.place.Place.{Place}
+use Rattle.disk_theory.specs.Image.{Files}
+use Rattle.disk_theory.specs.Place.{is_same}
+use Rattle.disk_theory.specs.State.{Write, written}
+use Rattle.disk_theory.proofs.Places.{is_same-refl, is_same-apart, never, one_same}
 use Rattle.overlay_disk.specs.Seen.{Overs, content_over, held, seen, seen_as, with_over, MovesTo, PutsAt, SameFiles}
 use Rattle.overlay_disk.specs.declared.over.Over.{Over}
 use Rattle.overlay_disk.specs.declared.over.Over.TheVariants.{Below, Gone, File}

@@ -14,10 +14,10 @@ use Rattle.std.proofs.lemmas.Bool.{cases_Bool}
 use Rattle.std.proofs.lemmas.Map.Lookups.{CmpEqualImpliesEq, exact_bytes, exact_unsigned}
 use Rattle.std.proofs.lemmas.Map.Keys.{sorted_head, sorted_tail}
 use Rattle.std.proofs.lemmas.Map.Views.{Contains-from_any, list_any-from_Contains, tells_apart}
-use Rattle.disk_model.specs.declared.place.Place.{Place}
-use Rattle.disk_model.specs.contracts.place.PlaceOrd.TheImpl as place_ord
-use Rattle.disk_model.specs.Image.{Files}
-use Rattle.disk_model.proofs.Places.{places_apart}
+use Rattle.disk_theory.specs.declared.place.Place.{Place}
+use Rattle.disk_theory.specs.contracts.place.PlaceOrd.TheImpl as place_ord
+use Rattle.disk_theory.specs.Image.{Files}
+use Rattle.disk_theory.proofs.Places.{places_apart}
 use Rattle.overlay_disk.specs.Listed.{followed, stands_after}
 use Rattle.overlay_disk.specs.Seen.{Overs, over_of, seen, seen_as}
 use Rattle.overlay_disk.specs.declared.over.Over.{Over}

@@ -4,8 +4,8 @@ use Rattle.std.proofs.Math.Seq.{take-add, take-append-add, take-append_seam, dro
 use Rattle.std.proofs.lemmas.List.{append-nil, append_assoc, drop-append-le, drop-take, drop_all, length-append, length-drop, length-take, take-append-le, take-take, take_all}
 use Rattle.std.proofs.lemmas.Bool.{ltb-false, ltb-true}
 use Rattle.std.proofs.lemmas.Slice.{drop-append-drop}
-use Rattle.disk_model.proofs.Images.{drop-nil}
-use Rattle.disk_model.specs.State.{part_of}
+use Rattle.disk_theory.proofs.Images.{drop-nil}
+use Rattle.disk_theory.specs.State.{part_of}
 use Rattle.overlay_disk.specs.Seen.{held}
 
 -- the rest from a place on, where that lies in the second list

@@ -1,10 +1,10 @@
 -- What is known of places in a map of slots, one of which is changed.
 use Rattle.std.proofs.Common.{◌≡◌, Bool, true, false, Some, IsSome, if◌then◌else◌, refl, sym, ◌∙◌, ap, subst}
 use Rattle.std.specs.BTreeMap.{Updates}
-use Rattle.disk_model.specs.declared.place.Place.{Place}
-use Rattle.disk_model.specs.contracts.place.PlaceOrd.TheImpl as place_ord
-use Rattle.disk_model.specs.Place.{is_same}
-use Rattle.disk_model.proofs.Places.{same_test, one_same}
+use Rattle.disk_theory.specs.declared.place.Place.{Place}
+use Rattle.disk_theory.specs.contracts.place.PlaceOrd.TheImpl as place_ord
+use Rattle.disk_theory.specs.Place.{is_same}
+use Rattle.disk_theory.proofs.Places.{same_test, one_same}
 use Rattle.overlay_disk.specs.Seen.{Overs, Slots, slot_at, over_of, overs_in, with_over, HasSlot}
 use Rattle.overlay_disk.specs.declared.over.Over.{Over}
 

@@ -1,6 +1,6 @@
 -- What a disk has kept that was only looked at.
 use Rattle.std.specs.Prelude.{IsTrue, ◌≡◌}
-use Rattle.disk_model.specs.declared.disk.Disk.{Ghosts}
+use Rattle.disk_theory.specs.declared.disk.Disk.{Ghosts}
 
 -- no change was made of the disk and no sync: it holds the same, with the same steps since its last sync, and no change
 -- and no sync of it failed

@@ -1,10 +1,10 @@
 -- What stands over a disk: what was changed, and else what stands below.
 use Rattle.std.specs.Prelude.{◌≡◌, ◌≢◌, ℕ, if◌then◌else◌, List, [], ◌++◌, take, Option, Some, None, IsSome}
 use Rattle.std.specs.BTreeMap.{BTreeMap, get}
-use Rattle.disk_model.specs.declared.place.Place.{Place}
-use Rattle.disk_model.specs.contracts.place.PlaceOrd.TheImpl as place_ord
-use Rattle.disk_model.specs.Place.{is_same}
-use Rattle.disk_model.specs.Image.{Files}
+use Rattle.disk_theory.specs.declared.place.Place.{Place}
+use Rattle.disk_theory.specs.contracts.place.PlaceOrd.TheImpl as place_ord
+use Rattle.disk_theory.specs.Place.{is_same}
+use Rattle.disk_theory.specs.Image.{Files}
 use Rattle.overlay_disk.specs.declared.over.Over.{Over}
 use Rattle.overlay_disk.specs.declared.over.Over.TheVariants.{Below, Gone, File}
 use Rattle.overlay_disk.specs.declared.over.OverFile.{OverFile}

@@ -1,8 +1,8 @@
 -- What a disk over another one shows.
 use Rattle.std.specs.Prelude.{IsTrue}
-use Rattle.disk_model.specs.Image.{Files}
-use Rattle.disk_model.specs.State.{standing}
-use Rattle.disk_model.specs.declared.disk.Disk.{Ghosts}
+use Rattle.disk_theory.specs.Image.{Files}
+use Rattle.disk_theory.specs.State.{standing}
+use Rattle.disk_theory.specs.declared.disk.Disk.{Ghosts}
 use Rattle.overlay_disk.specs.OnlySeen.{IsOnlySeen}
 use Rattle.overlay_disk.specs.Seen.{overs_in, seen}
 use Rattle.overlay_disk.specs.declared.layer.Layer.{Layer}

@@ -5,20 +5,20 @@ ghost use Rattle.std.specs.Option.{option_map};
 ghost use Rattle.cache_base.specs.declared.name.Name.{Name as NameValue};
 ghost use Rattle.cache_base.specs.Names.{AreRising};
 ghost use Rattle.cache_base.specs.Causes.{Rose};
-ghost use Rattle.disk_model.specs.declared.place.Place.{Place as Where};
-ghost use Rattle.disk_model.specs.declared.place.Place.TheVariants.{Doomed, Entry};
-ghost use Rattle.disk_model.specs.State.{part_of, standing, written};
-ghost use Rattle.disk_model.specs.State.Write.{End, Patch};
-ghost use Rattle.disk_model.specs.declared.disk.DiskFault.TheVariants.{Memory};
-ghost use Rattle.disk_model.specs.Calls.{HoldsPart, MayWriteAt};
-ghost use Rattle.disk_model.specs.Listing.{AreRisingNumbers};
+ghost use Rattle.disk_theory.specs.declared.place.Place.{Place as Where};
+ghost use Rattle.disk_theory.specs.declared.place.Place.TheVariants.{Doomed, Entry};
+ghost use Rattle.disk_theory.specs.State.{part_of, standing, written};
+ghost use Rattle.disk_theory.specs.State.Write.{End, Patch};
+ghost use Rattle.disk_theory.specs.declared.disk.DiskFault.TheVariants.{Memory};
+ghost use Rattle.disk_theory.specs.Calls.{HoldsPart, MayWriteAt};
+ghost use Rattle.disk_theory.specs.Listing.{AreRisingNumbers};
 
 use crate::listing::{doomed_numbers, entry_names};
 use crate::over::{Over, OverFile};
 use crate::read_only::ReadOnly;
 use crate::slots::{make_slot, put, take};
 use cache_base::{Names, Numbers};
-use disk_model::{Disk, DiskFault, Place};
+use disk_theory::{Disk, DiskFault, Place};
 use std::alloc::Global;
 use std::collections::BTreeMap;
 

@@ -8,14 +8,14 @@ ghost use Rattle.std.specs.List.Sorted.{IsStrictlySortedBy};
 ghost use Rattle.std.specs.Ordering.{nat_cmp};
 ghost use Rattle.cache_base.specs.Names.{AreRising, name_cmp};
 ghost use Rattle.cache_base.specs.declared.name.Name.{Name as NameValue};
-ghost use Rattle.disk_model.specs.declared.place.Place.TheVariants.{Doomed, Entry};
-ghost use Rattle.disk_model.specs.Listing.{AreRisingNumbers};
+ghost use Rattle.disk_theory.specs.declared.place.Place.TheVariants.{Doomed, Entry};
+ghost use Rattle.disk_theory.specs.Listing.{AreRisingNumbers};
 ghost use Rattle.overlay_disk.specs.Listed.{followed, stands_after};
 ghost use Rattle.overlay_disk.specs.Seen.{overs_in};
 
 use crate::over::Over;
 use cache_base::{Items, Name, Names, NoMemory, Numbers, listed, name_set};
-use disk_model::Place;
+use disk_theory::Place;
 use std::alloc::{AllocError, Global};
 use std::collections::{BTreeMap, BTreeSet};
 

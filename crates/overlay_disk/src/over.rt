@@ -2,13 +2,13 @@
 
 ghost use Rattle.std.specs.Prelude.{◌≡◌, ◌⊎◌, ◌<◌, ◌≤◌, ◌+◌, ◌-◌, ◌^◌, ◌++◌, [], IfOk, IsErrOf, IsTrue, OnErr, OnOk, drop, length, min, take};
 ghost use Rattle.cache_base.specs.Causes.{Rose};
-ghost use Rattle.disk_model.specs.Image.{Files};
-ghost use Rattle.disk_model.specs.State.{standing, written};
-ghost use Rattle.disk_model.specs.State.Write.{End, Patch};
+ghost use Rattle.disk_theory.specs.Image.{Files};
+ghost use Rattle.disk_theory.specs.State.{standing, written};
+ghost use Rattle.disk_theory.specs.State.Write.{End, Patch};
 ghost use Rattle.overlay_disk.specs.OnlySeen.{IsOnlySeen};
 
 use crate::read_only::ReadOnly;
-use disk_model::{Disk, DiskFault, Place};
+use disk_theory::{Disk, DiskFault, Place};
 use std::alloc::Global;
 
 /// What stands at a place.

@@ -5,17 +5,17 @@ ghost use Rattle.std.specs.Option.{option_map};
 ghost use Rattle.cache_base.specs.Causes.{HasCause, Rose};
 ghost use Rattle.cache_base.specs.declared.name.Name.{Name as NameValue};
 ghost use Rattle.cache_base.specs.Names.{AreRising};
-ghost use Rattle.disk_model.specs.Calls.{HoldsPart, MayWriteAt, no_counts};
-ghost use Rattle.disk_model.specs.declared.disk.DiskFault.TheVariants.{Memory};
-ghost use Rattle.disk_model.specs.declared.place.Place.TheVariants.{Doomed, Entry};
-ghost use Rattle.disk_model.specs.Listing.{AreRisingNumbers};
-ghost use Rattle.disk_model.specs.Silent.{nothing, never, never_finite};
-ghost use Rattle.disk_model.specs.State.{part_of, standing, written};
-ghost use Rattle.disk_model.specs.State.Write.{End, Patch};
+ghost use Rattle.disk_theory.specs.Calls.{HoldsPart, MayWriteAt, no_counts};
+ghost use Rattle.disk_theory.specs.declared.disk.DiskFault.TheVariants.{Memory};
+ghost use Rattle.disk_theory.specs.declared.place.Place.TheVariants.{Doomed, Entry};
+ghost use Rattle.disk_theory.specs.Listing.{AreRisingNumbers};
+ghost use Rattle.disk_theory.specs.Silent.{nothing, never, never_finite};
+ghost use Rattle.disk_theory.specs.State.{part_of, standing, written};
+ghost use Rattle.disk_theory.specs.State.Write.{End, Patch};
 
 use crate::layer::Layer;
 use cache_base::{Names, Numbers};
-use disk_model::{Disk, DiskFault, Place};
+use disk_theory::{Disk, DiskFault, Place};
 use std::alloc::Global;
 
 /// A disk on which all that stands below stands until it is changed. What changes is held in memory: names that went

@@ -4,13 +4,13 @@ ghost use Rattle.std.specs.Prelude.{◌≡◌, ◌≤◌, ◌++◌, IfOk, IsErrO
 ghost use Rattle.std.specs.Option.{option_map};
 ghost use Rattle.cache_base.specs.Causes.{HasCause};
 ghost use Rattle.cache_base.specs.Names.{AreRising};
-ghost use Rattle.disk_model.specs.Calls.{counted_look, counted_read};
-ghost use Rattle.disk_model.specs.Listing.{AreEntries, AreDoomed, AreRisingNumbers};
-ghost use Rattle.disk_model.specs.State.{part_of, standing};
+ghost use Rattle.disk_theory.specs.Calls.{counted_look, counted_read};
+ghost use Rattle.disk_theory.specs.Listing.{AreEntries, AreDoomed, AreRisingNumbers};
+ghost use Rattle.disk_theory.specs.State.{part_of, standing};
 ghost use Rattle.overlay_disk.specs.OnlySeen.{IsOnlySeen};
 
 use cache_base::{Names, Numbers};
-use disk_model::{Disk, DiskFault, Place};
+use disk_theory::{Disk, DiskFault, Place};
 
 /// A disk of which only the calls that look can be made: its field is seen in this file alone.
 #[derive(Drop)]

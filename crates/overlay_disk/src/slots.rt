@@ -1,12 +1,12 @@
 //! What stands at the places that were changed.
 
 ghost use Rattle.std.specs.Prelude.{◌≡◌, OnOk};
-ghost use Rattle.disk_model.specs.declared.place.Place.{Place as Where};
+ghost use Rattle.disk_theory.specs.declared.place.Place.{Place as Where};
 ghost use Rattle.overlay_disk.specs.Seen.{overs_in, with_over, HasSlot};
 ghost use Rattle.overlay_disk.specs.declared.over.Over.TheVariants.{Below};
 
 use crate::over::Over;
-use disk_model::Place;
+use disk_theory::Place;
 use std::alloc::AllocError;
 use std::collections::BTreeMap;
 use std::mem;

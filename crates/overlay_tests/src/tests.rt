@@ -1,7 +1,8 @@
 //! Tables of calls over a disk in memory, each with its answer.
 
 use cache_base::{Name, Names, Numbers};
-use disk_model::{Disk, DiskFault, LiarDisk, MemDisk, Place};
+use disk_model::{LiarDisk, MemDisk};
+use disk_theory::{Disk, DiskFault, Place};
 use overlay_disk::OverlayDisk;
 use std::alloc::Global;
 use std::test::Fail;

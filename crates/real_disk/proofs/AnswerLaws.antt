@@ -7,7 +7,7 @@ use Rattle.real_disk.specs.Earlier.{IsSynced}
 use Rattle.real_disk.specs.Folders.{NoneLeft}
 use Rattle.real_disk.specs.Settled.{IsAllSynced}
 use Rattle.real_disk.specs.Pending.{NothingPending}
-use Rattle.disk_model.specs.declared.place.Place.{Place}
+use Rattle.disk_theory.specs.declared.place.Place.{Place}
 use Rattle.real_disk.specs.declared.machine.Machine.{Ghosts}
 use Rattle.real_disk.specs.Changes.{IsMoved, IsRemoved, MovesKept}
 use Rattle.real_disk.specs.Handed.{RemovesAt, RenamesTo}

@@ -3,9 +3,9 @@ use Rattle.std.proofs.Common.{◌≡◌, subst, inl, inr, Option, Some, None, If
 use Rattle.std.proofs.lemmas.Bool.{cases_Bool}
 use Rattle.std.proofs.lemmas.Map.Views.{tells_apart}
 use Rattle.std.specs.BTreeMap.{is_at}
-use Rattle.disk_model.specs.declared.place.Place.{Place}
-use Rattle.disk_model.specs.contracts.place.PlaceOrd.TheImpl as place_ord
-use Rattle.disk_model.proofs.Places.{places_apart}
+use Rattle.disk_theory.specs.declared.place.Place.{Place}
+use Rattle.disk_theory.specs.contracts.place.PlaceOrd.TheImpl as place_ord
+use Rattle.disk_theory.proofs.Places.{places_apart}
 use Rattle.real_disk.specs.declared.kept.Kept.{Kept}
 use Rattle.real_disk.specs.declared.kept.Opened.{Opened}
 use Rattle.real_disk.specs.Kept.{opened_at, waits, waits_at, Closes, ClosesAll, IsIdle, SameElsewhere}

@@ -5,9 +5,9 @@ use Rattle.std.proofs.lemmas.Map.Steps.{list_any_congr}
 use Rattle.std.specs.BTreeSet.{contains}
 use Rattle.std.specs.BTreeMap.{is_at}
 use Rattle.std.specs.Cmp.{IsTotalOrder, eq_by_cmp_equiv}
-use Rattle.disk_model.specs.declared.place.Place.{Place}
-use Rattle.disk_model.specs.contracts.place.PlaceOrd.TheImpl as place_ord
-use Rattle.disk_model.specs.contracts.place.PlaceOrd.TheImpl.Laws.{total-law}
+use Rattle.disk_theory.specs.declared.place.Place.{Place}
+use Rattle.disk_theory.specs.contracts.place.PlaceOrd.TheImpl as place_ord
+use Rattle.disk_theory.specs.contracts.place.PlaceOrd.TheImpl.Laws.{total-law}
 use Rattle.real_disk.specs.Files.{FileNotes, KeepsAll, KeepsOthers}
 
 places_total : IsTotalOrder place_ord.ghosts.cmp

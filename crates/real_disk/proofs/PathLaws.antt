@@ -10,8 +10,8 @@ use Rattle.std.proofs.lemmas.List.{append_cancel_left}
 use Rattle.hex.specs.Hex.{IsBytes, encode_upper, decode_of}
 use Rattle.hex.specs.declared.error.FromHexError.{FromHexError}
 use Rattle.hex.proofs.HexLemmas.{decode_of-encode_upper}
-use Rattle.disk_model.specs.declared.place.Place.{Place}
-use Rattle.disk_model.specs.declared.place.Place.TheVariants.{Entry, Doomed as InDoomed, Index, Log, Tmp, Clear}
+use Rattle.disk_theory.specs.declared.place.Place.{Place}
+use Rattle.disk_theory.specs.declared.place.Place.TheVariants.{Entry, Doomed as InDoomed, Index, Log, Tmp, Clear}
 use Rattle.real_disk.specs.declared.numbers.Folders.{Folders}
 use Rattle.real_disk.specs.Numbers.{folder_numbers, named}
 use Rattle.real_disk.specs.Paths.{before_trimmed, trimmed, base_text, name_of, HasName, IsPathOf}

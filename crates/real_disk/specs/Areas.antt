@@ -1,6 +1,6 @@
 -- The folders that places lie in.
-use Rattle.disk_model.specs.declared.place.Place.{Place}
-use Rattle.disk_model.specs.declared.place.Place.TheVariants.{Entry, Doomed as InDoomed, Index, Log, Tmp, Clear}
+use Rattle.disk_theory.specs.declared.place.Place.{Place}
+use Rattle.disk_theory.specs.declared.place.Place.TheVariants.{Entry, Doomed as InDoomed, Index, Log, Tmp, Clear}
 use Rattle.real_disk.specs.declared.paths.Area.{Area}
 use Rattle.real_disk.specs.declared.paths.Area.TheVariants.{Top, Entries, Doomed}
 

@@ -1,8 +1,8 @@
 -- Which files are kept open after a call that makes, moves or removes one.
 use Rattle.std.specs.Prelude.{◌≡◌, ◌⊎◌, ℕ, List, Some, None, false, string_bytes}
 use Rattle.std.specs.BTreeMap.{is_at}
-use Rattle.disk_model.specs.declared.place.Place.{Place}
-use Rattle.disk_model.specs.contracts.place.PlaceOrd.TheImpl as place_ord
+use Rattle.disk_theory.specs.declared.place.Place.{Place}
+use Rattle.disk_theory.specs.contracts.place.PlaceOrd.TheImpl as place_ord
 use Rattle.real_disk.specs.Kept.{opened_at, Closes, IsIdle}
 use Rattle.real_disk.specs.Paths.{IsPathOf}
 use Rattle.real_disk.specs.declared.kept.Kept.{Kept}

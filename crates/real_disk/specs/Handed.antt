@@ -1,6 +1,6 @@
 -- Which files a folder of the machine keeps open after a call, and which file of the machine that call used.
 use Rattle.std.specs.Prelude.{◌≡◌, ℕ, List, Option, None}
-use Rattle.disk_model.specs.declared.place.Place.{Place}
+use Rattle.disk_theory.specs.declared.place.Place.{Place}
 use Rattle.real_disk.specs.Changes.{IsMoved, IsRemoved, KeepsMade, MovesKept, StaysOrGoes}
 use Rattle.real_disk.specs.Kept.{opened_at, ClosesElsewhere, IsIdle, IsSettled, SameElsewhere, SameFiles}
 use Rattle.real_disk.specs.Used.{IsToldOf, KeepsOwn, KeepsRead, KeepsWritten, KeepsEnded}

@@ -1,8 +1,8 @@
 -- The files that are kept open, as a map from places.
 use Rattle.std.specs.Prelude.{◌≡◌, ◌⊎◌, Bool, Option, Some, None, IfSome, option_map, false}
 use Rattle.std.specs.BTreeMap.{get, is_at}
-use Rattle.disk_model.specs.declared.place.Place.{Place}
-use Rattle.disk_model.specs.contracts.place.PlaceOrd.TheImpl as place_ord
+use Rattle.disk_theory.specs.declared.place.Place.{Place}
+use Rattle.disk_theory.specs.contracts.place.PlaceOrd.TheImpl as place_ord
 use Rattle.real_disk.specs.declared.kept.Kept.{Kept}
 use Rattle.real_disk.specs.declared.kept.Opened.{Opened}
 use Rattle.real_disk.specs.declared.machine.Machine.{Ghosts}

@@ -1,6 +1,6 @@
 -- Which file is read or written as that of a place.
 use Rattle.std.specs.Prelude.{◌≡◌, ◌⊎◌, ℕ, List, Some}
-use Rattle.disk_model.specs.declared.place.Place.{Place}
+use Rattle.disk_theory.specs.declared.place.Place.{Place}
 use Rattle.real_disk.specs.Kept.{opened_at}
 use Rattle.real_disk.specs.Paths.{IsPathOf}
 use Rattle.real_disk.specs.declared.kept.Kept.{Kept}

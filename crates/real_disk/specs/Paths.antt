@@ -3,8 +3,8 @@ use Rattle.std.specs.Prelude.{◌≡◌, ◌≢◌, ◌<◌, ◌^◌, ◌==◌, 
 use Rattle.hex.specs.Hex.{encode_upper, IsBytes}
 use Rattle.real_disk.specs.declared.numbers.Folders.{Folders}
 use Rattle.real_disk.specs.Numbers.{folder_numbers, named}
-use Rattle.disk_model.specs.declared.place.Place.{Place}
-use Rattle.disk_model.specs.declared.place.Place.TheVariants.{Entry, Doomed as InDoomed, Index, Log, Tmp, Clear}
+use Rattle.disk_theory.specs.declared.place.Place.{Place}
+use Rattle.disk_theory.specs.declared.place.Place.TheVariants.{Entry, Doomed as InDoomed, Index, Log, Tmp, Clear}
 use Rattle.real_disk.specs.declared.paths.Area.{Area}
 use Rattle.real_disk.specs.declared.paths.Area.TheVariants.{Top, Entries, Doomed}
 

@@ -1,6 +1,6 @@
 -- Which file of the machine a call on a place used, and what is kept of the place after it.
 use Rattle.std.specs.Prelude.{◌≡◌, ◌⊎◌, ℕ, List, [], Option, Some, None, IfSome, string_bytes}
-use Rattle.disk_model.specs.declared.place.Place.{Place}
+use Rattle.disk_theory.specs.declared.place.Place.{Place}
 use Rattle.real_disk.specs.Called.{FoundLengthAt}
 use Rattle.real_disk.specs.Kept.{file_at}
 use Rattle.real_disk.specs.Opening.{IsOpenedAt}

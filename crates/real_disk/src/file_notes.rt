@@ -4,7 +4,7 @@ ghost use Rattle.std.specs.Prelude.{IfOk, OnOk, OnErr, IsTrue};
 ghost use Rattle.std.specs.BTreeSet.{IsUnchanged};
 ghost use Rattle.real_disk.specs.Files.{IsNoted, NotesNew, PutsBack, KeepsNote, KeepsOthers, KeepsAllBut};
 
-use disk_model::Place;
+use disk_theory::Place;
 use std::alloc::{AllocError, Global};
 use std::cmp::Ordering;
 use std::collections::BTreeSet;

@@ -16,7 +16,7 @@ use crate::paths::Area;
 use crate::sync_note;
 use crate::tree::Tree;
 use cache_base::Name;
-use disk_model::Place;
+use disk_theory::Place;
 use std::alloc::Global;
 use std::collections::BTreeSet;
 use std::fs::File;

@@ -6,7 +6,7 @@ ghost use Rattle.real_disk.specs.Changes.{MovesKept};
 ghost use Rattle.real_disk.specs.Kept.{opened_at, file_at, waits_at, ClosesAll, ClosesElsewhere, IsIdle, IsSettled, KeepsNone, SameElsewhere, SameFiles};
 
 use crate::machine::Machine;
-use disk_model::Place;
+use disk_theory::Place;
 use std::alloc::{AllocError, Global};
 use std::collections::BTreeMap;
 use std::io;

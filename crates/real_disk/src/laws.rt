@@ -2,7 +2,7 @@
 
 ghost use Rattle.real_disk.specs.Paths.{HaveOwnPaths};
 
-use disk_model::Place;
+use disk_theory::Place;
 
 /// No two places have one path, whatever folders stand among the doomed files.
 pub fn paths_are_apart(_one: &Place, _other: &Place)

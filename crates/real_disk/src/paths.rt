@@ -7,7 +7,7 @@ ghost use Rattle.real_disk.specs.Paths.{IsIn, IsPathOf, IsPathOfArea, IsTop, bas
 
 use crate::numbers::Folders;
 use cache_base::Name;
-use disk_model::Place;
+use disk_theory::Place;
 use entry_name::text_of;
 use std::alloc::AllocError;
 use std::io::{self, ErrorKind};

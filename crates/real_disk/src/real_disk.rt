@@ -2,14 +2,14 @@
 
 ghost use Rattle.std.specs.Prelude.{◌≡◌, IfOk, OnOk, OnErr, IsErr, IsErrOf, false};
 ghost use Rattle.cache_base.specs.Causes.{HasCause};
-ghost use Rattle.disk_model.specs.Calls.{no_counts};
-ghost use Rattle.disk_model.specs.Silent.{nothing, never, never_finite};
+ghost use Rattle.disk_theory.specs.Calls.{no_counts};
+ghost use Rattle.disk_theory.specs.Silent.{nothing, never, never_finite};
 
 use crate::folder::Folder;
 use crate::listing::rising;
 use crate::machine::Machine;
 use cache_base::{Names, Numbers};
-use disk_model::{Disk, DiskFault, Place};
+use disk_theory::{Disk, DiskFault, Place};
 use std::fs::File;
 use std::io::{self, ErrorKind};
 use std::rt::{Clock, Files};
@@ -87,14 +87,14 @@ impl<R: Files + AllocGlobal> RealDisk<'_, R> {
 impl<R: Machine<File = File> + AllocGlobal + Clock + Clone + Drop> Disk for RealDisk<'_, R> {
     ghost use Rattle.std.specs.Prelude.{IsSome, IsTrue, ◌≢◌, ◌≤◌, ◌^◌, ◌++◌, length, take, drop};
     ghost use Rattle.std.specs.Option.{option_map};
-    ghost use Rattle.disk_model.specs.State.{settled};
-    ghost use Rattle.disk_model.specs.Calls.{if_ok, counted_look, counted_read, counted_sync, HoldsPart, MayWriteAt};
+    ghost use Rattle.disk_theory.specs.State.{settled};
+    ghost use Rattle.disk_theory.specs.Calls.{if_ok, counted_look, counted_read, counted_sync, HoldsPart, MayWriteAt};
     ghost use Rattle.cache_base.specs.Names.{AreRising};
-    ghost use Rattle.disk_model.specs.Listing.{AreDoomed, AreEntries, AreRisingNumbers};
-    ghost use Rattle.disk_model.specs.declared.place.Place.TheVariants.{Clear};
-    ghost use Rattle.disk_model.specs.State.{created, part_of, removed, renamed, standing, wrote};
-    ghost use Rattle.disk_model.specs.State.Write.{End, Patch};
-    ghost use Rattle.disk_model.specs.Calls.{counted_change, if_done};
+    ghost use Rattle.disk_theory.specs.Listing.{AreDoomed, AreEntries, AreRisingNumbers};
+    ghost use Rattle.disk_theory.specs.declared.place.Place.TheVariants.{Clear};
+    ghost use Rattle.disk_theory.specs.State.{created, part_of, removed, renamed, standing, wrote};
+    ghost use Rattle.disk_theory.specs.State.Write.{End, Patch};
+    ghost use Rattle.disk_theory.specs.Calls.{counted_change, if_done};
     ghost use Rattle.real_disk.specs.Handed.{ClosesIdle, CreatesAt, EndsKept, KeepsAllOpen, KeepsElsewhere, KeepsOrCloses, KeepsOthersOpen, KeepsOwnFile, KeepsSameFiles, PatchesKept, ReadsKept, RemovesAt, RenamesTo, ToldAt};
     ghost use Rattle.real_disk.specs.Pending.{NothingPending};
 

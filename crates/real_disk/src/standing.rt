@@ -12,7 +12,7 @@ use crate::paths::{Area, path_of, path_of_area};
 use crate::syncing::{AllSynced, PermittedSynced, is_permitted, sync_listed, sync_permitted};
 use crate::tree::{Tree, open_regular, read_only};
 use cache_base::{Name, number};
-use disk_model::Place;
+use disk_theory::Place;
 use entry_name::read_text;
 use std::alloc::Global;
 use std::collections::BTreeSet;

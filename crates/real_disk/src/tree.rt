@@ -15,7 +15,7 @@ use crate::notes::FolderNotes;
 use crate::numbers::Folders;
 use crate::open_folders::OpenFolders;
 use crate::paths::{Area, path_of};
-use disk_model::Place;
+use disk_theory::Place;
 use std::fs::{self, Metadata, OpenOptions};
 use std::io::{self, ErrorKind};
 use std::os::unix::fs::OpenOptionsExt;

@@ -2,15 +2,15 @@
 use Rattle.std.proofs.Common.{◌≡◌, ◌≢◌, inl, inr, ◌≤◌, ◌+◌, ℕ, List, [], length, Bool, true, false, cond, Option, None, Some, OnOk, Result, Ok, Err, refl, sym, ap, subst, ◌∙◌, arith}
 use Rattle.std.specs.Prelude.{not, ◌||◌}
 use Rattle.cache_base.specs.Bytes.{be32}
-use Rattle.disk_model.specs.Calls.{HoldsPart, if_ok}
-use Rattle.disk_model.specs.Sound.{IsQuiet, IsSound}
-use Rattle.disk_model.specs.State.{State, empty_file, settled, standing}
-use Rattle.disk_model.specs.State.Write.{End, Patch}
-use Rattle.disk_model.specs.declared.disk.DiskFault.{DiskFault}
-use Rattle.disk_model.specs.declared.place.Place.{Place}
-use Rattle.disk_model.specs.declared.place.Place.TheVariants.{Index, Log, Tmp}
-use Rattle.disk_model.proofs.Sound.{no_writes, sound_added, sound_settled}
-use Rattle.disk_model.proofs.Standing.{added_puts, settled_same, wrote_puts}
+use Rattle.disk_theory.specs.Calls.{HoldsPart, if_ok}
+use Rattle.disk_theory.specs.Sound.{IsQuiet, IsSound}
+use Rattle.disk_theory.specs.State.{State, empty_file, settled, standing}
+use Rattle.disk_theory.specs.State.Write.{End, Patch}
+use Rattle.disk_theory.specs.declared.disk.DiskFault.{DiskFault}
+use Rattle.disk_theory.specs.declared.place.Place.{Place}
+use Rattle.disk_theory.specs.declared.place.Place.TheVariants.{Index, Log, Tmp}
+use Rattle.disk_theory.proofs.Sound.{no_writes, sound_added, sound_settled}
+use Rattle.disk_theory.proofs.Standing.{added_puts, settled_same, wrote_puts}
 use Rattle.index_file.proofs.IndexLaws.{index_reads_back}
 use Rattle.index_map.specs.Known.{Known}
 use Rattle.index_record.specs.declared.record.IndexRecord.{IndexRecord}

@@ -1,8 +1,8 @@
 -- What changes keep of the index on the disk, and what the records at the start say.
 use Rattle.std.proofs.Common.{◌≡◌, ◌≢◌, List, None, true, refl, sym, ap, subst, ◌∙◌}
 use Rattle.cache_base.specs.declared.name.Name.{Name}
-use Rattle.disk_model.specs.declared.place.Place.TheVariants.{Index, Log, Tmp}
-use Rattle.disk_model.specs.Image.{Files}
+use Rattle.disk_theory.specs.declared.place.Place.TheVariants.{Index, Log, Tmp}
+use Rattle.disk_theory.specs.Image.{Files}
 use Rattle.index_map.specs.Known.{Known}
 use Rattle.index_record.specs.declared.record.IndexRecord.{IndexRecord}
 use Rattle.index_theory.specs.Base.{BaseStands}

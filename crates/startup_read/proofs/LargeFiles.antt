@@ -10,7 +10,7 @@ use Rattle.std.specs.Prelude.{IfOk, IfSome, None, Option, drop, take, ifâ—Œthenâ
 use Rattle.std.specs.Simd.{first_chunks}
 use Rattle.cache_base.specs.Bytes.{be32_at}
 use Rattle.cache_base.specs.declared.name.Name.{Name}
-use Rattle.disk_model.specs.State.{part_of}
+use Rattle.disk_theory.specs.State.{part_of}
 use Rattle.index_file.specs.Checks.{header_checks}
 use Rattle.index_file.specs.RecordsFault as index
 use Rattle.index_file.specs.declared.fault.IndexFault.TheVariants as index_faults

@@ -2,13 +2,13 @@
 use Rattle.std.proofs.Common.{◌≡◌, ◌≤◌, ℕ, List, length, Bool, true, false, cond, Option, None, Some, refl, sym, ap, subst, ◌∙◌, arith}
 use Rattle.std.specs.Prelude.{is_some}
 use Rattle.cache_base.specs.Bytes.{be32}
-use Rattle.disk_model.specs.Sound.{IsQuiet, IsSound, room}
-use Rattle.disk_model.specs.State.{State, Write, content, content_of, names_now, removed, renamed, settled, standing, write_to, wrote, written}
-use Rattle.disk_model.specs.State.Write.{Patch}
-use Rattle.disk_model.specs.declared.place.Place.{Place}
-use Rattle.disk_model.specs.declared.place.Place.TheVariants.{Index, Log, Tmp}
-use Rattle.disk_model.proofs.Sound.{sound_renamed, sound_written}
-use Rattle.disk_model.proofs.Standing.{removed_puts, settled_same, wrote_puts}
+use Rattle.disk_theory.specs.Sound.{IsQuiet, IsSound, room}
+use Rattle.disk_theory.specs.State.{State, Write, content, content_of, names_now, removed, renamed, settled, standing, write_to, wrote, written}
+use Rattle.disk_theory.specs.State.Write.{Patch}
+use Rattle.disk_theory.specs.declared.place.Place.{Place}
+use Rattle.disk_theory.specs.declared.place.Place.TheVariants.{Index, Log, Tmp}
+use Rattle.disk_theory.proofs.Sound.{sound_renamed, sound_written}
+use Rattle.disk_theory.proofs.Standing.{removed_puts, settled_same, wrote_puts}
 use Rattle.index_map.specs.Known.{Known}
 use Rattle.index_record.specs.declared.record.IndexRecord.{IndexRecord}
 use Rattle.index_theory.specs.Apart.{IsApart}

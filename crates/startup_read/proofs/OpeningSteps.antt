@@ -1,9 +1,9 @@
 -- The changes of an opening, one after the other.
 use Rattle.std.proofs.Common.{◌≡◌, ℕ, List, true, Option, None, Some, Result, Ok, Err, refl, ap, ◌∙◌, arith}
-use Rattle.disk_model.specs.Calls.{HoldsPart, if_done}
-use Rattle.disk_model.specs.State.{State, settled}
-use Rattle.disk_model.specs.declared.disk.DiskFault.{DiskFault}
-use Rattle.disk_model.specs.declared.disk.DiskFault.TheVariants.{Failed, Memory}
+use Rattle.disk_theory.specs.Calls.{HoldsPart, if_done}
+use Rattle.disk_theory.specs.State.{State, settled}
+use Rattle.disk_theory.specs.declared.disk.DiskFault.{DiskFault}
+use Rattle.disk_theory.specs.declared.disk.DiskFault.TheVariants.{Failed, Memory}
 use Rattle.index_theory.specs.declared.kinds.IndexKind.{IndexKind}
 use Rattle.index_theory.specs.IndexKind.{index_kind}
 use Rattle.index_theory.specs.declared.kinds.IndexKind.TheVariants.{Missing as NoIndex, Invalid as BadIndex, Dirty, Clean}

@@ -1,8 +1,8 @@
 -- The map of the records at the start.
 use Rattle.std.proofs.Common.{◌≡◌, ℕ, List, [], ◌∷◌, Option, Bool, true, false, sym, ap, subst, ◌∙◌}
 use Rattle.std.specs.Prelude.{is_some}
-use Rattle.disk_model.specs.Image.{Files}
-use Rattle.disk_model.specs.declared.place.Place.TheVariants.{Index, Log, Tmp}
+use Rattle.disk_theory.specs.Image.{Files}
+use Rattle.disk_theory.specs.declared.place.Place.TheVariants.{Index, Log, Tmp}
 use Rattle.index_map.specs.Known.{ArePlain, BeginsOver, Known, no_records}
 use Rattle.index_record.specs.declared.record.IndexRecord.{IndexRecord}
 use Rattle.index_theory.specs.Honest.{index_records, journal_records}

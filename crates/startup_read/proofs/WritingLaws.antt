@@ -2,13 +2,13 @@
 use Rattle.std.proofs.Common.{◌≡◌, ◌≢◌, inl, inr, ℕ, List, [], false, true, None, Some, sym, ap, subst, ◌∙◌, arith}
 use Rattle.std.proofs.lemmas.List.Elements.{All-from_recursion, recursion_from_All}
 use Rattle.std.proofs.lemmas.List.Sorted.{All-permutation, IsPermutation-trans}
-use Rattle.disk_model.specs.Sound.{IsSound}
-use Rattle.disk_model.specs.State.{State, empty_file, standing}
-use Rattle.disk_model.specs.State.Write.{End}
-use Rattle.disk_model.specs.declared.place.Place.{Place}
-use Rattle.disk_model.specs.declared.place.Place.TheVariants.{Index, Log, Tmp}
-use Rattle.disk_model.proofs.Sound.{no_writes, sound_added, sound_renamed, sound_settled}
-use Rattle.disk_model.proofs.Standing.{added_puts, settled_same}
+use Rattle.disk_theory.specs.Sound.{IsSound}
+use Rattle.disk_theory.specs.State.{State, empty_file, standing}
+use Rattle.disk_theory.specs.State.Write.{End}
+use Rattle.disk_theory.specs.declared.place.Place.{Place}
+use Rattle.disk_theory.specs.declared.place.Place.TheVariants.{Index, Log, Tmp}
+use Rattle.disk_theory.proofs.Sound.{no_writes, sound_added, sound_renamed, sound_settled}
+use Rattle.disk_theory.proofs.Standing.{added_puts, settled_same}
 use Rattle.index_file.specs.Printed.{IsPrinted}
 use Rattle.index_map.specs.Known.{Known}
 use Rattle.index_record.specs.Record.{is_removed}

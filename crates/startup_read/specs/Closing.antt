@@ -1,8 +1,8 @@
 -- A closing of the index, in its steps.
 use Rattle.std.specs.Prelude.{Bool, List, if◌then◌else◌, length, true, ℕ, ◌≡◌, ◌⊎◌}
 use Rattle.cache_base.specs.Bytes.{be32}
-use Rattle.disk_model.specs.Account.{one_sync}
-use Rattle.disk_model.specs.State.{State, settled, standing}
+use Rattle.disk_theory.specs.Account.{one_sync}
+use Rattle.disk_theory.specs.State.{State, settled, standing}
 use Rattle.index_journal.specs.Journal.{IsPrinted}
 use Rattle.index_map.specs.Known.{IsKnown, Known, changed}
 use Rattle.index_record.specs.declared.record.IndexRecord.{IndexRecord}

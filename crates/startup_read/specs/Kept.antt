@@ -1,7 +1,7 @@
 -- What an open cache keeps of the index on its disk.
 use Rattle.std.specs.Prelude.{Bool, List, None, Option, true, ℕ, ◌≡◌}
-use Rattle.disk_model.specs.State.{State, standing}
-use Rattle.disk_model.specs.declared.place.Place.TheVariants.{Index, Log, Tmp}
+use Rattle.disk_theory.specs.State.{State, standing}
+use Rattle.disk_theory.specs.declared.place.Place.TheVariants.{Index, Log, Tmp}
 use Rattle.index_map.specs.Known.{Known, SameBase}
 use Rattle.index_theory.specs.Base.{BaseStands}
 use Rattle.index_theory.specs.Leaves.{LeavesIndex}

@@ -1,7 +1,7 @@
 -- A writing of the whole index where that is due.
 use Rattle.std.specs.Prelude.{Bool, false, if◌then◌else◌, nat_le, not, true, ℕ, ◌||◌, ◌≡◌}
 use Rattle.cache_base.specs.declared.limits.TheConstants.{CHANGED_MAX}
-use Rattle.disk_model.specs.State.{State}
+use Rattle.disk_theory.specs.State.{State}
 use Rattle.index_map.specs.Known.{Known, changed}
 use Rattle.startup_read.specs.Kept.{KeepsIndex, written_map}
 use Rattle.startup_read.specs.Writing.{IsAmidWriting, WritesIndex}

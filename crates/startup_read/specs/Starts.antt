@@ -1,9 +1,9 @@
 -- What an opening makes of the files that it reads.
 use Rattle.std.specs.Prelude.{Bool, List, None, false, is_some, true, ◌≡◌, ◌≢◌}
 use Rattle.cache_base.specs.declared.name.Name.{Name}
-use Rattle.disk_model.specs.Image.{Files}
-use Rattle.disk_model.specs.State.{State, standing}
-use Rattle.disk_model.specs.declared.place.Place.TheVariants.{Index, Log, Tmp}
+use Rattle.disk_theory.specs.Image.{Files}
+use Rattle.disk_theory.specs.State.{State, standing}
+use Rattle.disk_theory.specs.declared.place.Place.TheVariants.{Index, Log, Tmp}
 use Rattle.index_map.specs.Known.{BeginsOver, BeginsAfter, Known, no_records}
 use Rattle.index_record.specs.declared.record.IndexRecord.{IndexRecord}
 use Rattle.index_theory.specs.Ever.{entries}

@@ -2,24 +2,24 @@
 
 ghost use Rattle.std.specs.Prelude.{◌≡◌, IfOk, IsTrue, OnOk, false, if◌then◌else◌, true};
 ghost use Rattle.cache_base.specs.Bytes.{be32};
-ghost use Rattle.disk_model.specs.Calls.{HoldsPart, if_ok};
-ghost use Rattle.disk_model.specs.Sound.{IsQuiet};
-ghost use Rattle.disk_model.specs.State.{settled, standing};
-ghost use Rattle.disk_model.specs.declared.place.Place.TheVariants.{Index};
+ghost use Rattle.disk_theory.specs.Calls.{HoldsPart, if_ok};
+ghost use Rattle.disk_theory.specs.Sound.{IsQuiet};
+ghost use Rattle.disk_theory.specs.State.{settled, standing};
+ghost use Rattle.disk_theory.specs.declared.place.Place.TheVariants.{Index};
 ghost use Rattle.index_file.specs.Index.{flag_at};
 ghost use Rattle.index_map.specs.Known.{IsKnown};
 ghost use Rattle.index_theory.specs.Apart.{IsApart};
 ghost use Rattle.index_theory.specs.Closing.{closed, flagged, log_synced};
-ghost use Rattle.disk_model.specs.Told.{Told};
+ghost use Rattle.disk_theory.specs.Told.{Told};
 ghost use Rattle.index_theory.specs.Unclean.{IsUnclean};
-ghost use Rattle.disk_model.specs.Account.{Accounts, FailsInChange, LooksAtNoEntry, ending, one_sync};
+ghost use Rattle.disk_theory.specs.Account.{Accounts, FailsInChange, LooksAtNoEntry, ending, one_sync};
 ghost use Rattle.startup_read.specs.Closing as spec;
 ghost use Rattle.startup_read.specs.Kept.{KeepsIndex};
 ghost use Rattle.startup_read.specs.Spares.{SparesEntries};
 
 use crate::index_refresh::refresh_index;
 use cache_base::{Bytes, Moment, NoMemory};
-use disk_model::{Disk, DiskFault, Place};
+use disk_theory::{Disk, DiskFault, Place};
 use index_file::FLAG_AT;
 use index_map::RecordMap;
 use std::alloc::Global;

@@ -1,11 +1,11 @@
 //! Opens the index.
 
 ghost use Rattle.std.specs.Prelude.{◌≡◌, ℕ, IfOk, IsTrue, List, OnOk, Option, is_some};
-ghost use Rattle.disk_model.specs.Calls.{if_done};
-ghost use Rattle.disk_model.specs.State.{standing};
-ghost use Rattle.disk_model.specs.declared.place.Place.TheVariants.{Index, Log, Tmp};
+ghost use Rattle.disk_theory.specs.Calls.{if_done};
+ghost use Rattle.disk_theory.specs.State.{standing};
+ghost use Rattle.disk_theory.specs.declared.place.Place.TheVariants.{Index, Log, Tmp};
 ghost use Rattle.index_theory.specs.Apart.{IsApart};
-ghost use Rattle.disk_model.specs.Told.{Told};
+ghost use Rattle.disk_theory.specs.Told.{Told};
 ghost use Rattle.index_theory.specs.Unclean.{IsUnclean};
 ghost use Rattle.index_theory.specs.IndexKind.{index_kind};
 ghost use Rattle.index_theory.specs.LogKind.{log_kind};
@@ -13,7 +13,7 @@ ghost use Rattle.index_theory.specs.Start.{start_of};
 ghost use Rattle.record_list.specs.Change.{HasNoRemoved};
 ghost use Rattle.record_list.specs.Lists.{HasNames};
 ghost use Rattle.record_list.specs.Stored.{AreClean};
-ghost use Rattle.disk_model.specs.Account.{Accounts, Looks, LooksAtNoEntry, ending, no_sync, one_sync};
+ghost use Rattle.disk_theory.specs.Account.{Accounts, Looks, LooksAtNoEntry, ending, no_sync, one_sync};
 ghost use Rattle.startup_read.specs.Kept.{HasBase, KeepsIndex};
 ghost use Rattle.startup_read.specs.Opening as spec;
 ghost use Rattle.startup_read.specs.Spares.{SparesEntries};
@@ -22,7 +22,7 @@ ghost use Rattle.startup_read.specs.Starts.{IsSeen, StartsFrom, StartsWith, is_c
 use crate::records::{IndexRead, LogRead, read_index, read_log};
 use crate::{IndexKind, LogKind, Start, decide};
 use cache_base::NoMemory;
-use disk_model::{Disk, DiskFault, Place};
+use disk_theory::{Disk, DiskFault, Place};
 use index_file::FLAG_AT;
 use index_map::RecordMap;
 use std::alloc::Global;

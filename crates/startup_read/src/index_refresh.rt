@@ -3,15 +3,15 @@
 ghost use Rattle.std.specs.Prelude.{◌≡◌, OnErr, OnOk, false, true};
 ghost use Rattle.index_map.specs.Known.{IsKnown};
 ghost use Rattle.index_theory.specs.Apart.{IsApart};
-ghost use Rattle.disk_model.specs.Told.{Told};
+ghost use Rattle.disk_theory.specs.Told.{Told};
 ghost use Rattle.index_theory.specs.Unclean.{IsUnclean};
-ghost use Rattle.disk_model.specs.Account.{Accounts, FailsInChange, LooksAtNoEntry, ending, one_sync};
+ghost use Rattle.disk_theory.specs.Account.{Accounts, FailsInChange, LooksAtNoEntry, ending, one_sync};
 ghost use Rattle.startup_read.specs.Refreshing as spec;
 ghost use Rattle.startup_read.specs.Spares.{SparesEntries};
 
 use crate::index_write::write_index;
 use cache_base::{CHANGED_MAX, Moment};
-use disk_model::{Disk, DiskFault};
+use disk_theory::{Disk, DiskFault};
 use index_map::RecordMap;
 use std::alloc::Global;
 

@@ -1,21 +1,21 @@
 //! Writes the index whole.
 
 ghost use Rattle.std.specs.Prelude.{◌≡◌, IfOk, None, OnErr, OnOk, true};
-ghost use Rattle.disk_model.specs.State.{standing};
-ghost use Rattle.disk_model.specs.declared.place.Place.TheVariants.{Log};
+ghost use Rattle.disk_theory.specs.State.{standing};
+ghost use Rattle.disk_theory.specs.declared.place.Place.TheVariants.{Log};
 ghost use Rattle.index_file.specs.Printed.{IsPrinted};
 ghost use Rattle.index_map.specs.Known.{IsKnown, changed};
 ghost use Rattle.index_theory.specs.Apart.{IsApart};
-ghost use Rattle.disk_model.specs.Told.{Told};
+ghost use Rattle.disk_theory.specs.Told.{Told};
 ghost use Rattle.index_theory.specs.Unclean.{IsUnclean};
 ghost use Rattle.index_theory.specs.Writing.{index_placed};
-ghost use Rattle.disk_model.specs.Account.{Accounts, FailsInChange, LooksAtNoEntry, ending, one_sync};
+ghost use Rattle.disk_theory.specs.Account.{Accounts, FailsInChange, LooksAtNoEntry, ending, one_sync};
 ghost use Rattle.startup_read.specs.Kept.{KeepsIndex, written_map};
 ghost use Rattle.startup_read.specs.Spares.{SparesEntries};
 ghost use Rattle.startup_read.specs.Writing as spec;
 
 use cache_base::{Bytes, Moment, NoMemory};
-use disk_model::{Disk, DiskFault, Place};
+use disk_theory::{Disk, DiskFault, Place};
 use index_map::RecordMap;
 use std::alloc::Global;
 

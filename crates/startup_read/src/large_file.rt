@@ -3,16 +3,16 @@
 ghost use Rattle.std.specs.Prelude.{◌≡◌, ◌+◌, ◌-◌, ◌<◌, ◌≤◌, ◌++◌, ℕ, IfOk, IfSome, IsTrue, List, OnOk, Some, drop, length, true};
 ghost use Rattle.std.specs.Option.{option_map};
 ghost use Rattle.cache_base.specs.Bytes.{be32_at};
-ghost use Rattle.disk_model.specs.Account.{Looks, LooksAtNoEntry, ending};
-ghost use Rattle.disk_model.specs.Calls.{HoldsPart};
-ghost use Rattle.disk_model.specs.State.{part_of, standing};
+ghost use Rattle.disk_theory.specs.Account.{Looks, LooksAtNoEntry, ending};
+ghost use Rattle.disk_theory.specs.Calls.{HoldsPart};
+ghost use Rattle.disk_theory.specs.State.{part_of, standing};
 ghost use Rattle.index_theory.specs.Apart.{IsOfIndex};
 ghost use Rattle.jenkins_hash.specs.Hash.{hash_of};
 ghost use Rattle.jenkins_hash.specs.Hasher.{WasFedBytes};
 ghost use Rattle.record_list.specs.Stored.{hash_size};
 ghost use Rattle.startup_read.specs.Large.{IsFaulty, IsPairAt, is_hashed as is_hashed_of, pair_size};
 
-use disk_model::{Disk, DiskFault, Place};
+use disk_theory::{Disk, DiskFault, Place};
 use index_record::RECORD;
 use jenkins_hash::Hasher;
 use record_list::HASH;

@@ -2,8 +2,8 @@
 
 ghost use Rattle.std.specs.Prelude.{◌≡◌, IfOk, IsTrue, Some, if◌then◌else◌, length, true};
 ghost use Rattle.std.specs.Option.{option_map};
-ghost use Rattle.disk_model.specs.State.{standing};
-ghost use Rattle.disk_model.specs.declared.place.Place.TheVariants.{Index, Log};
+ghost use Rattle.disk_theory.specs.State.{standing};
+ghost use Rattle.disk_theory.specs.declared.place.Place.TheVariants.{Index, Log};
 ghost use Rattle.index_theory.specs.IndexKind.{index_kind};
 ghost use Rattle.index_theory.specs.LogKind.{log_kind};
 ghost use Rattle.index_theory.specs.declared.kinds.IndexKind.TheVariants.{Clean, Dirty, Invalid};
@@ -11,14 +11,14 @@ ghost use Rattle.index_theory.specs.declared.kinds.LogKind.TheVariants.{Invalid 
 ghost use Rattle.record_list.specs.Change.{HasNoRemoved};
 ghost use Rattle.record_list.specs.Lists.{HasNames};
 ghost use Rattle.record_list.specs.Stored.{AreClean};
-ghost use Rattle.disk_model.specs.Account.{Looks, LooksAtNoEntry, ending};
+ghost use Rattle.disk_theory.specs.Account.{Looks, LooksAtNoEntry, ending};
 ghost use Rattle.startup_read.specs.Reads.{ReadsIndex, ReadsJournal};
 
 use crate::large_file::{LARGE, fails_check, number_at};
 use crate::whole_file::{has_whole_records, read_sized};
 use crate::{IndexKind, LogKind};
 use cache_base::NoMemory;
-use disk_model::{Disk, DiskFault, Place};
+use disk_theory::{Disk, DiskFault, Place};
 use index_file::IndexFault;
 use index_journal::JournalFault;
 use index_record::Records;

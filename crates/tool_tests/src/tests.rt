@@ -2,7 +2,7 @@
 
 ghost use Rattle.std.specs.Prelude.{◌<◌};
 ghost use Rattle.disk_model.specs.MemDisk.{state_in};
-ghost use Rattle.disk_model.specs.Sound.{IsQuiet};
+ghost use Rattle.disk_theory.specs.Sound.{IsQuiet};
 
 mod alt;
 mod chunks;
@@ -25,7 +25,8 @@ mod verify;
 use cache_base::{Bytes, Names, NoMemory, Numbers, Status};
 use cache_io::{MemSink, MemSource};
 use cache_tool::run;
-use disk_model::{Disk, MemDisk, Place};
+use disk_model::MemDisk;
+use disk_theory::{Disk, Place};
 use entry_name::name_of;
 use std::alloc::{AllocError, Global};
 use std::test::Fail;

@@ -30,9 +30,9 @@ use Rattle.cache_theory.specs.Step.{cleared_of, effect, step, unmarked}
 use Rattle.cache_theory.proofs.Clears.Clearing.{resume_without_mark}
 use Rattle.context_clear.specs.Mark.{mark_of}
 use Rattle.context_clear.specs.MarkFile.{IsAmidEnding, RemovesFile}
-use Rattle.disk_model.specs.Sound.{IsSound}
-use Rattle.disk_model.specs.State.{State, standing}
-use Rattle.disk_model.specs.declared.place.Place.TheVariants.{Clear}
+use Rattle.disk_theory.specs.Sound.{IsSound}
+use Rattle.disk_theory.specs.State.{State, standing}
+use Rattle.disk_theory.specs.declared.place.Place.TheVariants.{Clear}
 use Rattle.entry_key.specs.Tags.{value_hash}
 use Rattle.file_handles.specs.Cache.{cache_at}
 use Rattle.file_handles.specs.Kept.{Kept}

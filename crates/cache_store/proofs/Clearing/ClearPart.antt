@@ -10,15 +10,15 @@ use Rattle.cache_theory.specs.Command.{Command}
 use Rattle.context_clear.specs.Mark.{mark_bytes}
 use Rattle.context_clear.specs.MarkFile.{IsAmidEnding, IsAmidStoring, StoresMark, StoringMoment, storing_at}
 use Rattle.context_clear.specs.MarkFile.StoringMoment.{Begun, Filled, Placed, Synced, Unstored}
-use Rattle.disk_model.specs.Sound.{IsSound}
-use Rattle.disk_model.specs.State.{State, created, empty_file, removed, renamed, settled, standing, wrote}
-use Rattle.disk_model.specs.State.Write.{End}
-use Rattle.disk_model.specs.declared.place.NameStep.{NameStep}
-use Rattle.disk_model.specs.declared.place.NameStep.TheVariants.{Create, Remove, Rename}
-use Rattle.disk_model.specs.declared.place.Place.{Place}
-use Rattle.disk_model.specs.declared.place.Place.TheVariants.{Clear, Doomed, Entry, Index, Log, Tmp}
-use Rattle.disk_model.proofs.Sound.{no_writes, sound_added, sound_settled}
-use Rattle.disk_model.proofs.Standing.{added_puts, settled_same, wrote_puts}
+use Rattle.disk_theory.specs.Sound.{IsSound}
+use Rattle.disk_theory.specs.State.{State, created, empty_file, removed, renamed, settled, standing, wrote}
+use Rattle.disk_theory.specs.State.Write.{End}
+use Rattle.disk_theory.specs.declared.place.NameStep.{NameStep}
+use Rattle.disk_theory.specs.declared.place.NameStep.TheVariants.{Create, Remove, Rename}
+use Rattle.disk_theory.specs.declared.place.Place.{Place}
+use Rattle.disk_theory.specs.declared.place.Place.TheVariants.{Clear, Doomed, Entry, Index, Log, Tmp}
+use Rattle.disk_theory.proofs.Sound.{no_writes, sound_added, sound_settled}
+use Rattle.disk_theory.proofs.Standing.{added_puts, settled_same, wrote_puts}
 use Rattle.file_handles.specs.Dooming.{TakesEntries, TakesEntry, TakesInOrder}
 use Rattle.file_handles.proofs.TakingSteps.{in_order_left, in_order_then, one_takes, takes_same, takes_then}
 use Rattle.index_theory.specs.Apart.{IsApart}

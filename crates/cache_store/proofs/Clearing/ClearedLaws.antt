@@ -13,7 +13,7 @@ use Rattle.cache_store.specs.StoppedClearing.FindsNoneOrAll.{AllAsBefore, NoneFo
 use Rattle.cache_store.specs.StoppedClearing.IsLeftByClearing.{Marked, Unbegun, Whole}
 use Rattle.cache_store.specs.StoppedClearing.IsNoneOrAll.{AsBefore, MarkStands, NoneIsLeft}
 use Rattle.cache_store.specs.declared.fault.StoreFault.{StoreFault}
-use Rattle.cache_store.specs.declared.fault.Verdict.{Verdict}
+use Rattle.cache_store.specs.declared.outcome.Verdict.{Verdict}
 use Rattle.cache_theory.specs.Command.{Command}
 use Rattle.cache_theory.specs.Command.Command.{ClearNames, ClearOrigin, Resume}
 use Rattle.cache_theory.specs.Covers.{cleared, cleared_by, covered_by, covers, resumed}
@@ -36,10 +36,10 @@ use Rattle.cache_store.proofs.Evicting.EvictDoes.{among_all}
 use Rattle.cache_store.proofs.Clearing.OriginHash.{value_hash_small}
 use Rattle.cache_store.proofs.Records.RecordsAtEnd.{goes_by}
 use Rattle.cache_store.proofs.Performing.Represented.{represents}
-use Rattle.disk_model.proofs.Images.{only_now}
-use Rattle.disk_model.specs.Image.{Files, IsImage}
-use Rattle.disk_model.specs.State.{State, standing}
-use Rattle.disk_model.specs.declared.place.Place.TheVariants.{Clear, Entry}
+use Rattle.disk_theory.proofs.Images.{only_now}
+use Rattle.disk_theory.specs.Image.{Files, IsImage}
+use Rattle.disk_theory.specs.State.{State, standing}
+use Rattle.disk_theory.specs.declared.place.Place.TheVariants.{Clear, Entry}
 use Rattle.entry_file.specs.EntryFile.{found, read_for, whole_in}
 use Rattle.entry_file.specs.Version.{Version}
 use Rattle.file_handles.specs.Stands.{Represents as CacheRepresents}

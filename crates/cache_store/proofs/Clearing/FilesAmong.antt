@@ -10,9 +10,9 @@ use Rattle.cache_store.specs.Clearing.{is_used_or_stands, is_user_or_among}
 use Rattle.cache_store.specs.Evicting.{has_file}
 use Rattle.file_handles.specs.Kept.{Kept}
 use Rattle.file_handles.specs.Users.{users_of}
-use Rattle.disk_model.specs.Listing.{AreEntries}
-use Rattle.disk_model.specs.State.{State, standing}
-use Rattle.disk_model.specs.declared.place.Place.TheVariants.{Entry}
+use Rattle.disk_theory.specs.Listing.{AreEntries}
+use Rattle.disk_theory.specs.State.{State, standing}
+use Rattle.disk_theory.specs.declared.place.Place.TheVariants.{Entry}
 use Rattle.record_list.specs.Lists.{same_name}
 use Rattle.record_list.proofs.NameLaws.{found_same, same_is, same_itself}
 

@@ -14,10 +14,10 @@ use Rattle.cache_theory.specs.Proper.{IsProper}
 use Rattle.cache_theory.specs.Step.{doomed_under}
 use Rattle.cache_theory.specs.Table.{get}
 use Rattle.cache_theory.proofs.Names.{get-remove_other}
-use Rattle.disk_model.specs.Account.{Accounts, FailsInChange, IsCalm, no_sync, fault_ending as disk_fault_ending}
-use Rattle.disk_model.specs.declared.disk.Disk.{Ghosts}
-use Rattle.disk_model.specs.declared.disk.DiskFault.{DiskFault}
-use Rattle.disk_model.specs.declared.disk.DiskFault.TheVariants as disk
+use Rattle.disk_theory.specs.Account.{Accounts, FailsInChange, IsCalm, no_sync, fault_ending as disk_fault_ending}
+use Rattle.disk_theory.specs.declared.disk.Disk.{Ghosts}
+use Rattle.disk_theory.specs.declared.disk.DiskFault.{DiskFault}
+use Rattle.disk_theory.specs.declared.disk.DiskFault.TheVariants as disk
 use Rattle.file_handles.specs.Cache.{Cache}
 use Rattle.file_handles.specs.Dooming.{DoomsUnder}
 use Rattle.file_handles.specs.Finding.{is_user}

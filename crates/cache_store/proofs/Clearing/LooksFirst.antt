@@ -4,8 +4,8 @@ use Rattle.std.specs.Prelude.{IsTrue}
 use Rattle.cache_store.specs.Faulting.{LooksFirst}
 use Rattle.cache_store.specs.Faults.{ending, fault_ending}
 use Rattle.cache_store.specs.declared.fault.StoreFault.{StoreFault}
-use Rattle.disk_model.specs.Account.{Ending, FailsInChange, Looks}
-use Rattle.disk_model.specs.declared.disk.Disk.{Ghosts}
+use Rattle.disk_theory.specs.Account.{Ending, FailsInChange, Looks}
+use Rattle.disk_theory.specs.declared.disk.Disk.{Ghosts}
 
 -- looks alone
 pub only_looked : {Self : _} (D : Ghosts Self) (e : Ending) (before now : Self) → (IsTrue D.tells → D.state now ≡ D.state before) → LooksFirst D e before now

@@ -13,17 +13,17 @@ use Rattle.cache_theory.proofs.CrashImages.Unpublished.{create_unpublished}
 use Rattle.context_clear.specs.MarkFile.{IsAmidEnding, IsAmidStoring, RemovesFile, StoresMark, StoringMoment, storing_at}
 use Rattle.context_clear.specs.MarkFile.StoringMoment.{Begun, Filled, Placed, Synced, Unstored}
 use Rattle.context_clear.proofs.MarkStored.{mark_puts}
-use Rattle.disk_model.specs.Sound.{IsQuiet, IsSound}
-use Rattle.disk_model.specs.Standing.{PutsContent}
-use Rattle.disk_model.specs.State.{File, State, Write, add_write, created, empty_file, names_now, removed, renamed, settled, standing, write_to, wrote}
-use Rattle.disk_model.specs.State.Write.{End}
-use Rattle.disk_model.specs.Writes.{WritesTo}
-use Rattle.disk_model.specs.declared.place.Place.{Place}
-use Rattle.disk_model.specs.declared.place.Place.TheVariants.{Clear, Doomed}
-use Rattle.disk_model.proofs.Files.{with_file-apart, with_file-same}
-use Rattle.disk_model.proofs.Places.{is_same-refl}
-use Rattle.disk_model.proofs.Sound.{found, no_writes, sound_added, sound_removed, sound_settled}
-use Rattle.disk_model.proofs.Standing.{added_puts, removed_puts, settled_same}
+use Rattle.disk_theory.specs.Sound.{IsQuiet, IsSound}
+use Rattle.disk_theory.specs.Standing.{PutsContent}
+use Rattle.disk_theory.specs.State.{File, State, Write, add_write, created, empty_file, names_now, removed, renamed, settled, standing, write_to, wrote}
+use Rattle.disk_theory.specs.State.Write.{End}
+use Rattle.disk_theory.specs.Writes.{WritesTo}
+use Rattle.disk_theory.specs.declared.place.Place.{Place}
+use Rattle.disk_theory.specs.declared.place.Place.TheVariants.{Clear, Doomed}
+use Rattle.disk_theory.proofs.Files.{with_file-apart, with_file-same}
+use Rattle.disk_theory.proofs.Places.{is_same-refl}
+use Rattle.disk_theory.proofs.Sound.{found, no_writes, sound_added, sound_removed, sound_settled}
+use Rattle.disk_theory.proofs.Standing.{added_puts, removed_puts, settled_same}
 use Rattle.file_handles.specs.Cache.{cache_at}
 use Rattle.file_handles.specs.Kept.{Kept}
 use Rattle.file_handles.specs.Stands.{KeepsWhere, Stands}

@@ -14,9 +14,9 @@ use Rattle.cache_theory.specs.Marks.{is_touched}
 use Rattle.cache_theory.specs.Step.{doomed_under}
 use Rattle.cache_theory.specs.Table.{get}
 use Rattle.cache_theory.proofs.Names.{get-remove_other}
-use Rattle.disk_model.specs.State.{standing}
-use Rattle.disk_model.specs.declared.disk.DiskFault.{DiskFault}
-use Rattle.disk_model.specs.declared.place.Place.TheVariants.{Entry}
+use Rattle.disk_theory.specs.State.{standing}
+use Rattle.disk_theory.specs.declared.disk.DiskFault.{DiskFault}
+use Rattle.disk_theory.specs.declared.place.Place.TheVariants.{Entry}
 use Rattle.file_handles.specs.Cache.{Cache}
 use Rattle.file_handles.specs.Dooming.{DoomsUnder}
 use Rattle.file_handles.specs.Kept.{Kept}

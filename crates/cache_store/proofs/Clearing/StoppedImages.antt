@@ -8,21 +8,21 @@ use Rattle.context_clear.specs.Mark.{mark_bytes}
 use Rattle.context_clear.specs.MarkFile.{IsAmidEnding, IsAmidStoring, StoresMark, StoringMoment, storing_at}
 use Rattle.context_clear.specs.MarkFile.StoringMoment.{Begun, Filled, Placed, Synced, Unstored}
 use Rattle.context_clear.proofs.MarkStored.{mark_puts, may_same}
-use Rattle.disk_model.specs.Image.{Files, IsImage, MayStand}
-use Rattle.disk_model.specs.Place.{is_same}
-use Rattle.disk_model.specs.Sound.{IsSound, names_before}
-use Rattle.disk_model.specs.Standing.{PutsContent}
-use Rattle.disk_model.specs.State.{File, Names, State, content_of, created, empty_file, names_after, names_now, removed, renamed, settled, standing, write_to, wrote}
-use Rattle.disk_model.specs.State.Write.{End}
-use Rattle.disk_model.specs.declared.place.NameStep.{NameStep}
-use Rattle.disk_model.specs.declared.place.NameStep.TheVariants.{Remove, Rename}
-use Rattle.disk_model.specs.declared.place.Place.{Place}
-use Rattle.disk_model.specs.declared.place.Place.TheVariants.{Clear, Doomed, Entry, Index, Log, Tmp}
-use Rattle.disk_model.proofs.Files.{with_file-apart, with_file-below}
-use Rattle.disk_model.proofs.Images.{now_is_image, now_may_stand, only_now, only_stands}
-use Rattle.disk_model.proofs.Places.{is_same-refl}
-use Rattle.disk_model.proofs.Sound.{no_writes, sound_added}
-use Rattle.disk_model.proofs.Standing.{added_puts, removed_puts, settled_same, wrote_puts}
+use Rattle.disk_theory.specs.Image.{Files, IsImage, MayStand}
+use Rattle.disk_theory.specs.Place.{is_same}
+use Rattle.disk_theory.specs.Sound.{IsSound, names_before}
+use Rattle.disk_theory.specs.Standing.{PutsContent}
+use Rattle.disk_theory.specs.State.{File, Names, State, content_of, created, empty_file, names_after, names_now, removed, renamed, settled, standing, write_to, wrote}
+use Rattle.disk_theory.specs.State.Write.{End}
+use Rattle.disk_theory.specs.declared.place.NameStep.{NameStep}
+use Rattle.disk_theory.specs.declared.place.NameStep.TheVariants.{Remove, Rename}
+use Rattle.disk_theory.specs.declared.place.Place.{Place}
+use Rattle.disk_theory.specs.declared.place.Place.TheVariants.{Clear, Doomed, Entry, Index, Log, Tmp}
+use Rattle.disk_theory.proofs.Files.{with_file-apart, with_file-below}
+use Rattle.disk_theory.proofs.Images.{now_is_image, now_may_stand, only_now, only_stands}
+use Rattle.disk_theory.proofs.Places.{is_same-refl}
+use Rattle.disk_theory.proofs.Sound.{no_writes, sound_added}
+use Rattle.disk_theory.proofs.Standing.{added_puts, removed_puts, settled_same, wrote_puts}
 use Rattle.file_handles.specs.Dooming.{IsTaking, TakesEntries}
 
 -- ---- an image, but for the doomed, is one of before

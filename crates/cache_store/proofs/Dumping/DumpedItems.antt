@@ -17,9 +17,9 @@ use Rattle.cache_store.specs.Saying.{SaysMore, StopsIn}
 use Rattle.cache_store.proofs.Saying.SayingLaws.{says_then, stops_front, stops_then}
 use Rattle.cache_theory.proofs.Versions.{is_key}
 use Rattle.cache_theory.specs.Table.{Table}
-use Rattle.disk_model.specs.Image.{Files}
-use Rattle.disk_model.specs.State.{State, standing}
-use Rattle.disk_model.specs.declared.place.Place.TheVariants.{Entry}
+use Rattle.disk_theory.specs.Image.{Files}
+use Rattle.disk_theory.specs.State.{State, standing}
+use Rattle.disk_theory.specs.declared.place.Place.TheVariants.{Entry}
 use Rattle.entry_file.specs.EntryFile.{read, whole_in}
 use Rattle.entry_file.specs.Rewriting.{rewritten}
 use Rattle.entry_file.specs.Version.{Version}

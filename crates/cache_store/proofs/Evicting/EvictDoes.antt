@@ -42,8 +42,8 @@ use Rattle.cache_theory.proofs.Evictions.Evicting.{all_weaker, unused_are_taken_
 use Rattle.cache_theory.proofs.Names.{same_bytes}
 use Rattle.cache_theory.proofs.Clears.MarkStays.{mark_stays}
 use Rattle.cache_theory.proofs.Rested.{proper_rested}
-use Rattle.disk_model.specs.State.{State}
-use Rattle.disk_model.specs.declared.disk.DiskFault.{DiskFault}
+use Rattle.disk_theory.specs.State.{State}
+use Rattle.disk_theory.specs.declared.disk.DiskFault.{DiskFault}
 use Rattle.evictor.specs.Evict.{victims}
 use Rattle.file_handles.specs.Cache.{cache_at}
 use Rattle.file_handles.specs.Kept.{Kept}

@@ -8,8 +8,8 @@ use Rattle.std.proofs.lemmas.List.Sorted.{All-permutation, IsPermutation-map}
 use Rattle.cache_base.specs.Names.{has_name}
 use Rattle.cache_base.specs.declared.name.Name.{Name}
 use Rattle.cache_store.specs.Evicting.{ArePicked, AreUnused, AreVictims, HoldsFiles, has_file}
-use Rattle.disk_model.specs.State.{State, standing}
-use Rattle.disk_model.specs.declared.place.Place.TheVariants.{Entry}
+use Rattle.disk_theory.specs.State.{State, standing}
+use Rattle.disk_theory.specs.declared.place.Place.TheVariants.{Entry}
 use Rattle.evictor.specs.Evict.{candidates, in_order, may_evict, total_kb, victims}
 use Rattle.evictor.proofs.AnyOrder.{same_in_any_order}
 use Rattle.evictor.proofs.Prefix.{IsPrefix, split}

@@ -6,11 +6,11 @@ use Rattle.cache_io.specs.declared.sink.SinkFault.TheVariants as sink
 use Rattle.cache_store.specs.Faults.{ending as store_ending, fault_ending as store_fault_ending, of_sink}
 use Rattle.cache_store.specs.declared.fault.StoreFault.{StoreFault}
 use Rattle.cache_store.specs.declared.fault.StoreFault.TheVariants as fault
-use Rattle.disk_model.specs.Account.{Accounts, Ending, IsCalm, Looks, ending, fault_ending, no_sync}
-use Rattle.disk_model.specs.Calls.{Counts, FailsLast, StopsAtFault, counted_sync}
-use Rattle.disk_model.specs.declared.disk.Disk.{Ghosts}
-use Rattle.disk_model.specs.declared.disk.DiskFault.{DiskFault}
-use Rattle.disk_model.specs.declared.disk.DiskFault.TheVariants.{Failed, Memory}
+use Rattle.disk_theory.specs.Account.{Accounts, Ending, IsCalm, Looks, ending, fault_ending, no_sync}
+use Rattle.disk_theory.specs.Calls.{Counts, FailsLast, StopsAtFault, counted_sync}
+use Rattle.disk_theory.specs.declared.disk.Disk.{Ghosts}
+use Rattle.disk_theory.specs.declared.disk.DiskFault.{DiskFault}
+use Rattle.disk_theory.specs.declared.disk.DiskFault.TheVariants.{Failed, Memory}
 use Rattle.file_handles.proofs.Accounting.{syncs_then}
 
 -- the calls before synced nothing

@@ -10,7 +10,7 @@ use Rattle.cache_theory.specs.Marks.{Marks, begun as begun_marks}
 use Rattle.cache_theory.specs.Proper.{IsProper}
 use Rattle.cache_theory.specs.Step.{effect, state_reply, step}
 use Rattle.cache_theory.proofs.Proper.{stays_proper}
-use Rattle.disk_model.specs.State.{State}
+use Rattle.disk_theory.specs.State.{State}
 use Rattle.file_handles.specs.Cache.{cache_at}
 use Rattle.file_handles.specs.Kept.{Kept}
 use Rattle.file_handles.specs.Stands.{KeepsWhere as CacheKeepsWhere}

@@ -12,10 +12,10 @@ use Rattle.cache_theory.proofs.CrashImages.Crashes.{quiet_is_safe}
 use Rattle.cache_theory.proofs.CrashImages.DiskChanges.{sync_keeps}
 use Rattle.cache_theory.proofs.CrashImages.EverSteps.{ever_settled}
 use Rattle.cache_theory.proofs.CrashImages.FiledOnce.{sync_files_once}
-use Rattle.disk_model.specs.Sound.{IsSound}
-use Rattle.disk_model.specs.State.{State, names_now, settled, standing}
-use Rattle.disk_model.specs.declared.place.Place.TheVariants.{Doomed}
-use Rattle.disk_model.proofs.Standing.{settled_same}
+use Rattle.disk_theory.specs.Sound.{IsSound}
+use Rattle.disk_theory.specs.State.{State, names_now, settled, standing}
+use Rattle.disk_theory.specs.declared.place.Place.TheVariants.{Doomed}
+use Rattle.disk_theory.proofs.Standing.{settled_same}
 use Rattle.entry_file.specs.EntryFile.{found, read_for, whole_in}
 use Rattle.entry_name.specs.EntryName.{file_name}
 use Rattle.file_handles.specs.Cache.{Cache, cache_at}

@@ -21,7 +21,7 @@ use Rattle.cache_store.specs.Performing.{DoesCommand, DoesWhatIsDone, KeepsHisto
 use Rattle.cache_store.specs.Said.{Saying}
 use Rattle.cache_store.specs.Session.{Open, Session}
 use Rattle.cache_store.specs.declared.answered.Answered.{Answered}
-use Rattle.cache_store.specs.declared.fault.Verdict.{Verdict}
+use Rattle.cache_store.specs.declared.outcome.Verdict.{Verdict}
 use Rattle.cache_store.specs.declared.fault.StoreFault.{StoreFault}
 use Rattle.cache_store.specs.declared.fault.StoreFault.TheVariants as fault
 use Rattle.cache_store.proofs.Clearing.ObjectsDoomed.{as_many, undoomed_before}

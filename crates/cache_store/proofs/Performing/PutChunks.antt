@@ -5,8 +5,8 @@ use Rattle.cache_store.specs.Learnt.{HasOutcomeOf}
 use Rattle.cache_store.specs.Reads.{PutsChunks}
 use Rattle.cache_store.specs.declared.answered.Answered.{Answered}
 use Rattle.cache_store.specs.declared.fault.StoreFault.{StoreFault}
-use Rattle.cache_store.specs.declared.fault.Verdict.{Verdict}
-use Rattle.cache_store.specs.declared.fault.Verdict.TheVariants as outcome
+use Rattle.cache_store.specs.declared.outcome.Verdict.{Verdict}
+use Rattle.cache_store.specs.declared.outcome.Verdict.TheVariants as outcome
 use Rattle.cache_theory.specs.Command.{Command}
 use Rattle.cache_theory.specs.Command.Command.{Doom, PutAlt}
 use Rattle.file_handles.specs.Answers.{OnRefused}

@@ -21,7 +21,7 @@ use Rattle.cache_store.specs.Session.{Open}
 use Rattle.cache_store.specs.declared.answered.Answered.{Answered}
 use Rattle.cache_store.specs.declared.answered.Answered.TheVariants as answered
 use Rattle.cache_store.specs.declared.fault.StoreFault.{StoreFault}
-use Rattle.cache_store.specs.declared.fault.Verdict.{Verdict}
+use Rattle.cache_store.specs.declared.outcome.Verdict.{Verdict}
 use Rattle.cache_store.proofs.Performing.PerformDoes.{is_reply}
 use Rattle.cache_store.proofs.Saying.PrintedLaws.{said_rest}
 use Rattle.cache_store.proofs.Saying.Unsaid.{unsaid_answers, unsaid_by}

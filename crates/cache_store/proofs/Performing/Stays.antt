@@ -17,12 +17,12 @@ use Rattle.cache_store.proofs.Records.RecordsAtEnd.{ended_stays}
 use Rattle.cache_store.proofs.Performing.Represented.{keeps_bare, represented}
 use Rattle.cache_store.proofs.Spared.{spared_in}
 use Rattle.cache_theory.specs.History.{History, settled_at}
-use Rattle.disk_model.specs.Account.{FailsInChange, fault_ending as disk_fault_ending}
-use Rattle.disk_model.specs.State.{State, standing}
-use Rattle.disk_model.specs.declared.disk.Disk.{Ghosts}
-use Rattle.disk_model.specs.declared.disk.DiskFault.{DiskFault}
-use Rattle.disk_model.specs.declared.disk.DiskFault.TheVariants as disk
-use Rattle.disk_model.specs.declared.place.Place.TheVariants.{Clear}
+use Rattle.disk_theory.specs.Account.{FailsInChange, fault_ending as disk_fault_ending}
+use Rattle.disk_theory.specs.State.{State, standing}
+use Rattle.disk_theory.specs.declared.disk.Disk.{Ghosts}
+use Rattle.disk_theory.specs.declared.disk.DiskFault.{DiskFault}
+use Rattle.disk_theory.specs.declared.disk.DiskFault.TheVariants as disk
+use Rattle.disk_theory.specs.declared.place.Place.TheVariants.{Clear}
 use Rattle.file_handles.specs.Answers.{OnRead}
 use Rattle.file_handles.specs.Kept.{Kept}
 use Rattle.file_handles.specs.declared.fault.HandleFault.{HandleFault}

@@ -16,8 +16,8 @@ use Rattle.cache_theory.specs.Machine.{Machine}
 use Rattle.cache_theory.proofs.CrashImages.Reading.{some_of}
 use Rattle.cache_theory.specs.Step.{step}
 use Rattle.cache_theory.specs.Text.{reply_text}
-use Rattle.disk_model.specs.State.{State, standing}
-use Rattle.disk_model.specs.declared.place.Place.TheVariants.{Entry}
+use Rattle.disk_theory.specs.State.{State, standing}
+use Rattle.disk_theory.specs.declared.place.Place.TheVariants.{Entry}
 use Rattle.entry_file.specs.Version.{IsFileOf}
 use Rattle.entry_file.proofs.EntryLaws.{file_begins}
 use Rattle.entry_metadata.specs.Metadata.{Meta as MetaSaid}

@@ -7,7 +7,7 @@ use Rattle.cache_base.specs.declared.limits.TheConstants.{SLOTS}
 use Rattle.cache_theory.specs.Command.Command.{ReadPart}
 use Rattle.cache_theory.specs.Machine.{Machine, object_of}
 use Rattle.chunk_cache.specs.Cached.{CachedChunk, StandsFirst, bytes_of}
-use Rattle.disk_model.specs.State.{State, standing}
+use Rattle.disk_theory.specs.State.{State, standing}
 use Rattle.file_handles.specs.Cache.{cache_at}
 use Rattle.file_handles.specs.Held.{body_len_in}
 use Rattle.file_handles.specs.Kept.{Kept, object_at, object_in, use_at, used}
@@ -21,8 +21,8 @@ use Rattle.file_handles.proofs.Reading.ReadKept.{read_represents, read_stands}
 use Rattle.cache_store.specs.Answering.{outcome_in}
 use Rattle.cache_store.specs.Reads.{AreHeld, LastIsFirst}
 use Rattle.cache_store.specs.declared.answered.Answered.{Answered}
-use Rattle.cache_store.specs.declared.fault.Verdict.{Verdict}
-use Rattle.cache_store.specs.declared.fault.Verdict.TheVariants as outcome
+use Rattle.cache_store.specs.declared.outcome.Verdict.{Verdict}
+use Rattle.cache_store.specs.declared.outcome.Verdict.TheVariants as outcome
 use Rattle.cache_store.specs.declared.fault.StoreFault.{StoreFault}
 
 -- ---- handles that hold other chunks

@@ -14,7 +14,7 @@ use Rattle.cache_store.specs.Prefix.{range_of}
 use Rattle.cache_store.specs.Printed.{is_check, lists_findings}
 use Rattle.cache_store.specs.Showing.{ShownPart, alt_in_meta, length_before, part_said, part_shown, showing}
 use Rattle.cache_store.specs.Texts.{found_line}
-use Rattle.cache_store.specs.declared.fault.Verdict.TheVariants as outcome
+use Rattle.cache_store.specs.declared.outcome.Verdict.TheVariants as outcome
 use Rattle.cache_store.specs.Replied.{replied}
 use Rattle.cache_store.specs.declared.answered.Answered.{Answered}
 use Rattle.cache_store.specs.declared.fault.StoreFault.{StoreFault}
@@ -32,7 +32,7 @@ use Rattle.cache_theory.specs.Text.{alt_line, reply_text, with_number}
 use Rattle.cache_theory.specs.declared.refusal.Refusal.{Refusal}
 use Rattle.cache_theory.specs.declared.refusal.Refusal.TheVariants.{NoAlt}
 use Rattle.cache_theory.proofs.AltReplies.{alt_is_of_get}
-use Rattle.disk_model.specs.State.{State}
+use Rattle.disk_theory.specs.State.{State}
 use Rattle.entry_file.specs.Version.{Version, version_meta}
 use Rattle.entry_metadata.specs.Metadata.{Meta as MetaSaid}
 use Rattle.entry_parts.specs.Elements.{Element, elements_bytes}

@@ -8,7 +8,7 @@ use Rattle.cache_store.specs.Session.{Session}
 use Rattle.cache_store.proofs.Records.CountedChanges.{changed_is_diff}
 use Rattle.cache_theory.specs.Command.Command.{Flush, Rebuild}
 use Rattle.cache_theory.specs.Machine.{Machine}
-use Rattle.disk_model.specs.Image.{Files}
+use Rattle.disk_theory.specs.Image.{Files}
 use Rattle.index_map.specs.Known.{Known}
 use Rattle.index_record.specs.declared.record.IndexRecord.{IndexRecord}
 use Rattle.index_theory.specs.Scan.{scan}

@@ -21,8 +21,8 @@ use Rattle.cache_theory.specs.Marks.{Marks, acked as acked_marks, begun as begun
 use Rattle.cache_theory.specs.Step.{effect, state_reply, step}
 use Rattle.cache_theory.specs.Table.{get}
 use Rattle.cache_theory.proofs.Rested.{with_rest}
-use Rattle.disk_model.specs.State.{State}
-use Rattle.disk_model.specs.declared.place.Place.TheVariants.{Clear}
+use Rattle.disk_theory.specs.State.{State}
+use Rattle.disk_theory.specs.declared.place.Place.TheVariants.{Clear}
 use Rattle.file_handles.specs.Cache.{cache_at}
 use Rattle.file_handles.specs.Kept.{Kept}
 use Rattle.file_handles.specs.Stands.{KeepsWhere as CacheKeepsWhere, Represents as CacheRepresents}

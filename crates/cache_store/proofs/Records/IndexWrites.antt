@@ -20,10 +20,10 @@ use Rattle.cache_theory.specs.Proper.{IsProper}
 use Rattle.cache_theory.specs.Step.{effect, step}
 use Rattle.cache_theory.specs.Table.{get}
 use Rattle.cache_theory.proofs.CrashImages.DiskChanges.{sync_keeps}
-use Rattle.disk_model.specs.Sound.{IsSound}
-use Rattle.disk_model.specs.State.{State, settled, standing}
-use Rattle.disk_model.specs.declared.place.Place.TheVariants.{Clear, Log}
-use Rattle.disk_model.proofs.Standing.{settled_same}
+use Rattle.disk_theory.specs.Sound.{IsSound}
+use Rattle.disk_theory.specs.State.{State, settled, standing}
+use Rattle.disk_theory.specs.declared.place.Place.TheVariants.{Clear, Log}
+use Rattle.disk_theory.proofs.Standing.{settled_same}
 use Rattle.file_handles.specs.Cache.{cache_at}
 use Rattle.file_handles.specs.Kept.{Kept}
 use Rattle.file_handles.specs.Stands.{Represents as CacheRepresents}

@@ -36,7 +36,7 @@ use Rattle.index_theory.specs.Leaves.{LeavesBeside, LeavesIndex}
 use Rattle.index_theory.specs.Scan.{scanned}
 use Rattle.index_update.specs.Rest.{name_bytes}
 use Rattle.startup_read.proofs.KeptLaws.{left_keeps_index, same_base_keeps_index}
-use Rattle.disk_model.specs.State.{State}
+use Rattle.disk_theory.specs.State.{State}
 use Rattle.cache_store.specs.Kept.{HoldsIndex}
 use Rattle.cache_store.specs.Learnt.{IsLearnt, effect_of, effect_of_some}
 use Rattle.cache_store.specs.Open.{KeepsWhere}

@@ -3,10 +3,10 @@ use Rattle.std.proofs.Common.{◌≡◌, ℕ, ◌+◌, List, ◌++◌, length, t
 use Rattle.std.proofs.lemmas.Bool.{leb-false, leb-true}
 use Rattle.std.proofs.lemmas.List.{drop_all}
 use Rattle.std.proofs.lemmas.Slice.{drop-append-drop}
-use Rattle.disk_model.specs.State.{State, add_write, content, content_of, names_now, standing, write_to, written}
-use Rattle.disk_model.specs.State.Write.{Patch}
-use Rattle.disk_model.specs.declared.place.Place.TheVariants.{Index}
-use Rattle.disk_model.proofs.Files.{with_file-same}
+use Rattle.disk_theory.specs.State.{State, add_write, content, content_of, names_now, standing, write_to, written}
+use Rattle.disk_theory.specs.State.Write.{Patch}
+use Rattle.disk_theory.specs.declared.place.Place.TheVariants.{Index}
+use Rattle.disk_theory.proofs.Files.{with_file-same}
 use Rattle.index_theory.specs.Closing.{flagged}
 use Rattle.cache_store.specs.InUse.{past_header}
 

@@ -8,8 +8,8 @@ use Rattle.cache_store.specs.declared.memory_index.MemoryIndex.{MemoryIndex}
 use Rattle.cache_store.proofs.Records.IndexAchieves.{goes_on_telling, session_at}
 use Rattle.cache_theory.specs.Machine.{Machine}
 use Rattle.cache_theory.specs.Table.{get}
-use Rattle.disk_model.specs.State.{State}
-use Rattle.disk_model.specs.declared.disk.DiskFault.{DiskFault}
+use Rattle.disk_theory.specs.State.{State}
+use Rattle.disk_theory.specs.declared.disk.DiskFault.{DiskFault}
 use Rattle.file_handles.specs.Cache.{cache_at}
 use Rattle.file_handles.specs.Kept.{Kept}
 use Rattle.file_handles.specs.Stands.{Represents as CacheRepresents}

@@ -6,7 +6,7 @@ use Rattle.cache_store.specs.declared.memory_index.MemoryIndex.{MemoryIndex}
 use Rattle.cache_store.proofs.Records.TellsAlike.{tells_alike}
 use Rattle.cache_theory.specs.Machine.{Machine}
 use Rattle.cache_theory.specs.Table.{get}
-use Rattle.disk_model.specs.State.{standing}
+use Rattle.disk_theory.specs.State.{standing}
 use Rattle.file_handles.specs.Cache.{Cache}
 use Rattle.file_handles.specs.Stands.{Represents}
 use Rattle.index_keeps.proofs.ShelfLaws.{stands_scan}

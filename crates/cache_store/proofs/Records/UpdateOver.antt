@@ -12,8 +12,8 @@ use Rattle.cache_store.proofs.Evicting.SameTotals.{sums_scan}
 use Rattle.cache_store.proofs.Spared.{rested_in, spared_in}
 use Rattle.cache_theory.specs.Crash.{IsSafe}
 use Rattle.cache_theory.specs.History.{History, settled_at}
-use Rattle.disk_model.specs.State.{State, standing}
-use Rattle.disk_model.specs.declared.place.Place.TheVariants.{Clear}
+use Rattle.disk_theory.specs.State.{State, standing}
+use Rattle.disk_theory.specs.declared.place.Place.TheVariants.{Clear}
 use Rattle.evictor.specs.Evict.{total_kb}
 use Rattle.file_handles.specs.Kept.{Kept}
 use Rattle.index_map.specs.Known.{IsKnown}

@@ -2,10 +2,10 @@
 use Rattle.std.proofs.Common.{◌≡◌, ◌≢◌, ◌∙◌, List, Result, Ok, Err, refl, sym, ap, subst}
 use Rattle.std.specs.Prelude.{IfOk, is_some}
 use Rattle.cache_base.specs.Bytes.{be32}
-use Rattle.disk_model.specs.Image.{Files}
-use Rattle.disk_model.specs.State.{State, removed, renamed, settled, standing}
-use Rattle.disk_model.specs.declared.place.Place.TheVariants.{Index, Log, Tmp}
-use Rattle.disk_model.proofs.Standing.{settled_same}
+use Rattle.disk_theory.specs.Image.{Files}
+use Rattle.disk_theory.specs.State.{State, removed, renamed, settled, standing}
+use Rattle.disk_theory.specs.declared.place.Place.TheVariants.{Index, Log, Tmp}
+use Rattle.disk_theory.proofs.Standing.{settled_same}
 use Rattle.index_map.specs.Known.{Known, SameBase}
 use Rattle.index_record.specs.declared.record.IndexRecord.{IndexRecord}
 use Rattle.index_theory.specs.Closing.{flagged}

@@ -3,8 +3,8 @@ use Rattle.std.proofs.Common.{◌≡◌, ◌≢◌, ◌∙◌, ℕ, List, [], Re
 use Rattle.std.specs.Prelude.{IfOk, option_and_then}
 use Rattle.cache_base.specs.Names.{AreRising}
 use Rattle.cache_base.specs.declared.name.Name.{Name}
-use Rattle.disk_model.specs.Listing.{AreEntries}
-use Rattle.disk_model.specs.State.{State, standing}
+use Rattle.disk_theory.specs.Listing.{AreEntries}
+use Rattle.disk_theory.specs.State.{State, standing}
 use Rattle.index_map.specs.Known.{Known, SameBase}
 use Rattle.index_theory.specs.Apart.{IsApart}
 use Rattle.index_theory.specs.Ever.{entries_on}

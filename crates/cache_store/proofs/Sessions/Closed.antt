@@ -5,10 +5,10 @@ use Rattle.cache_theory.specs.Crash.{IsSafe}
 use Rattle.cache_theory.specs.Ever.{entry_place}
 use Rattle.cache_theory.specs.History.{History}
 use Rattle.cache_theory.specs.Machine.{Machine}
-use Rattle.disk_model.specs.Sound.{IsQuiet}
-use Rattle.disk_model.specs.State.{State, settled, standing}
-use Rattle.disk_model.specs.declared.disk.DiskFault.{DiskFault}
-use Rattle.disk_model.specs.declared.place.Place.TheVariants.{Clear, Doomed}
+use Rattle.disk_theory.specs.Sound.{IsQuiet}
+use Rattle.disk_theory.specs.State.{State, settled, standing}
+use Rattle.disk_theory.specs.declared.disk.DiskFault.{DiskFault}
+use Rattle.disk_theory.specs.declared.place.Place.TheVariants.{Clear, Doomed}
 use Rattle.file_handles.specs.Closing.{ClosesAll, IsClosed}
 use Rattle.index_keeps.proofs.KeepsLaws.{spared_is_safe}
 use Rattle.index_theory.specs.Apart.{IsApart}

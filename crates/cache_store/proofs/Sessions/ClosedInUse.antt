@@ -5,14 +5,14 @@ use Rattle.std.proofs.lemmas.List.Sorted.{length_permutation}
 use Rattle.cache_base.specs.Bytes.{be32}
 use Rattle.cache_base.specs.declared.limits.TheConstants.{CHANGED_MAX}
 use Rattle.cache_base.specs.declared.name.Name.{Name}
-use Rattle.disk_model.specs.Calls.{if_ok}
-use Rattle.disk_model.specs.Sound.{IsSound}
-use Rattle.disk_model.specs.State.{State, empty_file, settled, standing}
-use Rattle.disk_model.specs.State.Write.{End, Patch}
-use Rattle.disk_model.specs.declared.disk.DiskFault.{DiskFault}
-use Rattle.disk_model.specs.declared.place.Place.TheVariants.{Index, Log}
-use Rattle.disk_model.proofs.Sound.{no_writes, sound_added, sound_settled}
-use Rattle.disk_model.proofs.Standing.{added_puts, settled_same, wrote_puts}
+use Rattle.disk_theory.specs.Calls.{if_ok}
+use Rattle.disk_theory.specs.Sound.{IsSound}
+use Rattle.disk_theory.specs.State.{State, empty_file, settled, standing}
+use Rattle.disk_theory.specs.State.Write.{End, Patch}
+use Rattle.disk_theory.specs.declared.disk.DiskFault.{DiskFault}
+use Rattle.disk_theory.specs.declared.place.Place.TheVariants.{Index, Log}
+use Rattle.disk_theory.proofs.Sound.{no_writes, sound_added, sound_settled}
+use Rattle.disk_theory.proofs.Standing.{added_puts, settled_same, wrote_puts}
 use Rattle.index_map.specs.Known.{IsKnown, Known, changed}
 use Rattle.index_record.specs.declared.record.IndexRecord.{IndexRecord}
 use Rattle.index_theory.specs.Closing.{closed, flag_cleared, log_begun, log_filled, log_synced}

@@ -10,12 +10,12 @@ use Rattle.cache_theory.specs.Table.{Table, get}
 use Rattle.cache_theory.proofs.CrashImages.Crashes.{quiet_is_safe, safe_is_crash_safe}
 use Rattle.cache_theory.proofs.CrashImages.DiskChanges.{remove_keeps}
 use Rattle.cache_theory.proofs.CrashImages.FiledOnce.{quiet_files_once}
-use Rattle.disk_model.specs.Listing.{IsFinite}
-use Rattle.disk_model.specs.Sound.{IsQuiet, IsSound}
-use Rattle.disk_model.specs.State.{State, removed, standing}
-use Rattle.disk_model.specs.declared.place.Place.{Place}
-use Rattle.disk_model.specs.declared.place.Place.TheVariants.{Clear, Doomed}
-use Rattle.disk_model.proofs.Sound.{sound_settled}
+use Rattle.disk_theory.specs.Listing.{IsFinite}
+use Rattle.disk_theory.specs.Sound.{IsQuiet, IsSound}
+use Rattle.disk_theory.specs.State.{State, removed, standing}
+use Rattle.disk_theory.specs.declared.place.Place.{Place}
+use Rattle.disk_theory.specs.declared.place.Place.TheVariants.{Clear, Doomed}
+use Rattle.disk_theory.proofs.Sound.{sound_settled}
 use Rattle.doom_area.specs.DoomArea.{IsCleared, RemovesDoomed, removed_each}
 use Rattle.entry_file.specs.EntryFile.{found, read_for, whole_in}
 use Rattle.entry_name.specs.EntryName.{file_name}

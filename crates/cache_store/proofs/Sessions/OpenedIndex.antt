@@ -1,10 +1,10 @@
 -- What an opening of the index leaves of the entries, also where changes are pending when it begins.
 use Rattle.std.proofs.Common.{◌≡◌, ◌∙◌, ℕ, List, sym, ap, subst}
 use Rattle.cache_theory.specs.Ever.{entry_place}
-use Rattle.disk_model.specs.Sound.{IsSound}
-use Rattle.disk_model.specs.State.{State, standing}
-use Rattle.disk_model.specs.declared.place.Place.{Place}
-use Rattle.disk_model.proofs.Standing.{settled_same}
+use Rattle.disk_theory.specs.Sound.{IsSound}
+use Rattle.disk_theory.specs.State.{State, standing}
+use Rattle.disk_theory.specs.declared.place.Place.{Place}
+use Rattle.disk_theory.proofs.Standing.{settled_same}
 use Rattle.index_theory.specs.Apart.{IsOfIndex}
 use Rattle.index_theory.specs.Ever.{entries_on}
 use Rattle.startup_read.specs.Opening.{marked, opened, opening_at, set_aside}

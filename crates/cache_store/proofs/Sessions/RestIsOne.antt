@@ -7,8 +7,8 @@ use Rattle.std.specs.declared.cmp.Ordering.TheVariants.{Less, Equal, Greater}
 use Rattle.std.proofs.lemmas.List.Elements.{All-contains, All-from_recursion}
 use Rattle.cache_base.specs.Names.{AreRising, name_cmp}
 use Rattle.cache_base.specs.declared.name.Name.{Name}
-use Rattle.disk_model.specs.Listing.{IsFinite}
-use Rattle.disk_model.specs.State.{State, standing}
+use Rattle.disk_theory.specs.Listing.{IsFinite}
+use Rattle.disk_theory.specs.State.{State, standing}
 use Rattle.index_theory.specs.Start.{start_of}
 use Rattle.index_theory.specs.declared.kinds.Start.{Start}
 use Rattle.index_theory.specs.declared.kinds.Start.TheVariants.{Ready, Update, Build}

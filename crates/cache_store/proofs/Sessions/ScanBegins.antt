@@ -2,8 +2,8 @@
 use Rattle.std.proofs.Common.{◌≡◌, refl, sym, subst}
 use Rattle.cache_store.specs.Records.{TellsOf}
 use Rattle.cache_store.specs.declared.memory_index.MemoryIndex.{MemoryIndex}
-use Rattle.disk_model.specs.Listing.{AreEntries}
-use Rattle.disk_model.specs.State.{State}
+use Rattle.disk_theory.specs.Listing.{AreEntries}
+use Rattle.disk_theory.specs.State.{State}
 use Rattle.index_map.specs.Known.{Known, no_records}
 use Rattle.index_theory.specs.Ever.{entries_on}
 use Rattle.index_update.specs.Rest.{name_bytes}

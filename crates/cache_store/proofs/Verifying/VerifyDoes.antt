@@ -20,7 +20,7 @@ use Rattle.cache_theory.specs.Command.Reply.{Findings}
 use Rattle.cache_theory.specs.Machine.{Machine, writing_names}
 use Rattle.cache_theory.specs.Step.{effect, step}
 use Rattle.cache_theory.specs.Table.{Table}
-use Rattle.disk_model.specs.State.{State}
+use Rattle.disk_theory.specs.State.{State}
 use Rattle.file_handles.specs.Cache.{cache_at}
 use Rattle.file_handles.specs.Kept.{Kept}
 use Rattle.file_handles.specs.Stands.{Represents as CacheRepresents}

@@ -14,11 +14,11 @@ use Rattle.cache_theory.proofs.CrashImages.DiskChanges.{synced_reads}
 use Rattle.cache_theory.proofs.CrashImages.EverSteps.{quiet_names}
 use Rattle.cache_theory.proofs.CrashImages.Readings.{unfit_reads, whole_key}
 use Rattle.cache_theory.proofs.CrashImages.Torn.{moment_fits, torn_reads}
-use Rattle.disk_model.specs.Image.{Files, IsImage, IsImageAt, MayHold, MayStand, moment}
-use Rattle.disk_model.specs.Sound.{IsQuiet, names_before}
-use Rattle.disk_model.specs.State.{File, State, content_after, content_of, standing}
-use Rattle.disk_model.specs.declared.place.Place.{Place}
-use Rattle.disk_model.proofs.Images.{holds_synced}
+use Rattle.disk_theory.specs.Image.{Files, IsImage, IsImageAt, MayHold, MayStand, moment}
+use Rattle.disk_theory.specs.Sound.{IsQuiet, names_before}
+use Rattle.disk_theory.specs.State.{File, State, content_after, content_of, standing}
+use Rattle.disk_theory.specs.declared.place.Place.{Place}
+use Rattle.disk_theory.proofs.Images.{holds_synced}
 use Rattle.index_theory.proofs.UncleanLaws.{kept_image}
 use Rattle.entry_file.specs.EntryFile.{Reading, file_meta, fits, found, read, read_for, whole_in}
 use Rattle.entry_file.specs.EntryFile.Reading.{Whole, Damaged, Nothing}

@@ -2,11 +2,11 @@
 use Rattle.std.proofs.Common.{◌≡◌, ◌≢◌, inl, inr, ℕ, ◌+◌, ◌-◌, ◌<◌, ◌≤◌, List, [], ◌++◌, length, drop, true, false, Some, refl, sym, ap, subst, ◌∙◌, arith}
 use Rattle.std.proofs.Math.Seq.{drop-append-add}
 use Rattle.std.proofs.lemmas.Bool.{cases_eq, cases_lt}
-use Rattle.disk_model.specs.declared.place.Place.TheVariants.{Doomed}
-use Rattle.disk_model.specs.Image.{moment}
-use Rattle.disk_model.specs.State.{File, State, Write, content, content_after, created, names_now, renamed}
-use Rattle.disk_model.proofs.Files.{with_file-below}
-use Rattle.disk_model.proofs.Images.{drop-nil}
+use Rattle.disk_theory.specs.declared.place.Place.TheVariants.{Doomed}
+use Rattle.disk_theory.specs.Image.{moment}
+use Rattle.disk_theory.specs.State.{File, State, Write, content, content_after, created, names_now, renamed}
+use Rattle.disk_theory.proofs.Files.{with_file-below}
+use Rattle.disk_theory.proofs.Images.{drop-nil}
 use Rattle.entry_file.specs.EntryFile.{read}
 use Rattle.index_theory.specs.Apart.{IsEntry}
 use Rattle.cache_theory.specs.Crash.{IsAsMarked, IsFine, IsSafe, MayBeFiled, MayRead}

@@ -1,8 +1,8 @@
 -- No file stands at the entry places of two names, whatever changes come.
 use Rattle.std.proofs.Common.{◌≡◌, ◌⊎◌, inl, inr, ℕ, List, [], Some, sym, ap, subst, ◌∙◌, arith}
-use Rattle.disk_model.specs.declared.place.Place.{Place}
-use Rattle.disk_model.specs.declared.place.Place.TheVariants.{Entry, Doomed, Index, Log, Tmp, Clear}
-use Rattle.disk_model.specs.State.{State, names_now, removed, renamed, settled}
+use Rattle.disk_theory.specs.declared.place.Place.{Place}
+use Rattle.disk_theory.specs.declared.place.Place.TheVariants.{Entry, Doomed, Index, Log, Tmp, Clear}
+use Rattle.disk_theory.specs.State.{State, names_now, removed, renamed, settled}
 use Rattle.cache_theory.specs.Ever.{EverAt, IsFiledOnce, IsUnpublished, entry_place}
 use Rattle.cache_theory.specs.Keeps.{CreateFilesOnce, MoveAsideFilesOnce, PublishFilesOnce, QuietFilesOnce, RemoveFilesOnce, RenameFilesOnce, SyncFilesOnce, WriteFilesOnce}
 use Rattle.index_theory.specs.Apart.{IsEntry}

@@ -1,6 +1,6 @@
 -- A file that is not published stood at no entry place, whatever changes come.
 use Rattle.std.proofs.Common.{◌≡◌, inl, inr, sym, ◌∙◌, arith}
-use Rattle.disk_model.specs.declared.place.Place.TheVariants.{Doomed}
+use Rattle.disk_theory.specs.declared.place.Place.TheVariants.{Doomed}
 use Rattle.cache_theory.specs.Ever.{entry_place}
 use Rattle.cache_theory.specs.Keeps.{CreateLeavesUnpublished, CreateUnpublished, PublishLeavesUnpublished, QuietUnpublished, RemoveLeavesUnpublished, RenameLeavesUnpublished, SyncLeavesUnpublished, WriteLeavesUnpublished}
 use Rattle.cache_theory.proofs.CrashImages.EverSteps.{ever_created, ever_made, ever_removed, ever_renamed, ever_settled, ever_wrote, quiet_names}

@@ -26,8 +26,8 @@ use Rattle.cache_tool.proofs.DoneLaws.{are_done_where}
 use Rattle.cache_tool.proofs.Puts.PutEnds.{Printed, never_disk}
 use Rattle.cache_tool.proofs.SessionEnds.{begun_leave, leaves_at, resumed_tells}
 use Rattle.cache_tool.proofs.StatusLaws.{EndsAs, answer_closes, closing_same}
-use Rattle.disk_model.specs.Calls.{Counts, LastCallFails}
-use Rattle.disk_model.specs.State.{State, standing}
+use Rattle.disk_theory.specs.Calls.{Counts, LastCallFails}
+use Rattle.disk_theory.specs.State.{State, standing}
 use Rattle.index_theory.specs.Honest.{Honest, LeavesHonest}
 
 -- the same where less is known to be right

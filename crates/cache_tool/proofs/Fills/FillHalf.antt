@@ -6,7 +6,7 @@ use Rattle.cache_store.specs.EndsUpdate.{EndsUpdate, IsTotal, update_over}
 use Rattle.cache_store.specs.InUse.{past_header}
 use Rattle.cache_store.specs.Open.{KeepsTo, Tells}
 use Rattle.cache_store.specs.Session.{Session}
-use Rattle.cache_store.specs.declared.fault.Verdict.{Verdict}
+use Rattle.cache_store.specs.declared.outcome.Verdict.{Verdict}
 use Rattle.cache_store.specs.declared.fault.StoreFault.{StoreFault}
 use Rattle.cache_store.proofs.Performing.Represented.{represents}
 use Rattle.cache_theory.specs.Checks.{checks}
@@ -27,8 +27,8 @@ use Rattle.cache_tool.specs.Dated.{IsDatedIn}
 use Rattle.cache_tool.proofs.DoneLaws.{done_where, some_done}
 use Rattle.cache_tool.proofs.Fills.FillRuns.{ok_then}
 use Rattle.cache_tool.proofs.MarkLeft.{others_keep, stays_mark, then_stays}
-use Rattle.disk_model.specs.State.{State, standing}
-use Rattle.disk_model.specs.declared.place.Place.TheVariants.{Index}
+use Rattle.disk_theory.specs.State.{State, standing}
+use Rattle.disk_theory.specs.declared.place.Place.TheVariants.{Index}
 use Rattle.evictor.specs.Evict.{total_kb, victims}
 use Rattle.index_map.specs.Known.{SameBase}
 use Rattle.index_theory.specs.Scan.{scan}

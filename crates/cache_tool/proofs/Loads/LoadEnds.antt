@@ -46,8 +46,8 @@ use Rattle.cache_tool.proofs.Loads.LoadTurns.{fault_ends}
 use Rattle.cache_tool.proofs.SessionEnds.{begun_leave, leaves_at}
 use Rattle.cache_tool.proofs.StatusLaws.{EndsAs, closing_same}
 use Rattle.context_clear.specs.Mark.{mark_of}
-use Rattle.disk_model.specs.Calls.{Counts, LastCallFails}
-use Rattle.disk_model.specs.State.{State}
+use Rattle.disk_theory.specs.Calls.{Counts, LastCallFails}
+use Rattle.disk_theory.specs.State.{State}
 use Rattle.index_record.specs.declared.record.IndexRecord.{IndexRecord}
 use Rattle.index_theory.specs.Honest.{LeavesHonest}
 

@@ -21,7 +21,7 @@ use Rattle.cache_tool.specs.FillProgress.{RunsAll}
 use Rattle.cache_tool.specs.Load.{Loaded, loaded_commands}
 use Rattle.cache_tool.specs.Syncs.{SyncsFor}
 use Rattle.cache_tool.proofs.SyncLaws.{syncs_then}
-use Rattle.disk_model.specs.Calls.{Counts}
+use Rattle.disk_theory.specs.Calls.{Counts}
 use Rattle.cache_tool.specs.LoadProgress.{AreLoaded, EndsLoaded, HasLoaded, LoadsNext, ReadsLoaded, loading, part_commands}
 use Rattle.cache_tool.specs.Statuses.{status_in}
 use Rattle.cache_tool.specs.declared.load.LoadEnd.{LoadEnd}

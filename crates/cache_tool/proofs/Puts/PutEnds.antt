@@ -18,7 +18,7 @@ use Rattle.cache_theory.specs.Command.{Command}
 use Rattle.cache_theory.specs.History.{acked, settled_at}
 use Rattle.cache_theory.specs.Machine.{Machine}
 use Rattle.cache_theory.specs.Step.{step}
-use Rattle.disk_model.specs.Calls.{Counts, FailsLast, LastFails, StopsAtFault}
+use Rattle.disk_theory.specs.Calls.{Counts, FailsLast, LastFails, StopsAtFault}
 use Rattle.cache_tool.specs.AnyDisk.{IsRefusalLine}
 use Rattle.cache_tool.specs.Beginning.{BeginsRun}
 use Rattle.cache_tool.specs.Ending.{EndsSession}
@@ -31,8 +31,8 @@ use Rattle.cache_tool.specs.World.{Output, Supply}
 use Rattle.cache_tool.proofs.ForGood.{stops_last}
 use Rattle.cache_tool.proofs.SessionEnds.{begun_leave, leaves_at}
 use Rattle.cache_tool.proofs.StatusLaws.{EndsAs, answer_closes, closing_same}
-use Rattle.disk_model.specs.Account.{Ending}
-use Rattle.disk_model.specs.State.{State}
+use Rattle.disk_theory.specs.Account.{Ending}
+use Rattle.disk_theory.specs.State.{State}
 use Rattle.index_theory.specs.Honest.{LeavesHonest}
 
 -- what was printed, where an answer was to be

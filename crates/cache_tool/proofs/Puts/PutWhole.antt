@@ -6,8 +6,8 @@ use Rattle.cache_base.specs.declared.status.Status.TheVariants as status
 use Rattle.cache_store.specs.Answering.{outcome_of}
 use Rattle.cache_store.specs.Open.{KeepsTo}
 use Rattle.cache_store.specs.Session.{Session}
-use Rattle.cache_store.specs.declared.fault.Verdict.{Verdict}
-use Rattle.cache_store.specs.declared.fault.Verdict.TheVariants as outcome
+use Rattle.cache_store.specs.declared.outcome.Verdict.{Verdict}
+use Rattle.cache_store.specs.declared.outcome.Verdict.TheVariants as outcome
 use Rattle.cache_store.specs.declared.fault.StoreFault.{StoreFault}
 use Rattle.cache_store.specs.declared.fault.StoreFault.TheVariants as fault
 use Rattle.cache_theory.specs.Command.{Command}

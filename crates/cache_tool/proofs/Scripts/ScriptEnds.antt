@@ -30,10 +30,10 @@ use Rattle.cache_tool.proofs.OneCommand.{not_begun}
 use Rattle.cache_tool.proofs.Scripts.ScriptTurns.{counts_more, counts_on}
 use Rattle.cache_tool.proofs.SessionEnds.{ends_leave, resumed_done, resumed_tells, stops_leave}
 use Rattle.cache_tool.proofs.StatusLaws.{EndsAs, closes_or_not, closing_same}
-use Rattle.disk_model.specs.Account.{Ending}
-use Rattle.disk_model.specs.Calls.{Counts, LastCallFails, LastFails, LastLookFails}
-use Rattle.disk_model.specs.Listing.{IsFinite}
-use Rattle.disk_model.specs.State.{State, standing}
+use Rattle.disk_theory.specs.Account.{Ending}
+use Rattle.disk_theory.specs.Calls.{Counts, LastCallFails, LastFails, LastLookFails}
+use Rattle.disk_theory.specs.Listing.{IsFinite}
+use Rattle.disk_theory.specs.State.{State, standing}
 use Rattle.index_theory.specs.Honest.{Honest, LeavesHonest}
 
 -- ---- the run did not begin

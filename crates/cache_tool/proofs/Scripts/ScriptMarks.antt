@@ -22,7 +22,7 @@ use Rattle.cache_tool.specs.Statuses.{IsClosing, status_in}
 use Rattle.cache_tool.proofs.Begun.{all_begin_keep}
 use Rattle.cache_tool.proofs.FaultedParts.{kept_before, next_kept}
 use Rattle.cache_tool.proofs.Scripts.ScriptTurns.{after_more}
-use Rattle.disk_model.specs.State.{State}
+use Rattle.disk_theory.specs.State.{State}
 
 -- of these commands the first are acknowledged, and the others have begun
 abbrev pub between : History → List Command → ℕ → Marks

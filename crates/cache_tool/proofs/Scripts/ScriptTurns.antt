@@ -17,7 +17,7 @@ use Rattle.cache_store.specs.Open.{KeepsTo, Tells}
 use Rattle.cache_store.specs.Performing.{ComesToTell, PerformsAndKeeps, PerformsFor}
 use Rattle.cache_store.specs.Said.{IsCut}
 use Rattle.cache_store.specs.Session.{cache_of}
-use Rattle.cache_store.specs.declared.fault.Verdict.{Verdict}
+use Rattle.cache_store.specs.declared.outcome.Verdict.{Verdict}
 use Rattle.cache_store.specs.declared.fault.StoreFault.{StoreFault}
 use Rattle.cache_store.specs.declared.fault.StoreFault.TheVariants as fault
 use Rattle.cache_store.proofs.Performing.Represented.{represents}
@@ -51,7 +51,7 @@ use Rattle.cache_tool.proofs.Moments.{with_source}
 use Rattle.cache_tool.proofs.RightLaws.{leads_none, leads_on, leads_one, leads_still}
 use Rattle.cache_tool.proofs.StayingLaws.{stays_done}
 use Rattle.cache_tool.proofs.Scripts.ScriptBytes.{more_length, nothing_read, read_bad, read_front, read_on, read_taken, read_whole}
-use Rattle.disk_model.specs.Calls.{LastCallFails, LastFails, LastLookFails}
+use Rattle.disk_theory.specs.Calls.{LastCallFails, LastFails, LastLookFails}
 use Rattle.index_map.specs.Known.{SameBase}
 
 -- the machine after some commands and one more

@@ -37,8 +37,8 @@ use Rattle.cache_tool.proofs.Stops.RunLeaves.{is_some_of, unclosed}
 use Rattle.cache_tool.proofs.Stops.StoppedScripts.{starts_proper}
 use Rattle.cache_tool.proofs.Stops.WrittenSince.{no_mark_after_all}
 use Rattle.context_clear.specs.Mark.{mark_of}
-use Rattle.disk_model.specs.State.{standing}
-use Rattle.disk_model.specs.declared.place.Place.TheVariants.{Clear}
+use Rattle.disk_theory.specs.State.{standing}
+use Rattle.disk_theory.specs.declared.place.Place.TheVariants.{Clear}
 use Rattle.entry_file.specs.EntryFile.{found, read_for, whole_in}
 use Rattle.entry_file.specs.Version.{Version}
 use Rattle.entry_name.specs.EntryName.{file_name}

@@ -8,8 +8,8 @@ use Rattle.cache_base.specs.declared.status.Status.{Status}
 use Rattle.cache_base.specs.declared.status.Status.TheVariants as status
 use Rattle.cache_store.specs.Answering.{outcome_of}
 use Rattle.cache_store.specs.DoneFor.{IsResumedBy}
-use Rattle.cache_store.specs.declared.fault.Verdict.{Verdict}
-use Rattle.cache_store.specs.declared.fault.Verdict.TheVariants as outcome
+use Rattle.cache_store.specs.declared.outcome.Verdict.{Verdict}
+use Rattle.cache_store.specs.declared.outcome.Verdict.TheVariants as outcome
 use Rattle.cache_theory.specs.Checks.{checks, undamaged}
 use Rattle.cache_theory.specs.Command.{Command}
 use Rattle.cache_theory.specs.Command.Command.{Get, Resume, ResumeNames}
@@ -33,8 +33,8 @@ use Rattle.cache_tool.specs.World.{World, output_of}
 use Rattle.cache_tool.proofs.Stops.PutFiled.{put_is_filed}
 use Rattle.cache_tool.proofs.Stops.StoppedScripts.{starts_proper}
 use Rattle.context_clear.specs.Mark.{mark_of}
-use Rattle.disk_model.specs.State.{standing}
-use Rattle.disk_model.specs.declared.place.Place.TheVariants.{Clear}
+use Rattle.disk_theory.specs.State.{standing}
+use Rattle.disk_theory.specs.declared.place.Place.TheVariants.{Clear}
 use Rattle.entry_file.proofs.EntryLaws.{read-file_of}
 use Rattle.entry_file.specs.EntryFile.{Reading, read_for, whole_in}
 use Rattle.entry_file.specs.EntryFile.Reading.{Damaged, Nothing, Whole}

@@ -39,8 +39,8 @@ use Rattle.cache_tool.proofs.Stops.PutFiled.{IsDrafted, drafted_append, drafted_
 use Rattle.cache_tool.proofs.Stops.PutGot.{is_resumed, resumed_itself}
 use Rattle.cache_tool.proofs.Stops.StoppedScripts.{starts_proper}
 use Rattle.context_clear.specs.Mark.{mark_of}
-use Rattle.disk_model.specs.Image.{Files}
-use Rattle.disk_model.specs.State.{standing}
+use Rattle.disk_theory.specs.Image.{Files}
+use Rattle.disk_theory.specs.State.{standing}
 use Rattle.entry_file.specs.EntryFile.{found, read_for, whole_in}
 use Rattle.entry_file.specs.Version.{Version}
 use Rattle.entry_name.specs.EntryName.{file_name}

@@ -31,8 +31,8 @@ use Rattle.cache_tool.proofs.SameLaws.{done_is_same}
 use Rattle.cache_tool.proofs.Stops.StoppedScripts.{starts_proper}
 use Rattle.cache_tool.proofs.Stops.WrittenSince.{no_mark_after}
 use Rattle.context_clear.specs.Mark.{mark_of}
-use Rattle.disk_model.specs.State.{State, standing}
-use Rattle.disk_model.specs.declared.place.Place.TheVariants.{Clear}
+use Rattle.disk_theory.specs.State.{State, standing}
+use Rattle.disk_theory.specs.declared.place.Place.TheVariants.{Clear}
 use Rattle.entry_file.specs.EntryFile.{found, read_for, whole_in}
 use Rattle.entry_file.specs.Version.{Version}
 use Rattle.entry_name.specs.EntryName.{file_name}

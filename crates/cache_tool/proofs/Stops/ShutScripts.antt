@@ -39,8 +39,8 @@ use Rattle.cache_tool.proofs.Stops.StoppedScripts.{all_given, of_source, out_is_
 use Rattle.cache_tool.proofs.Stops.ToldScripts.{kept_same, numbers, size, told_of_script}
 use Rattle.cache_tool.proofs.Stops.WrittenSince.{found_or_written, no_mark_after_all}
 use Rattle.context_clear.specs.Mark.{mark_of}
-use Rattle.disk_model.specs.State.{standing}
-use Rattle.disk_model.specs.declared.place.Place.TheVariants.{Clear}
+use Rattle.disk_theory.specs.State.{standing}
+use Rattle.disk_theory.specs.declared.place.Place.TheVariants.{Clear}
 use Rattle.entry_file.specs.EntryFile.{found, read_for, whole_in}
 use Rattle.entry_file.specs.Version.{Version}
 use Rattle.entry_name.specs.EntryName.{file_name}

@@ -21,7 +21,7 @@ use Rattle.cache_tool.specs.World.{World}
 use Rattle.cache_tool.proofs.ClearedInRun.{all_kept}
 use Rattle.cache_tool.proofs.Stops.StoppedScripts.{acked_within, all_given, script_commands, script_proper, stopped_marks}
 use Rattle.cache_theory.specs.Given.{IsGiven}
-use Rattle.disk_model.specs.Image.{Files}
+use Rattle.disk_theory.specs.Image.{Files}
 use Rattle.entry_file.specs.EntryFile.{file_meta, found, read, read_for, whole_in}
 use Rattle.entry_file.specs.EntryFile.Reading.{Nothing, Whole}
 use Rattle.entry_file.specs.Version.{Version}

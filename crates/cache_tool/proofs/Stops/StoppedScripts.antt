@@ -31,7 +31,7 @@ use Rattle.cache_tool.proofs.PlainRun.{crash_more, run_says_plainly}
 use Rattle.cache_tool.proofs.SameLaws.{done_is_same, run_is_of_script}
 use Rattle.cache_tool.proofs.Stops.ToldScripts.{told_of_script}
 use Rattle.context_clear.specs.Mark.{mark_of}
-use Rattle.disk_model.specs.State.{State, standing}
+use Rattle.disk_theory.specs.State.{State, standing}
 use Rattle.index_theory.specs.Honest.{Honest}
 
 -- ---- the machine at an opening, and the commands of a script

@@ -28,7 +28,7 @@ use Rattle.cache_tool.specs.World.{World}
 use Rattle.cache_tool.proofs.FaultedParts.{kept_before_from, next_replies}
 use Rattle.cache_tool.proofs.SameLaws.{done_front, run_is_of_script}
 use Rattle.context_clear.specs.Mark.{mark_of}
-use Rattle.disk_model.specs.State.{standing}
+use Rattle.disk_theory.specs.State.{standing}
 use Rattle.index_theory.specs.Honest.{Honest}
 
 -- ---- texts

@@ -4,16 +4,16 @@ ghost use Rattle.std.specs.Prelude.{◌≡◌, ◌≢◌, ◌≤◌, ◌^◌, �
 ghost use Rattle.std.specs.Option.{option_map};
 ghost use Rattle.cache_base.specs.Causes.{HasCause};
 ghost use Rattle.cache_base.specs.Names.{AreRising};
-ghost use Rattle.disk_model.specs.Calls.{counted_change, counted_look, counted_read, counted_sync, if_ok, if_done, MayWriteAt, HoldsPart};
+ghost use Rattle.disk_theory.specs.Calls.{counted_change, counted_look, counted_read, counted_sync, if_ok, if_done, MayWriteAt, HoldsPart};
 
 use super::MemDisk;
-use crate::{Disk, DiskFault, Place};
 use cache_base::{Names, Numbers};
+use disk_theory::{Disk, DiskFault, Place};
 
 impl Disk for MemDisk {
-    ghost use Rattle.disk_model.specs.State.{standing, part_of, created, renamed, removed, wrote, settled};
-    ghost use Rattle.disk_model.specs.State.Write.{End, Patch};
-    ghost use Rattle.disk_model.specs.Listing.{AreEntries, AreDoomed, AreRisingNumbers};
+    ghost use Rattle.disk_theory.specs.State.{standing, part_of, created, renamed, removed, wrote, settled};
+    ghost use Rattle.disk_theory.specs.State.Write.{End, Patch};
+    ghost use Rattle.disk_theory.specs.Listing.{AreEntries, AreDoomed, AreRisingNumbers};
     ghost use Rattle.disk_model.specs.MemDisk.{state_in, counts_in, faults_in, FailsNext};
     ghost use Rattle.disk_model.specs.MemFinite.{finite_in};
 

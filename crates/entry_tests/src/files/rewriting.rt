@@ -1,6 +1,6 @@
 ghost use Rattle.std.specs.Prelude.{◌≡◌, ◌≤◌, length, IfOk, IfSome, IsTrue};
 ghost use Rattle.cache_base.specs.declared.limits.TheConstants.{BODY_MAX};
-ghost use Rattle.disk_model.specs.State.{standing};
+ghost use Rattle.disk_theory.specs.State.{standing};
 ghost use Rattle.entry_file.specs.Rewriting.{StoresBody};
 ghost use Rattle.entry_metadata.specs.Meta.{meta_of};
 ghost use Rattle.entry_parts.specs.Elements.{elements_bytes};

@@ -12,16 +12,16 @@ use Rattle.cache_theory.proofs.CrashImages.DiskChanges.{remove_keeps}
 use Rattle.cache_theory.proofs.EntryFiles.{file_there, no_file_there}
 use Rattle.cache_theory.proofs.CrashImages.FiledOnce.{one_name as one_place_name}
 use Rattle.cache_theory.proofs.ObjectLaws.Users.{same_number, undoomed_user}
-use Rattle.disk_model.specs.Calls.{if_done}
-use Rattle.disk_model.specs.Place.{is_same}
-use Rattle.disk_model.specs.Standing.{PutsContent}
-use Rattle.disk_model.specs.State.{State, removed, standing}
-use Rattle.disk_model.specs.declared.disk.DiskFault.{DiskFault}
-use Rattle.disk_model.specs.declared.disk.DiskFault.TheVariants.{Failed, Memory}
-use Rattle.disk_model.specs.declared.place.Place.{Place}
-use Rattle.disk_model.specs.declared.place.Place.TheVariants.{Doomed}
-use Rattle.disk_model.proofs.Places.{never, one_same}
-use Rattle.disk_model.proofs.Standing.{removed_puts}
+use Rattle.disk_theory.specs.Calls.{if_done}
+use Rattle.disk_theory.specs.Place.{is_same}
+use Rattle.disk_theory.specs.Standing.{PutsContent}
+use Rattle.disk_theory.specs.State.{State, removed, standing}
+use Rattle.disk_theory.specs.declared.disk.DiskFault.{DiskFault}
+use Rattle.disk_theory.specs.declared.disk.DiskFault.TheVariants.{Failed, Memory}
+use Rattle.disk_theory.specs.declared.place.Place.{Place}
+use Rattle.disk_theory.specs.declared.place.Place.TheVariants.{Doomed}
+use Rattle.disk_theory.proofs.Places.{never, one_same}
+use Rattle.disk_theory.proofs.Standing.{removed_puts}
 use Rattle.doom_area.specs.DoomArea.{RemovesDoomed}
 use Rattle.doom_area.proofs.ClearedTo.{removes_done}
 use Rattle.entry_name.specs.EntryName.{file_name}

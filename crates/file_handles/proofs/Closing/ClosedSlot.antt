@@ -17,9 +17,9 @@ use Rattle.cache_theory.specs.declared.refusal.Refusal.TheVariants.{NoSlot}
 use Rattle.cache_theory.proofs.Changes.{finished_reads, may_finish}
 use Rattle.cache_theory.proofs.ObjectLaws.Objects.{nth}
 use Rattle.cache_theory.proofs.ObjectLaws.Storing.{MayStand, stored_here}
-use Rattle.disk_model.specs.Sound.{IsSound}
-use Rattle.disk_model.specs.State.{State, standing}
-use Rattle.disk_model.specs.declared.disk.DiskFault.{DiskFault}
+use Rattle.disk_theory.specs.Sound.{IsSound}
+use Rattle.disk_theory.specs.State.{State, standing}
+use Rattle.disk_theory.specs.declared.disk.DiskFault.{DiskFault}
 use Rattle.file_handles.specs.Answers.{done_or, reply_in}
 use Rattle.file_handles.specs.Cache.{cache_at}
 use Rattle.file_handles.specs.Changes.{completed}

@@ -17,8 +17,8 @@ use Rattle.cache_theory.proofs.ObjectLaws.Releasing.{proper_released}
 use Rattle.cache_theory.proofs.ObjectLaws.Slots.{HasSlot}
 use Rattle.cache_theory.proofs.ObjectLaws.Users.{in_use_along}
 use Rattle.chunk_cache.specs.Cached.{CachedChunk}
-use Rattle.disk_model.specs.State.{State, names_now, standing}
-use Rattle.disk_model.specs.declared.place.Place.TheVariants.{Doomed}
+use Rattle.disk_theory.specs.State.{State, names_now, standing}
+use Rattle.disk_theory.specs.declared.place.Place.TheVariants.{Doomed}
 use Rattle.file_handles.specs.Cache.{cache_at}
 use Rattle.file_handles.specs.Held.{IsHeldAs}
 use Rattle.file_handles.specs.HeldChunks.{IsChunkInUse}

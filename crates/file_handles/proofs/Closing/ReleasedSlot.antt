@@ -17,13 +17,13 @@ use Rattle.cache_theory.proofs.CrashImages.FiledOnce.{remove_files_once}
 use Rattle.cache_theory.proofs.ObjectLaws.Slots.{HasSlot, slot_of}
 use Rattle.chunk_cache.specs.Cached.{CachedChunk, without_entry}
 use Rattle.chunk_cache.proofs.Properties.{forget_adds_none}
-use Rattle.disk_model.specs.Calls.{if_done}
-use Rattle.disk_model.specs.State.{State, names_now, removed, standing}
-use Rattle.disk_model.specs.declared.disk.DiskFault.{DiskFault}
-use Rattle.disk_model.specs.declared.disk.DiskFault.TheVariants.{Failed, Memory}
-use Rattle.disk_model.specs.declared.place.Place.TheVariants.{Doomed}
-use Rattle.disk_model.proofs.Sound.{found}
-use Rattle.disk_model.proofs.Standing.{removed_puts}
+use Rattle.disk_theory.specs.Calls.{if_done}
+use Rattle.disk_theory.specs.State.{State, names_now, removed, standing}
+use Rattle.disk_theory.specs.declared.disk.DiskFault.{DiskFault}
+use Rattle.disk_theory.specs.declared.disk.DiskFault.TheVariants.{Failed, Memory}
+use Rattle.disk_theory.specs.declared.place.Place.TheVariants.{Doomed}
+use Rattle.disk_theory.proofs.Sound.{found}
+use Rattle.disk_theory.proofs.Standing.{removed_puts}
 use Rattle.file_handles.specs.Cache.{cache_at}
 use Rattle.file_handles.specs.Closing.{let_go_by, without_doomed}
 use Rattle.file_handles.specs.Seats.{is_use_of}

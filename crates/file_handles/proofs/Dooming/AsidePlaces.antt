@@ -1,7 +1,7 @@
 -- The places of files that stand aside.
 use Rattle.std.proofs.Common.{◌≡◌, ℕ, ap}
-use Rattle.disk_model.specs.declared.place.Place.{Place}
-use Rattle.disk_model.specs.declared.place.Place.TheVariants.{Clear, Doomed, Entry, Index, Log, Tmp}
+use Rattle.disk_theory.specs.declared.place.Place.{Place}
+use Rattle.disk_theory.specs.declared.place.Place.TheVariants.{Clear, Doomed, Entry, Index, Log, Tmp}
 
 number_at : Place → ℕ
 number_at (Entry name) = 0

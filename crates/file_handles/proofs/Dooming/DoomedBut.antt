@@ -17,11 +17,11 @@ use Rattle.cache_theory.proofs.CrashImages.FiledOnce.{one_name as one_place, rem
 use Rattle.cache_theory.proofs.ObjectLaws.HeldAside.{held_before_doomed, held_doomed}
 use Rattle.cache_theory.proofs.Names.{get-remove_other, one_name}
 use Rattle.cache_theory.proofs.ObjectLaws.Users.{in_use_along}
-use Rattle.disk_model.specs.declared.place.Place.TheVariants.{Doomed, Entry}
-use Rattle.disk_model.specs.Image.{Files}
-use Rattle.disk_model.specs.Standing.{PutsContent}
-use Rattle.disk_model.specs.State.{State, removed, standing}
-use Rattle.disk_model.proofs.Standing.{removed_puts}
+use Rattle.disk_theory.specs.declared.place.Place.TheVariants.{Doomed, Entry}
+use Rattle.disk_theory.specs.Image.{Files}
+use Rattle.disk_theory.specs.Standing.{PutsContent}
+use Rattle.disk_theory.specs.State.{State, removed, standing}
+use Rattle.disk_theory.proofs.Standing.{removed_puts}
 use Rattle.file_handles.specs.Cache.{cache_at}
 use Rattle.file_handles.specs.Held.{IsHeldAs}
 use Rattle.file_handles.specs.Kept.{Kept}

@@ -13,7 +13,7 @@ use Rattle.cache_theory.specs.Machine.{Machine}
 use Rattle.cache_theory.specs.Marks.{Marks, acked, begun, begun_by, is_touched, touches}
 use Rattle.cache_theory.specs.Step.{effect, step, stepped}
 use Rattle.cache_theory.specs.declared.refusal.Refusal.{Refusal}
-use Rattle.disk_model.specs.State.{State}
+use Rattle.disk_theory.specs.State.{State}
 use Rattle.file_handles.specs.Cache.{cache_at}
 use Rattle.file_handles.specs.Kept.{Kept}
 use Rattle.file_handles.specs.Stands.{KeepsWhere}

@@ -12,8 +12,8 @@ use Rattle.cache_theory.specs.Machine.{Machine, is_entry, on_shelf, used_by}
 use Rattle.cache_theory.specs.declared.refusal.Refusal.{Refusal}
 use Rattle.cache_theory.specs.declared.refusal.Refusal.TheVariants as refused
 use Rattle.chunk_store.specs.declared.damage.Damage.{Damage}
-use Rattle.disk_model.specs.State.{State, standing}
-use Rattle.disk_model.specs.declared.place.Place.TheVariants.{Entry}
+use Rattle.disk_theory.specs.State.{State, standing}
+use Rattle.disk_theory.specs.declared.place.Place.TheVariants.{Entry}
 use Rattle.entry_file.specs.EntryFile.{by_damages, by_fault, file_fault, file_meta, read, read_for}
 use Rattle.entry_file.specs.EntryFile.Reading.{Nothing}
 use Rattle.entry_file.proofs.FitLaws.{none_of}

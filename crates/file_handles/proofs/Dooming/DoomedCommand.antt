@@ -18,11 +18,11 @@ use Rattle.cache_theory.specs.Table.{get}
 use Rattle.cache_theory.proofs.CrashImages.DiskChanges.{remove_keeps}
 use Rattle.cache_theory.proofs.CrashImages.FiledOnce.{one_name as one_place}
 use Rattle.cache_theory.specs.declared.refusal.Refusal.{Refusal}
-use Rattle.disk_model.specs.Calls.{if_done}
-use Rattle.disk_model.specs.declared.disk.DiskFault.{DiskFault}
-use Rattle.disk_model.specs.declared.disk.DiskFault.TheVariants.{Failed, Memory}
-use Rattle.disk_model.specs.declared.place.Place.TheVariants.{Entry}
-use Rattle.disk_model.specs.State.{State, removed, standing}
+use Rattle.disk_theory.specs.Calls.{if_done}
+use Rattle.disk_theory.specs.declared.disk.DiskFault.{DiskFault}
+use Rattle.disk_theory.specs.declared.disk.DiskFault.TheVariants.{Failed, Memory}
+use Rattle.disk_theory.specs.declared.place.Place.TheVariants.{Entry}
+use Rattle.disk_theory.specs.State.{State, removed, standing}
 use Rattle.entry_file.specs.EntryFile.{read_for}
 use Rattle.entry_key.specs.Writing.{may_write}
 use Rattle.entry_name.specs.EntryName.{file_name}

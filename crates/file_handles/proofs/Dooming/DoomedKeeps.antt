@@ -19,11 +19,11 @@ use Rattle.cache_theory.proofs.CrashImages.FiledOnce.{entry_stays, one_name as o
 use Rattle.cache_theory.proofs.ObjectLaws.HeldAside.{held_before_doomed, undoomed_unfinished}
 use Rattle.cache_theory.proofs.ObjectLaws.Objects.{nth_is, nth_there}
 use Rattle.cache_theory.proofs.ObjectLaws.Users.{same_number}
-use Rattle.disk_model.specs.declared.place.Place.TheVariants.{Doomed, Entry}
-use Rattle.disk_model.specs.Sound.{IsSound}
-use Rattle.disk_model.specs.State.{State, names_now, renamed, standing}
-use Rattle.disk_model.proofs.Places.{is_same-apart, is_same-refl}
-use Rattle.disk_model.proofs.Standing.{renamed_moves}
+use Rattle.disk_theory.specs.declared.place.Place.TheVariants.{Doomed, Entry}
+use Rattle.disk_theory.specs.Sound.{IsSound}
+use Rattle.disk_theory.specs.State.{State, names_now, renamed, standing}
+use Rattle.disk_theory.proofs.Places.{is_same-apart, is_same-refl}
+use Rattle.disk_theory.proofs.Standing.{renamed_moves}
 use Rattle.doom_area.specs.DoomArea.{IsLeastFree}
 use Rattle.entry_name.specs.EntryName.{file_name}
 use Rattle.file_handles.specs.Cache.{cache_at}

@@ -14,8 +14,8 @@ use Rattle.cache_theory.proofs.ObjectLaws.HeldAside.{held_before_doomed, held_do
 use Rattle.cache_theory.proofs.Names.{get-remove_other, one_name}
 use Rattle.cache_theory.proofs.ObjectLaws.Users.{in_use_along, same_number}
 use Rattle.chunk_cache.specs.Cached.{CachedChunk}
-use Rattle.disk_model.specs.declared.place.Place.TheVariants.{Doomed}
-use Rattle.disk_model.specs.State.{State, standing}
+use Rattle.disk_theory.specs.declared.place.Place.TheVariants.{Doomed}
+use Rattle.disk_theory.specs.State.{State, standing}
 use Rattle.file_handles.specs.Held.{IsEntryOf, IsHeldAs}
 use Rattle.file_handles.specs.HeldChunks.{ChunksStand, IsChunkInUse, KeepsChunks}
 use Rattle.file_handles.specs.Kept.{Kept, object_at, with_object}

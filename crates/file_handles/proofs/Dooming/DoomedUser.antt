@@ -12,12 +12,12 @@ use Rattle.cache_theory.specs.Marks.{Marks, is_touched}
 use Rattle.cache_theory.specs.Step.{doomed_under}
 use Rattle.cache_theory.proofs.CrashImages.DiskChanges.{rename_keeps}
 use Rattle.cache_theory.proofs.EntryFiles.{entry_used, file_there}
-use Rattle.disk_model.specs.Calls.{if_done}
-use Rattle.disk_model.specs.declared.disk.DiskFault.{DiskFault}
-use Rattle.disk_model.specs.declared.disk.DiskFault.TheVariants.{Failed, Memory}
-use Rattle.disk_model.specs.declared.place.Place.TheVariants.{Doomed, Entry}
-use Rattle.disk_model.specs.Sound.{IsSound}
-use Rattle.disk_model.specs.State.{State, renamed, standing}
+use Rattle.disk_theory.specs.Calls.{if_done}
+use Rattle.disk_theory.specs.declared.disk.DiskFault.{DiskFault}
+use Rattle.disk_theory.specs.declared.disk.DiskFault.TheVariants.{Failed, Memory}
+use Rattle.disk_theory.specs.declared.place.Place.TheVariants.{Doomed, Entry}
+use Rattle.disk_theory.specs.Sound.{IsSound}
+use Rattle.disk_theory.specs.State.{State, renamed, standing}
 use Rattle.doom_area.specs.DoomArea.{IsLeastFree}
 use Rattle.doom_area.proofs.LeastFree.{lesser_more, long_enough}
 use Rattle.file_handles.specs.Cache.{cache_at}

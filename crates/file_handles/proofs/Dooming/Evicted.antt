@@ -5,10 +5,10 @@ use Rattle.cache_theory.specs.History.{History}
 use Rattle.cache_theory.specs.Marks.{is_touched}
 use Rattle.cache_theory.specs.Step.{doomed_under}
 use Rattle.cache_theory.proofs.ObjectLaws.Dooming.{unshelved_under}
-use Rattle.disk_model.specs.Calls.{if_done}
-use Rattle.disk_model.specs.State.{State, removed}
-use Rattle.disk_model.specs.declared.disk.DiskFault.{DiskFault}
-use Rattle.disk_model.specs.declared.place.Place.TheVariants.{Entry}
+use Rattle.disk_theory.specs.Calls.{if_done}
+use Rattle.disk_theory.specs.State.{State, removed}
+use Rattle.disk_theory.specs.declared.disk.DiskFault.{DiskFault}
+use Rattle.disk_theory.specs.declared.place.Place.TheVariants.{Entry}
 use Rattle.file_handles.specs.Cache.{cache_at}
 use Rattle.file_handles.specs.Dooming.{DoomsUnder}
 use Rattle.file_handles.specs.Kept.{Kept}

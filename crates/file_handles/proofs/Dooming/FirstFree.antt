@@ -9,14 +9,14 @@ use Rattle.cache_base.specs.declared.limits.TheConstants.{SLOTS}
 use Rattle.cache_base.specs.declared.name.Name.{Name}
 use Rattle.cache_theory.specs.Machine.{object}
 use Rattle.cache_theory.proofs.EntryFiles.{file_there}
-use Rattle.disk_model.specs.Calls.{if_done}
-use Rattle.disk_model.specs.declared.disk.DiskFault.{DiskFault}
-use Rattle.disk_model.specs.declared.disk.DiskFault.TheVariants.{Failed, Memory}
-use Rattle.disk_model.specs.declared.place.Place.TheVariants.{Doomed, Entry}
-use Rattle.disk_model.specs.Sound.{IsSound}
-use Rattle.disk_model.specs.Standing.{PutsContent}
-use Rattle.disk_model.specs.State.{State, content_of, created, empty_file, names_now, renamed, standing}
-use Rattle.disk_model.proofs.Standing.{added_puts}
+use Rattle.disk_theory.specs.Calls.{if_done}
+use Rattle.disk_theory.specs.declared.disk.DiskFault.{DiskFault}
+use Rattle.disk_theory.specs.declared.disk.DiskFault.TheVariants.{Failed, Memory}
+use Rattle.disk_theory.specs.declared.place.Place.TheVariants.{Doomed, Entry}
+use Rattle.disk_theory.specs.Sound.{IsSound}
+use Rattle.disk_theory.specs.Standing.{PutsContent}
+use Rattle.disk_theory.specs.State.{State, content_of, created, empty_file, names_now, renamed, standing}
+use Rattle.disk_theory.proofs.Standing.{added_puts}
 use Rattle.doom_area.specs.DoomArea.{IsLeastFree}
 use Rattle.doom_area.proofs.LeastFree.{long_enough}
 use Rattle.file_handles.specs.Cache.{cache_at}

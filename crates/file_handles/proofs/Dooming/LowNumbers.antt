@@ -3,8 +3,8 @@ use Rattle.std.proofs.Common.{◌≡◌, ℕ, zero, suc, ◌<◌, ◌≤◌, Lis
 use Rattle.std.specs.Prelude.{option_and_then, slice_get, slice_set, unwrap_or}
 use Rattle.cache_base.specs.declared.limits.TheConstants.{SLOTS}
 use Rattle.cache_theory.specs.Machine.{Machine}
-use Rattle.disk_model.specs.State.{State, standing}
-use Rattle.disk_model.specs.declared.place.Place.TheVariants.{Doomed}
+use Rattle.disk_theory.specs.State.{State, standing}
+use Rattle.disk_theory.specs.declared.place.Place.TheVariants.{Doomed}
 use Rattle.doom_area.specs.DoomArea.{IsLeastFree}
 use Rattle.doom_area.proofs.LeastFree.{long_enough}
 use Rattle.file_handles.specs.Cache.{cache_at}

@@ -1,12 +1,12 @@
 -- What stands at `clear` is left alone where an entry is doomed.
 use Rattle.std.proofs.Common.{◌≡◌, ◌∙◌, ℕ, List, Option, None, Some, Result, Ok, Err, refl, ap}
-use Rattle.disk_model.specs.declared.disk.DiskFault.{DiskFault}
-use Rattle.disk_model.specs.declared.disk.DiskFault.TheVariants.{Failed, Memory}
-use Rattle.disk_model.specs.declared.place.Place.TheVariants.{Clear, Doomed, Entry}
-use Rattle.disk_model.specs.Sound.{IsSound}
-use Rattle.disk_model.specs.State.{State, removed, renamed, standing}
-use Rattle.disk_model.specs.Calls.{if_done}
-use Rattle.disk_model.proofs.Standing.{removed_puts, renamed_moves}
+use Rattle.disk_theory.specs.declared.disk.DiskFault.{DiskFault}
+use Rattle.disk_theory.specs.declared.disk.DiskFault.TheVariants.{Failed, Memory}
+use Rattle.disk_theory.specs.declared.place.Place.TheVariants.{Clear, Doomed, Entry}
+use Rattle.disk_theory.specs.Sound.{IsSound}
+use Rattle.disk_theory.specs.State.{State, removed, renamed, standing}
+use Rattle.disk_theory.specs.Calls.{if_done}
+use Rattle.disk_theory.proofs.Standing.{removed_puts, renamed_moves}
 use Rattle.cache_base.specs.declared.name.Name.{Name}
 use Rattle.file_handles.specs.Dooming.{LeavesMark, SetsAside}
 use Rattle.file_handles.proofs.Dooming.DoomedUser.{least_free}

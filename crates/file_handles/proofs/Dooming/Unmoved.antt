@@ -1,9 +1,9 @@
 -- The file of an entry that is not finished stands aside already: what is known of it by the entry's key, by its name.
 use Rattle.std.proofs.Common.{◌⊎◌, inl, inr, ⊎_elim, Result, Ok, Err, ◌≡◌, ℕ, List, Some, true, false, is_some, subst, sym, ◌∙◌, ap}
 use Rattle.cache_base.specs.declared.name.Name.{Name}
-use Rattle.disk_model.specs.State.{State, removed, standing}
-use Rattle.disk_model.specs.declared.place.Place.TheVariants.{Doomed, Entry}
-use Rattle.disk_model.proofs.Standing.{removed_puts}
+use Rattle.disk_theory.specs.State.{State, removed, standing}
+use Rattle.disk_theory.specs.declared.place.Place.TheVariants.{Doomed, Entry}
+use Rattle.disk_theory.proofs.Standing.{removed_puts}
 use Rattle.entry_name.specs.EntryName.{file_name}
 use Rattle.file_handles.specs.Creating.{MayHaveRemoved}
 use Rattle.file_handles.specs.Dooming.{IsUnfinishedAt, IsUnfinishedFor, TakesEntry, TakesFirstFree}

@@ -7,8 +7,8 @@ use Rattle.cache_base.specs.declared.name.Name.{Name}
 use Rattle.cache_theory.specs.declared.refusal.Refusal.TheVariants as refused
 use Rattle.chunk_store.specs.Chunks.{chunk, damages}
 use Rattle.chunk_store.specs.declared.damage.Damage.{Damage}
-use Rattle.disk_model.specs.State.{State, standing}
-use Rattle.disk_model.specs.declared.place.Place.TheVariants.{Entry as EntryAt}
+use Rattle.disk_theory.specs.State.{State, standing}
+use Rattle.disk_theory.specs.declared.place.Place.TheVariants.{Entry as EntryAt}
 use Rattle.entry_file.specs.Damages.{HasMeta, first, first_damage}
 use Rattle.entry_file.specs.EntryFile.{Reading, body_in, by_damages, by_fault, file_fault, file_meta, fits, offset_in, read, read_for}
 use Rattle.entry_file.specs.EntryFile.Reading.{Whole, Damaged, Nothing}

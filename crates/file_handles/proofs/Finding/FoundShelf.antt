@@ -8,7 +8,7 @@ use Rattle.cache_theory.specs.Stands.{EntriesStand}
 use Rattle.cache_theory.specs.Table.{get}
 use Rattle.cache_theory.proofs.ObjectLaws.Objects.{object_at as machine_object_at}
 use Rattle.cache_theory.proofs.CrashImages.Reading.{key_of_file, same_key, some_of, used_by_is}
-use Rattle.disk_model.specs.Image.{Files}
+use Rattle.disk_theory.specs.Image.{Files}
 use Rattle.entry_file.specs.EntryFile.{read, read_for}
 use Rattle.entry_file.specs.EntryFile.Reading.{Whole}
 use Rattle.entry_file.specs.Version.{IsVersion, Version}

@@ -5,9 +5,9 @@ use Rattle.cache_theory.specs.Stands.{is_aside, object_file}
 use Rattle.cache_theory.proofs.EntryFiles.{finished_file_is, unfinished_there}
 use Rattle.cache_theory.proofs.ObjectLaws.HeldAside.{doomed_aside}
 use Rattle.chunk_store.specs.Stored.{unfinished_file}
-use Rattle.disk_model.specs.State.{State, names_now, standing}
-use Rattle.disk_model.specs.Writes.{WritesAt}
-use Rattle.disk_model.specs.declared.place.Place.{Place}
+use Rattle.disk_theory.specs.State.{State, names_now, standing}
+use Rattle.disk_theory.specs.Writes.{WritesAt}
+use Rattle.disk_theory.specs.declared.place.Place.{Place}
 use Rattle.entry_file.specs.Held.{held}
 use Rattle.entry_file.specs.NewEntry.{HasBody, finished}
 use Rattle.entry_file.specs.Version.{file_of, version_meta}

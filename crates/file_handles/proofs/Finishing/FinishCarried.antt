@@ -9,8 +9,8 @@ use Rattle.cache_theory.specs.Machine.{Machine, Object as MachineObject, object}
 use Rattle.cache_theory.specs.Marks.{Marks, begun}
 use Rattle.cache_theory.specs.Step.{stored}
 use Rattle.cache_theory.proofs.ObjectLaws.Storing.{MayStand}
-use Rattle.disk_model.specs.Sound.{IsSound}
-use Rattle.disk_model.specs.State.{State}
+use Rattle.disk_theory.specs.Sound.{IsSound}
+use Rattle.disk_theory.specs.State.{State}
 use Rattle.file_handles.specs.Answers.{OnRefused, done_or}
 use Rattle.file_handles.specs.Cache.{cache_at}
 use Rattle.file_handles.specs.Carries.{CarriesOut}

@@ -4,9 +4,9 @@ use Rattle.cache_theory.specs.Machine.{Object as MachineObject}
 use Rattle.cache_theory.proofs.EntryFiles.{unfinished_file_is, unfinished_there}
 use Rattle.chunk_cache.specs.Cached.{CachedChunk}
 use Rattle.chunk_store.specs.Stored.{unfinished_file}
-use Rattle.disk_model.specs.State.{State, names_now, standing}
-use Rattle.disk_model.specs.Writes.{WritesAt}
-use Rattle.disk_model.specs.declared.place.Place.{Place}
+use Rattle.disk_theory.specs.State.{State, names_now, standing}
+use Rattle.disk_theory.specs.Writes.{WritesAt}
+use Rattle.disk_theory.specs.declared.place.Place.{Place}
 use Rattle.entry_file.specs.Held.{held}
 use Rattle.entry_file.specs.NewEntry.{HasBody}
 use Rattle.entry_file.specs.Unfinished.{IsUnfinished}

@@ -1,12 +1,12 @@
 -- A file that is moved to an entry's place right after a sync leaves the index alone.
 use Rattle.std.proofs.Common.{◌≡◌, ◌≢◌, inl, inr, ℕ, Some, None, subst, ◌∙◌}
 use Rattle.cache_base.specs.declared.name.Name.{Name}
-use Rattle.disk_model.specs.Sound.{IsSound}
-use Rattle.disk_model.specs.State.{State, names_now, renamed, settled, with_name}
-use Rattle.disk_model.specs.declared.place.Place.{Place}
-use Rattle.disk_model.specs.declared.place.Place.TheVariants.{Clear, Doomed, Entry, Index, Log, Tmp}
-use Rattle.disk_model.proofs.Sound.{found}
-use Rattle.disk_model.proofs.Standing.{settled_same}
+use Rattle.disk_theory.specs.Sound.{IsSound}
+use Rattle.disk_theory.specs.State.{State, names_now, renamed, settled, with_name}
+use Rattle.disk_theory.specs.declared.place.Place.{Place}
+use Rattle.disk_theory.specs.declared.place.Place.TheVariants.{Clear, Doomed, Entry, Index, Log, Tmp}
+use Rattle.disk_theory.proofs.Sound.{found}
+use Rattle.disk_theory.proofs.Standing.{settled_same}
 use Rattle.index_theory.specs.Apart.{IsEntry, IsOfIndex}
 use Rattle.index_theory.specs.Ever.{EverAt}
 use Rattle.index_theory.specs.Leaves.{LeavesBeside, LeavesIndex}

@@ -20,15 +20,15 @@ use Rattle.cache_theory.proofs.CrashImages.Reading.{some_of}
 use Rattle.cache_theory.proofs.CrashImages.Readings.{reads_whole}
 use Rattle.cache_theory.proofs.ObjectLaws.Storing.{MayStand, proper_stored, stored_there}
 use Rattle.cache_theory.proofs.CrashImages.Unpublished.{sync_leaves_unpublished, write_leaves_unpublished}
-use Rattle.disk_model.specs.Sound.{IsSound}
-use Rattle.disk_model.specs.Standing.{Moves, PutsContent}
-use Rattle.disk_model.specs.State.{State, content, content_of, names_now, settled, standing}
-use Rattle.disk_model.specs.Writes.{WritesAt, WritesTo}
-use Rattle.disk_model.specs.declared.place.Place.TheVariants.{Doomed, Entry}
-use Rattle.disk_model.proofs.Places.{is_same-apart}
-use Rattle.disk_model.proofs.Sound.{sound_settled}
-use Rattle.disk_model.proofs.Standing.{renamed_moves, settled_same}
-use Rattle.disk_model.proofs.Written.{writes_puts}
+use Rattle.disk_theory.specs.Sound.{IsSound}
+use Rattle.disk_theory.specs.Standing.{Moves, PutsContent}
+use Rattle.disk_theory.specs.State.{State, content, content_of, names_now, settled, standing}
+use Rattle.disk_theory.specs.Writes.{WritesAt, WritesTo}
+use Rattle.disk_theory.specs.declared.place.Place.TheVariants.{Doomed, Entry}
+use Rattle.disk_theory.proofs.Places.{is_same-apart}
+use Rattle.disk_theory.proofs.Sound.{sound_settled}
+use Rattle.disk_theory.proofs.Standing.{renamed_moves, settled_same}
+use Rattle.disk_theory.proofs.Written.{writes_puts}
 use Rattle.entry_file.specs.Version.{IsFileOf, file_of}
 use Rattle.entry_file.proofs.EntryLaws.{is_file_of}
 use Rattle.entry_name.specs.EntryName.{file_name}

@@ -15,9 +15,9 @@ use Rattle.cache_theory.specs.Step.{doomed_under, effect, entered, fresh}
 use Rattle.cache_theory.specs.declared.refusal.Refusal.{Refusal}
 use Rattle.cache_theory.specs.declared.refusal.Refusal.TheVariants as refused
 use Rattle.cache_theory.proofs.Changes.{may_create}
-use Rattle.disk_model.specs.declared.place.Place.TheVariants.{Doomed}
-use Rattle.disk_model.specs.Sound.{IsSound}
-use Rattle.disk_model.specs.State.{State, created}
+use Rattle.disk_theory.specs.declared.place.Place.TheVariants.{Doomed}
+use Rattle.disk_theory.specs.Sound.{IsSound}
+use Rattle.disk_theory.specs.State.{State, created}
 use Rattle.entry_key.specs.Writing.{may_write}
 use Rattle.entry_name.specs.EntryName.{file_name}
 use Rattle.file_handles.specs.Cache.{cache_at}

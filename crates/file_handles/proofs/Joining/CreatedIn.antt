@@ -8,11 +8,11 @@ use Rattle.cache_theory.specs.Marks.{Marks}
 use Rattle.cache_theory.specs.Step.{entered, fresh}
 use Rattle.cache_theory.proofs.CrashImages.DiskChanges.{create_keeps}
 use Rattle.cache_theory.proofs.ObjectLaws.Entering.{proper_entered}
-use Rattle.disk_model.specs.declared.place.Place.TheVariants.{Doomed}
-use Rattle.disk_model.specs.Sound.{IsSound}
-use Rattle.disk_model.specs.Standing.{PutsContent}
-use Rattle.disk_model.specs.State.{State, created, empty_file}
-use Rattle.disk_model.proofs.Standing.{added_puts}
+use Rattle.disk_theory.specs.declared.place.Place.TheVariants.{Doomed}
+use Rattle.disk_theory.specs.Sound.{IsSound}
+use Rattle.disk_theory.specs.Standing.{PutsContent}
+use Rattle.disk_theory.specs.State.{State, created, empty_file}
+use Rattle.disk_theory.proofs.Standing.{added_puts}
 use Rattle.file_handles.specs.Cache.{cache_at}
 use Rattle.file_handles.specs.Dooming.{number_in, numbers_in}
 use Rattle.file_handles.specs.Kept.{Kept, with_new, with_use}

@@ -22,13 +22,13 @@ use Rattle.cache_theory.proofs.ObjectLaws.Slots.{free_is_none, has_slots_of, slo
 use Rattle.cache_theory.proofs.CrashImages.Unpublished.{create_unpublished}
 use Rattle.cache_theory.proofs.ObjectLaws.Users.{in_use_along}
 use Rattle.chunk_cache.specs.Cached.{CachedChunk}
-use Rattle.disk_model.specs.declared.place.Place.TheVariants.{Doomed}
-use Rattle.disk_model.specs.Image.{Files}
-use Rattle.disk_model.specs.Sound.{IsSound}
-use Rattle.disk_model.specs.Standing.{PutsContent}
-use Rattle.disk_model.specs.State.{State, created, names_now, standing}
-use Rattle.disk_model.specs.declared.place.Place.TheVariants.{Doomed}
-use Rattle.disk_model.proofs.Places.{is_same-apart, is_same-refl}
+use Rattle.disk_theory.specs.declared.place.Place.TheVariants.{Doomed}
+use Rattle.disk_theory.specs.Image.{Files}
+use Rattle.disk_theory.specs.Sound.{IsSound}
+use Rattle.disk_theory.specs.Standing.{PutsContent}
+use Rattle.disk_theory.specs.State.{State, created, names_now, standing}
+use Rattle.disk_theory.specs.declared.place.Place.TheVariants.{Doomed}
+use Rattle.disk_theory.proofs.Places.{is_same-apart, is_same-refl}
 use Rattle.file_handles.specs.Held.{IsHeldAs}
 use Rattle.file_handles.specs.HeldChunks.{ChunksStand, IsChunkInUse}
 use Rattle.file_handles.specs.Kept.{Kept, object_at, use_at, with_new, with_use}

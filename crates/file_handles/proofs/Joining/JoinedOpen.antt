@@ -18,8 +18,8 @@ use Rattle.cache_theory.proofs.Changes.{may_join, read_object}
 use Rattle.cache_theory.proofs.ObjectLaws.Entering.{proper_entered}
 use Rattle.cache_theory.proofs.CrashImages.Reading.{whole_is_shelved}
 use Rattle.cache_theory.proofs.ObjectLaws.Slots.{slot_free}
-use Rattle.disk_model.specs.State.{State, standing}
-use Rattle.disk_model.specs.declared.place.Place.TheVariants.{Entry}
+use Rattle.disk_theory.specs.State.{State, standing}
+use Rattle.disk_theory.specs.declared.place.Place.TheVariants.{Entry}
 use Rattle.entry_file.specs.EntryFile.{Reading, read_for}
 use Rattle.entry_file.specs.EntryFile.Reading.{Whole, Damaged, Nothing}
 use Rattle.entry_file.specs.Version.{Version, version_meta}

@@ -10,7 +10,7 @@ use Rattle.cache_theory.proofs.ObjectLaws.Entering.{proper_reader, with_reader}
 use Rattle.cache_theory.proofs.ObjectLaws.HeldAside.{held_before_reader, held_reader}
 use Rattle.cache_theory.proofs.ObjectLaws.Slots.{free_is_none, slot_kept, use_of, with_slot_other, with_slot_same}
 use Rattle.cache_theory.proofs.ObjectLaws.Users.{in_use_along}
-use Rattle.disk_model.specs.State.{State, standing}
+use Rattle.disk_theory.specs.State.{State, standing}
 use Rattle.file_handles.specs.Cache.{cache_at}
 use Rattle.file_handles.specs.Kept.{Kept, object_at, with_use}
 use Rattle.file_handles.specs.Stands.{HandlesStand, IsAt, KeepsWhere, slot_of}

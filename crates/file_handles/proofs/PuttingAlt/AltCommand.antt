@@ -23,10 +23,10 @@ use Rattle.cache_theory.proofs.EntryFiles.{finished_file_is}
 use Rattle.cache_theory.proofs.CrashImages.Reading.{some_of}
 use Rattle.chunk_cache.specs.Cached.{CachedChunk, without_entry}
 use Rattle.chunk_cache.proofs.Properties.{All-without_entry}
-use Rattle.disk_model.specs.Prefixes.{BeginsInImages, IsUnreachedBelow, KeepsPrefix}
-use Rattle.disk_model.specs.Sound.{IsSound}
-use Rattle.disk_model.specs.State.{State, content, content_of, names_now, standing}
-use Rattle.disk_model.proofs.Prefixes.{unreached_is_kept}
+use Rattle.disk_theory.specs.Prefixes.{BeginsInImages, IsUnreachedBelow, KeepsPrefix}
+use Rattle.disk_theory.specs.Sound.{IsSound}
+use Rattle.disk_theory.specs.State.{State, content, content_of, names_now, standing}
+use Rattle.disk_theory.proofs.Prefixes.{unreached_is_kept}
 use Rattle.entry_file.specs.Version.{IsFileOf, IsVersion, Version, file_of, version_meta}
 use Rattle.entry_file.proofs.EntryLaws.{file_begins, fits_meta, is_file_of, joined_file}
 use Rattle.entry_metadata.specs.Metadata.{Meta as Said, Third, block_as}

@@ -11,12 +11,12 @@ use Rattle.cache_theory.proofs.CrashImages.Reading.{some_of}
 use Rattle.cache_theory.proofs.Versions.{length_hashes_of}
 use Rattle.chunk_cache.specs.Cached.{CachedChunk}
 use Rattle.chunk_store.specs.Prefixes.{HasChunksWith}
-use Rattle.disk_model.specs.Prefixes.{KeepsPrefix}
-use Rattle.disk_model.specs.Sound.{IsSound}
-use Rattle.disk_model.specs.State.{State, standing}
-use Rattle.disk_model.specs.Writes.{WritesAt}
-use Rattle.disk_model.specs.declared.place.Place.{Place}
-use Rattle.disk_model.proofs.Prefixes.{unreached_is_kept}
+use Rattle.disk_theory.specs.Prefixes.{KeepsPrefix}
+use Rattle.disk_theory.specs.Sound.{IsSound}
+use Rattle.disk_theory.specs.State.{State, standing}
+use Rattle.disk_theory.specs.Writes.{WritesAt}
+use Rattle.disk_theory.specs.declared.place.Place.{Place}
+use Rattle.disk_theory.proofs.Prefixes.{unreached_is_kept}
 use Rattle.entry_file.specs.LongerBody.{StoresShorter, len_before, lengthened}
 use Rattle.entry_file.specs.Version.{file_of, version_meta}
 use Rattle.entry_file.proofs.EntryLaws.{file_begins}

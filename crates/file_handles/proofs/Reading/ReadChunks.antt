@@ -9,7 +9,7 @@ use Rattle.chunk_cache.specs.Cached.{CachedChunk, bytes_of, cached, looked_at}
 use Rattle.chunk_cache.proofs.Lookups.{look_leaves}
 use Rattle.chunk_cache.proofs.Properties.{All-bytes_of, All-looked_at}
 use Rattle.chunk_store.specs.Chunks.{chunk}
-use Rattle.disk_model.specs.State.{State, standing}
+use Rattle.disk_theory.specs.State.{State, standing}
 use Rattle.file_handles.specs.Changes.{IsFiledAs}
 use Rattle.file_handles.specs.Held.{object_place}
 use Rattle.file_handles.specs.HeldChunks.{ChunksStand, HasChunk, IsChunkInUse}

@@ -5,7 +5,7 @@ use Rattle.cache_theory.specs.History.{History}
 use Rattle.cache_theory.specs.Machine.{Machine}
 use Rattle.cache_theory.specs.Marks.{Marks}
 use Rattle.chunk_cache.specs.Cached.{CachedChunk}
-use Rattle.disk_model.specs.State.{State, standing}
+use Rattle.disk_theory.specs.State.{State, standing}
 use Rattle.file_handles.specs.Cache.{cache_at}
 use Rattle.file_handles.specs.HeldChunks.{ChunksStand}
 use Rattle.file_handles.specs.Kept.{Kept}

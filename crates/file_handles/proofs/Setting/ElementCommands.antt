@@ -12,8 +12,8 @@ use Rattle.cache_theory.specs.Machine.{Machine, Object as MachineObject, number_
 use Rattle.cache_theory.specs.Step.{answer, changed, effect}
 use Rattle.cache_theory.proofs.Changes.{object_is}
 use Rattle.cache_theory.proofs.Versions.{object_with, object_without}
-use Rattle.disk_model.specs.Sound.{IsSound}
-use Rattle.disk_model.specs.State.{State}
+use Rattle.disk_theory.specs.Sound.{IsSound}
+use Rattle.disk_theory.specs.State.{State}
 use Rattle.entry_parts.specs.Elements.{element}
 use Rattle.entry_parts.specs.Setting.{with_element, without_element}
 use Rattle.file_handles.specs.Answers.{OnRefused, done_or, done_or_none, reply_in}

@@ -10,7 +10,7 @@ use Rattle.cache_theory.specs.Machine.{Machine, Object as MachineObject, object,
 use Rattle.cache_theory.specs.Marks.{Marks, acked, begun}
 use Rattle.cache_theory.specs.Step.{Answer, answer, changed, effect, element_reply, step, stepped}
 use Rattle.cache_theory.specs.declared.refusal.Refusal.TheVariants.{NoSlot}
-use Rattle.disk_model.specs.State.{State}
+use Rattle.disk_theory.specs.State.{State}
 use Rattle.entry_parts.specs.Elements.{element}
 use Rattle.entry_parts.specs.Setting.{without_element}
 use Rattle.file_handles.specs.Cache.{cache_at}

@@ -5,9 +5,9 @@ use Rattle.cache_theory.specs.Stands.{IsObjectFile, object_file}
 use Rattle.cache_theory.proofs.EntryFiles.{finished_file_is, unfinished_file_is, unfinished_there}
 use Rattle.cache_theory.proofs.CrashImages.Reading.{some_of}
 use Rattle.chunk_cache.specs.Cached.{CachedChunk}
-use Rattle.disk_model.specs.State.{State, standing}
-use Rattle.disk_model.specs.Writes.{WritesAt}
-use Rattle.disk_model.specs.declared.place.Place.{Place}
+use Rattle.disk_theory.specs.State.{State, standing}
+use Rattle.disk_theory.specs.Writes.{WritesAt}
+use Rattle.disk_theory.specs.declared.place.Place.{Place}
 use Rattle.entry_file.specs.Held.{held as held_of}
 use Rattle.entry_file.specs.NewEntry.{HasBody}
 use Rattle.entry_file.specs.Rewriting.{StoresBody, rewritten}

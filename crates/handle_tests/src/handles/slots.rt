@@ -1,5 +1,5 @@
 use super::*;
-use disk_model::Disk;
+use disk_theory::Disk;
 use entry_name::text_of;
 use std::alloc::Global;
 

@@ -2,7 +2,7 @@
 
 use super::*;
 use context_clear::{end, store};
-use disk_model::{Disk, DiskFault};
+use disk_theory::{Disk, DiskFault};
 
 // A number that no entry uses.
 const FREE: u32 = 64;

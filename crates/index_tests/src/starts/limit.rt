@@ -1,4 +1,4 @@
-ghost use Rattle.disk_model.specs.State.{State};
+ghost use Rattle.disk_theory.specs.State.{State};
 ghost use Rattle.index_map.specs.Known.{IsPlain, SameBase};
 ghost use Rattle.startup_read.specs.Kept.{KeepsIndex};
 

@@ -15,7 +15,7 @@ use crate::file_notes::{note_if, take_back};
 use crate::kept::Opened;
 use crate::machine::Machine;
 use crate::paths::{Area, area_of};
-use disk_model::Place;
+use disk_theory::Place;
 use std::fs::File;
 use std::io::{self, ErrorKind};
 use std::rt::Clock;

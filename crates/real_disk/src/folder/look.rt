@@ -1,7 +1,7 @@
 //! The calls that ask for the length of a file or read it.
 
 ghost use Rattle.std.specs.Prelude.{◌≡◌, ◌⊎◌, IfOk, IfSome, None, OnErr, length, take, ◌≢◌, ◌≤◌, string_bytes};
-ghost use Rattle.disk_model.specs.declared.place.Place.TheVariants.{Clear};
+ghost use Rattle.disk_theory.specs.declared.place.Place.TheVariants.{Clear};
 ghost use Rattle.real_disk.specs.Kept.{opened_at, ClosesElsewhere, IsIdle, SameElsewhere};
 ghost use Rattle.real_disk.specs.Opening.{IsFileOf, IsOpenedAt};
 ghost use Rattle.real_disk.specs.Used.{IsToldOf, KeepsOwn, KeepsRead};
@@ -11,7 +11,7 @@ use crate::contents::read_at;
 use crate::kept::Opened;
 use crate::machine::Machine;
 use crate::tree::{Seen, read_only, same_opened, seen_at};
-use disk_model::Place;
+use disk_theory::Place;
 use std::fs::File;
 use std::io::{self, ErrorKind};
 use std::rt::Clock;

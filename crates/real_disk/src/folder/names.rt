@@ -13,7 +13,7 @@ use super::Folder;
 use crate::file_notes::{move_note, note_if, take_back};
 use crate::machine::Machine;
 use crate::paths::area_of;
-use disk_model::Place;
+use disk_theory::Place;
 use std::fs::File;
 use std::io;
 use std::rt::Clock;

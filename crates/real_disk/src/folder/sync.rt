@@ -21,7 +21,7 @@ use crate::standing::sync_at;
 use crate::sync_note;
 use crate::syncing::sync_each;
 use crate::tree::Tree;
-use disk_model::Place;
+use disk_theory::Place;
 use std::alloc::Global;
 use std::collections::BTreeSet;
 use std::fs::File;

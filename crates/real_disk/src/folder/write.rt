@@ -13,7 +13,7 @@ use super::Folder;
 use crate::kept::Opened;
 use crate::machine::Machine;
 use crate::tree::read_and_write;
-use disk_model::Place;
+use disk_theory::Place;
 use std::fs::File;
 use std::io::{self, ErrorKind};
 use std::rt::Clock;

@@ -1,7 +1,7 @@
 //! Pinned entries, and the clearing of an origin.
 
 ghost use Rattle.disk_model.specs.MemDisk.{state_in};
-ghost use Rattle.disk_model.specs.Sound.{IsQuiet};
+ghost use Rattle.disk_theory.specs.Sound.{IsQuiet};
 
 use super::crash::{before_faults, lists_what_stands, prints};
 use super::evict::PINNED;

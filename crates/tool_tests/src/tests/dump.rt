@@ -1,7 +1,7 @@
 //! The dump of all entries.
 
 ghost use Rattle.disk_model.specs.MemDisk.{state_in};
-ghost use Rattle.disk_model.specs.Sound.{IsQuiet};
+ghost use Rattle.disk_theory.specs.Sound.{IsQuiet};
 
 use super::get::{file_of_two_chunks, repeated};
 use super::*;

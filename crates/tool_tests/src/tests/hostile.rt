@@ -1,7 +1,7 @@
 //! A folder of files that are no entries, each for a reason of its own.
 
 ghost use Rattle.disk_model.specs.MemDisk.{state_in};
-ghost use Rattle.disk_model.specs.Sound.{IsQuiet};
+ghost use Rattle.disk_theory.specs.Sound.{IsQuiet};
 
 use super::*;
 use std::test::Fail;

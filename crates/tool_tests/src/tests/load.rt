@@ -1,7 +1,7 @@
 //! The entries of a dump, stored.
 
 ghost use Rattle.disk_model.specs.MemDisk.{state_in};
-ghost use Rattle.disk_model.specs.Sound.{IsQuiet};
+ghost use Rattle.disk_theory.specs.Sound.{IsQuiet};
 
 use super::dump::{DUMP, EMPTY, OF_THREE, ONE, OTHER, THREE_RECORDS, dump_of_two_chunks};
 use super::get::{file_of_two_chunks, repeated};

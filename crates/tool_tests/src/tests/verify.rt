@@ -1,5 +1,5 @@
 ghost use Rattle.disk_model.specs.MemDisk.{state_in};
-ghost use Rattle.disk_model.specs.Sound.{IsQuiet};
+ghost use Rattle.disk_theory.specs.Sound.{IsQuiet};
 
 use super::*;
 use std::test::Fail;

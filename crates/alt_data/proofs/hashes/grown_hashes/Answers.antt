@@ -1,5 +1,5 @@
 use Rattle.std.proofs.Common.{refl, rules}
-use Rattle.disk_model.specs.State.{standing}
+use Rattle.disk_theory.specs.State.{standing}
 use Rattle.alt_data.proofs.GrownHashes.{part_count, part_grown, whole_count, whole_grown}
 use Rattle.alt_data.proofs.hashes.grown_hashes.Goals as goal
 

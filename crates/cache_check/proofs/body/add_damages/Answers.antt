@@ -3,8 +3,8 @@ use Rattle.std.specs.Prelude.{ℕ, IfSome}
 use Rattle.cache_base.specs.Limits.{chunks}
 use Rattle.cache_check.specs.declared.finding.Finding.{Finding}
 use Rattle.chunk_store.specs.Chunks.{damage_at}
-use Rattle.disk_model.specs.State.{State, standing}
-use Rattle.disk_model.specs.declared.place.Place.TheVariants.{Entry}
+use Rattle.disk_theory.specs.State.{State, standing}
+use Rattle.disk_theory.specs.declared.place.Place.TheVariants.{Entry}
 use Rattle.entry_file.proofs.Damaged.{each_content, of_content}
 use Rattle.entry_metadata.specs.Meta.{meta_of}
 use Rattle.cache_check.specs.Checks.{named}

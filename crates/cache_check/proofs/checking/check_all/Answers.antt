@@ -3,7 +3,7 @@ use Rattle.std.specs.BTreeSet.{contains}
 use Rattle.std.specs.Prelude.{is_some}
 use Rattle.cache_base.specs.Names.{name_cmp}
 use Rattle.cache_check.specs.Findings.{findings}
-use Rattle.disk_model.specs.State.{standing}
+use Rattle.disk_theory.specs.State.{standing}
 use Rattle.cache_check.specs.Checks.{looks_over, table_of}
 use Rattle.cache_check.specs.Rows.{without_first, turn_looks}
 use Rattle.cache_check.proofs.LooksLeft.{looks_done, looks_more}

@@ -2,7 +2,7 @@ use Rattle.std.proofs.Common.{◌≡◌, ◌+◌, ◌++◌, length}
 use Rattle.std.specs.Bool.{IsTrue}
 use Rattle.cache_base.specs.Names.{AreRising}
 use Rattle.cache_check.specs.Findings.{findings}
-use Rattle.disk_model.specs.State.{standing}
+use Rattle.disk_theory.specs.State.{standing}
 use Rattle.record_list.specs.Lists.{AreRising as AreByName}
 use Rattle.cache_check.specs.Checks.{looks_over, table_of}
 use Rattle.cache_check.proofs.LooksLeft.{LooksLeft}

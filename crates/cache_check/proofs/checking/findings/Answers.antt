@@ -1,7 +1,7 @@
 use Rattle.std.proofs.Common.{refl, subst, sym, ◌∙◌}
 use Rattle.std.specs.Prelude.{IsTrue}
 use Rattle.cache_base.specs.Names.{AreRising}
-use Rattle.disk_model.specs.State.{standing}
+use Rattle.disk_theory.specs.State.{standing}
 use Rattle.cache_check.proofs.Found.{Listed, found_all, listed_by, listed_stand, looked_once}
 use Rattle.cache_check.proofs.Rising.{Sorts, found_in_order}
 use Rattle.cache_check.proofs.checking.findings.Goals as goal

@@ -1,8 +1,8 @@
 use Rattle.std.proofs.Common.{IsTrue, drop, take}
 use Rattle.cache_store.specs.Clearing.{HoldsNames}
 use Rattle.cache_store.proofs.Clearing.NamesDoomed.{Completes}
-use Rattle.disk_model.specs.Account.{IsCalm, LooksAtNoEntry, no_sync}
-use Rattle.disk_model.specs.Told.{Told}
+use Rattle.disk_theory.specs.Account.{IsCalm, LooksAtNoEntry, no_sync}
+use Rattle.disk_theory.specs.Told.{Told}
 use Rattle.file_handles.specs.Cache.{cache}
 use Rattle.file_handles.specs.Dooming.{LeavesMark, TakesInOrder}
 use Rattle.file_handles.specs.HeldChunks.{SameChunks}

@@ -4,7 +4,7 @@ use Rattle.std.proofs.lemmas.List.{drop_more}
 use Rattle.cache_base.specs.declared.name.Name.{Name}
 use Rattle.cache_check.specs.Checks.{AllStand, files_of}
 use Rattle.cache_export.specs.declared.limits.TheConstants.{DUMP_MAX}
-use Rattle.disk_model.specs.State.{State}
+use Rattle.disk_theory.specs.State.{State}
 use Rattle.cache_store.specs.Dumping.{items_from}
 use Rattle.cache_store.specs.Said.{saying}
 use Rattle.cache_store.proofs.Dumping.DumpedItems.{IsLeft, after_turn, cut_turn, stops_on, takes_on, took_turn}

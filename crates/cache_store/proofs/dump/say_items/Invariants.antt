@@ -1,7 +1,7 @@
 use Rattle.std.proofs.Common.{◌≡◌, ◌≤◌, IsTrue, drop}
 use Rattle.cache_check.specs.Checks.{AllStand, files_of}
 use Rattle.cache_export.specs.declared.limits.TheConstants.{DUMP_MAX}
-use Rattle.disk_model.specs.Account.{IsCalm, no_sync}
+use Rattle.disk_theory.specs.Account.{IsCalm, no_sync}
 use Rattle.file_handles.specs.Kept.{kept}
 use Rattle.cache_store.specs.Dumping.{items_from}
 use Rattle.cache_store.specs.Said.{saying}

@@ -2,8 +2,8 @@ use Rattle.std.proofs.Common.{◌∙◌, [], None, Some, ap, arith, refl, subst,
 use Rattle.std.proofs.lemmas.Bool.{and_parts, le-ltb, lt-ltb}
 use Rattle.std.specs.Prelude.{nat_le, take}
 use Rattle.cache_base.specs.declared.limits.TheConstants.{BODY_MAX}
-use Rattle.disk_model.specs.State.{standing}
-use Rattle.disk_model.specs.declared.place.Place.TheVariants.{Entry}
+use Rattle.disk_theory.specs.State.{standing}
+use Rattle.disk_theory.specs.declared.place.Place.TheVariants.{Entry}
 use Rattle.entry_key.specs.Writing.{may_write}
 use Rattle.entry_metadata.specs.Meta.{meta_of}
 use Rattle.file_handles.specs.Found.{IsFoundUnder}

@@ -1,7 +1,7 @@
 use Rattle.std.proofs.Common.{◌≡◌, ◌≤◌, ◌<◌, ◌+◌, ◌-◌, ◌%◌, ◌/◌, ◌∙◌, List, [], ℕ, ap, append-nil, arith, rules, subst, sym}
 use Rattle.std.specs.Prelude.{drop, take}
 use Rattle.std.proofs.lemmas.List.{length-take}
-use Rattle.disk_model.specs.State.{State, standing}
+use Rattle.disk_theory.specs.State.{State, standing}
 use Rattle.cache_store.specs.Prefix.{HasChunkAt, range_of}
 use Rattle.cache_store.specs.Said.{saying}
 use Rattle.cache_store.specs.Saying.{SaysMore}

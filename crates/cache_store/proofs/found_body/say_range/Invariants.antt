@@ -1,8 +1,8 @@
 use Rattle.std.proofs.Common.{◌≡◌, ◌-◌, ◌<◌, ◌≤◌, ◌/◌}
 use Rattle.std.specs.Bool.{IsTrue}
 use Rattle.cache_base.specs.Limits.{chunk_size}
-use Rattle.disk_model.specs.Account.{IsCalm, no_sync}
-use Rattle.disk_model.specs.State.{standing}
+use Rattle.disk_theory.specs.Account.{IsCalm, no_sync}
+use Rattle.disk_theory.specs.State.{standing}
 use Rattle.file_handles.specs.Kept.{kept}
 use Rattle.cache_store.specs.Prefix.{ForPrefix, HasChunkAt, range_of}
 use Rattle.cache_store.specs.Said.{saying}

@@ -1,5 +1,5 @@
 use Rattle.std.proofs.Common.{◌∙◌, sym, IsTrue}
-use Rattle.disk_model.specs.State.{standing}
+use Rattle.disk_theory.specs.State.{standing}
 use Rattle.index_theory.specs.Start.{start_of}
 use Rattle.startup_read.proofs.KeptLaws.{unready_sees_none}
 use Rattle.cache_store.proofs.Sessions.BasedIndex.{begins_on, begun_based, begun_on, opens_based}

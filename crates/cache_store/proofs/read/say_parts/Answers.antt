@@ -1,6 +1,6 @@
 use Rattle.std.proofs.Common.{◌≡◌, ◌∙◌, ◌+◌, ◌-◌, ◌<◌, List, ℕ, ap, drop, rules, take, subst, sym, arith, length}
 use Rattle.cache_theory.specs.Machine.{object_of}
-use Rattle.disk_model.specs.Account.{no_sync}
+use Rattle.disk_theory.specs.Account.{no_sync}
 use Rattle.file_handles.proofs.Accounting.{syncs_same}
 use Rattle.file_handles.specs.Kept.{Kept, kept}
 use Rattle.file_handles.specs.Reading.{IsPartHeld}

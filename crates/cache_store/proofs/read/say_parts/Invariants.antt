@@ -1,5 +1,5 @@
 use Rattle.std.proofs.Common.{◌-◌, ◌≡◌, ◌<◌, ◌≤◌, [], IsTrue, drop, length, take}
-use Rattle.disk_model.specs.Account.{IsCalm, no_sync}
+use Rattle.disk_theory.specs.Account.{IsCalm, no_sync}
 use Rattle.file_handles.specs.Cache.{cache}
 use Rattle.file_handles.specs.Kept.{kept}
 use Rattle.file_handles.specs.Reading.{ForBody, HoldsAsBefore, LosesNone, SameButChunks, part_of_body}

@@ -3,7 +3,7 @@ use Rattle.cache_store.specs.Session.{session}
 use Rattle.cache_tool.specs.HeldReply.{said_in}
 use Rattle.cache_tool.proofs.Fills.FillHalf.{half_evicted, half_fails, half_handed, half_ok}
 use Rattle.cache_tool.proofs.Handed.{handed_open, handed_account, looks_account}
-use Rattle.disk_model.specs.Account.{no_sync}
+use Rattle.disk_theory.specs.Account.{no_sync}
 use Rattle.cache_tool.proofs.fill.evict_half.Goals as goal
 
 pub returns-in_err-kilobytes-clause-evicts : goal.returns-in_err-kilobytes-clause-evicts

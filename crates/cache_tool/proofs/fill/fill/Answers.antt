@@ -14,7 +14,7 @@ use Rattle.cache_tool.proofs.OneCommand.{not_begun}
 use Rattle.cache_tool.proofs.Puts.PutEnds.{Printed, disk_cause, ended_no_sink, never_sink, put_stops}
 use Rattle.cache_tool.proofs.SessionEnds.{resumed_done}
 use Rattle.cache_tool.proofs.StatusLaws.{no_answer}
-use Rattle.disk_model.specs.Calls.{LastCallFails}
+use Rattle.disk_theory.specs.Calls.{LastCallFails}
 use Rattle.cache_tool.proofs.fill.fill.Goals as goal
 
 pub returns-in-Err-clause-fills : goal.returns-in-Err-clause-fills

@@ -3,7 +3,7 @@ use Rattle.cache_store.specs.Open.{IsOpen}
 use Rattle.cache_store.specs.Session.{session}
 use Rattle.cache_tool.specs.Fill.{entries_commands, number_at}
 use Rattle.cache_tool.specs.FillProgress.{RunsAll}
-use Rattle.disk_model.specs.Account.{IsCalm}
+use Rattle.disk_theory.specs.Account.{IsCalm}
 use Rattle.cache_tool.proofs.fill.make_entries.Given as goal
 
 -- the entries so far are made

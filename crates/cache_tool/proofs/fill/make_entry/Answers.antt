@@ -7,7 +7,7 @@ use Rattle.cache_tool.specs.HeldReply.{said_in}
 use Rattle.cache_tool.proofs.Fills.FillRuns.{appending_fails, closing_fails, creating_fails, entry_made, run_never, timing_fails}
 use Rattle.cache_tool.proofs.Handed.{handed_account, handed_open}
 use Rattle.cache_tool.proofs.RightLaws.{open_leaves_honest}
-use Rattle.disk_model.specs.Account.{Ending, one_sync}
+use Rattle.disk_theory.specs.Account.{Ending, one_sync}
 use Rattle.file_handles.proofs.Accounting.{accounts_then}
 use Rattle.cache_tool.proofs.fill.make_entry.Goals as goal
 

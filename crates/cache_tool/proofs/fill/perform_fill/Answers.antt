@@ -10,7 +10,7 @@ use Rattle.cache_tool.proofs.Fills.FillWhole.{checked_fails, checked_keeps, evic
 use Rattle.cache_tool.proofs.Handed.{handed_account}
 use Rattle.cache_tool.proofs.MarkLeft.{others_keep, stays_mark, then_stays}
 use Rattle.cache_tool.proofs.RightLaws.{open_leaves_honest}
-use Rattle.disk_model.specs.Account.{Ending}
+use Rattle.disk_theory.specs.Account.{Ending}
 use Rattle.file_handles.proofs.Accounting.{accounts_sum}
 use Rattle.cache_tool.proofs.fill.perform_fill.Goals as goal
 

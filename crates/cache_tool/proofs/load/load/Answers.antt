@@ -12,7 +12,7 @@ use Rattle.cache_tool.proofs.MarkLeft.{closed_leaves_mark, kept_change_mark, lea
 use Rattle.cache_tool.proofs.OneCommand.{not_begun}
 use Rattle.cache_tool.proofs.Puts.PutEnds.{closing_cause, put_stops, source_came}
 use Rattle.cache_tool.proofs.SessionEnds.{resumed_done}
-use Rattle.disk_model.specs.Calls.{LastCallFails}
+use Rattle.disk_theory.specs.Calls.{LastCallFails}
 use Rattle.cache_tool.proofs.load.load.Goals as goal
 
 pub returns-in-Err-clause-loads : goal.returns-in-Err-clause-loads

@@ -5,7 +5,7 @@ use Rattle.cache_store.specs.Open.{IsOpen}
 use Rattle.cache_store.specs.Session.{session}
 use Rattle.cache_tool.specs.LoadProgress.{HasLoaded, loading}
 use Rattle.cache_tool.specs.Syncs.{as_made}
-use Rattle.disk_model.specs.Account.{IsCalm}
+use Rattle.disk_theory.specs.Account.{IsCalm}
 use Rattle.cache_tool.proofs.load.load_parts.Given as goal
 
 -- the parts so far were read and done, and nothing has failed

@@ -27,9 +27,9 @@ use Rattle.cache_tool.proofs.Puts.PutEnds.{put_stops}
 use Rattle.cache_tool.proofs.SessionEnds.{next_done, resumed_done}
 use Rattle.cache_tool.proofs.StayingLaws.{stays_done, stays_for}
 use Rattle.context_clear.specs.Mark.{mark_of}
-use Rattle.disk_model.specs.Calls.{LastCallFails}
-use Rattle.disk_model.specs.State.{standing}
-use Rattle.disk_model.specs.declared.place.Place.TheVariants.{Clear}
+use Rattle.disk_theory.specs.Calls.{LastCallFails}
+use Rattle.disk_theory.specs.State.{standing}
+use Rattle.disk_theory.specs.declared.place.Place.TheVariants.{Clear}
 use Rattle.index_theory.specs.Start.{start_of}
 use Rattle.cache_tool.proofs.one.perform_one.Goals as goal
 

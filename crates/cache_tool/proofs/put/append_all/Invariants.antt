@@ -4,7 +4,7 @@ use Rattle.cache_base.specs.declared.limits.TheConstants.{PIECE_MAX}
 use Rattle.cache_store.specs.Open.{IsOpen}
 use Rattle.cache_store.specs.Session.{session}
 use Rattle.cache_tool.specs.PutProgress.{AppendsSoFar}
-use Rattle.disk_model.specs.Account.{IsCalm, no_sync}
+use Rattle.disk_theory.specs.Account.{IsCalm, no_sync}
 use Rattle.cache_tool.proofs.put.append_all.Given as goal
 
 -- the body has what the source gave so far, and nothing has failed

@@ -7,7 +7,7 @@ use Rattle.cache_tool.specs.HeldReply.{said_in}
 use Rattle.cache_tool.specs.Statuses.{status_in}
 use Rattle.cache_tool.specs.World.{output, supply}
 use Rattle.cache_tool.proofs.SyncLaws.{syncs_run}
-use Rattle.disk_model.specs.Account.{one_sync}
+use Rattle.disk_theory.specs.Account.{one_sync}
 use Rattle.cache_tool.proofs.Growing.{takes_none, takes_part}
 use Rattle.cache_tool.proofs.ForGood.{ended_last, only_came}
 use Rattle.cache_tool.proofs.MarkLeft.{closed_leaves_mark, kept_change_mark, leaves_mark}
@@ -15,7 +15,7 @@ use Rattle.cache_tool.proofs.OneCommand.{faulted_prints, not_begun, rose_twice}
 use Rattle.cache_tool.proofs.Puts.PutEnds.{Printed, answered, disk_cause, ended_no_sink, never_others, never_sink, not_answered, put_refuses, put_stops, source_came, stops_after}
 use Rattle.cache_tool.proofs.SessionEnds.{resumed_done}
 use Rattle.cache_tool.proofs.StatusLaws.{no_answer}
-use Rattle.disk_model.specs.Calls.{LastFails}
+use Rattle.disk_theory.specs.Calls.{LastFails}
 use Rattle.cache_tool.proofs.put.put.Goals as goal
 
 pub returns-in-Err-clause-stores : goal.returns-in-Err-clause-stores

@@ -12,7 +12,7 @@ use Rattle.cache_tool.proofs.StayingLaws.{stays_for}
 use Rattle.file_handles.proofs.Accounting.{accounts_sum}
 use Rattle.cache_tool.specs.Syncs.{opening_syncs}
 use Rattle.cache_tool.proofs.session.begin.Goals as goal
-use Rattle.disk_model.specs.Account.{Accounts}
+use Rattle.disk_theory.specs.Account.{Accounts}
 
 pub returns-in_err-store-clause-fails : goal.returns-in_err-store-clause-fails
 returns-in_err-store-clause-fails g c = on_err c.from_residual.result _ (λ told.

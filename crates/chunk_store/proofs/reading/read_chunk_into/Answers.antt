@@ -1,4 +1,4 @@
-use Rattle.disk_model.specs.State.{standing}
+use Rattle.disk_theory.specs.State.{standing}
 use Rattle.chunk_store.proofs.Filled.{chunk_over_any}
 use Rattle.chunk_store.proofs.reading.read_chunk_into.Goals as goal
 

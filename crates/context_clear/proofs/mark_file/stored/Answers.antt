@@ -1,5 +1,5 @@
-use Rattle.disk_model.specs.State.{standing}
-use Rattle.disk_model.specs.declared.place.Place.TheVariants.{Clear}
+use Rattle.disk_theory.specs.State.{standing}
+use Rattle.disk_theory.specs.declared.place.Place.TheVariants.{Clear}
 use Rattle.context_clear.proofs.MarkLaws.{read_tells, read_tells_mark}
 use Rattle.context_clear.proofs.mark_file.stored.Goals as goal
 

@@ -1,5 +1,5 @@
 use Rattle.std.proofs.Common.{List, ⊎_elim, inl, inr, Contains, sym, ◌∙◌, ap, subst}
-use Rattle.disk_model.specs.declared.place.Place.{Place}
+use Rattle.disk_theory.specs.declared.place.Place.{Place}
 use Rattle.disk_model.specs.MemSlots.{now_of}
 use Rattle.disk_model.proofs.MemReplay.{key_or_none}
 use Rattle.disk_model.proofs.mem_image.any_stands.Goals as goal

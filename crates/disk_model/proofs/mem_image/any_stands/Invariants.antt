@@ -1,5 +1,5 @@
 use Rattle.std.proofs.Common.{◌≡◌, ◌⊎◌, None, Contains}
-use Rattle.disk_model.specs.declared.place.Place.{Place}
+use Rattle.disk_theory.specs.declared.place.Place.{Place}
 use Rattle.disk_model.specs.MemSlots.{names_in}
 use Rattle.disk_model.proofs.mem_image.any_stands.Given as goal
 

@@ -1,8 +1,8 @@
 use Rattle.std.proofs.Common.{◌≡◌, List, ℕ, Some, take, sym, ◌∙◌, subst}
 use Rattle.std.proofs.lemmas.List.{take_all}
 use Rattle.std.proofs.lemmas.Bool.{true≢false}
-use Rattle.disk_model.specs.Image.{MayStand}
-use Rattle.disk_model.specs.Standing.{PutsContent}
+use Rattle.disk_theory.specs.Image.{MayStand}
+use Rattle.disk_theory.specs.Standing.{PutsContent}
 use Rattle.disk_model.specs.MemFile.{nth_file}
 use Rattle.disk_model.specs.MemSlots.{names_in}
 use Rattle.disk_model.specs.MemTable.{state_of}

@@ -1,7 +1,7 @@
 use Rattle.std.proofs.Common.{◌≡◌, take}
-use Rattle.disk_model.specs.declared.place.Place.{Place}
-use Rattle.disk_model.specs.State.{standing}
-use Rattle.disk_model.specs.Sound.{IsQuiet}
+use Rattle.disk_theory.specs.declared.place.Place.{Place}
+use Rattle.disk_theory.specs.State.{standing}
+use Rattle.disk_theory.specs.Sound.{IsQuiet}
 use Rattle.disk_model.specs.MemSlots.{names_in}
 use Rattle.disk_model.specs.MemTable.{state_of}
 use Rattle.disk_model.specs.MemImage.{image_of, ArePlacesApart}

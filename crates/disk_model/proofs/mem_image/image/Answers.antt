@@ -1,7 +1,7 @@
 use Rattle.std.proofs.Common.{◌≡◌, ◌-◌, ◌≤◌, List, Result, Ok, Err, IsErrAnd, length, reverse, sym, ◌∙◌, ap, subst, arith, rules}
 use Rattle.std.proofs.lemmas.List.{length-reverse}
-use Rattle.disk_model.specs.State.{Names}
-use Rattle.disk_model.specs.Sound.{names_before}
+use Rattle.disk_theory.specs.State.{Names}
+use Rattle.disk_theory.specs.Sound.{names_before}
 use Rattle.disk_model.specs.MemSlots.{names_in}
 use Rattle.disk_model.specs.MemTable.{state_of}
 use Rattle.disk_model.specs.MemFill.{AreMade, MayStandAll}

@@ -1,5 +1,5 @@
 use Rattle.std.proofs.Common.{◌∙◌}
-use Rattle.disk_model.specs.State.{with_name}
+use Rattle.disk_theory.specs.State.{with_name}
 use Rattle.disk_model.proofs.MemReplay.{copied_none, copied_more}
 use Rattle.disk_model.proofs.mem_image.synced_slots.Goals as goal
 

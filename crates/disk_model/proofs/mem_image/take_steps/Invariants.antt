@@ -1,5 +1,5 @@
 use Rattle.std.proofs.Common.{◌≡◌, take, reverse}
-use Rattle.disk_model.specs.State.{names_after}
+use Rattle.disk_theory.specs.State.{names_after}
 use Rattle.disk_model.specs.MemSlots.{names_in}
 use Rattle.disk_model.proofs.mem_image.take_steps.Given as goal
 

@@ -1,9 +1,9 @@
 use Rattle.std.proofs.Common.{ℕ, List, Contains, refl, sym, subst}
 use Rattle.std.specs.List.Sorted.{IsStrictlySortedBy}
 use Rattle.std.specs.Ordering.{nat_cmp}
-use Rattle.disk_model.specs.declared.place.Place.TheVariants.{Doomed}
+use Rattle.disk_theory.specs.declared.place.Place.TheVariants.{Doomed}
 use Rattle.disk_model.proofs.MemListing.{picked_rises, stands_to, stands_from, all_picked}
-use Rattle.disk_model.proofs.MemPlaces.{doomed_in, only_doomed, doomed_rise}
+use Rattle.disk_theory.proofs.KindsOfPlaces.{doomed_in, only_doomed, doomed_rise}
 use Rattle.disk_model.proofs.mem_listing.doomed_numbers.Goals as goal
 
 pub returns-clause-rising : goal.returns-clause-rising

@@ -2,9 +2,9 @@ use Rattle.std.proofs.Common.{List, Contains, refl, sym, subst}
 use Rattle.std.specs.List.Sorted.{IsStrictlySortedBy}
 use Rattle.cache_base.specs.Names.{name_cmp}
 use Rattle.cache_base.specs.declared.name.Name.{Name}
-use Rattle.disk_model.specs.declared.place.Place.TheVariants.{Entry}
+use Rattle.disk_theory.specs.declared.place.Place.TheVariants.{Entry}
 use Rattle.disk_model.proofs.MemListing.{picked_rises, stands_to, stands_from, all_picked}
-use Rattle.disk_model.proofs.MemPlaces.{entry_in, only_entry, entries_rise}
+use Rattle.disk_theory.proofs.KindsOfPlaces.{entry_in, only_entry, entries_rise}
 use Rattle.disk_model.proofs.mem_listing.entry_names.Goals as goal
 
 pub returns-clause-rising : goal.returns-clause-rising

@@ -1,5 +1,6 @@
 use Rattle.std.proofs.Common.{sym, ◌∙◌}
-use Rattle.disk_model.proofs.MemSlots.{new_slot, none_there}
+use Rattle.disk_theory.proofs.KindsOfPlaces.{none_there}
+use Rattle.disk_model.proofs.MemSlots.{new_slot}
 use Rattle.disk_model.proofs.mem_slots.make_slot.Goals as goal
 
 pub returns-clause-same : goal.returns-clause-same

@@ -1,5 +1,5 @@
 use Rattle.std.proofs.Common.{◌≡◌, ◌⊎◌, drop}
-use Rattle.disk_model.specs.declared.place.Place.{Place}
+use Rattle.disk_theory.specs.declared.place.Place.{Place}
 use Rattle.disk_model.specs.MemSlots.{names_in, synced_names_in, IsNamedBy}
 use Rattle.disk_model.proofs.mem_slots.settle_names.Given as goal
 

@@ -1,6 +1,6 @@
 use Rattle.std.proofs.Common.{◌≡◌, IsSome, None, subst, refl, ap, ◌∙◌, rules}
 use Rattle.disk_model.specs.declared.mem_slots.Slot.{Slot}
-use Rattle.disk_model.specs.State.{with_name}
+use Rattle.disk_theory.specs.State.{with_name}
 use Rattle.disk_model.specs.MemSlots.{now_of, HasSlot, slot_at, synced_names_in}
 use Rattle.disk_model.proofs.MemSlots.{nothing_settled, now_kept, synced_put}
 use Rattle.disk_model.proofs.mem_slots.settle_place.Goals as goal

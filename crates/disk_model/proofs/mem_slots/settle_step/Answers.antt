@@ -1,5 +1,5 @@
 use Rattle.std.proofs.Common.{sym, subst}
-use Rattle.disk_model.specs.declared.place.NameStep.{NameStep}
+use Rattle.disk_theory.specs.declared.place.NameStep.{NameStep}
 use Rattle.disk_model.specs.MemSlots.{AreSettled}
 use Rattle.disk_model.proofs.MemSlots.{settled_at, both_settled}
 use Rattle.disk_model.proofs.mem_slots.settle_step.Goals as goal

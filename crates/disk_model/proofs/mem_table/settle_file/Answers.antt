@@ -1,5 +1,5 @@
 use Rattle.std.proofs.Common.{◌∙◌, ap}
-use Rattle.disk_model.specs.State.{File, with_file}
+use Rattle.disk_theory.specs.State.{File, with_file}
 use Rattle.disk_model.specs.MemFile.{nth_file, at_rest}
 use Rattle.disk_model.proofs.MemState.{nth_set, nth_beyond, read_file}
 use Rattle.disk_model.proofs.mem_table.settle_file.Goals as goal

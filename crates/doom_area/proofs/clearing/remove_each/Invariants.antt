@@ -1,6 +1,6 @@
 use Rattle.std.proofs.Common.{◌≡◌, IsTrue, drop}
-use Rattle.disk_model.specs.Account.{IsCalm, LooksAtNoEntry, no_sync}
-use Rattle.disk_model.specs.Listing.{AreRisingNumbers}
+use Rattle.disk_theory.specs.Account.{IsCalm, LooksAtNoEntry, no_sync}
+use Rattle.disk_theory.specs.Listing.{AreRisingNumbers}
 use Rattle.doom_area.proofs.ClearedTo.{IsClearedTo}
 use Rattle.doom_area.proofs.clearing.remove_each.Given as goal
 

@@ -1,7 +1,7 @@
 use Rattle.std.proofs.Common.{◌≡◌, rules}
-use Rattle.disk_model.specs.State.{renamed}
-use Rattle.disk_model.specs.Calls.{if_done}
-use Rattle.disk_model.specs.declared.place.Place.TheVariants.{Entry, Doomed}
+use Rattle.disk_theory.specs.State.{renamed}
+use Rattle.disk_theory.specs.Calls.{if_done}
+use Rattle.disk_theory.specs.declared.place.Place.TheVariants.{Entry, Doomed}
 use Rattle.doom_area.proofs.LeastFree.{for_least}
 use Rattle.doom_area.proofs.dooming.doom.Goals as goal
 

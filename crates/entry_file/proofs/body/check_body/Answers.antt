@@ -3,7 +3,7 @@ use Rattle.std.specs.Prelude.{ℕ, IfSome}
 use Rattle.cache_base.specs.Limits.{chunks}
 use Rattle.chunk_store.specs.Chunks.{damage_at}
 use Rattle.chunk_store.specs.declared.damage.Damage.{Damage}
-use Rattle.disk_model.specs.State.{State, standing}
+use Rattle.disk_theory.specs.State.{State, standing}
 use Rattle.entry_file.specs.Damages.{first_damage}
 use Rattle.entry_metadata.specs.Meta.{meta_of}
 use Rattle.entry_file.proofs.Damaged.{each_content, first_from, found_here, from_end, from_first, from_here, from_next, held_along, names_own, of_content}

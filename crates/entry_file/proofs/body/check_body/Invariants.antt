@@ -3,7 +3,7 @@ use Rattle.std.specs.Prelude.{IfSome}
 use Rattle.std.specs.Bool.{IsTrue}
 use Rattle.cache_base.specs.Limits.{chunks}
 use Rattle.chunk_store.specs.Chunks.{damage_at}
-use Rattle.disk_model.specs.State.{standing}
+use Rattle.disk_theory.specs.State.{standing}
 use Rattle.entry_file.specs.Damages.{first_damage}
 use Rattle.entry_file.specs.Held.{IsLastOf}
 use Rattle.entry_file.specs.Looks.{LooksAtMost}

@@ -1,5 +1,5 @@
 use Rattle.std.proofs.Common.{◌≡◌, ◌-◌, ◌++◌, ℕ, List, length, Option, ap, subst, ◌∙◌}
-use Rattle.disk_model.specs.State.Write.{End}
+use Rattle.disk_theory.specs.State.Write.{End}
 use Rattle.cache_base.specs.Bytes.{be32}
 use Rattle.entry_metadata.specs.Meta.{meta_of}
 use Rattle.entry_metadata.specs.Metadata.{block_bytes}

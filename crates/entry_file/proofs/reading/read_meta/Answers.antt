@@ -1,5 +1,5 @@
 use Rattle.std.proofs.Common.{◌∙◌, ap, arith}
-use Rattle.disk_model.specs.State.{State, standing}
+use Rattle.disk_theory.specs.State.{State, standing}
 use Rattle.entry_file.proofs.LookLaws.{looks_then, one_look}
 use Rattle.entry_file.proofs.reading.read_meta.Goals as goal
 

@@ -1,6 +1,6 @@
 use Rattle.std.proofs.Common.{◌-◌, arith}
 use Rattle.std.specs.Prelude.{IsTrue}
-use Rattle.disk_model.specs.State.{standing}
+use Rattle.disk_theory.specs.State.{standing}
 use Rattle.entry_metadata.specs.Metadata.{Spells}
 use Rattle.entry_file.specs.Damages.{HasMeta}
 use Rattle.entry_file.specs.declared.entry_read.EntryRead.{EntryRead}

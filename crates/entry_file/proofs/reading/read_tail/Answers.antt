@@ -1,4 +1,4 @@
-use Rattle.disk_model.specs.State.{standing}
+use Rattle.disk_theory.specs.State.{standing}
 use Rattle.entry_file.proofs.TailLaws.{bytes_read, offset_read}
 use Rattle.entry_file.proofs.reading.read_tail.Goals as goal
 

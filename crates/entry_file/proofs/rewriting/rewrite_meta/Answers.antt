@@ -1,6 +1,6 @@
 use Rattle.std.proofs.Common.{◌≡◌, List, Option, subst, ◌∙◌}
 use Rattle.std.specs.Prelude.{ℕ}
-use Rattle.disk_model.specs.State.Write.{End}
+use Rattle.disk_theory.specs.State.Write.{End}
 use Rattle.entry_metadata.specs.Meta.{meta_of}
 use Rattle.entry_file.specs.Rewriting.{StoresBody, block_write}
 use Rattle.entry_file.proofs.StoredBody.{file_stands, writes_file}

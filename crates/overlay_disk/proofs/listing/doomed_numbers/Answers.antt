@@ -4,8 +4,8 @@ use Rattle.std.specs.BTreeSet.{contains}
 use Rattle.std.specs.List.{list_any}
 use Rattle.std.specs.Ordering.{nat_cmp}
 use Rattle.overlay_disk.proofs.ListLaws.{numbers_exact, numbers_total}
-use Rattle.disk_model.specs.declared.place.Place.TheVariants.{Doomed}
-use Rattle.disk_model.proofs.MemPlaces.{doomed_in, only_doomed}
+use Rattle.disk_theory.specs.declared.place.Place.TheVariants.{Doomed}
+use Rattle.disk_theory.proofs.KindsOfPlaces.{doomed_in, only_doomed}
 use Rattle.overlay_disk.proofs.ListLaws.{all_followed, by_slot, if_ok_then}
 use Rattle.overlay_disk.proofs.listing.doomed_numbers.Goals as goal
 

@@ -3,7 +3,7 @@ use Rattle.std.specs.BTreeMap.{is_at}
 use Rattle.std.specs.BTreeSet.{contains}
 use Rattle.std.specs.List.{list_any}
 use Rattle.std.specs.Ordering.{nat_cmp}
-use Rattle.disk_model.proofs.MemPlaces.{doomed_in}
+use Rattle.disk_theory.proofs.KindsOfPlaces.{doomed_in}
 use Rattle.overlay_disk.proofs.ListLaws.{after_all}
 use Rattle.overlay_disk.proofs.listing.doomed_numbers.Given as goal
 

@@ -5,8 +5,8 @@ use Rattle.std.specs.List.{list_any}
 use Rattle.cache_base.specs.Names.{name_cmp}
 use Rattle.cache_base.proofs.NameLaws.{name_cmp_total}
 use Rattle.overlay_disk.proofs.ListLaws.{names_exact}
-use Rattle.disk_model.specs.declared.place.Place.TheVariants.{Entry}
-use Rattle.disk_model.proofs.MemPlaces.{entry_in, only_entry}
+use Rattle.disk_theory.specs.declared.place.Place.TheVariants.{Entry}
+use Rattle.disk_theory.proofs.KindsOfPlaces.{entry_in, only_entry}
 use Rattle.overlay_disk.proofs.ListLaws.{all_followed, by_slot, if_ok_then}
 use Rattle.overlay_disk.proofs.listing.entry_names.Goals as goal
 

@@ -4,7 +4,7 @@ use Rattle.std.specs.BTreeSet.{contains}
 use Rattle.std.specs.List.{list_any}
 use Rattle.cache_base.specs.Names.{name_cmp}
 use Rattle.cache_base.specs.declared.name.Name.{Name}
-use Rattle.disk_model.proofs.MemPlaces.{entry_in}
+use Rattle.disk_theory.proofs.KindsOfPlaces.{entry_in}
 use Rattle.overlay_disk.proofs.ListLaws.{after_all}
 use Rattle.overlay_disk.proofs.listing.entry_names.Given as goal
 

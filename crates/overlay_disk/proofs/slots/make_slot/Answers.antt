@@ -1,5 +1,5 @@
 use Rattle.std.proofs.Common.{sym, ◌∙◌, ap}
-use Rattle.disk_model.proofs.MemSlots.{none_there}
+use Rattle.disk_theory.proofs.KindsOfPlaces.{none_there}
 use Rattle.overlay_disk.specs.Seen.{over_of}
 use Rattle.overlay_disk.specs.declared.over.Over.TheVariants.{Below}
 use Rattle.overlay_disk.proofs.SlotLaws.{over_kept}

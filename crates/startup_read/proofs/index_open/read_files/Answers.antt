@@ -1,6 +1,6 @@
 use Rattle.std.proofs.Common.{subst}
-use Rattle.disk_model.specs.State.{State, standing}
-use Rattle.disk_model.specs.declared.place.Place.TheVariants.{Index}
+use Rattle.disk_theory.specs.State.{State, standing}
+use Rattle.disk_theory.specs.declared.place.Place.TheVariants.{Index}
 use Rattle.startup_read.specs.Reads.{ReadsIndex}
 use Rattle.startup_read.proofs.StartLaws.{base_from}
 use Rattle.startup_read.proofs.index_open.read_files.Goals as goal

@@ -1,6 +1,6 @@
 use Rattle.std.proofs.Common.{◌∙◌, refl, sym}
 use Rattle.std.proofs.lemmas.Slice.Eq.{bytes_eq-Decides}
-use Rattle.disk_model.specs.State.{standing}
+use Rattle.disk_theory.specs.State.{standing}
 use Rattle.startup_read.proofs.LargeFiles.{pair_read}
 use Rattle.startup_read.proofs.large_file.ends_in_pair.Goals as goal
 

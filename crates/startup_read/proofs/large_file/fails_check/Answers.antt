@@ -1,6 +1,6 @@
 use Rattle.std.proofs.Common.{◌≡◌, drop, subst}
 use Rattle.std.specs.Prelude.{IfSome}
-use Rattle.disk_model.specs.State.{State, standing}
+use Rattle.disk_theory.specs.State.{State, standing}
 use Rattle.startup_read.specs.Large.{is_hashed}
 use Rattle.startup_read.proofs.LargeFiles.{paired_file, unhashed_file}
 use Rattle.startup_read.proofs.large_file.fails_check.Goals as goal

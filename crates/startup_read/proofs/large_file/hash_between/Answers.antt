@@ -1,6 +1,6 @@
 use Rattle.std.proofs.Common.{◌≡◌, ◌-◌, ◌∙◌, ap, arith, length, rules, take}
 use Rattle.std.proofs.lemmas.List.{length-take}
-use Rattle.disk_model.specs.State.{State, part_of, standing}
+use Rattle.disk_theory.specs.State.{State, part_of, standing}
 use Rattle.startup_read.proofs.LargeFiles.{fed_on}
 use Rattle.startup_read.proofs.large_file.hash_between.Goals as goal
 

@@ -1,7 +1,7 @@
 use Rattle.std.proofs.Common.{◌≡◌, ◌-◌, ◌≤◌}
 use Rattle.std.specs.Bool.{IsTrue}
-use Rattle.disk_model.specs.Account.{IsCalm, LooksAtNoEntry, no_sync}
-use Rattle.disk_model.specs.State.{part_of, standing}
+use Rattle.disk_theory.specs.Account.{IsCalm, LooksAtNoEntry, no_sync}
+use Rattle.disk_theory.specs.State.{part_of, standing}
 use Rattle.jenkins_hash.specs.Hasher.{WasFedBytes}
 use Rattle.startup_read.proofs.large_file.hash_between.Given as goal
 

@@ -1,5 +1,5 @@
 use Rattle.std.proofs.Common.{◌-◌, ◌∙◌, ap}
-use Rattle.disk_model.specs.State.{State, part_of, standing}
+use Rattle.disk_theory.specs.State.{State, part_of, standing}
 use Rattle.jenkins_hash.specs.Hash.{hash_of}
 use Rattle.startup_read.proofs.LargeFiles.{hashed_file}
 use Rattle.startup_read.proofs.large_file.is_hashed.Goals as goal

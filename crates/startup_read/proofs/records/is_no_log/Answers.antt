@@ -1,5 +1,5 @@
-use Rattle.disk_model.specs.State.{standing}
-use Rattle.disk_model.specs.declared.place.Place.TheVariants.{Log}
+use Rattle.disk_theory.specs.State.{standing}
+use Rattle.disk_theory.specs.declared.place.Place.TheVariants.{Log}
 use Rattle.startup_read.proofs.LargeFiles.{answer_journal}
 use Rattle.startup_read.proofs.records.is_no_log.Goals as goal
 

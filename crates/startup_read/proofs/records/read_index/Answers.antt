@@ -1,5 +1,5 @@
-use Rattle.disk_model.specs.State.{standing}
-use Rattle.disk_model.specs.declared.place.Place.TheVariants.{Index}
+use Rattle.disk_theory.specs.State.{standing}
+use Rattle.disk_theory.specs.declared.place.Place.TheVariants.{Index}
 use Rattle.std.proofs.Common.{◌∙◌, sym}
 use Rattle.startup_read.proofs.ReadKinds.{odd_index}
 use Rattle.startup_read.proofs.records.read_index.Goals as goal

@@ -1,5 +1,5 @@
-use Rattle.disk_model.specs.State.{standing}
-use Rattle.disk_model.specs.declared.place.Place.TheVariants.{Log}
+use Rattle.disk_theory.specs.State.{standing}
+use Rattle.disk_theory.specs.declared.place.Place.TheVariants.{Log}
 use Rattle.std.proofs.Common.{◌∙◌, sym}
 use Rattle.startup_read.proofs.ReadKinds.{odd_journal}
 use Rattle.startup_read.proofs.records.read_log.Goals as goal

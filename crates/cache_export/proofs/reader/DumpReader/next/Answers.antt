@@ -9,7 +9,7 @@ use Rattle.cache_export.proofs.reader.DumpReader.next.Goals as goal
 
 pub overflow_add-lead : goal.overflow_add-lead
 overflow_add-lead g c =
-    let r = record c.args.self.now { window = c.read_next.new.window } in
+    let r = record c.args.self.now { window = c.read_next.new.window; bounded = c.in-Ok-Part.ensures.most ∙ c.args.self.now.bounded } in
     let reached = rw c.in-Ok-Part.field-0-is at c.in-Ok-Part.ensures.reached in
     let stands = stands_whole r c.lead-lead.result c.left-left.result c.in-Ok-Part.len c.lead-lead.ensures c.left-left.ensures reached in
     omega (arith, stands.fits)
@@ -29,7 +29,7 @@ returns-in-Ok-Part-clause-leaves g c =
 
 pub returns-in-Ok-Part-clause-bad : goal.returns-in-Ok-Part-clause-bad
 returns-in-Ok-Part-clause-bad g c =
-    let mid = record c.args.self.now { window = c.read_next.new.window } in
+    let mid = record c.args.self.now { window = c.read_next.new.window; bounded = c.in-Ok-Part.ensures.most ∙ c.args.self.now.bounded } in
     let left = g.S.Source.left c.args.source.now in
     let now = g.S.Source.left c.read_next.new.source in
     let reached = rw c.in-Ok-Part.field-0-is at c.in-Ok-Part.ensures.reached in
@@ -40,7 +40,7 @@ returns-in-Ok-Part-clause-bad g c =
 
 pub returns-in-Ok-Bad-clause-bad : goal.returns-in-Ok-Bad-clause-bad
 returns-in-Ok-Bad-clause-bad g c =
-    let mid = record c.args.self.now { window = c.read_next.new.window } in
+    let mid = record c.args.self.now { window = c.read_next.new.window; bounded = c.in-Ok-Bad.ensures.most ∙ c.args.self.now.bounded } in
     let left = g.S.Source.left c.args.source.now in
     let now = g.S.Source.left c.read_next.new.source in
     let reached = rw c.in-Ok-Bad.field-0-is at c.in-Ok-Bad.ensures.reached in
@@ -49,7 +49,7 @@ returns-in-Ok-Bad-clause-bad g c =
 
 pub returns-in-Ok-End-clause-leaves : goal.returns-in-Ok-End-clause-leaves
 returns-in-Ok-End-clause-leaves g c =
-    let mid = record c.args.self.now { window = c.read_next.new.window } in
+    let mid = record c.args.self.now { window = c.read_next.new.window; bounded = c.in-Ok-End.ensures.most ∙ c.args.self.now.bounded } in
     let left = g.S.Source.left c.args.source.now in
     let now = g.S.Source.left c.read_next.new.source in
     let reached = rw c.in-Ok-End.field-0-is at c.in-Ok-End.ensures.reached in

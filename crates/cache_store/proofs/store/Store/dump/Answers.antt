@@ -3,8 +3,8 @@ use Rattle.cache_base.specs.declared.name.Name.{Name}
 use Rattle.cache_check.specs.Checks.{AllStand, files_of}
 use Rattle.cache_check.proofs.Tables.{entries_stand}
 use Rattle.cache_export.specs.Dump.{head}
-use Rattle.disk_model.specs.Listing.{AreEntries}
-use Rattle.disk_model.specs.State.{State}
+use Rattle.disk_theory.specs.Listing.{AreEntries}
+use Rattle.disk_theory.specs.State.{State}
 use Rattle.file_handles.specs.Cache.{cache_at}
 use Rattle.file_handles.specs.Kept.{kept}
 use Rattle.cache_store.specs.Dumping.{items_from}

@@ -1,6 +1,6 @@
 use Rattle.std.proofs.Common.{◌∙◌, ap, arith, inl, refl, rules, subst, sym}
-use Rattle.disk_model.specs.Account.{FailsInChange}
-use Rattle.disk_model.specs.State.{settled}
+use Rattle.disk_theory.specs.Account.{FailsInChange}
+use Rattle.disk_theory.specs.State.{settled}
 use Rattle.index_theory.specs.Leaves.{LeavesIndex}
 use Rattle.index_theory.proofs.LeavesLaws.{sync_leaves_index}
 use Rattle.index_theory.specs.Unclean.{IsUnclean}

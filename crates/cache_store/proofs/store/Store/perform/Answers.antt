@@ -10,14 +10,14 @@ use Rattle.cache_store.specs.Clearing.{LeavesUncleared, origin_cleared}
 use Rattle.cache_store.specs.Performing.{HadEffect}
 use Rattle.cache_theory.specs.Command.{Command}
 use Rattle.context_clear.specs.Mark.{mark_of}
-use Rattle.disk_model.specs.State.{standing}
-use Rattle.disk_model.specs.declared.place.Place.TheVariants.{Clear}
+use Rattle.disk_theory.specs.State.{standing}
+use Rattle.disk_theory.specs.declared.place.Place.TheVariants.{Clear}
 use Rattle.cache_store.specs.Evicting.{LeavesOthers}
 use Rattle.cache_store.specs.Reads.{AreHeld, LastIsFirst}
 use Rattle.cache_store.specs.Said.{saying}
 use Rattle.cache_store.specs.StoppedClearing.{ClearsUnderMark}
 use Rattle.cache_store.specs.Session.{open_of, session}
-use Rattle.cache_store.specs.declared.fault.Verdict.TheVariants as outcome
+use Rattle.cache_store.specs.declared.outcome.Verdict.TheVariants as outcome
 use Rattle.file_handles.proofs.Reading.ReadKept.{read_keeps}
 use Rattle.file_handles.specs.Kept.{kept}
 use Rattle.cache_store.proofs.Clearing.ClearCommands.{resumed_clears}

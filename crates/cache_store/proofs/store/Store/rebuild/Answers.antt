@@ -1,7 +1,7 @@
 use Rattle.std.proofs.Common.{◌≡◌, List, Err, refl, subst, sym}
 use Rattle.cache_theory.specs.Command.Command.{Rebuild}
 use Rattle.cache_store.specs.Faults.{of_disk}
-use Rattle.disk_model.specs.State.{State}
+use Rattle.disk_theory.specs.State.{State}
 use Rattle.index_record.specs.declared.record.IndexRecord.{IndexRecord}
 use Rattle.startup_read.specs.Writing.{WritesIndex}
 use Rattle.index_theory.specs.Ever.{entries_on}

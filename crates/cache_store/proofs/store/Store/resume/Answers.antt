@@ -7,8 +7,8 @@ use Rattle.cache_store.proofs.Clearing.ClearDoes.{looks_stopped}
 use Rattle.cache_store.proofs.Clearing.LooksFirst.{changed_last, looked_then, only_looked}
 use Rattle.cache_store.proofs.Performing.Stays.{change_handed}
 use Rattle.context_clear.specs.Mark.{mark_of}
-use Rattle.disk_model.specs.State.{standing}
-use Rattle.disk_model.specs.declared.place.Place.TheVariants.{Clear}
+use Rattle.disk_theory.specs.State.{standing}
+use Rattle.disk_theory.specs.declared.place.Place.TheVariants.{Clear}
 use Rattle.file_handles.specs.Kept.{kept}
 use Rattle.cache_store.specs.AtClear.{ClearsAt, ClearsInOrder}
 use Rattle.cache_store.proofs.Clearing.ClearPart.{clears_from, none_at, none_in_order, of_unmarked, ordered_from, removed_at}

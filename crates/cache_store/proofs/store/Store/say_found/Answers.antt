@@ -1,6 +1,6 @@
 use Rattle.std.proofs.Common.{◌++◌, ◌∷◌, ◌∙◌, ◌/◌, [], length-append, ap, subst, sym, arith}
 use Rattle.std.specs.Prelude.{take}
-use Rattle.disk_model.specs.State.{State, standing}
+use Rattle.disk_theory.specs.State.{State, standing}
 use Rattle.cache_store.specs.Prefix.{HasChunkAt, range_of}
 use Rattle.cache_store.specs.Said.{saying}
 use Rattle.cache_store.proofs.Saying.SaidMore.{of_err, of_ok}

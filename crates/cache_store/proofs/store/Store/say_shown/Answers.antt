@@ -1,7 +1,7 @@
 use Rattle.std.proofs.Common.{◌-◌, ◌++◌, ◌∷◌, [], List, ℕ, Ok, Result, refl, rules, subst, sym}
 use Rattle.cache_base.specs.Limits.{chunks}
-use Rattle.disk_model.specs.State.{State, standing}
-use Rattle.disk_model.specs.declared.place.Place.TheVariants.{Entry}
+use Rattle.disk_theory.specs.State.{State, standing}
+use Rattle.disk_theory.specs.declared.place.Place.TheVariants.{Entry}
 use Rattle.entry_file.specs.Held.{IsLastOf}
 use Rattle.cache_store.specs.Answering.{AnswersTo}
 use Rattle.cache_store.specs.Said.{saying}

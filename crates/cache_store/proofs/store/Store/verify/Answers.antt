@@ -3,7 +3,7 @@ use Rattle.cache_store.specs.Faults.{of_disk}
 use Rattle.cache_check.specs.Checks.{table_of}
 use Rattle.cache_check.specs.Findings.{AreFindings}
 use Rattle.cache_check.proofs.Tables.{is_table_of}
-use Rattle.disk_model.specs.State.{State, standing}
+use Rattle.disk_theory.specs.State.{State, standing}
 use Rattle.file_handles.specs.Kept.{kept}
 use Rattle.index_theory.specs.Ever.{entries_on}
 use Rattle.record_list.proofs.NameLaws.{rising_distinct}

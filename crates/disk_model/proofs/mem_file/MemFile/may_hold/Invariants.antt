@@ -1,5 +1,5 @@
 use Rattle.std.proofs.Common.{◌≡◌, ◌⊎◌, ℕ, ◌<◌, get_or}
-use Rattle.disk_model.specs.Image.{IsReached}
+use Rattle.disk_theory.specs.Image.{IsReached}
 use Rattle.disk_model.specs.MemFile.{file_of}
 use Rattle.disk_model.proofs.mem_file.MemFile.may_hold.Given as goal
 

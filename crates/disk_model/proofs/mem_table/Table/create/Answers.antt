@@ -1,13 +1,13 @@
 use Rattle.std.proofs.Common.{◌≡◌, List, [], ◌∷◌, ◌++◌, length, reverse, rules, sym, ◌∙◌, ap, subst}
-use Rattle.disk_model.specs.declared.place.NameStep.TheVariants.{Create}
-use Rattle.disk_model.specs.State.{File, named, names_after, added}
-use Rattle.disk_model.specs.Sound.{IsSound, AreInside}
+use Rattle.disk_theory.specs.declared.place.NameStep.TheVariants.{Create}
+use Rattle.disk_theory.specs.State.{File, named, names_after, added}
+use Rattle.disk_theory.specs.Sound.{IsSound, AreInside}
 use Rattle.disk_model.specs.MemFile.{file_of}
-use Rattle.disk_model.specs.declared.place.NameStep.{NameStep}
+use Rattle.disk_theory.specs.declared.place.NameStep.{NameStep}
 use Rattle.disk_model.specs.MemSlots.{names_in, synced_names_in}
 use Rattle.disk_model.specs.declared.mem_file.MemFile.{MemFile}
 use Rattle.disk_model.specs.MemState.{state_from, ArePending}
-use Rattle.disk_model.proofs.Sound.{sound_added, no_writes}
+use Rattle.disk_theory.proofs.Sound.{sound_added, no_writes}
 use Rattle.disk_model.proofs.MemState.{added_state, stepped_names}
 use Rattle.disk_model.proofs.MemPending.{pending_pushed}
 use Rattle.disk_model.proofs.mem_table.Table.create.Goals as goal

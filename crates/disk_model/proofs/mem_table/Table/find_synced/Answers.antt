@@ -1,5 +1,5 @@
 use Rattle.std.proofs.Common.{◌∙◌, sym, ap, length}
-use Rattle.disk_model.specs.State.{Names}
+use Rattle.disk_theory.specs.State.{Names}
 use Rattle.disk_model.specs.MemState.{state_from}
 use Rattle.disk_model.proofs.MemState.{is_made, all_before}
 use Rattle.disk_model.proofs.mem_table.Table.find_synced.Goals as goal

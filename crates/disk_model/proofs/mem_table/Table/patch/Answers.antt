@@ -1,4 +1,4 @@
-use Rattle.disk_model.specs.State.Write.{Patch}
+use Rattle.disk_theory.specs.State.Write.{Patch}
 use Rattle.disk_model.proofs.MemWrites.{write_ok, write_err, write_sound}
 use Rattle.disk_model.proofs.MemPending.{pending_written}
 use Rattle.disk_model.proofs.mem_table.Table.patch.Goals as goal

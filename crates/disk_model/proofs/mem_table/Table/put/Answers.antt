@@ -1,12 +1,12 @@
 use Rattle.std.proofs.Common.{◌≡◌, List, [], ◌∷◌, ◌++◌, Some, length, rules, sym, ◌∙◌, ap, subst}
-use Rattle.disk_model.specs.State.{File, content, added, with_name}
-use Rattle.disk_model.specs.Sound.{IsSound, AreInside}
+use Rattle.disk_theory.specs.State.{File, content, added, with_name}
+use Rattle.disk_theory.specs.Sound.{IsSound, AreInside}
 use Rattle.disk_model.specs.MemFile.{file_of}
 use Rattle.disk_model.specs.MemSlots.{names_in, synced_names_in}
 use Rattle.disk_model.specs.MemState.{state_from, ArePending}
 use Rattle.disk_model.specs.declared.mem_file.MemFile.{MemFile}
-use Rattle.disk_model.proofs.Sound.{names_settled, sound_added, sound_names_settled, no_writes}
-use Rattle.disk_model.proofs.Standing.{put_puts}
+use Rattle.disk_theory.proofs.Sound.{names_settled, sound_added, sound_names_settled, no_writes}
+use Rattle.disk_theory.proofs.Standing.{put_puts}
 use Rattle.disk_model.proofs.MemState.{put_state, put_names}
 use Rattle.disk_model.proofs.MemPending.{pending_pushed}
 use Rattle.disk_model.proofs.mem_table.Table.put.Goals as goal

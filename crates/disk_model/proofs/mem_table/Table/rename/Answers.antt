@@ -1,5 +1,5 @@
 use Rattle.disk_model.specs.MemState.{state_from}
-use Rattle.disk_model.proofs.Sound.{sound_renamed}
+use Rattle.disk_theory.proofs.Sound.{sound_renamed}
 use Rattle.disk_model.proofs.mem_table.Table.rename.Goals as goal
 
 pub step-requires : goal.step-requires

@@ -1,14 +1,14 @@
 use Rattle.std.proofs.Common.{◌≡◌, ◌⊎◌, ℕ, List, length, reverse, sym, ◌∙◌, ap, subst}
 use Rattle.std.specs.Vec.{with_items}
-use Rattle.disk_model.specs.declared.place.Place.{Place}
-use Rattle.disk_model.specs.declared.place.NameStep.{NameStep}
-use Rattle.disk_model.specs.State.{File, names_after, settled}
-use Rattle.disk_model.specs.Sound.{IsSound}
+use Rattle.disk_theory.specs.declared.place.Place.{Place}
+use Rattle.disk_theory.specs.declared.place.NameStep.{NameStep}
+use Rattle.disk_theory.specs.State.{File, names_after, settled}
+use Rattle.disk_theory.specs.Sound.{IsSound}
 use Rattle.disk_model.specs.MemFile.{nth_file, at_rest}
 use Rattle.disk_model.specs.MemSlots.{names_in, synced_names_in, IsNamedBy}
 use Rattle.disk_model.specs.MemState.{state_from, ArePending}
 use Rattle.disk_model.specs.declared.mem_file.MemFile.{MemFile}
-use Rattle.disk_model.proofs.Sound.{sound_settled}
+use Rattle.disk_theory.proofs.Sound.{sound_settled}
 use Rattle.disk_model.proofs.MemState.{unnamed, lent_items, settled_state}
 use Rattle.disk_model.proofs.mem_table.Table.sync.Goals as goal
 

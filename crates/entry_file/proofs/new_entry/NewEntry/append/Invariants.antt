@@ -2,9 +2,9 @@ use Rattle.std.proofs.Common.{◌≡◌, ◌≤◌, ◌<◌, ◌+◌, ◌/◌, �
 use Rattle.cache_base.specs.Limits.{chunk_size}
 use Rattle.cache_base.specs.declared.limits.TheConstants.{CHUNK}
 use Rattle.chunk_store.specs.Stored.{unfinished_file}
-use Rattle.disk_model.specs.Account.{SyncsAtMost, no_sync}
-use Rattle.disk_model.specs.State.{standing}
-use Rattle.disk_model.specs.Writes.{WritesAt}
+use Rattle.disk_theory.specs.Account.{SyncsAtMost, no_sync}
+use Rattle.disk_theory.specs.State.{standing}
+use Rattle.disk_theory.specs.Writes.{WritesAt}
 use Rattle.entry_file.specs.NewEntry.{HasBody, grown_len}
 use Rattle.entry_file.specs.Held.{held}
 use Rattle.entry_file.specs.Unfinished.{IsUnfinished}

@@ -1,7 +1,7 @@
 use Rattle.std.proofs.Common.{◌≡◌, ◌*◌, ℕ, List, length, Some, rules, sym, ap, subst, ◌∙◌}
-use Rattle.disk_model.specs.Calls.{MayWriteAt}
-use Rattle.disk_model.specs.State.{State, Write, standing, wrote}
-use Rattle.disk_model.proofs.Standing.{wrote_puts}
+use Rattle.disk_theory.specs.Calls.{MayWriteAt}
+use Rattle.disk_theory.specs.State.{State, Write, standing, wrote}
+use Rattle.disk_theory.proofs.Standing.{wrote_puts}
 use Rattle.entry_file.specs.Held.{held}
 use Rattle.entry_file.specs.NewEntry.{finished, last_write}
 use Rattle.entry_file.specs.Version.{file_of}

@@ -1,9 +1,9 @@
 use Rattle.std.proofs.Common.{◌≡◌, ◌++◌, [], length-append, Some, ap, ◌∙◌, arith}
 use Rattle.chunk_store.specs.Stored.{unfinished_file}
-use Rattle.disk_model.specs.declared.place.Place.{Place}
-use Rattle.disk_model.specs.Sound.{IsSound}
-use Rattle.disk_model.specs.State.{State, created, empty_file, standing}
-use Rattle.disk_model.proofs.Standing.{added_puts}
+use Rattle.disk_theory.specs.declared.place.Place.{Place}
+use Rattle.disk_theory.specs.Sound.{IsSound}
+use Rattle.disk_theory.specs.State.{State, created, empty_file, standing}
+use Rattle.disk_theory.proofs.Standing.{added_puts}
 use Rattle.entry_file.proofs.Bodies.{grown}
 use Rattle.entry_tests.proofs.files.new_entry.grow.Goals as goal
 

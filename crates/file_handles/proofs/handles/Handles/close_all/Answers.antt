@@ -1,6 +1,6 @@
 use Rattle.std.proofs.Common.{◌<◌, ◌≤◌, length, Ok, sym, ap, subst, ◌∙◌, arith}
 use Rattle.std.proofs.lemmas.Result.{IfOk-from_err}
-use Rattle.disk_model.specs.Account.{IsCalm, no_sync}
+use Rattle.disk_theory.specs.Account.{IsCalm, no_sync}
 use Rattle.doom_area.specs.DoomArea.{RemovesDoomed}
 use Rattle.index_theory.specs.Leaves.{LeavesBeside}
 use Rattle.file_handles.specs.Kept.{kept}

@@ -1,5 +1,5 @@
 use Rattle.std.proofs.Common.{◌≡◌, IsTrue, length}
-use Rattle.disk_model.specs.Account.{IsCalm, LooksAtNoEntry, no_sync}
+use Rattle.disk_theory.specs.Account.{IsCalm, LooksAtNoEntry, no_sync}
 use Rattle.doom_area.specs.DoomArea.{RemovesDoomed}
 use Rattle.index_theory.specs.Leaves.{LeavesBeside}
 use Rattle.file_handles.specs.Kept.{kept}

@@ -1,8 +1,8 @@
 use Rattle.std.proofs.Common.{◌≡◌, rules, Option, subst}
 use Rattle.std.specs.Prelude.{IfSome}
 use Rattle.chunk_store.specs.declared.damage.Damage.{Damage}
-use Rattle.disk_model.specs.State.{State, standing}
-use Rattle.disk_model.specs.declared.place.Place.TheVariants.{Entry}
+use Rattle.disk_theory.specs.State.{State, standing}
+use Rattle.disk_theory.specs.declared.place.Place.TheVariants.{Entry}
 use Rattle.entry_file.specs.Damages.{first_damage}
 use Rattle.entry_file.proofs.LookLaws.{looks_handed}
 use Rattle.entry_file.specs.EntryRead.{ReadsAs}

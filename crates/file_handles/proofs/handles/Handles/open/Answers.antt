@@ -1,7 +1,7 @@
 use Rattle.std.proofs.Common.{◌∙◌, Result, refl, sym, subst, arith}
 use Rattle.cache_theory.specs.Command.Command.{OpenKey}
-use Rattle.disk_model.specs.State.{State, standing}
-use Rattle.disk_model.specs.declared.place.Place.TheVariants.{Entry}
+use Rattle.disk_theory.specs.State.{State, standing}
+use Rattle.disk_theory.specs.declared.place.Place.TheVariants.{Entry}
 use Rattle.entry_file.specs.EntryFile.{read_for}
 use Rattle.entry_metadata.specs.declared.meta.Meta.{Meta}
 use Rattle.file_handles.specs.Answers.{done_or}

@@ -3,8 +3,8 @@ use Rattle.std.proofs.lemmas.Result.{IfOk-weaker}
 use Rattle.cache_base.specs.Bytes.{AreBytes}
 use Rattle.cache_base.proofs.ByteLaws.{all_below}
 use Rattle.cache_theory.specs.Command.Command.{PutAlt}
-use Rattle.disk_model.specs.Prefixes.{KeepsPrefix}
-use Rattle.disk_model.specs.State.{State}
+use Rattle.disk_theory.specs.Prefixes.{KeepsPrefix}
+use Rattle.disk_theory.specs.State.{State}
 use Rattle.file_handles.specs.Cache.{cache_at}
 use Rattle.file_handles.specs.Changes.{IsFiledAt}
 use Rattle.file_handles.specs.Effects.{HasEffect, IsLearntOf}

@@ -2,7 +2,7 @@ use Rattle.std.proofs.Common.{◌≡◌, Option, None, Some, Ok, sym, ap, subst,
 use Rattle.cache_theory.specs.Checks.{with_alt_data}
 use Rattle.chunk_cache.specs.Cached.{without_entry}
 use Rattle.chunk_cache.proofs.Properties.{others_left}
-use Rattle.disk_model.specs.Prefixes.{KeepsPrefix}
+use Rattle.disk_theory.specs.Prefixes.{KeepsPrefix}
 use Rattle.entry_file.proofs.Writing.{not_written}
 use Rattle.file_handles.specs.Cache.{cache_at}
 use Rattle.file_handles.specs.Changes.{ChangesAt, with_version}

@@ -1,6 +1,6 @@
 use Rattle.std.proofs.Common.{rules, ◌≡◌, ◌<◌, arith}
 use Rattle.cache_base.specs.Limits.{chunks}
-use Rattle.disk_model.specs.State.{standing}
+use Rattle.disk_theory.specs.State.{standing}
 use Rattle.file_handles.proofs.Finding.FoundLoad.{only_chunk}
 use Rattle.file_handles.proofs.handles.Handles.read_found.Goals as goal
 

@@ -5,7 +5,7 @@ use Rattle.cache_theory.specs.Command.Command.{ReadPart}
 use Rattle.cache_theory.specs.declared.refusal.Refusal.{Refusal}
 use Rattle.chunk_cache.specs.Cached.{StandsFirst}
 use Rattle.chunk_cache.proofs.Properties.{look_puts_first}
-use Rattle.disk_model.specs.Account.{Ending, Looks}
+use Rattle.disk_theory.specs.Account.{Ending, Looks}
 use Rattle.file_handles.specs.Answers.{ending}
 use Rattle.file_handles.specs.Cache.{cache_at}
 use Rattle.file_handles.specs.HeldChunks.{MayLoseLast, PutsFirst}

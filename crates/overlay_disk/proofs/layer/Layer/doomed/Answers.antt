@@ -3,8 +3,8 @@ use Rattle.std.specs.BTreeMap.{is_at}
 use Rattle.std.specs.List.{list_any}
 use Rattle.std.specs.Ordering.{nat_cmp}
 use Rattle.overlay_disk.proofs.ListLaws.{numbers_exact, numbers_total}
-use Rattle.disk_model.specs.declared.place.Place.TheVariants.{Doomed}
-use Rattle.disk_model.proofs.MemPlaces.{doomed_in, only_doomed}
+use Rattle.disk_theory.specs.declared.place.Place.TheVariants.{Doomed}
+use Rattle.disk_theory.proofs.KindsOfPlaces.{doomed_in, only_doomed}
 use Rattle.overlay_disk.specs.Listed.{stands_after}
 use Rattle.overlay_disk.specs.Seen.{overs_in}
 use Rattle.overlay_disk.specs.Shown.{files_below}

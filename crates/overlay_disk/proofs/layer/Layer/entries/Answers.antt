@@ -4,8 +4,8 @@ use Rattle.std.specs.List.{list_any}
 use Rattle.cache_base.specs.Names.{name_cmp}
 use Rattle.cache_base.proofs.NameLaws.{name_cmp_total}
 use Rattle.overlay_disk.proofs.ListLaws.{names_exact}
-use Rattle.disk_model.specs.declared.place.Place.TheVariants.{Entry}
-use Rattle.disk_model.proofs.MemPlaces.{entry_in, only_entry}
+use Rattle.disk_theory.specs.declared.place.Place.TheVariants.{Entry}
+use Rattle.disk_theory.proofs.KindsOfPlaces.{entry_in, only_entry}
 use Rattle.overlay_disk.specs.Listed.{stands_after}
 use Rattle.overlay_disk.specs.Seen.{overs_in}
 use Rattle.overlay_disk.specs.Shown.{files_below}

@@ -1,6 +1,6 @@
 use Rattle.std.proofs.Common.{ap}
-use Rattle.disk_model.specs.State.{standing}
-use Rattle.disk_model.specs.State.Write.{Patch}
+use Rattle.disk_theory.specs.State.{standing}
+use Rattle.disk_theory.specs.State.Write.{Patch}
 use Rattle.overlay_disk.specs.Seen.{overs_in}
 use Rattle.overlay_disk.specs.Shown.{files_below}
 use Rattle.overlay_disk.proofs.LayerLaws.{on_err, on_err_then, on_ok_then, shows_same, wrote_over, kept_over}

@@ -1,5 +1,5 @@
 use Rattle.std.proofs.Common.{None, refl, ◌∙◌, ap}
-use Rattle.disk_model.specs.State.{standing}
+use Rattle.disk_theory.specs.State.{standing}
 use Rattle.overlay_disk.specs.Seen.{overs_in, with_over}
 use Rattle.overlay_disk.specs.Shown.{files_below}
 use Rattle.overlay_disk.specs.declared.over.Over.TheVariants.{Below, Gone}

@@ -1,5 +1,5 @@
 use Rattle.std.proofs.Common.{inl, inr, sym, rules, refl, ◌∙◌, ap}
-use Rattle.disk_model.specs.State.{standing}
+use Rattle.disk_theory.specs.State.{standing}
 use Rattle.overlay_disk.specs.Seen.{Overs, overs_in, seen_as}
 use Rattle.overlay_disk.specs.Shown.{files_below}
 use Rattle.overlay_disk.proofs.LayerLaws.{on_err, shows_same, moved_over}

@@ -1,5 +1,5 @@
 use Rattle.std.proofs.Common.{inr, ◌≡◌, ◌∙◌, ap, sym, Some, rules}
-use Rattle.disk_model.specs.Image.{Files}
+use Rattle.disk_theory.specs.Image.{Files}
 use Rattle.overlay_disk.specs.Seen.{Overs, overs_in, seen_as}
 use Rattle.overlay_disk.specs.Shown.{files_below}
 use Rattle.overlay_disk.specs.declared.over.Over.TheVariants.{Below, Gone}

@@ -1,5 +1,5 @@
 use Rattle.std.proofs.Common.{◌≡◌, ◌≤◌, ◌-◌, ◌++◌, ◌∙◌, length, take, drop, rules, ap}
-use Rattle.disk_model.specs.State.{part_of, standing}
+use Rattle.disk_theory.specs.State.{part_of, standing}
 use Rattle.overlay_disk.specs.Seen.{held}
 use Rattle.overlay_disk.proofs.OverLaws.{copied, lent_back, part_held}
 use Rattle.overlay_disk.proofs.over.OverFile.copy_up.Goals as goal

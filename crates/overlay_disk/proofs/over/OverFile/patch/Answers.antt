@@ -1,5 +1,5 @@
 use Rattle.std.proofs.Common.{◌≡◌, ◌+◌, ◌-◌, ◌++◌, ◌∙◌, length, take, drop, arith, rules, ap, subst}
-use Rattle.disk_model.specs.State.{State, standing}
+use Rattle.disk_theory.specs.State.{State, standing}
 use Rattle.overlay_disk.specs.Seen.{beginning, content_over}
 use Rattle.overlay_disk.proofs.OverLaws.{lent_back, patched_tail}
 use Rattle.overlay_disk.proofs.over.OverFile.patch.Goals as goal

@@ -1,6 +1,6 @@
 use Rattle.std.proofs.Common.{ℕ, List, ◌≡◌, ◌≤◌, ◌<◌, ◌+◌, ◌-◌, ◌++◌, ◌∙◌, length, min, take, drop, arith, rules, ap, sym}
 use Rattle.std.proofs.lemmas.List.{length-take-le}
-use Rattle.disk_model.specs.State.{State, part_of, standing}
+use Rattle.disk_theory.specs.State.{State, part_of, standing}
 use Rattle.overlay_disk.specs.Seen.{beginning, content_over, held}
 use Rattle.overlay_disk.proofs.OverLaws.{drop_past, part_held, read_whole}
 use Rattle.overlay_disk.proofs.over.OverFile.read.Goals as goal

@@ -1,5 +1,5 @@
 use Rattle.std.proofs.Common.{◌≡◌, ◌+◌, ◌-◌, ◌++◌, ◌∙◌, length, take, arith, rules, ap}
-use Rattle.disk_model.specs.State.{standing}
+use Rattle.disk_theory.specs.State.{standing}
 use Rattle.overlay_disk.specs.Seen.{beginning}
 use Rattle.overlay_disk.proofs.OverLaws.{ended_tail}
 use Rattle.overlay_disk.proofs.over.OverFile.write_end.Goals as goal

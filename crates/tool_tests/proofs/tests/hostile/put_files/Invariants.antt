@@ -1,5 +1,5 @@
 use Rattle.disk_model.specs.MemDisk.{state_in}
-use Rattle.disk_model.specs.Sound.{IsQuiet}
+use Rattle.disk_theory.specs.Sound.{IsQuiet}
 use Rattle.tool_tests.proofs.tests.hostile.put_files.Given as goal
 
 abbrev pub invariant-loop-index : goal.invariant-loop-index

@@ -1,5 +1,0 @@
-use Rattle.disk_model.proofs.Prefixes.{unreached_is_kept}
-use Rattle.disk_model.proofs.laws.unreached_is_kept.Goals as goal
-
-pub returns : goal.returns
-returns g c told = unreached_is_kept _ (g.met.D.Disk.sound c.args._disk.now told)

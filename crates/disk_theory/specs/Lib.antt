@@ -1,0 +1,14 @@
+pub use Rattle.cache_base.specs.Causes
+pub use Rattle.cache_base.specs.Names
+pub mod Place
+pub mod State
+pub mod Sound
+pub mod Standing
+pub mod Listing
+pub mod Silent
+pub mod Image
+pub mod Prefixes
+pub mod Writes
+pub mod Calls
+pub mod Account
+pub mod Told
