@@ -151,18 +151,15 @@ class Cache:
         data = keys_of.encoded(key)
         with self._lock:
             talk = self._run()
-            return cast(Entry, talk.answer(self._send_get(talk, data, only_main)))
+            return cast(Entry, talk.ask(b"get " + data, entry_parse(talk, data, only_main), LONG))
 
     def send_get(self, key: Key) -> Reply:
         data = keys_of.encoded(key)
         with self._lock:
             talk = self._run()
-            reply = Reply(talk, [self._send_get(talk, data, False)])
+            reply = Reply(talk, [talk.send(b"get " + data, entry_parse(talk, data, False), owed=LONG)])
             talk.push()
             return reply
-
-    def _send_get(self, talk: Conversation, key: bytes, only_main: bool) -> Pending:
-        return talk.send(b"get " + key, entry_parse(talk, key, only_main), owed=LONG)
 
     def put(self, key: Key, body: Union[Bytes, BinaryIO], elements: Optional[Elements] = None,
             is_pinned: bool = False) -> None:

@@ -88,9 +88,9 @@ def parse_all(count: int) -> Parse:
 def parse_numbers(replies: Replies, word: bytes, count: int) -> List[int]:
     """The numbers after the first word of a reply, or what it refuses."""
     line = replies.line()
-    words = line.split(b" ")
-    if words[0] == word and len(words) == count + 1 and all(map(bytes.isdigit, words[1:])):
-        return list(map(int, words[1:]))
+    first, *words = line.split(b" ")
+    if first == word and len(words) == count and all(words) and b"".join(words).isdigit():
+        return [*map(int, words)]
     raise refused(line, replies)
 
 
@@ -155,6 +155,23 @@ class Conversation:
         self._begin(is_end)
         return self._send(line, parse, data, owed, is_end)
 
+    def ask(self, line: bytes, parse: Parse, owed: int) -> Any:
+        """Sends a command and waits for the reply, by the short way where all before it was answered."""
+        self._begin(False)
+        if self._queue or self._stream:
+            return self.answer(self._send(line, parse, None, owed, False))
+        # All was answered, so the next reply is the one to this command, and neither side waits for the other.
+        self._count(len(line) + 1, False)
+        try:
+            self._requests.gather(line + b"\n")
+            self._requests.push()
+            return parse(self._replies)
+        except (Refused, Fault):
+            raise
+        except BaseException as error:
+            self._give_up(error)
+            raise
+
     def send_all(self, commands: List[bytes]) -> List[Pending]:
         """Sends commands that are answered by `ok`, many as one. The bytes of each stand after its line."""
         self._begin(False)
@@ -170,25 +187,29 @@ class Conversation:
         if is_end:
             # What ends an entry has no moment.
             return
-        now = self._now()
+        now = min(int(self._clock()), LAST_MOMENT)
         # A clock that goes back is not followed: no entry is used before it was made.
         if now > self.moment:
             self._send(b"at %d" % now, parse_ok, None, LINE, False)
             self.moment = now
 
+    def _count(self, size: int, is_end: bool) -> None:
+        """Counts bytes that are sent in this run, which has room for them."""
+        if self._sent + size > MAX_SCRIPT - (0 if is_end else KEPT_FOR_ENDS):
+            raise SessionFull("this run has had as much as it may have: close all readers and writers for a new one")
+        self._sent += size
+
     def _send(self, line: bytes, parse: Parse, data: Optional[Bytes], owed: int, is_end: bool,
               early: int = 0) -> Pending:
         """Of the replies that are `owed` for it, `early` bytes may come before it is sent whole."""
         size = len(line) + 1 + (0 if data is None else len(data) + 1)
-        if self._sent + size > MAX_SCRIPT - (0 if is_end else KEPT_FOR_ENDS):
-            raise SessionFull("this run has had as much as it may have: close all readers and writers for a new one")
+        self._count(size, is_end)
         try:
             if self._stream or (self._asked + size > PIPE and self._owed + early > PIPE):
                 self._make_room(size, early)
                 self.check()
             pending = Pending(parse, size, owed)
             self._queue.append(pending)
-            self._sent += size
             self._asked += size
             self._owed += owed
             self._requests.gather(line + b"\n")

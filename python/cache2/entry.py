@@ -51,7 +51,8 @@ class Entry:
 
 def alternative_place(found: Mapping[str, bytes], length: int) -> Optional[Tuple[int, bytes]]:
     """Where the alternative data begin in a stored body of this length, and their kind. None where there are none."""
-    told = ALTERNATIVE.fullmatch(found.get("alt-data", b""))
+    data = found.get("alt-data")
+    told = ALTERNATIVE.fullmatch(data) if data else None
     if not told or int(told[1]) > min(length, LAST_MOMENT):
         return None
     return int(told[1]), told[2]
@@ -61,13 +62,11 @@ def entry_parse(talk: Conversation, key: bytes, only_main: bool) -> Parse:
     """Reads the reply to a `get`. With `only_main` the body has no alternative data."""
     def parse(replies: Replies) -> Entry:
         count, fetched, modified, frecency, expires, flags, element_bytes, length = parse_numbers(replies, b"found", 8)
-        found: Dict[str, bytes] = elements.decoded(replies.take(element_bytes))
-        replies.end_line()
+        found: Dict[str, bytes] = elements.decoded(replies.block(element_bytes))
         place = alternative_place(found, length) if only_main else None
         wanted = place[0] if place else length
         if length <= CHUNK:
-            body: BinaryIO = io.BytesIO(replies.take(length)[:wanted])
-            replies.end_line()
+            body: BinaryIO = io.BytesIO(replies.block(length)[:wanted])
         else:
             body = cast(BinaryIO, io.BufferedReader(talk.begin_body(wanted, length - wanted), CHUNK))
         return Entry(keys.decoded(key), count, fetched, modified, frecency, flags, found, wanted, body,

@@ -290,20 +290,20 @@ def store_file(cache: Cache, name: Key, head: Head, file: BinaryIO) -> None:
             writer.set(HEAD, head.line(writer.length))
 
 
-def head_in(entry: Entry) -> Tuple[StatusLine, StoredPairs]:
-    """The first line and the headers of the response in an entry."""
+def head_in(entry: Entry) -> Tuple[StatusLine, bytes]:
+    """The first line of the response in an entry, and the element with its headers."""
     first, _, others = entry.elements.get(HEAD, b"").partition(b"\r\n")
     line = status_line(first)
     if not line:
         entry.close()
         raise NotAResponse(f"the entry of {entry.key} has no response in it")
-    return line, headers_in(entry.elements.get(ORIGINAL, others))
+    return line, entry.elements.get(ORIGINAL, others)
 
 
 def response_of(entry: Entry) -> Response:
     """The response in an entry."""
-    line, headers = head_in(entry)
-    pairs = [(text_of(name), text_of(value)) for name, value in headers]
+    line, head = head_in(entry)
+    pairs = [(text_of(name), text_of(value)) for name, value in headers_in(head)]
     method = entry.elements.get(METHOD, b"GET").decode("latin-1")
     return Response(line.status, line.reason, line.version, pairs, method, entry.length, entry.body, entry)
 

@@ -16,6 +16,7 @@ READ = 1 << 18
 # No line of a reply is longer.
 LONGEST = 1 << 17
 NEWLINE = ord("\n")
+NO_NEWLINE = "no newline where one has to be"
 # What is gathered before it is sent.
 GATHERED = 1 << 16
 # F_SETPIPE_SZ of Linux, which Python 3.9 has no name for, and the size that is asked for.
@@ -116,11 +117,13 @@ class Replies:
         """Reads on, at least a byte."""
         if self._at == self._end:
             self._at = self._end = 0
-        elif self._end == READ:
-            held = self._end - self._at
-            self._view[:held] = self._view[self._at:]
-            self._at, self._end = 0, held
-        count = self._receive(self._view[self._end:])
+            count = self._receive(self._view)
+        else:
+            if self._end == READ:
+                held = self._end - self._at
+                self._view[:held] = self._view[self._at:]
+                self._at, self._end = 0, held
+            count = self._receive(self._view[self._end:])
         if not count:
             self._ended()
         self._end += count
@@ -148,12 +151,25 @@ class Replies:
         self._at += count
         return taken
 
+    def block(self, count: int) -> bytes:
+        """So many bytes, and takes the newline after them."""
+        end = self._at + count
+        if end >= self._end:
+            taken = self.take(count)
+            self.end_line()
+            return taken
+        if self._buffer[end] != NEWLINE:
+            raise BadReply(None, NO_NEWLINE)
+        taken = bytes(self._view[self._at:end])
+        self._at = end + 1
+        return taken
+
     def end_line(self) -> None:
         """Takes the newline that stands after the bytes of a reply."""
         if self._at == self._end:
             self._fill()
         if self._buffer[self._at] != NEWLINE:
-            raise BadReply(None, "no newline where one has to be")
+            raise BadReply(None, NO_NEWLINE)
         self._at += 1
 
     def take_into(self, view: memoryview) -> int:

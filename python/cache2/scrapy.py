@@ -11,6 +11,7 @@ heeded.
 """
 from __future__ import annotations
 
+import hashlib
 import logging
 import os
 import time
@@ -22,18 +23,20 @@ from scrapy.responsetypes import responsetypes
 from scrapy.utils.project import data_path
 from scrapy.utils.request import RequestFingerprinter
 
-from . import http
+from . import http, keys
 from .cache import Cache
 from .errors import Cache2Error, Damaged, NotFound, Refused
-from .keys import digest_of
 from .pipeline import Pipeline
 
 logger = logging.getLogger(__name__)
+
+Headers = Dict[bytes, List[bytes]]
 
 # How many names of entries are held at the most, so that no other response is asked for. More are not held.
 NAMES = 200_000
 # The address of a response that is not the one that was asked for.
 ADDRESS = "scrapy-url"
+CONTENT_TYPE = b"Content-Type"
 
 
 class Storage:
@@ -83,10 +86,11 @@ class Storage:
         except Cache2Error as error:
             logger.warning("A response was not stored: %s", error)
 
-    def _key(self, request: Any) -> str:
+    def _key(self, request: Any) -> bytes:
         """The key of a request: Firefox's for a plain GET, and one with the fingerprint for what Scrapy tells apart."""
         is_plain = request.method == "GET" and not request.body and type(self._fingerprinter) is RequestFingerprinter
-        return http.key_for(request.url, extra=None if is_plain else self._fingerprinter.fingerprint(request).hex())
+        extra = None if is_plain else self._fingerprinter.fingerprint(request).hex()
+        return keys.encoded(http.key_for(request.url, extra=extra))
 
     def retrieve_response(self, spider: Any, request: Any) -> Any:
         """The response that is stored, or None."""
@@ -94,10 +98,10 @@ class Storage:
             raise IgnoreRequest(f"the cache is not open: {self._failure}")
         try:
             key = self._key(request)
-            if self._names is not None and digest_of(key) not in self._names:
+            if self._names is not None and hashlib.sha1(key).digest() not in self._names:
                 return None
             entry = self._cache.get(key, only_main=True)
-            line, pairs = http.head_in(entry)
+            line, head = http.head_in(entry)
             if 0 < self._expiration < time.time() - entry.modified:
                 entry.close()
                 return None
@@ -107,10 +111,7 @@ class Storage:
         except Cache2Error as error:
             return self._missed(request, error)
         url = entry.elements.get(ADDRESS, b"").decode() or request.url
-        headers = headers_of(pairs)
-        last = {name: values[-1] for name, values in headers.items()}
-        kind = responsetypes.from_args(headers=last, url=url, body=body)
-        return kind(url=url, headers=headers, status=line.status, body=body)
+        return response_of(url, line.status, headers_of(head), body)
 
     def _missed(self, request: Any, error: Cache2Error) -> None:
         """What is not served is fetched anew, and stored in its place."""
@@ -136,15 +137,35 @@ class Storage:
                 self._pipeline.doom(key)
                 raise
             if self._names is not None:
-                self._names.add(digest_of(key))
+                self._names.add(hashlib.sha1(key).digest())
         except Cache2Error as error:
             logger.warning("%s is not stored: %s", request, error)
         self._settle(self._waiting)
 
 
-def headers_of(pairs: http.StoredPairs) -> Dict[bytes, List[bytes]]:
+def headers_of(head: bytes) -> Headers:
     """Headers as Scrapy has them: the values of each name, whose words begin with capitals."""
-    found: Dict[bytes, List[bytes]] = {}
-    for name, value in pairs:
-        found.setdefault(name.title(), []).append(value)
+    found: Headers = {}
+    for line in head.split(b"\r\n"):
+        name, colon, value = line.partition(b":")
+        if colon:
+            name = name.title()
+            value = value.strip(b" \t")
+            if name in found:
+                found[name].append(value)
+            else:
+                found[name] = [value]
     return found
+
+
+def response_of(url: str, status: int, headers: Headers, body: bytes) -> Any:
+    """A response of the type that Scrapy finds for it, with these headers."""
+    last = {name: values[-1] for name, values in headers.items()}
+    kind = responsetypes.from_args(headers=last, url=url, body=body)
+    # Scrapy would bring each header twice into the form that it has already, which takes longer than all else here.
+    # While the response is made only its type counts.
+    types = headers.get(CONTENT_TYPE)
+    response = kind(url=url, headers={CONTENT_TYPE: types} if types else None, status=status, body=body)
+    response.headers.clear()
+    dict.update(response.headers, headers)
+    return response

@@ -152,6 +152,51 @@ def test_two_spiders_on_one_folder(crawls, site):
     assert crawls.reason() == "end cache2: InUse"
 
 
+HEADERS = [
+    {"Content-Type": "text/html; charset=iso-8859-2", "Server": "one", "X-Two": ["1", "2"], "Date": "now"},
+    {"x-lower": "1", "Content-Type": ["text/plain", "text/html; charset=cp1251"], "X-EMPTY": ""},
+    {"Content-Type": "image/png"},
+    {"Content-Disposition": "attachment; filename=a.html", "Content-Type": "application/x-other"},
+    {"Content-Encoding": "gzip", "Content-Type": "text/html"},
+    {"X-Latin": "caf\xe9".encode("latin-1"), "X-Colon": "a: b:c"},
+    {},
+]
+
+
+@pytest.mark.filterwarnings("ignore")
+def test_a_response_is_as_scrapy_makes_it(room):
+    """Its type, its encoding and its headers with their order. Nothing of it is shared with the next one."""
+    from cache2.scrapy import Storage
+    from scrapy.http import Headers, Request, Response
+    from scrapy.responsetypes import responsetypes
+    from scrapy.settings import Settings
+    from scrapy.utils.request import RequestFingerprinter
+
+    class Crawler:
+        request_fingerprinter = RequestFingerprinter(None)
+
+    class Spider:
+        name, crawler = "one", Crawler
+
+    storage = Storage(Settings({"HTTPCACHE_DIR": room}))
+    storage.open_spider(Spider)
+    for body in ("<html><p>\u0159".encode("iso-8859-2"), bytes(range(256)), b""):
+        for number, words in enumerate(HEADERS):
+            url, headers = f"https://example.com/{number}", Headers(words)
+            storage.store_response(Spider, Request(url), Response(url, 203, headers, body))
+            kind = responsetypes.from_args(headers=headers, url=url, body=body)
+            wanted = kind(url, 203, headers, body)
+            for _ in range(2):
+                found = storage.retrieve_response(Spider, Request(url))
+                assert (type(found), found.status, found.url, found.body) == (kind, 203, url, body)
+                assert type(found.headers) is Headers and list(found.headers.items()) == list(headers.items())
+                assert getattr(found, "encoding", None) == getattr(wanted, "encoding", None)
+                assert found.replace(body=b"x").headers == headers
+                for values in map(found.headers.getlist, found.headers):
+                    values.append(b"more")
+    storage.close_spider(Spider)
+
+
 @pytest.mark.filterwarnings("ignore")
 def test_requests_that_scrapy_tells_apart(room):
     """A request by another method, with a body or with a fingerprint of another kind has a key of its own."""
