@@ -162,8 +162,8 @@ def response_of(url: str, status: int, headers: Headers, body: bytes) -> Any:
     """A response of the type that Scrapy finds for it, with these headers."""
     last = {name: values[-1] for name, values in headers.items()}
     kind = responsetypes.from_args(headers=last, url=url, body=body)
-    # Scrapy would bring each header twice into the form that it has already, which takes longer than all else here.
-    # While the response is made only its type counts.
+    # Scrapy would bring each header twice into the form that it has already. While a response is made only its content
+    # type counts, so the others come afterwards.
     types = headers.get(CONTENT_TYPE)
     response = kind(url=url, headers={CONTENT_TYPE: types} if types else None, status=status, body=body)
     response.headers.clear()
