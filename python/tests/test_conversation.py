@@ -284,7 +284,11 @@ def test_an_interrupt_does_not_reach_the_program(cache, started):
 def test_an_interrupt_in_a_call_ends_the_run_and_nothing_else(path, started, when):
     body = os.urandom(8 << 20)
 
-    def interrupt(*_):
+    def interrupt(_signal, frame):
+        # What is raised in a `__del__` is dropped, so it comes a little later.
+        if frame.f_code.co_name == "__del__":
+            signal.setitimer(signal.ITIMER_VIRTUAL, 0.001)
+            return
         raise KeyboardInterrupt
     with cache2.open(path) as cache:
         cache.put(":before", b"before")
