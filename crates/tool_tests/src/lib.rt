@@ -1,4 +1,4 @@
-//! Tests of the whole program on disks in memory.
+//! Tests of the program's verbs and scripts on disks in memory.
 #![tactic(auto)]
 
 #[cfg(test)]

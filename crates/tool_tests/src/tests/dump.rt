@@ -3,7 +3,6 @@
 ghost use Rattle.disk_model.specs.MemDisk.{state_in};
 ghost use Rattle.disk_theory.specs.Sound.{IsQuiet};
 
-use super::get::{file_of_two_chunks, repeated};
 use super::*;
 use std::test::Fail;
 
@@ -12,13 +11,6 @@ pub(super) const DUMP: &str = "1001 dump";
 pub(super) const DUMP_HEAD: &[u8] = b"C2DUMP01";
 
 pub(super) const EMPTY: &[u8] = b"C2DUMP01\0";
-
-// The dump of the entry whose file is `FILE`, in 108 bytes.
-pub(super) const ONE: &[u8] =
-    b"C2DUMP01\x01\0\0\0\x15:https://example.com/\0\0\0\x05hello\0\0\0\x3c\
-    \x06\xab\x5e\x9a\x39\x9e\
-    \0\0\0\x03\0\0\0\x01\0\0\x03\xe8\0\0\x03\xe8\0\0\x03\xe8\xff\xff\xff\xff\0\0\0\x15\0\0\0\0\
-    :https://example.com/\0\0";
 
 // The dump of the entry that `1000 put :x` makes of `hello`.
 pub(super) const OTHER: &[u8] = b"C2DUMP01\x01\0\0\0\x02:x\0\0\0\x05hello\0\0\0\x29\
@@ -36,16 +28,16 @@ const OF_NOTHING: [Row<'static>; 3] = [
 
 #[test]
 fn the_dump_of_nothing_has_nine_bytes(rt: HostRuntime) -> Result<(), Fail> {
-    assert!(rt; EMPTY.len() == 9 && ONE.len() == 108);
+    assert!(rt; EMPTY.len() == 9 && DUMPED.len() == 108);
     assert!(rt; rows_turn(rt.alloc(), KEY, None, &OF_NOTHING, None)?);
     Ok(())
 }
 
 const OF_ONE: [Row<'static>; 4] = [
-    (DUMP, b"", Status::Done, ONE),
+    (DUMP, b"", Status::Done, DUMPED),
     ("1001 verify", b"", Status::Done, b"findings 0\n"),
     (GET, b"", Status::Done, FOUND),
-    (DUMP, b"", Status::Done, ONE),
+    (DUMP, b"", Status::Done, DUMPED),
 ];
 
 // A file of each version is dumped as one of the third, and stays as it is.

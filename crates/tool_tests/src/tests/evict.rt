@@ -18,11 +18,6 @@ const B: &[u8] = b"evicted 1\nB93CCEFA28585E0321E57BD439D521347671FFF9\n";
 
 const NONE: &[u8] = b"evicted 0\n";
 
-// The entry of the key `:x`, pinned.
-pub(super) const PINNED: &[u8] =
-    b"\xe4\xa04|\0\0\0\x03\0\0\0\x01\0\0\x03\xe8\0\0\x03\xe8\0\0\x03\xe8\xff\xff\xff\xff\
-    \0\0\0\x02\0\0\0\x01:x\0\0\0\0\0";
-
 // Four empty entries of 1 KB each, made at the moments 0, 5, 3 and 5.
 const FOUR_ENTRIES: [Row<'static>; 4] = [
     ("0 put :a", b"", Status::Done, b"ok\n"),

@@ -47,7 +47,7 @@ fn what_is_put_is_got(rt: HostRuntime) -> Result<(), Fail> {
     Ok(())
 }
 
-// Words, the key at whose place a file stands, that file, and what the words come to.
+// Words, the key at whose place a file stands, that file, and how the words end.
 type Case<'a> = (&'a str, &'a str, &'a [u8], Status, &'a [u8]);
 
 const CASES: [Case<'static>; 7] = [
@@ -200,32 +200,8 @@ fn an_old_file_is_read_among_the_doomed(rt: HostRuntime) -> Result<(), Fail> {
     Ok(())
 }
 
-// So many times this byte, and what stands before and after.
-pub(super) fn repeated(
-    alloc: Global,
-    before: &[u8],
-    byte: u8,
-    times: usize,
-    after: &[u8],
-) -> Result<Bytes, Fail> {
-    let mut list = bytes(alloc, before)?;
-    list.extend(&vec![in alloc; byte; times]?)?;
-    list.extend(after)?;
-    Ok(list)
-}
-
-// The file of the entry of a chunk of `a` and a `b`, as `put` writes it.
-pub(super) fn file_of_two_chunks(alloc: Global) -> Result<Bytes, Fail> {
-    let body = repeated(alloc, b"", b'a', 262_144, b"b")?;
-    let mut disk = MemDisk::new(alloc);
-    put_on(alloc, &mut disk, body.as_slice())
-}
-
-// What a `get` prints of it before the body.
-pub(super) const HEAD: &[u8] = b"found 1 1000 1000 1000 4294967295 0 0 262145\n\n";
-
 fn prints_each(alloc: Global, file: &[u8]) -> Result<bool, Fail> {
-    let text = repeated(alloc, HEAD, b'a', 262_144, b"b\n")?;
+    let text = repeated(alloc, HEAD_OF_TWO_CHUNKS, b'a', 262_144, b"b\n")?;
     gets(alloc, GET, KEY, file, Status::Done, text.as_slice())
 }
 
@@ -313,7 +289,7 @@ fn cuts(alloc: Global, file: &[u8], number: u32, text: &[u8]) -> Result<bool, Fa
 }
 
 fn cuts_twice(alloc: Global, file: &[u8]) -> Result<bool, Fail> {
-    Ok(cuts(alloc, file, 1, b"")? && cuts(alloc, file, 2, HEAD)?)
+    Ok(cuts(alloc, file, 1, b"")? && cuts(alloc, file, 2, HEAD_OF_TWO_CHUNKS)?)
 }
 
 #[test]

@@ -3,8 +3,7 @@
 ghost use Rattle.disk_model.specs.MemDisk.{state_in};
 ghost use Rattle.disk_theory.specs.Sound.{IsQuiet};
 
-use super::dump::{DUMP, EMPTY, OF_THREE, ONE, OTHER, THREE_RECORDS, dump_of_two_chunks};
-use super::get::{file_of_two_chunks, repeated};
+use super::dump::{DUMP, EMPTY, OF_THREE, OTHER, THREE_RECORDS, dump_of_two_chunks};
 use super::*;
 use std::test::Fail;
 
@@ -17,7 +16,7 @@ const BAD_FIRST: &[u8] = b"bad dump 1\n";
 const BAD_SECOND: &[u8] = b"bad dump 2\n";
 
 const OF_ONE: [Row<'static>; 6] = [
-    (LOAD, ONE, Status::Done, LOADED_ONE),
+    (LOAD, DUMPED, Status::Done, LOADED_ONE),
     ("2001 get :https://example.com/", b"", Status::Done, FOUND),
     (
         "2001 list",
@@ -26,7 +25,7 @@ const OF_ONE: [Row<'static>; 6] = [
         b"records 1\n68BC13FA477009A295E32BF01651A14CAB377A5C 1000 DA39A3EE5E6B4B0D 65535 65535 0 80000001\n",
     ),
     ("2001 verify", b"", Status::Done, b"findings 0\n"),
-    (DUMP, b"", Status::Done, ONE),
+    (DUMP, b"", Status::Done, DUMPED),
     (LOAD, EMPTY, Status::Done, b"loaded 0\n"),
 ];
 
@@ -91,7 +90,7 @@ fn long_elements_are_loaded(rt: HostRuntime) -> Result<(), Fail> {
 
 // The items of the keys `KEY` and `:x`, in the order of their names.
 fn first_item() -> &'static [u8] {
-    &ONE[8..107]
+    &DUMPED[8..107]
 }
 
 fn second_item() -> &'static [u8] {
@@ -190,9 +189,18 @@ fn both_items_are_loaded(rt: HostRuntime) -> Result<(), Fail> {
 fn an_item_is_bad(rt: HostRuntime) -> Result<(), Fail> {
     let alloc = rt.alloc();
     let bad = Status::Script;
-    let damaged = changed(alloc, ONE, 38, b'j')?;
+    let damaged = changed(alloc, DUMPED, 38, b'j')?;
     assert!(rt; leaves(alloc, damaged.as_slice(), bad, BAD_FIRST, None, OLD_OTHER)?);
-    assert!(rt; leaves(alloc, &ONE[..107], bad, BAD_SECOND, Some(FILE), OLD_OTHER)?);
+    assert!(rt;
+        leaves(
+            alloc,
+            &DUMPED[..107],
+            bad,
+            BAD_SECOND,
+            Some(FILE),
+            OLD_OTHER
+        )?
+    );
     let more = dump_of(alloc, first_item(), b"\0")?;
     assert!(rt;
         leaves(
@@ -283,7 +291,7 @@ fn file_behind(len: usize) -> Option<&'static [u8]> {
 fn no_cut_is_loaded(rt: HostRuntime) -> Result<(), Fail> {
     for len in 0..108usize {
         let line = if len < 107 { BAD_FIRST } else { BAD_SECOND };
-        let cut = ONE.get(..len).ok_or("too short")?;
+        let cut = DUMPED.get(..len).ok_or("too short")?;
         let so = leaves(
             rt.alloc(),
             cut,
@@ -300,13 +308,13 @@ fn no_cut_is_loaded(rt: HostRuntime) -> Result<(), Fail> {
 // Whether a dump with this change of a byte is refused, and leaves no entry on an empty disk but that of a whole item
 // before it.
 fn is_refused(alloc: Global, place: usize, change: u8) -> Result<bool, Fail> {
-    let byte = *ONE.get(place).ok_or("too short")?;
-    let dump = changed(alloc, ONE, place, byte ^ change)?;
+    let byte = *DUMPED.get(place).ok_or("too short")?;
+    let dump = changed(alloc, DUMPED, place, byte ^ change)?;
     let mut disk = MemDisk::new(alloc);
     let (line, left) = if place < 107 {
         (BAD_FIRST, EMPTY)
     } else {
-        (BAD_SECOND, ONE)
+        (BAD_SECOND, DUMPED)
     };
     let refused = comes_so(
         alloc,
@@ -330,7 +338,7 @@ fn no_changed_byte_is_loaded(rt: HostRuntime) -> Result<(), Fail> {
 // Whether the source fails at its read of this number, of one byte each, and what was whole by then stands.
 fn starves(alloc: Global, number: u32) -> Result<bool, Fail> {
     let mut disk = two_others(alloc)?;
-    let (status, printed) = ends_starved(alloc, &mut disk, LOAD, ONE, number, 1)?;
+    let (status, printed) = ends_starved(alloc, &mut disk, LOAD, DUMPED, number, 1)?;
     let read = number.saturating_sub(1) as usize;
     Ok(
         status == Status::Source
@@ -351,7 +359,7 @@ fn a_failing_source_leaves_whole_items(rt: HostRuntime) -> Result<(), Fail> {
 // Whether the sink fails, and the entry stands.
 fn is_cut(alloc: Global) -> Result<bool, Fail> {
     let mut disk = two_others(alloc)?;
-    let (status, printed) = ends_cut(alloc, &mut disk, LOAD, ONE, 1)?;
+    let (status, printed) = ends_cut(alloc, &mut disk, LOAD, DUMPED, 1)?;
     Ok(status == Status::Sink && printed.as_slice().is_empty() && holds(&disk, KEY, Some(FILE)))
 }
 
@@ -426,9 +434,9 @@ fn each_failing_call_ends_the_load(rt: HostRuntime) -> Result<(), Fail> {
 }
 
 const MALFORMED: [Row<'static>; 4] = [
-    ("2000 load x", ONE, Status::Words, b""),
-    ("2000 load ", ONE, Status::Words, b""),
-    ("x load", ONE, Status::Words, b""),
+    ("2000 load x", DUMPED, Status::Words, b""),
+    ("2000 load ", DUMPED, Status::Words, b""),
+    ("x load", DUMPED, Status::Words, b""),
     (
         "2000 run",
         b"state\nload\n",

@@ -1,4 +1,5 @@
 use super::*;
+use cache_io::{MemSink, MemSource};
 use std::test::Fail;
 
 // Whether a `put` of `hello` is answered, and writes its file.

@@ -86,7 +86,7 @@ const SCRIPTS: [(&[u8], &[u8]); 12] = [
     REFUSALS,
 ];
 
-// Whether a script comes to its end with this text, and leaves no doomed file and no name that is
+// Whether a script ends with this text, and leaves no doomed file and no name that is
 // not synced.
 fn answers_on(alloc: Global, disk: &mut MemDisk, script: &[u8], text: &[u8]) -> Result<bool, Fail> {
     Ok(

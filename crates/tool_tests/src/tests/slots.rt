@@ -1,6 +1,8 @@
 //! All 64 slots in use at once: writers and readers, of entries that are doomed and of such that are not.
 
 use super::*;
+use cache_base::Names;
+use disk_theory::Disk;
 use std::test::Fail;
 
 // A script, and its replies by the table of commands.

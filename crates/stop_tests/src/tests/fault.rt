@@ -1,14 +1,7 @@
 //! A look at the disk that fails: the command is answered by the line `fault`, and all is as it was.
 
-use super::get::{HEAD, file_of_two_chunks, repeated};
-use super::{
-    FILE, GET, KEY, OPENING, Row, bytes, call, comes_so, copy_file, disk_with, ends, one_number,
-    place_of, words_of,
-};
-use cache_base::{Bytes, Status};
+use super::*;
 use cache_io::{MemSink, MemSource};
-use disk_model::MemDisk;
-use std::alloc::Global;
 use std::test::Fail;
 
 // Eight commands of which each has the same reply, whichever of the others is left out.
@@ -178,7 +171,7 @@ fn a_failed_check_leaves_the_update(rt: HostRuntime) -> Result<(), Fail> {
 type Printing<'a> = (&'a str, &'a [u8], &'a [u8]);
 
 const TWO_CHUNKS: [Printing<'static>; 2] = [
-    (GET, b"", HEAD),
+    (GET, b"", HEAD_OF_TWO_CHUNKS),
     (
         "1000 run",
         b"open 1 :https://example.com/\nread 1 0 262145\nflush\n",

@@ -1,9 +1,9 @@
 //! Every verb over disks that make their answers up.
 
-use super::dump::ONE;
 use super::*;
 use disk_model::LiarDisk;
 use entry_file::{EntryRead, read_meta};
+use entry_name::name_of;
 use std::test::Fail;
 
 const EVERY_COMMAND: &[u8] =
@@ -24,7 +24,7 @@ const VERBS: [(&str, &[u8]); 12] = [
     ("1000 rebuild", b""),
     ("1000 fill 1 1", b""),
     ("1000 dump", b""),
-    ("1000 load", ONE),
+    ("1000 load", DUMPED),
 ];
 
 // At the limits of what is read: no tail, a tail, a block, and what a number holds.
