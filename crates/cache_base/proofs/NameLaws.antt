@@ -11,14 +11,14 @@ use Rattle.std.proofs.lemmas.Cmp.{nat_list_cmp_total, on_total}
 use Rattle.std.proofs.lemmas.List.Folds.{list_any_at, list_any_none}
 use Rattle.std.proofs.lemmas.List.Sorted.{searchable_from_sorted}
 use Rattle.std.proofs.lemmas.Map.Keys.{Less-from_sorted}
-use Rattle.cache_base.specs.Names.{AreRising, has_name, name_cmp}
+use Rattle.cache_base.specs.Names.{AreSorted, has_name, name_cmp}
 use Rattle.cache_base.specs.declared.name.Name.{Name}
 
 pub name_cmp_total : IsTotalOrder name_cmp
 name_cmp_total = on_total (λ (n : Name). n.0) nat_list_cmp_total
 
 -- names that rise are sorted
-pub rising_sorted : (names : List Name) → AreRising names → IsSorted name_cmp names
+pub rising_sorted : (names : List Name) → AreSorted names → IsSorted name_cmp names
 rising_sorted names rising k d low within =
     let less = Less-from_sorted name_cmp names k (k + 1) d rising (omega arith) (omega (arith, within)) in
     ap is_lt (name_cmp_total.antisymm (get_or names (k + 1) d) (get_or names k d) ∙ ap ordering_reverse less)

@@ -12,8 +12,8 @@ abbrev pub name_cmp : Name → Name → Ordering
 name_cmp a b = slice_cmp nat_cmp a.0 b.0
 
 -- each name is below those after it
-abbrev pub AreRising : List Name → Type 0
-AreRising names = IsStrictlySortedBy name_cmp names
+abbrev pub AreSorted : List Name → Type 0
+AreSorted names = IsStrictlySortedBy name_cmp names
 
 -- whether a name is in a list
 abbrev pub has_name : List Name → Name → Bool

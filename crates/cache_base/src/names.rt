@@ -3,7 +3,7 @@
 ghost use Rattle.std.specs.BTreeSet.{contains};
 ghost use Rattle.std.specs.List.Sorted.{IsSorted};
 ghost use Rattle.std.specs.Prelude.{◌≡◌, IfOk};
-ghost use Rattle.cache_base.specs.Names.{AreRising, has_name as has_name_of, name_cmp};
+ghost use Rattle.cache_base.specs.Names.{AreSorted, has_name as has_name_of, name_cmp};
 ghost use Rattle.cache_base.specs.declared.name.Name.{Name as AName};
 
 use crate::{Name, Names, NoMemory};
@@ -14,7 +14,7 @@ use std::collections::BTreeSet;
 pub fn name_set(alloc: Global, names: &[Name]) -> Result<BTreeSet<Name>, NoMemory>
     ensures has { IfOk result (λ set. (q : AName) →
         contains name_cmp set q ≡ has_name_of names.now q) }
-    ensures rising { IfOk result (λ set. AreRising set.keys) }
+    ensures sorted { IfOk result (λ set. AreSorted set.keys) }
 {
     Ok(names.iter().copied().collect::<BTreeSet<Name>>(alloc)?)
 }
@@ -22,7 +22,7 @@ pub fn name_set(alloc: Global, names: &[Name]) -> Result<BTreeSet<Name>, NoMemor
 /// The names of a set, in name order.
 pub fn listed(alloc: Global, mut set: BTreeSet<Name>) -> Result<Names, NoMemory>
     ensures names { IfOk result (λ names. names ≡ set.keys) }
-    ensures rising { IfOk result AreRising }
+    ensures sorted { IfOk result AreSorted }
 {
     let mut names = Names::with_room(alloc, set.len())?;
     while let Some(name) = set.pop_first() {

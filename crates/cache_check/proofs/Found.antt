@@ -1,7 +1,7 @@
 -- What was found by the names that the disk listed, for any table of the files.
 use Rattle.std.proofs.Common.{◌≡◌, ◌+◌, ◌-◌, ◌^◌, ℕ, List, ap, subst, sym, ◌∙◌, arith}
 use Rattle.std.specs.Prelude.{Err, IfOk, Ok, Result, min}
-use Rattle.cache_base.specs.Names.{AreRising}
+use Rattle.cache_base.specs.Names.{AreSorted}
 use Rattle.cache_base.specs.declared.name.Name.{Name}
 use Rattle.cache_check.specs.Findings.{AreFindings, IsTableOf, findings}
 use Rattle.cache_check.specs.Table.{Table}
@@ -20,10 +20,10 @@ use Rattle.cache_check.proofs.Tables.{entries_stand, is_table_of, only_one_table
 pub record Listed (s t : State) (names es : List Name) : Type 0 where
   pub state : t ≡ s
   pub same : es ≡ names
-  pub rising : AreRising names
+  pub rising : AreSorted names
   pub entries : AreEntries s names
 
-pub listed_by : (s t : State) (names es : List Name) → t ≡ s → es ≡ names → AreRising names → AreEntries s names → Listed s t names es
+pub listed_by : (s t : State) (names es : List Name) → t ≡ s → es ≡ names → AreSorted names → AreEntries s names → Listed s t names es
 listed_by s t names es state same rising entries = record { state = state; same = same; rising = rising; entries = entries }
 
 -- a file stands under each of them

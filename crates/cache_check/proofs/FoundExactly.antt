@@ -13,7 +13,7 @@ use Rattle.std.proofs.lemmas.Bool.{not-true, or_cases}
 use Rattle.std.proofs.lemmas.Bool.Decides.{Decides-eqb}
 use Rattle.std.proofs.lemmas.Map.Text.{is_eq-slice_cmp}
 use Rattle.std.proofs.lemmas.Slice.Eq.{bytes_eq-Decides}
-use Rattle.cache_base.specs.Names.{AreRising, has_name, name_cmp}
+use Rattle.cache_base.specs.Names.{AreSorted, has_name, name_cmp}
 use Rattle.cache_base.specs.declared.name.Name.{Name}
 use Rattle.cache_check.specs.Findings.{file_findings, findings, findings_at, names_alone, names_of_both, record_findings, with_names}
 use Rattle.cache_check.specs.Laws.{FindingsAreExact, ListedNamesRise, RightRecordsAreSilent}
@@ -220,7 +220,7 @@ names_above m (e ∷ es) t =
     let two = both_true (is_lt (bytes_cmp m.0 e.0)) (below_all bytes_cmp m.0 es) t in
     (less (bytes_cmp m.0 e.0) two.0, names_above m es two.1)
 
-names_rise : {X : Type 0} (es : Table X) → T (is_sorted bytes_cmp es) → AreRising (map name_of (keys es))
+names_rise : {X : Type 0} (es : Table X) → T (is_sorted bytes_cmp es) → AreSorted (map name_of (keys es))
 unfolding IsStrictlySortedBy
 names_rise [] t = tt
 names_rise (e ∷ es) t =

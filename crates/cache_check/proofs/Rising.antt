@@ -1,7 +1,7 @@
 -- What is found by records that are sorted.
 use Rattle.std.proofs.Common.{◌≡◌, List, refl, ap, subst, ◌∙◌}
 use Rattle.std.specs.Prelude.{Err, IfOk, Ok, Result}
-use Rattle.cache_base.specs.Names.{AreRising}
+use Rattle.cache_base.specs.Names.{AreSorted}
 use Rattle.cache_base.specs.declared.name.Name.{Name}
 use Rattle.cache_check.specs.Checks.{table_of}
 use Rattle.cache_check.specs.Findings.{findings}
@@ -16,7 +16,7 @@ use Rattle.record_list.proofs.SortedLaws.{by_name_keeps}
 use Rattle.record_list.specs.Lists.{HasNames, IsByName}
 
 -- what is found does not hang on the order of the records
-found_sorted : (files : Files) (names writing : List Name) (rs sorted : List IndexRecord) → AreRising names → HasNames rs → IsByName rs sorted
+found_sorted : (files : Files) (names writing : List Name) (rs sorted : List IndexRecord) → AreSorted names → HasNames rs → IsByName rs sorted
     → findings (table_of files names) sorted writing ≡ findings (table_of files names) rs writing
 found_sorted files names writing rs sorted rising distinct by =
     let t = table_of files names in
@@ -33,7 +33,7 @@ pub record Sorts (rs copy sorted qs : List IndexRecord) : Type 0 where
 
 -- what was found by it is what is found by the records
 pub found_in_order : (Tells : Type 0) (files : Files) (names writing : List Name) (rs copy sorted qs : List IndexRecord) (r : Result (List Finding) DiskFault)
-    → AreRising names → Sorts rs copy sorted qs
+    → AreSorted names → Sorts rs copy sorted qs
     → IfOk r (λ list. Tells → list ≡ findings (table_of files names) qs writing)
     → IfOk r (λ list. Tells → list ≡ findings (table_of files names) rs writing)
 found_in_order Tells files names writing rs copy sorted qs (Err fault) rising sorts found = tt

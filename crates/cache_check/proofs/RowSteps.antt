@@ -7,7 +7,7 @@ use Rattle.std.specs.List.{AllByRecursion}
 use Rattle.std.specs.Prelude.{IfSome, IsSome, is_some, unwrap_or}
 use Rattle.std.specs.declared.cmp.Ordering.{Ordering}
 use Rattle.std.specs.declared.cmp.Ordering.TheVariants.{Less, Equal, Greater}
-use Rattle.cache_base.specs.Names.{AreRising, has_name, name_cmp}
+use Rattle.cache_base.specs.Names.{AreSorted, has_name, name_cmp}
 use Rattle.cache_base.specs.declared.name.Name.{Name}
 use Rattle.cache_check.specs.Findings.{findings, findings_of}
 use Rattle.cache_check.specs.Table.{name_of}
@@ -16,7 +16,7 @@ use Rattle.disk_theory.specs.Image.{Files}
 use Rattle.disk_theory.specs.declared.place.Place.TheVariants.{Entry}
 use Rattle.index_record.specs.declared.record.IndexRecord.{IndexRecord}
 use Rattle.record_list.proofs.NameLaws.{above_below}
-use Rattle.record_list.specs.Lists.{AreRising as AreByName, names_of}
+use Rattle.record_list.specs.Lists.{AreSorted as AreByName, names_of}
 use Rattle.cache_check.specs.Checks.{looks_at, looks_over, named, table_of}
 use Rattle.cache_check.specs.Rows.{first_row, of_file, of_record, without_first, turn_findings, turn_looks}
 use Rattle.cache_check.specs.declared.rows.Row.{Row}
@@ -28,7 +28,7 @@ Stand files names = AllByRecursion (λ (n : Name). IsSome (files (Entry n))) nam
 
 -- the lists that are left after a row rise, and are shorter
 pub record LeavesRows (names : List Name) (rs : List IndexRecord) (row : Row) : Type 0 where
-  pub rising : AreRising (without_first names row.filed)
+  pub rising : AreSorted (without_first names row.filed)
   pub by_name : AreByName (without_first rs (is_some row.known))
   pub fewer : length (without_first names row.filed) + length (without_first rs (is_some row.known)) < length names + length rs
 
@@ -40,21 +40,21 @@ pub record AddsRow (files : Files) (writing : List Name) (names : List Name) (rs
       ≡ turn_looks files (has_name writing row.name) row + looks_over (table_of files (without_first names row.filed)) writing
   pub stand : Stand files (without_first names row.filed)
 
-leaves_either : (n : Name) (names : List Name) (r : IndexRecord) (rs : List IndexRecord) → AreRising (n ∷ names) → AreByName (r ∷ rs) → (o : Ordering)
+leaves_either : (n : Name) (names : List Name) (r : IndexRecord) (rs : List IndexRecord) → AreSorted (n ∷ names) → AreByName (r ∷ rs) → (o : Ordering)
     → LeavesRows (n ∷ names) (r ∷ rs) (by_order o (of_file n None) (of_file n (Some r)) (of_record r))
 unfolding IsStrictlySortedBy
 leaves_either n names r rs h b Less = record { rising = h.1; by_name = b; fewer = omega arith }
 leaves_either n names r rs h b Equal = record { rising = h.1; by_name = b.1; fewer = omega arith }
 leaves_either n names r rs h b Greater = record { rising = h; by_name = b.1; fewer = omega arith }
 
-leaves_some : (names : List Name) (rs : List IndexRecord) → AreRising names → AreByName rs → IfSome (first_row names rs) (λ row. LeavesRows names rs row)
+leaves_some : (names : List Name) (rs : List IndexRecord) → AreSorted names → AreByName rs → IfSome (first_row names rs) (λ row. LeavesRows names rs row)
 unfolding IsStrictlySortedBy
 leaves_some [] [] h b = tt
 leaves_some (n ∷ names) [] h b = record { rising = h.1; by_name = b; fewer = omega arith }
 leaves_some [] (r ∷ rs) h b = record { rising = h; by_name = b.1; fewer = omega arith }
 leaves_some (n ∷ names) (r ∷ rs) h b = leaves_either n names r rs h b (name_cmp n r.name)
 
-pub leaves : (names : List Name) (rs : List IndexRecord) (row : Row) → AreRising names → AreByName rs → Some row ≡ first_row names rs → LeavesRows names rs row
+pub leaves : (names : List Name) (rs : List IndexRecord) (row : Row) → AreSorted names → AreByName rs → Some row ≡ first_row names rs → LeavesRows names rs row
 leaves names rs row h b is = subst (λ (o : Option Row). IfSome o (λ row. LeavesRows names rs row)) (sym is) (leaves_some names rs h b)
 
 -- A content that stands is what a table of it has.
@@ -116,14 +116,14 @@ module _ (files : Files) (writing : List Name) where
       let less = above_below n r.name is in
       adds_record (n ∷ names) r rs (less, still_above r.name n names less h) a s
 
-  adds_some : (names : List Name) (rs : List IndexRecord) → AreRising names → AreByName rs → Stand files names → IfSome (first_row names rs) (λ row. AddsRow files writing names rs row)
+  adds_some : (names : List Name) (rs : List IndexRecord) → AreSorted names → AreByName rs → Stand files names → IfSome (first_row names rs) (λ row. AddsRow files writing names rs row)
   unfolding IsStrictlySortedBy
   adds_some [] [] h b s = tt
   adds_some (n ∷ names) [] h b s = adds_file n names [] h.0 tt s
   adds_some [] (r ∷ rs) h b s = adds_record [] r rs tt b.0 s
   adds_some (n ∷ names) (r ∷ rs) h b s = adds_either n names r rs h.0 b.0 s (name_cmp n r.name) refl
 
-  pub adds : (names : List Name) (rs : List IndexRecord) (row : Row) → AreRising names → AreByName rs → Stand files names → Some row ≡ first_row names rs → AddsRow files writing names rs row
+  pub adds : (names : List Name) (rs : List IndexRecord) (row : Row) → AreSorted names → AreByName rs → Stand files names → Some row ≡ first_row names rs → AddsRow files writing names rs row
   adds names rs row h b s is = subst (λ (o : Option Row). IfSome o (λ row. AddsRow files writing names rs row)) (sym is) (adds_some names rs h b s)
 
 -- where there is no row, nothing is left

@@ -9,7 +9,7 @@ use Rattle.std.specs.List.Sorted.{IsStrictlySortedBy}
 use Rattle.std.specs.List.{AllByRecursion, Contains}
 use Rattle.std.specs.Ordering.{is_eq, is_lt}
 use Rattle.std.specs.Prelude.{IsSome, unwrap_or}
-use Rattle.cache_base.specs.Names.{AreRising, has_name, name_cmp}
+use Rattle.cache_base.specs.Names.{AreSorted, has_name, name_cmp}
 use Rattle.cache_base.specs.declared.name.Name.{Name}
 use Rattle.cache_base.proofs.NameLaws.{name_cmp_total}
 use Rattle.cache_check.proofs.TableLaws.{same_table}
@@ -42,7 +42,7 @@ below_each : (k : Name) (t : Table (List ℕ)) → Under k t → T (below_all by
 below_each k [] h = tt
 below_each k (e ∷ es) h = both (is_lt (bytes_cmp k.0 e.0)) (below_all bytes_cmp k.0 es) (subst (λ o. T (is_lt o)) (sym h.0) tt) (below_each k es h.1)
 
-pub table_rises : (files : Files) (names : List Name) → AreRising names → T (is_sorted bytes_cmp (table_of files names))
+pub table_rises : (files : Files) (names : List Name) → AreSorted names → T (is_sorted bytes_cmp (table_of files names))
 unfolding IsStrictlySortedBy
 table_rises files [] h = tt
 table_rises files (n ∷ names) h =
@@ -61,7 +61,7 @@ get_table files (n ∷ names) q s = go (is_eq (name_cmp q n)) refl (get_table fi
     go true e more = own (files (Entry n)) s.0 ∙ ap (λ m. files (Entry m)) (tied_is q n e)
     go false e more = more
 
-module _ (s : State) (names : List Name) (rising : AreRising names) (entries : AreEntries s names) where
+module _ (s : State) (names : List Name) (rising : AreSorted names) (entries : AreEntries s names) where
   stands_there : (q : Name) → standing s (Entry q) ≡ cond (has_name names q) (standing s (Entry q)) None
   stands_there q = go (has_name names q) (standing s (Entry q)) refl refl
     where

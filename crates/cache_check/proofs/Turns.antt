@@ -1,13 +1,13 @@
 -- A turn: the first row is checked, and both lists are left without it.
 use Rattle.std.proofs.Common.{◌≡◌, ◌++◌, ◌<◌, ◌+◌, List, Bool, length, Some, sym, ap, subst, ◌∙◌, append_assoc, arith}
 use Rattle.std.specs.Prelude.{is_some}
-use Rattle.cache_base.specs.Names.{AreRising, has_name}
+use Rattle.cache_base.specs.Names.{AreSorted, has_name}
 use Rattle.cache_base.specs.declared.name.Name.{Name}
 use Rattle.cache_check.specs.Findings.{findings}
 use Rattle.cache_check.specs.declared.finding.Finding.{Finding}
 use Rattle.disk_theory.specs.State.{State, standing}
 use Rattle.index_record.specs.declared.record.IndexRecord.{IndexRecord}
-use Rattle.record_list.specs.Lists.{AreRising as AreByName}
+use Rattle.record_list.specs.Lists.{AreSorted as AreByName}
 use Rattle.cache_check.specs.Checks.{looks_over, table_of}
 use Rattle.cache_check.specs.Rows.{first_row, without_first, turn_findings, turn_looks}
 use Rattle.cache_check.specs.declared.rows.Row.{Row}
@@ -19,9 +19,9 @@ pub record Turns (names : List Name) (rs : List IndexRecord) (row : Row) (more :
   pub names_left : more ≡ without_first names row.filed
   pub records_left : ss ≡ without_first rs (is_some row.known)
 
-module _ (names : List Name) (rs : List IndexRecord) (row : Row) (more : List Name) (ss : List IndexRecord) (turns : Turns names rs row more ss) (rising : AreRising names) (by_name : AreByName rs) where
-  pub still_rising : AreRising more
-  still_rising = subst (λ (ns : List Name). AreRising ns) (sym turns.names_left) (leaves names rs row rising by_name turns.first).rising
+module _ (names : List Name) (rs : List IndexRecord) (row : Row) (more : List Name) (ss : List IndexRecord) (turns : Turns names rs row more ss) (rising : AreSorted names) (by_name : AreByName rs) where
+  pub still_rising : AreSorted more
+  still_rising = subst (λ (ns : List Name). AreSorted ns) (sym turns.names_left) (leaves names rs row rising by_name turns.first).rising
 
   pub still_by_name : AreByName ss
   still_by_name = subst (λ (qs : List IndexRecord). AreByName qs) (sym turns.records_left) (leaves names rs row rising by_name turns.first).by_name

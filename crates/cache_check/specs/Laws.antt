@@ -1,6 +1,6 @@
 -- What follows from the definition of findings.
 use Rattle.std.specs.Prelude.{Any, List, false, ℕ, ◌↔◌, ◌≡◌}
-use Rattle.cache_base.specs.Names.{AreRising, has_name}
+use Rattle.cache_base.specs.Names.{AreSorted, has_name}
 use Rattle.cache_base.specs.declared.name.Name.{Name}
 use Rattle.cache_check.specs.Findings.{IsTableOf, file_findings, findings, findings_at, names_of_both}
 use Rattle.cache_check.specs.Table.{IsTable, Table, get}
@@ -35,7 +35,7 @@ FindingsAreExact = (files : Table (List ℕ)) (records : List IndexRecord) (writ
 -- and findings are listed by rising names: those of a table rise
 abbrev pub ListedNamesRise : Type 0
 ListedNamesRise = (files : Table (List ℕ)) (records : List IndexRecord) → IsTable files
-    → AreRising (names_of_both files records)
+    → AreSorted (names_of_both files records)
 
 -- under a name whose record is that of its file only the file is looked at
 abbrev pub RightRecordsAreSilent : Type 0

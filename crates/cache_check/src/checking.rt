@@ -2,13 +2,13 @@
 
 ghost use Rattle.std.specs.BTreeSet.{contains as contains_of};
 ghost use Rattle.std.specs.Prelude.{◌≡◌, ◌++◌, IfOk, OnOk, IsTrue};
-ghost use Rattle.cache_base.specs.Names.{AreRising, name_cmp};
+ghost use Rattle.cache_base.specs.Names.{AreSorted, name_cmp};
 ghost use Rattle.cache_check.specs.Findings.{AreFindings, findings as findings_in};
 ghost use Rattle.disk_theory.specs.Account.{Looks, ending};
 ghost use Rattle.disk_theory.specs.State.{standing};
 ghost use Rattle.entry_file.specs.Looks.{LooksAtMost};
 ghost use Rattle.index_theory.specs.Ever.{entries_on};
-ghost use Rattle.record_list.specs.Lists.{AreRising as AreByName, HasNames};
+ghost use Rattle.record_list.specs.Lists.{AreSorted as AreByName, HasNames};
 ghost use Rattle.cache_check.specs.Checks as spec;
 ghost use Rattle.cache_check.specs.Rows as rows;
 
@@ -78,7 +78,7 @@ fn check_all<D: Disk>(
     records: &[IndexRecord],
     writing: &[Name],
 ) -> Result<FindingList, DiskFault>
-    requires rising { AreRising names.now }
+    requires sorted { AreSorted names.now }
     requires by_name { AreByName records.now }
     requires told { IsTrue D.tells → spec.AllStand (D.state disk.old) names.now }
     ensures findings { IfOk result (λ list. IsTrue D.tells →

@@ -29,6 +29,6 @@ pub fn findings_agree()
 /// its file only the file may be wrong.
 pub fn findings_are_exact()
     ensures exact { FindingsAreExact }
-    ensures rising { ListedNamesRise }
+    ensures sorted { ListedNamesRise }
     ensures silent { RightRecordsAreSilent }
 {}

@@ -1,7 +1,7 @@
 -- What a command may newly leave at `clear`, the place of the mark of a clearing, and in which order a clearing makes
 -- its changes.
 use Rattle.std.specs.Prelude.{List, None, Option, Some, ℕ, ⊤, ◌≡◌}
-use Rattle.cache_base.specs.Names.{AreRising}
+use Rattle.cache_base.specs.Names.{AreSorted}
 use Rattle.cache_base.specs.declared.limits.TheConstants.{SLOTS}
 use Rattle.cache_base.specs.declared.name.Name.{Name}
 use Rattle.cache_theory.specs.Command.{Command}
@@ -52,4 +52,4 @@ pub data ClearsPart (origin : ℕ) (names : List Name) (s t : State) : Type 0 wh
 
 -- so it is for some names in rising order
 abbrev pub ClearsInOrder : ℕ → State → State → Type 0
-ClearsInOrder origin s t = (names : List Name) × (AreRising names × ClearsPart origin names s t)
+ClearsInOrder origin s t = (names : List Name) × (AreSorted names × ClearsPart origin names s t)

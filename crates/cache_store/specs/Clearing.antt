@@ -1,7 +1,7 @@
 -- How the entries of an origin are cleared by the records in memory.
 use Rattle.std.specs.List.{AllByRecursion, IsDistinct}
 use Rattle.std.specs.Prelude.{Bool, IfOk, IsSome, IsTrue, List, None, OnOk, Option, Result, Some, false, length, not, ℕ, ⊤, ◌==◌, ◌||◌, ◌≡◌}
-use Rattle.cache_base.specs.Names.{AreRising, has_name}
+use Rattle.cache_base.specs.Names.{AreSorted, has_name}
 use Rattle.cache_base.specs.declared.name.Name.{Name}
 use Rattle.cache_store.specs.Evicting.{AreOthers, has_file}
 use Rattle.cache_store.specs.Open.{KeepsWhere, Represents, Tells}
@@ -42,7 +42,7 @@ pub record AreCleared (map : Known) (k : Kept) (origin : ℕ) (names : List Name
   pub records : List IndexRecord
   pub known : IsKnown map
   pub by_name : IsByName map.records records
-  pub rising : AreRising names
+  pub rising : AreSorted names
   pub chosen : (m : Machine) (number : ℕ → ℕ) → IsProper m → HandlesStand k m number
       → names ≡ covered_by records m origin
 

@@ -1,5 +1,5 @@
--- What a call promises of the command that it performs, in parts. In each of them `c` is the command and `answer` what
--- it came to; `old` and `new` are the store before it and after it, `before` and `now` the disk, `from` and `to` the
+-- What a call promises of the command that it performs, in parts. In each of them `c` is the command and `answer`
+-- its result; `old` and `new` are the store before it and after it, `before` and `now` the disk, `from` and `to` the
 -- sink.
 use Rattle.std.specs.Prelude.{Err, IfOk, IfSome, IsSome, IsTrue, List, None, Ok, OnErr, OnOk, Result, [], true, ℕ, ◌≡◌, ◌≢◌}
 use Rattle.cache_io.specs.declared.sink.Sink.{Ghosts as OfSink}
@@ -51,7 +51,7 @@ pub record HoldsAtExit {A B : _} {T : Type 0} (D : OfDisk A) (K : OfSink B) (c :
   -- each image of the disk is honest
   pub honest : IsTrue D.tells → LeavesHonest (D.state now)
   -- wherever a clearing stops, a crash leaves nothing of it, or its mark, or all of it; it goes mark, entries, removal;
-  -- and nothing else comes to stand at `clear`
+  -- and nothing else stands at `clear` then
   pub stopped : IfSome (origin_cleared c (standing (D.state before) Clear)) (λ origin.
       IsTrue D.tells → ClearsUnderMark origin (session D old before) (D.state now))
   pub ordered : IfSome (origin_cleared c (standing (D.state before) Clear)) (λ origin.
@@ -61,7 +61,7 @@ pub record HoldsAtExit {A B : _} {T : Type 0} (D : OfDisk A) (K : OfSink B) (c :
   pub takes : IsEviction c → Told D TakesEntries before now
   pub unsynced : NeverSyncs (open_of old).handles c → Told D SyncsNothing before now
   pub syncs : SyncsAtMost D (syncs_of (open_of old).handles c) before now
-  -- a command that goes by the index looks at an entry for no name but those that it reads
+  -- a command that uses the index looks at an entry for no name but those that it reads
   pub looks : IfSome (names_read c (mark_of (standing (D.state before) Clear)) (open_of old).index.update)
       (λ names. ReadsEntriesOf D names before now)
   -- a `read` makes no call of the disk where all its chunks are held, nor does the dooming of an entry that is not

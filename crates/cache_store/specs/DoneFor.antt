@@ -40,7 +40,7 @@ AreOfShelf right m records = right → records ≡ scan m.shelf
 abbrev pub IsOfShelf : (right : Type 0) → Machine → List ℕ → Bool → Type 0
 IsOfShelf right m key there = right → step m (HasGiven key there) ≡ step m (HasEntry key)
 
--- what is done for the command goes by such records and such an answer
+-- what is done for the command follows from such records and such an answer
 abbrev pub IsDoneFor : (right : Type 0) → Command → Machine → Command → Type 0
 IsDoneFor right c m done = IsDoneBy (AreOfShelf right m) (IsOfShelf right m) c m done
 

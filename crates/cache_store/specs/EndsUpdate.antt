@@ -1,4 +1,4 @@
--- What ending the update comes to, and the sum of the sizes of all entries.
+-- What ending the update does, and the sum of the sizes of all entries.
 use Rattle.std.specs.Prelude.{OnOk, Result, ℕ, ◌≡◌}
 use Rattle.cache_store.specs.Open.{KeepsTo, Represents, Tells}
 use Rattle.cache_store.specs.Session.{Session}

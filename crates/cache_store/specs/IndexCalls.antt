@@ -22,7 +22,7 @@ abbrev pub names_resumed : Option ℕ → List Name → ℕ
 names_resumed None rest = 0
 names_resumed (Some origin) rest = length rest
 
--- the names whose files the command reads, where it goes by the index, by the mark that stands and the names that the
+-- the names whose files the command reads, where it uses the index, by the mark that stands and the names that the
 -- update has still to read
 abbrev pub names_read : Command → Option ℕ → List Name → Option ℕ
 names_read (At now) mark rest = Some 0

@@ -1,6 +1,6 @@
 -- What a store that is open stands for, and what opening and closing it promise.
 use Rattle.std.specs.Prelude.{Bool, List, OnOk, Result, [], false, ℕ, ◌≡◌, ◌≢◌}
-use Rattle.cache_base.specs.Names.{AreRising}
+use Rattle.cache_base.specs.Names.{AreSorted}
 use Rattle.cache_base.specs.declared.name.Name.{Name}
 use Rattle.cache_store.specs.Faults.{ending}
 use Rattle.cache_store.specs.Kept.{Matches}
@@ -68,7 +68,7 @@ HasShelf s = (shelf : Table (List ℕ)) × IsShelf s shelf
 pub record IsRest (s : State) (rest : List Name) : Type 0 where
   pub ready : start_of (standing s) ≡ Ready → rest ≡ []
   pub unready : start_of (standing s) ≢ Ready → AreEntries s rest
-  pub rising : AreRising rest
+  pub rising : AreSorted rest
 
 -- the machine at an opening on what stands
 pub record StartsOn (now : ℕ) (s : State) (m : Machine) : Type 0 where

@@ -1,4 +1,4 @@
--- How a command is answered: by what it came to, or by the line that tells of a failed look at the disk.
+-- How a command is answered: by its result, or by the line that tells of a failed look at the disk.
 use Rattle.std.specs.Io.KnownBytes.{Appends}
 use Rattle.std.specs.Prelude.{Err, IfOk, IsTrue, List, Ok, OnErr, OnOk, Option, Result, ℕ, ◌≡◌, ◌≢◌}
 use Rattle.cache_store.specs.Faulting.{StaysAs}
@@ -16,7 +16,7 @@ use Rattle.disk_theory.specs.Account.{Ending, Looks}
 use Rattle.disk_theory.specs.declared.disk.Disk.{Ghosts}
 use Rattle.index_map.specs.Known.{SameBase}
 
--- what a command came to that was performed
+-- the result of a command that was performed
 abbrev pub verdict_of : Outcome → Verdict
 verdict_of outcome.Ok = verdict.Ok
 verdict_of outcome.Refused = verdict.Refused

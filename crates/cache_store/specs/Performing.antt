@@ -22,7 +22,7 @@ use Rattle.cache_theory.specs.Text.{reply_text}
 use Rattle.index_record.specs.declared.record.IndexRecord.{IndexRecord}
 use Rattle.index_theory.specs.Ever.{entries_on}
 
--- the reply goes by the records in memory
+-- the reply follows from the records in memory
 abbrev pub goes_by_records : Command → Bool
 goes_by_records (HasEntry key) = true
 goes_by_records ListRecords = true
@@ -36,7 +36,7 @@ goes_by_records _ = false
 abbrev pub ComesToTell : Command → Session → Machine → Type 0
 ComesToTell c now m = Tells now m ⊎ (c ≡ Rebuild)
 
--- an eviction, a clearing, a check or a list goes by these records: those in memory once the update has ended, which
+-- an eviction, a clearing, a check or a list uses these records: those in memory once the update has ended, which
 -- are those of all entries where they were right
 pub record GoesBy (before : Session) (m : Machine) (records : List IndexRecord) : Type 0 where
   pub in_memory : AreAtEnd (entries_on before.disk) before.open_store.index records
@@ -56,7 +56,7 @@ abbrev pub HadEffect : {T : Type 0} → Result T StoreFault → Type 0
 HadEffect (Ok outcome) = ⊤
 HadEffect (Err f) = f ≡ fault.Sink
 
--- for a machine: what the whole command comes to
+-- for a machine: the result of the whole command
 pub record Performs (c : Command) (m : Machine) (answer : Result Verdict StoreFault)
     (before after : Session) (taken now : Option (List ℕ)) : Type 0 where
   -- with an answer the reply is out, it is the machine's, and the store stands for the machine's next state

@@ -20,7 +20,7 @@ use Rattle.index_update.specs.Reads.{ReadsIn}
 use Rattle.index_update.specs.Rest.{name_bytes, without}
 use Rattle.index_update.specs.Slices.{ReadsSlice}
 use Rattle.index_update.specs.Tells.{TellsAll, TellsSeen}
-use Rattle.record_list.specs.Lists.{AreRising, record_at}
+use Rattle.record_list.specs.Lists.{AreSorted, record_at}
 
 -- the record that was seen of each name outside the rest is that of the entry, and none where no entry fits; once the
 -- update has ended so is each record
@@ -80,7 +80,7 @@ pub record EndsWith (es : Entries) (index : MemoryIndex) (records : List IndexRe
 
 -- just those, in name order
 pub record AreAtEnd (es : Entries) (index : MemoryIndex) (records : List IndexRecord) : Type 0 where
-  pub rising : AreRising records
+  pub rising : AreSorted records
   pub same : EndsWith es index records
 
 -- so there is one such list

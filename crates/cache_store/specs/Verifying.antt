@@ -1,4 +1,4 @@
--- What a check of all entries goes by.
+-- What a check of all entries uses.
 use Rattle.std.specs.Io.KnownBytes.{Appends}
 use Rattle.std.specs.Prelude.{List, Option, ℕ, ◌≡◌}
 use Rattle.cache_check.specs.Findings.{findings}

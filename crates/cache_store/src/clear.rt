@@ -1,8 +1,8 @@
 //! Clears the entries of an origin, so that no crash brings one of them back.
 
 ghost use Rattle.std.specs.BTreeSet.{contains};
-ghost use Rattle.std.specs.Prelude.{◌≡◌, ◌≢◌, ◌||◌, Err, Some, false, true, IfOk, IsTrue, Ok, OnErr, OnOk, filter, length, map};
-ghost use Rattle.cache_base.specs.Names.{AreRising, has_name as has_name_of, name_cmp};
+ghost use Rattle.std.specs.Prelude.{◌≡◌, ◌≢◌, ◌||◌, Err, Some, false, true, IfOk, IsTrue, Ok, OnOk, filter, length, map};
+ghost use Rattle.cache_base.specs.Names.{AreSorted, has_name as has_name_of, name_cmp};
 ghost use Rattle.cache_base.specs.declared.name.Name.{Name as AName};
 ghost use Rattle.cache_store.specs.Answering.{SaysNothing};
 ghost use Rattle.cache_store.specs.AtClear.{ClearsAt, ClearsInOrder};
@@ -16,7 +16,7 @@ ghost use Rattle.cache_store.specs.Syncs.{clearing_syncs};
 ghost use Rattle.cache_theory.specs.Command.Command.{ClearOrigin};
 ghost use Rattle.cache_theory.specs.Covers.{joined_names};
 ghost use Rattle.context_clear.specs.Covered.{covers_record};
-ghost use Rattle.disk_theory.specs.Account.{Accounts, Ending, FailsInChange, Looks, LooksAtNoEntry, ending as disk_ending, no_sync};
+ghost use Rattle.disk_theory.specs.Account.{Accounts, Ending, FailsInChange, Looks, LooksAtNoEntry, OnlyChanges, ending as disk_ending, no_sync};
 ghost use Rattle.disk_theory.specs.Sound.{IsQuiet};
 ghost use Rattle.disk_theory.specs.Told.{Told};
 ghost use Rattle.entry_key.specs.Tags.{value_hash};
@@ -72,7 +72,7 @@ fn add_all(set: &mut BTreeSet<Name>, names: &[Name]) -> Result<(), NoMemory>
 fn joined(alloc: Global, first: &[Name], second: &[Name]) -> Result<Names, NoMemory>
     ensures names { IfOk result (λ names. names
         ≡ joined_names (map (λ n. n.0) first.now) (map (λ n. n.0) second.now)) }
-    ensures rising { IfOk result AreRising }
+    ensures sorted { IfOk result AreSorted }
 {
     let mut set = name_set(alloc, first)?;
     add_all(&mut set, second)?;
@@ -81,7 +81,7 @@ fn joined(alloc: Global, first: &[Name], second: &[Name]) -> Result<Names, NoMem
 
 // Whether an entry in use has the name, or it is among rising ones.
 fn is_held(handles: &Handles, rising: &[Name], name: &Name) -> bool
-    requires { AreRising rising.now }
+    requires { AreSorted rising.now }
     ensures { result ≡ is_user_or_among (kept handles.now) rising.now name.now }
 {
     handles.users(name) != 0 || has_name(rising, name)
@@ -94,7 +94,7 @@ fn held_among(
     names: &[Name],
     rising: &[Name],
 ) -> Result<Names, NoMemory>
-    requires { AreRising rising.now }
+    requires { AreSorted rising.now }
     ensures { IfOk result (λ list. list
         ≡ filter (is_user_or_among (kept handles.now) rising.now) names.now) }
 {
@@ -146,9 +146,7 @@ fn doom_names<D: Disk>(handles: &mut Handles, disk: &mut D, names: &[Name]) -> R
     ensures mark { OnOk result (Told D.Disk LeavesMark disk.old disk.new) }
     ensures takes { Told D.Disk (TakesInOrder names.now) disk.old disk.new }
     ensures index { Told D.Disk LeavesBeside disk.old disk.new }
-    ensures account { Accounts D.Disk (disk_ending result) no_sync disk.old disk.new }
-    ensures change { FailsInChange D.Disk (disk_ending result) disk.new }
-    ensures no_entry { LooksAtNoEntry D.Disk disk.old disk.new }
+    ensures disk { OnlyChanges D.Disk (disk_ending result) no_sync disk.old disk.new }
 {
     for name in names {
         match handles.doom_name(disk, name) {
@@ -178,7 +176,7 @@ impl Store {
     /// Ends the update, and dooms the entries of the origin with this hash that are not pinned, those in use and
     /// those that have a record; tells how many names they had. The names are gathered and the folder is listed
     /// before anything is changed. From before the first entry goes until all are gone and synced the mark of the
-    /// origin stands on the disk. They go by rising names.
+    /// origin stands on the disk. They go in the order of their names.
     pub(crate) fn clear_origin<D: Disk>(
         &mut self,
         alloc: Global,

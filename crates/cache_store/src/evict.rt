@@ -1,7 +1,7 @@
 //! Evicts entries, so that all take at most so many KB.
 
 ghost use Rattle.std.specs.Prelude.{◌≡◌, [], Err, false, true, IfOk, IsTrue, filter, length};
-ghost use Rattle.cache_base.specs.Names.{AreRising, has_name as has_name_of};
+ghost use Rattle.cache_base.specs.Names.{AreSorted, has_name as has_name_of};
 ghost use Rattle.cache_store.specs.Answering.{IsStillToSay};
 ghost use Rattle.cache_store.specs.Evicting.{ArePicked, AreUnused, AreVictims, DoomsAll, HoldsFiles, LeavesOthers, LooksBeforeChanges, has_file};
 ghost use Rattle.cache_store.specs.Faults.{AccountsForSink, ending};
@@ -34,7 +34,7 @@ use std::alloc::Global;
 
 // Those of the names that are among rising ones, in their order.
 fn common(alloc: Global, names: &[Name], rising: &[Name]) -> Result<Names, NoMemory>
-    requires { AreRising rising.now }
+    requires { AreSorted rising.now }
     ensures { IfOk result (λ list.
         list ≡ filter (has_name_of rising.now) names.now) }
 {

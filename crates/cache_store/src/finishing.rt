@@ -7,7 +7,7 @@ ghost use Rattle.cache_store.specs.Faults.{ending};
 ghost use Rattle.cache_store.specs.Performing.{HadEffect};
 ghost use Rattle.cache_store.specs.Printed.{IsPlainAnswer};
 ghost use Rattle.cache_theory.specs.Command.Command.{FinishAs};
-ghost use Rattle.disk_theory.specs.Account.{Accounts, FailsInChange};
+ghost use Rattle.disk_theory.specs.Account.{OnlyChanges};
 ghost use Rattle.disk_theory.specs.Told.{Told};
 ghost use Rattle.file_handles.specs.HeldChunks.{SameChunks};
 ghost use Rattle.file_handles.specs.Finishing.{finish_syncs};
@@ -48,9 +48,8 @@ impl Store {
             self.old.reply self.new.reply }
         ensures calm { self.new.faulting ≡ self.old.faulting }
         ensures index { Told D.Disk LeavesBeside disk.old disk.new }
-        ensures change { FailsInChange D.Disk (ending result) disk.new }
-        ensures account { let most = finish_syncs (object_in (kept self.old.handles) slot) in
-            Accounts D.Disk (ending result) most disk.old disk.new }
+        ensures disk { let most = finish_syncs (object_in (kept self.old.handles) slot) in
+            OnlyChanges D.Disk (ending result) most disk.old disk.new }
     {
         let elements = elements.copy(alloc)?;
         let answer = self.handles.finish_as(alloc, disk, slot, header, elements);

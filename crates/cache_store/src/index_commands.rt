@@ -1,4 +1,4 @@
-//! Performs the commands that go by the index.
+//! Performs the commands that use the index.
 
 ghost use Rattle.std.specs.Prelude.{◌≡◌, ◌↔◌, [], Err, false, true, IfOk, IsTrue, Ok, OnOk, length, take};
 ghost use Rattle.cache_store.specs.AtClear.{KeepsAtClear};
@@ -13,7 +13,7 @@ ghost use Rattle.cache_theory.specs.Command.Command.{Flush, ListRecords, Rebuild
 ghost use Rattle.cache_store.specs.Records.{EndsWith, StepsUpdate};
 ghost use Rattle.cache_store.specs.Syncs.{writing_syncs};
 ghost use Rattle.index_theory.specs.Ever.{entries_on};
-ghost use Rattle.disk_theory.specs.Account.{Accounts, Ending, FailsInChange, Looks, LooksAtNoEntry, ending as disk_ending, one_sync};
+ghost use Rattle.disk_theory.specs.Account.{Accounts, Ending, FailsInChange, Looks, OnlyChanges, ending as disk_ending, one_sync};
 ghost use Rattle.disk_theory.specs.Sound.{IsQuiet};
 ghost use Rattle.disk_theory.specs.Told.{Told};
 ghost use Rattle.index_theory.specs.Apart.{IsApart};
@@ -57,9 +57,7 @@ fn refresh<D: Disk>(
         OnOk result (Told D.Disk (λ s t. HoldsIndex s was → HoldsIndex t map) disk.old disk.new) }
     ensures entries { Told D.Disk (λ s t. IsApart s → SparesEntries s t) disk.old disk.new }
     ensures unclean { Told D.Disk (λ s t. IsApart s → IsUnclean s → IsUnclean t) disk.old disk.new }
-    ensures account { Accounts D.Disk (disk_ending result) one_sync disk.old disk.new }
-    ensures change { FailsInChange D.Disk (disk_ending result) disk.new }
-    ensures no_entry { LooksAtNoEntry D.Disk disk.old disk.new }
+    ensures disk { OnlyChanges D.Disk (disk_ending result) one_sync disk.old disk.new }
 {
     if index.update.ended() {
         refresh_index(alloc, disk, &mut index.map, now)
@@ -163,9 +161,7 @@ impl Store {
         ensures unclean { IsTrue D.tells → IsUnclean (D.state disk.new) }
         ensures at_clear { Told D.Disk KeepsAtClear disk.old disk.new }
         ensures calm { self.new.faulting ≡ self.old.faulting }
-        ensures change { FailsInChange D.Disk (ending result) disk.new }
-        ensures account { Accounts D.Disk (ending result) writing_syncs disk.old disk.new }
-        ensures no_entry { LooksAtNoEntry D.Disk disk.old disk.new }
+        ensures disk { OnlyChanges D.Disk (ending result) writing_syncs disk.old disk.new }
     {
         refresh(alloc, disk, &mut self.index, self.moment)?;
         disk.sync()?;

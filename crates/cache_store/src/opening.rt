@@ -1,12 +1,12 @@
 //! Opens the index, and begins its update.
 
-ghost use Rattle.std.specs.Prelude.{◌≡◌, IfOk, IsTrue, None, OnOk};
-ghost use Rattle.cache_base.specs.Names.{AreRising};
+ghost use Rattle.std.specs.Prelude.{◌≡◌, IfOk, IsTrue, OnOk};
+ghost use Rattle.cache_base.specs.Names.{AreSorted};
 ghost use Rattle.cache_store.specs.InUse.{OpensInUse};
 ghost use Rattle.cache_store.specs.Kept.{HoldsIndex};
 ghost use Rattle.cache_store.specs.Open.{BeginsOn, IsRest};
 ghost use Rattle.cache_store.specs.Records.{SeesNone, TellsOf};
-ghost use Rattle.disk_theory.specs.Account.{Accounts, Looks, LooksAtNoEntry, ending, one_sync};
+ghost use Rattle.disk_theory.specs.Account.{LeavesEntriesUnread, Looks, LooksAtNoEntry, ending, one_sync};
 ghost use Rattle.disk_theory.specs.Listing.{AreEntries};
 ghost use Rattle.disk_theory.specs.State.{standing};
 ghost use Rattle.disk_theory.specs.Told.{Told};
@@ -32,7 +32,7 @@ fn begin_update<D: Disk>(
 ) -> Result<MemoryIndex, DiskFault>
     ensures rest { IfOk result (λ index. IsTrue D.tells →
         AreEntries (D.state disk.old) index.update) }
-    ensures rising { IfOk result (λ index. AreRising index.update) }
+    ensures sorted { IfOk result (λ index. AreSorted index.update) }
     ensures base { IfOk result (λ index. SameBase map index.map) }
     ensures tells { let es = entries_on (D.state disk.old) in
         IfOk result (λ index. IsTrue D.tells → SeesNone map → TellsOf es index) }
@@ -66,8 +66,7 @@ pub(crate) fn begin_index<D: Disk>(alloc: Global, disk: &mut D) -> Result<Memory
     ensures amid { Told D.Disk IsAmidOpening disk.old disk.new }
     ensures entries { Told D.Disk (λ s t. IsApart s → SparesEntries s t) disk.old disk.new }
     ensures honest { Told D.Disk OpensHonest disk.old disk.new }
-    ensures account { Accounts D.Disk (ending result) one_sync disk.old disk.new }
-    ensures no_entry { LooksAtNoEntry D.Disk disk.old disk.new }
+    ensures disk { LeavesEntriesUnread D.Disk (ending result) one_sync disk.old disk.new }
 {
     let Opened { start, map } = open_index(alloc, disk)?;
     match start {

@@ -1,7 +1,7 @@
 //! Opens the cache, and closes it.
 
 ghost use Rattle.std.specs.Prelude.{◌≡◌, ◌≢◌, [], IfOk, IsTrue, OnOk, Err};
-ghost use Rattle.disk_theory.specs.Account.{Accounts, FailsInChange, LooksAtNoEntry, one_sync};
+ghost use Rattle.disk_theory.specs.Account.{LeavesEntriesUnread, OnlyChanges, one_sync};
 ghost use Rattle.disk_theory.specs.Sound.{IsQuiet};
 ghost use Rattle.disk_theory.specs.State.{standing};
 ghost use Rattle.disk_theory.specs.Told.{Told};
@@ -65,8 +65,7 @@ impl Store {
 
         // Calls and faults.
         ensures no_sink { result ≢ Err StoreFault.Sink }
-        ensures no_entry { LooksAtNoEntry D.Disk disk.old disk.new }
-        ensures account { Accounts D.Disk (ending result) one_sync disk.old disk.new }
+        ensures disk { LeavesEntriesUnread D.Disk (ending result) one_sync disk.old disk.new }
     {
         let handles = Handles::new(alloc)?;
         let reply = Pending::new(alloc)?;
@@ -119,10 +118,8 @@ impl Store {
 
         // Calls and faults. No entry is looked at, and where the disk failed it was in a change or a sync.
         ensures no_sink { result ≢ Err StoreFault.Sink }
-        ensures change { FailsInChange D.Disk (ending result) disk.new }
-        ensures no_entry { LooksAtNoEntry D.Disk disk.old disk.new }
-        ensures account { let most = syncs_of_closing (open_of self).index.update in
-            Accounts D.Disk (ending result) most disk.old disk.new }
+        ensures disk { let most = syncs_of_closing (open_of self).index.update in
+            OnlyChanges D.Disk (ending result) most disk.old disk.new }
     {
         let Store {
             handles,

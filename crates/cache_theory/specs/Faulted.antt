@@ -17,13 +17,13 @@ abbrev pub is_faulted : List ℕ → ℕ → Bool
 is_faulted faults n = list_any (λ f. f == n) faults
 
 -- numbers that rise, from the first one on and below the end
-abbrev pub AreRisingIn : ℕ → ℕ → List ℕ → Type 0
-AreRisingIn first end [] = ⊤
-AreRisingIn first end (f ∷ faults) = (first ≤ f) × ((f < end) × AreRisingIn (suc f) end faults)
+abbrev pub AreSortedIn : ℕ → ℕ → List ℕ → Type 0
+AreSortedIn first end [] = ⊤
+AreSortedIn first end (f ∷ faults) = (first ≤ f) × ((f < end) × AreSortedIn (suc f) end faults)
 
 -- numbers of some of the first p commands, rising
 abbrev pub AreFaults : ℕ → List ℕ → Type 0
-AreFaults p faults = AreRisingIn 1 (suc p) faults
+AreFaults p faults = AreSortedIn 1 (suc p) faults
 
 -- Where the first command has the number n.
 
@@ -157,7 +157,7 @@ FaultedIsRead = (m : Machine) (cs : List Command) (bytes : List ℕ) → IsRead 
 
 -- Commands one after the other.
 
--- the later commands go by what was kept of the first
+-- the later commands see what was kept of the first
 pub record GoesOn (m : Machine) (cs more : List Command) (faults : List ℕ) : Type 0 where
   pub replies : replies_but m (cs ++ more) faults
       ≡ replies_but m cs faults ++ replies_text (after m (unfaulted faults cs)) more

@@ -4,7 +4,7 @@ use Rattle.cache_theory.specs.Machine.{Machine}
 use Rattle.cache_theory.specs.Marks.{Marks, acked as acked_marks, begun as begun_marks, marks_of}
 use Rattle.cache_theory.specs.Step.{step}
 
--- the machine now, and the marks that promises about a stop go by
+-- the machine now, and the marks that decide on promises about a stop
 pub record History : Type 0 where
   pub machine : Machine
   pub marks : Marks

@@ -22,7 +22,7 @@ pub record Written : Type 0 where
   pub name : List ℕ
   pub version : Version
 
--- what promises about a stop go by
+-- what decides on promises about a stop
 pub record Marks : Type 0 where
   -- the machine at the last acknowledged flush or clearing, or at the opening
   pub marked : Machine

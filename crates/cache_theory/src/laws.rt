@@ -154,7 +154,7 @@ pub fn faults_are_told()
     ensures read { FaultedIsRead }
 {}
 
-/// Commands that are answered `fault` are left out: the later ones go by the state that the others left, and so do the
+/// Commands that are answered `fault` are left out: the later ones begin with the state that the others left, and so do the
 /// marks.
 pub fn faults_are_left_out()
     ensures front { FaultsAreInFront }

@@ -1,4 +1,4 @@
--- What a `fill` comes to.
+-- The result of a `fill`.
 use Rattle.std.specs.Prelude.{List, [], codes, ℕ, ◌++◌, ◌∷◌, ◌≡◌, ◌⊎◌}
 use Rattle.cache_base.specs.declared.status.Status.{Status}
 use Rattle.cache_base.specs.declared.status.Status.TheVariants as status
@@ -28,7 +28,7 @@ fill_lines count evicted found listed =
     ++ (first_line (reply_text evicted) ++ (first_line (reply_text found) ++ first_line (reply_text listed)))
 
 -- what is done for a machine: the entries are made and synced, half of all is evicted, and all is checked and listed.
--- The limit of the eviction goes by records, which are those of all entries where they are right; and so do the
+-- The limit of the eviction follows from records, which are those of all entries where they are right; and so do the
 -- eviction, the check and the list
 pub record AreFilled (right : Type 0) (now count first : ℕ) (m : Machine) : Type 0 where
   pub kb : ℕ

@@ -10,6 +10,7 @@ pub mod Filled
 pub mod FillProgress
 pub mod FirstLine
 pub mod HeldReply
+pub mod KeepsOpen
 pub mod Load
 pub mod LoadProgress
 pub mod LoadTells

@@ -1,4 +1,4 @@
--- What a `load` comes to.
+-- The result of a `load`.
 use Rattle.std.specs.Io.KnownBytes.{Appends, Consumes, IsAtEnd, Keeps}
 use Rattle.std.specs.Prelude.{IfSome, IsSomeAnd, List, None, Option, Some, [], codes, decimal, flat_map, length, map, suc, ℕ, ◌++◌, ◌∷◌, ◌≡◌, ◌≢◌, ◌<◌, ◌≤◌, ◌+◌, ◌⊎◌}
 use Rattle.cache_base.specs.declared.status.Status.{Status}

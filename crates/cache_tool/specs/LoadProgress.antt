@@ -112,12 +112,12 @@ status_of_end (ended.Whole count) = status.Done
 status_of_end (ended.Bad number) = status.Script
 status_of_end ended.Failed = status.Source
 
--- the status of what the parts came to
+-- the status of the parts' result
 abbrev pub status_at_end : Result LoadEnd StoreFault → Status
 status_at_end (Ok e) = status_of_end e
 status_at_end (Err f) = status_in (Err f)
 
--- the parts came to the end or to a bad item, of which a line tells
+-- the parts ended, or there was a bad item, of which a line tells
 abbrev pub IsLine : Status → Type 0
 IsLine s = (s ≡ status.Done) ⊎ (s ≡ status.Script)
 

@@ -132,7 +132,7 @@ pub record AppendsSoFar (tells : Type 0) (room : ℕ) (left left_now : Option (L
 
 -- The whole body.
 
--- the source's bytes, or what it gave before it failed, by what the appending came to
+-- the source's bytes, or what it gave before it failed, by the result of the appending
 abbrev pub BodyOf : Result Status StoreFault → Supply → Supply → List ℕ → Type 0
 BodyOf (Ok status.Done) before now body = GivesWhole before now body
 BodyOf (Ok status.No) before now body = GivesWhole before now body

@@ -1,4 +1,4 @@
--- In an honest directory what is done for commands comes to the same as the commands themselves.
+-- In an honest directory what is done for commands equals the commands themselves.
 use Rattle.std.specs.List.{AllByRecursion}
 use Rattle.std.specs.Prelude.{List, Some, false, length, min, suc, take, true, ℕ, ◌+◌, ◌∷◌, ◌≡◌, ◌⊎◌}
 use Rattle.cache_base.specs.declared.status.Status.{Status}
@@ -36,7 +36,7 @@ pub record ComeToSame (m : Machine) (cs ds : List Command) : Type 0 where
   pub replies : replies m ds ≡ replies m cs
   pub marks : (a b : ℕ) → marks_between m ds a b ≡ marks_between m cs a b
 
--- what is done for commands comes to the same in an honest directory
+-- what is done for commands is the same in an honest directory
 abbrev pub DoneIsSame : Type 0
 DoneIsSame = (s : State) (m : Machine) (cs ds : List Command) → Honest (standing s)
     → AreDoneFor (Honest (standing s)) m cs ds → ComeToSame m cs ds
@@ -46,7 +46,7 @@ DoneIsSame = (s : State) (m : Machine) (cs ds : List Command) → Honest (standi
 pub record IsOfScript (m : Machine) (d : Command) (cs done : List Command) (with_last : List ℕ)
     (ended : Status)
     (acked : ℕ) : Type 0 where
-  -- the marks are those of `Resume` and of the script's commands, and what was performed comes to the same
+  -- the marks are those of `Resume` and of the script's commands, and what was performed is the same
   pub marks : (one_begun_after m d acked with_last ended done).marks
       ≡ (one_begun_after m Resume acked with_last ended cs).marks
   pub states : after m (one_begun_after m d acked with_last ended done).done

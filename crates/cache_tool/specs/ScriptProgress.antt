@@ -237,7 +237,7 @@ pub record LeadsWithin (r : Reach) (m : Machine) (before now : Session) : Type 0
   pub machine : history.machine ≡ after m r.done
   pub within : (s : State) → IsSafe s history.marks → IsSafe s r.marks
 
--- what the store and the disk came to
+-- the store and the disk then
 pub record LeavesScript (m : Machine) (r : Reach) (ended : Status) (before now : Session)
     : Type 0 where
   pub safe : IsSafe now.disk r.marks

@@ -31,7 +31,7 @@ abbrev pub status_of : Verdict → Status
 status_of outcome.Ok = status.Done
 status_of outcome.Refused = status.No
 
--- the status that the commands came to
+-- the status that the commands give
 abbrev pub status_in : Result Status StoreFault → Status
 status_in (Ok s) = s
 status_in (Err fault.Memory) = status.Memory

@@ -1,4 +1,4 @@
--- The theorem on one page: six laws, and one of a `put` that stops. Each goes by what `run` ensures by its clause
+-- The theorem on one page: six laws, and one of a `put` that stops. Each follows from what `run` ensures by its clause
 -- `performs`, and by nothing else of it.
 use Rattle.std.specs.Io.KnownBytes.{Appends}
 use Rattle.std.specs.Prelude.{IfSome, IsSome, IsSomeAnd, List, None, Some, [], length, suc, false, true, ℕ, ◌<◌, ◌≡◌, ◌^◌, ◌⊎◌}

@@ -1,4 +1,4 @@
--- What the verbs come to, for every machine at an opening on what stands.
+-- The result of each verb, for every machine at an opening on what stands.
 use Rattle.std.specs.Io.KnownBytes.{Appends, Keeps}
 use Rattle.std.specs.Prelude.{IfSome, IsSome, List, Option, Some, [], length, min, slice_get, suc, take, ℕ, ◌+◌, ◌++◌, ◌∷◌, ◌≡◌, ◌≢◌, ◌⊎◌}
 use Rattle.cache_base.specs.Causes.{Rose}
@@ -88,7 +88,7 @@ one_begun_after m d acked with_last ended cs = record {
 
 -- what a session over these commands leaves of an index that could be read, where it held s and holds t
 pub record KeepsIndex (m : Machine) (cs : List Command) (s t : State) : Type 0 where
-  -- in an honest directory it stays in use, where few records come to differ from it: it is unchanged past its header,
+  -- in an honest directory it stays in use, where few records differ from it in the end: it is unchanged past its header,
   -- and the journal spells what differs
   pub in_use : Honest (standing s) → let base = index_records (standing s Index) in
       StaysOverAll base m cs → EndsInUse base (after m cs)

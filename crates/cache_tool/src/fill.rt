@@ -3,10 +3,9 @@
 ghost use Rattle.cache_tool.specs.Syncs.{run_syncs};
 ghost use Rattle.cache_store.specs.Syncs.{writing_syncs};
 ghost use Rattle.std.specs.List.{range_with_len};
-ghost use Rattle.std.specs.Prelude.{◌≡◌, ◌≢◌, ◌≤◌, ◌<◌, ◌+◌, ◌++◌, ◌*◌, ◌%◌, ◌^◌, ◌⊎◌, [], ◌∷◌, codes, decimal, drop, length, take, map, Err, IfOk, IsTrue, Ok, OnOk, ℕ};
+ghost use Rattle.std.specs.Prelude.{◌≡◌, ◌≢◌, ◌≤◌, ◌<◌, ◌+◌, ◌++◌, ◌*◌, ◌%◌, ◌^◌, ◌⊎◌, [], ◌∷◌, codes, length, map, Err, IfOk, IsTrue, Ok, OnOk, ℕ};
 ghost use Rattle.cache_base.specs.Causes.{HasCause, Rose};
-ghost use Rattle.cache_store.specs.Faults.{ending};
-ghost use Rattle.cache_store.specs.Open.{IsOpen, LeavesOpen};
+ghost use Rattle.cache_store.specs.Open.{IsOpen};
 ghost use Rattle.cache_store.specs.Saying.{TakesMore};
 ghost use Rattle.cache_store.specs.Session.{session};
 ghost use Rattle.cache_theory.specs.Text.{with_number};
@@ -18,11 +17,11 @@ ghost use Rattle.cache_tool.specs.HeldReply.{said_in};
 ghost use Rattle.cache_tool.specs.MarkLeft.{LeavesMark};
 ghost use Rattle.cache_tool.specs.Statuses.{IsAnswer, IsClosing};
 ghost use Rattle.cache_tool.specs.World.{output};
-ghost use Rattle.disk_theory.specs.Account.{Accounts, no_sync, SyncsAtMost, one_sync};
+ghost use Rattle.disk_theory.specs.Account.{no_sync, SyncsAtMost, one_sync};
 ghost use Rattle.disk_theory.specs.Calls.{StopsAtFault};
 ghost use Rattle.disk_theory.specs.Sound.{IsQuiet};
 ghost use Rattle.disk_theory.specs.Told.{Told};
-ghost use Rattle.index_theory.specs.Honest.{LeavesHonest};
+ghost use Rattle.cache_tool.specs.KeepsOpen.{KeepsOpen};
 
 use crate::last_reply::LastReply;
 use crate::put::send;
@@ -124,10 +123,7 @@ fn make_entry<D: Disk>(
     requires told { IsTrue D.tells → IsOpen (session D.Disk store.old disk.old) }
     ensures runs { let at = session D.Disk in IsTrue D.tells → (x : ℕ) → bytes.now ≡ body_of i x →
         RunsAll (entry_commands now i x) result (at store.old disk.old) (at store.new disk.new) }
-    ensures open { IsTrue D.tells → LeavesOpen result (session D.Disk store.new disk.new) }
-    ensures honest { IsTrue D.tells → LeavesHonest (D.state disk.new) }
-    ensures no_sink { result ≢ Err StoreFault.Sink }
-    ensures account { Accounts D.Disk (ending result) one_sync disk.old disk.new }
+    ensures keeps { KeepsOpen D.Disk one_sync result store.new disk.old disk.new }
 {
     let key = key(alloc, i)?;
     bytes_fit(key.as_slice());
@@ -161,10 +157,7 @@ fn make_entries<D: Disk>(
     ensures runs { let at = session D.Disk in IsTrue D.tells →
         RunsAll (entries_commands now first count) result
         (at store.old disk.old) (at store.new disk.new) }
-    ensures open { IsTrue D.tells → LeavesOpen result (session D.Disk store.new disk.new) }
-    ensures honest { IsTrue D.tells → LeavesHonest (D.state disk.new) }
-    ensures no_sink { result ≢ Err StoreFault.Sink }
-    ensures account { Accounts D.Disk (ending result) count disk.old disk.new }
+    ensures keeps { KeepsOpen D.Disk count result store.new disk.old disk.new }
 {
     let pattern = pattern(alloc)?;
     let mut x = first;
@@ -190,10 +183,7 @@ fn make_all<D: Disk>(
     ensures runs { let at = session D.Disk in IsTrue D.tells →
         RunsAll (making_commands now count first) result
         (at store.old disk.old) (at store.new disk.new) }
-    ensures open { IsTrue D.tells → LeavesOpen result (session D.Disk store.new disk.new) }
-    ensures honest { IsTrue D.tells → LeavesHonest (D.state disk.new) }
-    ensures no_sink { result ≢ Err StoreFault.Sink }
-    ensures account { Accounts D.Disk (ending result) (count + writing_syncs) disk.old disk.new }
+    ensures keeps { KeepsOpen D.Disk (count + writing_syncs) result store.new disk.old disk.new }
 {
     make_entries(alloc, store, now, count, first, said, disk)?;
     send(alloc, store, &Command::Flush, said, disk)?;
@@ -210,10 +200,7 @@ fn evict_half<D: Disk>(
     requires told { IsTrue D.tells → IsOpen (session D.Disk store.old disk.old) }
     ensures evicts { let at = session D.Disk in let before = at store.old disk.old in
         IsTrue D.tells → EvictsHalf result before (at store.new disk.new) (said_in said.new) }
-    ensures open { IsTrue D.tells → LeavesOpen result (session D.Disk store.new disk.new) }
-    ensures honest { IsTrue D.tells → LeavesHonest (D.state disk.new) }
-    ensures no_sink { result ≢ Err StoreFault.Sink }
-    ensures account { Accounts D.Disk (ending result) no_sync disk.old disk.new }
+    ensures keeps { KeepsOpen D.Disk no_sync result store.new disk.old disk.new }
 {
     let kb = half_of(store.kilobytes(disk)?);
     send(alloc, store, &Command::Evict { kb }, said, disk)?;
@@ -252,10 +239,7 @@ fn perform_fill<D: Disk>(
         let now_at = at store.new disk.new in
         IsTrue D.tells → PerformsFill now count first result before now_at lines.new }
     ensures only { IfOk result IsAnswer }
-    ensures open { IsTrue D.tells → LeavesOpen result (session D.Disk store.new disk.new) }
-    ensures honest { IsTrue D.tells → LeavesHonest (D.state disk.new) }
-    ensures no_sink { result ≢ Err StoreFault.Sink }
-    ensures account { Accounts D.Disk (ending result) (count + writing_syncs) disk.old disk.new }
+    ensures keeps { KeepsOpen D.Disk (count + writing_syncs) result store.new disk.old disk.new }
 {
     let mut said = LastReply::new(alloc);
     say_made(alloc, count, lines)?;

@@ -18,7 +18,7 @@ pub fn words_are_of_table()
     ensures { WordsAreOfTable }
 {}
 
-/// In an honest directory what is done for commands comes to the same as the commands themselves: the same states, the
+/// In an honest directory what is done for commands is the same as the commands themselves: the same states, the
 /// same replies, and the same marks for a stop. So what a run of a script leaves is said of `Resume` and of the
 /// script's own commands, but for those that are answered `fault`; and once a `clear` of the script is acknowledged, a
 /// stop brings back nothing that it took, but what a later command of the script wrote.

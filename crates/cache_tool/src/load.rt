@@ -6,8 +6,7 @@ ghost use Rattle.std.specs.Io.KnownBytes.{Appends, IsAtEnd};
 ghost use Rattle.cache_base.specs.Causes.{HasCause, Rose};
 ghost use Rattle.cache_export.specs.Parts.{Part};
 ghost use Rattle.cache_export.specs.Reader.{used_in};
-ghost use Rattle.cache_store.specs.Faults.{ending};
-ghost use Rattle.cache_store.specs.Open.{IsOpen, LeavesOpen};
+ghost use Rattle.cache_store.specs.Open.{IsOpen};
 ghost use Rattle.cache_store.specs.Saying.{TakesMore};
 ghost use Rattle.cache_store.specs.Session.{session};
 ghost use Rattle.cache_tool.specs.Load.{HasDump, HasNoDump, LoadsDump, bad_dump_line, loaded_line};
@@ -16,11 +15,11 @@ ghost use Rattle.cache_tool.specs.FillProgress.{RunsAll};
 ghost use Rattle.cache_tool.specs.MarkLeft.{LeavesMark};
 ghost use Rattle.cache_tool.specs.Statuses.{IsClosing, IsSaid};
 ghost use Rattle.cache_tool.specs.World.{world};
-ghost use Rattle.disk_theory.specs.Account.{Accounts, no_sync};
+ghost use Rattle.disk_theory.specs.Account.{no_sync};
 ghost use Rattle.disk_theory.specs.Calls.{StopsAtFault};
 ghost use Rattle.disk_theory.specs.Sound.{IsQuiet};
 ghost use Rattle.disk_theory.specs.Told.{Told};
-ghost use Rattle.index_theory.specs.Honest.{LeavesHonest};
+ghost use Rattle.cache_tool.specs.KeepsOpen.{KeepsOpen};
 
 use crate::last_reply::LastReply;
 use crate::put::send;
@@ -38,7 +37,7 @@ use std::alloc::Global;
 // The slot by which the entries are written.
 const SLOT: u8 = 0;
 
-/// How the parts of a dump came to their end.
+/// How the parts of a dump ended.
 #[derive(Clone, Copy)]
 pub(crate) enum LoadEnd {
     /// The dump ended after so many items.
@@ -61,10 +60,7 @@ fn finish_entry<D: Disk>(
     ensures runs { let at = session D.Disk in IsTrue D.tells →
         RunsAll (finish_commands meta.now.header meta.now.elements) result
         (at store.old disk.old) (at store.new disk.new) }
-    ensures open { IsTrue D.tells → LeavesOpen result (session D.Disk store.new disk.new) }
-    ensures honest { IsTrue D.tells → LeavesHonest (D.state disk.new) }
-    ensures no_sink { result ≢ Err StoreFault.Sink }
-    ensures account { Accounts D.Disk (ending result) item_syncs disk.old disk.new }
+    ensures keeps { KeepsOpen D.Disk item_syncs result store.new disk.old disk.new }
 {
     let elements = &meta.elements;
     parts_fit(meta.header, elements);
@@ -91,10 +87,7 @@ fn begin_entry<D: Disk>(
     ensures runs { let at = session D.Disk in IsTrue D.tells →
         RunsAll (part_commands (Part.KeyPart key.now)) result
         (at store.old disk.old) (at store.new disk.new) }
-    ensures open { IsTrue D.tells → LeavesOpen result (session D.Disk store.new disk.new) }
-    ensures honest { IsTrue D.tells → LeavesHonest (D.state disk.new) }
-    ensures no_sink { result ≢ Err StoreFault.Sink }
-    ensures account { Accounts D.Disk (ending result) no_sync disk.old disk.new }
+    ensures keeps { KeepsOpen D.Disk no_sync result store.new disk.old disk.new }
 {
     let key = key.as_slice();
     bytes_fit(key);
@@ -120,10 +113,7 @@ fn append_piece<D: Disk>(
     ensures runs { let at = session D.Disk in IsTrue D.tells →
         RunsAll (part_commands (Part.PiecePart piece.now)) result
         (at store.old disk.old) (at store.new disk.new) }
-    ensures open { IsTrue D.tells → LeavesOpen result (session D.Disk store.new disk.new) }
-    ensures honest { IsTrue D.tells → LeavesHonest (D.state disk.new) }
-    ensures no_sink { result ≢ Err StoreFault.Sink }
-    ensures account { Accounts D.Disk (ending result) no_sync disk.old disk.new }
+    ensures keeps { KeepsOpen D.Disk no_sync result store.new disk.old disk.new }
 {
     let bytes = piece.as_slice();
     bytes_fit(bytes);
@@ -158,10 +148,7 @@ fn load_next<D: Disk, S: Source>(
     ensures further { result ≡ Ok None → used_in reader.old < used_in reader.new }
     ensures source { HasCause (result ≡ Ok (Some LoadEnd.Failed))
         (S.faults source.old) (S.faults source.new) }
-    ensures open { IsTrue D.tells → LeavesOpen result (session D.Disk store.new disk.new) }
-    ensures honest { IsTrue D.tells → LeavesHonest (D.state disk.new) }
-    ensures no_sink { result ≢ Err StoreFault.Sink }
-    ensures account { Accounts D.Disk (ending result) item_syncs disk.old disk.new }
+    ensures keeps { KeepsOpen D.Disk item_syncs result store.new disk.old disk.new }
 {
     match reader.next(source) {
         Ok(Item::Key(key)) => {
@@ -199,10 +186,7 @@ fn load_parts<D: Disk, S: Source>(
         EndsLoaded (IsTrue D.tells) result from (S.left source.new) before now was counts }
     ensures source { HasCause (result ≡ Ok LoadEnd.Failed)
         (S.faults source.old) (S.faults source.new) }
-    ensures open { IsTrue D.tells → LeavesOpen result (session D.Disk store.new disk.new) }
-    ensures honest { IsTrue D.tells → LeavesHonest (D.state disk.new) }
-    ensures no_sink { result ≢ Err StoreFault.Sink }
-    ensures account { Accounts D.Disk (ending result) (as_made D.Disk disk.new) disk.old disk.new }
+    ensures keeps { KeepsOpen D.Disk (as_made D.Disk disk.new) result store.new disk.old disk.new }
 {
     let mut reader = DumpReader::new(alloc);
     let mut count = 0;
@@ -249,10 +233,7 @@ fn perform_load<D: Disk, S: Source>(
     ensures only { IfOk result (λ s. IsLine s ⊎ (s ≡ Status.Source)) }
     ensures source { HasCause (result ≡ Ok Status.Source)
         (S.faults source.old) (S.faults source.new) }
-    ensures open { IsTrue D.tells → LeavesOpen result (session D.Disk store.new disk.new) }
-    ensures honest { IsTrue D.tells → LeavesHonest (D.state disk.new) }
-    ensures no_sink { result ≢ Err StoreFault.Sink }
-    ensures account { Accounts D.Disk (ending result) (as_made D.Disk disk.new) disk.old disk.new }
+    ensures keeps { KeepsOpen D.Disk (as_made D.Disk disk.new) result store.new disk.old disk.new }
 {
     let mut said = LastReply::new(alloc);
     match load_parts(alloc, store, source, &mut said, disk)? {

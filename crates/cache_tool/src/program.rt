@@ -47,7 +47,7 @@ use std::alloc::Global;
 /// The clauses on contents hold where the disk and the source tell theirs. Those on a crash hold where nothing was
 /// pending at the call, and speak of every exit, whatever the status.
 ///
-/// `list`, `has`, `evict`, `clear` and `verify` go by the records in memory. If the index matched the files at the
+/// `list`, `has`, `evict`, `clear` and `verify` use the records in memory. If the index matched the files at the
 /// opening, they do what the machine does. Otherwise they act on the records that there are: right after an opening with
 /// a trusted index those of the index and its journal, without those of entries that were cleared then.
 pub fn run<D: Disk, S: Source, K: Sink>(

@@ -9,7 +9,7 @@ ghost use Rattle.cache_base.specs.declared.limits.TheConstants.{BODY_MAX as BODY
 ghost use Rattle.cache_script.specs.Command.{command_of};
 ghost use Rattle.cache_store.specs.Faulting.{LooksAtNothing, StaysAs};
 ghost use Rattle.cache_store.specs.Faults.{ending};
-ghost use Rattle.cache_store.specs.Open.{IsOpen, LeavesOpen};
+ghost use Rattle.cache_store.specs.Open.{IsOpen};
 ghost use Rattle.cache_store.specs.Printed.{HasBadKey, Prints, PrintsOk, PrintsRefusal};
 ghost use Rattle.cache_store.specs.Saying.{TakesMore};
 ghost use Rattle.cache_store.specs.Session.{is_faulting, open_of, session};
@@ -22,13 +22,13 @@ ghost use Rattle.cache_tool.specs.PutProgress.{AppendsBody, AppendsPiece, HasNoF
 ghost use Rattle.cache_tool.specs.Statuses.{IsAnswer, IsClosing};
 ghost use Rattle.cache_tool.specs.Verbs.{StoresEntry};
 ghost use Rattle.cache_tool.specs.World.{supply, world};
-ghost use Rattle.disk_theory.specs.Account.{Accounts, Ending, FailsInChange, Looks, no_sync, SyncsAtMost, one_sync};
+ghost use Rattle.disk_theory.specs.Account.{Ending, FailsInChange, Looks, no_sync, SyncsAtMost, one_sync};
 ghost use Rattle.disk_theory.specs.Calls.{StopsAtFault};
 ghost use Rattle.disk_theory.specs.Sound.{IsQuiet};
 ghost use Rattle.disk_theory.specs.Told.{Told};
 ghost use Rattle.entry_key.specs.Writing.{may_write};
 ghost use Rattle.index_map.specs.Known.{SameBase};
-ghost use Rattle.index_theory.specs.Honest.{LeavesHonest};
+ghost use Rattle.cache_tool.specs.KeepsOpen.{KeepsOpen};
 
 use crate::last_reply::LastReply;
 use crate::piece::{PieceEnd, fill};
@@ -59,10 +59,8 @@ pub(crate) fn send<D: Disk>(
     ensures prints { IfOk result (λ o.
         Prints (command_of c.now) o (Some []) (Some (said_in said.new))) }
     ensures bad_key { HasBadKey (command_of c.now) → result ≢ Ok Verdict.Ok }
-    ensures open { IsTrue D.tells → LeavesOpen result (session D.Disk store.new disk.new) }
-    ensures honest { IsTrue D.tells → LeavesHonest (D.state disk.new) }
-    ensures no_sink { result ≢ Err StoreFault.Sink }
-    ensures account { Accounts D.Disk (ending result) (most_syncs (command_of c.now)) disk.old disk.new }
+    ensures keeps { KeepsOpen D.Disk (most_syncs (command_of c.now)) result store.new disk.old
+        disk.new }
     ensures faulted { is_faulting store.new ≡ true → result ≡ Err StoreFault.Disk }
     ensures looked { is_faulting store.new ≡ true →
         Looks D.Disk Ending.OneFailed disk.old disk.new }
@@ -94,10 +92,7 @@ fn append_piece<D: Disk>(
         AppendsPiece piece.now room result before now (said_in said.new) }
     ensures fits { result ≡ Ok Verdict.Ok → length piece.now ≤ room }
     ensures refused { result ≡ Ok Verdict.Refused → IsRefusalLine (said_in said.new) }
-    ensures open { IsTrue D.tells → LeavesOpen result (session D.Disk store.new disk.new) }
-    ensures honest { IsTrue D.tells → LeavesHonest (D.state disk.new) }
-    ensures no_sink { result ≢ Err StoreFault.Sink }
-    ensures account { Accounts D.Disk (ending result) no_sync disk.old disk.new }
+    ensures keeps { KeepsOpen D.Disk no_sync result store.new disk.old disk.new }
     ensures bare { is_faulting store.old ≡ false → is_faulting store.new ≡ false }
     ensures change { is_faulting store.old ≡ false →
         FailsInChange D.Disk (ending result) disk.new }
@@ -144,10 +139,7 @@ fn append_all<D: Disk, S: Source>(
     ensures calm { IfOk result (λ s. IsAnswer s → S.faults source.new ≡ S.faults source.old) }
     ensures taken { TakesAtMost (BODY_LEN + PIECE_LEN) (S.left source.old) (S.left source.new) }
     ensures refused { result ≡ Ok Status.No → IsRefusalLine (said_in said.new) }
-    ensures open { IsTrue D.tells → LeavesOpen result (session D.Disk store.new disk.new) }
-    ensures honest { IsTrue D.tells → LeavesHonest (D.state disk.new) }
-    ensures no_sink { result ≢ Err StoreFault.Sink }
-    ensures account { Accounts D.Disk (ending result) no_sync disk.old disk.new }
+    ensures keeps { KeepsOpen D.Disk no_sync result store.new disk.old disk.new }
     ensures bare { is_faulting store.old ≡ false → is_faulting store.new ≡ false }
     ensures change { is_faulting store.old ≡ false →
         FailsInChange D.Disk (ending result) disk.new }
@@ -191,10 +183,7 @@ fn perform_put<D: Disk, S: Source>(
     ensures taken { TakesAtMost (BODY_LEN + PIECE_LEN) (S.left source.old) (S.left source.new) }
     ensures done { result ≡ Ok Status.Done → said_in said.new ≡ ok_line }
     ensures refused { result ≡ Ok Status.No → IsRefusalLine (said_in said.new) }
-    ensures open { IsTrue D.tells → LeavesOpen result (session D.Disk store.new disk.new) }
-    ensures honest { IsTrue D.tells → LeavesHonest (D.state disk.new) }
-    ensures no_sink { result ≢ Err StoreFault.Sink }
-    ensures account { Accounts D.Disk (ending result) one_sync disk.old disk.new }
+    ensures keeps { KeepsOpen D.Disk one_sync result store.new disk.old disk.new }
     // A look at the disk fails in the first command alone.
     ensures faulted { is_faulting store.new ≡ true → result ≡ Err StoreFault.Disk }
     ensures looked { result ≡ Err StoreFault.Disk → is_faulting store.new ≡ true →

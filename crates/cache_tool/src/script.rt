@@ -26,7 +26,7 @@ use cache_store::{Store, StoreFault};
 use disk_theory::Disk;
 use std::alloc::Global;
 
-/// How the commands of a script came to their end.
+/// How the commands of a script ended.
 #[derive(Clone, Copy)]
 pub(crate) enum ScriptEnd {
     /// The source ended after the last command.

@@ -73,8 +73,8 @@ pub(crate) fn status_of_fault(fault: StoreFault) -> Status
     }
 }
 
-/// Ends a session by what its commands came to: the store is closed, unless the disk failed or memory ran out. A
-/// fault of the closing comes before what they came to.
+/// Ends a session with the result of its commands: the store is closed, unless the disk failed or memory ran out. A
+/// fault of the closing comes before their result.
 pub(crate) fn end<D: Disk>(store: Store, came: Result<Status, StoreFault>, disk: &mut D) -> Status
     requires closing { IfOk came IsClosing }
     requires told { IsTrue D.tells → LeavesOpen came (session D.Disk store disk.old) }
@@ -107,7 +107,7 @@ pub(crate) fn end<D: Disk>(store: Store, came: Result<Status, StoreFault>, disk:
     }
 }
 
-// What a session comes to whose last line was said, or whose sink failed in it: its store is closed, unless memory
+// The result of a session whose last line was said, or whose sink failed in it: its store is closed, unless memory
 // ran out.
 fn after_line(said: Result<(), StoreFault>) -> Result<Status, StoreFault>
     ensures cases { (result ≡ Ok Status.No) ⊎ (result ≡ Err StoreFault.Memory) }

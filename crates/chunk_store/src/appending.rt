@@ -2,7 +2,7 @@
 
 ghost use Rattle.std.specs.Prelude.{◌≡◌, ◌*◌, ◌^◌, ◌≤◌, ◌++◌, ◌<◌, ◌+◌, length, IsTrue};
 ghost use Rattle.cache_base.specs.Limits.{chunk_size};
-ghost use Rattle.disk_theory.specs.Account.{Accounts, FailsInChange, ending, no_sync};
+ghost use Rattle.disk_theory.specs.Account.{OnlyChanges, ending, no_sync};
 ghost use Rattle.disk_theory.specs.State.{standing, wrote};
 ghost use Rattle.disk_theory.specs.Calls.{counted_change, if_done, MayWriteAt};
 ghost use Rattle.chunk_store.specs.Stored.{stop_tail, chunk_write};
@@ -38,8 +38,7 @@ pub fn append_chunk<D: Disk>(
         (wrote place.now (chunk_write index buf.old) (D.state disk.old)) (D.state disk.old) }
     ensures counts { IsTrue D.tells →
         D.counts disk.new ≡ counted_change result (D.counts disk.old) }
-    ensures account { Accounts D.Disk (ending result) no_sync disk.old disk.new }
-    ensures change { FailsInChange D.Disk (ending result) disk.new }
+    ensures disk { OnlyChanges D.Disk (ending result) no_sync disk.old disk.new }
 {
     push_tail(buf);
     let from = u64::from(index) * CHUNK as u64;

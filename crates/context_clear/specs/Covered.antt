@@ -1,6 +1,6 @@
 -- Which records a clearing of an origin takes.
 use Rattle.std.specs.Prelude.{ℕ, Bool, true, false, ◌≡◌, ◌==◌, ◌&&◌, not, List, Option, None, Some, Contains, ◌↔◌}
-use Rattle.cache_base.specs.Names.{AreRising}
+use Rattle.cache_base.specs.Names.{AreSorted}
 use Rattle.cache_base.specs.declared.name.Name.{Name}
 use Rattle.index_map.specs.Known.{Known}
 use Rattle.index_record.specs.Record.{is_pinned}
@@ -22,5 +22,5 @@ covers_name m origin name = covers_found origin (record_at m.seen name)
 
 -- these are the names of the seen records that are covered, in name order, and none stands twice
 pub record AreCovered (m : Known) (origin : ℕ) (names : List Name) : Type 0 where
-  pub rising : AreRising names
+  pub rising : AreSorted names
   pub each : (name : Name) → Contains names name ↔ (covers_name m origin name ≡ true)

@@ -1,7 +1,7 @@
 //! The mark on the disk, the file `clear`.
 
 ghost use Rattle.std.specs.Prelude.{◌≡◌, IfOk, IsSome, IsTrue, None, OnOk};
-ghost use Rattle.disk_theory.specs.Account.{Accounts, FailsInChange, Looks, LooksAtNoEntry, ending, one_sync};
+ghost use Rattle.disk_theory.specs.Account.{Looks, LooksAtNoEntry, OnlyChanges, ending, one_sync};
 ghost use Rattle.disk_theory.specs.Calls.{counted_look};
 ghost use Rattle.disk_theory.specs.Standing.{PutsContent};
 ghost use Rattle.disk_theory.specs.State.{standing};
@@ -19,9 +19,7 @@ fn place_mark<D: Disk>(disk: &mut D, number: u32, bytes: &[u8]) -> Result<(), Di
     ensures placed { OnOk result
         (Told D.Disk (spec.StoresMark number bytes.now) disk.old disk.new) }
     ensures amid { Told D.Disk (spec.IsAmidStoring number bytes.now) disk.old disk.new }
-    ensures account { Accounts D.Disk (ending result) one_sync disk.old disk.new }
-    ensures change { FailsInChange D.Disk (ending result) disk.new }
-    ensures no_entry { LooksAtNoEntry D.Disk disk.old disk.new }
+    ensures disk { OnlyChanges D.Disk (ending result) one_sync disk.old disk.new }
 {
     disk.create(&Place::Doomed(number))?;
     disk.write_end(&Place::Doomed(number), 0, bytes)?;
@@ -44,9 +42,7 @@ pub fn store<D: Disk>(disk: &mut D, origin: u64, number: u32) -> Result<(), Disk
     ensures whole { Told D.Disk (spec.LeavesWholeMark origin) disk.old disk.new }
 
     // Calls and faults.
-    ensures account { Accounts D.Disk (ending result) one_sync disk.old disk.new }
-    ensures change { FailsInChange D.Disk (ending result) disk.new }
-    ensures no_entry { LooksAtNoEntry D.Disk disk.old disk.new }
+    ensures disk { OnlyChanges D.Disk (ending result) one_sync disk.old disk.new }
 {
     place_mark(disk, number, &write_mark(origin))
 }
@@ -85,9 +81,7 @@ pub fn end<D: Disk>(disk: &mut D) -> Result<(), DiskFault>
     ensures gone { OnOk result (Told D.Disk spec.LeavesNoFile disk.old disk.new) }
 
     // Calls and faults.
-    ensures account { Accounts D.Disk (ending result) one_sync disk.old disk.new }
-    ensures change { FailsInChange D.Disk (ending result) disk.new }
-    ensures no_entry { LooksAtNoEntry D.Disk disk.old disk.new }
+    ensures disk { OnlyChanges D.Disk (ending result) one_sync disk.old disk.new }
 {
     disk.remove(&Place::Clear)?;
     disk.sync()

@@ -1,9 +1,9 @@
 //! A disk that makes its answers up.
 
 ghost use Rattle.std.specs.Prelude.{[], ◌∷◌, ◌++◌, ◌+◌, ◌/◌, ◌≡◌, Some, drop, false, length, replicate, IfErr, IsOk, OnOk};
-ghost use Rattle.cache_base.specs.Names.{AreRising};
+ghost use Rattle.cache_base.specs.Names.{AreSorted};
 ghost use Rattle.disk_theory.specs.Calls.{no_counts};
-ghost use Rattle.disk_theory.specs.Listing.{AreRisingNumbers};
+ghost use Rattle.disk_theory.specs.Listing.{AreSortedNumbers};
 ghost use Rattle.disk_theory.specs.Silent.{nothing, never, never_finite};
 ghost use Rattle.disk_theory.specs.declared.disk.DiskFault.TheVariants.{Memory};
 
@@ -106,7 +106,7 @@ impl Disk for LiarDisk {
 
     /// One name of twenty zero bytes. Fails only where memory ran out.
     fn entries(&mut self, out: &mut Names) -> Result<(), DiskFault>
-        ensures rising { OnOk result (AreRising out.new) }
+        ensures sorted { OnOk result (AreSorted out.new) }
         ensures names { OnOk result (out.new ≡ record { 0 = replicate 20 0 } ∷ []) }
         ensures memory { IfErr result (λ fault. fault ≡ Memory) }
         ensures same { self.new ≡ self.old }
@@ -118,7 +118,7 @@ impl Disk for LiarDisk {
 
     /// The number 0. Fails only where memory ran out.
     fn doomed(&mut self, out: &mut Numbers) -> Result<(), DiskFault>
-        ensures rising { OnOk result (AreRisingNumbers out.new) }
+        ensures sorted { OnOk result (AreSortedNumbers out.new) }
         ensures numbers { OnOk result (out.new ≡ 0 ∷ []) }
         ensures memory { IfErr result (λ fault. fault ≡ Memory) }
         ensures same { self.new ≡ self.old }

@@ -1,10 +1,10 @@
 // Lists of the files that stand on a disk in memory.
 
 ghost use Rattle.std.specs.Prelude.{◌↔◌, ℕ, IfOk, IsSome, Contains};
-ghost use Rattle.cache_base.specs.Names.{AreRising};
+ghost use Rattle.cache_base.specs.Names.{AreSorted};
 ghost use Rattle.cache_base.specs.declared.name.Name.{Name as NameValue};
 ghost use Rattle.disk_theory.specs.declared.place.Place.TheVariants.{Entry, Doomed};
-ghost use Rattle.disk_theory.specs.Listing.{AreRisingNumbers};
+ghost use Rattle.disk_theory.specs.Listing.{AreSortedNumbers};
 ghost use Rattle.disk_model.specs.MemSlots.{names_in};
 
 use crate::mem_slots::Slot;
@@ -15,7 +15,7 @@ use std::collections::BTreeMap;
 
 /// The names under which entry files stand.
 pub(crate) fn entry_names(alloc: Global, slots: &BTreeMap<Place, Slot>) -> Result<Names, NoMemory>
-    ensures rising { IfOk result AreRising }
+    ensures sorted { IfOk result AreSorted }
     ensures names { IfOk result (λ names. (name : NameValue) →
         Contains names name ↔ IsSome (names_in slots.now (Entry name))) }
 {
@@ -35,7 +35,7 @@ pub(crate) fn doomed_numbers(
     alloc: Global,
     slots: &BTreeMap<Place, Slot>,
 ) -> Result<Numbers, NoMemory>
-    ensures rising { IfOk result AreRisingNumbers }
+    ensures sorted { IfOk result AreSortedNumbers }
     ensures numbers { IfOk result (λ numbers. (number : ℕ) →
         Contains numbers number ↔ IsSome (names_in slots.now (Doomed number))) }
 {

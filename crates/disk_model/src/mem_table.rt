@@ -55,8 +55,8 @@ fn settle_files(files: &mut [MemFile], written: &[usize])
 
 impl Table {
     ghost use Rattle.disk_theory.specs.State.{names_now, content, standing, created, renamed, removed, settled, written_to};
-    ghost use Rattle.cache_base.specs.Names.{AreRising};
-    ghost use Rattle.disk_theory.specs.Listing.{AreEntries, AreDoomed, AreRisingNumbers};
+    ghost use Rattle.cache_base.specs.Names.{AreSorted};
+    ghost use Rattle.disk_theory.specs.Listing.{AreEntries, AreDoomed, AreSortedNumbers};
     ghost use Rattle.disk_theory.specs.Standing.{PutsContent};
     ghost use Rattle.disk_theory.specs.State.Write.{End, Patch};
     ghost use Rattle.disk_theory.specs.Sound.{IsQuiet};
@@ -155,7 +155,7 @@ impl Table {
 
     /// The names under which entry files stand.
     pub fn entries(&self) -> Result<Names, NoMemory>
-        ensures rising { IfOk result AreRising }
+        ensures sorted { IfOk result AreSorted }
         ensures names { IfOk result (AreEntries (state_of self.now)) }
     {
         entry_names(self.alloc, &self.slots)
@@ -163,7 +163,7 @@ impl Table {
 
     /// The numbers under which files of doomed entries stand.
     pub fn doomed(&self) -> Result<Numbers, NoMemory>
-        ensures rising { IfOk result AreRisingNumbers }
+        ensures sorted { IfOk result AreSortedNumbers }
         ensures numbers { IfOk result (AreDoomed (state_of self.now)) }
     {
         doomed_numbers(self.alloc, &self.slots)

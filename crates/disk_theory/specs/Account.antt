@@ -70,3 +70,18 @@ pub record IsCalm {Self : _} (D : Ghosts Self) (most : ℕ) (before now : Self) 
 -- no entry was looked at
 abbrev pub LooksAtNoEntry : {Self : _} → Ghosts Self → Self → Self → Type 0
 LooksAtNoEntry D before now = IsTrue D.tells → (D.counts now).entry_reads ≡ (D.counts before).entry_reads
+
+-- the call only changed: no entry was looked at, where the disk failed it was in a change or a sync, the faults are
+-- accounted for, and so many syncs were made at the most
+pub record OnlyChanges {Self : _} (D : Ghosts Self) (answer : Ending) (most : ℕ) (before now : Self)
+    : Type 0 where
+  pub account : Accounts D answer most before now
+  pub change : FailsInChange D answer now
+  pub no_entry : LooksAtNoEntry D before now
+
+-- the call looked at no entry, the faults are accounted for, and so many syncs were made at the most
+pub record LeavesEntriesUnread {Self : _} (D : Ghosts Self) (answer : Ending) (most : ℕ)
+    (before now : Self)
+    : Type 0 where
+  pub account : Accounts D answer most before now
+  pub no_entry : LooksAtNoEntry D before now

@@ -3,11 +3,11 @@
 ghost use Rattle.std.specs.Prelude.{◌≡◌, ◌≢◌, ◌+◌, ◌-◌, ◌^◌, ◌≤◌, ◌++◌, ℕ, Bool, List, length, drop, IfOk, OnOk, IsTrue, IsSome, IsErrOf, Option};
 ghost use Rattle.std.specs.Option.{option_map};
 ghost use Rattle.cache_base.specs.Causes.{HasCause};
-ghost use Rattle.cache_base.specs.Names.{AreRising};
+ghost use Rattle.cache_base.specs.Names.{AreSorted};
 ghost use Rattle.disk_theory.specs.State.{State, standing, part_of, created, renamed, removed, wrote, settled};
 ghost use Rattle.disk_theory.specs.State.Write.{End, Patch};
 ghost use Rattle.disk_theory.specs.Sound.{IsSound};
-ghost use Rattle.disk_theory.specs.Listing.{AreEntries, AreDoomed, AreRisingNumbers, IsFinite};
+ghost use Rattle.disk_theory.specs.Listing.{AreEntries, AreDoomed, AreSortedNumbers, IsFinite};
 ghost use Rattle.disk_theory.specs.Calls.{Counts, counted_change, counted_look, counted_read, counted_sync, if_ok, if_done, MayWriteAt, HoldsPart};
 ghost use Rattle.disk_theory.specs.declared.disk.DiskFault.TheVariants.{Memory};
 
@@ -72,7 +72,8 @@ pub trait Disk {
         ensures size { IfOk result (λ size. IsTrue tells →
             size ≡ option_map length (standing (state self.old) place.now)) }
         ensures state { IsTrue tells → state self.new ≡ state self.old }
-        ensures counts { IsTrue tells → counts self.new ≡ counted_read result place.now (counts self.old) }
+        ensures counts { IsTrue tells → counts self.new ≡ counted_read result place.now
+            (counts self.old) }
         ensures cause { HasCause (IsErrOf result DiskFault.Failed)
             (faults self.old) (faults self.new) };
 
@@ -85,7 +86,8 @@ pub trait Disk {
             let part = part_of from (length buf.old) (standing (state self.old) place.now) in
             (n ≡ length part) × (buf.new ≡ part ++ drop n buf.old)) }
         ensures state { IsTrue tells → state self.new ≡ state self.old }
-        ensures counts { IsTrue tells → counts self.new ≡ counted_read result place.now (counts self.old) }
+        ensures counts { IsTrue tells → counts self.new ≡ counted_read result place.now
+            (counts self.old) }
         ensures cause { HasCause (IsErrOf result DiskFault.Failed)
             (faults self.old) (faults self.new) };
 
@@ -139,7 +141,7 @@ pub trait Disk {
 
     /// The list becomes the names under which entry files stand, rising by their bytes.
     fn entries(&mut self, out: &mut Names) -> Result<(), DiskFault>
-        ensures rising { OnOk result (AreRising out.new) }
+        ensures sorted { OnOk result (AreSorted out.new) }
         ensures names { OnOk result (IsTrue tells → AreEntries (state self.old) out.new) }
         ensures state { IsTrue tells → state self.new ≡ state self.old }
         ensures counts { IsTrue tells → counts self.new ≡ counted_look result (counts self.old) }
@@ -148,7 +150,7 @@ pub trait Disk {
 
     /// The list becomes the numbers under which files of doomed entries stand, rising.
     fn doomed(&mut self, out: &mut Numbers) -> Result<(), DiskFault>
-        ensures rising { OnOk result (AreRisingNumbers out.new) }
+        ensures sorted { OnOk result (AreSortedNumbers out.new) }
         ensures numbers { OnOk result (IsTrue tells → AreDoomed (state self.old) out.new) }
         ensures state { IsTrue tells → state self.new ≡ state self.old }
         ensures counts { IsTrue tells → counts self.new ≡ counted_look result (counts self.old) }

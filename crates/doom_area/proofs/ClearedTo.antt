@@ -7,7 +7,7 @@ use Rattle.std.specs.Ordering.{nat_cmp}
 use Rattle.disk_theory.specs.declared.place.Place.{Place}
 use Rattle.disk_theory.specs.declared.place.Place.TheVariants.{Doomed}
 use Rattle.disk_theory.specs.State.{State, standing, removed}
-use Rattle.disk_theory.specs.Listing.{AreDoomed, AreRisingNumbers}
+use Rattle.disk_theory.specs.Listing.{AreDoomed, AreSortedNumbers}
 use Rattle.disk_theory.specs.Standing.{PutsContent}
 use Rattle.disk_theory.proofs.Standing.{removed_puts}
 use Rattle.disk_theory.specs.Calls.{if_done}
@@ -36,7 +36,7 @@ removes_done (Err Failed) n before now next removes is = subst (RemovesDoomed be
 removes_done (Err Memory) n before now next removes is = subst (RemovesDoomed before) (sym is) removes
 
 -- those after the first are other numbers
-behind_apart : (n : ℕ) (rest : List ℕ) (number : ℕ) → AreRisingNumbers (n ∷ rest) → Contains rest number → number ≢ n
+behind_apart : (n : ℕ) (rest : List ℕ) (number : ℕ) → AreSortedNumbers (n ∷ rest) → Contains rest number → number ≢ n
 behind_apart n rest number rising has same =
     let lt : n < get_or rest has.0 number = below_from_sorted (n ∷ rest) 0 (suc has.0) number rising (omega arith) (omega (arith, has.1)) in
     omega (arith, has.2)
@@ -54,7 +54,7 @@ none_stands None is some = cc
 none_stands (Some c) is some = cc
 
 -- the first of those that are left is removed
-cleared_more : (n : ℕ) (rest : List ℕ) (before now : State) → AreRisingNumbers (n ∷ rest) → IsClearedTo (n ∷ rest) before now → IsClearedTo rest before (removed (Doomed n) now)
+cleared_more : (n : ℕ) (rest : List ℕ) (before now : State) → AreSortedNumbers (n ∷ rest) → IsClearedTo (n ∷ rest) before now → IsClearedTo rest before (removed (Doomed n) now)
 cleared_more n rest before now rising to = record {
   removes = removes_more before now n to.removes;
   left = λ number. (still number, only number);
@@ -83,10 +83,10 @@ module _ (xs : List ℕ) (i : ℕ) (within : i < length xs) where
   first_is : drop i xs ≡ get_or xs i 0 ∷ drop (i + 1) xs
   first_is = drop-cons xs i 0 within ∙ ap (λ k. get_or xs i 0 ∷ drop k xs) (sym (add-one i))
 
-  pub rising_step : AreRisingNumbers (drop i xs) → AreRisingNumbers (drop (i + 1) xs)
-  rising_step rising = sorted_tail nat_cmp (get_or xs i 0) (drop (i + 1) xs) (subst AreRisingNumbers first_is rising)
+  pub rising_step : AreSortedNumbers (drop i xs) → AreSortedNumbers (drop (i + 1) xs)
+  rising_step rising = sorted_tail nat_cmp (get_or xs i 0) (drop (i + 1) xs) (subst AreSortedNumbers first_is rising)
 
-  pub cleared_step : (before now next : State) → AreRisingNumbers (drop i xs) → IsClearedTo (drop i xs) before now → next ≡ removed (Doomed (get_or xs i 0)) now → IsClearedTo (drop (i + 1) xs) before next
+  pub cleared_step : (before now next : State) → AreSortedNumbers (drop i xs) → IsClearedTo (drop i xs) before now → next ≡ removed (Doomed (get_or xs i 0)) now → IsClearedTo (drop (i + 1) xs) before next
   cleared_step before now next rising to is =
       subst (IsClearedTo (drop (i + 1) xs) before) (sym is)
-      (cleared_more (get_or xs i 0) (drop (i + 1) xs) before now (subst AreRisingNumbers first_is rising) (subst (λ rest. IsClearedTo rest before now) first_is to))
+      (cleared_more (get_or xs i 0) (drop (i + 1) xs) before now (subst AreSortedNumbers first_is rising) (subst (λ rest. IsClearedTo rest before now) first_is to))

@@ -1,8 +1,8 @@
 //! The folder of doomed files is cleared, as when the cache is opened and no entry is in use.
 
 ghost use Rattle.std.specs.Prelude.{OnOk, IsTrue};
-ghost use Rattle.disk_theory.specs.Account.{Accounts, LooksAtNoEntry, ending, no_sync};
-ghost use Rattle.disk_theory.specs.Listing.{AreDoomed, AreRisingNumbers};
+ghost use Rattle.disk_theory.specs.Account.{LeavesEntriesUnread, ending, no_sync};
+ghost use Rattle.disk_theory.specs.Listing.{AreDoomed, AreSortedNumbers};
 ghost use Rattle.disk_theory.specs.Told.{Told};
 ghost use Rattle.doom_area.specs.DoomArea.{RemovesDoomed, IsCleared};
 
@@ -12,12 +12,11 @@ use std::alloc::Global;
 
 // Removes the doomed files, whose numbers these are.
 fn remove_each<D: Disk>(disk: &mut D, numbers: &[u32]) -> Result<(), DiskFault>
-    requires rising { AreRisingNumbers numbers.now }
+    requires sorted { AreSortedNumbers numbers.now }
     requires told { IsTrue D.tells → AreDoomed (D.state disk.old) numbers.now }
     ensures removes { Told D.Disk RemovesDoomed disk.old disk.new }
     ensures cleared { OnOk result (Told D.Disk IsCleared disk.old disk.new) }
-    ensures account { Accounts D.Disk (ending result) no_sync disk.old disk.new }
-    ensures no_entry { LooksAtNoEntry D.Disk disk.old disk.new }
+    ensures disk { LeavesEntriesUnread D.Disk (ending result) no_sync disk.old disk.new }
 {
     for number in numbers {
         disk.remove(&Place::Doomed(*number))?;
@@ -31,8 +30,7 @@ pub fn clear<D: Disk>(alloc: Global, disk: &mut D) -> Result<(), DiskFault>
     // Nothing but doomed files was removed, and after an Ok none stands.
     ensures removes { Told D.Disk RemovesDoomed disk.old disk.new }
     ensures cleared { OnOk result (Told D.Disk IsCleared disk.old disk.new) }
-    ensures account { Accounts D.Disk (ending result) no_sync disk.old disk.new }
-    ensures no_entry { LooksAtNoEntry D.Disk disk.old disk.new }
+    ensures disk { LeavesEntriesUnread D.Disk (ending result) no_sync disk.old disk.new }
 {
     let mut numbers = Numbers::new(alloc);
     disk.doomed(&mut numbers)?;

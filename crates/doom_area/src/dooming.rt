@@ -2,7 +2,7 @@
 
 ghost use Rattle.std.specs.Prelude.{◌≡◌, ◌<◌, ℕ, length, IfOk, IsTrue, IsSome};
 ghost use Rattle.cache_base.specs.declared.limits.TheConstants.{SLOTS};
-ghost use Rattle.disk_theory.specs.Account.{Accounts, FailsInChange, ending, no_sync};
+ghost use Rattle.disk_theory.specs.Account.{OnlyChanges, ending, no_sync};
 ghost use Rattle.disk_theory.specs.State.{standing, renamed, removed};
 ghost use Rattle.disk_theory.specs.Calls.{counted_change, if_done};
 ghost use Rattle.disk_theory.specs.declared.place.Place.TheVariants.{Entry, Doomed};
@@ -36,8 +36,7 @@ pub fn doom<D: Disk>(disk: &mut D, name: &Name, in_use: &[u32]) -> Result<u32, D
         disk.old disk.new }
     ensures counts { IsTrue D.tells →
         D.counts disk.new ≡ counted_change result (D.counts disk.old) }
-    ensures account { Accounts D.Disk (ending result) no_sync disk.old disk.new }
-    ensures change { FailsInChange D.Disk (ending result) disk.new }
+    ensures disk { OnlyChanges D.Disk (ending result) no_sync disk.old disk.new }
 {
     let number = least(in_use);
     disk.rename(&Place::Entry(*name), &Place::Doomed(number))?;
@@ -51,8 +50,7 @@ pub fn release<D: Disk>(disk: &mut D, number: u32) -> Result<(), DiskFault>
         (λ s t. t ≡ if_done result (removed (Doomed number) s) s) disk.old disk.new }
     ensures counts { IsTrue D.tells →
         D.counts disk.new ≡ counted_change result (D.counts disk.old) }
-    ensures account { Accounts D.Disk (ending result) no_sync disk.old disk.new }
-    ensures change { FailsInChange D.Disk (ending result) disk.new }
+    ensures disk { OnlyChanges D.Disk (ending result) no_sync disk.old disk.new }
 {
     disk.remove(&Place::Doomed(number))
 }

@@ -1,7 +1,7 @@
 //! A new entry.
 
 ghost use Rattle.std.specs.Prelude.{◌≡◌, [], IfOk, OnOk, IsTrue};
-ghost use Rattle.disk_theory.specs.Account.{Accounts, FailsInChange, ending, no_sync};
+ghost use Rattle.disk_theory.specs.Account.{OnlyChanges, ending, no_sync};
 ghost use Rattle.disk_theory.specs.State.{created};
 ghost use Rattle.disk_theory.specs.Calls.{counted, if_done};
 ghost use Rattle.entry_file.specs.NewEntry.{HasBody};
@@ -20,8 +20,7 @@ pub fn begin<D: Disk>(alloc: Global, disk: &mut D, place: &Place) -> Result<NewE
     ensures state { IsTrue D.tells → D.state disk.new
         ≡ if_done result (created place.now (D.state disk.old)) (D.state disk.old) }
     ensures calls { OnOk result (IsTrue D.tells → D.counts disk.new ≡ counted (D.counts disk.old)) }
-    ensures account { Accounts D.Disk (ending result) no_sync disk.old disk.new }
-    ensures change { FailsInChange D.Disk (ending result) disk.new }
+    ensures disk { OnlyChanges D.Disk (ending result) no_sync disk.old disk.new }
 {
     let rest = Buffer::new(alloc)?;
     let hashes = ChunkHashes::new(alloc)?;

@@ -6,7 +6,7 @@ ghost use Rattle.cache_base.specs.Limits.{chunks};
 ghost use Rattle.cache_base.specs.declared.limits.TheConstants.{BLOCK_MAX, BODY_MAX, CHUNK};
 ghost use Rattle.chunk_store.specs.Chunks.{chunk_hash_of};
 ghost use Rattle.chunk_store.specs.Stored.{unfinished_file};
-ghost use Rattle.disk_theory.specs.Account.{Accounts, FailsInChange, ending, no_sync};
+ghost use Rattle.disk_theory.specs.Account.{OnlyChanges, ending, no_sync};
 ghost use Rattle.disk_theory.specs.State.{standing, wrote};
 ghost use Rattle.disk_theory.specs.Writes.{WritesAt};
 ghost use Rattle.disk_theory.specs.Calls.{counted, if_done};
@@ -108,8 +108,7 @@ impl NewEntry {
             ≡ Some (file_of (finished header key elements body))) }
         ensures calls { OnOk result (IsTrue D.tells →
             D.counts disk.new ≡ counted (D.counts disk.old)) }
-        ensures account { Accounts D.Disk (ending result) no_sync disk.old disk.new }
-        ensures change { FailsInChange D.Disk (ending result) disk.new }
+        ensures disk { OnlyChanges D.Disk (ending result) no_sync disk.old disk.new }
     {
         self.makes_version(header, &key, &elements);
         let whole = self.hashes.as_slice().len() as u64 * CHUNK as u64;

@@ -1,11 +1,11 @@
 //! Appends to the body of a new entry.
 
-ghost use Rattle.std.specs.Prelude.{◌≡◌, ◌≤◌, ◌<◌, ◌+◌, ◌*◌, ◌/◌, ◌++◌, ℕ, List, [], ◌∷◌, length, take, OnOk, IsTrue, Some, Ok};
+ghost use Rattle.std.specs.Prelude.{◌≡◌, ◌≤◌, ◌<◌, ◌+◌, ◌*◌, ◌/◌, ◌++◌, ℕ, List, [], ◌∷◌, length, OnOk, IsTrue, Some, Ok};
 ghost use Rattle.cache_base.specs.Limits.{chunk_size};
-ghost use Rattle.cache_base.specs.declared.limits.TheConstants.{BODY_MAX, BUFFER_MAX, CHUNK};
+ghost use Rattle.cache_base.specs.declared.limits.TheConstants.{BODY_MAX, CHUNK};
 ghost use Rattle.chunk_store.specs.Chunks.{chunk_hash_of};
 ghost use Rattle.chunk_store.specs.Stored.{chunk_write, unfinished_file};
-ghost use Rattle.disk_theory.specs.Account.{Accounts, FailsInChange, ending, no_sync};
+ghost use Rattle.disk_theory.specs.Account.{OnlyChanges, ending, no_sync};
 ghost use Rattle.disk_theory.specs.State.{standing, wrote};
 ghost use Rattle.disk_theory.specs.Writes.{WritesAt};
 ghost use Rattle.disk_theory.specs.Calls.{MayWriteAt, if_done};
@@ -35,8 +35,7 @@ fn put_full<D: Disk>(
         (wrote place.now (chunk_write (length hashes.old) chunk.old) (D.state disk.old))
         (D.state disk.old) }
     ensures calls { IsTrue D.tells → (D.counts disk.new).calls ≤ (D.counts disk.old).calls + 1 }
-    ensures account { Accounts D.Disk (ending result) no_sync disk.old disk.new }
-    ensures change { FailsInChange D.Disk (ending result) disk.new }
+    ensures disk { OnlyChanges D.Disk (ending result) no_sync disk.old disk.new }
 {
     let index = hashes.as_slice().len() as u32;
     hashes.push(chunk_hash(chunk.as_slice()));
@@ -62,8 +61,7 @@ impl NewEntry {
         ensures writes { IsTrue D.tells →
             WritesAt place.now IsUnfinished (D.state disk.old) (D.state disk.new) }
         ensures calls { IsTrue D.tells → (D.counts disk.new).calls ≤ (D.counts disk.old).calls + 1 }
-        ensures account { Accounts D.Disk (ending result) no_sync disk.old disk.new }
-        ensures change { FailsInChange D.Disk (ending result) disk.new }
+        ensures disk { OnlyChanges D.Disk (ending result) no_sync disk.old disk.new }
     {
         self.rest.extend(b);
         let result = put_full(disk, place, &mut self.rest, &mut self.hashes);
@@ -98,8 +96,7 @@ impl NewEntry {
             WritesAt place.now IsUnfinished (D.state disk.old) (D.state disk.new) }
         ensures calls { IsTrue D.tells → (D.counts disk.new).calls ≤ (D.counts disk.old).calls
             + (length (held self.old).rest + length b.now) / chunk_size }
-        ensures account { Accounts D.Disk (ending result) no_sync disk.old disk.new }
-        ensures change { FailsInChange D.Disk (ending result) disk.new }
+        ensures disk { OnlyChanges D.Disk (ending result) no_sync disk.old disk.new }
     {
         let mut left = b;
         while left.len() >= CHUNK - self.rest.as_slice().len() {

@@ -2,7 +2,7 @@
 
 ghost use Rattle.std.specs.Prelude.{◌≡◌, ◌≤◌, ℕ, List, length, take, OnOk, IsTrue, Some};
 ghost use Rattle.cache_base.specs.Bytes.{AreBytes};
-ghost use Rattle.disk_theory.specs.Account.{Accounts, FailsInChange, ending, no_sync};
+ghost use Rattle.disk_theory.specs.Account.{OnlyChanges, ending, no_sync};
 ghost use Rattle.disk_theory.specs.State.{standing, wrote};
 ghost use Rattle.disk_theory.specs.Writes.{WritesAt};
 ghost use Rattle.disk_theory.specs.Prefixes.{KeepsPrefix};
@@ -53,8 +53,7 @@ pub fn grow_body<D: Disk>(
     ensures prefix { IsTrue D.tells → let n = len_before (meta_of meta.now) more.now in
         KeepsPrefix place.now n (D.state disk.old) (D.state disk.new) }
     ensures calls { OnOk result (IsTrue D.tells → D.counts disk.new ≡ counted (D.counts disk.old)) }
-    ensures account { Accounts D.Disk (ending result) no_sync disk.old disk.new }
-    ensures change { FailsInChange D.Disk (ending result) disk.new }
+    ensures disk { OnlyChanges D.Disk (ending result) no_sync disk.old disk.new }
 {
     bytes_fit(more);
     let tail = tail_of(alloc, more, meta)?;

@@ -2,7 +2,7 @@
 
 ghost use Rattle.std.specs.Prelude.{◌≡◌, ℕ, List, take, OnOk, IsTrue, Some};
 ghost use Rattle.cache_base.specs.Bytes.{AreBytes};
-ghost use Rattle.disk_theory.specs.Account.{Accounts, FailsInChange, ending, no_sync};
+ghost use Rattle.disk_theory.specs.Account.{OnlyChanges, ending, no_sync};
 ghost use Rattle.disk_theory.specs.State.{standing, wrote};
 ghost use Rattle.disk_theory.specs.Writes.{WritesAt};
 ghost use Rattle.disk_theory.specs.Calls.{counted, if_done};
@@ -40,8 +40,7 @@ pub fn rewrite_meta<D: Disk>(
         standing (D.state disk.old) place.now ≡ Some content → standing (D.state disk.new)
         place.now ≡ Some (file_of (rewritten (meta_of meta.now) content))) }
     ensures calls { OnOk result (IsTrue D.tells → D.counts disk.new ≡ counted (D.counts disk.old)) }
-    ensures account { Accounts D.Disk (ending result) no_sync disk.old disk.new }
-    ensures change { FailsInChange D.Disk (ending result) disk.new }
+    ensures disk { OnlyChanges D.Disk (ending result) no_sync disk.old disk.new }
 {
     let tail = entry_metadata::print(alloc, meta)?;
     disk.write_end(place, u64::from(meta.offset), tail.as_slice())?;

@@ -1,13 +1,17 @@
 -- The account of calls in sequence, and of one whose answer is handed on.
 use Rattle.std.proofs.Common.{ℕ, ◌+◌, ◌≤◌, ◌≡◌, ◌⊎◌, ◌∙◌, inl, IsTrue, Result, Ok, Err, IsErrAnd, ap, refl, sym, subst, arith}
 use Rattle.cache_base.specs.Causes.{HasCause}
-use Rattle.disk_theory.specs.Account.{Accounts, Ending, FailsInChange, IsCalm, Looks, SyncsAtMost, no_sync, ending as disk_ending, fault_ending as disk_fault_ending}
+use Rattle.disk_theory.specs.Account.{Accounts, Ending, FailsInChange, IsCalm, Looks, OnlyChanges, SyncsAtMost, no_sync, ending as disk_ending, fault_ending as disk_fault_ending}
 use Rattle.disk_theory.specs.Calls.{FailsLast}
 use Rattle.disk_theory.specs.declared.disk.Disk.{Ghosts}
 use Rattle.disk_theory.specs.declared.disk.DiskFault.{DiskFault}
 use Rattle.disk_theory.specs.declared.disk.DiskFault.TheVariants as disk
+use Rattle.cache_theory.specs.declared.refusal.Refusal.{Refusal}
+use Rattle.file_handles.specs.Promises.{ChangesFiles}
+use Rattle.file_handles.proofs.IndexLeft.{same_left}
 use Rattle.file_handles.specs.Answers.{ending, fault_ending, fault_of}
 use Rattle.file_handles.specs.declared.fault.HandleFault.{HandleFault}
+use Rattle.file_handles.specs.declared.fault.HandleFault.TheVariants as fault
 
 -- some syncs more
 pub syncs_then : {Self : _} (D : Ghosts Self) (n m all : ℕ) (a b c : Self) → n + m ≤ all → SyncsAtMost D n a b → SyncsAtMost D m b c → SyncsAtMost D all a c
@@ -90,3 +94,43 @@ pub calm_then_handed_on : {T X : Type 0} {Self : _} (D : Ghosts Self) {n : ℕ} 
     → IsCalm D no_sync a b → Accounts D (disk_ending r) n b c → Accounts D (disk_ending out) n a c
 calm_then_handed_on D {n} r f out a b c at is calm last =
     subst (λ e. Accounts D e n a c) (sym (fault_handed_on r f out at is)) (accounts_then D (disk_ending r) a b c (calm_accounts D a b calm) last)
+
+-- a change of the disk whose fault is handed on
+pub changes_handed_on : {T X : Type 0} {Self : _} (D : Ghosts Self) {n : ℕ} (r : Result X DiskFault) (f : DiskFault) (out : Result T HandleFault) (before now : Self) → r ≡ Err f → IsErrAnd out (λ e. e ≡ fault_of f)
+    → OnlyChanges D (disk_ending r) n before now → OnlyChanges D (ending out) n before now
+changes_handed_on D r f (Ok value) before now at is changes = absurd is
+changes_handed_on D {n} r f (Err e) before now at is changes = subst (λ e. OnlyChanges D (fault_ending e) n before now) (sym is) (go f (subst (λ r. OnlyChanges D (disk_ending r) n before now) at changes))
+  where
+    go : (f : DiskFault) → OnlyChanges D (disk_fault_ending f) n before now → OnlyChanges D (fault_ending (fault_of f)) n before now
+    go disk.Failed changes = changes
+    go disk.Memory changes = changes
+
+-- where memory ran out after calls none of which failed
+pub out_of_memory : {T : Type 0} {Self : _} (D : Ghosts Self) {n : ℕ} (out : Result T HandleFault) (a b : Self) → IsErrAnd out (λ e. e ≡ fault.Memory) → Accounts D Ending.NoneFailed n a b → Accounts D (ending out) n a b
+out_of_memory D (Ok value) a b is account = absurd is
+out_of_memory D {n} (Err e) a b is account = subst (λ e. Accounts D (fault_ending e) n a b) (sym is) (record {
+  cause = record { later = account.cause.later; rose = λ failed. absurd (cc); kept = λ not. account.cause.kept (λ failed. cc) };
+  went_on = λ none told. absurd (cc);
+  stops = account.stops;
+  last = λ failed. absurd (cc);
+  syncs = account.syncs;
+})
+
+-- a refusal, before any call
+pub refused_files : {T : Type 0} {Self : _} (D : Ghosts Self) {n : ℕ} (r : Refusal) (out : Result T HandleFault) (disk : Self) → IsErrAnd out (λ e. e ≡ fault.Refused r) → ChangesFiles D n out disk disk
+refused_files D r (Ok value) disk is = absurd is
+refused_files D {n} r (Err e) disk is = record {
+  unchanged = λ refusal same. refl;
+  index = λ told. same_left refl;
+  disk = subst (λ e. OnlyChanges D (fault_ending e) n disk disk) (sym is) (record {
+    account = record {
+      cause = record { later = omega arith; rose = λ failed. absurd (cc); kept = λ not. refl };
+      went_on = λ none told. refl;
+      stops = λ told. inl refl;
+      last = λ failed. absurd (cc);
+      syncs = λ told. omega arith;
+    };
+    change = λ failed. absurd (cc);
+    no_entry = λ told. refl;
+  });
+}

@@ -27,3 +27,4 @@ pub mod Removing
 pub mod Failing
 pub mod Users
 pub mod Unsynced
+pub mod Promises

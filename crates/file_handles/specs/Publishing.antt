@@ -1,4 +1,4 @@
--- How a file that was finished aside comes to stand under its name.
+-- How a file that was finished aside gets its name.
 use Rattle.std.specs.Prelude.{Bool, IfOk, IsOkAnd, None, OnErr, OnOk, Option, Result, Some, false, true, ℕ, ◌≡◌, ◌⊎◌}
 use Rattle.cache_base.specs.declared.name.Name.{Name}
 use Rattle.cache_theory.specs.Machine.{Object as MachineObject}

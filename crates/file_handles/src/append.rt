@@ -1,16 +1,16 @@
 //! Appends to the body of the entry in a slot.
 
-ghost use Rattle.std.specs.Prelude.{ℕ, List, ◌≡◌, ◌+◌, ◌<◌, IfErr, IfOk, IfSome, IsSomeAnd, IsTrue, None, OnOk, length, Ok, ◌≢◌, Err};
+ghost use Rattle.std.specs.Prelude.{ℕ, List, ◌≡◌, ◌+◌, ◌<◌, IfErr, IfOk, IfSome, IsSomeAnd, IsTrue, OnOk, length, Ok, ◌≢◌, Err};
 ghost use Rattle.cache_base.specs.declared.limits.TheConstants.{CHUNK, SLOTS};
 ghost use Rattle.cache_theory.specs.Command.Command.{Append};
 ghost use Rattle.cache_theory.specs.Machine.{Machine};
-ghost use Rattle.disk_theory.specs.Account.{Accounts, FailsInChange, no_sync};
+ghost use Rattle.disk_theory.specs.Account.{OnlyChanges, no_sync};
 ghost use Rattle.disk_theory.specs.Told.{Told};
 ghost use Rattle.file_handles.specs.Answers.{OnRefused, done_or, ending};
 ghost use Rattle.file_handles.specs.Growing.{AnswersInChunk, FitsInChunk, grow_fault};
 ghost use Rattle.file_handles.specs.Held.{rest_in};
 ghost use Rattle.file_handles.specs.Unsynced.{SyncsNothing};
-ghost use Rattle.index_theory.specs.Leaves.{LeavesBeside};
+ghost use Rattle.file_handles.specs.Promises.{ChangesFiles, KeepsHandles};
 
 use crate::object::{Draft, Entry};
 use crate::{HandleFault, Handles};
@@ -38,7 +38,7 @@ impl Handles {
     ghost use Rattle.file_handles.specs.Changes.{ChangesThere, IsFiledAt, appended};
     ghost use Rattle.file_handles.specs.HeldChunks.{SameChunks};
     ghost use Rattle.file_handles.specs.Kept.{kept, object_at as object_kept_at};
-    ghost use Rattle.file_handles.specs.Refuses.{ChecksNoSlot, Passes, Refuses, TellsNoSlot, UsesObject};
+    ghost use Rattle.file_handles.specs.Refuses.{ChecksNoSlot, Passes, Refuses, UsesObject};
     ghost use Rattle.file_handles.specs.Stands.{HandlesStand, RepresentsSome};
 
     // The place of the draft to which a slot may append so many bytes.
@@ -78,8 +78,7 @@ impl Handles {
         ensures chunks { SameChunks (kept self.old) (kept self.new) }
         ensures refused { OnRefused result (λ _. ⊥) }
         ensures no_read { result ≢ Err HandleFault.Read }
-        ensures account { Accounts D.Disk (ending result) no_sync disk.old disk.new }
-        ensures change { FailsInChange D.Disk (ending result) disk.new }
+        ensures disk { OnlyChanges D.Disk (ending result) no_sync disk.old disk.new }
     {
         let (label, entry) = self.take_apart(place);
         let file = label.file_place();
@@ -116,14 +115,9 @@ impl Handles {
         ensures within { (m : Machine) (number : ℕ → ℕ) → HandlesStand (kept self.old) m number →
             FitsInChunk m slot b.now → disk.new ≡ disk.old }
         ensures within_reply { AnswersInChunk (kept self.old) slot b.now result }
-        ensures chunks { SameChunks (kept self.old) (kept self.new) }
-        ensures no_slot { TellsNoSlot (kept self.old) slot result }
-        ensures unchanged { OnRefused result (λ _. disk.new ≡ disk.old) }
-        ensures no_read { result ≢ Err HandleFault.Read }
+        ensures handles { KeepsHandles slot result (kept self.old) (kept self.new) }
+        ensures files { ChangesFiles D.Disk no_sync result disk.old disk.new }
         ensures unsynced { Told D.Disk SyncsNothing disk.old disk.new }
-        ensures index { Told D.Disk LeavesBeside disk.old disk.new }
-        ensures account { Accounts D.Disk (ending result) no_sync disk.old disk.new }
-        ensures change { FailsInChange D.Disk (ending result) disk.new }
     {
         let place = self.may_append(slot, b.len())?;
         self.append_at(disk, place, b)

@@ -2,7 +2,7 @@
 
 ghost use Rattle.std.specs.Prelude.{◌*◌, ◌+◌, ◌/◌, ◌≡◌, ◌<◌, ◌≤◌, IfOk, IfSome, IsSomeAnd, IsTrue, length, true, ◌≢◌, Err, OnOk};
 ghost use Rattle.cache_base.specs.declared.limits.TheConstants.{ELEMENTS_MAX, SLOTS};
-ghost use Rattle.disk_theory.specs.Account.{Accounts, FailsInChange, no_sync};
+ghost use Rattle.disk_theory.specs.Account.{OnlyChanges, no_sync};
 ghost use Rattle.entry_parts.specs.Elements.{elements_bytes};
 ghost use Rattle.entry_parts.specs.declared.fault.PartsFault;
 ghost use Rattle.index_record.specs.Filling.{bit_if};
@@ -170,8 +170,7 @@ impl Handles {
         ensures no_read { result ≢ Err HandleFault.Read }
         ensures calls { OnOk result (IsTrue D.tells →
             (D.counts disk.new).calls ≤ (D.counts disk.old).calls + 1) }
-        ensures account { Accounts D.Disk (ending result) no_sync disk.old disk.new }
-        ensures change { FailsInChange D.Disk (ending result) disk.new }
+        ensures disk { OnlyChanges D.Disk (ending result) no_sync disk.old disk.new }
     {
         let (label, entry) = self.take_apart(place);
         let file = label.file_place();

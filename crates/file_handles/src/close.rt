@@ -1,10 +1,10 @@
 //! Closes a slot, and all slots at the end.
 
-ghost use Rattle.std.specs.Prelude.{◌≡◌, ◌<◌, ◌&&◌, IfOk, IsSome, IsTrue, None, OnOk, Some, false, length, option_map, slice_get, slice_set, unwrap_or, ◌≢◌, Err, ◌+◌, ◌≤◌, IfSome};
+ghost use Rattle.std.specs.Prelude.{◌≡◌, ◌<◌, ◌&&◌, IfOk, IsSome, IsTrue, None, OnOk, Some, false, length, option_map, ◌≢◌, Err, ◌+◌, ◌≤◌, IfSome};
 ghost use Rattle.std.specs.List.{list_any};
 ghost use Rattle.cache_base.specs.declared.limits.TheConstants.{SLOTS};
 ghost use Rattle.cache_theory.specs.Command.Command.{Close};
-ghost use Rattle.disk_theory.specs.Account.{Accounts, FailsInChange, LooksAtNoEntry, ending as disk_ending, no_sync};
+ghost use Rattle.disk_theory.specs.Account.{OnlyChanges, ending as disk_ending, no_sync};
 ghost use Rattle.disk_theory.specs.Calls.{if_done};
 ghost use Rattle.disk_theory.specs.State.{standing};
 ghost use Rattle.disk_theory.specs.Told.{Told};
@@ -17,6 +17,7 @@ ghost use Rattle.file_handles.specs.Held.{object_place};
 ghost use Rattle.file_handles.specs.Seats.{is_use_of};
 ghost use Rattle.file_handles.specs.Unsynced.{SyncsNothing};
 ghost use Rattle.index_theory.specs.Leaves.{LeavesBeside};
+ghost use Rattle.file_handles.specs.Promises.{ChangesFiles};
 
 use crate::handles::take_at;
 use crate::object::{Entry, Object, Use};
@@ -50,9 +51,7 @@ fn let_go<D: Disk>(disk: &mut D, object: &Object) -> Result<(), DiskFault>
     ensures state { Told D.Disk (λ s t. t ≡ if_done result (let_go_by object.now s) s)
         disk.old disk.new }
     ensures calls { IsTrue D.tells → (D.counts disk.new).calls ≤ (D.counts disk.old).calls + 1 }
-    ensures account { Accounts D.Disk (disk_ending result) no_sync disk.old disk.new }
-    ensures no_entry { LooksAtNoEntry D.Disk disk.old disk.new }
-    ensures change { FailsInChange D.Disk (disk_ending result) disk.new }
+    ensures disk { OnlyChanges D.Disk (disk_ending result) no_sync disk.old disk.new }
 {
     match object.aside {
         Some(number) => release(disk, number),
@@ -107,9 +106,8 @@ impl Handles {
             IfSome (object_kept_at (kept self.old) used.place) (λ x. (D.counts disk.new).calls
             ≤ (D.counts disk.old).calls + finish_calls x)) }
         ensures index { Told D.Disk LeavesBeside disk.old disk.new }
-        ensures account { let most = close_syncs (kept self.old) slot in
-            Accounts D.Disk (ending result) most disk.old disk.new }
-        ensures change { FailsInChange D.Disk (ending result) disk.new }
+        ensures disk { let most = close_syncs (kept self.old) slot in
+            OnlyChanges D.Disk (ending result) most disk.old disk.new }
     {
         if self.is_finished_by(used) {
             self.finish_at(alloc, disk, used.place, None)
@@ -133,8 +131,7 @@ impl Handles {
         ensures index { Told D.Disk LeavesBeside disk.old disk.new }
         ensures calls { IsTrue D.tells →
             (D.counts disk.new).calls ≤ (D.counts disk.old).calls + 1 }
-        ensures account { Accounts D.Disk (disk_ending result) no_sync disk.old disk.new }
-        ensures change { FailsInChange D.Disk (disk_ending result) disk.new }
+        ensures disk { OnlyChanges D.Disk (disk_ending result) no_sync disk.old disk.new }
     {
         // Each object has a slot that uses it: so it goes with its last one.
         let table = &mut self.table;
@@ -167,17 +164,14 @@ impl Handles {
         ensures plain { IfOk result IsPlainEffect }
         ensures chunks { ClosesChunks slot result (kept self.old) (kept self.new) }
         ensures no_slot { TellsNoSlot (kept self.old) slot result }
-        ensures unchanged { OnRefused result (λ _. IsTrue D.tells → disk.new ≡ disk.old) }
+        ensures files { ChangesFiles D.Disk (close_syncs (kept self.old) slot) result disk.old
+            disk.new }
         ensures no_read { result ≢ Err HandleFault.Read }
         ensures unsynced { writes_draft (kept self.old) slot ≡ false →
             Told D.Disk SyncsNothing disk.old disk.new }
-        ensures index { Told D.Disk LeavesBeside disk.old disk.new }
         ensures calls { OnOk result (IsTrue D.tells →
             IfSome (object_in (kept self.old) slot) (λ x. (D.counts disk.new).calls
             ≤ (D.counts disk.old).calls + finish_calls x + 1)) }
-        ensures account { let most = close_syncs (kept self.old) slot in
-            Accounts D.Disk (ending result) most disk.old disk.new }
-        ensures change { FailsInChange D.Disk (ending result) disk.new }
     {
         let used = self.live_use(slot)?;
         let effect = self.finish_first(alloc, disk, slot, used)?;
@@ -193,9 +187,7 @@ impl Handles {
             ClosesAll result (cache D.Disk self disk.old) (D.state disk.new) }
         ensures removes { Told D.Disk RemovesDoomed disk.old disk.new }
         ensures index { Told D.Disk LeavesBeside disk.old disk.new }
-        ensures account { Accounts D.Disk (disk_ending result) no_sync disk.old disk.new }
-        ensures change { FailsInChange D.Disk (disk_ending result) disk.new }
-        ensures no_entry { LooksAtNoEntry D.Disk disk.old disk.new }
+        ensures disk { OnlyChanges D.Disk (disk_ending result) no_sync disk.old disk.new }
     {
         for object in &self.table.objects {
             if let Some(object) = object {

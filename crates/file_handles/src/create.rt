@@ -4,7 +4,7 @@ ghost use Rattle.std.specs.Prelude.{◌≡◌, ◌≢◌, ◌<◌, Err, false, t
 ghost use Rattle.cache_base.specs.declared.limits.TheConstants.{SLOTS};
 ghost use Rattle.cache_theory.specs.Command.Command.{Create};
 ghost use Rattle.cache_theory.specs.Step.{fresh};
-ghost use Rattle.disk_theory.specs.Account.{Accounts, Ending, FailsInChange, Looks, no_sync};
+ghost use Rattle.disk_theory.specs.Account.{Accounts, Ending, FailsInChange, Looks, OnlyChanges, no_sync};
 ghost use Rattle.disk_theory.specs.State.{standing};
 ghost use Rattle.disk_theory.specs.Told.{Told};
 ghost use Rattle.disk_theory.specs.declared.place.Place.TheVariants.{Doomed as DoomedAt, Entry as EntryAt};
@@ -16,8 +16,7 @@ ghost use Rattle.file_handles.specs.Creating.{MayHaveMade, MayHaveRemoved};
 ghost use Rattle.file_handles.specs.Dooming.{TakesFirstFree};
 ghost use Rattle.file_handles.specs.Effects.{HasEffect, IsPlainEffect};
 ghost use Rattle.file_handles.specs.Held.{IsHeldAs};
-ghost use Rattle.file_handles.specs.Unsynced.{SyncsNothing};
-ghost use Rattle.index_theory.specs.Leaves.{LeavesBeside};
+ghost use Rattle.file_handles.specs.Promises.{LooksThenChanges};
 
 use crate::doom::doomed_numbers;
 use crate::fault::look_fault;
@@ -51,8 +50,7 @@ fn drafted<D: Disk>(
     ensures state { Told D.Disk (MayHaveMade (DoomedAt aside) result) disk.old disk.new }
     ensures refused { OnRefused result (λ _. ⊥) }
     ensures no_read { result ≢ Err HandleFault.Read }
-    ensures account { Accounts D.Disk (ending result) no_sync disk.old disk.new }
-    ensures change { FailsInChange D.Disk (ending result) disk.new }
+    ensures disk { OnlyChanges D.Disk (ending result) no_sync disk.old disk.new }
 {
     let bytes = Bytes::from_slice(alloc, key)?;
     let body = begin(alloc, disk, &Place::Doomed(aside))?;
@@ -104,7 +102,6 @@ impl Handles {
     ghost use Rattle.file_handles.specs.Cache.{cache};
     ghost use Rattle.file_handles.specs.Carries.{CarriesOutAt};
     ghost use Rattle.file_handles.specs.Dooming.{DoomsUnder, numbers_in};
-    ghost use Rattle.file_handles.specs.Failing.{LeavesAll};
     ghost use Rattle.file_handles.specs.HeldChunks.{SameChunks};
     ghost use Rattle.file_handles.specs.Kept.{kept, use_at};
     ghost use Rattle.file_handles.specs.Stands.{RepresentsSome};
@@ -118,13 +115,8 @@ impl Handles {
         ensures slots { (kept self.new).slots ≡ (kept self.old).slots }
         ensures chunks { SameChunks (kept self.old) (kept self.new) }
         ensures refused { OnRefused result (λ _. ⊥) }
-        ensures read { OnRead result
-            (LeavesAll D.Disk (kept self.old) (kept self.new) disk.old disk.new) }
-        ensures change { result ≡ Err HandleFault.Disk →
-            FailsInChange D.Disk (ending result) disk.new }
-        ensures unsynced { Told D.Disk SyncsNothing disk.old disk.new }
-        ensures index { Told D.Disk LeavesBeside disk.old disk.new }
-        ensures account { Accounts D.Disk (ending result) no_sync disk.old disk.new }
+        ensures looks { LooksThenChanges D.Disk result (kept self.old) (kept self.new) disk.old
+            disk.new }
     {
         if self.doom_user(disk, name)? {
             return Ok(());
@@ -166,13 +158,8 @@ impl Handles {
         ensures numbered { Told D.Disk TakesFirstFree disk.old disk.new }
         ensures chunks { SameChunks (kept self.old) (kept self.new) }
         ensures unchanged { OnRefused result (λ _. disk.new ≡ disk.old) }
-        ensures read { OnRead result
-            (LeavesAll D.Disk (kept self.old) (kept self.new) disk.old disk.new) }
-        ensures change { result ≡ Err HandleFault.Disk →
-            FailsInChange D.Disk (ending result) disk.new }
-        ensures unsynced { Told D.Disk SyncsNothing disk.old disk.new }
-        ensures index { Told D.Disk LeavesBeside disk.old disk.new }
-        ensures account { Accounts D.Disk (ending result) no_sync disk.old disk.new }
+        ensures looks { LooksThenChanges D.Disk result (kept self.old) (kept self.new) disk.old
+            disk.new }
     {
         if self.use_of(slot).is_ok() {
             return Err(HandleFault::Refused(Refusal::SlotTaken));

@@ -4,17 +4,16 @@ ghost use Rattle.std.specs.Prelude.{◌≡◌, ◌≢◌, ◌<◌, ◌≤◌, �
 ghost use Rattle.cache_base.specs.declared.limits.TheConstants.{SLOTS};
 ghost use Rattle.cache_theory.specs.Command.Command.{Doom};
 ghost use Rattle.cache_theory.specs.Machine.{Machine};
-ghost use Rattle.disk_theory.specs.Account.{Accounts, FailsInChange, Looks, LooksAtNoEntry, ending as disk_ending, no_sync};
+ghost use Rattle.disk_theory.specs.Account.{Looks, OnlyChanges, ending as disk_ending, no_sync};
 ghost use Rattle.disk_theory.specs.Told.{Told};
 ghost use Rattle.entry_name.specs.EntryName.{file_name};
-ghost use Rattle.file_handles.specs.Answers.{OnRead, OnRefused, done_or, ending};
+ghost use Rattle.file_handles.specs.Answers.{OnRefused, done_or, ending};
 ghost use Rattle.disk_theory.specs.State.{State, standing};
 ghost use Rattle.disk_theory.specs.declared.place.Place.TheVariants.{Doomed as DoomedAt, Entry as EntryAt};
-ghost use Rattle.file_handles.specs.Dooming.{IsUnfinishedAt, IsUnfinishedFor, LeavesMark, SetsAside, TakesEntry, TakesFirstFree, number_in, numbers_in};
+ghost use Rattle.file_handles.specs.Dooming.{IsUnfinishedFor, SetsAside, TakesEntry, TakesFirstFree, number_in, numbers_in};
 ghost use Rattle.file_handles.specs.Effects.{HasEffect, IsPlainEffect};
 ghost use Rattle.file_handles.specs.Seats.{IsLow};
-ghost use Rattle.file_handles.specs.Unsynced.{SyncsNothing};
-ghost use Rattle.index_theory.specs.Leaves.{LeavesBeside};
+ghost use Rattle.file_handles.specs.Promises.{DoomsAside, LooksThenChanges};
 
 use crate::find::read_metadata;
 use crate::object::{Label, Object};
@@ -68,9 +67,7 @@ fn set_aside<D: Disk>(
         (result ≡ Ok number) × (disk.new ≡ disk.old) }
     ensures takes { Told D.Disk (TakesEntry name.now) disk.old disk.new }
     ensures low { IsLow aside → IfOk result (λ number. number < SLOTS) }
-    ensures no_entry { LooksAtNoEntry D.Disk disk.old disk.new }
-    ensures account { Accounts D.Disk (disk_ending result) no_sync disk.old disk.new }
-    ensures change { FailsInChange D.Disk (disk_ending result) disk.new }
+    ensures disk { OnlyChanges D.Disk (disk_ending result) no_sync disk.old disk.new }
 {
     match aside {
         Some(number) => Ok(number),
@@ -84,7 +81,6 @@ impl Handles {
     ghost use Rattle.file_handles.specs.Dooming.{DoomsUnder, EndsOn};
     ghost use Rattle.file_handles.specs.HeldChunks.{SameChunks};
     ghost use Rattle.file_handles.specs.Kept.{kept, object_at as object_kept_at};
-    ghost use Rattle.file_handles.specs.Failing.{LeavesAll};
     ghost use Rattle.file_handles.specs.Loading.{used_place, user_place};
     ghost use Rattle.file_handles.specs.Stands.{Represents, RepresentsSome};
     ghost use Rattle.file_handles.specs.Users.{users_of};
@@ -102,22 +98,8 @@ impl Handles {
         requires told { IsTrue D.tells → RepresentsSome (cache D.Disk self.old disk.old) }
         ensures dooms { let at = cache D.Disk in IsTrue D.tells →
             DoomsUnder name.now.0 result (at self.old disk.old) (at self.new disk.new) }
-        ensures numbered { Told D.Disk TakesFirstFree disk.old disk.new }
-        ensures mark { Told D.Disk LeavesMark disk.old disk.new }
-        ensures unmoved { (place number : ℕ) →
-            IsUnfinishedAt (kept self.old) name.now place number →
-            (disk.new ≡ disk.old)
-            × (number_in (object_kept_at (kept self.new) place) ≡ Some number) }
-        ensures takes { Told D.Disk (TakesEntry name.now) disk.old disk.new }
-        ensures slots { (kept self.new).slots ≡ (kept self.old).slots }
-        ensures chunks { SameChunks (kept self.old) (kept self.new) }
-        ensures refused { OnRefused result (λ _. ⊥) }
-        ensures no_read { result ≢ Err HandleFault.Read }
-        ensures unsynced { Told D.Disk SyncsNothing disk.old disk.new }
-        ensures index { Told D.Disk LeavesBeside disk.old disk.new }
-        ensures no_entry { LooksAtNoEntry D.Disk disk.old disk.new }
-        ensures account { Accounts D.Disk (ending result) no_sync disk.old disk.new }
-        ensures change { FailsInChange D.Disk (ending result) disk.new }
+        ensures aside { DoomsAside D.Disk name.now result (kept self.old) (kept self.new) disk.old
+            disk.new }
     {
         let (label, entry) = self.take_apart(place);
         // Those of the other objects, so fewer than the table has rows.
@@ -142,26 +124,12 @@ impl Handles {
         ensures dooms { let at = cache D.Disk in
             IsTrue D.tells → user_place (kept self.old) name.now ≢ None →
             DoomsUnder name.now.0 result (at self.old disk.old) (at self.new disk.new) }
-        ensures numbered { Told D.Disk TakesFirstFree disk.old disk.new }
-        ensures mark { Told D.Disk LeavesMark disk.old disk.new }
-        ensures unmoved { (place number : ℕ) →
-            IsUnfinishedAt (kept self.old) name.now place number →
-            (disk.new ≡ disk.old)
-            × (number_in (object_kept_at (kept self.new) place) ≡ Some number) }
-        ensures takes { Told D.Disk (TakesEntry name.now) disk.old disk.new }
+        ensures aside { DoomsAside D.Disk name.now result (kept self.old) (kept self.new) disk.old
+            disk.new }
         ensures none { user_place (kept self.old) name.now ≡ None → (result ≡ Ok false)
             × ((disk.new ≡ disk.old) × (kept self.new ≡ kept self.old)) }
         ensures some { IfOk result (λ doomed.
             doomed ≡ is_some (user_place (kept self.old) name.now)) }
-        ensures slots { (kept self.new).slots ≡ (kept self.old).slots }
-        ensures chunks { SameChunks (kept self.old) (kept self.new) }
-        ensures refused { OnRefused result (λ _. ⊥) }
-        ensures no_read { result ≢ Err HandleFault.Read }
-        ensures unsynced { Told D.Disk SyncsNothing disk.old disk.new }
-        ensures index { Told D.Disk LeavesBeside disk.old disk.new }
-        ensures no_entry { LooksAtNoEntry D.Disk disk.old disk.new }
-        ensures account { Accounts D.Disk (ending result) no_sync disk.old disk.new }
-        ensures change { FailsInChange D.Disk (ending result) disk.new }
     {
         match self.user(name) {
             Some(place) => {
@@ -187,22 +155,8 @@ impl Handles {
         ensures dooms { let at = cache D.Disk in IsTrue D.tells →
             DoomsUnder name.now.0 result (at self.old disk.old) (at self.new disk.new) }
         ensures effect { IfOk result (λ e. e ≡ Effect.Gone name.now) }
-        ensures numbered { Told D.Disk TakesFirstFree disk.old disk.new }
-        ensures mark { Told D.Disk LeavesMark disk.old disk.new }
-        ensures unmoved { (place number : ℕ) →
-            IsUnfinishedAt (kept self.old) name.now place number →
-            (disk.new ≡ disk.old)
-            × (number_in (object_kept_at (kept self.new) place) ≡ Some number) }
-        ensures takes { Told D.Disk (TakesEntry name.now) disk.old disk.new }
-        ensures slots { (kept self.new).slots ≡ (kept self.old).slots }
-        ensures chunks { SameChunks (kept self.old) (kept self.new) }
-        ensures refused { OnRefused result (λ _. ⊥) }
-        ensures no_read { result ≢ Err HandleFault.Read }
-        ensures unsynced { Told D.Disk SyncsNothing disk.old disk.new }
-        ensures index { Told D.Disk LeavesBeside disk.old disk.new }
-        ensures no_entry { LooksAtNoEntry D.Disk disk.old disk.new }
-        ensures account { Accounts D.Disk (ending result) no_sync disk.old disk.new }
-        ensures change { FailsInChange D.Disk (ending result) disk.new }
+        ensures aside { DoomsAside D.Disk name.now result (kept self.old) (kept self.new) disk.old
+            disk.new }
     {
         if self.doom_user(disk, name)? {
             return Ok(Effect::Gone(*name));
@@ -263,13 +217,8 @@ impl Handles {
             disk.old disk.new }
         ensures chunks { SameChunks (kept self.old) (kept self.new) }
         ensures unchanged { OnRefused result (λ _. Told D.Disk (λ s t. t ≡ s) disk.old disk.new) }
-        ensures read { OnRead result
-            (LeavesAll D.Disk (kept self.old) (kept self.new) disk.old disk.new) }
-        ensures change { result ≡ Err HandleFault.Disk →
-            FailsInChange D.Disk (ending result) disk.new }
-        ensures unsynced { Told D.Disk SyncsNothing disk.old disk.new }
-        ensures index { Told D.Disk LeavesBeside disk.old disk.new }
-        ensures account { Accounts D.Disk (ending result) no_sync disk.old disk.new }
+        ensures looks { LooksThenChanges D.Disk result (kept self.old) (kept self.new) disk.old
+            disk.new }
     {
         let name = self.may_doom(alloc, disk, key)?;
         self.doom_name(disk, &name)

@@ -6,17 +6,17 @@ ghost use Rattle.cache_base.specs.declared.limits.TheConstants.{BLOCK_MAX, ELEME
 ghost use Rattle.cache_theory.specs.Command.Command.{ElementOf, SetElement, UnsetElement};
 ghost use Rattle.cache_theory.specs.Command.Reply.{Refused};
 ghost use Rattle.cache_theory.specs.Step.{element_reply};
-ghost use Rattle.disk_theory.specs.Account.{Accounts, FailsInChange, no_sync};
+ghost use Rattle.disk_theory.specs.Account.{no_sync};
 ghost use Rattle.disk_theory.specs.Told.{Told};
 ghost use Rattle.entry_metadata.specs.Metadata.{block_length};
 ghost use Rattle.entry_parts.specs.Elements.{elements_bytes};
 ghost use Rattle.entry_parts.specs.Setting.{has_zero as has_zero_in, set_fault, with_element};
-ghost use Rattle.file_handles.specs.Answers.{OnRefused, done_or, done_or_none, ending};
+ghost use Rattle.file_handles.specs.Answers.{done_or, done_or_none};
 ghost use Rattle.file_handles.specs.Effects.{HasEffect, IsPlainEffect};
 ghost use Rattle.file_handles.specs.Held.{body_len_in, elements_in, key_in};
 ghost use Rattle.file_handles.specs.Setting.{HasRoom, are_small, has_small_block as has_small_block_of, small_len};
 ghost use Rattle.file_handles.specs.Unsynced.{SyncsNothing};
-ghost use Rattle.index_theory.specs.Leaves.{LeavesBeside};
+ghost use Rattle.file_handles.specs.Promises.{ChangesFiles, KeepsHandles};
 
 use crate::change::Change;
 use crate::object::Entry;
@@ -95,9 +95,8 @@ fn may_have(entry: &Entry, elements: &Elements, name: &[u8], value: &[u8]) -> bo
 impl Handles {
     ghost use Rattle.file_handles.specs.Cache.{cache};
     ghost use Rattle.file_handles.specs.Carries.{Answers, CarriesOut};
-    ghost use Rattle.file_handles.specs.HeldChunks.{SameChunks};
     ghost use Rattle.file_handles.specs.Kept.{kept, object_at as object_kept_at, object_in};
-    ghost use Rattle.file_handles.specs.Refuses.{ChecksNoSlot, HasAt, HasNoObject, Passes, Refuses, TellsNoSlot, UsesObject};
+    ghost use Rattle.file_handles.specs.Refuses.{ChecksNoSlot, HasAt, HasNoObject, Passes, Refuses, UsesObject};
     ghost use Rattle.file_handles.specs.Stands.{RepresentsSome};
 
     // The place of the object whose elements a slot may change.
@@ -162,16 +161,11 @@ impl Handles {
         ensures effect { IfOk result
             (HasEffect (kept self.old) (SetElement slot name.now value.now)) }
         ensures plain { IfOk result IsPlainEffect }
-        ensures chunks { SameChunks (kept self.old) (kept self.new) }
-        ensures no_slot { TellsNoSlot (kept self.old) slot result }
-        ensures unchanged { OnRefused result (λ _. disk.new ≡ disk.old) }
-        ensures no_read { result ≢ Err HandleFault.Read }
+        ensures handles { KeepsHandles slot result (kept self.old) (kept self.new) }
+        ensures files { ChangesFiles D.Disk no_sync result disk.old disk.new }
         ensures unsynced { Told D.Disk SyncsNothing disk.old disk.new }
-        ensures index { Told D.Disk LeavesBeside disk.old disk.new }
         ensures calls { OnOk result (IsTrue D.tells →
             (D.counts disk.new).calls ≤ (D.counts disk.old).calls + 1) }
-        ensures account { Accounts D.Disk (ending result) no_sync disk.old disk.new }
-        ensures change { FailsInChange D.Disk (ending result) disk.new }
     {
         let place = self.may_set(slot, name, value)?;
         self.change_at(alloc, disk, place, Change::Set { name, value })
@@ -194,17 +188,12 @@ impl Handles {
         ensures effect { IfOk result (λ some.
             IfSome some (HasEffect (kept self.old) (UnsetElement slot name.now))) }
         ensures plain { IfOk result (λ some. IfSome some IsPlainEffect) }
-        ensures chunks { SameChunks (kept self.old) (kept self.new) }
-        ensures no_slot { TellsNoSlot (kept self.old) slot result }
-        ensures unchanged { OnRefused result (λ _. disk.new ≡ disk.old) }
-        ensures no_read { result ≢ Err HandleFault.Read }
+        ensures handles { KeepsHandles slot result (kept self.old) (kept self.new) }
+        ensures files { ChangesFiles D.Disk no_sync result disk.old disk.new }
         ensures none_there { IfOk result (λ effect. IfNone effect (disk.new ≡ disk.old)) }
         ensures unsynced { Told D.Disk SyncsNothing disk.old disk.new }
-        ensures index { Told D.Disk LeavesBeside disk.old disk.new }
         ensures calls { OnOk result (IsTrue D.tells →
             (D.counts disk.new).calls ≤ (D.counts disk.old).calls + 1) }
-        ensures account { Accounts D.Disk (ending result) no_sync disk.old disk.new }
-        ensures change { FailsInChange D.Disk (ending result) disk.new }
     {
         let place = self.may_change(slot)?;
         if self.object_at(place).elements().get(name).is_none() {

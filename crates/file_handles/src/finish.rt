@@ -2,19 +2,18 @@
 
 ghost use Rattle.std.specs.Prelude.{◌≡◌, ◌≢◌, ◌<◌, ◌≤◌, Err, IfErr, IfOk, IfSome, IsSome, IsSomeAnd, IsTrue, None, OnOk, length, ◌+◌, if◌then◌else◌};
 ghost use Rattle.cache_base.specs.declared.limits.TheConstants.{KEY_MAX, SLOTS};
-ghost use Rattle.cache_theory.specs.Command.Command.{Finish, FinishAs};
-ghost use Rattle.disk_theory.specs.Account.{Accounts, FailsInChange, ending as disk_ending, no_sync, one_sync};
+ghost use Rattle.disk_theory.specs.Account.{OnlyChanges, ending as disk_ending, no_sync, one_sync};
 ghost use Rattle.disk_theory.specs.State.{standing};
 ghost use Rattle.disk_theory.specs.Told.{Told};
 ghost use Rattle.entry_metadata.specs.Meta.{meta_of};
 ghost use Rattle.entry_parts.specs.declared.header.TheConstants.{VERSION};
-ghost use Rattle.file_handles.specs.Answers.{OnRefused, done_or, ending};
-ghost use Rattle.file_handles.specs.Effects.{HasEffect, IsLearntOf, IsPlainEffect, file_len as file_len_of, learnt_of_held};
+ghost use Rattle.file_handles.specs.Answers.{OnRefused, ending};
+ghost use Rattle.file_handles.specs.Effects.{IsLearntOf, IsPlainEffect, file_len as file_len_of, learnt_of_held};
 ghost use Rattle.file_handles.specs.Finishing.{AreParts, completed_by, finish_calls, finish_command, finish_fault as finish_fault_of, finish_syncs, parts_by as parts_by_of};
 ghost use Rattle.file_handles.specs.Held.{place_of};
 ghost use Rattle.file_handles.specs.Publishing.{MayPublish};
 ghost use Rattle.file_handles.specs.Seats.{IsLow};
-ghost use Rattle.index_theory.specs.Leaves.{LeavesBeside};
+ghost use Rattle.file_handles.specs.Promises.{FinishesEntry};
 
 use crate::elements::has_small_block;
 use crate::object::{Draft, Entry, Label, Parts};
@@ -48,7 +47,7 @@ pub(crate) fn learnt_of(name: &Name, doomed: bool, entry: &Entry) -> Effect
     }
 }
 
-// The file of an entry that was finished comes to stand under its name, unless the entry is doomed, once all is on the
+// The file of an entry that was finished gets its name, unless the entry is doomed, once all is on the
 // disk. Gives the number where it stands aside from then on.
 fn publish<D: Disk>(
     disk: &mut D,
@@ -61,9 +60,8 @@ fn publish<D: Disk>(
     ensures low { IsLow aside → IfOk result IsLow }
     ensures calls { IsTrue D.tells → (D.counts disk.new).calls
         ≤ (D.counts disk.old).calls + (if doomed then 0 else 2) }
-    ensures account { let most = if doomed then no_sync else one_sync in
-        Accounts D.Disk (disk_ending result) most disk.old disk.new }
-    ensures change { FailsInChange D.Disk (disk_ending result) disk.new }
+    ensures disk { let most = if doomed then no_sync else one_sync in
+        OnlyChanges D.Disk (disk_ending result) most disk.old disk.new }
 {
     if doomed {
         return Ok(aside);
@@ -120,12 +118,11 @@ fn parts_by(given: Option<Parts>, key: &Bytes, own: Parts) -> Parts
 
 impl Handles {
     ghost use Rattle.file_handles.specs.Cache.{cache};
-    ghost use Rattle.file_handles.specs.Carries.{CarriesOut};
     ghost use Rattle.file_handles.specs.Changes.{IsFiledAt};
     ghost use Rattle.file_handles.specs.Publishing.{CompletesThere};
     ghost use Rattle.file_handles.specs.HeldChunks.{SameChunks};
-    ghost use Rattle.file_handles.specs.Kept.{kept, number_at, object_at as object_kept_at, object_in};
-    ghost use Rattle.file_handles.specs.Refuses.{ChecksNoSlot, Passes, Refuses, TellsNoSlot, UsesObject};
+    ghost use Rattle.file_handles.specs.Kept.{kept, number_at, object_at as object_kept_at};
+    ghost use Rattle.file_handles.specs.Refuses.{ChecksNoSlot, Passes, Refuses, UsesObject};
     ghost use Rattle.file_handles.specs.Stands.{RepresentsSome};
 
     // The place of the draft that a slot may finish with the parts that are given, or else with its own.
@@ -173,9 +170,8 @@ impl Handles {
         ensures calls { OnOk result (IsTrue D.tells →
             IfSome (object_kept_at (kept self.old) place) (λ x. (D.counts disk.new).calls
             ≤ (D.counts disk.old).calls + finish_calls x)) }
-        ensures account { let most = finish_syncs (object_kept_at (kept self.old) place) in
-            Accounts D.Disk (ending result) most disk.old disk.new }
-        ensures change { FailsInChange D.Disk (ending result) disk.new }
+        ensures disk { let most = finish_syncs (object_kept_at (kept self.old) place) in
+            OnlyChanges D.Disk (ending result) most disk.old disk.new }
     {
         let (label, entry) = self.take_apart(place);
         let file = label.file_place();
@@ -210,22 +206,8 @@ impl Handles {
         requires slot { slot < SLOTS }
         requires parts { IfSome given AreParts }
         requires told { IsTrue D.tells → RepresentsSome (cache D.Disk self.old disk.old) }
-        ensures carried { let at = cache D.Disk in IsTrue D.tells →
-            CarriesOut (finish_command given slot) (done_or result)
-            (at self.old disk.old) (at self.new disk.new) }
-        ensures effect { IfOk result (HasEffect (kept self.old) (finish_command given slot)) }
-        ensures plain { IfOk result IsPlainEffect }
-        ensures chunks { SameChunks (kept self.old) (kept self.new) }
-        ensures no_slot { TellsNoSlot (kept self.old) slot result }
-        ensures unchanged { OnRefused result (λ _. disk.new ≡ disk.old) }
-        ensures no_read { result ≢ Err HandleFault.Read }
-        ensures index { Told D.Disk LeavesBeside disk.old disk.new }
-        ensures calls { OnOk result (IsTrue D.tells →
-            IfSome (object_in (kept self.old) slot) (λ x. (D.counts disk.new).calls
-            ≤ (D.counts disk.old).calls + finish_calls x)) }
-        ensures account { let most = finish_syncs (object_in (kept self.old) slot) in
-            Accounts D.Disk (ending result) most disk.old disk.new }
-        ensures change { FailsInChange D.Disk (ending result) disk.new }
+        ensures finishes { FinishesEntry D.Disk given slot result (kept self.old) (kept self.new)
+            disk.old disk.new }
     {
         let place = self.may_finish(slot, &given)?;
         self.finish_at(alloc, disk, place, given)
@@ -240,22 +222,8 @@ impl Handles {
     ) -> Result<Effect, HandleFault>
         requires slot { slot < SLOTS }
         requires told { IsTrue D.tells → RepresentsSome (cache D.Disk self.old disk.old) }
-        ensures carried { let at = cache D.Disk in IsTrue D.tells →
-            CarriesOut (Finish slot) (done_or result)
-            (at self.old disk.old) (at self.new disk.new) }
-        ensures effect { IfOk result (HasEffect (kept self.old) (Finish slot)) }
-        ensures plain { IfOk result IsPlainEffect }
-        ensures chunks { SameChunks (kept self.old) (kept self.new) }
-        ensures no_slot { TellsNoSlot (kept self.old) slot result }
-        ensures unchanged { OnRefused result (λ _. disk.new ≡ disk.old) }
-        ensures no_read { result ≢ Err HandleFault.Read }
-        ensures index { Told D.Disk LeavesBeside disk.old disk.new }
-        ensures calls { OnOk result (IsTrue D.tells →
-            IfSome (object_in (kept self.old) slot) (λ x. (D.counts disk.new).calls
-            ≤ (D.counts disk.old).calls + finish_calls x)) }
-        ensures account { let most = finish_syncs (object_in (kept self.old) slot) in
-            Accounts D.Disk (ending result) most disk.old disk.new }
-        ensures change { FailsInChange D.Disk (ending result) disk.new }
+        ensures finishes { FinishesEntry D.Disk None slot result (kept self.old) (kept self.new)
+            disk.old disk.new }
     {
         self.finish_by(alloc, disk, slot, None)
     }
@@ -272,22 +240,9 @@ impl Handles {
     ) -> Result<Effect, HandleFault>
         requires slot { slot < SLOTS }
         requires told { IsTrue D.tells → RepresentsSome (cache D.Disk self.old disk.old) }
-        ensures carried { let at = cache D.Disk in IsTrue D.tells →
-            CarriesOut (FinishAs slot header elements) (done_or result)
-            (at self.old disk.old) (at self.new disk.new) }
-        ensures effect { IfOk result (HasEffect (kept self.old) (FinishAs slot header elements)) }
-        ensures plain { IfOk result IsPlainEffect }
-        ensures chunks { SameChunks (kept self.old) (kept self.new) }
-        ensures no_slot { TellsNoSlot (kept self.old) slot result }
-        ensures unchanged { OnRefused result (λ _. disk.new ≡ disk.old) }
-        ensures no_read { result ≢ Err HandleFault.Read }
-        ensures index { Told D.Disk LeavesBeside disk.old disk.new }
-        ensures calls { OnOk result (IsTrue D.tells →
-            IfSome (object_in (kept self.old) slot) (λ x. (D.counts disk.new).calls
-            ≤ (D.counts disk.old).calls + finish_calls x)) }
-        ensures account { let most = finish_syncs (object_in (kept self.old) slot) in
-            Accounts D.Disk (ending result) most disk.old disk.new }
-        ensures change { FailsInChange D.Disk (ending result) disk.new }
+        ensures finishes { FinishesEntry D.Disk
+            (Some (record { header = header; elements = elements })) slot result (kept self.old)
+            (kept self.new) disk.old disk.new }
     {
         parts_fit(header, &elements);
         self.finish_by(alloc, disk, slot, Some(Parts { header, elements }))

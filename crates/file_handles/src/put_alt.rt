@@ -1,23 +1,22 @@
 //! Puts alternative data after the body of the entry in a slot.
 
 ghost use Rattle.std.specs.Prelude.{◌≡◌, ◌≢◌, ◌+◌, ◌<◌, ◌≤◌, ◌⊎◌, Err, IfErr, IfOk, IfSome, IsSomeAnd, IsTrue, None, OnOk, codes, decimal, length};
-ghost use Rattle.alt_data.specs.AltData.{alt_value as alt_value_of, is_kind as is_kind_of};
+ghost use Rattle.alt_data.specs.AltData.{is_kind as is_kind_of};
 ghost use Rattle.cache_base.specs.Limits.{chunks as chunks_of};
 ghost use Rattle.cache_base.specs.declared.limits.TheConstants.{BODY_MAX, ELEMENTS_MAX, SLOTS};
 ghost use Rattle.cache_theory.specs.Checks.{with_alt_data};
 ghost use Rattle.cache_theory.specs.Command.Command.{PutAlt};
 ghost use Rattle.chunk_store.specs.Prefixes.{HasChunks, HasChunksWith};
-ghost use Rattle.disk_theory.specs.Account.{Accounts, FailsInChange, Looks, no_sync};
+ghost use Rattle.disk_theory.specs.Account.{Looks, OnlyChanges, no_sync};
 ghost use Rattle.disk_theory.specs.Prefixes.{KeepsPrefix};
 ghost use Rattle.disk_theory.specs.State.{standing};
 ghost use Rattle.disk_theory.specs.Told.{Told};
 ghost use Rattle.entry_parts.specs.Elements.{element, elements_bytes};
-ghost use Rattle.file_handles.specs.Answers.{OnRead, OnRefused, done_or, ending};
+ghost use Rattle.file_handles.specs.Answers.{OnRefused, done_or, ending};
 ghost use Rattle.file_handles.specs.Effects.{HasEffect, IsLearntOf, IsPlainEffect};
 ghost use Rattle.file_handles.specs.Held.{body_len_in, object_place};
 ghost use Rattle.file_handles.specs.PuttingAlt.{are_small_with, put_fault as put_fault_of, with_alt_at};
-ghost use Rattle.file_handles.specs.Unsynced.{SyncsNothing};
-ghost use Rattle.index_theory.specs.Leaves.{LeavesBeside};
+ghost use Rattle.file_handles.specs.Promises.{DropsOwnChunks, LooksThenChanges, MakesTwoCalls};
 
 use crate::change::{Change, changed_elements};
 use crate::fault::look_fault;
@@ -174,10 +173,9 @@ impl Handles {
     ghost use Rattle.file_handles.specs.Carries.{CarriesOut};
     ghost use Rattle.file_handles.specs.Changes.{IsFiledAt, with_version};
     ghost use Rattle.file_handles.specs.Closing.{without_object};
-    ghost use Rattle.file_handles.specs.Failing.{LeavesAll};
     ghost use Rattle.file_handles.specs.HeldChunks.{SameChunks};
     ghost use Rattle.file_handles.specs.Kept.{kept, number_at, object_at as object_kept_at};
-    ghost use Rattle.file_handles.specs.PuttingAlt.{AreAsMany, AreHashesWith, KeepsMainBody, MayPut, PutsAlt, PutsThere, chunks_but_own};
+    ghost use Rattle.file_handles.specs.PuttingAlt.{AreAsMany, AreHashesWith, KeepsMainBody, MayPut, PutsAlt, PutsThere};
     ghost use Rattle.file_handles.specs.Refuses.{ChecksNoSlot, Passes, Refuses, TellsNoSlot, UsesObject};
     ghost use Rattle.file_handles.specs.Stands.{RepresentsSome};
 
@@ -266,8 +264,7 @@ impl Handles {
         ensures no_read { result ≢ Err HandleFault.Read }
         ensures calls { OnOk result (IsTrue D.tells →
             (D.counts disk.new).calls ≤ (D.counts disk.old).calls + 1) }
-        ensures account { Accounts D.Disk (ending result) no_sync disk.old disk.new }
-        ensures change { FailsInChange D.Disk (ending result) disk.new }
+        ensures disk { OnlyChanges D.Disk (ending result) no_sync disk.old disk.new }
     {
         let (label, entry) = self.take_apart(place);
         let file = label.file_place();
@@ -311,24 +308,12 @@ impl Handles {
         ensures main { Told D.Disk (KeepsMainBody (kept self.old) slot) disk.old disk.new }
 
         // The chunks of this entry alone are dropped, and only where the data are put.
-        ensures chunks { OnOk result
-            ((kept self.new).chunks ≡ chunks_but_own (kept self.old) slot) }
-        ensures some_chunks { SameChunks (kept self.old) (kept self.new)
-            ⊎ ((kept self.new).chunks ≡ chunks_but_own (kept self.old) slot) }
-        ensures other_chunks { OnRefused result (λ _. SameChunks (kept self.old) (kept self.new)) }
+        ensures chunks { DropsOwnChunks slot result (kept self.old) (kept self.new) }
         ensures no_slot { TellsNoSlot (kept self.old) slot result }
         ensures unchanged { OnRefused result (λ _. disk.new ≡ disk.old) }
-        ensures read { OnRead result
-            (LeavesAll D.Disk (kept self.old) (kept self.new) disk.old disk.new) }
-        ensures change { result ≡ Err HandleFault.Disk →
-            FailsInChange D.Disk (ending result) disk.new }
-        ensures unsynced { Told D.Disk SyncsNothing disk.old disk.new }
-        ensures index { Told D.Disk LeavesBeside disk.old disk.new }
-        ensures account { Accounts D.Disk (ending result) no_sync disk.old disk.new }
-        ensures calls { OnOk result (IsTrue D.tells →
-            (D.counts disk.new).calls ≤ (D.counts disk.old).calls + 2) }
-        ensures read_calls { OnRead result (IsTrue D.tells →
-            (D.counts disk.new).calls ≤ (D.counts disk.old).calls + 1) }
+        ensures looks { LooksThenChanges D.Disk result (kept self.old) (kept self.new) disk.old
+            disk.new }
+        ensures calls { MakesTwoCalls D.Disk result disk.old disk.new }
     {
         let place = self.may_put_alt(slot, kind, alt)?;
         let hashes = self.hashes_at(alloc, disk, place, kind, alt)?;

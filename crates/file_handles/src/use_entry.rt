@@ -1,14 +1,14 @@
 //! Counts a use of the entry of a slot.
 
-ghost use Rattle.std.specs.Prelude.{◌≡◌, ◌<◌, IfErr, IfOk, IsSomeAnd, IsTrue, OnOk, ◌≢◌, Err, ◌≤◌, ◌+◌};
+ghost use Rattle.std.specs.Prelude.{◌≡◌, ◌<◌, IfErr, IfOk, IsSomeAnd, IsTrue, OnOk, ◌≢◌, ◌≤◌, ◌+◌};
 ghost use Rattle.cache_base.specs.declared.limits.TheConstants.{SLOTS};
 ghost use Rattle.cache_theory.specs.Command.Command.{UseEntry};
-ghost use Rattle.disk_theory.specs.Account.{Accounts, FailsInChange, no_sync};
+ghost use Rattle.disk_theory.specs.Account.{no_sync};
 ghost use Rattle.disk_theory.specs.Told.{Told};
-ghost use Rattle.file_handles.specs.Answers.{OnRefused, done_or, ending};
+ghost use Rattle.file_handles.specs.Answers.{done_or};
 ghost use Rattle.file_handles.specs.Effects.{HasEffectAt, IsPlainEffect};
 ghost use Rattle.file_handles.specs.Unsynced.{SyncsNothing};
-ghost use Rattle.index_theory.specs.Leaves.{LeavesBeside};
+ghost use Rattle.file_handles.specs.Promises.{ChangesFiles, KeepsHandles};
 
 use crate::change::Change;
 use crate::{Effect, HandleFault, Handles};
@@ -20,9 +20,8 @@ use std::alloc::Global;
 impl Handles {
     ghost use Rattle.file_handles.specs.Cache.{cache};
     ghost use Rattle.file_handles.specs.Carries.{CarriesOutAt};
-    ghost use Rattle.file_handles.specs.HeldChunks.{SameChunks};
     ghost use Rattle.file_handles.specs.Kept.{kept, object_at as object_kept_at};
-    ghost use Rattle.file_handles.specs.Refuses.{ChecksNoSlot, HasAt, Passes, Refuses, TellsNoSlot};
+    ghost use Rattle.file_handles.specs.Refuses.{ChecksNoSlot, HasAt, Passes, Refuses};
     ghost use Rattle.file_handles.specs.Stands.{RepresentsSome};
 
     // The place of the object of a slot.
@@ -54,16 +53,11 @@ impl Handles {
             (at self.old disk.old) (at self.new disk.new) }
         ensures effect { IfOk result (HasEffectAt now (kept self.old) (UseEntry slot)) }
         ensures plain { IfOk result IsPlainEffect }
-        ensures chunks { SameChunks (kept self.old) (kept self.new) }
-        ensures no_slot { TellsNoSlot (kept self.old) slot result }
-        ensures unchanged { OnRefused result (λ _. disk.new ≡ disk.old) }
-        ensures no_read { result ≢ Err HandleFault.Read }
+        ensures handles { KeepsHandles slot result (kept self.old) (kept self.new) }
+        ensures files { ChangesFiles D.Disk no_sync result disk.old disk.new }
         ensures unsynced { Told D.Disk SyncsNothing disk.old disk.new }
-        ensures index { Told D.Disk LeavesBeside disk.old disk.new }
         ensures calls { OnOk result (IsTrue D.tells →
             (D.counts disk.new).calls ≤ (D.counts disk.old).calls + 1) }
-        ensures account { Accounts D.Disk (ending result) no_sync disk.old disk.new }
-        ensures change { FailsInChange D.Disk (ending result) disk.new }
     {
         let place = self.place_of(slot)?;
         self.change_at(alloc, disk, place, Change::Use { now })

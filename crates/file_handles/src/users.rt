@@ -2,7 +2,7 @@
 
 ghost use Rattle.std.specs.Prelude.{◌≡◌, IfOk, false, filter, length, true};
 ghost use Rattle.std.specs.List.{list_any};
-ghost use Rattle.cache_base.specs.Names.{AreRising, has_name};
+ghost use Rattle.cache_base.specs.Names.{AreSorted, has_name};
 ghost use Rattle.cache_base.specs.declared.name.Name.{Name as AName};
 ghost use Rattle.cache_theory.specs.Covers.{covers};
 ghost use Rattle.entry_key.specs.Tags.{origin_hash as origin_hash_of, tags_of};
@@ -111,7 +111,7 @@ fn asked_in_order(
 ) -> Result<Names, NoMemory>
     ensures names { IfOk result (λ names. (q : AName) →
         has_name names q ≡ list_any (is_counted asked q) objects.now) }
-    ensures rising { IfOk result AreRising }
+    ensures sorted { IfOk result AreSorted }
 {
     let names = asked_names(alloc, objects, asked)?;
     listed(alloc, name_set(alloc, names.as_slice())?)
@@ -150,7 +150,7 @@ impl Handles {
     /// The names of undoomed entries in use that are of the origin with this hash and not pinned, in name order.
     pub fn open_of(&self, alloc: Global, origin: u64) -> Result<Names, NoMemory>
         ensures names { IfOk result (AreCoveredNames (kept self.now) origin) }
-        ensures rising { IfOk result AreRising }
+        ensures sorted { IfOk result AreSorted }
     {
         asked_in_order(alloc, &self.table.objects, Asked::Of { origin })
     }

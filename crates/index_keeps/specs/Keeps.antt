@@ -18,7 +18,7 @@ use Rattle.startup_read.specs.Spares.{SparesEntries}
 abbrev pub LeftIsSafe : Type 0
 LeftIsSafe = (s t : State) (w : Marks) → LeavesEntries s t → IsSafe s w → IsSafe t w
 
--- and no file comes to stand at the places of two
+-- and no file gets the places of two
 abbrev pub LeftIsFiledOnce : Type 0
 LeftIsFiledOnce = (s t : State) → LeavesEntries s t → IsFiledOnce s → IsFiledOnce t
 

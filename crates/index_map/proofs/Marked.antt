@@ -11,7 +11,7 @@ use Rattle.std.proofs.lemmas.Map.Keys.{IsDistinct-cons, IsDistinct-head, IsDisti
 use Rattle.cache_base.specs.declared.name.Name.{Name}
 use Rattle.index_record.specs.declared.record.IndexRecord.{IndexRecord}
 use Rattle.std.specs.List.Sorted.{IsStrictlySortedBy}
-use Rattle.record_list.specs.Lists.{AreRising, HasNames, names_of, record_at, same_name}
+use Rattle.record_list.specs.Lists.{AreSorted, HasNames, names_of, record_at, same_name}
 use Rattle.record_list.proofs.NameLaws.{rising_distinct, same_back, same_is, same_itself}
 use Rattle.index_map.specs.Known.{ArePlain, IsPlain}
 use Rattle.index_map.specs.Slots.{AreFew, AreSmall, IsBase, IsSlotOf, IsTable, PutsSlot, Slot, base_slot, changed_of, counts_of, first_mark, gone_slot, kept_slot, kilobytes_of, marked, marked_in, records_of, remarked, rewritten, seen_mark, seen_of, seen_only, slot_of, weigh, written, written_mark}
@@ -401,7 +401,7 @@ module _ (rs : List IndexRecord) (ms : List Mark) (counts : Counts) (is : IsBase
 pub not_there : (rs : List IndexRecord) (ms : List Mark) (name : Name) → AllByRecursion (λ n. same_name name n ≡ false) (names_of rs) → {P : Type 0} → IsSome (lookup (same_name name) (marked_in rs ms)) → P
 not_there rs ms name apart some = absurd (let none = absent name rs ms apart in cc)
 
-no_names : AreRising []
+no_names : AreSorted []
 unfolding IsStrictlySortedBy
 no_names = tt
 

@@ -9,7 +9,7 @@ use Rattle.std.proofs.lemmas.List.{append_assoc, get_or-map, length-map, length-
 use Rattle.std.proofs.lemmas.List.Elements.{All-cons, All-head, All-nil, All-set, All-tail, filter_map-append}
 use Rattle.std.proofs.lemmas.List.Sums.{sum_by-cons, sum_by-set}
 use Rattle.std.proofs.lemmas.Map.Keys.{IsDistinct-cons, IsDistinct-head, IsDistinct-tail}
-use Rattle.cache_base.specs.Names.{AreRising}
+use Rattle.cache_base.specs.Names.{AreSorted}
 use Rattle.cache_base.specs.declared.name.Name.{Name}
 use Rattle.index_record.specs.declared.record.IndexRecord.{IndexRecord}
 use Rattle.record_list.specs.Lists.{same_name}
@@ -294,7 +294,7 @@ module _ (es : List (Name × Held)) (n : Counts) (is : ArePlaces es n) where
 
       pub place_put : (l : Counts) → IsWithout m (bare x.1) l → IsSlotOf name (slot_of name h) → ArePlaces (set es i (name, h)) l
       place_put l o fits = record {
-        rising = subst AreRising (sym keys_set) is.rising;
+        rising = subst AreSorted (sym keys_set) is.rising;
         own = own_set fits;
         few = subst (λ k. k < 2 ^ 62) (sym (length-set es i (name, h))) is.few;
         counted = counts_after (map bare (values_of es)) (map bare (values_of (set es i (name, h)))) (bare x.1) (bare h) n m l is.counted exchanged w o;
@@ -342,7 +342,7 @@ counted_place es i d n m low counted w =
 abbrev pub none : Counts
 none = record { records = 0; kilobytes = 0; changed = 0 }
 
-no_names : AreRising []
+no_names : AreSorted []
 unfolding IsStrictlySortedBy
 no_names = tt
 
@@ -360,9 +360,9 @@ own_new : (rs : List IndexRecord) → All (λ e. IsSlotOf e.0 e.1) (slots_of (ma
 own_new [] = All-nil (λ e. IsSlotOf e.0 e.1)
 own_new (r ∷ rs) = All-cons (λ e. IsSlotOf e.0 e.1) (r.name, slot_of r.name none_held) (slots_of (map new_place rs)) (record { current = tt; base = tt }) (own_new rs)
 
-pub new_places : (rs : List IndexRecord) → AreRising (map (λ (r : IndexRecord). r.name) rs) → length rs < 2 ^ 62 → ArePlaces (map new_place rs) none
+pub new_places : (rs : List IndexRecord) → AreSorted (map (λ (r : IndexRecord). r.name) rs) → length rs < 2 ^ 62 → ArePlaces (map new_place rs) none
 new_places rs rising few = record {
-  rising = subst AreRising (sym (new_keys rs)) rising;
+  rising = subst AreSorted (sym (new_keys rs)) rising;
   own = own_new rs;
   few = subst (λ n. n < 2 ^ 62) (sym (length-map rs new_place)) few;
   counted = none_new rs;
@@ -378,7 +378,7 @@ own_changed w v same keeps (e ∷ es) own = All-cons (λ e. IsSlotOf e.0 e.1) (e
 places_changed : (w : Slot → Slot) (v : Held → Held) → ((k : Name) (h : Held) → slot_of k (v h) ≡ w (slot_of k h)) → ((name : Name) (slot : Slot) → IsSlotOf name slot → IsSlotOf name (w slot))
     → (es after : List (Name × Held)) (n m : Counts) → ArePlaces es n → after ≡ map (λ e. (e.0, v e.1)) es → m ≡ counts_of (map bare (values_of after)) → ArePlaces after m
 places_changed w v same keeps es after n m is e counted = record {
-  rising = subst AreRising (sym (ap keys_of e ∙ keys_changed v es)) is.rising;
+  rising = subst AreSorted (sym (ap keys_of e ∙ keys_changed v es)) is.rising;
   own = subst (λ l. All (λ e. IsSlotOf e.0 e.1) (slots_of l)) (sym e) (own_changed w v same keeps es is.own);
   few = subst (λ k. k < 2 ^ 62) (sym (ap length e ∙ length-map es (λ (e : Name × Held). (e.0, v e.1)))) is.few;
   counted = counted;

@@ -10,7 +10,7 @@ use Rattle.std.proofs.lemmas.Bool.{ltb-false, ltb-true}
 use Rattle.std.proofs.lemmas.List.{get_or-map, length-map}
 use Rattle.std.proofs.lemmas.List.Elements.{recursion_from_All}
 use Rattle.std.proofs.lemmas.Map.Keys.{Less-from_sorted}
-use Rattle.cache_base.specs.Names.{AreRising, name_cmp}
+use Rattle.cache_base.specs.Names.{AreSorted, name_cmp}
 use Rattle.cache_base.specs.declared.name.Name.{Name}
 use Rattle.record_list.specs.Lists.{same_name}
 use Rattle.record_list.proofs.NameLaws.{above_below, below_apart, below_apart_back, below_trans, tied_same}
@@ -31,13 +31,13 @@ not_above a b q less Greater e = go (name_cmp a q)
 name_at : {X : Type 0} (key : X → Name) (xs : List X) (k : ℕ) (d : X) (e : Name) → k < length xs → get_or (map key xs) k e ≡ key (get_or xs k d)
 name_at key xs k d e low = get_or-map key xs k d e low
 
-below_at : {X : Type 0} (key : X → Name) (xs : List X) (i j : ℕ) (d : X) → AreRising (map key xs) → i < j → j < length xs → name_cmp (key (get_or xs i d)) (key (get_or xs j d)) ≡ Less
+below_at : {X : Type 0} (key : X → Name) (xs : List X) (i j : ℕ) (d : X) → AreSorted (map key xs) → i < j → j < length xs → name_cmp (key (get_or xs i d)) (key (get_or xs j d)) ≡ Less
 below_at key xs i j d rising less low =
     let long : length (map key xs) ≡ length xs = length-map xs key in
     (λ k. name_cmp (sym (name_at key xs i d no_name (omega arith)) k) (sym (name_at key xs j d no_name low) k))
     ∙ Less-from_sorted name_cmp (map key xs) i j no_name rising less (omega (arith, long))
 
-pub answers_rise : {X : Type 0} (key : X → Name) (xs : List X) (q : Name) → AreRising (map key xs) → IsNonDecreasingBy (λ (x : X). ordering_index (name_cmp (key x) q)) xs
+pub answers_rise : {X : Type 0} (key : X → Name) (xs : List X) (q : Name) → AreSorted (map key xs) → IsNonDecreasingBy (λ (x : X). ordering_index (name_cmp (key x) q)) xs
 answers_rise key xs q rising i j d up low = go (nat_lt i j) refl
   where
     go : (b : Bool) → nat_lt i j ≡ b → ordering_index (name_cmp (key (get_or xs i d)) q) ≤ ordering_index (name_cmp (key (get_or xs j d)) q)

@@ -10,7 +10,7 @@ use Rattle.cache_base.specs.Names.{name_cmp}
 use Rattle.cache_base.specs.declared.name.Name.{Name}
 use Rattle.index_record.specs.declared.record.IndexRecord.{IndexRecord}
 use Rattle.record_list.specs.Change.{applied, journal_or}
-use Rattle.record_list.specs.Lists.{AreRising, HasNames, IsByName, names_of, record_at, same_name}
+use Rattle.record_list.specs.Lists.{AreSorted, HasNames, IsByName, names_of, record_at, same_name}
 use Rattle.record_list.proofs.NameLaws.{above_below, below_apart, below_trans, same_itself, tied_same}
 use Rattle.index_map.specs.Known.{Applies, BeginsOver, BeginsAfter, Known}
 use Rattle.index_map.proofs.Steps.{crossed, not_both}
@@ -47,21 +47,21 @@ below_all a b (n ∷ names) less all = (below_trans a b n less all.0, below_all 
 same_below : (a b : Name) (names : List Name) → a ≡ b → AllByRecursion (λ y. name_cmp b y ≡ Less) names → AllByRecursion (λ y. name_cmp a y ≡ Less) names
 same_below a b names same all = subst (λ n. AllByRecursion (λ y. name_cmp n y ≡ Less) names) (sym same) all
 
-put_rises : (r : IndexRecord) (xs : List IndexRecord) → AreRising xs → AreRising (put r xs)
+put_rises : (r : IndexRecord) (xs : List IndexRecord) → AreSorted xs → AreSorted (put r xs)
 unfolding IsStrictlySortedBy
 put_rises r [] rising = (tt, tt)
 put_rises r (x ∷ xs) rising = go (name_cmp r.name x.name) refl (put_rises r xs rising.1)
   where
-    go : (o : Ordering) → name_cmp r.name x.name ≡ o → AreRising (put r xs) → AreRising (placed o r x xs (put r xs))
+    go : (o : Ordering) → name_cmp r.name x.name ≡ o → AreSorted (put r xs) → AreSorted (placed o r x xs (put r xs))
     go Less e rest = ((e, below_all r.name x.name (names_of xs) e rising.0), rising)
     go Equal e rest = (same_below r.name x.name (names_of xs) (tied_same r.name x.name e) rising.0, rising.1)
     go Greater e rest = (all_put (λ y. name_cmp x.name y ≡ Less) r xs (above_below r.name x.name e) rising.0, rest)
 
-sorted_none : AreRising []
+sorted_none : AreSorted []
 unfolding IsStrictlySortedBy
 sorted_none = tt
 
-pub sorted_rises : (xs : List IndexRecord) → AreRising (sorted xs)
+pub sorted_rises : (xs : List IndexRecord) → AreSorted (sorted xs)
 sorted_rises [] = sorted_none
 sorted_rises (x ∷ xs) = put_rises x (sorted xs) (sorted_rises xs)
 

@@ -9,7 +9,7 @@ use Rattle.cache_base.specs.declared.name.Name.{Name}
 use Rattle.index_record.specs.Record.{size_kb}
 use Rattle.index_record.specs.declared.record.IndexRecord.{IndexRecord}
 use Rattle.record_list.specs.Change.{change, record_eq}
-use Rattle.record_list.specs.Lists.{AreRising, same_name}
+use Rattle.record_list.specs.Lists.{AreSorted, same_name}
 use Rattle.index_map.specs.Known.{ArePlain, IsPlain, Known}
 use Rattle.index_map.specs.declared.slot.Facts.{Facts}
 use Rattle.index_map.specs.declared.slot.Held.{Held}
@@ -194,7 +194,7 @@ weigh f slot = option_map_or f slot 0
 -- the list of the base: records in name order, none of which is removed, dirty or fresh, each with a mark, and the
 -- counts
 pub record IsBase (rs : List IndexRecord) (marks : List Mark) (counts : Counts) : Type 0 where
-  pub rising : AreRising rs
+  pub rising : AreSorted rs
   pub plain : ArePlain rs
   pub long : length marks ≡ length rs
   pub few : length rs < 2 ^ 62
@@ -217,7 +217,7 @@ new_place r = (r.name, record { current = None; base = None; seen = false })
 -- the places of records in name order, where nothing is known yet
 pub record AreNew (places : List (Name × Held)) : Type 0 where
   pub records : List IndexRecord
-  pub rising : AreRising records
+  pub rising : AreSorted records
   pub made : places ≡ map new_place records
 
 -- the slots of those places that hold a record
@@ -235,7 +235,7 @@ PutsHeld old new name held = (q : Name) → lookup (same_name q) new ≡ (if sam
 
 -- places in name order, each with what is held under its name, and the counts
 pub record ArePlaces (places : List (Name × Held)) (counts : Counts) : Type 0 where
-  pub rising : names.AreRising (keys_of places)
+  pub rising : names.AreSorted (keys_of places)
   pub own : All (λ e. IsSlotOf e.0 e.1) (slots_of places)
   pub few : length places < 2 ^ 62
   pub counted : counts ≡ counts_of (map bare (values_of places))

@@ -4,7 +4,7 @@ ghost use Rattle.std.specs.List.{AllByRecursion, HoldsAt};
 ghost use Rattle.std.specs.Map.{keys_of};
 ghost use Rattle.std.specs.Prelude.{◌≡◌, ◌<◌, ◌^◌, IfNone, IfOk, IfSome, false, length, map};
 ghost use Rattle.cache_base.specs.Names as names;
-ghost use Rattle.record_list.specs.Lists.{AreRising, HasNames, IsByName, names_of, same_name};
+ghost use Rattle.record_list.specs.Lists.{AreSorted, HasNames, IsByName, names_of, same_name};
 ghost use Rattle.index_map.specs.Slots as spec;
 
 use crate::counts::MOST;
@@ -24,7 +24,7 @@ pub(crate) fn in_order(records: Records) -> Records
 
 /// The place of a name among records in name order.
 pub(crate) fn place_of(records: &[IndexRecord], name: &Name) -> Option<usize>
-    requires { AreRising records.now }
+    requires { AreSorted records.now }
     ensures within { IfSome result (λ i. i < length records.now) }
     ensures found { IfSome result (HoldsAt (λ r. r.name ≡ name.now) records.now) }
     ensures none { IfNone result
@@ -62,7 +62,7 @@ pub(crate) fn places_for(alloc: Global, changes: &Records) -> Result<Vec<(Name, 
 
 /// The place of a name among places in name order.
 pub(crate) fn place_in(places: &[(Name, Held)], name: &Name) -> Option<usize>
-    requires { names.AreRising (keys_of places.now) }
+    requires { names.AreSorted (keys_of places.now) }
     ensures within { IfSome result (λ i. i < length places.now) }
     ensures found { IfSome result (HoldsAt (λ e. e.0 ≡ name.now) places.now) }
     ensures none { IfNone result

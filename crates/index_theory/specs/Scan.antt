@@ -10,7 +10,7 @@ use Rattle.index_record.specs.Filling.{record_of_meta}
 use Rattle.index_record.specs.Record.{is_removed}
 use Rattle.index_record.specs.declared.record.IndexRecord.{IndexRecord}
 use Rattle.index_theory.specs.Ever.{Entries}
-use Rattle.record_list.specs.Lists.{AreRising, record_at}
+use Rattle.record_list.specs.Lists.{AreSorted, record_at}
 use Rattle.record_list.specs.Stored.{IsClean}
 
 -- the record of an entry file, where its content fits under the name
@@ -27,7 +27,7 @@ TellsScan entries rs = (name : Name) → record_at rs name ≡ scanned entries n
 
 -- the list is the scan of the entries: sorted by name, the record of each entry that fits, and no others
 pub record IsScan (entries : Entries) (rs : List IndexRecord) : Type 0 where
-  pub rising : AreRising rs
+  pub rising : AreSorted rs
   pub same : TellsScan entries rs
 
 -- the scan of a list of names with their contents

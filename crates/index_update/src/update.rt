@@ -1,7 +1,7 @@
 //! The names that an update has still to read.
 
 ghost use Rattle.std.specs.Prelude.{◌≡◌, ◌≢◌, ◌↔◌, [], IfOk, IsTrue, OnErr, OnOk, drop, length, take};
-ghost use Rattle.cache_base.specs.Names.{AreRising, has_name};
+ghost use Rattle.cache_base.specs.Names.{AreSorted, has_name};
 ghost use Rattle.disk_theory.specs.Account.{Looks, ending};
 ghost use Rattle.disk_theory.specs.Calls.{counted_look};
 ghost use Rattle.disk_theory.specs.Listing.{AreEntries};
@@ -66,8 +66,9 @@ impl Update {
     pub fn begin<D: Disk>(alloc: Global, disk: &mut D) -> Result<Update, DiskFault>
         ensures rest { IfOk result (λ update. IsTrue D.tells →
             AreEntries (D.state disk.old) update) }
-        ensures rising { IfOk result (λ update. AreRising update) }
-        ensures counts { IsTrue D.tells → D.counts disk.new ≡ counted_look result (D.counts disk.old) }
+        ensures sorted { IfOk result (λ update. AreSorted update) }
+        ensures counts { IsTrue D.tells → D.counts disk.new ≡ counted_look result
+            (D.counts disk.old) }
         ensures looks { Looks D.Disk (ending result) disk.old disk.new }
     {
         let mut listed = Names::new(alloc);
@@ -159,7 +160,7 @@ impl Update {
     /// the caller drops the records that were not seen.
     pub fn seen(&mut self, name: &Name)
         ensures rest { self.new ≡ without name.now self.old }
-        ensures rising { AreRising self.new }
+        ensures sorted { AreSorted self.new }
     {
         // The names are in order.
         let _len = self.names.len();
@@ -169,7 +170,7 @@ impl Update {
     /// Whether the name is in the rest.
     pub fn waits_for(&self, name: &Name) -> bool
         ensures waits { result ≡ has_name self.now name.now }
-        ensures rising { AreRising self.now }
+        ensures sorted { AreSorted self.now }
     {
         // The names are in order.
         let _len = self.names.len();
@@ -179,7 +180,7 @@ impl Update {
     /// The number of names in the rest.
     pub fn rest(&self) -> usize
         ensures rest { result ≡ length self.now }
-        ensures rising { AreRising self.now }
+        ensures sorted { AreSorted self.now }
     {
         self.names.len()
     }
@@ -187,7 +188,7 @@ impl Update {
     /// Whether no name is left.
     pub fn ended(&self) -> bool
         ensures ended { IsTrue result ↔ (self.now ≡ []) }
-        ensures rising { AreRising self.now }
+        ensures sorted { AreSorted self.now }
     {
         // The names are in order.
         let _len = self.names.len();

@@ -3,7 +3,7 @@
 ghost use Rattle.std.specs.Prelude.{◌≡◌, ◌⊎◌, ◌↔◌, ℕ, ◌≤◌, ◌^◌, ◌++◌, [], Contains, IfErr, IfOk, IsErrOf, IsSome, IsTrue, None, OnErr, OnOk, Some, drop, length};
 ghost use Rattle.std.specs.Option.{option_map};
 ghost use Rattle.cache_base.specs.declared.name.Name.{Name as NameValue};
-ghost use Rattle.cache_base.specs.Names.{AreRising};
+ghost use Rattle.cache_base.specs.Names.{AreSorted};
 ghost use Rattle.cache_base.specs.Causes.{Rose};
 ghost use Rattle.disk_theory.specs.declared.place.Place.{Place as Where};
 ghost use Rattle.disk_theory.specs.declared.place.Place.TheVariants.{Doomed, Entry};
@@ -11,7 +11,7 @@ ghost use Rattle.disk_theory.specs.State.{part_of, standing, written};
 ghost use Rattle.disk_theory.specs.State.Write.{End, Patch};
 ghost use Rattle.disk_theory.specs.declared.disk.DiskFault.TheVariants.{Memory};
 ghost use Rattle.disk_theory.specs.Calls.{HoldsPart, MayWriteAt};
-ghost use Rattle.disk_theory.specs.Listing.{AreRisingNumbers};
+ghost use Rattle.disk_theory.specs.Listing.{AreSortedNumbers};
 
 use crate::listing::{doomed_numbers, entry_names};
 use crate::over::{Over, OverFile};
@@ -200,7 +200,7 @@ impl<D: Disk + Drop> Layer<D> {
     }
 
     pub(crate) fn entries(&mut self, out: &mut Names) -> Result<(), DiskFault>
-        ensures rising { OnOk result (AreRising out.new) }
+        ensures sorted { OnOk result (AreSorted out.new) }
         ensures names { OnOk result (IsTrue D.tells → (name : NameValue) →
             Contains out.new name ↔ IsSome (shown_in D.Disk self.old (Entry name))) }
         ensures shown { Shows D.Disk SameFiles self.old self.new }
@@ -214,7 +214,7 @@ impl<D: Disk + Drop> Layer<D> {
     }
 
     pub(crate) fn doomed(&mut self, out: &mut Numbers) -> Result<(), DiskFault>
-        ensures rising { OnOk result (AreRisingNumbers out.new) }
+        ensures sorted { OnOk result (AreSortedNumbers out.new) }
         ensures numbers { OnOk result (IsTrue D.tells → (number : ℕ) →
             Contains out.new number ↔ IsSome (shown_in D.Disk self.old (Doomed number))) }
         ensures shown { Shows D.Disk SameFiles self.old self.new }

@@ -6,10 +6,10 @@ ghost use Rattle.std.specs.BTreeSet.{contains};
 ghost use Rattle.std.specs.List.{list_any};
 ghost use Rattle.std.specs.List.Sorted.{IsStrictlySortedBy};
 ghost use Rattle.std.specs.Ordering.{nat_cmp};
-ghost use Rattle.cache_base.specs.Names.{AreRising, name_cmp};
+ghost use Rattle.cache_base.specs.Names.{AreSorted, name_cmp};
 ghost use Rattle.cache_base.specs.declared.name.Name.{Name as NameValue};
 ghost use Rattle.disk_theory.specs.declared.place.Place.TheVariants.{Doomed, Entry};
-ghost use Rattle.disk_theory.specs.Listing.{AreRisingNumbers};
+ghost use Rattle.disk_theory.specs.Listing.{AreSortedNumbers};
 ghost use Rattle.overlay_disk.specs.Listed.{followed, stands_after};
 ghost use Rattle.overlay_disk.specs.Seen.{overs_in};
 
@@ -25,7 +25,7 @@ fn rising<T: Ord + Drop>(
     mut items: BTreeSet<T, Global>,
 ) -> Result<Items<T>, NoMemory>
     ensures keys { IfOk result (λ list. list ≡ items.keys) }
-    ensures rising { IfOk result (λ list. IsStrictlySortedBy T.cmp list) }
+    ensures sorted { IfOk result (λ list. IsStrictlySortedBy T.cmp list) }
 {
     let mut list = Items::with_room(alloc, items.len())?;
     while let Some(item) = items.pop_first() {
@@ -57,7 +57,7 @@ pub(crate) fn entry_names(
     below: &[Name],
     slots: &BTreeMap<Place, Over>,
 ) -> Result<Names, NoMemory>
-    ensures rising { IfOk result AreRising }
+    ensures sorted { IfOk result AreSorted }
     ensures names { IfOk result (λ names. (q : NameValue) → list_any (is_at (name_cmp q)) names
         ≡ stands_after (overs_in slots.now (Entry q)) (list_any (is_at (name_cmp q)) below.now)) }
 {
@@ -84,7 +84,7 @@ pub(crate) fn doomed_numbers(
     below: &[u32],
     slots: &BTreeMap<Place, Over>,
 ) -> Result<Numbers, NoMemory>
-    ensures rising { IfOk result AreRisingNumbers }
+    ensures sorted { IfOk result AreSortedNumbers }
     ensures numbers { IfOk result (λ numbers. (q : ℕ) → list_any (is_at (nat_cmp q)) numbers
         ≡ stands_after (overs_in slots.now (Doomed q)) (list_any (is_at (nat_cmp q)) below.now)) }
 {

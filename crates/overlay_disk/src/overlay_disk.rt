@@ -4,11 +4,11 @@ ghost use Rattle.std.specs.Prelude.{◌≡◌, ◌⊎◌, ◌↔◌, ℕ, ◌≤
 ghost use Rattle.std.specs.Option.{option_map};
 ghost use Rattle.cache_base.specs.Causes.{HasCause, Rose};
 ghost use Rattle.cache_base.specs.declared.name.Name.{Name as NameValue};
-ghost use Rattle.cache_base.specs.Names.{AreRising};
+ghost use Rattle.cache_base.specs.Names.{AreSorted};
 ghost use Rattle.disk_theory.specs.Calls.{HoldsPart, MayWriteAt, no_counts};
 ghost use Rattle.disk_theory.specs.declared.disk.DiskFault.TheVariants.{Memory};
 ghost use Rattle.disk_theory.specs.declared.place.Place.TheVariants.{Doomed, Entry};
-ghost use Rattle.disk_theory.specs.Listing.{AreRisingNumbers};
+ghost use Rattle.disk_theory.specs.Listing.{AreSortedNumbers};
 ghost use Rattle.disk_theory.specs.Silent.{nothing, never, never_finite};
 ghost use Rattle.disk_theory.specs.State.{part_of, standing, written};
 ghost use Rattle.disk_theory.specs.State.Write.{End, Patch};
@@ -188,7 +188,7 @@ impl<D: Disk + Drop> Disk for OverlayDisk<D> {
     }
 
     fn entries(&mut self, out: &mut Names) -> Result<(), DiskFault>
-        ensures rising { OnOk result (AreRising out.new) }
+        ensures sorted { OnOk result (AreSorted out.new) }
         ensures names { OnOk result (IsTrue D.tells → (name : NameValue) →
             Contains out.new name ↔ IsSome (shown D.Disk self.old (Entry name))) }
         ensures shown { Changes D.Disk SameFiles self.old self.new }
@@ -202,7 +202,7 @@ impl<D: Disk + Drop> Disk for OverlayDisk<D> {
     }
 
     fn doomed(&mut self, out: &mut Numbers) -> Result<(), DiskFault>
-        ensures rising { OnOk result (AreRisingNumbers out.new) }
+        ensures sorted { OnOk result (AreSortedNumbers out.new) }
         ensures numbers { OnOk result (IsTrue D.tells → (number : ℕ) →
             Contains out.new number ↔ IsSome (shown D.Disk self.old (Doomed number))) }
         ensures shown { Changes D.Disk SameFiles self.old self.new }

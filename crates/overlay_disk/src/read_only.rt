@@ -3,9 +3,9 @@
 ghost use Rattle.std.specs.Prelude.{◌≡◌, ◌≤◌, ◌++◌, IfOk, IsErrOf, IsTrue, OnOk, drop, length};
 ghost use Rattle.std.specs.Option.{option_map};
 ghost use Rattle.cache_base.specs.Causes.{HasCause};
-ghost use Rattle.cache_base.specs.Names.{AreRising};
+ghost use Rattle.cache_base.specs.Names.{AreSorted};
 ghost use Rattle.disk_theory.specs.Calls.{counted_look, counted_read};
-ghost use Rattle.disk_theory.specs.Listing.{AreEntries, AreDoomed, AreRisingNumbers};
+ghost use Rattle.disk_theory.specs.Listing.{AreEntries, AreDoomed, AreSortedNumbers};
 ghost use Rattle.disk_theory.specs.State.{part_of, standing};
 ghost use Rattle.overlay_disk.specs.OnlySeen.{IsOnlySeen};
 
@@ -61,7 +61,7 @@ impl<D: Disk + Drop> ReadOnly<D> {
         ensures names { OnOk result (IsTrue D.tells → AreEntries (D.state self.old.disk) out.new) }
         ensures one_call { IsTrue D.tells →
             D.counts self.new.disk ≡ counted_look result (D.counts self.old.disk) }
-        ensures rising { OnOk result (AreRising out.new) }
+        ensures sorted { OnOk result (AreSorted out.new) }
         ensures seen { IsOnlySeen D.Disk self.old.disk self.new.disk }
         ensures cause { HasCause (IsErrOf result DiskFault.Failed)
             (D.faults self.old.disk) (D.faults self.new.disk) }
@@ -73,7 +73,7 @@ impl<D: Disk + Drop> ReadOnly<D> {
         ensures numbers { OnOk result (IsTrue D.tells → AreDoomed (D.state self.old.disk) out.new) }
         ensures one_call { IsTrue D.tells →
             D.counts self.new.disk ≡ counted_look result (D.counts self.old.disk) }
-        ensures rising { OnOk result (AreRisingNumbers out.new) }
+        ensures sorted { OnOk result (AreSortedNumbers out.new) }
         ensures seen { IsOnlySeen D.Disk self.old.disk self.new.disk }
         ensures cause { HasCause (IsErrOf result DiskFault.Failed)
             (D.faults self.old.disk) (D.faults self.new.disk) }

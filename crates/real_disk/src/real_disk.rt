@@ -89,8 +89,8 @@ impl<R: Machine<File = File> + AllocGlobal + Clock + Clone + Drop> Disk for Real
     ghost use Rattle.std.specs.Option.{option_map};
     ghost use Rattle.disk_theory.specs.State.{settled};
     ghost use Rattle.disk_theory.specs.Calls.{if_ok, counted_look, counted_read, counted_sync, HoldsPart, MayWriteAt};
-    ghost use Rattle.cache_base.specs.Names.{AreRising};
-    ghost use Rattle.disk_theory.specs.Listing.{AreDoomed, AreEntries, AreRisingNumbers};
+    ghost use Rattle.cache_base.specs.Names.{AreSorted};
+    ghost use Rattle.disk_theory.specs.Listing.{AreDoomed, AreEntries, AreSortedNumbers};
     ghost use Rattle.disk_theory.specs.declared.place.Place.TheVariants.{Clear};
     ghost use Rattle.disk_theory.specs.State.{created, part_of, removed, renamed, standing, wrote};
     ghost use Rattle.disk_theory.specs.State.Write.{End, Patch};
@@ -184,7 +184,8 @@ impl<R: Machine<File = File> + AllocGlobal + Clock + Clone + Drop> Disk for Real
 
     fn patch(&mut self, place: &Place, from: u64, bytes: &[u8]) -> Result<(), DiskFault>
         requires limit { from ≤ 2 ^ 40 }
-        requires told { IsTrue false → HoldsPart (standing nothing place.now) from (length bytes.now) }
+        requires told { IsTrue false → HoldsPart (standing nothing place.now) from
+            (length bytes.now) }
         ensures used { OnOk result
             (PatchesKept R.Machine place.now from bytes.now self.old self.new) }
         ensures own { KeepsOwnFile R.Machine place.now self.old self.new }
@@ -228,7 +229,7 @@ impl<R: Machine<File = File> + AllocGlobal + Clock + Clone + Drop> Disk for Real
 
     fn entries(&mut self, out: &mut Names) -> Result<(), DiskFault>
         ensures kept { KeepsAllOpen self.old self.new }
-        ensures rising { OnOk result (AreRising out.new) }
+        ensures sorted { OnOk result (AreSorted out.new) }
         ensures names { OnOk result (IsTrue false → AreEntries nothing out.new) }
         ensures state { IsTrue false → nothing ≡ nothing }
         ensures counts { IsTrue false → no_counts ≡ counted_look result no_counts }
@@ -242,7 +243,7 @@ impl<R: Machine<File = File> + AllocGlobal + Clock + Clone + Drop> Disk for Real
 
     fn doomed(&mut self, out: &mut Numbers) -> Result<(), DiskFault>
         ensures kept { KeepsAllOpen self.old self.new }
-        ensures rising { OnOk result (AreRisingNumbers out.new) }
+        ensures sorted { OnOk result (AreSortedNumbers out.new) }
         ensures numbers { OnOk result (IsTrue false → AreDoomed nothing out.new) }
         ensures state { IsTrue false → nothing ≡ nothing }
         ensures counts { IsTrue false → no_counts ≡ counted_look result no_counts }

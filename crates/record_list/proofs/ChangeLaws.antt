@@ -10,7 +10,7 @@ use Rattle.cache_base.specs.Names.{name_cmp}
 use Rattle.cache_base.specs.declared.name.Name.{Name}
 use Rattle.index_record.specs.declared.record.IndexRecord.{IndexRecord}
 use Rattle.index_record.specs.Record.{is_removed}
-use Rattle.record_list.specs.Lists.{AreRising, names_of, record_at, same_name}
+use Rattle.record_list.specs.Lists.{AreSorted, names_of, record_at, same_name}
 use Rattle.record_list.specs.Change.{DiffThenApply, HasNoRemoved, IsDiff, applied, change, journal_or, kept, record_eq}
 use Rattle.record_list.proofs.NameLaws.{above_below, below_apart_back, below_trans, same_is, same_itself, tied_same}
 
@@ -97,7 +97,7 @@ behind : (x : IndexRecord) (xs : List IndexRecord) (name : Name) → same_name x
 behind x xs name apart = ap (λ c. cond c (Some x) (record_at xs name)) apart
 
 -- lists by rising names that have the same record under each name are one
-pub same_records : (a b : List IndexRecord) → AreRising a → AreRising b → ((name : Name) → record_at a name ≡ record_at b name) → a ≡ b
+pub same_records : (a b : List IndexRecord) → AreSorted a → AreSorted b → ((name : Name) → record_at a name ≡ record_at b name) → a ≡ b
 unfolding IsStrictlySortedBy
 same_records [] [] ra rb same = refl
 same_records [] (y ∷ ys) ra rb same = absurd (some_not_none y (sym (first_at y ys) ∙ sym (same y.name)))

@@ -9,7 +9,7 @@ use Rattle.std.specs.Ordering.{is_eq, ordering_reverse}
 use Rattle.std.specs.declared.cmp.Ordering.TheVariants.{Less, Equal, Greater}
 use Rattle.std.proofs.lemmas.Map.Text.{is_eq-slice_cmp}
 use Rattle.std.proofs.lemmas.Slice.Eq.{bytes_eq-Decides}
-use Rattle.cache_base.specs.Names.{AreRising, has_name, name_cmp}
+use Rattle.cache_base.specs.Names.{AreSorted, has_name, name_cmp}
 use Rattle.cache_base.specs.declared.name.Name.{Name}
 use Rattle.record_list.specs.Lists.{same_name}
 
@@ -66,7 +66,7 @@ all_apart a [] h = tt
 all_apart a (n ∷ names) h = (below_apart a n h.0, all_apart a names h.1)
 
 -- among names that rise none stands twice
-pub rising_distinct : (names : List Name) → AreRising names → IsDistinct same_name names
+pub rising_distinct : (names : List Name) → AreSorted names → IsDistinct same_name names
 unfolding IsStrictlySortedBy IsDistinct
 rising_distinct [] h = tt
 rising_distinct (a ∷ names) h = (all_apart a names h.0, rising_distinct names h.1)

@@ -10,7 +10,7 @@ use Rattle.std.proofs.lemmas.Bool.{and_parts}
 use Rattle.std.proofs.lemmas.List.{get_or-map, length-map}
 use Rattle.std.proofs.lemmas.List.Sorted.{IsPermutation-map, IsPermutation-sym}
 use Rattle.std.proofs.lemmas.Map.Keys.{IsDistinct-IsPermutation, Less-from_sorted, apart_from_distinct, sorted_from_all_adjacent}
-use Rattle.cache_base.specs.Names.{AreRising, name_cmp}
+use Rattle.cache_base.specs.Names.{AreSorted, name_cmp}
 use Rattle.cache_base.specs.declared.name.Name.{Name}
 use Rattle.cache_base.proofs.NameLaws.{name_cmp_total}
 use Rattle.index_record.specs.Record.{removed_record}
@@ -29,7 +29,7 @@ neighbours a b sorted apart = go (name_cmp a b) refl
     go Greater e = let less : is_lt (name_cmp b a) ≡ true = ap is_lt (above_below a b e) in absurd (cc)
 
 -- what is sorted by names that are distinct rises
-pub sorted_rises : {X : Type 0} (key : X → Name) (none : X) (xs : List X) → IsSortedByKey key name_cmp xs → IsDistinct same_name (map key xs) → AreRising (map key xs)
+pub sorted_rises : {X : Type 0} (key : X → Name) (none : X) (xs : List X) → IsSortedByKey key name_cmp xs → IsDistinct same_name (map key xs) → AreSorted (map key xs)
 sorted_rises key none xs sorted apart = sorted_from_all_adjacent name_cmp_total (map key xs) (key none) step
   where
     step : (k : ℕ) → k + 1 < length (map key xs) → name_cmp (get_or (map key xs) k (key none)) (get_or (map key xs) (k + 1) (key none)) ≡ Less
@@ -85,7 +85,7 @@ below_from_test Greater h = absurd (cc)
 
 -- where records that were sorted by name rise, none of the names stands twice, and nowhere else
 pub distinct_answer : (rs sorted : List IndexRecord) (r : Bool) → IsPermutation rs sorted → (HasNames rs → IsByName rs sorted)
-    → (IsTrue r ↔ AreRising (names_of sorted)) → r ≡ are_distinct (names_of rs)
+    → (IsTrue r ↔ AreSorted (names_of sorted)) → r ≡ are_distinct (names_of rs)
 distinct_answer rs sorted true moved by_name tells =
     let back = IsPermutation-sym (names_of rs) (names_of sorted) (IsPermutation-map (λ (r : IndexRecord). r.name) rs sorted moved) in
     sym (are_apart (names_of rs) (distinct_permutation (names_of sorted) (names_of rs) back (rising_distinct (names_of sorted) (tells.0 refl))))
@@ -105,7 +105,7 @@ named_at rs k lt = get_or-map (λ (r : IndexRecord). r.name) rs k no_record no_n
 -- records rise where the name of each is below that of the next, and nowhere else
 pub records_rise : (rs : List IndexRecord) (answer : Bool)
     → IsAllAdjacentAnswer (λ (a b : IndexRecord) t. t ≡ is_lt (name_cmp a.name b.name)) rs answer
-    → answer ≡ true ↔ AreRising (names_of rs)
+    → answer ≡ true ↔ AreSorted (names_of rs)
 records_rise rs true each =
     let len : length (names_of rs) ≡ length rs = length-map rs (λ (r : IndexRecord). r.name) in (
       λ is. sorted_from_all_adjacent name_cmp_total (names_of rs) no_name

@@ -10,7 +10,7 @@ use Rattle.index_record.specs.declared.record.IndexRecord.{IndexRecord}
 use Rattle.index_record.specs.Record.{cleared, has_bit, is_removed}
 use Rattle.record_list.specs.Change.{HasNoRemoved}
 use Rattle.record_list.specs.Laws.{CleanReadsSame}
-use Rattle.record_list.specs.Lists.{AreRising, HasNames, names_of, same_name}
+use Rattle.record_list.specs.Lists.{AreSorted, HasNames, names_of, same_name}
 use Rattle.record_list.specs.Stored.{AreClean, are_distinct, present, read_as, records_checks, records_fault, stored_in}
 use Rattle.record_list.proofs.OrderLaws.{are_apart, distinct_are}
 use Rattle.record_list.proofs.NameLaws.{rising_distinct}
@@ -78,7 +78,7 @@ clean_reads_same [] h = refl
 clean_reads_same (r ∷ rs) h = λ i. cleared_same r h.0.0 h.0.1 i ∷ clean_reads_same rs h.1 i
 
 -- where the names of the records that were read rise, none stands twice in the part
-pub read_rising : (rs out : List IndexRecord) → out ≡ read_as rs → AreRising out → are_distinct (names_of rs) ≡ true
+pub read_rising : (rs out : List IndexRecord) → out ≡ read_as rs → AreSorted out → are_distinct (names_of rs) ≡ true
 read_rising rs out is rising =
     let same : names_of out ≡ names_of rs = ap names_of is ∙ names_read rs in
-    are_apart (names_of rs) (rising_distinct (names_of rs) (subst names.AreRising same rising))
+    are_apart (names_of rs) (rising_distinct (names_of rs) (subst names.AreSorted same rising))

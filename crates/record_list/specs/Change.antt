@@ -4,7 +4,7 @@ use Rattle.std.specs.Prelude.{Bool, List, None, Option, Some, false, if◌then�
 use Rattle.cache_base.specs.declared.name.Name.{Name}
 use Rattle.index_record.specs.Record.{is_removed, removed_record}
 use Rattle.index_record.specs.declared.record.IndexRecord.{IndexRecord}
-use Rattle.record_list.specs.Lists.{AreRising, record_at, same_name}
+use Rattle.record_list.specs.Lists.{AreSorted, record_at, same_name}
 
 -- a record of a journal as it stands in the index: a removed one does not
 abbrev pub kept : IndexRecord → Option IndexRecord
@@ -21,7 +21,7 @@ applied rs js name = journal_or (record_at js name) (record_at rs name)
 
 -- the list is the journal applied to the index, by rising names
 pub record IsApplied (rs js out : List IndexRecord) : Type 0 where
-  pub rising : AreRising out
+  pub rising : AreSorted out
   pub same : (name : Name) → record_at out name ≡ applied rs js name
 
 -- whether two records agree in each field
@@ -38,7 +38,7 @@ change name (Some r) (Some s) = if record_eq r s then None else Some s
 
 -- the list is what a journal has to say: the change of each name, by rising names
 pub record IsDiff (base now js : List IndexRecord) : Type 0 where
-  pub rising : AreRising js
+  pub rising : AreSorted js
   pub same : (name : Name)
       → record_at js name ≡ change name (record_at base name) (record_at now name)
 
@@ -48,5 +48,5 @@ HasNoRemoved rs = AllByRecursion (λ r. is_removed r ≡ false) rs
 
 -- the journal of a difference, applied to the base, gives the records now
 abbrev pub DiffThenApply : Type 0
-DiffThenApply = (base now js out : List IndexRecord) → HasNoRemoved now → AreRising now
+DiffThenApply = (base now js out : List IndexRecord) → HasNoRemoved now → AreSorted now
     → IsDiff base now js → IsApplied base js out → out ≡ now

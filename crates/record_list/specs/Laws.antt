@@ -3,7 +3,7 @@ use Rattle.std.specs.Prelude.{List, None, length, ℕ, ◌↔◌, ◌≡◌, ◌
 use Rattle.cache_base.specs.Bytes.{AreBytes}
 use Rattle.cache_base.specs.declared.name.Name.{Name}
 use Rattle.index_record.specs.declared.record.IndexRecord.{IndexRecord}
-use Rattle.record_list.specs.Lists.{AreRising, HasNames, IsByName, record_at}
+use Rattle.record_list.specs.Lists.{AreSorted, HasNames, IsByName, record_at}
 use Rattle.record_list.specs.Stored.{AreClean, AreStored, hash_size, read_as, records_fault, stored_bytes, stored_in}
 
 -- records that stand in a file pass the checks, and are read
@@ -16,8 +16,8 @@ StoredFitsExactly = (part : List ℕ) → AreBytes part → hash_size ≤ length
     → (records_fault part ≡ None) ↔ ((rs : List IndexRecord) × AreStored rs × (part ≡ stored_bytes rs))
 
 -- among records whose names rise no name stands twice
-abbrev pub RisingHasNames : Type 0
-RisingHasNames = (rs : List IndexRecord) → AreRising rs → HasNames rs
+abbrev pub SortedHasNames : Type 0
+SortedHasNames = (rs : List IndexRecord) → AreSorted rs → HasNames rs
 
 -- records that have neither the dirty nor the fresh bit are read as they are
 abbrev pub CleanReadsSame : Type 0

@@ -26,12 +26,12 @@ abbrev pub HasNames : List IndexRecord → Type 0
 HasNames rs = IsDistinct same_name (names_of rs)
 
 -- each record's name is below those after it
-abbrev pub AreRising : List IndexRecord → Type 0
-AreRising rs = names.AreRising (names_of rs)
+abbrev pub AreSorted : List IndexRecord → Type 0
+AreSorted rs = names.AreSorted (names_of rs)
 
 -- the same records, by rising names
 pub record IsByName (rs out : List IndexRecord) : Type 0 where
-  pub rising : AreRising out
+  pub rising : AreSorted out
   pub same : IsPermutation rs out
 
 -- the bytes of records

@@ -1,7 +1,7 @@
 //! Records that are written are read back, and changes that are applied give the records now.
 
 ghost use Rattle.record_list.specs.Change.{DiffThenApply};
-ghost use Rattle.record_list.specs.Laws.{ByNameKeeps, CleanReadsSame, RisingHasNames, StoredFitsExactly, StoredReadsBack};
+ghost use Rattle.record_list.specs.Laws.{ByNameKeeps, CleanReadsSame, SortedHasNames, StoredFitsExactly, StoredReadsBack};
 
 /// Records that stand in a file pass the checks, and are read.
 pub fn stored_reads_back()
@@ -20,7 +20,7 @@ pub fn diff_then_apply()
 
 /// Among records whose names rise no name stands twice.
 pub fn rising_has_names()
-    ensures { RisingHasNames }
+    ensures { SortedHasNames }
 {}
 
 /// Records that have neither the dirty nor the fresh bit are read as they are.

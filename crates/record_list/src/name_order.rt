@@ -2,13 +2,13 @@
 
 ghost use Rattle.std.specs.List.Sorted.{IsPermutation};
 ghost use Rattle.std.specs.Prelude.{◌↔◌, IsTrue};
-ghost use Rattle.record_list.specs.Lists.{AreRising, HasNames, IsByName};
+ghost use Rattle.record_list.specs.Lists.{AreSorted, HasNames, IsByName};
 
 use index_record::{IndexRecord, Records};
 
 /// Whether each record's name is below that of the next: then the records are in name order.
 pub fn rise(records: &[IndexRecord]) -> bool
-    ensures { IsTrue result ↔ AreRising records.now }
+    ensures { IsTrue result ↔ AreSorted records.now }
 {
     records.is_sorted_by(|a, b| a.name.cmp(&b.name).is_lt())
 }

@@ -5,7 +5,7 @@ ghost use Rattle.std.specs.Prelude.{◌≡◌, ◌≤◌, ◌++◌, IfOk, OnOk, 
 ghost use Rattle.cache_base.specs.Bytes.{be32};
 ghost use Rattle.index_record.specs.Record.{IsRecord};
 ghost use Rattle.jenkins_hash.specs.Hash.{hash_of};
-ghost use Rattle.record_list.specs.Lists.{AreRising, HasNames, records_bytes};
+ghost use Rattle.record_list.specs.Lists.{AreSorted, HasNames, records_bytes};
 ghost use Rattle.record_list.specs.Stored.{AreClean, AreStored, IsPrinted, read_as, stored_bytes};
 
 use crate::HASH;
@@ -41,8 +41,8 @@ fn room(front: usize, records: usize) -> usize {
 }
 
 // The beginning of a file, and after it these records as they stand, and their hash.
-fn print_rising(alloc: Global, front: &[u8], records: &[IndexRecord]) -> Result<Bytes, NoMemory>
-    requires rising { AreRising records.now }
+fn print_sorted(alloc: Global, front: &[u8], records: &[IndexRecord]) -> Result<Bytes, NoMemory>
+    requires sorted { AreSorted records.now }
     requires clean { AreClean records.now }
     ensures stored { OnOk result (AreStored records.now) }
     ensures spelled { IfOk result (λ bytes. bytes ≡ front.now ++ stored_bytes records.now) }
@@ -63,9 +63,9 @@ pub fn print(alloc: Global, front: &[u8], records: &Records) -> Result<Bytes, No
 {
     let records = records.as_slice();
     if rise(records) {
-        return print_rising(alloc, front, records);
+        return print_sorted(alloc, front, records);
     }
     let mut sorted = Vec::from_slice(alloc, records)?;
     sort(&mut sorted);
-    print_rising(alloc, front, sorted.as_slice())
+    print_sorted(alloc, front, sorted.as_slice())
 }

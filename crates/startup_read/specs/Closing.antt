@@ -64,7 +64,7 @@ closing_syncs ended = if ended then 3 else one_sync
 abbrev pub ClosesIndex : Known → ℕ → State → State → Type 0
 ClosesIndex map now s t = (u : State) × (Refreshes map now s u × ((bytes : List ℕ) × (PrintsChanges (after_refresh map) bytes × (t ≡ closed bytes u))))
 
--- a closing that has come to one of its moments
+-- a closing that has reached one of its moments
 abbrev pub IsAmidClosing : Known → ℕ → State → State → Type 0
 IsAmidClosing map now s t =
     IsAmidRefresh map now s t

@@ -23,7 +23,7 @@ pub record Refreshes (map : Known) (now : ℕ) (s t : State) : Type 0 where
 abbrev pub KeepsOver : Known → Known → State → State → Type 0
 KeepsOver old new s t = KeepsIndex s old → KeepsIndex t new
 
--- nothing was done, or where it is due the writing has come to one of its moments
+-- nothing was done, or where it is due the writing has reached one of its moments
 pub record IsAmidRefresh (map : Known) (now : ℕ) (s t : State) : Type 0 where
   pub due : is_due map ≡ true → IsAmidWriting map.records now s t
   pub not_due : is_due map ≡ false → t ≡ s

@@ -45,7 +45,7 @@ is_clean Invalid = false
 is_clean Dirty = false
 is_clean Clean = true
 
--- what the changes of an opening go by: whether the index is clean, and whether files stand at the other two places
+-- what decides on the changes of an opening: whether the index is clean, and whether files stand at the other two places
 pub record IsSeen (s : State) (clean log tmp : Bool) : Type 0 where
   pub is_clean_there : clean ≡ is_clean (index_kind (standing s Index))
   pub has_log : log ≡ is_some (standing s Log)

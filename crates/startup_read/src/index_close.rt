@@ -12,7 +12,7 @@ ghost use Rattle.index_theory.specs.Apart.{IsApart};
 ghost use Rattle.index_theory.specs.Closing.{closed, flagged, log_synced};
 ghost use Rattle.disk_theory.specs.Told.{Told};
 ghost use Rattle.index_theory.specs.Unclean.{IsUnclean};
-ghost use Rattle.disk_theory.specs.Account.{Accounts, FailsInChange, LooksAtNoEntry, ending, one_sync};
+ghost use Rattle.disk_theory.specs.Account.{OnlyChanges, ending, one_sync};
 ghost use Rattle.startup_read.specs.Closing as spec;
 ghost use Rattle.startup_read.specs.Kept.{KeepsIndex};
 ghost use Rattle.startup_read.specs.Spares.{SparesEntries};
@@ -40,9 +40,7 @@ fn write_log<D: Disk>(disk: &mut D, bytes: &[u8]) -> Result<(), DiskFault>
     ensures written { OnOk result
         (Told D.Disk (λ s t. t ≡ log_synced bytes.now s) disk.old disk.new) }
     ensures amid { Told D.Disk (spec.IsAmidLogging bytes.now) disk.old disk.new }
-    ensures account { Accounts D.Disk (ending result) one_sync disk.old disk.new }
-    ensures change { FailsInChange D.Disk (ending result) disk.new }
-    ensures no_entry { LooksAtNoEntry D.Disk disk.old disk.new }
+    ensures disk { OnlyChanges D.Disk (ending result) one_sync disk.old disk.new }
 {
     disk.create(&Place::Log)?;
     disk.write_end(&Place::Log, 0, bytes)?;
@@ -55,9 +53,7 @@ fn clear_flag<D: Disk>(disk: &mut D) -> Result<(), DiskFault>
     ensures cleared { OnOk result
         (Told D.Disk (λ s t. t ≡ settled (flagged (be32 0) s)) disk.old disk.new) }
     ensures amid { Told D.Disk spec.IsAmidClearing disk.old disk.new }
-    ensures account { Accounts D.Disk (ending result) one_sync disk.old disk.new }
-    ensures change { FailsInChange D.Disk (ending result) disk.new }
-    ensures no_entry { LooksAtNoEntry D.Disk disk.old disk.new }
+    ensures disk { OnlyChanges D.Disk (ending result) one_sync disk.old disk.new }
 {
     disk.patch(&Place::Index, FLAG_AT as u64, &UP_TO_DATE.to_be_bytes())?;
     disk.sync()
@@ -68,9 +64,7 @@ fn log_and_clear<D: Disk>(disk: &mut D, bytes: &[u8]) -> Result<(), DiskFault>
     requires { IsTrue D.tells → HoldsPart (standing (D.state disk.old) Index) flag_at 4 }
     ensures closed { OnOk result (Told D.Disk (λ s t. t ≡ closed bytes.now s) disk.old disk.new) }
     ensures amid { Told D.Disk (spec.IsAmidLogging bytes.now) disk.old disk.new }
-    ensures account { Accounts D.Disk (ending result) 2 disk.old disk.new }
-    ensures change { FailsInChange D.Disk (ending result) disk.new }
-    ensures no_entry { LooksAtNoEntry D.Disk disk.old disk.new }
+    ensures disk { OnlyChanges D.Disk (ending result) 2 disk.old disk.new }
 {
     write_log(disk, bytes)?;
     clear_flag(disk)
@@ -88,9 +82,7 @@ fn close_ended<D: Disk>(
     ensures known { map.old.has_base ≡ true → IsKnown map.old }
     ensures closed { OnOk result (Told D.Disk (spec.ClosesIndex map.old now) disk.old disk.new) }
     ensures amid { Told D.Disk (spec.IsAmidClosing map.old now) disk.old disk.new }
-    ensures account { Accounts D.Disk (ending result) 3 disk.old disk.new }
-    ensures change { FailsInChange D.Disk (ending result) disk.new }
-    ensures no_entry { LooksAtNoEntry D.Disk disk.old disk.new }
+    ensures disk { OnlyChanges D.Disk (ending result) 3 disk.old disk.new }
 {
     refresh_index(alloc, disk, map, now)?;
     let bytes = print_changes(alloc, map)?;
@@ -132,9 +124,7 @@ pub fn close_index<D: Disk>(
         Told D.Disk (λ s t. IsUnclean s → IsUnclean t) disk.old disk.new }
 
     // Calls and faults.
-    ensures account { Accounts D.Disk (ending result) (spec.closing_syncs ended) disk.old disk.new }
-    ensures change { FailsInChange D.Disk (ending result) disk.new }
-    ensures no_entry { LooksAtNoEntry D.Disk disk.old disk.new }
+    ensures disk { OnlyChanges D.Disk (ending result) (spec.closing_syncs ended) disk.old disk.new }
 {
     if ended {
         close_ended(alloc, disk, map, now)

@@ -5,7 +5,7 @@ ghost use Rattle.index_map.specs.Known.{IsKnown};
 ghost use Rattle.index_theory.specs.Apart.{IsApart};
 ghost use Rattle.disk_theory.specs.Told.{Told};
 ghost use Rattle.index_theory.specs.Unclean.{IsUnclean};
-ghost use Rattle.disk_theory.specs.Account.{Accounts, FailsInChange, LooksAtNoEntry, ending, one_sync};
+ghost use Rattle.disk_theory.specs.Account.{OnlyChanges, ending, one_sync};
 ghost use Rattle.startup_read.specs.Refreshing as spec;
 ghost use Rattle.startup_read.specs.Spares.{SparesEntries};
 
@@ -48,9 +48,7 @@ pub fn refresh_index<D: Disk>(
     ensures apart { Told D.Disk (λ s t. IsApart s → IsApart t) disk.old disk.new }
 
     // Calls and faults.
-    ensures account { Accounts D.Disk (ending result) one_sync disk.old disk.new }
-    ensures change { FailsInChange D.Disk (ending result) disk.new }
-    ensures no_entry { LooksAtNoEntry D.Disk disk.old disk.new }
+    ensures disk { OnlyChanges D.Disk (ending result) one_sync disk.old disk.new }
 {
     if is_due(map) {
         write_index(alloc, disk, map, now)

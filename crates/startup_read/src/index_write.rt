@@ -9,7 +9,7 @@ ghost use Rattle.index_theory.specs.Apart.{IsApart};
 ghost use Rattle.disk_theory.specs.Told.{Told};
 ghost use Rattle.index_theory.specs.Unclean.{IsUnclean};
 ghost use Rattle.index_theory.specs.Writing.{index_placed};
-ghost use Rattle.disk_theory.specs.Account.{Accounts, FailsInChange, LooksAtNoEntry, ending, one_sync};
+ghost use Rattle.disk_theory.specs.Account.{OnlyChanges, ending, one_sync};
 ghost use Rattle.startup_read.specs.Kept.{KeepsIndex, written_map};
 ghost use Rattle.startup_read.specs.Spares.{SparesEntries};
 ghost use Rattle.startup_read.specs.Writing as spec;
@@ -33,9 +33,7 @@ fn place_index<D: Disk>(disk: &mut D, bytes: &[u8]) -> Result<(), DiskFault>
     ensures placed { OnOk result
         (Told D.Disk (λ s t. t ≡ index_placed bytes.now s) disk.old disk.new) }
     ensures amid { Told D.Disk (spec.IsAmidPlacing bytes.now) disk.old disk.new }
-    ensures account { Accounts D.Disk (ending result) one_sync disk.old disk.new }
-    ensures change { FailsInChange D.Disk (ending result) disk.new }
-    ensures no_entry { LooksAtNoEntry D.Disk disk.old disk.new }
+    ensures disk { OnlyChanges D.Disk (ending result) one_sync disk.old disk.new }
 {
     disk.create(&Place::Tmp)?;
     disk.write_end(&Place::Tmp, 0, bytes)?;
@@ -69,9 +67,7 @@ pub fn write_index<D: Disk>(
     ensures apart { Told D.Disk (λ s t. IsApart s → IsApart t) disk.old disk.new }
 
     // Calls and faults.
-    ensures account { Accounts D.Disk (ending result) one_sync disk.old disk.new }
-    ensures change { FailsInChange D.Disk (ending result) disk.new }
-    ensures no_entry { LooksAtNoEntry D.Disk disk.old disk.new }
+    ensures disk { OnlyChanges D.Disk (ending result) one_sync disk.old disk.new }
 {
     let bytes = print_records(alloc, map, now)?;
     place_index(disk, bytes.as_slice())?;

@@ -1,6 +1,6 @@
 -- The names that a clearing takes, by the records and the entries in use.
 use Rattle.std.proofs.Common.{◌≡◌, ◌∙◌, ℕ, List, [], ◌∷◌, Result, Ok, Err, IfOk, filter, map, refl, ap}
-use Rattle.cache_base.specs.Names.{AreRising}
+use Rattle.cache_base.specs.Names.{AreSorted}
 use Rattle.cache_base.specs.declared.name.Name.{Name}
 use Rattle.cache_store.specs.Clearing.{AreCleared}
 use Rattle.cache_theory.specs.Covers.{covered_by, covered_open, covered_records, joined_names}
@@ -28,7 +28,7 @@ pub clears_those : {E : Type 0} (map_now : Known) (k : Kept) (hash : ℕ) (recor
     → IsKnown map_now → IsByName map_now.records records → AreCoveredNames k hash in_use
     → (slice : List IndexRecord) → slice ≡ records → there ≡ map (λ (r : IndexRecord). r.name) (filter (covers_record hash) slice)
     → (first : List Name) → first ≡ in_use → (second : List Name) → second ≡ there
-    → (r : Result (List Name) E) → IfOk r (λ names. names ≡ joined_names (map (λ n. n.0) first) (map (λ n. n.0) second)) → IfOk r AreRising → IfOk r (AreCleared map_now k hash)
+    → (r : Result (List Name) E) → IfOk r (λ names. names ≡ joined_names (map (λ n. n.0) first) (map (λ n. n.0) second)) → IfOk r AreSorted → IfOk r (AreCleared map_now k hash)
 clears_those map_now k hash records in_use there known by covered slice same_slice taken first same_first second same_second (Err e) names rising = tt
 clears_those map_now k hash records in_use there known by covered slice same_slice taken first same_first second same_second (Ok names) are rising = record {
   records = records;

@@ -3,7 +3,7 @@ use Rattle.std.proofs.Common.{◌≡◌, ◌≢◌, ◌<◌, ◌+◌, drop, get_
 use Rattle.std.proofs.lemmas.List.{take-append-drop, take_more}
 use Rattle.std.proofs.lemmas.List.Kept.{IsStrictlySortedBy-filter}
 use Rattle.std.specs.Prelude.{Bool, IfSome, filter, zero, suc}
-use Rattle.cache_base.specs.Names.{AreRising, name_cmp}
+use Rattle.cache_base.specs.Names.{AreSorted, name_cmp}
 use Rattle.cache_base.specs.declared.limits.TheConstants.{SLOTS}
 use Rattle.cache_base.specs.declared.name.Name.{Name}
 use Rattle.cache_theory.specs.Command.{Command}
@@ -193,18 +193,18 @@ pub storing_in_order : (origin : ℕ) (s v u : State) → v ≡ s → IsAmidStor
 storing_in_order origin s v u same amid = ([], (no_names, Storing (subst (λ (x : State). IsAmidStoring SLOTS (mark_bytes origin) x u) same amid)))
 
 -- the names that are kept of rising ones rise
-kept_rising : (p : Name → Bool) (names files : List Name) → files ≡ filter p names → AreRising names → AreRising files
-kept_rising p names files are rising = subst AreRising (sym are) (IsStrictlySortedBy-filter name_cmp p names rising)
+kept_rising : (p : Name → Bool) (names files : List Name) → files ≡ filter p names → AreSorted names → AreSorted files
+kept_rising p names files are rising = subst AreSorted (sym are) (IsStrictlySortedBy-filter name_cmp p names rising)
 
 stored_before : (origin : ℕ) (s v u : State) → v ≡ s → StoresMark SLOTS (mark_bytes origin) v u → StoresMark SLOTS (mark_bytes origin) s u
 stored_before origin s v u same stores = subst (λ (x : State). StoresMark SLOTS (mark_bytes origin) x u) same stores
 
-pub taking_in_order : (origin : ℕ) (p : Name → Bool) (names files : List Name) → files ≡ filter p names → AreRising names → (s v u t : State) → v ≡ s
+pub taking_in_order : (origin : ℕ) (p : Name → Bool) (names files : List Name) → files ≡ filter p names → AreSorted names → (s v u t : State) → v ≡ s
     → StoresMark SLOTS (mark_bytes origin) v u → TakesInOrder files u t → ClearsInOrder origin s t
 taking_in_order origin p names files are rising s v u t same stores takes =
     (files, (kept_rising p names files are rising, Taking u (stored_before origin s v u same stores) takes))
 
-pub ending_in_order : (origin : ℕ) (p : Name → Bool) (names files : List Name) → files ≡ filter p names → AreRising names → (s v u w t : State) → v ≡ s
+pub ending_in_order : (origin : ℕ) (p : Name → Bool) (names files : List Name) → files ≡ filter p names → AreSorted names → (s v u w t : State) → v ≡ s
     → StoresMark SLOTS (mark_bytes origin) v u → TakesInOrder files u w → IsAmidEnding w t → ClearsInOrder origin s t
 ending_in_order origin p names files are rising s v u w t same stores takes amid =
     (files, (kept_rising p names files are rising, Ending u w (stored_before origin s v u same stores) takes amid))

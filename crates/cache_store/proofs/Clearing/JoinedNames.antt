@@ -3,7 +3,7 @@ use Rattle.std.proofs.Common.{◌≡◌, ◌∙◌, ℕ, ◌+◌, ◌<◌, Bool,
 use Rattle.std.specs.Ordering.{is_eq}
 use Rattle.std.proofs.lemmas.Cmp.{eq_by_cmp_equiv}
 use Rattle.std.proofs.lemmas.List.Folds.{list_any_more}
-use Rattle.cache_base.specs.Names.{AreRising, has_name, name_cmp}
+use Rattle.cache_base.specs.Names.{AreSorted, has_name, name_cmp}
 use Rattle.cache_base.specs.declared.name.Name.{Name}
 use Rattle.cache_base.proofs.NameLaws.{name_cmp_total}
 use Rattle.cache_check.proofs.FoundExactly.{has_key}
@@ -58,7 +58,7 @@ table_has (n ∷ first) second q =
 
 -- so names that rise and are those of both lists are these
 pub joined_is : {E : Type 0} (first second set : List Name) → ((q : Name) → has_name set q ≡ (has_name first q || has_name second q))
-    → (r : Result (List Name) E) → IfOk r (λ names. names ≡ set) → IfOk r AreRising → IfOk r (λ names. names ≡ joined_names (map (λ n. n.0) first) (map (λ n. n.0) second))
+    → (r : Result (List Name) E) → IfOk r (λ names. names ≡ set) → IfOk r AreSorted → IfOk r (λ names. names ≡ joined_names (map (λ n. n.0) first) (map (λ n. n.0) second))
 joined_is first second set has (Err e) is rising = tt
 joined_is first second set has (Ok names) is rising =
     let both : List (List ℕ) = map (λ (n : Name). n.0) first ++ map (λ (n : Name). n.0) second in

@@ -2,7 +2,7 @@
 use Rattle.std.proofs.Common.{◌≡◌, ◌≢◌, ◌++◌, ◌∷◌, ◌∙◌, ℕ, List, [], Option, Result, Ok, Err, IsErrAnd, append-nil, arith, take, refl, sym, ap, subst}
 use Rattle.std.specs.Io.KnownBytes.{Appends}
 use Rattle.std.proofs.KnownBytes.{Appends-trans}
-use Rattle.cache_base.specs.Names.{AreRising}
+use Rattle.cache_base.specs.Names.{AreSorted}
 use Rattle.cache_base.specs.declared.name.Name.{Name}
 use Rattle.cache_check.specs.Checks.{files_of}
 use Rattle.cache_check.proofs.Tables.{is_table_of, only_one_table}
@@ -55,7 +55,7 @@ dump_reply_is m = refl
 abbrev pub text_of : State → List Name → List ℕ
 text_of s names = head ++ (items_from 8 (files_of s names) ++ 0 ∷ [])
 
-module _ (at : Cache) (m : Machine) (is : CacheRepresents at m) (names : List Name) (rising : AreRising names) (entries : AreEntries at.disk names) where
+module _ (at : Cache) (m : Machine) (is : CacheRepresents at m) (names : List Name) (rising : AreSorted names) (entries : AreEntries at.disk names) where
   files_are : files_of at.disk names ≡ m.shelf
   files_are =
       only_one_table (entries_on at.disk) (files_of at.disk names) m.shelf (is_table_of at.disk names rising entries)
@@ -75,7 +75,7 @@ dump_fails answer P failed other k now s t old new was same crash h is =
     fails_unsaid crash Dump h answer P failed other (session_at k now old s) (session_at k now new t) was
     (λ on. ((begun_spared Dump (session_at k now old s) t h is (λ apart. spares_same s t same)).crash_kept on).safe)
 
-module _ (k : Kept) (now : ℕ) (s t : State) (old new : MemoryIndex) (finishes : Finishes s t old new) (names : List Name) (rising : AreRising names) (entries : AreEntries s names) where
+module _ (k : Kept) (now : ℕ) (s t : State) (old new : MemoryIndex) (finishes : Finishes s t old new) (names : List Name) (rising : AreSorted names) (entries : AreEntries s names) where
   -- it has had its effect, and this is the answer to each machine
   dump_by : (answer : Result Answered StoreFault) (was later : Saying)
       → ((m : Machine) → CacheRepresents (cache_at k s) m → AnswersTo (step m Dump).reply answer was.taken later)

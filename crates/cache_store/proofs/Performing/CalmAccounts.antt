@@ -35,6 +35,12 @@ sync_stops before mid now (Err Failed) is calm =
     inr (inr (ap (λ (c : Counts). c.failed) is ∙ (λ i. record (calm i) { sync = sym (ap (λ (c : Counts). c.calls) is) i })))
 sync_stops before mid now (Err Memory) is calm = inl (ap (λ (c : Counts). c.failed) is ∙ calm)
 
+-- a sync after calls that looked at no entry
+pub sync_reads : {T : Type 0} (before mid now : Counts) (r : Result T DiskFault) → now ≡ counted_sync r mid → mid.entry_reads ≡ before.entry_reads → now.entry_reads ≡ before.entry_reads
+sync_reads before mid now (Ok x) is same = ap (λ (c : Counts). c.entry_reads) is ∙ same
+sync_reads before mid now (Err Failed) is same = ap (λ (c : Counts). c.entry_reads) is ∙ same
+sync_reads before mid now (Err Memory) is same = ap (λ (c : Counts). c.entry_reads) is ∙ same
+
 -- a fault of the sink that is handed on, after a call that only looked and did not fail
 pub sink_fault_looks : {T : Type 0} {Self : _} (D : Ghosts Self) (f : SinkFault) (out : Result T StoreFault) (a b : Self) → IsErrAnd out (λ e. e ≡ of_sink f) → Looks D Ending.NoneFailed a b → Looks D (store_ending out) a b
 sink_fault_looks D f (Ok value) a b is looks = absurd is

@@ -1,7 +1,7 @@
 -- The index in memory as its update begins.
 use Rattle.std.proofs.Common.{◌≡◌, ◌≢◌, ◌∙◌, ℕ, List, [], Result, Ok, Err, sym, ap, subst}
 use Rattle.std.specs.Prelude.{IfOk, option_and_then}
-use Rattle.cache_base.specs.Names.{AreRising}
+use Rattle.cache_base.specs.Names.{AreSorted}
 use Rattle.cache_base.specs.declared.name.Name.{Name}
 use Rattle.disk_theory.specs.Listing.{AreEntries}
 use Rattle.disk_theory.specs.State.{State, standing}
@@ -33,15 +33,15 @@ build_unready given start is same ready = let both : Build ≡ Ready = sym is �
 
 -- where the index is trusted nothing is left to read
 pub ready_rest : (s : State) (rest : List Name) → start_of (standing s) ≡ Ready → rest ≡ [] → IsRest s rest
-ready_rest s rest ready none = record { ready = λ e. none; unready = λ no. absurd (no ready); rising = subst AreRising (sym none) no_names }
+ready_rest s rest ready none = record { ready = λ e. none; unready = λ no. absurd (no ready); rising = subst AreSorted (sym none) no_names }
 
 -- otherwise all entries are; they are listed once the index is opened, in a state t with the same entries
 module _ {E : Type 0} (r : Result MemoryIndex E) (A : Type 0) (s t : State) (same : A → (name : List ℕ) → entries_on t name ≡ entries_on s name) where
-  pub begun_rest : (A → start_of (standing s) ≢ Ready) → IfOk r (λ index. A → AreEntries t index.update) → IfOk r (λ index. AreRising index.update)
+  pub begun_rest : (A → start_of (standing s) ≢ Ready) → IfOk r (λ index. A → AreEntries t index.update) → IfOk r (λ index. AreSorted index.update)
       → IfOk r (λ index. A → IsRest s index.update)
   begun_rest unready all rising = go r all rising
     where
-      go : (q : Result MemoryIndex E) → IfOk q (λ index. A → AreEntries t index.update) → IfOk q (λ index. AreRising index.update) → IfOk q (λ index. A → IsRest s index.update)
+      go : (q : Result MemoryIndex E) → IfOk q (λ index. A → AreEntries t index.update) → IfOk q (λ index. AreSorted index.update) → IfOk q (λ index. A → IsRest s index.update)
       go (Ok index) all rising = λ a. record { ready = λ ready. absurd (unready a ready); unready = λ no. listed_along s t (same a) index.update (all a); rising = rising }
       go (Err e) all rising = tt
 

@@ -5,7 +5,7 @@ use Rattle.std.specs.Prelude.{◌↔◌}
 use Rattle.std.specs.declared.cmp.Ordering.{Ordering}
 use Rattle.std.specs.declared.cmp.Ordering.TheVariants.{Less, Equal, Greater}
 use Rattle.std.proofs.lemmas.List.Elements.{All-contains, All-from_recursion}
-use Rattle.cache_base.specs.Names.{AreRising, name_cmp}
+use Rattle.cache_base.specs.Names.{AreSorted, name_cmp}
 use Rattle.cache_base.specs.declared.name.Name.{Name}
 use Rattle.disk_theory.specs.Listing.{IsFinite}
 use Rattle.disk_theory.specs.State.{State, standing}
@@ -31,30 +31,30 @@ first_or_later n q names (zero, low, is) = inl is
 first_or_later n q names (suc k, low, is) = inr (k, omega (arith, low), is)
 
 -- a name is below each that comes after it
-above : (n q : Name) (names : List Name) → AreRising (n ∷ names) → Contains names q → name_cmp n q ≡ Less
+above : (n q : Name) (names : List Name) → AreSorted (n ∷ names) → Contains names q → name_cmp n q ≡ Less
 unfolding IsStrictlySortedBy
 above n q names rising has = All-contains (λ m. name_cmp n m ≡ Less) names q (All-from_recursion (λ m. name_cmp n m ≡ Less) names rising.0) has
 
 -- what is in a list is not below its first name
-not_below : (n q : Name) (names : List Name) → AreRising (n ∷ names) → Contains (n ∷ names) q → name_cmp q n ≡ Less → ⊥
+not_below : (n q : Name) (names : List Name) → AreSorted (n ∷ names) → Contains (n ∷ names) q → name_cmp q n ≡ Less → ⊥
 not_below n q names rising has less = elim (first_or_later n q names has) [
   | inl same ↦ never_below q (ap (name_cmp q) (sym same) ∙ less)
   | inr later ↦ never_below q (below_trans q n q less (above n q names rising later))
 ]
 
-first_is : (x y : Name) (xs ys : List Name) → AreRising (x ∷ xs) → AreRising (y ∷ ys) → Contains (y ∷ ys) x → Contains (x ∷ xs) y → (o : Ordering) → name_cmp x y ≡ o → x ≡ y
+first_is : (x y : Name) (xs ys : List Name) → AreSorted (x ∷ xs) → AreSorted (y ∷ ys) → Contains (y ∷ ys) x → Contains (x ∷ xs) y → (o : Ordering) → name_cmp x y ≡ o → x ≡ y
 first_is x y xs ys rx ry has also Less e = absurd (not_below y x ys ry has e)
 first_is x y xs ys rx ry has also Equal e = tied_same x y e
 first_is x y xs ys rx ry has also Greater e = absurd (not_below x y xs rx also (above_below x y e))
 
 -- with the same first name, the others are in the other list too
-others_in : (n q : Name) (xs ys : List Name) → AreRising (n ∷ xs) → (Contains (n ∷ xs) q → Contains (n ∷ ys) q) → Contains xs q → Contains ys q
+others_in : (n q : Name) (xs ys : List Name) → AreSorted (n ∷ xs) → (Contains (n ∷ xs) q → Contains (n ∷ ys) q) → Contains xs q → Contains ys q
 others_in n q xs ys rising same has = elim (first_or_later n q ys (same (push n q xs has))) [
   | inl is ↦ absurd (never_below n (ap (name_cmp n) is ∙ above n q xs rising has))
   | inr later ↦ later
 ]
 
-one_list : (xs ys : List Name) → AreRising xs → AreRising ys → ((name : Name) → Contains xs name ↔ Contains ys name) → xs ≡ ys
+one_list : (xs ys : List Name) → AreSorted xs → AreSorted ys → ((name : Name) → Contains xs name ↔ Contains ys name) → xs ≡ ys
 unfolding IsStrictlySortedBy
 one_list [] [] rx ry same = refl
 one_list [] (y ∷ ys) rx ry same = absurd (let low = ((same y).1 (first y ys)).1 in omega (arith, low))
@@ -83,7 +83,7 @@ rest_is_one s rest more one other = go (start_of (standing s)) refl
     go Update e = listed (λ ready. let both : Update ≡ Ready = sym e ∙ ready in cc)
     go Build e = listed (λ ready. let both : Build ≡ Ready = sym e ∙ ready in cc)
 
-pub no_names : AreRising []
+pub no_names : AreSorted []
 unfolding IsStrictlySortedBy
 no_names = tt
 

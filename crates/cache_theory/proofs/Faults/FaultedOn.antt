@@ -1,7 +1,7 @@
 -- Commands one after the other, of which some are answered `fault`.
 use Rattle.std.proofs.Common.{◌≡◌, ℕ, suc, ◌+◌, ◌≤◌, List, [], ◌∷◌, ◌++◌, length, refl, sym, ap, subst, ◌∙◌, arith, append_assoc, append-nil}
 use Rattle.cache_theory.specs.Command.{Command}
-use Rattle.cache_theory.specs.Faulted.{AreRisingIn, FaultsAreInFront, FaultsAreWithin, KeptAreCounted, NextIsNumbered, NextMayFault, fault_line, replies_from, unfaulted_from}
+use Rattle.cache_theory.specs.Faulted.{AreSortedIn, FaultsAreInFront, FaultsAreWithin, KeptAreCounted, NextIsNumbered, NextMayFault, fault_line, replies_from, unfaulted_from}
 use Rattle.cache_theory.specs.Machine.{Machine}
 use Rattle.cache_theory.specs.Step.{after, step}
 use Rattle.cache_theory.specs.Text.{replies_text, reply_text}
@@ -11,7 +11,7 @@ use Rattle.cache_theory.proofs.Faults.FaultedSteps.BeginsSteps.{Here, Later}
 -- Numbers.
 
 -- below a later end
-rising_within : (first end later : ℕ) (faults : List ℕ) → end ≤ later → AreRisingIn first end faults → AreRisingIn first later faults
+rising_within : (first end later : ℕ) (faults : List ℕ) → end ≤ later → AreSortedIn first end faults → AreSortedIn first later faults
 rising_within first end later [] within rising = tt
 rising_within first end later (f ∷ faults) within rising =
     (rising.0, (let below = rising.1.0 in omega (arith, below, within), rising_within (suc f) end later faults within rising.1.1))
@@ -20,13 +20,13 @@ pub faults_are_within : FaultsAreWithin
 faults_are_within p q faults within rising = rising_within 1 (suc p) (suc q) faults (omega (arith, within)) rising
 
 -- the end is one more
-rising_more : (first end : ℕ) (faults : List ℕ) → first ≤ end → AreRisingIn first end faults → AreRisingIn first (suc end) (faults ++ end ∷ [])
+rising_more : (first end : ℕ) (faults : List ℕ) → first ≤ end → AreSortedIn first end faults → AreSortedIn first (suc end) (faults ++ end ∷ [])
 rising_more first end [] within rising = (within, (omega arith, tt))
 rising_more first end (f ∷ faults) within rising =
     (rising.0, (let below = rising.1.0 in omega (arith, below), rising_more (suc f) end faults (let below = rising.1.0 in omega (arith, below)) rising.1.1))
 
 -- none are below the first
-none_within : (n : ℕ) (faults : List ℕ) → AreRisingIn n n faults → faults ≡ []
+none_within : (n : ℕ) (faults : List ℕ) → AreSortedIn n n faults → faults ≡ []
 none_within n [] rising = refl
 none_within n (f ∷ faults) rising = absurd (let least = rising.0 in let below = rising.1.0 in omega (arith, least, below))
 
@@ -42,11 +42,11 @@ unfaulted_none n (c ∷ cs) = ap (λ ds. c ∷ ds) (unfaulted_none (suc n) cs)
 
 -- Commands after others.
 
-replies_on : (n end : ℕ) (faults : List ℕ) (m : Machine) (cs more : List Command) → end ≡ n + length cs → AreRisingIn n end faults
+replies_on : (n end : ℕ) (faults : List ℕ) (m : Machine) (cs more : List Command) → end ≡ n + length cs → AreSortedIn n end faults
     → replies_from n faults m (cs ++ more) ≡ replies_from n faults m cs ++ replies_text (after m (unfaulted_from n faults cs)) more
 replies_on n end faults m [] more is_end rising =
     let same : end ≡ n = omega (arith, is_end) in
-    ap (λ fs. replies_from n fs m more) (none_within n faults (subst (λ e. AreRisingIn n e faults) same rising)) ∙ replies_none n m more
+    ap (λ fs. replies_from n fs m more) (none_within n faults (subst (λ e. AreSortedIn n e faults) same rising)) ∙ replies_none n m more
 replies_on n end faults m (c ∷ cs) more is_end rising = elim (begins_at n end faults rising) [
   | Here later is rising_later ↦
       ap (λ fs. replies_from n fs m (c ∷ (cs ++ more))) is
@@ -66,11 +66,11 @@ replies_on n end faults m (c ∷ cs) more is_end rising = elim (begins_at n end 
       ∙ ap (λ ds. replies_from n faults m (c ∷ cs) ++ replies_text (after m ds) more) (sym (unfaulted_reply n end faults c cs rising_later))
 ]
 
-pub unfaulted_on : (n end : ℕ) (faults : List ℕ) (cs more : List Command) → end ≡ n + length cs → AreRisingIn n end faults
+pub unfaulted_on : (n end : ℕ) (faults : List ℕ) (cs more : List Command) → end ≡ n + length cs → AreSortedIn n end faults
     → unfaulted_from n faults (cs ++ more) ≡ unfaulted_from n faults cs ++ more
 unfaulted_on n end faults [] more is_end rising =
     let same : end ≡ n = omega (arith, is_end) in
-    ap (λ fs. unfaulted_from n fs more) (none_within n faults (subst (λ e. AreRisingIn n e faults) same rising)) ∙ unfaulted_none n more
+    ap (λ fs. unfaulted_from n fs more) (none_within n faults (subst (λ e. AreSortedIn n e faults) same rising)) ∙ unfaulted_none n more
 unfaulted_on n end faults (c ∷ cs) more is_end rising = elim (begins_at n end faults rising) [
   | Here later is rising_later ↦
       ap (λ fs. unfaulted_from n fs (c ∷ (cs ++ more))) is
@@ -91,11 +91,11 @@ faults_are_in_front m cs more faults rising = record {
 
 -- One command more, which is answered `fault`.
 
-replies_next : (n end : ℕ) (faults : List ℕ) (m : Machine) (cs : List Command) (c : Command) → end ≡ n + length cs → AreRisingIn n end faults
+replies_next : (n end : ℕ) (faults : List ℕ) (m : Machine) (cs : List Command) (c : Command) → end ≡ n + length cs → AreSortedIn n end faults
     → replies_from n (faults ++ end ∷ []) m (cs ++ c ∷ []) ≡ replies_from n faults m cs ++ fault_line
 replies_next n end faults m [] c is_end rising =
     let same : end ≡ n = omega (arith, is_end) in
-    let none : faults ≡ [] = none_within n faults (subst (λ e. AreRisingIn n e faults) same rising) in
+    let none : faults ≡ [] = none_within n faults (subst (λ e. AreSortedIn n e faults) same rising) in
     ap (λ fs. replies_from n (fs ++ end ∷ []) m (c ∷ [])) none
     ∙ ap (λ e. replies_from n (e ∷ []) m (c ∷ [])) same
     ∙ replies_fault n [] m c []
@@ -109,18 +109,18 @@ replies_next n end faults m (d ∷ cs) c is_end rising = elim (begins_at n end f
       ∙ ap (λ text. text ++ fault_line) (sym (ap (λ fs. replies_from n fs m (d ∷ cs)) is ∙ replies_fault n later m d cs))
   | Later rising_later ↦
       let text : List ℕ = reply_text (step m d).reply in
-      let more : AreRisingIn (suc n) (suc end) (faults ++ end ∷ []) = rising_more (suc n) end faults (omega (arith, is_end)) rising_later in
+      let more : AreSortedIn (suc n) (suc end) (faults ++ end ∷ []) = rising_more (suc n) end faults (omega (arith, is_end)) rising_later in
       replies_reply n (suc end) (faults ++ end ∷ []) m d (cs ++ c ∷ []) more
       ∙ ap (λ out. text ++ out) (replies_next (suc n) end faults (step m d).next cs c (omega (arith, is_end)) rising_later)
       ∙ sym (append_assoc text (replies_from (suc n) faults (step m d).next cs) fault_line)
       ∙ ap (λ out. out ++ fault_line) (sym (replies_reply n end faults m d cs rising_later))
 ]
 
-pub unfaulted_next : (n end : ℕ) (faults : List ℕ) (cs : List Command) (c : Command) → end ≡ n + length cs → AreRisingIn n end faults
+pub unfaulted_next : (n end : ℕ) (faults : List ℕ) (cs : List Command) (c : Command) → end ≡ n + length cs → AreSortedIn n end faults
     → unfaulted_from n (faults ++ end ∷ []) (cs ++ c ∷ []) ≡ unfaulted_from n faults cs
 unfaulted_next n end faults [] c is_end rising =
     let same : end ≡ n = omega (arith, is_end) in
-    let none : faults ≡ [] = none_within n faults (subst (λ e. AreRisingIn n e faults) same rising) in
+    let none : faults ≡ [] = none_within n faults (subst (λ e. AreSortedIn n e faults) same rising) in
     ap (λ fs. unfaulted_from n (fs ++ end ∷ []) (c ∷ [])) none
     ∙ ap (λ e. unfaulted_from n (e ∷ []) (c ∷ [])) same
     ∙ unfaulted_fault n [] c []
@@ -131,7 +131,7 @@ unfaulted_next n end faults (d ∷ cs) c is_end rising = elim (begins_at n end f
       ∙ unfaulted_next (suc n) end later cs c (omega (arith, is_end)) rising_later
       ∙ sym (ap (λ fs. unfaulted_from n fs (d ∷ cs)) is ∙ unfaulted_fault n later d cs)
   | Later rising_later ↦
-      let more : AreRisingIn (suc n) (suc end) (faults ++ end ∷ []) = rising_more (suc n) end faults (omega (arith, is_end)) rising_later in
+      let more : AreSortedIn (suc n) (suc end) (faults ++ end ∷ []) = rising_more (suc n) end faults (omega (arith, is_end)) rising_later in
       unfaulted_reply n (suc end) (faults ++ end ∷ []) d (cs ++ c ∷ []) more
       ∙ ap (λ ds. d ∷ ds) (unfaulted_next (suc n) end faults cs c (omega (arith, is_end)) rising_later)
       ∙ sym (unfaulted_reply n end faults d cs rising_later)
@@ -148,10 +148,10 @@ next_may_fault m cs c faults rising = record {
 
 -- Counts.
 
-kept_counted : (n end : ℕ) (faults : List ℕ) (cs : List Command) → end ≡ n + length cs → AreRisingIn n end faults → length (unfaulted_from n faults cs) + length faults ≡ length cs
+kept_counted : (n end : ℕ) (faults : List ℕ) (cs : List Command) → end ≡ n + length cs → AreSortedIn n end faults → length (unfaulted_from n faults cs) + length faults ≡ length cs
 kept_counted n end faults [] is_end rising =
     let same : end ≡ n = omega (arith, is_end) in
-    let none : length faults ≡ 0 = ap length (none_within n faults (subst (λ e. AreRisingIn n e faults) same rising)) in
+    let none : length faults ≡ 0 = ap length (none_within n faults (subst (λ e. AreSortedIn n e faults) same rising)) in
     omega (arith, none)
 kept_counted n end faults (c ∷ cs) is_end rising = elim (begins_at n end faults rising) [
   | Here later is rising_later ↦

@@ -4,7 +4,7 @@ use Rattle.std.specs.Prelude.{slice_get}
 use Rattle.std.proofs.lemmas.Bool.{cases_Bool, cond-false, cond-true}
 use Rattle.std.proofs.lemmas.Slice.Eq.{bytes_eq-Decides}
 use Rattle.cache_theory.specs.Command.{Command}
-use Rattle.cache_theory.specs.Faulted.{AreRisingIn, Faulted, FaultedIsRead, begins_with, fault_before, fault_line, faulted_from, none_answered, replies_from, reply_before, unfaulted_from}
+use Rattle.cache_theory.specs.Faulted.{AreSortedIn, Faulted, FaultedIsRead, begins_with, fault_before, fault_line, faulted_from, none_answered, replies_from, reply_before, unfaulted_from}
 use Rattle.cache_theory.specs.Machine.{Machine}
 use Rattle.cache_theory.specs.Step.{after, step}
 use Rattle.cache_theory.specs.Text.{reply_text}
@@ -18,7 +18,7 @@ whole text bytes begins =
 -- the same as in the law, where the first command has the number n
 record IsReadFrom (n : ℕ) (m : Machine) (cs : List Command) (bytes : List ℕ) (r : Faulted) : Type 0 where
   within : r.answered ≤ length cs
-  numbers : AreRisingIn n (n + r.answered) r.faults
+  numbers : AreSortedIn n (n + r.answered) r.faults
   left : List ℕ
   begins : bytes ≡ replies_from n r.faults m (take r.answered cs) ++ left
   ends : (c : Command) → slice_get cs r.answered ≡ Some c
@@ -32,7 +32,7 @@ with_fault : (n : ℕ) (m : Machine) (c : Command) (cs : List Command) (bytes : 
     → IsReadFrom n m (c ∷ cs) (fault_line ++ bytes) (fault_before n r)
 with_fault n m c cs bytes r is = record {
   within = let within = is.within in omega (arith, within);
-  numbers = (omega arith, (omega arith, subst (λ end. AreRisingIn (suc n) end r.faults) sum is.numbers));
+  numbers = (omega arith, (omega arith, subst (λ end. AreSortedIn (suc n) end r.faults) sum is.numbers));
   left = is.left;
   begins = ap (λ more. fault_line ++ more) is.begins ∙ sym (append_assoc fault_line (replies_from (suc n) r.faults m (take r.answered cs)) is.left)
       ∙ ap (λ text. text ++ is.left) (sym (replies_fault n r.faults m c (take r.answered cs)));
@@ -47,7 +47,7 @@ with_reply : (n : ℕ) (m : Machine) (c : Command) (cs : List Command) (bytes : 
     → IsReadFrom n m (c ∷ cs) (reply_text (step m c).reply ++ bytes) (reply_before r)
 with_reply n m c cs bytes r is = record {
   within = let within = is.within in omega (arith, within);
-  numbers = wider r.faults (subst (λ end. AreRisingIn (suc n) end r.faults) sum is.numbers);
+  numbers = wider r.faults (subst (λ end. AreSortedIn (suc n) end r.faults) sum is.numbers);
   left = is.left;
   begins = ap (λ more. text ++ more) is.begins ∙ sym (append_assoc text (replies_from (suc n) r.faults (step m c).next (take r.answered cs)) is.left)
       ∙ ap (λ out. out ++ is.left) (sym (replies_reply n (suc n + r.answered) r.faults m c (take r.answered cs) is.numbers));
@@ -61,7 +61,7 @@ with_reply n m c cs bytes r is = record {
     sum : suc n + r.answered ≡ n + suc r.answered
     sum = omega arith
 
-    wider : (faults : List ℕ) → AreRisingIn (suc n) (n + suc r.answered) faults → AreRisingIn n (n + suc r.answered) faults
+    wider : (faults : List ℕ) → AreSortedIn (suc n) (n + suc r.answered) faults → AreSortedIn n (n + suc r.answered) faults
     wider [] rising = tt
     wider (f ∷ faults) rising = (let least = rising.0 in omega (arith, least), rising.1)
 
@@ -97,4 +97,4 @@ read_from n m (c ∷ cs) bytes = elim (cases_Bool (begins_with fault_line bytes)
     }
 
 pub faulted_is_read : FaultedIsRead
-faulted_is_read m cs bytes = let is = read_from 1 m cs bytes in record { within = is.within; numbers = subst (λ end. AreRisingIn 1 end (faulted_from 1 m cs bytes).faults) (let e : 1 + (faulted_from 1 m cs bytes).answered ≡ suc (faulted_from 1 m cs bytes).answered = omega arith in e) is.numbers; left = is.left; begins = is.begins; ends = is.ends }
+faulted_is_read m cs bytes = let is = read_from 1 m cs bytes in record { within = is.within; numbers = subst (λ end. AreSortedIn 1 end (faulted_from 1 m cs bytes).faults) (let e : 1 + (faulted_from 1 m cs bytes).answered ≡ suc (faulted_from 1 m cs bytes).answered = omega arith in e) is.numbers; left = is.left; begins = is.begins; ends = is.ends }

@@ -2,7 +2,7 @@
 use Rattle.std.proofs.Common.{◌≡◌, inl, inr, ℕ, suc, ◌<◌, ◌||◌, List, [], ◌∷◌, ◌++◌, cond, length, true, false, refl, ap, ap₂, subst, ◌∙◌, arith, drop_at, eq-eqb, ne_eqb}
 use Rattle.std.proofs.lemmas.Bool.{cases_lt, cond-true, cond-false}
 use Rattle.cache_theory.specs.Command.{Command}
-use Rattle.cache_theory.specs.Faulted.{AreRisingIn, begins_with, fault_before, fault_line, faulted_from, is_faulted, none_answered, replies_from, reply_before, unfaulted_from}
+use Rattle.cache_theory.specs.Faulted.{AreSortedIn, begins_with, fault_before, fault_line, faulted_from, is_faulted, none_answered, replies_from, reply_before, unfaulted_from}
 use Rattle.cache_theory.specs.Machine.{Machine}
 use Rattle.cache_theory.specs.Step.{step}
 use Rattle.cache_theory.specs.Text.{reply_text, IsSpoken}
@@ -12,7 +12,7 @@ use Rattle.cache_theory.proofs.Faults.RepliesApart.{reply_differs, step_spoken}
 -- Numbers that rise.
 
 -- later numbers are none of these
-pub none_before : (faults : List ℕ) (first end n : ℕ) → AreRisingIn first end faults → n < first → is_faulted faults n ≡ false
+pub none_before : (faults : List ℕ) (first end n : ℕ) → AreSortedIn first end faults → n < first → is_faulted faults n ≡ false
 none_before [] first end n rising before = refl
 none_before (f ∷ faults) first end n rising before =
     let least = rising.0 in
@@ -20,16 +20,16 @@ none_before (f ∷ faults) first end n rising before =
 
 -- the first number is the first of these, or is before all of them
 pub data BeginsSteps (n end : ℕ) (faults : List ℕ) : Type 0 where
-  Here : (more : List ℕ) → faults ≡ n ∷ more → AreRisingIn (suc n) end more → BeginsSteps n end faults
-  Later : AreRisingIn (suc n) end faults → BeginsSteps n end faults
+  Here : (more : List ℕ) → faults ≡ n ∷ more → AreSortedIn (suc n) end more → BeginsSteps n end faults
+  Later : AreSortedIn (suc n) end faults → BeginsSteps n end faults
 
-pub begins_at : (n end : ℕ) (faults : List ℕ) → AreRisingIn n end faults → BeginsSteps n end faults
+pub begins_at : (n end : ℕ) (faults : List ℕ) → AreSortedIn n end faults → BeginsSteps n end faults
 begins_at n end [] rising = Later tt
 begins_at n end (f ∷ faults) rising = elim (cases_lt n f) [
   | inl later ↦ Later (later, rising.1)
   | inr not_later ↦
       let same : f ≡ n = let least = rising.0 in omega (arith, least, not_later) in
-      Here faults (ap (λ x. x ∷ faults) same) (subst (λ x. AreRisingIn (suc x) end faults) same rising.1.1)
+      Here faults (ap (λ x. x ∷ faults) same) (subst (λ x. AreSortedIn (suc x) end faults) same rising.1.1)
 ]
 
 -- one number more at the beginning
@@ -63,11 +63,11 @@ pub unfaulted_fault : (n : ℕ) (more : List ℕ) (c : Command) (cs : List Comma
 unfaulted_fault n more c cs = cond-true (is_faulted (n ∷ more) n) _ _ (in_front n more) ∙ unfaulted_skip n (suc n) more cs (omega arith)
 
 -- or it is not
-pub replies_reply : (n end : ℕ) (faults : List ℕ) (m : Machine) (c : Command) (cs : List Command) → AreRisingIn (suc n) end faults
+pub replies_reply : (n end : ℕ) (faults : List ℕ) (m : Machine) (c : Command) (cs : List Command) → AreSortedIn (suc n) end faults
     → replies_from n faults m (c ∷ cs) ≡ reply_text (step m c).reply ++ replies_from (suc n) faults (step m c).next cs
 replies_reply n end faults m c cs rising = cond-false (is_faulted faults n) _ _ (none_before faults (suc n) end n rising (omega arith))
 
-pub unfaulted_reply : (n end : ℕ) (faults : List ℕ) (c : Command) (cs : List Command) → AreRisingIn (suc n) end faults
+pub unfaulted_reply : (n end : ℕ) (faults : List ℕ) (c : Command) (cs : List Command) → AreSortedIn (suc n) end faults
     → unfaulted_from n faults (c ∷ cs) ≡ c ∷ unfaulted_from (suc n) faults cs
 unfaulted_reply n end faults c cs rising = cond-false (is_faulted faults n) _ _ (none_before faults (suc n) end n rising (omega arith))
 

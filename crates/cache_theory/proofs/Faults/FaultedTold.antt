@@ -2,7 +2,7 @@
 use Rattle.std.proofs.Common.{◌≡◌, ◌⊎◌, inl, inr, ⊎_elim, ℕ, zero, suc, ◌+◌, ◌<◌, ◌≤◌, List, [], ◌∷◌, ◌++◌, length, take, Some, refl, sym, ap, subst, ◌∙◌, arith, append_assoc, false}
 use Rattle.std.specs.Prelude.{slice_get}
 use Rattle.cache_theory.specs.Command.{Command}
-use Rattle.cache_theory.specs.Faulted.{AreRisingIn, FaultedIsTold, IsCutOf, begins_with, fault_before, fault_line, faulted_from, replies_from, reply_before, unfaulted_from}
+use Rattle.cache_theory.specs.Faulted.{AreSortedIn, FaultedIsTold, IsCutOf, begins_with, fault_before, fault_line, faulted_from, replies_from, reply_before, unfaulted_from}
 use Rattle.cache_theory.specs.Machine.{Machine}
 use Rattle.cache_theory.specs.Step.{after, step}
 use Rattle.cache_theory.specs.Text.{AreSpoken, reply_text}
@@ -34,7 +34,7 @@ begins_neither text x apart of_next = elim (cut_of text x of_next) [
   | inr of_reply ↦ (cut_never_begins text fault_line x apart of_reply, own_cut_never_begins text x of_reply)
 ]
 
-told_from : (n end : ℕ) (m : Machine) (cs : List Command) (p : ℕ) (faults x : List ℕ) → AreSpoken cs → end ≡ n + p → p ≤ length cs → AreRisingIn n end faults → FollowsFrom n m cs p faults x
+told_from : (n end : ℕ) (m : Machine) (cs : List Command) (p : ℕ) (faults x : List ℕ) → AreSpoken cs → end ≡ n + p → p ≤ length cs → AreSortedIn n end faults → FollowsFrom n m cs p faults x
     → faulted_from n m cs (replies_from n faults m (take p cs) ++ x) ≡ record { answered = p; faults = faults }
 told_from n end m cs zero (f ∷ faults) x spoken is_end within rising follows = absurd (let least = rising.0 in let below = rising.1.0 in omega (arith, least, below, is_end))
 told_from n end m [] zero [] x spoken is_end within rising follows = refl

@@ -3,7 +3,7 @@
 ghost use Rattle.std.specs.Prelude.{◌≡◌, ◌≢◌, ◌≤◌, ◌^◌, ◌↔◌, ◌++◌, true, length, take, drop, IfOk, OnOk, IsSome, IsErrOf};
 ghost use Rattle.std.specs.Option.{option_map};
 ghost use Rattle.cache_base.specs.Causes.{HasCause};
-ghost use Rattle.cache_base.specs.Names.{AreRising};
+ghost use Rattle.cache_base.specs.Names.{AreSorted};
 ghost use Rattle.disk_theory.specs.Calls.{counted_change, counted_look, counted_read, counted_sync, if_ok, if_done, MayWriteAt, HoldsPart};
 
 use super::MemDisk;
@@ -13,7 +13,7 @@ use disk_theory::{Disk, DiskFault, Place};
 impl Disk for MemDisk {
     ghost use Rattle.disk_theory.specs.State.{standing, part_of, created, renamed, removed, wrote, settled};
     ghost use Rattle.disk_theory.specs.State.Write.{End, Patch};
-    ghost use Rattle.disk_theory.specs.Listing.{AreEntries, AreDoomed, AreRisingNumbers};
+    ghost use Rattle.disk_theory.specs.Listing.{AreEntries, AreDoomed, AreSortedNumbers};
     ghost use Rattle.disk_model.specs.MemDisk.{state_in, counts_in, faults_in, FailsNext};
     ghost use Rattle.disk_model.specs.MemFinite.{finite_in};
 
@@ -169,7 +169,7 @@ impl Disk for MemDisk {
     }
 
     fn entries(&mut self, out: &mut Names) -> Result<(), DiskFault>
-        ensures rising { OnOk result (AreRising out.new) }
+        ensures sorted { OnOk result (AreSorted out.new) }
         ensures names { OnOk result (AreEntries (state_in self.old) out.new) }
         ensures state { state_in self.new ≡ state_in self.old }
         ensures counts { counts_in self.new ≡ counted_look result (counts_in self.old) }
@@ -186,7 +186,7 @@ impl Disk for MemDisk {
     }
 
     fn doomed(&mut self, out: &mut Numbers) -> Result<(), DiskFault>
-        ensures rising { OnOk result (AreRisingNumbers out.new) }
+        ensures sorted { OnOk result (AreSortedNumbers out.new) }
         ensures numbers { OnOk result (AreDoomed (state_in self.old) out.new) }
         ensures state { state_in self.new ≡ state_in self.old }
         ensures counts { counts_in self.new ≡ counted_look result (counts_in self.old) }

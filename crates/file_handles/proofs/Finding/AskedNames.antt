@@ -7,7 +7,7 @@ use Rattle.std.proofs.lemmas.Bool.{and_from, and_parts}
 use Rattle.std.proofs.lemmas.List.Folds.{Any-from_list_any, list_any_at}
 use Rattle.std.proofs.lemmas.Option.{slice_get-get_or, unwrap_or-slice_get}
 use Rattle.std.proofs.lemmas.Slice.Eq.{bytes_eq-Decides}
-use Rattle.cache_base.specs.Names.{AreRising, has_name}
+use Rattle.cache_base.specs.Names.{AreSorted, has_name}
 use Rattle.cache_base.specs.declared.name.Name.{Name}
 use Rattle.cache_theory.specs.Covers.{covers, covers_object}
 use Rattle.cache_theory.specs.Machine.{Machine, object}
@@ -85,7 +85,7 @@ module _ (which : Asked) (test : MachineObject → Bool) (alike : (e : Entry) (o
     asked_same q = same_test _ _ (counted_there q) (there_counted q (get m.in_use q.0) refl)
 
     -- rising names of those that are asked for are the machine's
-    asked_is : (names : List Name) → AreRising names
+    asked_is : (names : List Name) → AreSorted names
         → ((q : Name) → has_name names q ≡ list_any (is_counted which q) k.objects) → names ≡ map name_of (keys (passing (passes m) m.in_use))
     asked_is names rising has =
         names_of_table (passing (passes m) m.in_use) (passing_is_table (passes m) m.in_use proper.users) names rising
@@ -93,7 +93,7 @@ module _ (which : Asked) (test : MachineObject → Bool) (alike : (e : Entry) (o
 
   -- the names of them, listed in their order
   listed_asked : {E : Type 0} (k : Kept) (r : Result (List Name) E)
-      → IfOk r (λ names. (q : Name) → has_name names q ≡ list_any (is_counted which q) k.objects) → IfOk r AreRising
+      → IfOk r (λ names. (q : Name) → has_name names q ≡ list_any (is_counted which q) k.objects) → IfOk r AreSorted
       → IfOk r (λ names. (m : Machine) (number : ℕ → ℕ) → IsProper m → HandlesStand k m number → names ≡ map name_of (keys (passing (passes m) m.in_use)))
   listed_asked k (Err e) has rising = tt
   listed_asked k (Ok names) has rising = λ m number proper stand. asked_is k m number proper stand names rising has
@@ -105,7 +105,7 @@ draft_is (entry.Finished meta) o is = sym (ap not is.0)
 
 pub listed_writing : {E : Type 0} (k : Kept) (r : Result (List Name) E)
     → IfOk r (λ names. (q : Name) → has_name names q ≡ list_any (is_counted asked.Drafts q) k.objects)
-    → IfOk r AreRising → IfOk r (AreWritingNames k)
+    → IfOk r AreSorted → IfOk r (AreWritingNames k)
 listed_writing k r has rising = listed_asked asked.Drafts (λ o. not o.finished) draft_is k r has rising
 
 -- It is covered where the machine's object is.
@@ -115,6 +115,6 @@ covered_is origin (entry.Finished meta) o is = ap (λ (m : Said). covers origin 
 
 pub listed_covered : {E : Type 0} (k : Kept) (origin : ℕ) (r : Result (List Name) E)
     → IfOk r (λ names. (q : Name) → has_name names q ≡ list_any (is_counted (asked.Of origin) q) k.objects)
-    → IfOk r AreRising → IfOk r (AreCoveredNames k origin)
+    → IfOk r AreSorted → IfOk r (AreCoveredNames k origin)
 listed_covered k origin r has rising =
     listed_asked (asked.Of origin) (covers_object origin) (covered_is origin) k r has rising

@@ -12,7 +12,7 @@ use Rattle.std.proofs.lemmas.Bool.{and_from}
 use Rattle.std.proofs.lemmas.List.Folds.{Any-from_list_any, list_any-append, list_any_at, list_any_more}
 use Rattle.std.proofs.lemmas.List.Quantifiers.{position-Some}
 use Rattle.std.proofs.lemmas.Option.{slice_get-get_or, unwrap_or-slice_get}
-use Rattle.cache_base.specs.Names.{AreRising, has_name, name_cmp}
+use Rattle.cache_base.specs.Names.{AreSorted, has_name, name_cmp}
 use Rattle.cache_base.specs.declared.name.Name.{Name}
 use Rattle.cache_theory.specs.Machine.{Machine, open_names}
 use Rattle.cache_theory.specs.Proper.{IsProper}
@@ -100,14 +100,14 @@ below_is n [] h = refl
 below_is n (y ∷ names) h =
     and_from (is_lt (name_cmp n y)) (below_all bytes_cmp n.0 (nothings names)) (ap is_lt h.0) (below_is n names h.1)
 
-sorted_is : (names : List Name) → AreRising names → is_sorted bytes_cmp (nothings names) ≡ true
+sorted_is : (names : List Name) → AreSorted names → is_sorted bytes_cmp (nothings names) ≡ true
 unfolding nothings IsStrictlySortedBy
 sorted_is [] h = refl
 sorted_is (n ∷ names) h =
     and_from (below_all bytes_cmp n.0 (nothings names)) (is_sorted bytes_cmp (nothings names)) (below_is n names h.0)
     (sorted_is names h.1)
 
-rising_table : (names : List Name) → AreRising names → IsTable (nothings names)
+rising_table : (names : List Name) → AreSorted names → IsTable (nothings names)
 rising_table names rising = record { rising = subst T (sym (sorted_is names rising)) tt }
 
 -- and the names of a table
@@ -128,7 +128,7 @@ keys_table : {X : Type 0} (t : Table X) → IsTable t → IsTable (nothings (map
 keys_table t is = record { rising = subst T (sym (sorted_keys t)) is.rising }
 
 -- so names that rise and are those of a table are its names in their order
-pub names_of_table : {X : Type 0} (t : Table X) → IsTable t → (names : List Name) → AreRising names
+pub names_of_table : {X : Type 0} (t : Table X) → IsTable t → (names : List Name) → AreSorted names
     → ((q : Name) → has_name names q ≡ has_name (map name_of (keys t)) q) → names ≡ map name_of (keys t)
 names_of_table t table names rising has =
     same_names names (map name_of (keys t)) (rising_table names rising) (keys_table t table) (λ q. has (name_of q))
@@ -174,7 +174,7 @@ module _ (k : Kept) (m : Machine) (number : ℕ → ℕ) (proper : IsProper m) (
       go (Some p) at = ap is_some (sym (user_is_used k m number proper stand q p at))
 
   -- rising names of undoomed objects are the machine's
-  open_is : (names : List Name) → AreRising names → ((q : Name) → has_name names q ≡ list_any (is_user q) k.objects)
+  open_is : (names : List Name) → AreSorted names → ((q : Name) → has_name names q ≡ list_any (is_user q) k.objects)
       → names ≡ open_names m
   open_is names rising has =
       names_of_table m.in_use proper.users names rising (λ q. has q ∙ open_same q ∙ sym (has_key m.in_use q))
@@ -189,7 +189,7 @@ listed_has test set has (Ok names) is = λ q. ap (λ ns. has_name ns q) is ∙ h
 module _ {E : Type 0} (k : Kept) where
   pub listed_open : (r : Result (List Name) E)
       → IfOk r (λ names. (q : Name) → has_name names q ≡ list_any (is_counted asked.All q) k.objects)
-      → IfOk r AreRising → IfOk r (AreOpenNames k)
+      → IfOk r AreSorted → IfOk r (AreOpenNames k)
   listed_open (Err e) has rising = tt
   listed_open (Ok names) has rising = λ m number proper stand.
       open_is k m number proper stand names rising (λ q. has q ∙ users_count q k.objects)

@@ -7,5 +7,5 @@ returns-clause-exact c = laws.findings_are_exact
 pub returns-clause-silent : goal.returns-clause-silent
 returns-clause-silent c = laws.right_records_are_silent
 
-pub returns-clause-rising : goal.returns-clause-rising
-returns-clause-rising c = laws.listed_names_rise
+pub returns-clause-sorted : goal.returns-clause-sorted
+returns-clause-sorted c = laws.listed_names_rise

@@ -9,4 +9,4 @@ returns-clause-names c =
     let second = c.args.second.now in
     joined_is first second c.add_all.new.set.keys
     (λ q. c.in_ok-add_all.ensures q ∙ ap (λ b. b || has_name second q) (c.in_ok-set.ensures.has q))
-    c.listed.result c.listed.ensures.names c.listed.ensures.rising
+    c.listed.result c.listed.ensures.names c.listed.ensures.sorted

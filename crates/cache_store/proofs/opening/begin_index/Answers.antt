@@ -15,7 +15,7 @@ returns-in-Update-clause-rest g c =
     let s = g.D.Disk.state c.args.disk.now in
     let t = g.D.Disk.state c.open_index.new.disk in
     begun_rest c.begin_update.result (IsTrue g.D.Disk.tells) s t (λ told. opened_entries s t (g.met.D.Disk.sound c.args.disk.now told) (c.in_ok-start.ensures.opened told))
-    (λ told. update_unready c.in_ok-start.field-0.start (start_of (standing s)) c.in-Update.is (c.in_ok-start.ensures.start told)) c.begin_update.ensures.rest c.begin_update.ensures.rising
+    (λ told. update_unready c.in_ok-start.field-0.start (start_of (standing s)) c.in-Update.is (c.in_ok-start.ensures.start told)) c.begin_update.ensures.rest c.begin_update.ensures.sorted
 
 pub returns-in-Update-clause-tells : goal.returns-in-Update-clause-tells
 returns-in-Update-clause-tells g c =
@@ -43,7 +43,7 @@ returns-in-Build-clause-rest g c =
     let t = g.D.Disk.state c.open_index.new.disk in
     begun_rest c.begin_update-in-Build.result (IsTrue g.D.Disk.tells) s t (λ told. opened_entries s t (g.met.D.Disk.sound c.args.disk.now told) (c.in_ok-start.ensures.opened told))
     (λ told. build_unready c.in_ok-start.field-0.start (start_of (standing s)) c.in-Build.is (c.in_ok-start.ensures.start told)) c.begin_update-in-Build.ensures.rest
-    c.begin_update-in-Build.ensures.rising
+    c.begin_update-in-Build.ensures.sorted
 
 pub returns-in-Build-clause-tells : goal.returns-in-Build-clause-tells
 returns-in-Build-clause-tells g c =

@@ -1,4 +1,4 @@
-use Rattle.std.proofs.Common.{[], ◌∷◌, refl}
+use Rattle.std.proofs.Common.{[], ◌∷◌, refl, rules}
 use Rattle.cache_store.specs.Session.{session}
 use Rattle.cache_theory.specs.Command.Command.{Flush}
 use Rattle.cache_tool.specs.Fill.{entries_commands, making_commands}
@@ -30,10 +30,20 @@ returns-clause-runs g c = λ told.
     (run_then (entries_commands c.args.now c.args.first c.args.count) (Flush ∷ []) _ _ s0 s1 s2 (c.in_ok-make_entries.ensures.runs told)
     (run_one Flush _ s1 s2 (said_in c.send.new.said) refl (c.in_ok-send.ensures.sends told)))
 
-pub returns-in_err-make_entries-clause-open : goal.returns-in_err-make_entries-clause-open
-returns-in_err-make_entries-clause-open g c = λ told.
-    handed_open c.from_residual.result c.in_err-make_entries.field-0.0 (session g.D.Disk c.make_entries.new.store c.make_entries.new.disk) c.from_residual.ensures.1 (c.in_err-make_entries.ensures.open told)
+pub returns-in_err-make_entries-clause-keeps : goal.returns-in_err-make_entries-clause-keeps
+returns-in_err-make_entries-clause-keeps g c = record {
+  stays = λ told.
+      handed_open c.from_residual.result c.in_err-make_entries.field-0.0 (session g.D.Disk c.make_entries.new.store c.make_entries.new.disk) c.from_residual.ensures.1 (c.in_err-make_entries.ensures.keeps.stays told);
+  honest = search rules;
+  no_sink = search rules;
+  account = search rules;
+}
 
-pub returns-in_err-send-clause-open : goal.returns-in_err-send-clause-open
-returns-in_err-send-clause-open g c = λ told.
-    handed_open c.from_residual-in_err-send.result c.in_err-send.field-0.0 (session g.D.Disk c.send.new.store c.send.new.disk) c.from_residual-in_err-send.ensures.1 (c.in_err-send.ensures.open told)
+pub returns-in_err-send-clause-keeps : goal.returns-in_err-send-clause-keeps
+returns-in_err-send-clause-keeps g c = record {
+  stays = λ told.
+      handed_open c.from_residual-in_err-send.result c.in_err-send.field-0.0 (session g.D.Disk c.send.new.store c.send.new.disk) c.from_residual-in_err-send.ensures.1 (c.in_err-send.ensures.keeps.stays told);
+  honest = search rules;
+  no_sink = search rules;
+  account = search rules;
+}

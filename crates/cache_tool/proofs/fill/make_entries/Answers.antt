@@ -1,7 +1,8 @@
-use Rattle.std.proofs.Common.{◌∙◌, ◌+◌, ap, arith, refl, sym}
+use Rattle.std.proofs.Common.{◌∙◌, ◌+◌, ap, arith, refl, sym, rules}
 use Rattle.cache_store.specs.Session.{session}
 use Rattle.cache_tool.specs.Fill.{entries_commands, next_number}
-use Rattle.file_handles.proofs.Accounting.{calm_sum}
+use Rattle.file_handles.proofs.Accounting.{calm_sum, calm_accounts}
+use Rattle.cache_tool.proofs.Handed.{keeps_handed}
 use Rattle.cache_tool.proofs.Fills.FillRuns.{entries_fail, entries_then, number_next, run_never, run_none}
 use Rattle.cache_tool.proofs.RightLaws.{open_leaves_honest}
 use Rattle.cache_tool.proofs.fill.make_entries.Goals as goal
@@ -10,8 +11,13 @@ pub returns-in_err-pattern-clause-runs : goal.returns-in_err-pattern-clause-runs
 returns-in_err-pattern-clause-runs g c = λ told.
     run_never (entries_commands c.args.now c.args.first c.args.count) c.from_residual.result _ (session g.D.Disk c.args.store.now c.args.disk.now) c.from_residual.ensures.1
 
-pub returns-in_err-pattern-clause-honest : goal.returns-in_err-pattern-clause-honest
-returns-in_err-pattern-clause-honest g c = λ told. open_leaves_honest (session g.D.Disk c.args.store.now c.args.disk.now) (c.requires.told told)
+pub returns-in_err-pattern-clause-keeps : goal.returns-in_err-pattern-clause-keeps
+returns-in_err-pattern-clause-keeps g c = record {
+  stays = search rules;
+  honest = λ told. open_leaves_honest (session g.D.Disk c.args.store.now c.args.disk.now) (c.requires.told told);
+  no_sink = search rules;
+  account = search rules;
+}
 
 pub body-bytes-requires-clause-pattern : goal.body-bytes-requires-clause-pattern
 body-bytes-requires-clause-pattern g c = c.as_slice.ensures ∙ c.in_ok-pattern.ensures
@@ -33,8 +39,8 @@ loop-i-preserved g c =
     record {
       x = x;
       runs = λ told. entries_then c.args.now c.args.first c.loop-i.i c.next-x.result _ s0 s1 s2 x (c.loop-i.invariant.runs told) (c.in_ok-make_entry.ensures.runs told c.next-x.result c.body-bytes.ensures);
-      stands = λ told. c.in_ok-make_entry.ensures.open told refl;
-      calm = calm_sum g.D.Disk (c.loop-i.i + 1) c.args.disk.now c.loop-i.disk c.make_entry.new.disk (omega arith) c.loop-i.invariant.calm c.in_ok-make_entry.ensures.account;
+      stands = λ told. c.in_ok-make_entry.ensures.keeps.stays told refl;
+      calm = calm_sum g.D.Disk (c.loop-i.i + 1) c.args.disk.now c.loop-i.disk c.make_entry.new.disk (omega arith) c.loop-i.invariant.calm c.in_ok-make_entry.ensures.keeps.account;
     }
 
 pub returns-in_err-make_entry-clause-runs : goal.returns-in_err-make_entry-clause-runs
@@ -47,5 +53,16 @@ returns-in_err-make_entry-clause-runs g c = λ told.
     entries_fail c.args.now c.args.first (c.loop-i.i + 1) c.args.count _ c.from_residual-in_err-make_entry.result _ s0 s2 (omega (arith, lt)) c.from_residual-in_err-make_entry.ensures.1
     (entries_then c.args.now c.args.first c.loop-i.i c.next-x.result _ s0 s1 s2 x (c.loop-i.invariant.runs told) (c.in_err-make_entry.ensures.runs told c.next-x.result c.body-bytes.ensures))
 
-pub returns-clause-honest : goal.returns-clause-honest
-returns-clause-honest g c = λ told. open_leaves_honest (session g.D.Disk c.loop-i.store c.loop-i.disk) (c.loop-i.invariant.stands told)
+pub returns-clause-keeps : goal.returns-clause-keeps
+returns-clause-keeps g c = record {
+  stays = search rules;
+  honest = λ told. open_leaves_honest (session g.D.Disk c.loop-i.store c.loop-i.disk) (c.loop-i.invariant.stands told);
+  no_sink = search rules;
+  account = search rules;
+}
+
+pub returns-in_err-make_entry-clause-keeps : goal.returns-in_err-make_entry-clause-keeps
+returns-in_err-make_entry-clause-keeps g c =
+    let lt = c.loop-i-test.true in
+    keeps_handed g.D.Disk c.args.count c.from_residual-in_err-make_entry.result c.in_err-make_entry.field-0.0 c.make_entry.new.store c.args.disk.now c.loop-i.disk c.make_entry.new.disk (omega (arith, lt))
+    c.from_residual-in_err-make_entry.ensures.1 (calm_accounts g.D.Disk c.args.disk.now c.loop-i.disk c.loop-i.invariant.calm) c.in_err-make_entry.ensures.keeps

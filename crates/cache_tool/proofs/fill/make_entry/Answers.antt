@@ -1,4 +1,4 @@
-use Rattle.std.proofs.Common.{◌∙◌, arith, refl, subst, sym}
+use Rattle.std.proofs.Common.{◌∙◌, arith, refl, subst, sym, rules}
 use Rattle.cache_base.specs.Bytes.{AreBytes}
 use Rattle.cache_base.proofs.ByteLaws.{all_below}
 use Rattle.cache_store.specs.Session.{session}
@@ -15,8 +15,13 @@ pub returns-in_err-key-clause-runs : goal.returns-in_err-key-clause-runs
 returns-in_err-key-clause-runs g c = λ told x is.
     run_never (entry_commands c.args.now c.args.i x) c.from_residual.result _ (session g.D.Disk c.args.store.now c.args.disk.now) c.from_residual.ensures.1
 
-pub returns-in_err-key-clause-honest : goal.returns-in_err-key-clause-honest
-returns-in_err-key-clause-honest g c = λ told. open_leaves_honest (session g.D.Disk c.args.store.now c.args.disk.now) (c.requires.told told)
+pub returns-in_err-key-clause-keeps : goal.returns-in_err-key-clause-keeps
+returns-in_err-key-clause-keeps g c = record {
+  stays = search rules;
+  honest = λ told. open_leaves_honest (session g.D.Disk c.args.store.now c.args.disk.now) (c.requires.told told);
+  no_sink = search rules;
+  account = search rules;
+}
 
 pub returns-in_err-send-clause-runs : goal.returns-in_err-send-clause-runs
 returns-in_err-send-clause-runs g c = λ told x is.
@@ -62,35 +67,38 @@ send-requires-2-clause-given g c = (omega arith, subst AreBytes (c.as_slice.ensu
 pub send-requires-3-clause-given : goal.send-requires-3-clause-given
 send-requires-3-clause-given g c = (omega arith, all_below 256 c.args.bytes.now (λ i. omega (arith, c.type_inv.bytes i)))
 
-pub returns-in_err-send-4-clause-account : goal.returns-in_err-send-4-clause-account
-returns-in_err-send-4-clause-account g c =
-    handed_account g.D.Disk one_sync c.from_residual-in_err-send-4.result c.in_err-send-4.field-0.0 c.args.disk.now c.send-3.new.disk c.send-4.new.disk (omega arith) c.from_residual-in_err-send-4.ensures.1
-    (accounts_then g.D.Disk Ending.NoneFailed c.args.disk.now c.send-2.new.disk c.send-3.new.disk (accounts_then g.D.Disk Ending.NoneFailed c.args.disk.now c.send.new.disk c.send-2.new.disk c.in_ok-send.ensures.account c.in_ok-send-2.ensures.account) c.in_ok-send-3.ensures.account) c.in_err-send-4.ensures.account
+pub returns-in_err-send-4-clause-keeps : goal.returns-in_err-send-4-clause-keeps
+returns-in_err-send-4-clause-keeps g c = record {
+  stays = λ told.
+      handed_open c.from_residual-in_err-send-4.result c.in_err-send-4.field-0.0 (session g.D.Disk c.send-4.new.store c.send-4.new.disk) c.from_residual-in_err-send-4.ensures.1 (c.in_err-send-4.ensures.keeps.stays told);
+  honest = search rules;
+  no_sink = search rules;
+  account = handed_account g.D.Disk one_sync c.from_residual-in_err-send-4.result c.in_err-send-4.field-0.0 c.args.disk.now c.send-3.new.disk c.send-4.new.disk (omega arith) c.from_residual-in_err-send-4.ensures.1
+      (accounts_then g.D.Disk Ending.NoneFailed c.args.disk.now c.send-2.new.disk c.send-3.new.disk (accounts_then g.D.Disk Ending.NoneFailed c.args.disk.now c.send.new.disk c.send-2.new.disk c.in_ok-send.ensures.keeps.account c.in_ok-send-2.ensures.keeps.account) c.in_ok-send-3.ensures.keeps.account) c.in_err-send-4.ensures.keeps.account;
+}
 
-pub returns-in_err-send-2-clause-account : goal.returns-in_err-send-2-clause-account
-returns-in_err-send-2-clause-account g c =
-    handed_account g.D.Disk one_sync c.from_residual-in_err-send-2.result c.in_err-send-2.field-0.0 c.args.disk.now c.send.new.disk c.send-2.new.disk (omega arith) c.from_residual-in_err-send-2.ensures.1
-    c.in_ok-send.ensures.account c.in_err-send-2.ensures.account
+pub returns-in_err-send-2-clause-keeps : goal.returns-in_err-send-2-clause-keeps
+returns-in_err-send-2-clause-keeps g c = record {
+  stays = λ told.
+      handed_open c.from_residual-in_err-send-2.result c.in_err-send-2.field-0.0 (session g.D.Disk c.send-2.new.store c.send-2.new.disk) c.from_residual-in_err-send-2.ensures.1 (c.in_err-send-2.ensures.keeps.stays told);
+  honest = search rules;
+  no_sink = search rules;
+  account = handed_account g.D.Disk one_sync c.from_residual-in_err-send-2.result c.in_err-send-2.field-0.0 c.args.disk.now c.send.new.disk c.send-2.new.disk (omega arith) c.from_residual-in_err-send-2.ensures.1
+      c.in_ok-send.ensures.keeps.account c.in_err-send-2.ensures.keeps.account;
+}
 
-pub returns-in_err-send-3-clause-account : goal.returns-in_err-send-3-clause-account
-returns-in_err-send-3-clause-account g c =
-    handed_account g.D.Disk one_sync c.from_residual-in_err-send-3.result c.in_err-send-3.field-0.0 c.args.disk.now c.send-2.new.disk c.send-3.new.disk (omega arith) c.from_residual-in_err-send-3.ensures.1
-    (accounts_then g.D.Disk Ending.NoneFailed c.args.disk.now c.send.new.disk c.send-2.new.disk c.in_ok-send.ensures.account c.in_ok-send-2.ensures.account) c.in_err-send-3.ensures.account
-
-pub returns-in_err-send-2-clause-open : goal.returns-in_err-send-2-clause-open
-returns-in_err-send-2-clause-open g c = λ told.
-    handed_open c.from_residual-in_err-send-2.result c.in_err-send-2.field-0.0 (session g.D.Disk c.send-2.new.store c.send-2.new.disk) c.from_residual-in_err-send-2.ensures.1 (c.in_err-send-2.ensures.open told)
-
-pub returns-in_err-send-3-clause-open : goal.returns-in_err-send-3-clause-open
-returns-in_err-send-3-clause-open g c = λ told.
-    handed_open c.from_residual-in_err-send-3.result c.in_err-send-3.field-0.0 (session g.D.Disk c.send-3.new.store c.send-3.new.disk) c.from_residual-in_err-send-3.ensures.1 (c.in_err-send-3.ensures.open told)
-
-pub returns-in_err-send-4-clause-open : goal.returns-in_err-send-4-clause-open
-returns-in_err-send-4-clause-open g c = λ told.
-    handed_open c.from_residual-in_err-send-4.result c.in_err-send-4.field-0.0 (session g.D.Disk c.send-4.new.store c.send-4.new.disk) c.from_residual-in_err-send-4.ensures.1 (c.in_err-send-4.ensures.open told)
+pub returns-in_err-send-3-clause-keeps : goal.returns-in_err-send-3-clause-keeps
+returns-in_err-send-3-clause-keeps g c = record {
+  stays = λ told.
+      handed_open c.from_residual-in_err-send-3.result c.in_err-send-3.field-0.0 (session g.D.Disk c.send-3.new.store c.send-3.new.disk) c.from_residual-in_err-send-3.ensures.1 (c.in_err-send-3.ensures.keeps.stays told);
+  honest = search rules;
+  no_sink = search rules;
+  account = handed_account g.D.Disk one_sync c.from_residual-in_err-send-3.result c.in_err-send-3.field-0.0 c.args.disk.now c.send-2.new.disk c.send-3.new.disk (omega arith) c.from_residual-in_err-send-3.ensures.1
+      (accounts_then g.D.Disk Ending.NoneFailed c.args.disk.now c.send.new.disk c.send-2.new.disk c.in_ok-send.ensures.keeps.account c.in_ok-send-2.ensures.keeps.account) c.in_err-send-3.ensures.keeps.account;
+}
 
 pub send-requires-3-clause-told : goal.send-requires-3-clause-told
-send-requires-3-clause-told g c = λ told. c.in_ok-send-2.ensures.open told refl
+send-requires-3-clause-told g c = λ told. c.in_ok-send-2.ensures.keeps.stays told refl
 
 pub send-requires-4-clause-told : goal.send-requires-4-clause-told
-send-requires-4-clause-told g c = λ told. c.in_ok-send-3.ensures.open told refl
+send-requires-4-clause-told g c = λ told. c.in_ok-send-3.ensures.keeps.stays told refl

@@ -7,7 +7,7 @@ use Rattle.cache_theory.specs.Text.{with_number}
 use Rattle.cache_tool.specs.FirstLine.{first_line}
 use Rattle.cache_tool.specs.HeldReply.{said_in}
 use Rattle.cache_tool.proofs.Fills.FillWhole.{checked_fails, checked_keeps, evicted_fails, fill_performed, listed_fails, nothing_fails, unevicted_fails}
-use Rattle.cache_tool.proofs.Handed.{handed_account}
+use Rattle.cache_tool.proofs.Handed.{handed_account, keeps_handed}
 use Rattle.cache_tool.proofs.MarkLeft.{others_keep, stays_mark, then_stays}
 use Rattle.cache_tool.proofs.RightLaws.{open_leaves_honest}
 use Rattle.disk_theory.specs.Account.{Ending}
@@ -127,33 +127,57 @@ returns-clause-performs g c = λ told. record {
   mark = then_stays _ _ _ (c.in_ok-make_all.ensures.runs told).mark (then_stays _ _ _ (c.in_ok-evict_half.ensures.evicts told).mark (then_stays _ _ _ (others_keep Verify _ _ (λ stood file never. never) (c.in_ok-checked.ensures.sends told).mark) (others_keep ListRecords _ _ (λ stood file never. never) (c.in_ok-send.ensures.sends told).mark)));
 }
 
-pub returns-in_err-say_made-clause-honest : goal.returns-in_err-say_made-clause-honest
-returns-in_err-say_made-clause-honest g c = λ told. open_leaves_honest (session g.D.Disk c.args.store.now c.args.disk.now) (c.requires.told told)
+pub returns-in_err-say_made-clause-keeps : goal.returns-in_err-say_made-clause-keeps
+returns-in_err-say_made-clause-keeps g c = record {
+  stays = search rules;
+  honest = λ told. open_leaves_honest (session g.D.Disk c.args.store.now c.args.disk.now) (c.requires.told told);
+  no_sink = search rules;
+  account = search rules;
+}
 
 -- the faults are accounted for
-pub returns-in_err-checked-clause-account : goal.returns-in_err-checked-clause-account
-returns-in_err-checked-clause-account g c =
-    let all = c.args.count + writing_syncs in
-    let halved = accounts_sum g.D.Disk Ending.NoneFailed all c.args.disk.now c.make_all.new.disk c.evict_half.new.disk (omega arith) c.in_ok-make_all.ensures.account c.in_ok-evict_half.ensures.account in
-    handed_account g.D.Disk all c.from_residual-in_err-checked.result c.in_err-checked.field-0.0 c.args.disk.now c.evict_half.new.disk c.send.new.disk (omega arith) c.from_residual-in_err-checked.ensures.1 halved c.in_err-checked.ensures.account
 
-pub returns-in_err-send-clause-account : goal.returns-in_err-send-clause-account
-returns-in_err-send-clause-account g c =
-    let all = c.args.count + writing_syncs in
-    let halved = accounts_sum g.D.Disk Ending.NoneFailed all c.args.disk.now c.make_all.new.disk c.evict_half.new.disk (omega arith) c.in_ok-make_all.ensures.account c.in_ok-evict_half.ensures.account in
-    let checked = accounts_sum g.D.Disk Ending.NoneFailed all c.args.disk.now c.evict_half.new.disk c.send.new.disk (omega arith) halved c.in_ok-checked.ensures.account in
-    handed_account g.D.Disk all c.from_residual-in_err-send.result c.in_err-send.field-0.0 c.args.disk.now c.send.new.disk c.send-2.new.disk (omega arith) c.from_residual-in_err-send.ensures.1 checked c.in_err-send.ensures.account
-
-pub returns-in_err-keep_line-3-clause-account : goal.returns-in_err-keep_line-3-clause-account
-returns-in_err-keep_line-3-clause-account g c = record {
-  cause = search rules;
-  went_on = search rules;
-  stops = search rules;
-  last = search rules;
-  syncs = λ told.
-      let made = c.in_ok-make_all.ensures.account.syncs told in
-      let halved = c.in_ok-evict_half.ensures.account.syncs told in
-      let checked = c.in_ok-checked.ensures.account.syncs told in
-      let listed = c.in_ok-send.ensures.account.syncs told in
-      omega (arith, made, halved, checked, listed);
+pub returns-in_err-checked-clause-keeps : goal.returns-in_err-checked-clause-keeps
+returns-in_err-checked-clause-keeps g c = record {
+  stays = search rules;
+  honest = search rules;
+  no_sink = search rules;
+  account = let all = c.args.count + writing_syncs in
+      let halved = accounts_sum g.D.Disk Ending.NoneFailed all c.args.disk.now c.make_all.new.disk c.evict_half.new.disk (omega arith) c.in_ok-make_all.ensures.keeps.account c.in_ok-evict_half.ensures.keeps.account in
+      handed_account g.D.Disk all c.from_residual-in_err-checked.result c.in_err-checked.field-0.0 c.args.disk.now c.evict_half.new.disk c.send.new.disk (omega arith) c.from_residual-in_err-checked.ensures.1 halved c.in_err-checked.ensures.keeps.account;
 }
+
+pub returns-in_err-send-clause-keeps : goal.returns-in_err-send-clause-keeps
+returns-in_err-send-clause-keeps g c = record {
+  stays = search rules;
+  honest = search rules;
+  no_sink = search rules;
+  account = let all = c.args.count + writing_syncs in
+      let halved = accounts_sum g.D.Disk Ending.NoneFailed all c.args.disk.now c.make_all.new.disk c.evict_half.new.disk (omega arith) c.in_ok-make_all.ensures.keeps.account c.in_ok-evict_half.ensures.keeps.account in
+      let checked = accounts_sum g.D.Disk Ending.NoneFailed all c.args.disk.now c.evict_half.new.disk c.send.new.disk (omega arith) halved c.in_ok-checked.ensures.keeps.account in
+      handed_account g.D.Disk all c.from_residual-in_err-send.result c.in_err-send.field-0.0 c.args.disk.now c.send.new.disk c.send-2.new.disk (omega arith) c.from_residual-in_err-send.ensures.1 checked c.in_err-send.ensures.keeps.account;
+}
+
+pub returns-in_err-keep_line-3-clause-keeps : goal.returns-in_err-keep_line-3-clause-keeps
+returns-in_err-keep_line-3-clause-keeps g c = record {
+  stays = search rules;
+  honest = search rules;
+  no_sink = search rules;
+  account = record {
+    cause = search rules;
+    went_on = search rules;
+    stops = search rules;
+    last = search rules;
+    syncs = λ told.
+        let made = c.in_ok-make_all.ensures.keeps.account.syncs told in
+        let halved = c.in_ok-evict_half.ensures.keeps.account.syncs told in
+        let checked = c.in_ok-checked.ensures.keeps.account.syncs told in
+        let listed = c.in_ok-send.ensures.keeps.account.syncs told in
+        omega (arith, made, halved, checked, listed);
+  };
+}
+
+pub returns-in_err-evict_half-clause-keeps : goal.returns-in_err-evict_half-clause-keeps
+returns-in_err-evict_half-clause-keeps g c =
+    keeps_handed g.D.Disk (c.args.count + writing_syncs) c.from_residual-in_err-evict_half.result c.in_err-evict_half.field-0.0 c.evict_half.new.store c.args.disk.now c.make_all.new.disk c.evict_half.new.disk (omega arith)
+    c.from_residual-in_err-evict_half.ensures.1 c.in_ok-make_all.ensures.keeps.account c.in_err-evict_half.ensures.keeps

@@ -1,4 +1,4 @@
-use Rattle.std.proofs.Common.{[], ◌∷◌, refl}
+use Rattle.std.proofs.Common.{[], ◌∷◌, refl, rules}
 use Rattle.cache_store.specs.Session.{session}
 use Rattle.cache_theory.specs.Command.Command.{Append}
 use Rattle.cache_tool.specs.HeldReply.{said_in}
@@ -14,9 +14,14 @@ returns-in_err-send-clause-runs g c = λ told.
     run_same (append ∷ []) (Append 0 c.args.piece.now ∷ []) c.from_residual.result s0 s1 (λ i. Append 0 (c.as_slice-bytes.ensures i) ∷ [])
     (run_handed (append ∷ []) _ c.from_residual.result _ s0 s1 c.from_residual.ensures.1 (run_one append _ s0 s1 (said_in c.send.new.said) refl (c.in_err-send.ensures.sends told)))
 
-pub returns-in_err-send-clause-open : goal.returns-in_err-send-clause-open
-returns-in_err-send-clause-open g c = λ told.
-    handed_open c.from_residual.result c.in_err-send.field-0.0 (session g.D.Disk c.send.new.store c.send.new.disk) c.from_residual.ensures.1 (c.in_err-send.ensures.open told)
+pub returns-in_err-send-clause-keeps : goal.returns-in_err-send-clause-keeps
+returns-in_err-send-clause-keeps g c = record {
+  stays = λ told.
+      handed_open c.from_residual.result c.in_err-send.field-0.0 (session g.D.Disk c.send.new.store c.send.new.disk) c.from_residual.ensures.1 (c.in_err-send.ensures.keeps.stays told);
+  honest = search rules;
+  no_sink = search rules;
+  account = search rules;
+}
 
 pub returns-clause-runs : goal.returns-clause-runs
 returns-clause-runs g c = λ told.

@@ -38,7 +38,7 @@ returns-in-Done-clause-loads g c = λ told.
         resumed_done s mid begins m is (g.met.D.Disk.finite c.args.disk.now told),
         line_said (IsTrue g.D.Disk.tells) told bytes c.perform_load-came.result c.end.result (world g.S.Source g.K.Sink g.D.Disk c.args.source.now c.args.sink.now c.args.disk.now)
             (g.S.Source.left c.perform_load-came.new.source) mid (session g.D.Disk c.perform_load-came.new.store c.perform_load-came.new.disk) (g.D.Disk.state c.end.new.disk) c.perform_load-came.new.line begins m is from
-            c.perform_load-came.ensures.performs (c.end.ensures.ends told) c.end.ensures.same c.perform_load-came.ensures.no_sink (c.perform_load-came.ensures.honest told)
+            c.perform_load-came.ensures.performs (c.end.ensures.ends told) c.end.ensures.same c.perform_load-came.ensures.keeps.no_sink (c.perform_load-came.ensures.keeps.honest told)
             (λ dropped. ap g.D.Disk.state (c.end.ensures.dropped dropped).1) (c.in-Ok.ensures.account.syncs told) c.print_answer.result (g.K.Sink.taken c.print_answer.new.sink) (c.end.ensures.syncs told) (inl c.in-Done.is)
             (subst (SaysLine c.end.result c.print_answer.result (g.K.Sink.taken c.args.sink.now) (g.K.Sink.taken c.print_answer.new.sink)) c.as_slice.ensures
             (record {
@@ -72,7 +72,7 @@ returns-in-Script-clause-loads g c = λ told.
         resumed_done s mid begins m is (g.met.D.Disk.finite c.args.disk.now told),
         line_said (IsTrue g.D.Disk.tells) told bytes c.perform_load-came.result c.end.result (world g.S.Source g.K.Sink g.D.Disk c.args.source.now c.args.sink.now c.args.disk.now)
             (g.S.Source.left c.perform_load-came.new.source) mid (session g.D.Disk c.perform_load-came.new.store c.perform_load-came.new.disk) (g.D.Disk.state c.end.new.disk) c.perform_load-came.new.line begins m is from
-            c.perform_load-came.ensures.performs (c.end.ensures.ends told) c.end.ensures.same c.perform_load-came.ensures.no_sink (c.perform_load-came.ensures.honest told)
+            c.perform_load-came.ensures.performs (c.end.ensures.ends told) c.end.ensures.same c.perform_load-came.ensures.keeps.no_sink (c.perform_load-came.ensures.keeps.honest told)
             (λ dropped. ap g.D.Disk.state (c.end.ensures.dropped dropped).1) (c.in-Ok.ensures.account.syncs told) c.print_answer-in-Script.result (g.K.Sink.taken c.print_answer-in-Script.new.sink) (c.end.ensures.syncs told) (inr c.in-Script.is)
             (subst (SaysLine c.end.result c.print_answer-in-Script.result (g.K.Sink.taken c.args.sink.now) (g.K.Sink.taken c.print_answer-in-Script.new.sink)) c.as_slice-in-Script.ensures
             (record {
@@ -99,7 +99,7 @@ returns g c =
     let load = c.perform_load-came.ensures in
     let not_done = c.in_default.not-Done in
     let not_script = c.in_default.not-Script in
-    let ends = load_ends came ended load.only load.no_sink c.end.ensures.same in
+    let ends = load_ends came ended load.only load.keeps.no_sink c.end.ensures.same in
     let not_sink = never_ends ended status.Sink (λ x. cc) (λ x. cc) (λ x. cc) (λ x. cc) (λ x. cc) ends in
     let not_no = never_ends ended status.No (λ x. cc) (λ x. cc) (λ x. cc) (λ x. cc) (λ x. cc) ends in
     record {
@@ -116,10 +116,10 @@ returns g c =
               resumed_done s mid begins m is (g.met.D.Disk.finite c.args.disk.now told),
               none_said (IsTrue g.D.Disk.tells) told bytes came ended (world g.S.Source g.K.Sink g.D.Disk c.args.source.now c.args.sink.now c.args.disk.now)
                   (g.S.Source.left c.perform_load-came.new.source) mid (session g.D.Disk c.perform_load-came.new.store c.perform_load-came.new.disk) (g.D.Disk.state c.end.new.disk) c.perform_load-came.new.line begins m is from
-                  load.performs (c.end.ensures.ends told) c.end.ensures.same load.no_sink (load.honest told) (λ dropped. ap g.D.Disk.state (c.end.ensures.dropped dropped).1) (c.in-Ok.ensures.account.syncs told)
+                  load.performs (c.end.ensures.ends told) c.end.ensures.same load.keeps.no_sink (load.keeps.honest told) (λ dropped. ap g.D.Disk.state (c.end.ensures.dropped dropped).1) (c.in-Ok.ensures.account.syncs told)
                   (ended_last LastCallFails came ended (g.D.Disk.counts c.perform_load-came.new.disk) (g.D.Disk.counts c.end.new.disk) (λ last. inl last) (line_or_source_closes came load.only)
                   (λ closing disk. c.end.ensures.last closing disk told) (λ not. let left = c.end.ensures.dropped not in (left.0, ap g.D.Disk.counts left.1))
-                  (λ failed. load.account.last failed told)) (c.end.ensures.syncs told) (no_line ended not_done not_script) not_sink not_no,
+                  (λ failed. load.keeps.account.last failed told)) (c.end.ensures.syncs told) (no_line ended not_done not_script) not_sink not_no,
             ),
           ));
       grows = takes_none (g.K.Sink.taken c.args.sink.now);
@@ -133,13 +133,13 @@ returns g c =
       quiet = c.end.ensures.quiet;
       stops = λ told.
           put_stops (g.D.Disk.counts c.args.disk.now) (g.D.Disk.counts c.begin.new.disk) (c.in-Ok.ensures.account.went_on refl told) came
-          (g.D.Disk.counts c.perform_load-came.new.disk) (g.D.Disk.counts c.end.new.disk) (λ calm. load.account.went_on calm told)
-          (load.account.stops told) (c.end.ensures.stops told) (λ dropped. ap g.D.Disk.counts (c.end.ensures.dropped dropped).1);
+          (g.D.Disk.counts c.perform_load-came.new.disk) (g.D.Disk.counts c.end.new.disk) (λ calm. load.keeps.account.went_on calm told)
+          (load.keeps.account.stops told) (c.end.ensures.stops told) (λ dropped. ap g.D.Disk.counts (c.end.ensures.dropped dropped).1);
       source = λ source. load.source.rose (source_came came ended c.end.ensures.same source);
       sink = λ sink. absurd (not_sink sink);
       calm = λ said. absurd (none_told ended not_done not_script not_no said);
       disk = closing_cause came ended (g.D.Disk.faults c.args.disk.now) (g.D.Disk.faults c.begin.new.disk) (g.D.Disk.faults c.perform_load-came.new.disk) (g.D.Disk.faults c.end.new.disk)
-          (line_or_source_closes came load.only) load.no_sink (c.in-Ok.ensures.account.cause.kept (λ h. cc)) load.account.cause c.end.ensures.cause
+          (line_or_source_closes came load.only) load.keeps.no_sink (c.in-Ok.ensures.account.cause.kept (λ h. cc)) load.keeps.account.cause c.end.ensures.cause
           (λ dropped. ((c.end.ensures.dropped dropped).0, ap g.D.Disk.faults (c.end.ensures.dropped dropped).1));
     }
 

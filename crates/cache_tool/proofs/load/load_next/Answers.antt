@@ -1,5 +1,5 @@
 -- One turn of a load.
-use Rattle.std.proofs.Common.{◌∙◌, IsTrue, ap, arith, refl, subst}
+use Rattle.std.proofs.Common.{◌∙◌, IsTrue, ap, arith, refl, subst, rules}
 use Rattle.std.specs.Prelude.{Err, IfErr, Ok}
 use Rattle.cache_export.specs.Parts.{Part}
 use Rattle.cache_export.specs.Reader.{BreaksOff, LeavesReader, Refuses}
@@ -14,15 +14,20 @@ use Rattle.cache_tool.proofs.load.load_next.Goals as goal
 pub returns-in_err-begin_entry-in-Ok-Key-clause-loads : goal.returns-in_err-begin_entry-in-Ok-Key-clause-loads
 returns-in_err-begin_entry-in-Ok-Key-clause-loads g c =
     let gives = subst (LeavesReader c.args.reader.now c.next.new.self (g.S.Source.left c.args.source.now) (g.S.Source.left c.next.new.source)) (c.in-Ok-Key.is ∙ ap (λ x. Ok x) c.in-Ok-Key.field-0-is) c.next.ensures.leaves in
-    turn_fails (IsTrue g.D.Disk.tells) c.args.reader.now c.next.new.self c.args.count.now (g.S.Source.left c.args.source.now) (g.S.Source.left c.next.new.source) (session g.D.Disk c.args.store.now c.args.disk.now) (g.D.Disk.counts c.args.disk.now) (session g.D.Disk c.begin_entry.new.store c.begin_entry.new.disk) (g.D.Disk.counts c.begin_entry.new.disk) (Part.KeyPart c.in-Ok-Key.key) 0 refl gives (λ told. let made = c.in_err-begin_entry-in-Ok-Key.ensures.account.syncs told in omega (arith, made)) c.in_err-begin_entry-in-Ok-Key.field-0.0 c.from_residual.result _ c.from_residual.ensures.1 c.in_err-begin_entry-in-Ok-Key.ensures.runs
+    turn_fails (IsTrue g.D.Disk.tells) c.args.reader.now c.next.new.self c.args.count.now (g.S.Source.left c.args.source.now) (g.S.Source.left c.next.new.source) (session g.D.Disk c.args.store.now c.args.disk.now) (g.D.Disk.counts c.args.disk.now) (session g.D.Disk c.begin_entry.new.store c.begin_entry.new.disk) (g.D.Disk.counts c.begin_entry.new.disk) (Part.KeyPart c.in-Ok-Key.key) 0 refl gives (λ told. let made = c.in_err-begin_entry-in-Ok-Key.ensures.keeps.account.syncs told in omega (arith, made)) c.in_err-begin_entry-in-Ok-Key.field-0.0 c.from_residual.result _ c.from_residual.ensures.1 c.in_err-begin_entry-in-Ok-Key.ensures.runs
 
-pub returns-in_err-begin_entry-in-Ok-Key-clause-open : goal.returns-in_err-begin_entry-in-Ok-Key-clause-open
-returns-in_err-begin_entry-in-Ok-Key-clause-open g c = λ told. handed_open c.from_residual.result c.in_err-begin_entry-in-Ok-Key.field-0.0 (session g.D.Disk c.begin_entry.new.store c.begin_entry.new.disk) c.from_residual.ensures.1 (c.in_err-begin_entry-in-Ok-Key.ensures.open told)
+pub returns-in_err-begin_entry-in-Ok-Key-clause-keeps : goal.returns-in_err-begin_entry-in-Ok-Key-clause-keeps
+returns-in_err-begin_entry-in-Ok-Key-clause-keeps g c = record {
+  stays = λ told. handed_open c.from_residual.result c.in_err-begin_entry-in-Ok-Key.field-0.0 (session g.D.Disk c.begin_entry.new.store c.begin_entry.new.disk) c.from_residual.ensures.1 (c.in_err-begin_entry-in-Ok-Key.ensures.keeps.stays told);
+  honest = search rules;
+  no_sink = search rules;
+  account = search rules;
+}
 
 pub returns-in_ok-begin_entry-in-Ok-Key-clause-loads : goal.returns-in_ok-begin_entry-in-Ok-Key-clause-loads
 returns-in_ok-begin_entry-in-Ok-Key-clause-loads g c =
     let gives = subst (LeavesReader c.args.reader.now c.next.new.self (g.S.Source.left c.args.source.now) (g.S.Source.left c.next.new.source)) (c.in-Ok-Key.is ∙ ap (λ x. Ok x) c.in-Ok-Key.field-0-is) c.next.ensures.leaves in
-    turn_on (IsTrue g.D.Disk.tells) c.args.reader.now c.next.new.self c.args.count.now (g.S.Source.left c.args.source.now) (g.S.Source.left c.next.new.source) (session g.D.Disk c.args.store.now c.args.disk.now) (g.D.Disk.counts c.args.disk.now) (session g.D.Disk c.begin_entry.new.store c.begin_entry.new.disk) (g.D.Disk.counts c.begin_entry.new.disk) (Part.KeyPart c.in-Ok-Key.key) 0 refl gives (λ told. let made = c.in_ok-begin_entry-in-Ok-Key.ensures.account.syncs told in omega (arith, made)) _ (omega arith) c.in_ok-begin_entry-in-Ok-Key.ensures.runs
+    turn_on (IsTrue g.D.Disk.tells) c.args.reader.now c.next.new.self c.args.count.now (g.S.Source.left c.args.source.now) (g.S.Source.left c.next.new.source) (session g.D.Disk c.args.store.now c.args.disk.now) (g.D.Disk.counts c.args.disk.now) (session g.D.Disk c.begin_entry.new.store c.begin_entry.new.disk) (g.D.Disk.counts c.begin_entry.new.disk) (Part.KeyPart c.in-Ok-Key.key) 0 refl gives (λ told. let made = c.in_ok-begin_entry-in-Ok-Key.ensures.keeps.account.syncs told in omega (arith, made)) _ (omega arith) c.in_ok-begin_entry-in-Ok-Key.ensures.runs
 
 pub returns-in_ok-begin_entry-in-Ok-Key-clause-few : goal.returns-in_ok-begin_entry-in-Ok-Key-clause-few
 returns-in_ok-begin_entry-in-Ok-Key-clause-few g c = λ is.
@@ -38,15 +43,20 @@ returns-in_ok-begin_entry-in-Ok-Key-clause-further g c = λ is.
 pub returns-in_err-append_piece-in-Ok-Piece-clause-loads : goal.returns-in_err-append_piece-in-Ok-Piece-clause-loads
 returns-in_err-append_piece-in-Ok-Piece-clause-loads g c =
     let gives = subst (LeavesReader c.args.reader.now c.next.new.self (g.S.Source.left c.args.source.now) (g.S.Source.left c.next.new.source)) (c.in-Ok-Piece.is ∙ ap (λ x. Ok x) c.in-Ok-Piece.field-0-is) c.next.ensures.leaves in
-    turn_fails (IsTrue g.D.Disk.tells) c.args.reader.now c.next.new.self c.args.count.now (g.S.Source.left c.args.source.now) (g.S.Source.left c.next.new.source) (session g.D.Disk c.args.store.now c.args.disk.now) (g.D.Disk.counts c.args.disk.now) (session g.D.Disk c.append_piece.new.store c.append_piece.new.disk) (g.D.Disk.counts c.append_piece.new.disk) (Part.PiecePart c.in-Ok-Piece.piece) 0 refl gives (λ told. let made = c.in_err-append_piece-in-Ok-Piece.ensures.account.syncs told in omega (arith, made)) c.in_err-append_piece-in-Ok-Piece.field-0.0 c.from_residual-in_err-append_piece-in-Ok-Piece.result _ c.from_residual-in_err-append_piece-in-Ok-Piece.ensures.1 c.in_err-append_piece-in-Ok-Piece.ensures.runs
+    turn_fails (IsTrue g.D.Disk.tells) c.args.reader.now c.next.new.self c.args.count.now (g.S.Source.left c.args.source.now) (g.S.Source.left c.next.new.source) (session g.D.Disk c.args.store.now c.args.disk.now) (g.D.Disk.counts c.args.disk.now) (session g.D.Disk c.append_piece.new.store c.append_piece.new.disk) (g.D.Disk.counts c.append_piece.new.disk) (Part.PiecePart c.in-Ok-Piece.piece) 0 refl gives (λ told. let made = c.in_err-append_piece-in-Ok-Piece.ensures.keeps.account.syncs told in omega (arith, made)) c.in_err-append_piece-in-Ok-Piece.field-0.0 c.from_residual-in_err-append_piece-in-Ok-Piece.result _ c.from_residual-in_err-append_piece-in-Ok-Piece.ensures.1 c.in_err-append_piece-in-Ok-Piece.ensures.runs
 
-pub returns-in_err-append_piece-in-Ok-Piece-clause-open : goal.returns-in_err-append_piece-in-Ok-Piece-clause-open
-returns-in_err-append_piece-in-Ok-Piece-clause-open g c = λ told. handed_open c.from_residual-in_err-append_piece-in-Ok-Piece.result c.in_err-append_piece-in-Ok-Piece.field-0.0 (session g.D.Disk c.append_piece.new.store c.append_piece.new.disk) c.from_residual-in_err-append_piece-in-Ok-Piece.ensures.1 (c.in_err-append_piece-in-Ok-Piece.ensures.open told)
+pub returns-in_err-append_piece-in-Ok-Piece-clause-keeps : goal.returns-in_err-append_piece-in-Ok-Piece-clause-keeps
+returns-in_err-append_piece-in-Ok-Piece-clause-keeps g c = record {
+  stays = λ told. handed_open c.from_residual-in_err-append_piece-in-Ok-Piece.result c.in_err-append_piece-in-Ok-Piece.field-0.0 (session g.D.Disk c.append_piece.new.store c.append_piece.new.disk) c.from_residual-in_err-append_piece-in-Ok-Piece.ensures.1 (c.in_err-append_piece-in-Ok-Piece.ensures.keeps.stays told);
+  honest = search rules;
+  no_sink = search rules;
+  account = search rules;
+}
 
 pub returns-in_ok-append_piece-in-Ok-Piece-clause-loads : goal.returns-in_ok-append_piece-in-Ok-Piece-clause-loads
 returns-in_ok-append_piece-in-Ok-Piece-clause-loads g c =
     let gives = subst (LeavesReader c.args.reader.now c.next.new.self (g.S.Source.left c.args.source.now) (g.S.Source.left c.next.new.source)) (c.in-Ok-Piece.is ∙ ap (λ x. Ok x) c.in-Ok-Piece.field-0-is) c.next.ensures.leaves in
-    turn_on (IsTrue g.D.Disk.tells) c.args.reader.now c.next.new.self c.args.count.now (g.S.Source.left c.args.source.now) (g.S.Source.left c.next.new.source) (session g.D.Disk c.args.store.now c.args.disk.now) (g.D.Disk.counts c.args.disk.now) (session g.D.Disk c.append_piece.new.store c.append_piece.new.disk) (g.D.Disk.counts c.append_piece.new.disk) (Part.PiecePart c.in-Ok-Piece.piece) 0 refl gives (λ told. let made = c.in_ok-append_piece-in-Ok-Piece.ensures.account.syncs told in omega (arith, made)) _ (omega arith) c.in_ok-append_piece-in-Ok-Piece.ensures.runs
+    turn_on (IsTrue g.D.Disk.tells) c.args.reader.now c.next.new.self c.args.count.now (g.S.Source.left c.args.source.now) (g.S.Source.left c.next.new.source) (session g.D.Disk c.args.store.now c.args.disk.now) (g.D.Disk.counts c.args.disk.now) (session g.D.Disk c.append_piece.new.store c.append_piece.new.disk) (g.D.Disk.counts c.append_piece.new.disk) (Part.PiecePart c.in-Ok-Piece.piece) 0 refl gives (λ told. let made = c.in_ok-append_piece-in-Ok-Piece.ensures.keeps.account.syncs told in omega (arith, made)) _ (omega arith) c.in_ok-append_piece-in-Ok-Piece.ensures.runs
 
 pub returns-in_ok-append_piece-in-Ok-Piece-clause-few : goal.returns-in_ok-append_piece-in-Ok-Piece-clause-few
 returns-in_ok-append_piece-in-Ok-Piece-clause-few g c = λ is.
@@ -62,15 +72,20 @@ returns-in_ok-append_piece-in-Ok-Piece-clause-further g c = λ is.
 pub returns-in_err-finish_entry-in-Ok-Block-clause-loads : goal.returns-in_err-finish_entry-in-Ok-Block-clause-loads
 returns-in_err-finish_entry-in-Ok-Block-clause-loads g c =
     let gives = subst (LeavesReader c.args.reader.now c.next.new.self (g.S.Source.left c.args.source.now) (g.S.Source.left c.next.new.source)) (c.in-Ok-Block.is ∙ ap (λ x. Ok x) c.in-Ok-Block.field-0-is) c.next.ensures.leaves in
-    turn_fails (IsTrue g.D.Disk.tells) c.args.reader.now c.next.new.self c.args.count.now (g.S.Source.left c.args.source.now) (g.S.Source.left c.next.new.source) (session g.D.Disk c.args.store.now c.args.disk.now) (g.D.Disk.counts c.args.disk.now) (session g.D.Disk c.finish_entry.new.store c.finish_entry.new.disk) (g.D.Disk.counts c.finish_entry.new.disk) (Part.BlockPart (meta_of c.in-Ok-Block.meta)) 1 refl gives (λ told. let made = c.in_err-finish_entry-in-Ok-Block.ensures.account.syncs told in omega (arith, made)) c.in_err-finish_entry-in-Ok-Block.field-0.0 c.from_residual-in_err-finish_entry-in-Ok-Block.result _ c.from_residual-in_err-finish_entry-in-Ok-Block.ensures.1 c.in_err-finish_entry-in-Ok-Block.ensures.runs
+    turn_fails (IsTrue g.D.Disk.tells) c.args.reader.now c.next.new.self c.args.count.now (g.S.Source.left c.args.source.now) (g.S.Source.left c.next.new.source) (session g.D.Disk c.args.store.now c.args.disk.now) (g.D.Disk.counts c.args.disk.now) (session g.D.Disk c.finish_entry.new.store c.finish_entry.new.disk) (g.D.Disk.counts c.finish_entry.new.disk) (Part.BlockPart (meta_of c.in-Ok-Block.meta)) 1 refl gives (λ told. let made = c.in_err-finish_entry-in-Ok-Block.ensures.keeps.account.syncs told in omega (arith, made)) c.in_err-finish_entry-in-Ok-Block.field-0.0 c.from_residual-in_err-finish_entry-in-Ok-Block.result _ c.from_residual-in_err-finish_entry-in-Ok-Block.ensures.1 c.in_err-finish_entry-in-Ok-Block.ensures.runs
 
-pub returns-in_err-finish_entry-in-Ok-Block-clause-open : goal.returns-in_err-finish_entry-in-Ok-Block-clause-open
-returns-in_err-finish_entry-in-Ok-Block-clause-open g c = λ told. handed_open c.from_residual-in_err-finish_entry-in-Ok-Block.result c.in_err-finish_entry-in-Ok-Block.field-0.0 (session g.D.Disk c.finish_entry.new.store c.finish_entry.new.disk) c.from_residual-in_err-finish_entry-in-Ok-Block.ensures.1 (c.in_err-finish_entry-in-Ok-Block.ensures.open told)
+pub returns-in_err-finish_entry-in-Ok-Block-clause-keeps : goal.returns-in_err-finish_entry-in-Ok-Block-clause-keeps
+returns-in_err-finish_entry-in-Ok-Block-clause-keeps g c = record {
+  stays = λ told. handed_open c.from_residual-in_err-finish_entry-in-Ok-Block.result c.in_err-finish_entry-in-Ok-Block.field-0.0 (session g.D.Disk c.finish_entry.new.store c.finish_entry.new.disk) c.from_residual-in_err-finish_entry-in-Ok-Block.ensures.1 (c.in_err-finish_entry-in-Ok-Block.ensures.keeps.stays told);
+  honest = search rules;
+  no_sink = search rules;
+  account = search rules;
+}
 
 pub returns-in_ok-finish_entry-in-Ok-Block-clause-loads : goal.returns-in_ok-finish_entry-in-Ok-Block-clause-loads
 returns-in_ok-finish_entry-in-Ok-Block-clause-loads g c =
     let gives = subst (LeavesReader c.args.reader.now c.next.new.self (g.S.Source.left c.args.source.now) (g.S.Source.left c.next.new.source)) (c.in-Ok-Block.is ∙ ap (λ x. Ok x) c.in-Ok-Block.field-0-is) c.next.ensures.leaves in
-    turn_on (IsTrue g.D.Disk.tells) c.args.reader.now c.next.new.self c.args.count.now (g.S.Source.left c.args.source.now) (g.S.Source.left c.next.new.source) (session g.D.Disk c.args.store.now c.args.disk.now) (g.D.Disk.counts c.args.disk.now) (session g.D.Disk c.finish_entry.new.store c.finish_entry.new.disk) (g.D.Disk.counts c.finish_entry.new.disk) (Part.BlockPart (meta_of c.in-Ok-Block.meta)) 1 refl gives (λ told. let made = c.in_ok-finish_entry-in-Ok-Block.ensures.account.syncs told in omega (arith, made)) _ (omega arith) c.in_ok-finish_entry-in-Ok-Block.ensures.runs
+    turn_on (IsTrue g.D.Disk.tells) c.args.reader.now c.next.new.self c.args.count.now (g.S.Source.left c.args.source.now) (g.S.Source.left c.next.new.source) (session g.D.Disk c.args.store.now c.args.disk.now) (g.D.Disk.counts c.args.disk.now) (session g.D.Disk c.finish_entry.new.store c.finish_entry.new.disk) (g.D.Disk.counts c.finish_entry.new.disk) (Part.BlockPart (meta_of c.in-Ok-Block.meta)) 1 refl gives (λ told. let made = c.in_ok-finish_entry-in-Ok-Block.ensures.keeps.account.syncs told in omega (arith, made)) _ (omega arith) c.in_ok-finish_entry-in-Ok-Block.ensures.runs
 
 pub returns-in_ok-finish_entry-in-Ok-Block-clause-few : goal.returns-in_ok-finish_entry-in-Ok-Block-clause-few
 returns-in_ok-finish_entry-in-Ok-Block-clause-few g c = λ is.
@@ -103,14 +118,34 @@ pub returns-in-Err-Memory-clause-loads : goal.returns-in-Err-Memory-clause-loads
 returns-in-Err-Memory-clause-loads g c =
     turn_stops (IsTrue g.D.Disk.tells) c.args.reader.now c.next.new.self c.args.count.now (g.S.Source.left c.args.source.now) (g.S.Source.left c.next.new.source) (session g.D.Disk c.args.store.now c.args.disk.now) (g.D.Disk.counts c.args.disk.now) fault.Memory
 
-pub returns-in-Ok-End-clause-honest : goal.returns-in-Ok-End-clause-honest
-returns-in-Ok-End-clause-honest g c = λ told. open_leaves_honest (session g.D.Disk c.args.store.now c.args.disk.now) (c.requires.told told)
+pub returns-in-Ok-End-clause-keeps : goal.returns-in-Ok-End-clause-keeps
+returns-in-Ok-End-clause-keeps g c = record {
+  stays = search rules;
+  honest = λ told. open_leaves_honest (session g.D.Disk c.args.store.now c.args.disk.now) (c.requires.told told);
+  no_sink = search rules;
+  account = search rules;
+}
 
-pub returns-in-Err-Bad-clause-honest : goal.returns-in-Err-Bad-clause-honest
-returns-in-Err-Bad-clause-honest g c = λ told. open_leaves_honest (session g.D.Disk c.args.store.now c.args.disk.now) (c.requires.told told)
+pub returns-in-Err-Bad-clause-keeps : goal.returns-in-Err-Bad-clause-keeps
+returns-in-Err-Bad-clause-keeps g c = record {
+  stays = search rules;
+  honest = λ told. open_leaves_honest (session g.D.Disk c.args.store.now c.args.disk.now) (c.requires.told told);
+  no_sink = search rules;
+  account = search rules;
+}
 
-pub returns-in-Err-Source-clause-honest : goal.returns-in-Err-Source-clause-honest
-returns-in-Err-Source-clause-honest g c = λ told. open_leaves_honest (session g.D.Disk c.args.store.now c.args.disk.now) (c.requires.told told)
+pub returns-in-Err-Source-clause-keeps : goal.returns-in-Err-Source-clause-keeps
+returns-in-Err-Source-clause-keeps g c = record {
+  stays = search rules;
+  honest = λ told. open_leaves_honest (session g.D.Disk c.args.store.now c.args.disk.now) (c.requires.told told);
+  no_sink = search rules;
+  account = search rules;
+}
 
-pub returns-in-Err-Memory-clause-honest : goal.returns-in-Err-Memory-clause-honest
-returns-in-Err-Memory-clause-honest g c = λ told. open_leaves_honest (session g.D.Disk c.args.store.now c.args.disk.now) (c.requires.told told)
+pub returns-in-Err-Memory-clause-keeps : goal.returns-in-Err-Memory-clause-keeps
+returns-in-Err-Memory-clause-keeps g c = record {
+  stays = search rules;
+  honest = λ told. open_leaves_honest (session g.D.Disk c.args.store.now c.args.disk.now) (c.requires.told told);
+  no_sink = search rules;
+  account = search rules;
+}

@@ -1,4 +1,4 @@
-use Rattle.std.proofs.Common.{IsTrue, arith, refl}
+use Rattle.std.proofs.Common.{IsTrue, arith, refl, rules}
 use Rattle.cache_store.specs.Session.{session}
 use Rattle.cache_tool.proofs.Handed.{handed_open}
 use Rattle.cache_tool.proofs.Loads.LoadTurns.{starts}
@@ -15,9 +15,14 @@ parts-init g c =
       calm = record { faults = refl; no_change = λ told. refl; syncs = λ told. omega arith };
     }
 
-pub returns-in_err-ended-clause-open : goal.returns-in_err-ended-clause-open
-returns-in_err-ended-clause-open g c = λ told.
-    handed_open c.from_residual.result c.in_err-ended.field-0.0 (session g.D.Disk c.load_next.new.store c.load_next.new.disk) c.from_residual.ensures.1 (c.in_err-ended.ensures.open told)
+pub returns-in_err-ended-clause-keeps : goal.returns-in_err-ended-clause-keeps
+returns-in_err-ended-clause-keeps g c = record {
+  stays = λ told.
+      handed_open c.from_residual.result c.in_err-ended.field-0.0 (session g.D.Disk c.load_next.new.store c.load_next.new.disk) c.from_residual.ensures.1 (c.in_err-ended.ensures.keeps.stays told);
+  honest = search rules;
+  no_sink = search rules;
+  account = search rules;
+}
 
 pub returns-in-Some-clause-loads : goal.returns-in-Some-clause-loads
 returns-in-Some-clause-loads g c =

@@ -89,7 +89,7 @@ pieces-preserved g c =
           _ _ (session g.D.Disk c.append_piece.new.store c.append_piece.new.disk) (take count bytes) (said_in c.append_piece.new.said) c.pieces.invariant.so_far
           c.fill-filled.ensures.bytes (c.pieces.room - count) (filled_full count bytes c.fill-filled.ensures.within size (c.fill-filled.ensures.full c.in-Full.is))
           (omega (arith, len, room)) (rw c.in-Ok.is at c.in_ok-outcome.ensures.appends);
-      is_open = λ told. c.in_ok-outcome.ensures.open told refl;
+      is_open = λ told. c.in_ok-outcome.ensures.keeps.stays told refl;
       long = size;
       calm = search rules;
       sound = search rules;
@@ -144,8 +144,13 @@ returns-in-End-clause-bare g c = λ calm. c.append_piece.ensures.bare (c.pieces.
 pub returns-in-Refused-clause-bare : goal.returns-in-Refused-clause-bare
 returns-in-Refused-clause-bare g c = λ calm. c.append_piece.ensures.bare (c.pieces.invariant.bare calm)
 
-pub returns-in_err-outcome-clause-open : goal.returns-in_err-outcome-clause-open
-returns-in_err-outcome-clause-open g c = λ told. handed_open c.from_residual.result c.in_err-outcome.field-0.0 (session g.D.Disk c.append_piece.new.store c.append_piece.new.disk) c.from_residual.ensures.1 (c.in_err-outcome.ensures.open told)
+pub returns-in_err-outcome-clause-keeps : goal.returns-in_err-outcome-clause-keeps
+returns-in_err-outcome-clause-keeps g c = record {
+  stays = λ told. handed_open c.from_residual.result c.in_err-outcome.field-0.0 (session g.D.Disk c.append_piece.new.store c.append_piece.new.disk) c.from_residual.ensures.1 (c.in_err-outcome.ensures.keeps.stays told);
+  honest = search rules;
+  no_sink = search rules;
+  account = search rules;
+}
 
 pub returns-in_err-outcome-clause-change : goal.returns-in_err-outcome-clause-change
 returns-in_err-outcome-clause-change g c = λ calm.

@@ -1,4 +1,4 @@
-use Rattle.std.proofs.Common.{arith, refl}
+use Rattle.std.proofs.Common.{arith, refl, rules}
 use Rattle.cache_base.proofs.ByteLaws.{all_below}
 use Rattle.cache_store.specs.Session.{session}
 use Rattle.cache_store.specs.declared.fault.StoreFault.TheVariants as fault
@@ -51,11 +51,21 @@ returns-clause-appends g c =
       mark = sent_keeps (Append 0 c.args.piece.now) _ _ _ _ refl (c.in_ok-outcome.ensures.sends told);
     }
 
-pub returns-in_err-outcome-clause-open : goal.returns-in_err-outcome-clause-open
-returns-in_err-outcome-clause-open g c = λ told. handed_open c.from_residual.result c.in_err-outcome.field-0.0 (session g.D.Disk c.send.new.store c.send.new.disk) c.from_residual.ensures.1 (c.in_err-outcome.ensures.open told)
+pub returns-in_err-outcome-clause-keeps : goal.returns-in_err-outcome-clause-keeps
+returns-in_err-outcome-clause-keeps g c = record {
+  stays = λ told. handed_open c.from_residual.result c.in_err-outcome.field-0.0 (session g.D.Disk c.send.new.store c.send.new.disk) c.from_residual.ensures.1 (c.in_err-outcome.ensures.keeps.stays told);
+  honest = search rules;
+  no_sink = search rules;
+  account = search rules;
+}
 
-pub returns-then-is_empty-clause-honest : goal.returns-then-is_empty-clause-honest
-returns-then-is_empty-clause-honest g c = λ told. open_leaves_honest (session g.D.Disk c.args.store.now c.args.disk.now) (c.requires.told told)
+pub returns-then-is_empty-clause-keeps : goal.returns-then-is_empty-clause-keeps
+returns-then-is_empty-clause-keeps g c = record {
+  stays = search rules;
+  honest = λ told. open_leaves_honest (session g.D.Disk c.args.store.now c.args.disk.now) (c.requires.told told);
+  no_sink = search rules;
+  account = search rules;
+}
 
 pub returns-in_err-outcome-clause-change : goal.returns-in_err-outcome-clause-change
 returns-in_err-outcome-clause-change g c = λ calm.

@@ -11,8 +11,10 @@ use Rattle.cache_theory.specs.Command.Command.{Create, Close}
 use Rattle.cache_theory.specs.History.{unanswered}
 use Rattle.cache_tool.specs.HeldReply.{said_in}
 use Rattle.cache_tool.specs.World.{supply}
+use Rattle.disk_theory.specs.Account.{Accounts, Ending, no_sync, one_sync}
+use Rattle.file_handles.proofs.Accounting.{accounts_sum, accounts_then}
 use Rattle.cache_tool.proofs.Faulting.{is_false}
-use Rattle.cache_tool.proofs.Handed.{handed_on, handed_open}
+use Rattle.cache_tool.proofs.Handed.{handed_on, handed_open, keeps_handed}
 use Rattle.cache_tool.proofs.MarkLeft.{stays_mark, then_stays}
 use Rattle.cache_tool.proofs.Puts.PutReplies.{sent_itself, sent_keeps}
 use Rattle.cache_tool.proofs.RightLaws.{open_leaves_honest}
@@ -40,7 +42,7 @@ pub returns-in_err-send-clause-performs : goal.returns-in_err-send-clause-perfor
 returns-in_err-send-clause-performs g c = λ told. record {
   each = λ some h stands.
       let failed = handed_on c.from_residual-in_err-send.result c.in_err-send.field-0.0 c.from_residual-in_err-send.ensures.1 in
-      rw failed (create_failed h c.args.key.now _ _ _ _ _ refl some c.in_err-send.field-0.0 (λ e. c.in_err-send.ensures.no_sink (ap (λ f. Err f) e)) (sent_itself (Create 0 c.args.key.now) _ _ _ _ refl (c.in_err-send.ensures.sends told) h stands));
+      rw failed (create_failed h c.args.key.now _ _ _ _ _ refl some c.in_err-send.field-0.0 (λ e. c.in_err-send.ensures.keeps.no_sink (ap (λ f. Err f) e)) (sent_itself (Create 0 c.args.key.now) _ _ _ _ refl (c.in_err-send.ensures.sends told) h stands));
   mark = sent_keeps (Create 0 c.args.key.now) _ _ _ _ refl (c.in_err-send.ensures.sends told);
 }
 
@@ -57,7 +59,7 @@ returns-in_err-appended-clause-performs g c = λ told. record {
       (sent_itself (Create 0 c.args.key.now) _ _ _ _ refl ((rw (other_outcome c.in_ok-send.field-0 c.in_default.not-Refused) at c.in_ok-send.ensures.sends) told) h stands) in
       let handed = handed_on c.from_residual-in_err-appended.result c.in_err-appended.field-0.0 c.from_residual-in_err-appended.ensures.1 in
       rw handed (appended_failed h c.args.key.now (supply g.S.Source c.args.source.now) (supply g.S.Source c.append_all.new.source) (session g.D.Disk c.args.store.now c.args.disk.now) (session g.D.Disk c.send.new.store c.send.new.disk) made c.in_err-appended.field-0.0
-      (session g.D.Disk c.append_all.new.store c.append_all.new.disk) (said_in c.append_all.new.said) (λ e. c.in_err-appended.ensures.no_sink (ap (λ f. Err f) e))
+      (session g.D.Disk c.append_all.new.store c.append_all.new.disk) (said_in c.append_all.new.said) (λ e. c.in_err-appended.ensures.keeps.no_sink (ap (λ f. Err f) e))
       ((c.in_err-appended.ensures.appends told).each some (unanswered (Create 0 c.args.key.now) h) made.stands.keeps made.writes));
   mark = then_stays _ _ _ (sent_keeps (Create 0 c.args.key.now) _ _ _ _ refl (c.in_ok-send.ensures.sends told)) (c.in_err-appended.ensures.appends told).mark;
 }
@@ -76,7 +78,7 @@ returns-in_err-outcome-clause-performs g c = λ told. record {
       (session g.D.Disk c.append_all.new.store c.append_all.new.disk) (said_in c.append_all.new.said)
       ((whole told).each some (unanswered (Create 0 c.args.key.now) h) made.stands.keeps made.writes)
       (session g.D.Disk c.send-in-Done.new.store c.send-in-Done.new.disk) (said_in c.send-in-Done.new.said)
-      c.in_err-outcome.field-0.0 (λ e. c.in_err-outcome.ensures.no_sink (ap (λ f. Err f) e)) (c.in_err-outcome.ensures.sends told));
+      c.in_err-outcome.field-0.0 (λ e. c.in_err-outcome.ensures.keeps.no_sink (ap (λ f. Err f) e)) (c.in_err-outcome.ensures.sends told));
   mark = then_stays _ _ _ (sent_keeps (Create 0 c.args.key.now) _ _ _ _ refl (c.in_ok-send.ensures.sends told))
       (then_stays _ _ _ (c.in_ok-appended.ensures.appends told).mark (sent_keeps (Close 0) _ _ _ _ refl (c.in_err-outcome.ensures.sends told)));
 }
@@ -121,10 +123,15 @@ returns g c = record {
   refused = λ is. c.in_ok-appended.ensures.refused is;
   source = search rules;
   calm = search rules;
-  «open» = λ told none. c.in_ok-appended.ensures.open told refl;
-  honest = search rules;
-  no_sink = search rules;
-  account = search rules;
+  keeps = record {
+    stays = λ told none. c.in_ok-appended.ensures.keeps.stays told refl;
+    honest = c.append_all.ensures.keeps.honest;
+    no_sink = search rules;
+    account =
+        let made : Accounts g.D.Disk Ending.NoneFailed no_sync c.args.disk.now c.send.new.disk = c.in_ok-send.ensures.keeps.account in
+        let appended : Accounts g.D.Disk Ending.NoneFailed no_sync c.send.new.disk c.append_all.new.disk = c.in_ok-appended.ensures.keeps.account in
+        accounts_sum g.D.Disk Ending.NoneFailed one_sync c.args.disk.now c.send.new.disk c.append_all.new.disk (omega arith) made appended;
+  };
   faulted = λ failed. absurd (true≢false (sym failed ∙ c.append_all.ensures.bare (no_look c.in_ok-send.field-0 c.send.new.store.faulting c.in_ok-send.ensures.faulted)));
   looked = λ disk. absurd (let one : ◌≡◌ {A = Result Status StoreFault} (Ok c.in_ok-appended.appended) (Err fault.Disk) = disk in cc);
   stays = λ disk. absurd (let one : ◌≡◌ {A = Result Status StoreFault} (Ok c.in_ok-appended.appended) (Err fault.Disk) = disk in cc);
@@ -133,13 +140,29 @@ returns g c = record {
   change = search rules;
 }
 
-pub returns-in_err-outcome-clause-open : goal.returns-in_err-outcome-clause-open
-returns-in_err-outcome-clause-open g c = λ told. handed_open c.from_residual-in_err-outcome.result c.in_err-outcome.field-0.0 (session g.D.Disk c.send-in-Done.new.store c.send-in-Done.new.disk) c.from_residual-in_err-outcome.ensures.1 (c.in_err-outcome.ensures.open told)
+pub returns-in_err-outcome-clause-keeps : goal.returns-in_err-outcome-clause-keeps
+returns-in_err-outcome-clause-keeps g c =
+    let made : Accounts g.D.Disk Ending.NoneFailed no_sync c.args.disk.now c.send.new.disk = c.in_ok-send.ensures.keeps.account in
+    let appended : Accounts g.D.Disk Ending.NoneFailed no_sync c.send.new.disk c.append_all.new.disk = c.in_ok-appended.ensures.keeps.account in
+    keeps_handed g.D.Disk one_sync c.from_residual-in_err-outcome.result c.in_err-outcome.field-0.0 c.send-in-Done.new.store c.args.disk.now c.append_all.new.disk c.send-in-Done.new.disk (omega arith)
+    c.from_residual-in_err-outcome.ensures.1 (accounts_then g.D.Disk Ending.NoneFailed c.args.disk.now c.send.new.disk c.append_all.new.disk made appended) c.in_err-outcome.ensures.keeps
 
-pub returns-in_err-piece-clause-honest : goal.returns-in_err-piece-clause-honest
-returns-in_err-piece-clause-honest g c = λ told. open_leaves_honest (session g.D.Disk c.args.store.now c.args.disk.now) (c.requires.told told)
+pub returns-in_err-appended-clause-keeps : goal.returns-in_err-appended-clause-keeps
+returns-in_err-appended-clause-keeps g c =
+    let made : Accounts g.D.Disk Ending.NoneFailed no_sync c.args.disk.now c.send.new.disk = c.in_ok-send.ensures.keeps.account in
+    keeps_handed g.D.Disk one_sync c.from_residual-in_err-appended.result c.in_err-appended.field-0.0 c.append_all.new.store c.args.disk.now c.send.new.disk c.append_all.new.disk (omega arith)
+    c.from_residual-in_err-appended.ensures.1 made c.in_err-appended.ensures.keeps
+
+pub returns-in_err-piece-clause-keeps : goal.returns-in_err-piece-clause-keeps
+returns-in_err-piece-clause-keeps g c = record {
+  stays = search rules;
+  honest = λ told. open_leaves_honest (session g.D.Disk c.args.store.now c.args.disk.now) (c.requires.told told);
+  no_sink = search rules;
+  account = search rules;
+}
 
 -- a look fails in the first command alone: the others make none
+
 pub returns-in_err-send-clause-stays : goal.returns-in_err-send-clause-stays
 returns-in_err-send-clause-stays g c = λ disk failed. c.send.ensures.stays failed
 

@@ -38,7 +38,7 @@ returns-in-Done-clause-stores g c = λ told some m is.
         inl (answered c.args.key.now (supply g.S.Source c.args.source.now) (supply g.S.Source c.perform_put-came.new.source) (status_in c.perform_put-came.result) c.end.result (output g.K.Sink g.D.Disk c.args.sink.now c.args.disk.now)
             mid (session g.D.Disk c.perform_put-came.new.store c.perform_put-came.new.disk) (g.D.Disk.state c.end.new.disk) (said_in c.perform_put-came.new.said) begins m is
             ((c.perform_put-came.ensures.performs told).each some (acked resumed.done (settled_at m)) resumed.leads.keeps) (c.end.ensures.ends told) c.end.ensures.same
-            (c.perform_put-came.ensures.honest told) (λ dropped. ap g.D.Disk.state (c.end.ensures.dropped dropped).1)
+            (c.perform_put-came.ensures.keeps.honest told) (λ dropped. ap g.D.Disk.state (c.end.ensures.dropped dropped).1)
             c.print_answer.result (g.K.Sink.taken c.print_answer.new.sink) (inl c.in-Done.is)
             (subst (Printed c.end.result c.print_answer.result (g.K.Sink.taken c.args.sink.now) (g.K.Sink.taken c.print_answer.new.sink)) c.as_slice.ensures
             (record { same = rw c.in-Done.is c.print_answer.ensures.same; all = c.print_answer.ensures.all; part = c.print_answer.ensures.part; cut = c.print_answer.ensures.cut }))),
@@ -58,7 +58,7 @@ returns-in-No-clause-stores g c = λ told some m is.
         inl (answered c.args.key.now (supply g.S.Source c.args.source.now) (supply g.S.Source c.perform_put-came.new.source) (status_in c.perform_put-came.result) c.end.result (output g.K.Sink g.D.Disk c.args.sink.now c.args.disk.now)
             mid (session g.D.Disk c.perform_put-came.new.store c.perform_put-came.new.disk) (g.D.Disk.state c.end.new.disk) (said_in c.perform_put-came.new.said) begins m is
             ((c.perform_put-came.ensures.performs told).each some (acked resumed.done (settled_at m)) resumed.leads.keeps) (c.end.ensures.ends told) c.end.ensures.same
-            (c.perform_put-came.ensures.honest told) (λ dropped. ap g.D.Disk.state (c.end.ensures.dropped dropped).1)
+            (c.perform_put-came.ensures.keeps.honest told) (λ dropped. ap g.D.Disk.state (c.end.ensures.dropped dropped).1)
             c.print_answer-in-No.result (g.K.Sink.taken c.print_answer-in-No.new.sink) (inr c.in-No.is)
             (subst (Printed c.end.result c.print_answer-in-No.result (g.K.Sink.taken c.args.sink.now) (g.K.Sink.taken c.print_answer-in-No.new.sink)) c.as_slice-in-No.ensures
             (record { same = rw c.in-No.is c.print_answer-in-No.ensures.same; all = c.print_answer-in-No.ensures.all; part = c.print_answer-in-No.ensures.part; cut = c.print_answer-in-No.ensures.cut }))),
@@ -69,7 +69,7 @@ pub returns : goal.returns
 returns g c =
     let cause =
     disk_cause c.perform_put-came.result c.end.result (g.D.Disk.faults c.args.disk.now) (g.D.Disk.faults c.begin.new.disk) (g.D.Disk.faults c.perform_put-came.new.disk) (g.D.Disk.faults c.end.new.disk)
-    c.perform_put-came.ensures.only c.perform_put-came.ensures.no_sink (c.in-Ok.ensures.account.cause.kept (λ h. cc)) c.perform_put-came.ensures.account.cause c.end.ensures.cause
+    c.perform_put-came.ensures.only c.perform_put-came.ensures.keeps.no_sink (c.in-Ok.ensures.account.cause.kept (λ h. cc)) c.perform_put-came.ensures.keeps.account.cause c.end.ensures.cause
     (λ dropped. ((c.end.ensures.dropped dropped).0, ap g.D.Disk.faults (c.end.ensures.dropped dropped).1)) in
     record {
       stores = λ told some m is.
@@ -84,11 +84,11 @@ returns g c =
               inl (not_answered c.args.key.now (supply g.S.Source c.args.source.now) (supply g.S.Source c.perform_put-came.new.source) (status_in c.perform_put-came.result) c.end.result (output g.K.Sink g.D.Disk c.args.sink.now c.args.disk.now)
                   mid (session g.D.Disk c.perform_put-came.new.store c.perform_put-came.new.disk) (g.D.Disk.state c.end.new.disk) (said_in c.perform_put-came.new.said) begins m is
                   ((c.perform_put-came.ensures.performs told).each some (acked resumed.done (settled_at m)) resumed.leads.keeps) (c.end.ensures.ends told) c.end.ensures.same
-                  (c.perform_put-came.ensures.honest told) (λ dropped. ap g.D.Disk.state (c.end.ensures.dropped dropped).1)
+                  (c.perform_put-came.ensures.keeps.honest told) (λ dropped. ap g.D.Disk.state (c.end.ensures.dropped dropped).1)
                   (ended_last LastFails c.perform_put-came.result c.end.result (g.D.Disk.counts c.perform_put-came.new.disk) (g.D.Disk.counts c.end.new.disk) (λ last. last) (only_came c.perform_put-came.result c.perform_put-came.ensures.only)
                   (λ closing disk. c.end.ensures.last closing disk told) (λ not. let left = c.end.ensures.dropped not in (left.0, ap g.D.Disk.counts left.1))
                   (λ failed. c.perform_put-came.ensures.change (sym c.faulting.ensures ∙ c.if-faulting.false) failed told))
-                  (no_answer c.end.result c.in_default.not-Done c.in_default.not-No) (ended_no_sink c.end.result (status_in c.perform_put-came.result) (never_sink c.perform_put-came.result c.perform_put-came.ensures.only c.perform_put-came.ensures.no_sink) c.end.ensures.same)),
+                  (no_answer c.end.result c.in_default.not-Done c.in_default.not-No) (ended_no_sink c.end.result (status_in c.perform_put-came.result) (never_sink c.perform_put-came.result c.perform_put-came.ensures.only c.perform_put-came.ensures.keeps.no_sink) c.end.ensures.same)),
             ),
           );
       grows = takes_none (g.K.Sink.taken c.args.sink.now);
@@ -97,18 +97,18 @@ returns g c =
       taken = c.perform_put-came.ensures.taken;
       done = λ is. absurd (c.in_default.not-Done is);
       refused = λ is. absurd (c.in_default.not-No is);
-      others = never_others c.perform_put-came.result c.end.result c.perform_put-came.ensures.only c.perform_put-came.ensures.no_sink c.end.ensures.same;
+      others = never_others c.perform_put-came.result c.end.result c.perform_put-came.ensures.only c.perform_put-came.ensures.keeps.no_sink c.end.ensures.same;
       mark = λ told. closed_leaves_mark [] _ _ _ _ (c.in-Ok.ensures.begins told).mark (kept_change_mark _ _ (c.perform_put-came.ensures.performs told).mark) (c.end.ensures.ends told).mark;
       quiet = c.end.ensures.quiet;
       syncs = λ told.
           syncs_run one_sync (g.D.Disk.counts c.args.disk.now) (g.D.Disk.counts c.begin.new.disk) (g.D.Disk.counts c.perform_put-came.new.disk) (g.D.Disk.counts c.end.new.disk)
-          (c.in-Ok.ensures.account.syncs told) (c.perform_put-came.ensures.account.syncs told) (c.end.ensures.syncs told);
+          (c.in-Ok.ensures.account.syncs told) (c.perform_put-came.ensures.keeps.account.syncs told) (c.end.ensures.syncs told);
       stops = λ told.
           put_stops (g.D.Disk.counts c.args.disk.now) (g.D.Disk.counts c.begin.new.disk) (c.in-Ok.ensures.account.went_on refl told) c.perform_put-came.result
-          (g.D.Disk.counts c.perform_put-came.new.disk) (g.D.Disk.counts c.end.new.disk) (λ calm. c.perform_put-came.ensures.account.went_on calm told)
-          (c.perform_put-came.ensures.account.stops told) (c.end.ensures.stops told) (λ dropped. ap g.D.Disk.counts (c.end.ensures.dropped dropped).1);
+          (g.D.Disk.counts c.perform_put-came.new.disk) (g.D.Disk.counts c.end.new.disk) (λ calm. c.perform_put-came.ensures.keeps.account.went_on calm told)
+          (c.perform_put-came.ensures.keeps.account.stops told) (c.end.ensures.stops told) (λ dropped. ap g.D.Disk.counts (c.end.ensures.dropped dropped).1);
       source = λ source. c.perform_put-came.ensures.source (source_came c.perform_put-came.result c.end.result c.end.ensures.same source);
-      sink = λ sink. absurd (ended_no_sink c.end.result (status_in c.perform_put-came.result) (never_sink c.perform_put-came.result c.perform_put-came.ensures.only c.perform_put-came.ensures.no_sink) c.end.ensures.same sink);
+      sink = λ sink. absurd (ended_no_sink c.end.result (status_in c.perform_put-came.result) (never_sink c.perform_put-came.result c.perform_put-came.ensures.only c.perform_put-came.ensures.keeps.no_sink) c.end.ensures.same sink);
       calm = λ answer. absurd (no_answer c.end.result c.in_default.not-Done c.in_default.not-No answer);
       disk = cause.rose;
       disk_first = λ other no_memory. cause.kept other;

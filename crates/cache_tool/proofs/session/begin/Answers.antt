@@ -25,7 +25,7 @@ returns-in_err-attempt-clause-fails g c = on_err c.from_residual-in_err-attempt.
 
 pub returns-in_err-attempt-clause-looks : goal.returns-in_err-attempt-clause-looks
 returns-in_err-attempt-clause-looks g c = λ told none again.
-    let opened = c.open.ensures.no_entry told in
+    let opened = c.open.ensures.disk.no_entry told in
     let performed = resume_reads c.args.now (g.D.Disk.state c.args.disk.now) (session g.D.Disk c.in_ok-store.store c.open.new.disk) (λ names. ReadsEntriesOf g.D.Disk names c.open.new.disk c.attempt.new.disk)
     (g.met.D.Disk.finite c.args.disk.now told) (c.in_ok-store.ensures.opens told) none c.attempt.ensures.always.looks told in
     omega (arith, opened, performed)
@@ -34,11 +34,11 @@ pub returns-in_err-attempt-clause-account : goal.returns-in_err-attempt-clause-a
 returns-in_err-attempt-clause-account g c =
     let f = c.in_err-attempt.field-0.0 in
     subst (λ e. Accounts g.D.Disk e opening_syncs c.args.disk.now c.attempt.new.disk) (sym (ap (λ r. ending r) (handed_on c.from_residual-in_err-attempt.result f c.from_residual-in_err-attempt.ensures.1)))
-    (accounts_sum g.D.Disk (fault_ending f) opening_syncs c.args.disk.now c.open.new.disk c.attempt.new.disk (omega arith) c.in_ok-store.ensures.account c.in_err-attempt.ensures.does.calls.account)
+    (accounts_sum g.D.Disk (fault_ending f) opening_syncs c.args.disk.now c.open.new.disk c.attempt.new.disk (omega arith) c.in_ok-store.ensures.disk.account c.in_err-attempt.ensures.does.calls.account)
 
 pub returns-clause-looks : goal.returns-clause-looks
 returns-clause-looks g c = λ told none again.
-    let opened = c.open.ensures.no_entry told in
+    let opened = c.open.ensures.disk.no_entry told in
     let performed = resume_reads c.args.now (g.D.Disk.state c.args.disk.now) (session g.D.Disk c.in_ok-store.store c.open.new.disk) (λ names. ReadsEntriesOf g.D.Disk names c.open.new.disk c.attempt.new.disk)
     (g.met.D.Disk.finite c.args.disk.now told) (c.in_ok-store.ensures.opens told) none c.attempt.ensures.always.looks told in
     omega (arith, opened, performed)

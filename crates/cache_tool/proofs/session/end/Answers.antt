@@ -110,4 +110,4 @@ returns-in-Err-clause-went_on g c = λ not_disk not_memory.
     absurd (not_other c.close.result c.in-Err.fault c.status_of_fault.result c.in-Err.is c.close.ensures.no_sink c.status_of_fault.ensures not_disk not_memory)
 
 pub returns-in-Err-clause-last : goal.returns-in-Err-clause-last
-returns-in-Err-clause-last g c = λ closing disk. c.in-Err.ensures.change (disk_failed c.in-Err.fault c.status_of_fault.result c.status_of_fault.ensures disk)
+returns-in-Err-clause-last g c = λ closing disk. c.in-Err.ensures.disk.change (disk_failed c.in-Err.fault c.status_of_fault.result c.status_of_fault.ensures disk)

@@ -6,8 +6,8 @@ use Rattle.disk_model.proofs.MemListing.{picked_rises, stands_to, stands_from, a
 use Rattle.disk_theory.proofs.KindsOfPlaces.{doomed_in, only_doomed, doomed_rise}
 use Rattle.disk_model.proofs.mem_listing.doomed_numbers.Goals as goal
 
-pub returns-clause-rising : goal.returns-clause-rising
-returns-clause-rising c =
+pub returns-clause-sorted : goal.returns-clause-sorted
+returns-clause-sorted c =
     let es = c.args.slots.now.entries in
     let whole = all_picked doomed_in c.loop-place.numbers c.loop-place.place-iterator es c.in-None.ensures.steps.0 c.loop-place.invariant in
     subst (IsStrictlySortedBy nat_cmp) (sym whole) (picked_rises doomed_in Doomed (λ x. refl) only_doomed nat_cmp doomed_rise es c.into_iter-place-iterator.ensures.into_iter_gives.5)

@@ -7,8 +7,8 @@ use Rattle.disk_model.proofs.MemListing.{picked_rises, stands_to, stands_from, a
 use Rattle.disk_theory.proofs.KindsOfPlaces.{entry_in, only_entry, entries_rise}
 use Rattle.disk_model.proofs.mem_listing.entry_names.Goals as goal
 
-pub returns-clause-rising : goal.returns-clause-rising
-returns-clause-rising c =
+pub returns-clause-sorted : goal.returns-clause-sorted
+returns-clause-sorted c =
     let es = c.args.slots.now.entries in
     let whole = all_picked entry_in c.loop-place.names c.loop-place.place-iterator es c.in-None.ensures.steps.0 c.loop-place.invariant in
     subst (IsStrictlySortedBy name_cmp) (sym whole) (picked_rises entry_in Entry (λ x. refl) only_entry name_cmp entries_rise es c.into_iter-place-iterator.ensures.into_iter_gives.5)

@@ -4,8 +4,8 @@ use Rattle.record_list.specs.Stored.{AreClean}
 use Rattle.record_list.proofs.Printed.{clean_by_name, printed}
 use Rattle.record_list.proofs.printing.print.Goals as goal
 
-pub print_rising-requires-2-clause-clean : goal.print_rising-requires-2-clause-clean
-print_rising-requires-2-clause-clean c =
+pub print_sorted-requires-2-clause-clean : goal.print_sorted-requires-2-clause-clean
+print_sorted-requires-2-clause-clean c =
     let sorted = c.sort.new.records.items in
     let copied = c.in_ok-sorted.ensures.items ∙ c.as_slice-records.ensures in
     subst AreClean (sym c.as_slice.ensures.value)
@@ -18,4 +18,4 @@ returns c =
     let copied = c.in_ok-sorted.ensures.items ∙ c.as_slice-records.ensures in
     printed c.args.front.now records sorted
     (subst (IsByName records) (sym c.as_slice.ensures.value) (subst (λ rs. IsByName rs c.sort.new.records.items) copied (c.sort.ensures.by_name (subst HasNames (sym copied) c.requires.distinct))))
-    c.requires.clean c.print_rising-2.result c.print_rising-2.ensures.stored c.print_rising-2.ensures.spelled
+    c.requires.clean c.print_sorted-2.result c.print_sorted-2.ensures.stored c.print_sorted-2.ensures.spelled

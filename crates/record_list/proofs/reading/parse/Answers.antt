@@ -1,6 +1,6 @@
 use Rattle.std.proofs.Common.{◌≡◌, ap, ◌∙◌, subst, sym, true}
 use Rattle.std.specs.Prelude.{None, Some, if◌then◌else◌}
-use Rattle.record_list.specs.Lists.{AreRising, HasNames, names_of}
+use Rattle.record_list.specs.Lists.{AreSorted, HasNames, names_of}
 use Rattle.record_list.specs.Stored.{AreClean, are_distinct, read_as, stored_in}
 use Rattle.record_list.specs.declared.fault.RecordsFault.TheVariants as faults
 use Rattle.record_list.proofs.ReadingLaws.{fits_distinct, names_read, read_clean, read_distinct, read_rising}

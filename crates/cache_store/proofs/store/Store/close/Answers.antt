@@ -111,5 +111,9 @@ returns-in_err-closed-clause-closes g c = λ told.
     let d = g.D.Disk.state c.close_all-closed.new.disk in
     closes_failed c.from_residual.result _ before d c.from_residual.ensures.1 (λ h is. (c.close_all-closed.ensures.closes told).crash h is.stands)
 
-pub returns-in_err-close_index-clause-account : goal.returns-in_err-close_index-clause-account
-returns-in_err-close_index-clause-account g c = record { cause = search rules; went_on = search rules; stops = search rules; last = search rules; syncs = search rules }
+pub returns-in_err-close_index-clause-disk : goal.returns-in_err-close_index-clause-disk
+returns-in_err-close_index-clause-disk g c = record {
+  account = record { cause = search rules; went_on = search rules; stops = search rules; last = search rules; syncs = search rules };
+  change = search rules;
+  no_entry = search rules;
+}

@@ -52,7 +52,7 @@ returns-in_err-put-clause-does g c = λ told.
     dump_stops (kept c.args.self.now.handles) c.args.self.now.moment s (g.D.Disk.state c.entries.new.self) c.args.self.now.index new
     (ended_apart s (g.D.Disk.state c.entries.new.self) c.args.self.now.index c.finish_apart.new.self.map c.in-Ok.ended (c.in-Ok-entries.ensures.state told ∙ looked)
     c.in-Ok.ensures.ended c.in-Ok.ensures.base (c.in-Ok.ensures.records told) (c.in-Ok.ensures.tells told))
-    c.entries.new.out c.in-Ok-entries.ensures.rising (subst (λ (t : State). AreEntries t c.entries.new.out) looked (c.in-Ok-entries.ensures.names told))
+    c.entries.new.out c.in-Ok-entries.ensures.sorted (subst (λ (t : State). AreEntries t c.entries.new.out) looked (c.in-Ok-entries.ensures.names told))
     was (saying g.K.Sink c.put.new.self c.put.new.sink) c.requires.empty c.from_residual.result _ c.from_residual.ensures.1
     (cuts_front was (g.K.Sink.taken c.put.new.sink) head _ c.in_err-put.ensures.cut)
 
@@ -69,7 +69,7 @@ returns-in_err-send-clause-does g c = λ told.
     dump_stops (kept c.args.self.now.handles) c.args.self.now.moment s (g.D.Disk.state c.entries.new.self) c.args.self.now.index new
     (ended_apart s (g.D.Disk.state c.entries.new.self) c.args.self.now.index c.finish_apart.new.self.map c.in-Ok.ended (c.in-Ok-entries.ensures.state told ∙ looked)
     c.in-Ok.ensures.ended c.in-Ok.ensures.base (c.in-Ok.ensures.records told) (c.in-Ok.ensures.tells told))
-    c.entries.new.out c.in-Ok-entries.ensures.rising (subst (λ (t : State). AreEntries t c.entries.new.out) looked (c.in-Ok-entries.ensures.names told))
+    c.entries.new.out c.in-Ok-entries.ensures.sorted (subst (λ (t : State). AreEntries t c.entries.new.out) looked (c.in-Ok-entries.ensures.names told))
     was (saying g.K.Sink c.send.new.self c.send.new.sink) c.requires.empty c.from_residual-in_err-send.result _ c.from_residual-in_err-send.ensures.1
     (cuts_sent was (saying g.K.Sink c.put.new.self c.put.new.sink) (g.K.Sink.taken c.send.new.sink) head _ c.in_ok-put.ensures.said c.in_err-send.ensures.cut)
 
@@ -101,7 +101,7 @@ returns-in_err-say_items-clause-does g c = λ told.
     (dump_stops (kept c.args.self.now.handles) c.args.self.now.moment s (g.D.Disk.state c.say_items.new.disk) c.args.self.now.index new
     (ended_apart s (g.D.Disk.state c.say_items.new.disk) c.args.self.now.index c.finish_apart.new.self.map c.in-Ok.ended (c.in_err-say_items.ensures.looks.state told ∙ listed)
     c.in-Ok.ensures.ended c.in-Ok.ensures.base (c.in-Ok.ensures.records told) (c.in-Ok.ensures.tells told))
-    c.entries.new.out c.in-Ok-entries.ensures.rising (subst (λ (t : State). AreEntries t c.entries.new.out) looked (c.in-Ok-entries.ensures.names told))
+    c.entries.new.out c.in-Ok-entries.ensures.sorted (subst (λ (t : State). AreEntries t c.entries.new.out) looked (c.in-Ok-entries.ensures.names told))
     was (saying g.K.Sink c.say_items.new.reply c.say_items.new.sink) c.requires.empty c.from_residual-in_err-say_items.result _ c.from_residual-in_err-say_items.ensures.1
     (items_cut was put sent s c.entries.new.out c.in_ok-put.ensures.said (sent_says put sent c.in_ok-send.ensures.held c.in_ok-send.ensures.said) out
     (subst (λ (ns : List Name). StopsIn sent out (items_from 8 (files_of s ns))) c.as_slice.ensures
@@ -142,7 +142,7 @@ returns-in_err-put-2-clause-does g c = λ told.
     (dump_stops (kept c.args.self.now.handles) c.args.self.now.moment s (g.D.Disk.state c.say_items.new.disk) c.args.self.now.index new
     (ended_apart s (g.D.Disk.state c.say_items.new.disk) c.args.self.now.index c.finish_apart.new.self.map c.in-Ok.ended (c.in_ok-say_items.ensures.looks.state told ∙ listed)
     c.in-Ok.ensures.ended c.in-Ok.ensures.base (c.in-Ok.ensures.records told) (c.in-Ok.ensures.tells told))
-    c.entries.new.out c.in-Ok-entries.ensures.rising (subst (λ (t : State). AreEntries t c.entries.new.out) looked (c.in-Ok-entries.ensures.names told))
+    c.entries.new.out c.in-Ok-entries.ensures.sorted (subst (λ (t : State). AreEntries t c.entries.new.out) looked (c.in-Ok-entries.ensures.names told))
     was (saying g.K.Sink c.put-2.new.self c.put-2.new.sink) c.requires.empty c.from_residual-in_err-put-2.result _ c.from_residual-in_err-put-2.ensures.1
     (end_cut was put sent s c.entries.new.out c.in_ok-put.ensures.said (sent_says put sent c.in_ok-send.ensures.held c.in_ok-send.ensures.said) said
     (subst (λ (ns : List Name). SaysMore sent said (items_from 8 (files_of s ns))) c.as_slice.ensures
@@ -177,7 +177,7 @@ returns-clause-does g c = λ told.
     (dump_does (kept c.args.self.now.handles) c.args.self.now.moment s (g.D.Disk.state c.say_items.new.disk) c.args.self.now.index new
     (ended_apart s (g.D.Disk.state c.say_items.new.disk) c.args.self.now.index c.finish_apart.new.self.map c.in-Ok.ended (c.in_ok-say_items.ensures.looks.state told ∙ listed)
     c.in-Ok.ensures.ended c.in-Ok.ensures.base (c.in-Ok.ensures.records told) (c.in-Ok.ensures.tells told))
-    c.entries.new.out c.in-Ok-entries.ensures.rising (subst (λ (t : State). AreEntries t c.entries.new.out) looked (c.in-Ok-entries.ensures.names told))
+    c.entries.new.out c.in-Ok-entries.ensures.sorted (subst (λ (t : State). AreEntries t c.entries.new.out) looked (c.in-Ok-entries.ensures.names told))
     was now c.requires.empty
     (all_said was put sent s c.entries.new.out c.in_ok-put.ensures.said (sent_says put sent c.in_ok-send.ensures.held c.in_ok-send.ensures.said) said
     (subst (λ (ns : List Name). SaysMore sent said (items_from 8 (files_of s ns))) c.as_slice.ensures

@@ -9,7 +9,7 @@ use Rattle.cache_store.specs.Faults.{ending}
 use Rattle.cache_store.specs.Session.{session}
 use Rattle.cache_store.proofs.Records.IndexAchieves.{fails_sparing, spared_in_same}
 use Rattle.cache_store.proofs.Records.IndexWrites.{flush_achieves, synced_unclean}
-use Rattle.cache_store.proofs.Performing.CalmAccounts.{sync_stops}
+use Rattle.cache_store.proofs.Performing.CalmAccounts.{sync_reads, sync_stops}
 use Rattle.cache_store.proofs.Performing.Stays.{change_handed}
 use Rattle.cache_store.proofs.Clearing.ClearPart.{spared_keeps, then_same, then_synced}
 use Rattle.cache_store.proofs.store.Store.flush.Goals as goal
@@ -38,22 +38,40 @@ returns-clause-index g c = λ spares told.
     subst (LeavesIndex (g.D.Disk.state c.args.disk.now)) (sym (c.in_ok-sync.ensures.state told ∙ ap settled (c.in_ok-refresh.ensures.unwritten spares told)))
     (sync_leaves_index (g.D.Disk.state c.args.disk.now) (g.met.D.Disk.sound c.args.disk.now told))
 
-pub returns-clause-account : goal.returns-clause-account
-returns-clause-account g c = record { cause = search rules; went_on = search rules; stops = search rules; last = search rules; syncs = search rules }
-
-pub returns-in_err-sync-clause-account : goal.returns-in_err-sync-clause-account
-returns-in_err-sync-clause-account g c = record {
-  cause = search rules;
-  went_on = search rules;
-  stops = λ told. sync_stops (g.D.Disk.counts c.args.disk.now) (g.D.Disk.counts c.refresh.new.disk) (g.D.Disk.counts c.sync.new.self) c.sync.result (c.sync.ensures.counts told) (c.in_ok-refresh.ensures.account.went_on refl told);
-  last = λ failed told.
-      let change : FailsInChange g.D.Disk (ending c.from_residual-in_err-sync.result) c.sync.new.self = search rules in
-      inl (change failed told);
-  syncs = search rules;
+pub returns-clause-disk : goal.returns-clause-disk
+returns-clause-disk g c = record {
+  account = record { cause = search rules; went_on = search rules; stops = search rules; last = search rules; syncs = search rules };
+  change = search rules;
+  no_entry = search rules;
 }
 
-pub returns-in_err-refresh-clause-change : goal.returns-in_err-refresh-clause-change
-returns-in_err-refresh-clause-change g c = change_handed g.D.Disk c.from_residual.result c.in_err-refresh.field-0.0 c.refresh.new.disk c.from_residual.ensures.1 c.in_err-refresh.ensures.change
+pub returns-in_err-sync-clause-disk : goal.returns-in_err-sync-clause-disk
+returns-in_err-sync-clause-disk g c = record {
+  account = record {
+    cause = search rules;
+    went_on = search rules;
+    stops = λ told. sync_stops (g.D.Disk.counts c.args.disk.now) (g.D.Disk.counts c.refresh.new.disk) (g.D.Disk.counts c.sync.new.self) c.sync.result (c.sync.ensures.counts told) (c.in_ok-refresh.ensures.disk.account.went_on refl told);
+    last = λ failed told.
+        let change : FailsInChange g.D.Disk (ending c.from_residual-in_err-sync.result) c.sync.new.self = search rules in
+        inl (change failed told);
+    syncs = search rules;
+  };
+  change = search rules;
+  no_entry = λ told. sync_reads (g.D.Disk.counts c.args.disk.now) (g.D.Disk.counts c.refresh.new.disk) (g.D.Disk.counts c.sync.new.self) c.sync.result (c.sync.ensures.counts told) (c.in_ok-refresh.ensures.disk.no_entry told);
+}
+
+pub returns-in_err-refresh-clause-disk : goal.returns-in_err-refresh-clause-disk
+returns-in_err-refresh-clause-disk g c = record {
+  account = record {
+    cause = search rules;
+    went_on = search rules;
+    stops = search rules;
+    last = search rules;
+    syncs = λ told. let made = c.in_err-refresh.ensures.disk.account.syncs told in omega (arith, made);
+  };
+  change = change_handed g.D.Disk c.from_residual.result c.in_err-refresh.field-0.0 c.refresh.new.disk c.from_residual.ensures.1 c.in_err-refresh.ensures.disk.change;
+  no_entry = search rules;
+}
 
 pub returns-clause-flushes : goal.returns-clause-flushes
 returns-clause-flushes g c = λ told. record {
@@ -74,15 +92,6 @@ pub returns-clause-at_clear : goal.returns-clause-at_clear
 returns-clause-at_clear g c = λ told.
     then_synced (g.D.Disk.state c.args.disk.now) (g.D.Disk.state c.refresh.new.disk) (g.D.Disk.state c.sync.new.self)
     (spared_keeps (g.D.Disk.state c.args.disk.now) (g.D.Disk.state c.refresh.new.disk) (c.in_ok-refresh.ensures.entries told (c.requires.told told).1.matches.holds.apart)) (c.in_ok-sync.ensures.state told)
-
-pub returns-in_err-refresh-clause-account : goal.returns-in_err-refresh-clause-account
-returns-in_err-refresh-clause-account g c = record {
-  cause = search rules;
-  went_on = search rules;
-  stops = search rules;
-  last = search rules;
-  syncs = λ told. let made = c.in_err-refresh.ensures.account.syncs told in omega (arith, made);
-}
 
 pub returns-in_err-sync-clause-unclean : goal.returns-in_err-sync-clause-unclean
 returns-in_err-sync-clause-unclean g c = λ told.

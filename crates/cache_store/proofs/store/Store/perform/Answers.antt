@@ -50,7 +50,7 @@ returns-in-Create-clause-does g c = λ told.
     let was = saying g.K.Sink c.args.self.now.reply c.args.sink.now in
     as_command _ (Create c.in-Create.slot c.in-Create.key.now) _ _ _ _ _ (ap command_of c.in-Create.is) (λ m. refl)
     (unsaid_does (Create c.in-Create.slot c.in-Create.key.now) c.learn_of.result _ _ was c.learn_of.ensures.learnt.not_said c.learn_of.ensures.learnt.no_sink c.requires.empty
-    (create_achieves c.create-answer.result c.learn_of.result (session g.D.Disk c.args.self.now c.args.disk.now) _ refl c.learn_of.ensures.learnt (c.create-answer.ensures.index told) c.in-Create.slot c.in-Create.key.now (c.create-answer.ensures.carried told) c.create-answer.ensures.effect))
+    (create_achieves c.create-answer.result c.learn_of.result (session g.D.Disk c.args.self.now c.args.disk.now) _ refl c.learn_of.ensures.learnt (c.create-answer.ensures.looks.index told) c.in-Create.slot c.in-Create.key.now (c.create-answer.ensures.carried told) c.create-answer.ensures.effect))
 
 pub returns-in-OpenKey-clause-does : goal.returns-in-OpenKey-clause-does
 returns-in-OpenKey-clause-does g c = λ told.
@@ -64,42 +64,42 @@ returns-in-Append-clause-does g c = λ told.
     let was = saying g.K.Sink c.args.self.now.reply c.args.sink.now in
     as_command _ (Append c.in-Append.slot c.in-Append.bytes.now) _ _ _ _ _ (ap command_of c.in-Append.is) (λ m. refl)
     (unsaid_does (Append c.in-Append.slot c.in-Append.bytes.now) c.answer_of-in-Append.result _ _ was c.answer_of-in-Append.ensures.not_said c.answer_of-in-Append.ensures.no_sink c.requires.empty
-    (append_achieves c.append.result c.answer_of-in-Append.result (session g.D.Disk c.args.self.now c.args.disk.now) _ refl refl c.answer_of-in-Append.ensures.replies c.answer_of-in-Append.ensures.not_said c.answer_of-in-Append.ensures.no_sink (c.append.ensures.index told) c.in-Append.slot c.in-Append.bytes.now (c.append.ensures.carried told)))
+    (append_achieves c.append.result c.answer_of-in-Append.result (session g.D.Disk c.args.self.now c.args.disk.now) _ refl refl c.answer_of-in-Append.ensures.replies c.answer_of-in-Append.ensures.not_said c.answer_of-in-Append.ensures.no_sink (c.append.ensures.files.index told) c.in-Append.slot c.in-Append.bytes.now (c.append.ensures.carried told)))
 
 pub returns-in-Finish-clause-does : goal.returns-in-Finish-clause-does
 returns-in-Finish-clause-does g c = λ told.
     let was = saying g.K.Sink c.args.self.now.reply c.args.sink.now in
     as_command _ (Finish c.in-Finish.slot) _ _ _ _ _ (ap command_of c.in-Finish.is) (λ m. refl)
     (unsaid_does (Finish c.in-Finish.slot) c.learn_of-in-Finish.result _ _ was c.learn_of-in-Finish.ensures.learnt.not_said c.learn_of-in-Finish.ensures.learnt.no_sink c.requires.empty
-    (finish_achieves c.finish-answer.result c.learn_of-in-Finish.result (session g.D.Disk c.args.self.now c.args.disk.now) _ refl c.learn_of-in-Finish.ensures.learnt (c.finish-answer.ensures.index told) c.in-Finish.slot (c.finish-answer.ensures.carried told) c.finish-answer.ensures.effect))
+    (finish_achieves c.finish-answer.result c.learn_of-in-Finish.result (session g.D.Disk c.args.self.now c.args.disk.now) _ refl c.learn_of-in-Finish.ensures.learnt (c.finish-answer.ensures.finishes.files.index told) c.in-Finish.slot (c.finish-answer.ensures.finishes.carried told) c.finish-answer.ensures.finishes.effect))
 
 pub returns-in-SetElement-clause-does : goal.returns-in-SetElement-clause-does
 returns-in-SetElement-clause-does g c = λ told.
     let was = saying g.K.Sink c.args.self.now.reply c.args.sink.now in
     as_command _ (SetElement c.in-SetElement.slot c.in-SetElement.name.now c.in-SetElement.value.now) _ _ _ _ _ (ap command_of c.in-SetElement.is) (λ m. refl)
     (unsaid_does (SetElement c.in-SetElement.slot c.in-SetElement.name.now c.in-SetElement.value.now) c.learn_of-in-SetElement.result _ _ was c.learn_of-in-SetElement.ensures.learnt.not_said c.learn_of-in-SetElement.ensures.learnt.no_sink c.requires.empty
-    (set_achieves c.set_element-answer.result c.learn_of-in-SetElement.result (session g.D.Disk c.args.self.now c.args.disk.now) _ refl c.learn_of-in-SetElement.ensures.learnt (c.set_element-answer.ensures.index told) c.in-SetElement.slot c.in-SetElement.name.now c.in-SetElement.value.now (c.set_element-answer.ensures.carried told) c.set_element-answer.ensures.effect))
+    (set_achieves c.set_element-answer.result c.learn_of-in-SetElement.result (session g.D.Disk c.args.self.now c.args.disk.now) _ refl c.learn_of-in-SetElement.ensures.learnt (c.set_element-answer.ensures.files.index told) c.in-SetElement.slot c.in-SetElement.name.now c.in-SetElement.value.now (c.set_element-answer.ensures.carried told) c.set_element-answer.ensures.effect))
 
 pub returns-in-UnsetElement-clause-does : goal.returns-in-UnsetElement-clause-does
 returns-in-UnsetElement-clause-does g c = λ told.
     let was = saying g.K.Sink c.args.self.now.reply c.args.sink.now in
     as_command _ (UnsetElement c.in-UnsetElement.slot c.in-UnsetElement.name.now) _ _ _ _ _ (ap command_of c.in-UnsetElement.is) (λ m. refl)
     (unsaid_does (UnsetElement c.in-UnsetElement.slot c.in-UnsetElement.name.now) c.learn_of_some.result _ _ was c.learn_of_some.ensures.learnt.not_said c.learn_of_some.ensures.learnt.no_sink c.requires.empty
-    (unset_achieves c.unset_element-answer.result c.learn_of_some.result (session g.D.Disk c.args.self.now c.args.disk.now) _ refl c.learn_of_some.ensures.learnt (c.unset_element-answer.ensures.index told) c.in-UnsetElement.slot c.in-UnsetElement.name.now (c.unset_element-answer.ensures.carried told) c.unset_element-answer.ensures.effect))
+    (unset_achieves c.unset_element-answer.result c.learn_of_some.result (session g.D.Disk c.args.self.now c.args.disk.now) _ refl c.learn_of_some.ensures.learnt (c.unset_element-answer.ensures.files.index told) c.in-UnsetElement.slot c.in-UnsetElement.name.now (c.unset_element-answer.ensures.carried told) c.unset_element-answer.ensures.effect))
 
 pub returns-in-Close-clause-does : goal.returns-in-Close-clause-does
 returns-in-Close-clause-does g c = λ told.
     let was = saying g.K.Sink c.args.self.now.reply c.args.sink.now in
     as_command _ (Close c.in-Close.slot) _ _ _ _ _ (ap command_of c.in-Close.is) (λ m. refl)
     (unsaid_does (Close c.in-Close.slot) c.learn_of-in-Close.result _ _ was c.learn_of-in-Close.ensures.learnt.not_said c.learn_of-in-Close.ensures.learnt.no_sink c.requires.empty
-    (close_achieves c.close-answer.result c.learn_of-in-Close.result (session g.D.Disk c.args.self.now c.args.disk.now) _ refl c.learn_of-in-Close.ensures.learnt (c.close-answer.ensures.index told) c.in-Close.slot (c.close-answer.ensures.carried told) c.close-answer.ensures.effect))
+    (close_achieves c.close-answer.result c.learn_of-in-Close.result (session g.D.Disk c.args.self.now c.args.disk.now) _ refl c.learn_of-in-Close.ensures.learnt (c.close-answer.ensures.files.index told) c.in-Close.slot (c.close-answer.ensures.carried told) c.close-answer.ensures.effect))
 
 pub returns-in-Doom-clause-does : goal.returns-in-Doom-clause-does
 returns-in-Doom-clause-does g c = λ told.
     let was = saying g.K.Sink c.args.self.now.reply c.args.sink.now in
     as_command _ (Doom c.in-Doom.key.now) _ _ _ _ _ (ap command_of c.in-Doom.is) (λ m. refl)
     (unsaid_does (Doom c.in-Doom.key.now) c.learn_of-in-Doom.result _ _ was c.learn_of-in-Doom.ensures.learnt.not_said c.learn_of-in-Doom.ensures.learnt.no_sink c.requires.empty
-    (doom_achieves c.doom-answer.result c.learn_of-in-Doom.result (session g.D.Disk c.args.self.now c.args.disk.now) _ refl c.learn_of-in-Doom.ensures.learnt (c.doom-answer.ensures.index told) c.in-Doom.key.now (c.doom-answer.ensures.carried told) c.doom-answer.ensures.effect))
+    (doom_achieves c.doom-answer.result c.learn_of-in-Doom.result (session g.D.Disk c.args.self.now c.args.disk.now) _ refl c.learn_of-in-Doom.ensures.learnt (c.doom-answer.ensures.looks.index told) c.in-Doom.key.now (c.doom-answer.ensures.carried told) c.doom-answer.ensures.effect))
 
 pub returns-in-Element-clause-does : goal.returns-in-Element-clause-does
 returns-in-Element-clause-does g c = λ told.
@@ -111,21 +111,21 @@ returns-in-UseEntry-clause-does g c = λ told.
     let was = saying g.K.Sink c.args.self.now.reply c.args.sink.now in
     as_command _ (UseEntry c.in-UseEntry.slot) _ _ _ _ _ (ap command_of c.in-UseEntry.is) (λ m. refl)
     (unsaid_does (UseEntry c.in-UseEntry.slot) c.learn_of-in-UseEntry.result _ _ was c.learn_of-in-UseEntry.ensures.learnt.not_said c.learn_of-in-UseEntry.ensures.learnt.no_sink c.requires.empty
-    (use_achieves c.use_entry-answer.result c.learn_of-in-UseEntry.result (session g.D.Disk c.args.self.now c.args.disk.now) _ refl c.learn_of-in-UseEntry.ensures.learnt (c.use_entry-answer.ensures.index told) c.in-UseEntry.slot (c.use_entry-answer.ensures.carried told) c.use_entry-answer.ensures.effect))
+    (use_achieves c.use_entry-answer.result c.learn_of-in-UseEntry.result (session g.D.Disk c.args.self.now c.args.disk.now) _ refl c.learn_of-in-UseEntry.ensures.learnt (c.use_entry-answer.ensures.files.index told) c.in-UseEntry.slot (c.use_entry-answer.ensures.carried told) c.use_entry-answer.ensures.effect))
 
 pub returns-in-Pin-clause-does : goal.returns-in-Pin-clause-does
 returns-in-Pin-clause-does g c = λ told.
     let was = saying g.K.Sink c.args.self.now.reply c.args.sink.now in
     as_command _ (Pin c.in-Pin.slot) _ _ _ _ _ (ap command_of c.in-Pin.is) (λ m. refl)
     (unsaid_does (Pin c.in-Pin.slot) c.learn_of-in-Pin.result _ _ was c.learn_of-in-Pin.ensures.learnt.not_said c.learn_of-in-Pin.ensures.learnt.no_sink c.requires.empty
-    (pin_achieves c.set_pin-answer.result c.learn_of-in-Pin.result (session g.D.Disk c.args.self.now c.args.disk.now) _ refl c.learn_of-in-Pin.ensures.learnt (c.set_pin-answer.ensures.index told) c.in-Pin.slot (c.set_pin-answer.ensures.carried told) c.set_pin-answer.ensures.effect))
+    (pin_achieves c.set_pin-answer.result c.learn_of-in-Pin.result (session g.D.Disk c.args.self.now c.args.disk.now) _ refl c.learn_of-in-Pin.ensures.learnt (c.set_pin-answer.ensures.files.index told) c.in-Pin.slot (c.set_pin-answer.ensures.carried told) c.set_pin-answer.ensures.effect))
 
 pub returns-in-Unpin-clause-does : goal.returns-in-Unpin-clause-does
 returns-in-Unpin-clause-does g c = λ told.
     let was = saying g.K.Sink c.args.self.now.reply c.args.sink.now in
     as_command _ (Unpin c.in-Unpin.slot) _ _ _ _ _ (ap command_of c.in-Unpin.is) (λ m. refl)
     (unsaid_does (Unpin c.in-Unpin.slot) c.learn_of-in-Unpin.result _ _ was c.learn_of-in-Unpin.ensures.learnt.not_said c.learn_of-in-Unpin.ensures.learnt.no_sink c.requires.empty
-    (unpin_achieves c.set_pin-answer-in-Unpin.result c.learn_of-in-Unpin.result (session g.D.Disk c.args.self.now c.args.disk.now) _ refl c.learn_of-in-Unpin.ensures.learnt (c.set_pin-answer-in-Unpin.ensures.index told) c.in-Unpin.slot (c.set_pin-answer-in-Unpin.ensures.carried told) c.set_pin-answer-in-Unpin.ensures.effect))
+    (unpin_achieves c.set_pin-answer-in-Unpin.result c.learn_of-in-Unpin.result (session g.D.Disk c.args.self.now c.args.disk.now) _ refl c.learn_of-in-Unpin.ensures.learnt (c.set_pin-answer-in-Unpin.ensures.files.index told) c.in-Unpin.slot (c.set_pin-answer-in-Unpin.ensures.carried told) c.set_pin-answer-in-Unpin.ensures.effect))
 
 pub returns-in-ReadPart-clause-does : goal.returns-in-ReadPart-clause-does
 returns-in-ReadPart-clause-does g c = λ told.
@@ -215,7 +215,7 @@ returns-in-ReadPart-clause-recent g c slot from len is =
 pub returns-in-Create-clause-stays : goal.returns-in-Create-clause-stays
 returns-in-Create-clause-stays g c = λ noted told.
     let failed : has_failed_look c.create-answer.result ≡ true = sym c.has_failed-self.ensures ∙ noted in
-    let all = on_failed_look c.create-answer.result _ failed c.create-answer.ensures.read in
+    let all = on_failed_look c.create-answer.result _ failed c.create-answer.ensures.looks.read in
     parts_stay (kept c.args.self.now.handles) (kept c.create-answer.new.self) c.args.self.now.moment (g.D.Disk.state c.args.disk.now) (g.D.Disk.state c.create-answer.new.disk) c.args.self.now.index c.learn_of.new.self
     all.handles (err_failed_look c.create-answer.result _ failed c.learn_of.ensures.unlearnt) (all.looks.state told)
 
@@ -229,7 +229,7 @@ returns-in-OpenKey-clause-stays g c = λ noted told.
 pub returns-in-Doom-clause-stays : goal.returns-in-Doom-clause-stays
 returns-in-Doom-clause-stays g c = λ noted told.
     let failed : has_failed_look c.doom-answer.result ≡ true = sym c.has_failed-self-in-Doom.ensures ∙ noted in
-    let all = on_failed_look c.doom-answer.result _ failed c.doom-answer.ensures.read in
+    let all = on_failed_look c.doom-answer.result _ failed c.doom-answer.ensures.looks.read in
     parts_stay (kept c.args.self.now.handles) (kept c.doom-answer.new.self) c.args.self.now.moment (g.D.Disk.state c.args.disk.now) (g.D.Disk.state c.doom-answer.new.disk) c.args.self.now.index c.learn_of-in-Doom.new.self
     all.handles (err_failed_look c.doom-answer.result _ failed c.learn_of-in-Doom.ensures.unlearnt) (all.looks.state told)
 
@@ -307,12 +307,12 @@ returns-in-PutAlt-clause-does g c = λ told.
     let was = saying g.K.Sink c.args.self.now.reply c.args.sink.now in
     as_command _ (PutAlt c.in-PutAlt.slot c.in-PutAlt.kind.now c.in-PutAlt.alt.now) _ _ _ _ _ (ap command_of c.in-PutAlt.is) (λ m. refl)
     (unsaid_does (PutAlt c.in-PutAlt.slot c.in-PutAlt.kind.now c.in-PutAlt.alt.now) c.learn_of-in-PutAlt.result _ _ was c.learn_of-in-PutAlt.ensures.learnt.not_said c.learn_of-in-PutAlt.ensures.learnt.no_sink c.requires.empty
-    (put_achieves c.put_alt-answer.result c.learn_of-in-PutAlt.result (session g.D.Disk c.args.self.now c.args.disk.now) _ refl c.learn_of-in-PutAlt.ensures.learnt (c.put_alt-answer.ensures.index told) c.in-PutAlt.slot c.in-PutAlt.kind.now c.in-PutAlt.alt.now (c.put_alt-answer.ensures.carried told) c.put_alt-answer.ensures.effect))
+    (put_achieves c.put_alt-answer.result c.learn_of-in-PutAlt.result (session g.D.Disk c.args.self.now c.args.disk.now) _ refl c.learn_of-in-PutAlt.ensures.learnt (c.put_alt-answer.ensures.looks.index told) c.in-PutAlt.slot c.in-PutAlt.kind.now c.in-PutAlt.alt.now (c.put_alt-answer.ensures.carried told) c.put_alt-answer.ensures.effect))
 
 pub returns-in-PutAlt-clause-stays : goal.returns-in-PutAlt-clause-stays
 returns-in-PutAlt-clause-stays g c = λ noted told.
     let failed : has_failed_look c.put_alt-answer.result ≡ true = sym c.has_failed-self-in-PutAlt.ensures ∙ noted in
-    let all = on_failed_look c.put_alt-answer.result _ failed c.put_alt-answer.ensures.read in
+    let all = on_failed_look c.put_alt-answer.result _ failed c.put_alt-answer.ensures.looks.read in
     parts_stay (kept c.args.self.now.handles) (kept c.put_alt-answer.new.self) c.args.self.now.moment (g.D.Disk.state c.args.disk.now) (g.D.Disk.state c.put_alt-answer.new.disk) c.args.self.now.index c.learn_of-in-PutAlt.new.self
     all.handles (err_failed_look c.put_alt-answer.result _ failed c.learn_of-in-PutAlt.ensures.unlearnt) (all.looks.state told)
 
@@ -330,37 +330,37 @@ returns-in-Dump-clause-does g c = λ told.
 -- ---- what a crash may leave at `clear`
 
 pub returns-in-Create-clause-at_clear : goal.returns-in-Create-clause-at_clear
-returns-in-Create-clause-at_clear g c = λ told. kept_at (command_of c.args.c.now) (g.D.Disk.state c.args.disk.now) (g.D.Disk.state c.create-answer.new.disk) (c.create-answer.ensures.index told).clear
+returns-in-Create-clause-at_clear g c = λ told. kept_at (command_of c.args.c.now) (g.D.Disk.state c.args.disk.now) (g.D.Disk.state c.create-answer.new.disk) (c.create-answer.ensures.looks.index told).clear
 
 pub returns-in-Append-clause-at_clear : goal.returns-in-Append-clause-at_clear
-returns-in-Append-clause-at_clear g c = λ told. kept_at (command_of c.args.c.now) (g.D.Disk.state c.args.disk.now) (g.D.Disk.state c.append.new.disk) (c.append.ensures.index told).clear
+returns-in-Append-clause-at_clear g c = λ told. kept_at (command_of c.args.c.now) (g.D.Disk.state c.args.disk.now) (g.D.Disk.state c.append.new.disk) (c.append.ensures.files.index told).clear
 
 pub returns-in-Finish-clause-at_clear : goal.returns-in-Finish-clause-at_clear
-returns-in-Finish-clause-at_clear g c = λ told. kept_at (command_of c.args.c.now) (g.D.Disk.state c.args.disk.now) (g.D.Disk.state c.finish-answer.new.disk) (c.finish-answer.ensures.index told).clear
+returns-in-Finish-clause-at_clear g c = λ told. kept_at (command_of c.args.c.now) (g.D.Disk.state c.args.disk.now) (g.D.Disk.state c.finish-answer.new.disk) (c.finish-answer.ensures.finishes.files.index told).clear
 
 pub returns-in-SetElement-clause-at_clear : goal.returns-in-SetElement-clause-at_clear
-returns-in-SetElement-clause-at_clear g c = λ told. kept_at (command_of c.args.c.now) (g.D.Disk.state c.args.disk.now) (g.D.Disk.state c.set_element-answer.new.disk) (c.set_element-answer.ensures.index told).clear
+returns-in-SetElement-clause-at_clear g c = λ told. kept_at (command_of c.args.c.now) (g.D.Disk.state c.args.disk.now) (g.D.Disk.state c.set_element-answer.new.disk) (c.set_element-answer.ensures.files.index told).clear
 
 pub returns-in-UnsetElement-clause-at_clear : goal.returns-in-UnsetElement-clause-at_clear
-returns-in-UnsetElement-clause-at_clear g c = λ told. kept_at (command_of c.args.c.now) (g.D.Disk.state c.args.disk.now) (g.D.Disk.state c.unset_element-answer.new.disk) (c.unset_element-answer.ensures.index told).clear
+returns-in-UnsetElement-clause-at_clear g c = λ told. kept_at (command_of c.args.c.now) (g.D.Disk.state c.args.disk.now) (g.D.Disk.state c.unset_element-answer.new.disk) (c.unset_element-answer.ensures.files.index told).clear
 
 pub returns-in-PutAlt-clause-at_clear : goal.returns-in-PutAlt-clause-at_clear
-returns-in-PutAlt-clause-at_clear g c = λ told. kept_at (command_of c.args.c.now) (g.D.Disk.state c.args.disk.now) (g.D.Disk.state c.put_alt-answer.new.disk) (c.put_alt-answer.ensures.index told).clear
+returns-in-PutAlt-clause-at_clear g c = λ told. kept_at (command_of c.args.c.now) (g.D.Disk.state c.args.disk.now) (g.D.Disk.state c.put_alt-answer.new.disk) (c.put_alt-answer.ensures.looks.index told).clear
 
 pub returns-in-UseEntry-clause-at_clear : goal.returns-in-UseEntry-clause-at_clear
-returns-in-UseEntry-clause-at_clear g c = λ told. kept_at (command_of c.args.c.now) (g.D.Disk.state c.args.disk.now) (g.D.Disk.state c.use_entry-answer.new.disk) (c.use_entry-answer.ensures.index told).clear
+returns-in-UseEntry-clause-at_clear g c = λ told. kept_at (command_of c.args.c.now) (g.D.Disk.state c.args.disk.now) (g.D.Disk.state c.use_entry-answer.new.disk) (c.use_entry-answer.ensures.files.index told).clear
 
 pub returns-in-Pin-clause-at_clear : goal.returns-in-Pin-clause-at_clear
-returns-in-Pin-clause-at_clear g c = λ told. kept_at (command_of c.args.c.now) (g.D.Disk.state c.args.disk.now) (g.D.Disk.state c.set_pin-answer.new.disk) (c.set_pin-answer.ensures.index told).clear
+returns-in-Pin-clause-at_clear g c = λ told. kept_at (command_of c.args.c.now) (g.D.Disk.state c.args.disk.now) (g.D.Disk.state c.set_pin-answer.new.disk) (c.set_pin-answer.ensures.files.index told).clear
 
 pub returns-in-Unpin-clause-at_clear : goal.returns-in-Unpin-clause-at_clear
-returns-in-Unpin-clause-at_clear g c = λ told. kept_at (command_of c.args.c.now) (g.D.Disk.state c.args.disk.now) (g.D.Disk.state c.set_pin-answer-in-Unpin.new.disk) (c.set_pin-answer-in-Unpin.ensures.index told).clear
+returns-in-Unpin-clause-at_clear g c = λ told. kept_at (command_of c.args.c.now) (g.D.Disk.state c.args.disk.now) (g.D.Disk.state c.set_pin-answer-in-Unpin.new.disk) (c.set_pin-answer-in-Unpin.ensures.files.index told).clear
 
 pub returns-in-Close-clause-at_clear : goal.returns-in-Close-clause-at_clear
-returns-in-Close-clause-at_clear g c = λ told. kept_at (command_of c.args.c.now) (g.D.Disk.state c.args.disk.now) (g.D.Disk.state c.close-answer.new.disk) (c.close-answer.ensures.index told).clear
+returns-in-Close-clause-at_clear g c = λ told. kept_at (command_of c.args.c.now) (g.D.Disk.state c.args.disk.now) (g.D.Disk.state c.close-answer.new.disk) (c.close-answer.ensures.files.index told).clear
 
 pub returns-in-Doom-clause-at_clear : goal.returns-in-Doom-clause-at_clear
-returns-in-Doom-clause-at_clear g c = λ told. kept_at (command_of c.args.c.now) (g.D.Disk.state c.args.disk.now) (g.D.Disk.state c.doom-answer.new.disk) (c.doom-answer.ensures.index told).clear
+returns-in-Doom-clause-at_clear g c = λ told. kept_at (command_of c.args.c.now) (g.D.Disk.state c.args.disk.now) (g.D.Disk.state c.doom-answer.new.disk) (c.doom-answer.ensures.looks.index told).clear
 
 pub returns-in-FinishAs-clause-at_clear : goal.returns-in-FinishAs-clause-at_clear
 returns-in-FinishAs-clause-at_clear g c = λ told. kept_at (command_of c.args.c.now) (g.D.Disk.state c.args.disk.now) (g.D.Disk.state c.finish_as.new.disk) (c.finish_as.ensures.index told).clear
@@ -440,7 +440,7 @@ returns-in-PutAlt-clause-alt_chunks g c slot kind bytes is =
     let k = kept c.args.self.now.handles in
     let after = kept c.put_alt-answer.new.self in
     subst (λ (s : ℕ). IfOk c.learn_of-in-PutAlt.result (λ a. PutsChunks (outcome_in a) s k after)) (ap slot_put (sym (ap command_of c.in-PutAlt.is) ∙ is))
-    (puts_chunks c.put_alt-answer.result c.learn_of-in-PutAlt.result c.in-PutAlt.slot k after c.put_alt-answer.ensures.chunks c.put_alt-answer.ensures.other_chunks c.learn_of-in-PutAlt.ensures.went)
+    (puts_chunks c.put_alt-answer.result c.learn_of-in-PutAlt.result c.in-PutAlt.slot k after c.put_alt-answer.ensures.chunks.done c.put_alt-answer.ensures.chunks.refused c.learn_of-in-PutAlt.ensures.went)
 
 pub returns-in-Doom-clause-unfinished : goal.returns-in-Doom-clause-unfinished
 returns-in-Doom-clause-unfinished g c key place number is there =

@@ -175,7 +175,7 @@ returns-in_err-cleared-in-Some-clause-looks_first g c =
 pub returns-in_err-end-in-None-clause-looks_first : goal.returns-in_err-end-in-None-clause-looks_first
 returns-in_err-end-in-None-clause-looks_first g c =
     changed_last g.D.Disk _ c.args.disk.now c.end.new.disk
-    (change_handed g.D.Disk c.from_residual-in_err-end-in-None.result c.in_err-end-in-None.field-0.0 c.end.new.disk c.from_residual-in_err-end-in-None.ensures.1 c.in_err-end-in-None.ensures.change)
+    (change_handed g.D.Disk c.from_residual-in_err-end-in-None.result c.in_err-end-in-None.field-0.0 c.end.new.disk c.from_residual-in_err-end-in-None.ensures.1 c.in_err-end-in-None.ensures.disk.change)
 
 -- ---- the changes in their order, and what they leave at `clear`
 

@@ -35,9 +35,10 @@ loop-left-preserved g c =
           c.in_ok-put_chunk.ensures.body (λ s. c.in_ok-put_chunk.ensures.stands s.0);
       writes = λ told. written_twice c.args.place.now IsUnfinished _ _ _ (old.writes told) (c.put_chunk.ensures.writes told);
       calls = λ told. let before = old.calls told in let one = c.put_chunk.ensures.calls told in omega (arith, before, one, long, short, test, test_long, none, behind);
-      went_on = λ told. c.in_ok-put_chunk.ensures.account.went_on refl told ∙ old.went_on told;
-      faults = c.in_ok-put_chunk.ensures.account.cause.kept (λ e. cc) ∙ old.faults;
-      syncs = λ told. let before = old.syncs told in let one = c.in_ok-put_chunk.ensures.account.syncs told in omega (arith, before, one);
+      went_on = λ told. c.in_ok-put_chunk.ensures.disk.account.went_on refl told ∙ old.went_on told;
+      faults = c.in_ok-put_chunk.ensures.disk.account.cause.kept (λ e. cc) ∙ old.faults;
+      syncs = λ told. let before = old.syncs told in let one = c.in_ok-put_chunk.ensures.disk.account.syncs told in omega (arith, before, one);
+      no_entry = λ told. c.in_ok-put_chunk.ensures.disk.no_entry told ∙ old.no_entry told;
     }
 
 pub returns-clause-body : goal.returns-clause-body

@@ -2,7 +2,7 @@ use Rattle.std.proofs.Common.{◌≡◌, ◌≤◌, ◌<◌, ◌+◌, ◌/◌, �
 use Rattle.cache_base.specs.Limits.{chunk_size}
 use Rattle.cache_base.specs.declared.limits.TheConstants.{CHUNK}
 use Rattle.chunk_store.specs.Stored.{unfinished_file}
-use Rattle.disk_theory.specs.Account.{SyncsAtMost, no_sync}
+use Rattle.disk_theory.specs.Account.{LooksAtNoEntry, SyncsAtMost, no_sync}
 use Rattle.disk_theory.specs.State.{standing}
 use Rattle.disk_theory.specs.Writes.{WritesAt}
 use Rattle.entry_file.specs.NewEntry.{HasBody, grown_len}
@@ -23,6 +23,7 @@ invariant-loop-left g l = record {
   went_on : IsTrue g.D.Disk.tells → (g.D.Disk.counts l.disk).failed ≡ (g.D.Disk.counts l.fn.disk).failed;
   faults : g.D.Disk.faults l.disk ≡ g.D.Disk.faults l.fn.disk;
   syncs : SyncsAtMost g.D.Disk no_sync l.fn.disk l.disk;
+  no_entry : LooksAtNoEntry g.D.Disk l.fn.disk l.disk;
 }
 
 abbrev pub decreases-loop-left : goal.decreases-loop-left

@@ -1,4 +1,4 @@
-use Rattle.std.proofs.Common.{◌≡◌, ◌+◌, ◌<◌, length, Ok, Some, arith, inl, refl, sym, ap, ◌∙◌}
+use Rattle.std.proofs.Common.{◌≡◌, ◌+◌, ◌<◌, length, Ok, Some, arith, inl, refl, sym, ap, ◌∙◌, rules}
 use Rattle.cache_base.proofs.ByteLaws.{all_below}
 use Rattle.cache_theory.specs.Command.Command.{Append}
 use Rattle.file_handles.specs.Changes.{appended}
@@ -59,11 +59,14 @@ pub returns-in_err-place-clause-carried : goal.returns-in_err-place-clause-carri
 returns-in_err-place-clause-carried g c = λ told.
     refused_answer c.from_residual.result (g.D.Disk.state c.args.disk.now) (kept c.args.self.now) (Append c.args.slot c.args.b.now) c.in_err-place.field-0.0 c.from_residual.ensures.1 (c.in_err-place.ensures.refused c.args.b.now refl)
 
-pub returns-clause-index : goal.returns-clause-index
-returns-clause-index g c told =
-    let there = the_object _ _ c.in_ok-place.ensures.object in
-    change_left (g.D.Disk.state c.args.disk.now) (g.D.Disk.state c.append_at.new.disk) (kept c.args.self.now) (kept c.append_at.new.self) c.in_ok-place.place there.0 (appended c.args.b.now) c.append_at.result
-    (g.met.D.Disk.sound c.args.disk.now told) there.1.0 (filed_somehow _ _ _ (c.requires.told told)) (c.append_at.ensures.changes told)
+pub returns-clause-files : goal.returns-clause-files
+returns-clause-files g c = record {
+  unchanged = search rules;
+  index = λ told. let there = the_object _ _ c.in_ok-place.ensures.object in
+      change_left (g.D.Disk.state c.args.disk.now) (g.D.Disk.state c.append_at.new.disk) (kept c.args.self.now) (kept c.append_at.new.self) c.in_ok-place.place there.0 (appended c.args.b.now) c.append_at.result
+      (g.met.D.Disk.sound c.args.disk.now told) there.1.0 (filed_somehow _ _ _ (c.requires.told told)) (c.append_at.ensures.changes told);
+  disk = search rules;
+}
 
 pub returns-in_err-place-clause-within_reply : goal.returns-in_err-place-clause-within_reply
 returns-in_err-place-clause-within_reply g c = λ m number proper stand fits.
@@ -76,10 +79,16 @@ returns-clause-unsynced g c told =
     change_unsynced (g.D.Disk.state c.args.disk.now) (g.D.Disk.state c.append_at.new.disk) (kept c.args.self.now) (kept c.append_at.new.self) c.in_ok-place.place there.0 (appended c.args.b.now) c.append_at.result
     there.1.0 (filed_somehow _ _ _ (c.requires.told told)) (c.append_at.ensures.changes told)
 
-pub returns-in_err-place-clause-no_slot : goal.returns-in_err-place-clause-no_slot
-returns-in_err-place-clause-no_slot g c =
-    call_handed_on (kept c.args.self.now) c.args.slot c.in_err-place.field-0.0 c.may_append.result c.from_residual.result c.in_err-place.was c.from_residual.ensures.1 c.may_append.ensures.no_slot
+pub returns-in_err-place-clause-handles : goal.returns-in_err-place-clause-handles
+returns-in_err-place-clause-handles g c = record {
+  chunks = search rules;
+  no_slot = call_handed_on (kept c.args.self.now) c.args.slot c.in_err-place.field-0.0 c.may_append.result c.from_residual.result c.in_err-place.was c.from_residual.ensures.1 c.may_append.ensures.no_slot;
+  no_read = search rules;
+}
 
-pub returns-clause-no_slot : goal.returns-clause-no_slot
-returns-clause-no_slot g c =
-    call_passed (kept c.args.self.now) c.args.slot c.in_ok-place.place c.may_append.result c.append_at.result c.in_ok-place.was c.may_append.ensures.no_slot c.append_at.ensures.refused
+pub returns-clause-handles : goal.returns-clause-handles
+returns-clause-handles g c = record {
+  chunks = search rules;
+  no_slot = call_passed (kept c.args.self.now) c.args.slot c.in_ok-place.place c.may_append.result c.append_at.result c.in_ok-place.was c.may_append.ensures.no_slot c.append_at.ensures.refused;
+  no_read = search rules;
+}

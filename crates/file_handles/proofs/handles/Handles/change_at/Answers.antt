@@ -1,4 +1,4 @@
-use Rattle.std.proofs.Common.{◌≡◌, Option, Some, Ok, sym, ap, subst, ◌∙◌}
+use Rattle.std.proofs.Common.{◌≡◌, Option, Some, Ok, sym, ap, subst, ◌∙◌, rules}
 use Rattle.disk_theory.specs.State.{State}
 use Rattle.entry_file.proofs.Writing.{not_written}
 use Rattle.file_handles.specs.Cache.{cache_at}
@@ -10,7 +10,7 @@ use Rattle.file_handles.specs.Setting.{changed_by, header_by, with_change}
 use Rattle.file_handles.specs.declared.object.Entry.{Entry}
 use Rattle.file_handles.specs.declared.object.Entry.TheVariants.{Draft, Finished}
 use Rattle.file_handles.specs.declared.object.Object.{Object}
-use Rattle.file_handles.proofs.Accounting.{account_handed_on}
+use Rattle.file_handles.proofs.Accounting.{changes_handed_on}
 use Rattle.file_handles.proofs.EffectLaws.{held_is_learnt}
 use Rattle.file_handles.proofs.Setting.ElementChecks.{is_there}
 use Rattle.file_handles.proofs.Setting.EntryChanged.{IsDraftWith, IsMetaWith, draft_becomes, draft_held, meta_becomes, meta_held, meta_writes, stores}
@@ -58,11 +58,10 @@ returns-in_err-rewrite_meta-in-Finished-clause-changes g c told =
     (λ o filed. meta_writes (header_by c.args.change) (changed_by c.args.change) x o s filed c.in-Finished.meta c.in_ok-meta-in-Finished.meta c.in-Finished.is with t c.file_place-file.result c.file_place-file.ensures (c.rewrite_meta.ensures.writes told))
     c.from_residual-in_err-rewrite_meta-in-Finished.ensures.0
 
-pub returns-in_err-rewrite_meta-in-Finished-clause-account :
-    goal.returns-in_err-rewrite_meta-in-Finished-clause-account
-returns-in_err-rewrite_meta-in-Finished-clause-account g c =
-    account_handed_on g.D.Disk c.rewrite_meta.result c.in_err-rewrite_meta-in-Finished.field-0.0 c.from_residual-in_err-rewrite_meta-in-Finished.result _ _
-    c.in_err-rewrite_meta-in-Finished.was c.from_residual-in_err-rewrite_meta-in-Finished.ensures.1 c.rewrite_meta.ensures.account
+pub returns-in_err-rewrite_meta-in-Finished-clause-disk : goal.returns-in_err-rewrite_meta-in-Finished-clause-disk
+returns-in_err-rewrite_meta-in-Finished-clause-disk g c =
+    changes_handed_on g.D.Disk c.rewrite_meta.result c.in_err-rewrite_meta-in-Finished.field-0.0 c.from_residual-in_err-rewrite_meta-in-Finished.result _ _
+    c.in_err-rewrite_meta-in-Finished.was c.from_residual-in_err-rewrite_meta-in-Finished.ensures.1 c.rewrite_meta.ensures.disk
 
 pub returns-clause-changes : goal.returns-clause-changes
 returns-clause-changes g c told =

@@ -1,4 +1,4 @@
-use Rattle.std.proofs.Common.{ap, refl, sym, ◌∙◌}
+use Rattle.std.proofs.Common.{ap, refl, sym, ◌∙◌, rules}
 use Rattle.file_handles.specs.Answers.{fault_of}
 use Rattle.file_handles.specs.Kept.{kept, used}
 use Rattle.file_handles.specs.declared.fault.HandleFault.TheVariants as fault
@@ -41,18 +41,24 @@ returns-clause-carried g c told = carries_out (λ b m w is.
     closed_leaves (g.D.Disk.state c.args.disk.now) (kept c.args.self.now) c.args.slot c.requires.slot c.in_ok-used.used at (g.D.Disk.state c.finish_first.new.disk)
     (kept c.finish_first.new.self) (kept c.give_up.new.self) m w is stands (g.D.Disk.state c.give_up.new.disk) (c.in_ok-give_up.ensures.gives_up told))
 
-pub returns-in_err-give_up-clause-index : goal.returns-in_err-give_up-clause-index
-returns-in_err-give_up-clause-index g c told =
-    then_left (g.D.Disk.state c.args.disk.now) (g.D.Disk.state c.finish_first.new.disk) (g.D.Disk.state c.give_up.new.disk) (c.finish_first.ensures.index told) (c.give_up.ensures.index told)
+pub returns-in_err-give_up-clause-files : goal.returns-in_err-give_up-clause-files
+returns-in_err-give_up-clause-files g c = record {
+  unchanged = search rules;
+  index = λ told. then_left (g.D.Disk.state c.args.disk.now) (g.D.Disk.state c.finish_first.new.disk) (g.D.Disk.state c.give_up.new.disk) (c.finish_first.ensures.index told) (c.give_up.ensures.index told);
+  disk = record {
+    account = account_then_handed_on g.D.Disk c.give_up.result c.in_err-give_up.field-0.0 c.from_residual-in_err-give_up.result c.args.disk.now c.finish_first.new.disk c.give_up.new.disk c.in_err-give_up.was
+        c.from_residual-in_err-give_up.ensures.1 c.in_ok-effect.ensures.disk.account c.give_up.ensures.disk.account;
+    change = search rules;
+    no_entry = search rules;
+  };
+}
 
-pub returns-clause-index : goal.returns-clause-index
-returns-clause-index g c told =
-    then_left (g.D.Disk.state c.args.disk.now) (g.D.Disk.state c.finish_first.new.disk) (g.D.Disk.state c.give_up.new.disk) (c.finish_first.ensures.index told) (c.give_up.ensures.index told)
-
-pub returns-in_err-give_up-clause-account : goal.returns-in_err-give_up-clause-account
-returns-in_err-give_up-clause-account g c =
-    account_then_handed_on g.D.Disk c.give_up.result c.in_err-give_up.field-0.0 c.from_residual-in_err-give_up.result c.args.disk.now c.finish_first.new.disk c.give_up.new.disk c.in_err-give_up.was
-    c.from_residual-in_err-give_up.ensures.1 c.in_ok-effect.ensures.account c.give_up.ensures.account
+pub returns-clause-files : goal.returns-clause-files
+returns-clause-files g c = record {
+  unchanged = search rules;
+  index = λ told. then_left (g.D.Disk.state c.args.disk.now) (g.D.Disk.state c.finish_first.new.disk) (g.D.Disk.state c.give_up.new.disk) (c.finish_first.ensures.index told) (c.give_up.ensures.index told);
+  disk = search rules;
+}
 
 pub returns-in_err-used-clause-chunks : goal.returns-in_err-used-clause-chunks
 returns-in_err-used-clause-chunks g c = record {

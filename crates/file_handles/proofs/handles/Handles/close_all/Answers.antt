@@ -1,4 +1,4 @@
-use Rattle.std.proofs.Common.{◌<◌, ◌≤◌, length, Ok, sym, ap, subst, ◌∙◌, arith}
+use Rattle.std.proofs.Common.{◌<◌, ◌≤◌, length, Ok, sym, ap, subst, ◌∙◌, arith, rules}
 use Rattle.std.proofs.lemmas.Result.{IfOk-from_err}
 use Rattle.disk_theory.specs.Account.{IsCalm, no_sync}
 use Rattle.doom_area.specs.DoomArea.{RemovesDoomed}
@@ -41,8 +41,8 @@ loop-object-preserved g c =
         left = λ told. then_left s t (g.D.Disk.state c.match-object.disk) (before.left told)
             (let_go_left {T = Unit {0}} (Ok tt) t (g.D.Disk.state c.match-object.disk) w.in-Some.object (ap g.D.Disk.state w.disk-is ∙ w.in_ok-let_go.ensures.state told));
         gone = λ told. let_go_removes {T = Unit {0}} (Ok tt) w.in-Some.object s t (g.D.Disk.state c.match-object.disk) (before.gone told) (ap g.D.Disk.state w.disk-is ∙ w.in_ok-let_go.ensures.state told);
-        calm = subst (IsCalm g.D.Disk no_sync c.args.disk.now) (sym w.disk-is) (calm_then g.D.Disk _ _ _ before.calm w.in_ok-let_go.ensures.account);
-        looks = λ told. ap (λ d. (g.D.Disk.counts d).entry_reads) w.disk-is ∙ w.in_ok-let_go.ensures.no_entry told ∙ before.looks told;
+        calm = subst (IsCalm g.D.Disk no_sync c.args.disk.now) (sym w.disk-is) (calm_then g.D.Disk _ _ _ before.calm w.in_ok-let_go.ensures.disk.account);
+        looks = λ told. ap (λ d. (g.D.Disk.counts d).entry_reads) w.disk-is ∙ w.in_ok-let_go.ensures.disk.no_entry told ∙ before.looks told;
       }
       | in_default w ↦ record {
         long = before.long;
@@ -68,19 +68,20 @@ returns-in_err-let_go-clause-index g c told =
 pub returns-clause-index : goal.returns-clause-index
 returns-clause-index g c told = c.loop-object.invariant.left told
 
-pub returns-in_err-let_go-clause-no_entry : goal.returns-in_err-let_go-clause-no_entry
-returns-in_err-let_go-clause-no_entry g c told = c.let_go.ensures.no_entry told ∙ c.loop-object.invariant.looks told
+pub returns-in_err-let_go-clause-disk : goal.returns-in_err-let_go-clause-disk
+returns-in_err-let_go-clause-disk g c = record {
+  account = calm_then_handed_on g.D.Disk c.let_go.result c.in_err-let_go.field-0.0 c.from_residual.result _ _ _ c.in_err-let_go.was c.from_residual.ensures.1 c.loop-object.invariant.calm c.let_go.ensures.disk.account;
+  change = λ failed.
+      c.let_go.ensures.disk.change (sym (fault_handed_on c.let_go.result c.in_err-let_go.field-0.0 c.from_residual.result c.in_err-let_go.was c.from_residual.ensures.1) ∙ failed);
+  no_entry = λ told. c.let_go.ensures.disk.no_entry told ∙ c.loop-object.invariant.looks told;
+}
 
-pub returns-clause-no_entry : goal.returns-clause-no_entry
-returns-clause-no_entry g c told = c.loop-object.invariant.looks told
-
-pub returns-in_err-let_go-clause-account : goal.returns-in_err-let_go-clause-account
-returns-in_err-let_go-clause-account g c =
-    calm_then_handed_on g.D.Disk c.let_go.result c.in_err-let_go.field-0.0 c.from_residual.result _ _ _ c.in_err-let_go.was c.from_residual.ensures.1 c.loop-object.invariant.calm c.let_go.ensures.account
-
-pub returns-in_err-let_go-clause-change : goal.returns-in_err-let_go-clause-change
-returns-in_err-let_go-clause-change g c = λ failed.
-    c.let_go.ensures.change (sym (fault_handed_on c.let_go.result c.in_err-let_go.field-0.0 c.from_residual.result c.in_err-let_go.was c.from_residual.ensures.1) ∙ failed)
+pub returns-clause-disk : goal.returns-clause-disk
+returns-clause-disk g c = record {
+  account = search rules;
+  change = search rules;
+  no_entry = λ told. c.loop-object.invariant.looks told;
+}
 
 pub returns-in_err-let_go-clause-removes : goal.returns-in_err-let_go-clause-removes
 returns-in_err-let_go-clause-removes g c told =

@@ -1,4 +1,4 @@
-use Rattle.std.proofs.Common.{◌∙◌, None, inl, sym, ap, subst, arith}
+use Rattle.std.proofs.Common.{◌∙◌, None, inl, sym, ap, subst, arith, rules, ◌≡◌, IsErrAnd}
 use Rattle.std.specs.Prelude.{slice_get, unwrap_or}
 use Rattle.cache_base.proofs.ByteLaws.{all_below}
 use Rattle.cache_theory.specs.Command.Command.{Create}
@@ -13,6 +13,8 @@ use Rattle.file_handles.proofs.Joining.JoinedOpen.{used_none}
 use Rattle.file_handles.proofs.Where.{carries_out_at}
 use Rattle.file_handles.proofs.IndexLeft.{made_left, then_left}
 use Rattle.file_handles.proofs.UnsyncedLaws.{made_unsynced, then_unsynced}
+use Rattle.disk_theory.specs.Account.{Ending}
+use Rattle.file_handles.proofs.Accounting.{accounts_then, out_of_memory}
 use Rattle.file_handles.proofs.handles.Handles.create.Goals as goal
 
 pub returns-then-is_ok-clause-carried : goal.returns-then-is_ok-clause-carried
@@ -92,20 +94,40 @@ returns-clause-carried g c = λ tells. carries_out_at (λ b m w moment stand.
     c.in_ok-object.ensures.draft.1.0 c.free_number-aside.ensures.least.free
     (subst (λ n. IsHeldAs c.in_ok-object.object (fresh n c.args.key.now)) (sym moment) c.in_ok-object.ensures.draft.1.1) c.in_ok-add.ensures.adds.added (omega arith) (λ p lt. omega arith))
 
-pub returns-in_err-object-clause-index : goal.returns-in_err-object-clause-index
-returns-in_err-object-clause-index g c told =
-    then_left (g.D.Disk.state c.args.disk.now) (g.D.Disk.state c.doom_there.new.disk) (g.D.Disk.state c.drafted.new.disk) (c.doom_there.ensures.index told)
-    (made_left c.drafted.result _ _ c.free_number-aside.result (g.met.D.Disk.sound c.doom_there.new.disk told) (c.drafted.ensures.state told))
+pub returns-in_err-object-clause-looks : goal.returns-in_err-object-clause-looks
+returns-in_err-object-clause-looks g c = record {
+  read = search rules;
+  change = search rules;
+  unsynced = λ told. then_unsynced (g.D.Disk.state c.args.disk.now) (g.D.Disk.state c.doom_there.new.disk) (g.D.Disk.state c.drafted.new.disk) (c.doom_there.ensures.looks.unsynced told)
+      (made_unsynced c.drafted.result _ _ c.free_number-aside.result (c.drafted.ensures.state told));
+  index = λ told. then_left (g.D.Disk.state c.args.disk.now) (g.D.Disk.state c.doom_there.new.disk) (g.D.Disk.state c.drafted.new.disk) (c.doom_there.ensures.looks.index told)
+      (made_left c.drafted.result _ _ c.free_number-aside.result (g.met.D.Disk.sound c.doom_there.new.disk told) (c.drafted.ensures.state told));
+  account = search rules;
+}
 
-pub returns-in_err-add-clause-index : goal.returns-in_err-add-clause-index
-returns-in_err-add-clause-index g c told =
-    then_left (g.D.Disk.state c.args.disk.now) (g.D.Disk.state c.doom_there.new.disk) (g.D.Disk.state c.drafted.new.disk) (c.doom_there.ensures.index told)
-    (made_left c.drafted.result _ _ c.free_number-aside.result (g.met.D.Disk.sound c.doom_there.new.disk told) (c.drafted.ensures.state told))
+pub returns-in_err-add-clause-looks : goal.returns-in_err-add-clause-looks
+returns-in_err-add-clause-looks g c = record {
+  read = search rules;
+  change = search rules;
+  unsynced = λ told. then_unsynced (g.D.Disk.state c.args.disk.now) (g.D.Disk.state c.doom_there.new.disk) (g.D.Disk.state c.drafted.new.disk) (c.doom_there.ensures.looks.unsynced told)
+      (made_unsynced c.drafted.result _ _ c.free_number-aside.result (c.drafted.ensures.state told));
+  index = λ told. then_left (g.D.Disk.state c.args.disk.now) (g.D.Disk.state c.doom_there.new.disk) (g.D.Disk.state c.drafted.new.disk) (c.doom_there.ensures.looks.index told)
+      (made_left c.drafted.result _ _ c.free_number-aside.result (g.met.D.Disk.sound c.doom_there.new.disk told) (c.drafted.ensures.state told));
+  account = out_of_memory g.D.Disk c.from_residual-in_err-add.result c.args.disk.now c.drafted.new.disk
+      (subst (λ f. IsErrAnd c.from_residual-in_err-add.result (λ e. e ≡ f)) c.in_err-add.ensures.adds.memory c.from_residual-in_err-add.ensures.1)
+      (accounts_then g.D.Disk Ending.NoneFailed c.args.disk.now c.doom_there.new.disk c.drafted.new.disk c.in_ok-doom_there.ensures.looks.account c.in_ok-object.ensures.disk.account);
+}
 
-pub returns-clause-index : goal.returns-clause-index
-returns-clause-index g c told =
-    then_left (g.D.Disk.state c.args.disk.now) (g.D.Disk.state c.doom_there.new.disk) (g.D.Disk.state c.drafted.new.disk) (c.doom_there.ensures.index told)
-    (made_left c.drafted.result _ _ c.free_number-aside.result (g.met.D.Disk.sound c.doom_there.new.disk told) (c.drafted.ensures.state told))
+pub returns-clause-looks : goal.returns-clause-looks
+returns-clause-looks g c = record {
+  read = search rules;
+  change = search rules;
+  unsynced = λ told. then_unsynced (g.D.Disk.state c.args.disk.now) (g.D.Disk.state c.doom_there.new.disk) (g.D.Disk.state c.drafted.new.disk) (c.doom_there.ensures.looks.unsynced told)
+      (made_unsynced c.drafted.result _ _ c.free_number-aside.result (c.drafted.ensures.state told));
+  index = λ told. then_left (g.D.Disk.state c.args.disk.now) (g.D.Disk.state c.doom_there.new.disk) (g.D.Disk.state c.drafted.new.disk) (c.doom_there.ensures.looks.index told)
+      (made_left c.drafted.result _ _ c.free_number-aside.result (g.met.D.Disk.sound c.doom_there.new.disk told) (c.drafted.ensures.state told));
+  account = search rules;
+}
 
 pub returns-in_err-object-clause-numbered : goal.returns-in_err-object-clause-numbered
 returns-in_err-object-clause-numbered g c = λ tells.
@@ -127,21 +149,6 @@ returns-clause-numbered g c = λ tells.
 
 pub returns-clause-effect : goal.returns-clause-effect
 returns-clause-effect g c = λ m number proper stand. ap (λ n. Gone (record { 0 = n })) c.name_of-name.ensures
-
-pub returns-in_err-object-clause-unsynced : goal.returns-in_err-object-clause-unsynced
-returns-in_err-object-clause-unsynced g c told =
-    then_unsynced (g.D.Disk.state c.args.disk.now) (g.D.Disk.state c.doom_there.new.disk) (g.D.Disk.state c.drafted.new.disk) (c.doom_there.ensures.unsynced told)
-    (made_unsynced c.drafted.result _ _ c.free_number-aside.result (c.drafted.ensures.state told))
-
-pub returns-in_err-add-clause-unsynced : goal.returns-in_err-add-clause-unsynced
-returns-in_err-add-clause-unsynced g c told =
-    then_unsynced (g.D.Disk.state c.args.disk.now) (g.D.Disk.state c.doom_there.new.disk) (g.D.Disk.state c.drafted.new.disk) (c.doom_there.ensures.unsynced told)
-    (made_unsynced c.drafted.result _ _ c.free_number-aside.result (c.drafted.ensures.state told))
-
-pub returns-clause-unsynced : goal.returns-clause-unsynced
-returns-clause-unsynced g c told =
-    then_unsynced (g.D.Disk.state c.args.disk.now) (g.D.Disk.state c.doom_there.new.disk) (g.D.Disk.state c.drafted.new.disk) (c.doom_there.ensures.unsynced told)
-    (made_unsynced c.drafted.result _ _ c.free_number-aside.result (c.drafted.ensures.state told))
 
 pub free_number-aside-requires-clause-free : goal.free_number-aside-requires-clause-free
 free_number-aside-requires-clause-free g c =

@@ -1,4 +1,4 @@
-use Rattle.std.proofs.Common.{◌≡◌, ap, inl, ◌∙◌}
+use Rattle.std.proofs.Common.{◌≡◌, ap, inl, ◌∙◌, rules}
 use Rattle.std.proofs.lemmas.Result.{IfOk-weaker}
 use Rattle.cache_theory.specs.Command.Command.{Doom}
 use Rattle.file_handles.specs.Effects.{HasEffect}
@@ -17,11 +17,14 @@ returns-in_err-name-clause-carried g c = λ tells. carries_out (λ b m w stand.
     refused_on_leaves c.from_residual.result c.in_err-name.field-0.0 (g.D.Disk.state c.args.disk.now) (g.D.Disk.state c.may_doom.new.disk) (kept c.args.self.now) (Doom c.args.key.now)
     c.from_residual.ensures.1 (λ refusal same. c.in_err-name.ensures.refuses refusal same tells) (c.may_doom.ensures.looks.state tells) m w stand)
 
-pub returns-in_err-name-clause-index : goal.returns-in_err-name-clause-index
-returns-in_err-name-clause-index g c told = same_left (c.may_doom.ensures.looks.state told)
-
-pub returns-in_err-name-clause-unsynced : goal.returns-in_err-name-clause-unsynced
-returns-in_err-name-clause-unsynced g c told = same_unsynced (c.may_doom.ensures.looks.state told)
+pub returns-in_err-name-clause-looks : goal.returns-in_err-name-clause-looks
+returns-in_err-name-clause-looks g c = record {
+  read = search rules;
+  change = search rules;
+  unsynced = λ told. same_unsynced (c.may_doom.ensures.looks.state told);
+  index = λ told. same_left (c.may_doom.ensures.looks.state told);
+  account = search rules;
+}
 
 pub doom_name-requires : goal.doom_name-requires
 doom_name-requires g c = record {
@@ -41,15 +44,16 @@ pub returns-clause-carried : goal.returns-clause-carried
 returns-clause-carried g c = λ tells. carries_out (λ b m w stand.
     dooming_leaves (g.D.Disk.state c.args.disk.now) (g.D.Disk.state c.may_doom.new.disk) (kept c.args.self.now) c.args.key.now c.in_ok-name.name c.in_ok-name.ensures.named (c.in_ok-name.ensures.passes tells)
     (c.may_doom.ensures.looks.state tells) (g.D.Disk.state c.doom_name.new.disk) (kept c.doom_name.new.self) m w stand
-    c.doom_name.result c.doom_name.ensures.refused (c.doom_name.ensures.dooms tells))
+    c.doom_name.result c.doom_name.ensures.aside.refused (c.doom_name.ensures.dooms tells))
 
-pub returns-clause-index : goal.returns-clause-index
-returns-clause-index g c told =
-    then_left (g.D.Disk.state c.args.disk.now) (g.D.Disk.state c.may_doom.new.disk) (g.D.Disk.state c.doom_name.new.disk) (same_left (c.may_doom.ensures.looks.state told)) (c.doom_name.ensures.index told)
-
-pub returns-clause-unsynced : goal.returns-clause-unsynced
-returns-clause-unsynced g c told =
-    then_unsynced (g.D.Disk.state c.args.disk.now) (g.D.Disk.state c.may_doom.new.disk) (g.D.Disk.state c.doom_name.new.disk) (same_unsynced (c.may_doom.ensures.looks.state told)) (c.doom_name.ensures.unsynced told)
+pub returns-clause-looks : goal.returns-clause-looks
+returns-clause-looks g c = record {
+  read = search rules;
+  change = search rules;
+  unsynced = λ told. then_unsynced (g.D.Disk.state c.args.disk.now) (g.D.Disk.state c.may_doom.new.disk) (g.D.Disk.state c.doom_name.new.disk) (same_unsynced (c.may_doom.ensures.looks.state told)) (c.doom_name.ensures.aside.unsynced told);
+  index = λ told. then_left (g.D.Disk.state c.args.disk.now) (g.D.Disk.state c.may_doom.new.disk) (g.D.Disk.state c.doom_name.new.disk) (same_left (c.may_doom.ensures.looks.state told)) (c.doom_name.ensures.aside.index told);
+  account = search rules;
+}
 
 pub returns-clause-effect : goal.returns-clause-effect
 returns-clause-effect g c =
@@ -64,7 +68,7 @@ returns-clause-takes g c told =
     let s = g.D.Disk.state c.may_doom.new.disk in
     let t = g.D.Disk.state c.doom_name.new.disk in
     takes_of c.args.key.now c.in_ok-name.name c.in_ok-name.ensures.named (g.D.Disk.state c.args.disk.now) t
-    (takes_after c.in_ok-name.name (g.D.Disk.state c.args.disk.now) s t (c.may_doom.ensures.looks.state told) (c.doom_name.ensures.takes told))
+    (takes_after c.in_ok-name.name (g.D.Disk.state c.args.disk.now) s t (c.may_doom.ensures.looks.state told) (c.doom_name.ensures.aside.takes told))
 
 pub returns-in_err-name-clause-unmoved : goal.returns-in_err-name-clause-unmoved
 returns-in_err-name-clause-unmoved g c place number is = (c.may_doom.ensures.in_use place is.used, is.aside)
@@ -72,5 +76,5 @@ returns-in_err-name-clause-unmoved g c place number is = (c.may_doom.ensures.in_
 pub returns-clause-unmoved : goal.returns-clause-unmoved
 returns-clause-unmoved g c place number is =
     let there = unfinished_at (kept c.args.self.now) c.args.key.now c.in_ok-name.name c.in_ok-name.ensures.named place number is in
-    let moved = c.doom_name.ensures.unmoved place number there in
+    let moved = c.doom_name.ensures.aside.unmoved place number there in
     (moved.0 ∙ c.may_doom.ensures.in_use place is.used, moved.1)

@@ -1,4 +1,4 @@
-use Rattle.std.proofs.Common.{IsSome, ap, inl, subst, sym}
+use Rattle.std.proofs.Common.{IsSome, ap, inl, subst, sym, rules}
 use Rattle.std.proofs.lemmas.Result.{IfOk-from_err}
 use Rattle.cache_theory.specs.Step.{doomed_under}
 use Rattle.disk_theory.specs.State.{State, standing}
@@ -28,9 +28,24 @@ returns-in_err-doom_user-clause-dooms g c = λ tells. record {
       };
 }
 
-pub returns-in_err-doom_user-clause-change : goal.returns-in_err-doom_user-clause-change
-returns-in_err-doom_user-clause-change g c =
-    change_handed_on g.D.Disk c.in_err-doom_user.field-0.0 c.from_residual.result c.doom_user.new.disk c.from_residual.ensures.1 c.in_err-doom_user.ensures.change
+pub returns-in_err-doom_user-clause-aside : goal.returns-in_err-doom_user-clause-aside
+returns-in_err-doom_user-clause-aside g c = record {
+  takes = search rules;
+  numbered = search rules;
+  unmoved = search rules;
+  slots = search rules;
+  chunks = search rules;
+  mark = search rules;
+  index = search rules;
+  unsynced = search rules;
+  refused = search rules;
+  no_read = search rules;
+  disk = record {
+    account = search rules;
+    change = change_handed_on g.D.Disk c.in_err-doom_user.field-0.0 c.from_residual.result c.doom_user.new.disk c.from_residual.ensures.1 c.in_err-doom_user.ensures.aside.disk.change;
+    no_entry = search rules;
+  };
+}
 
 pub returns-then-branch-clause-dooms : goal.returns-then-branch-clause-dooms
 returns-then-branch-clause-dooms g c = λ tells. record {
@@ -62,50 +77,52 @@ returns-clause-dooms g c = λ tells.
     gone_done_by g.D.Disk.state c.args.disk.now c.doom_user.new.disk (g.D.Disk.state c.remove.new.self) (kept c.args.self.now) (kept c.doom_user.new.self) c.args.name.now bare same.0 same.1
     (Gone c.args.name.now) (inl (c.in_ok-remove.ensures.state tells))
 
-pub returns-in_err-remove-clause-index : goal.returns-in_err-remove-clause-index
-returns-in_err-remove-clause-index g c told =
-    then_left (g.D.Disk.state c.args.disk.now) (g.D.Disk.state c.doom_user.new.disk) (g.D.Disk.state c.remove.new.self) (c.doom_user.ensures.index told)
-    (removed_left c.remove.result _ _ c.args.name.now (c.remove.ensures.state told))
+pub returns-in_err-remove-clause-aside : goal.returns-in_err-remove-clause-aside
+returns-in_err-remove-clause-aside g c = record {
+  takes = λ told. let s = g.D.Disk.state c.doom_user.new.disk in
+      let t = g.D.Disk.state c.remove.new.self in
+      let bare = none_if _ c.in_ok-doom_user.field-0 c.in_ok-doom_user.ensures.some c.if-branch.false in
+      takes_after c.args.name.now (g.D.Disk.state c.args.disk.now) s t (ap g.D.Disk.state (c.in_ok-doom_user.ensures.none bare).1.0) (removed_takes c.remove.result s t c.args.name.now (c.remove.ensures.state told));
+  numbered = search rules;
+  unmoved = λ place number is. let bare = none_if _ c.in_ok-doom_user.field-0 c.in_ok-doom_user.ensures.some c.if-branch.false in
+      let user = is.user in
+      absurd (cc);
+  slots = search rules;
+  chunks = search rules;
+  mark = λ told. let s = g.D.Disk.state c.doom_user.new.disk in
+      let t = g.D.Disk.state c.remove.new.self in
+      then_marked (g.D.Disk.state c.args.disk.now) s t (c.doom_user.ensures.aside.mark told) (removed_marked c.remove.result s t c.args.name.now (c.remove.ensures.state told));
+  index = λ told. then_left (g.D.Disk.state c.args.disk.now) (g.D.Disk.state c.doom_user.new.disk) (g.D.Disk.state c.remove.new.self) (c.doom_user.ensures.aside.index told)
+      (removed_left c.remove.result _ _ c.args.name.now (c.remove.ensures.state told));
+  unsynced = search rules;
+  refused = search rules;
+  no_read = search rules;
+  disk = record {
+    account = record { cause = search rules; went_on = search rules; stops = search rules; last = search rules; syncs = search rules };
+    change = λ failed told. search rules;
+    no_entry = search rules;
+  };
+}
 
-pub returns-clause-index : goal.returns-clause-index
-returns-clause-index g c told =
-    then_left (g.D.Disk.state c.args.disk.now) (g.D.Disk.state c.doom_user.new.disk) (g.D.Disk.state c.remove.new.self) (c.doom_user.ensures.index told)
-    (removed_left c.remove.result _ _ c.args.name.now (c.remove.ensures.state told))
-
-pub returns-in_err-remove-clause-mark : goal.returns-in_err-remove-clause-mark
-returns-in_err-remove-clause-mark g c told =
-    let s = g.D.Disk.state c.doom_user.new.disk in
-    let t = g.D.Disk.state c.remove.new.self in
-    then_marked (g.D.Disk.state c.args.disk.now) s t (c.doom_user.ensures.mark told) (removed_marked c.remove.result s t c.args.name.now (c.remove.ensures.state told))
-
-pub returns-clause-mark : goal.returns-clause-mark
-returns-clause-mark g c told =
-    let s = g.D.Disk.state c.doom_user.new.disk in
-    let t = g.D.Disk.state c.remove.new.self in
-    then_marked (g.D.Disk.state c.args.disk.now) s t (c.doom_user.ensures.mark told) (removed_marked c.remove.result s t c.args.name.now (c.remove.ensures.state told))
-
-pub returns-in_err-remove-clause-takes : goal.returns-in_err-remove-clause-takes
-returns-in_err-remove-clause-takes g c told =
-    let s = g.D.Disk.state c.doom_user.new.disk in
-    let t = g.D.Disk.state c.remove.new.self in
-    let bare = none_if _ c.in_ok-doom_user.field-0 c.in_ok-doom_user.ensures.some c.if-branch.false in
-    takes_after c.args.name.now (g.D.Disk.state c.args.disk.now) s t (ap g.D.Disk.state (c.in_ok-doom_user.ensures.none bare).1.0) (removed_takes c.remove.result s t c.args.name.now (c.remove.ensures.state told))
-
-pub returns-clause-takes : goal.returns-clause-takes
-returns-clause-takes g c told =
-    let s = g.D.Disk.state c.doom_user.new.disk in
-    let t = g.D.Disk.state c.remove.new.self in
-    let bare = none_if _ c.in_ok-doom_user.field-0 c.in_ok-doom_user.ensures.some c.if-branch.false in
-    takes_after c.args.name.now (g.D.Disk.state c.args.disk.now) s t (ap g.D.Disk.state (c.in_ok-doom_user.ensures.none bare).1.0) (removed_takes c.remove.result s t c.args.name.now (c.remove.ensures.state told))
-
-pub returns-in_err-remove-clause-unmoved : goal.returns-in_err-remove-clause-unmoved
-returns-in_err-remove-clause-unmoved g c place number is =
-    let bare = none_if _ c.in_ok-doom_user.field-0 c.in_ok-doom_user.ensures.some c.if-branch.false in
-    let user = is.user in
-    absurd (cc)
-
-pub returns-clause-unmoved : goal.returns-clause-unmoved
-returns-clause-unmoved g c place number is =
-    let bare = none_if _ c.in_ok-doom_user.field-0 c.in_ok-doom_user.ensures.some c.if-branch.false in
-    let user = is.user in
-    absurd (cc)
+pub returns-clause-aside : goal.returns-clause-aside
+returns-clause-aside g c = record {
+  takes = λ told. let s = g.D.Disk.state c.doom_user.new.disk in
+      let t = g.D.Disk.state c.remove.new.self in
+      let bare = none_if _ c.in_ok-doom_user.field-0 c.in_ok-doom_user.ensures.some c.if-branch.false in
+      takes_after c.args.name.now (g.D.Disk.state c.args.disk.now) s t (ap g.D.Disk.state (c.in_ok-doom_user.ensures.none bare).1.0) (removed_takes c.remove.result s t c.args.name.now (c.remove.ensures.state told));
+  numbered = search rules;
+  unmoved = λ place number is. let bare = none_if _ c.in_ok-doom_user.field-0 c.in_ok-doom_user.ensures.some c.if-branch.false in
+      let user = is.user in
+      absurd (cc);
+  slots = search rules;
+  chunks = search rules;
+  mark = λ told. let s = g.D.Disk.state c.doom_user.new.disk in
+      let t = g.D.Disk.state c.remove.new.self in
+      then_marked (g.D.Disk.state c.args.disk.now) s t (c.doom_user.ensures.aside.mark told) (removed_marked c.remove.result s t c.args.name.now (c.remove.ensures.state told));
+  index = λ told. then_left (g.D.Disk.state c.args.disk.now) (g.D.Disk.state c.doom_user.new.disk) (g.D.Disk.state c.remove.new.self) (c.doom_user.ensures.aside.index told)
+      (removed_left c.remove.result _ _ c.args.name.now (c.remove.ensures.state told));
+  unsynced = search rules;
+  refused = search rules;
+  no_read = search rules;
+  disk = search rules;
+}

@@ -1,4 +1,4 @@
-use Rattle.std.proofs.Common.{ap}
+use Rattle.std.proofs.Common.{ap, rules}
 use Rattle.std.proofs.lemmas.Result.{IfOk-from_err}
 use Rattle.file_handles.specs.Kept.{kept}
 use Rattle.file_handles.proofs.Dooming.DoomedCommand.{none_if, some_if}
@@ -36,25 +36,27 @@ returns-clause-dooms g c = λ tells.
     gone_done_by g.D.Disk.state c.args.disk.now c.doom_user.new.disk (g.D.Disk.state c.remove_file.new.disk) (kept c.args.self.now) (kept c.doom_user.new.self) c.args.name.now bare same.0 same.1
     tt (c.in_ok-remove_file.ensures.state tells).done
 
-pub returns-in_err-remove_file-clause-index : goal.returns-in_err-remove_file-clause-index
-returns-in_err-remove_file-clause-index g c told =
-    then_left (g.D.Disk.state c.args.disk.now) (g.D.Disk.state c.doom_user.new.disk) (g.D.Disk.state c.remove_file.new.disk) (c.doom_user.ensures.index told)
-    (gone_left c.remove_file.result _ _ c.args.name.now (c.remove_file.ensures.state told))
+pub returns-in_err-remove_file-clause-looks : goal.returns-in_err-remove_file-clause-looks
+returns-in_err-remove_file-clause-looks g c = record {
+  read = search rules;
+  change = search rules;
+  unsynced = λ told. then_unsynced (g.D.Disk.state c.args.disk.now) (g.D.Disk.state c.doom_user.new.disk) (g.D.Disk.state c.remove_file.new.disk) (c.doom_user.ensures.aside.unsynced told)
+      (gone_unsynced c.remove_file.result _ _ c.args.name.now (c.remove_file.ensures.state told));
+  index = λ told. then_left (g.D.Disk.state c.args.disk.now) (g.D.Disk.state c.doom_user.new.disk) (g.D.Disk.state c.remove_file.new.disk) (c.doom_user.ensures.aside.index told)
+      (gone_left c.remove_file.result _ _ c.args.name.now (c.remove_file.ensures.state told));
+  account = search rules;
+}
 
-pub returns-clause-index : goal.returns-clause-index
-returns-clause-index g c told =
-    then_left (g.D.Disk.state c.args.disk.now) (g.D.Disk.state c.doom_user.new.disk) (g.D.Disk.state c.remove_file.new.disk) (c.doom_user.ensures.index told)
-    (gone_left c.remove_file.result _ _ c.args.name.now (c.remove_file.ensures.state told))
-
-pub returns-in_err-remove_file-clause-unsynced : goal.returns-in_err-remove_file-clause-unsynced
-returns-in_err-remove_file-clause-unsynced g c told =
-    then_unsynced (g.D.Disk.state c.args.disk.now) (g.D.Disk.state c.doom_user.new.disk) (g.D.Disk.state c.remove_file.new.disk) (c.doom_user.ensures.unsynced told)
-    (gone_unsynced c.remove_file.result _ _ c.args.name.now (c.remove_file.ensures.state told))
-
-pub returns-clause-unsynced : goal.returns-clause-unsynced
-returns-clause-unsynced g c told =
-    then_unsynced (g.D.Disk.state c.args.disk.now) (g.D.Disk.state c.doom_user.new.disk) (g.D.Disk.state c.remove_file.new.disk) (c.doom_user.ensures.unsynced told)
-    (gone_unsynced c.remove_file.result _ _ c.args.name.now (c.remove_file.ensures.state told))
+pub returns-clause-looks : goal.returns-clause-looks
+returns-clause-looks g c = record {
+  read = search rules;
+  change = search rules;
+  unsynced = λ told. then_unsynced (g.D.Disk.state c.args.disk.now) (g.D.Disk.state c.doom_user.new.disk) (g.D.Disk.state c.remove_file.new.disk) (c.doom_user.ensures.aside.unsynced told)
+      (gone_unsynced c.remove_file.result _ _ c.args.name.now (c.remove_file.ensures.state told));
+  index = λ told. then_left (g.D.Disk.state c.args.disk.now) (g.D.Disk.state c.doom_user.new.disk) (g.D.Disk.state c.remove_file.new.disk) (c.doom_user.ensures.aside.index told)
+      (gone_left c.remove_file.result _ _ c.args.name.now (c.remove_file.ensures.state told));
+  account = search rules;
+}
 
 pub returns-in_err-remove_file-clause-numbered : goal.returns-in_err-remove_file-clause-numbered
 returns-in_err-remove_file-clause-numbered g c told =

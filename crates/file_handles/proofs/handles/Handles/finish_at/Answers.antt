@@ -18,6 +18,7 @@ pub take_apart-entry-requires-clause-there : goal.take_apart-entry-requires-clau
 take_apart-entry-requires-clause-there g c = is_there _ _ c.requires.draft
 
 -- the file that was written whole stands
+
 pub publish-requires : goal.publish-requires
 publish-requires g c tells =
     let x = labelled c.take_apart-entry.result.0 c.take_apart-entry.result.1 in

@@ -1,4 +1,4 @@
-use Rattle.std.proofs.Common.{arith, refl, length, subst, sym, IfSome}
+use Rattle.std.proofs.Common.{arith, refl, length, subst, sym, IfSome, rules}
 use Rattle.std.proofs.lemmas.Result.{IfOk-weaker}
 use Rattle.cache_base.specs.Bytes.{AreBytes}
 use Rattle.cache_base.proofs.ByteLaws.{all_below}
@@ -18,6 +18,8 @@ use Rattle.file_handles.proofs.PuttingAlt.LongerEntry.{behind}
 use Rattle.file_handles.proofs.Places.{filed_somehow}
 use Rattle.file_handles.proofs.Refused.{refused_answer}
 use Rattle.file_handles.proofs.NoSlots.{call_handed_on, call_passed, never_refused}
+use Rattle.file_handles.proofs.IndexLeft.{same_left}
+use Rattle.file_handles.proofs.UnsyncedLaws.{same_unsynced}
 use Rattle.file_handles.proofs.handles.Handles.put_alt.Goals as goal
 
 pub returns-in_err-place-clause-carried : goal.returns-in_err-place-clause-carried
@@ -100,31 +102,32 @@ returns-clause-main g c told =
     (subst (λ (u : State). IfSome (object_at k p) (λ x. KeepsPrefix (object_place x) (body_len_in x.entry) u t)) (c.hashes_at.ensures.looks.state told) (c.put_at.ensures.prefix told)) in
     put_main s t (g.met.D.Disk.sound c.args.disk.now told) k after c.args.slot c.requires.slot p there.0 there.1.1.0 kind alt there.1.1.1 c.put_at.result puts (filed_somehow _ _ _ (c.requires.told told)) keeps
 
-pub returns-clause-unsynced : goal.returns-clause-unsynced
-returns-clause-unsynced g c told =
-    let s = g.D.Disk.state c.args.disk.now in
-    let t = g.D.Disk.state c.put_at.new.disk in
-    let k = kept c.args.self.now in
-    let after = kept c.put_at.new.self in
-    let kind = c.args.kind.now in
-    let alt = c.args.alt.now in
-    let p = c.in_ok-place.place in
-    let there = the_object (object_at k p) (λ x. HasAt k c.args.slot p x × MayPut kind (length alt) x) c.in_ok-place.ensures.object in
-    let puts = subst (λ (u : State). PutsThere p kind alt c.put_at.result (cache_at k u) (cache_at after t)) (c.hashes_at.ensures.looks.state told) (c.put_at.ensures.changes told) in
-    put_unsynced s t (g.met.D.Disk.sound c.args.disk.now told) k after c.args.slot c.requires.slot p there.0 there.1.1.0 kind alt there.1.1.1 c.put_at.result puts (filed_somehow _ _ _ (c.requires.told told))
-
-pub returns-clause-index : goal.returns-clause-index
-returns-clause-index g c told =
-    let s = g.D.Disk.state c.args.disk.now in
-    let t = g.D.Disk.state c.put_at.new.disk in
-    let k = kept c.args.self.now in
-    let after = kept c.put_at.new.self in
-    let kind = c.args.kind.now in
-    let alt = c.args.alt.now in
-    let p = c.in_ok-place.place in
-    let there = the_object (object_at k p) (λ x. HasAt k c.args.slot p x × MayPut kind (length alt) x) c.in_ok-place.ensures.object in
-    let puts = subst (λ (u : State). PutsThere p kind alt c.put_at.result (cache_at k u) (cache_at after t)) (c.hashes_at.ensures.looks.state told) (c.put_at.ensures.changes told) in
-    put_left s t (g.met.D.Disk.sound c.args.disk.now told) k after c.args.slot c.requires.slot p there.0 there.1.1.0 kind alt there.1.1.1 c.put_at.result puts (filed_somehow _ _ _ (c.requires.told told))
+pub returns-clause-looks : goal.returns-clause-looks
+returns-clause-looks g c = record {
+  read = search rules;
+  change = search rules;
+  unsynced = λ told. let s = g.D.Disk.state c.args.disk.now in
+      let t = g.D.Disk.state c.put_at.new.disk in
+      let k = kept c.args.self.now in
+      let after = kept c.put_at.new.self in
+      let kind = c.args.kind.now in
+      let alt = c.args.alt.now in
+      let p = c.in_ok-place.place in
+      let there = the_object (object_at k p) (λ x. HasAt k c.args.slot p x × MayPut kind (length alt) x) c.in_ok-place.ensures.object in
+      let puts = subst (λ (u : State). PutsThere p kind alt c.put_at.result (cache_at k u) (cache_at after t)) (c.hashes_at.ensures.looks.state told) (c.put_at.ensures.changes told) in
+      put_unsynced s t (g.met.D.Disk.sound c.args.disk.now told) k after c.args.slot c.requires.slot p there.0 there.1.1.0 kind alt there.1.1.1 c.put_at.result puts (filed_somehow _ _ _ (c.requires.told told));
+  index = λ told. let s = g.D.Disk.state c.args.disk.now in
+      let t = g.D.Disk.state c.put_at.new.disk in
+      let k = kept c.args.self.now in
+      let after = kept c.put_at.new.self in
+      let kind = c.args.kind.now in
+      let alt = c.args.alt.now in
+      let p = c.in_ok-place.place in
+      let there = the_object (object_at k p) (λ x. HasAt k c.args.slot p x × MayPut kind (length alt) x) c.in_ok-place.ensures.object in
+      let puts = subst (λ (u : State). PutsThere p kind alt c.put_at.result (cache_at k u) (cache_at after t)) (c.hashes_at.ensures.looks.state told) (c.put_at.ensures.changes told) in
+      put_left s t (g.met.D.Disk.sound c.args.disk.now told) k after c.args.slot c.requires.slot p there.0 there.1.1.0 kind alt there.1.1.1 c.put_at.result puts (filed_somehow _ _ _ (c.requires.told told));
+  account = search rules;
+}
 
 pub returns-in_err-place-clause-no_slot : goal.returns-in_err-place-clause-no_slot
 returns-in_err-place-clause-no_slot g c =
@@ -138,3 +141,12 @@ returns-in_err-hashes-clause-no_slot g c =
 pub returns-clause-no_slot : goal.returns-clause-no_slot
 returns-clause-no_slot g c =
     call_passed (kept c.args.self.now) c.args.slot c.in_ok-place.place c.may_put_alt.result c.put_at.result c.in_ok-place.was c.may_put_alt.ensures.no_slot c.put_at.ensures.refused
+
+pub returns-in_err-hashes-clause-looks : goal.returns-in_err-hashes-clause-looks
+returns-in_err-hashes-clause-looks g c = record {
+  read = search rules;
+  change = search rules;
+  unsynced = λ told. same_unsynced (c.hashes_at.ensures.looks.state told);
+  index = λ told. same_left (c.hashes_at.ensures.looks.state told);
+  account = search rules;
+}

@@ -1,4 +1,4 @@
-use Rattle.std.proofs.Common.{◌≡◌, Option, None, Some, Ok, sym, ap, subst, ◌∙◌, IfSome}
+use Rattle.std.proofs.Common.{◌≡◌, Option, None, Some, Ok, sym, ap, subst, ◌∙◌, IfSome, rules}
 use Rattle.cache_theory.specs.Checks.{with_alt_data}
 use Rattle.chunk_cache.specs.Cached.{without_entry}
 use Rattle.chunk_cache.proofs.Properties.{others_left}
@@ -12,7 +12,7 @@ use Rattle.file_handles.specs.Kept.{Kept, kept, object_at, with_object, without_
 use Rattle.file_handles.specs.PuttingAlt.{AreHashesWith}
 use Rattle.file_handles.specs.declared.object.Entry.TheVariants.{Finished}
 use Rattle.file_handles.specs.declared.object.Object.{Object}
-use Rattle.file_handles.proofs.Accounting.{account_handed_on}
+use Rattle.file_handles.proofs.Accounting.{changes_handed_on}
 use Rattle.file_handles.proofs.Setting.ElementChecks.{if_object}
 use Rattle.file_handles.proofs.PuttingAlt.LongerEntry.{IsMetaBehind, behind, behind_becomes, behind_learnt, behind_writes, prefix_kept, prefix_same, stores_shorter}
 use Rattle.file_handles.proofs.PutBack.{changes_done, changes_failed, put_back}
@@ -128,7 +128,7 @@ returns-clause-effect g c =
     subst (λ (o : Option Object). IsLearntOf (behind c.args.kind.now alt) o c.learnt_of-effect.result) (sym c.take_apart-entry.ensures.found) (λ o held object.
     c.learnt_of-effect.ensures.held ∙ behind_learnt c.args.kind.now alt c.args.hashes x c.in-Finished.old c.in_ok-meta.meta c.in-Finished.is grown o held object)
 
-pub returns-in_err-grow_body-clause-account : goal.returns-in_err-grow_body-clause-account
-returns-in_err-grow_body-clause-account g c =
-    account_handed_on g.D.Disk c.grow_body.result c.in_err-grow_body.field-0.0 c.from_residual-in_err-grow_body.result _ _
-    c.in_err-grow_body.was c.from_residual-in_err-grow_body.ensures.1 c.grow_body.ensures.account
+pub returns-in_err-grow_body-clause-disk : goal.returns-in_err-grow_body-clause-disk
+returns-in_err-grow_body-clause-disk g c =
+    changes_handed_on g.D.Disk c.grow_body.result c.in_err-grow_body.field-0.0 c.from_residual-in_err-grow_body.result _ _
+    c.in_err-grow_body.was c.from_residual-in_err-grow_body.ensures.1 c.grow_body.ensures.disk

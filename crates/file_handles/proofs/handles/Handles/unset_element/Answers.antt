@@ -1,4 +1,4 @@
-use Rattle.std.proofs.Common.{Ok, refl, sym, ap, subst, ◌∙◌}
+use Rattle.std.proofs.Common.{Ok, refl, sym, ap, subst, ◌∙◌, rules}
 use Rattle.cache_theory.specs.Command.Command.{UnsetElement}
 use Rattle.entry_parts.specs.Elements.{element}
 use Rattle.entry_parts.specs.Setting.{without_element}
@@ -78,15 +78,21 @@ pub returns-in_err-place-clause-carried : goal.returns-in_err-place-clause-carri
 returns-in_err-place-clause-carried g c = λ told.
     refused_answer_or_none c.from_residual.result (g.D.Disk.state c.args.disk.now) (kept c.args.self.now) (UnsetElement c.args.slot c.args.name.now) c.in_err-place.field-0.0 c.from_residual.ensures.1 (c.in_err-place.ensures.refused c.args.name.now)
 
-pub returns-in_err-effect-clause-index : goal.returns-in_err-effect-clause-index
-returns-in_err-effect-clause-index g c told =
-    change_left (g.D.Disk.state c.args.disk.now) (g.D.Disk.state c.change_at.new.disk) (kept c.args.self.now) (kept c.change_at.new.self) c.in_ok-place.place c.object_at.result.now (_) c.change_at.result
-    (g.met.D.Disk.sound c.args.disk.now told) c.object_at.ensures (filed_somehow _ _ _ (c.requires.told told)) (c.change_at.ensures.changes told)
+pub returns-in_err-effect-clause-files : goal.returns-in_err-effect-clause-files
+returns-in_err-effect-clause-files g c = record {
+  unchanged = search rules;
+  index = λ told. change_left (g.D.Disk.state c.args.disk.now) (g.D.Disk.state c.change_at.new.disk) (kept c.args.self.now) (kept c.change_at.new.self) c.in_ok-place.place c.object_at.result.now (_) c.change_at.result
+      (g.met.D.Disk.sound c.args.disk.now told) c.object_at.ensures (filed_somehow _ _ _ (c.requires.told told)) (c.change_at.ensures.changes told);
+  disk = search rules;
+}
 
-pub returns-clause-index : goal.returns-clause-index
-returns-clause-index g c told =
-    change_left (g.D.Disk.state c.args.disk.now) (g.D.Disk.state c.change_at.new.disk) (kept c.args.self.now) (kept c.change_at.new.self) c.in_ok-place.place c.object_at.result.now (_) c.change_at.result
-    (g.met.D.Disk.sound c.args.disk.now told) c.object_at.ensures (filed_somehow _ _ _ (c.requires.told told)) (c.change_at.ensures.changes told)
+pub returns-clause-files : goal.returns-clause-files
+returns-clause-files g c = record {
+  unchanged = search rules;
+  index = λ told. change_left (g.D.Disk.state c.args.disk.now) (g.D.Disk.state c.change_at.new.disk) (kept c.args.self.now) (kept c.change_at.new.self) c.in_ok-place.place c.object_at.result.now (_) c.change_at.result
+      (g.met.D.Disk.sound c.args.disk.now told) c.object_at.ensures (filed_somehow _ _ _ (c.requires.told told)) (c.change_at.ensures.changes told);
+  disk = search rules;
+}
 
 pub returns-in_err-effect-clause-unsynced : goal.returns-in_err-effect-clause-unsynced
 returns-in_err-effect-clause-unsynced g c told =
@@ -101,19 +107,31 @@ returns-clause-unsynced g c told =
 pub change_at-requires-clause-settable : goal.change_at-requires-clause-settable
 change_at-requires-clause-settable g c = of_any _
 
-pub returns-in_err-place-clause-no_slot : goal.returns-in_err-place-clause-no_slot
-returns-in_err-place-clause-no_slot g c =
-    call_handed_on (kept c.args.self.now) c.args.slot c.in_err-place.field-0.0 c.may_change.result c.from_residual.result c.in_err-place.was c.from_residual.ensures.1 c.may_change.ensures.no_slot
+pub returns-in_err-place-clause-handles : goal.returns-in_err-place-clause-handles
+returns-in_err-place-clause-handles g c = record {
+  chunks = search rules;
+  no_slot = call_handed_on (kept c.args.self.now) c.args.slot c.in_err-place.field-0.0 c.may_change.result c.from_residual.result c.in_err-place.was c.from_residual.ensures.1 c.may_change.ensures.no_slot;
+  no_read = search rules;
+}
 
-pub returns-then-is_none-clause-no_slot : goal.returns-then-is_none-clause-no_slot
-returns-then-is_none-clause-no_slot g c =
-    call_passed (kept c.args.self.now) c.args.slot c.in_ok-place.place c.may_change.result _ c.in_ok-place.was c.may_change.ensures.no_slot tt
+pub returns-then-is_none-clause-handles : goal.returns-then-is_none-clause-handles
+returns-then-is_none-clause-handles g c = record {
+  chunks = search rules;
+  no_slot = call_passed (kept c.args.self.now) c.args.slot c.in_ok-place.place c.may_change.result _ c.in_ok-place.was c.may_change.ensures.no_slot tt;
+  no_read = search rules;
+}
 
-pub returns-in_err-effect-clause-no_slot : goal.returns-in_err-effect-clause-no_slot
-returns-in_err-effect-clause-no_slot g c =
-    call_passed (kept c.args.self.now) c.args.slot c.in_ok-place.place c.may_change.result c.from_residual-in_err-effect.result c.in_ok-place.was c.may_change.ensures.no_slot
-    (never_refused c.in_err-effect.field-0.0 c.from_residual-in_err-effect.result c.from_residual-in_err-effect.ensures.1 c.in_err-effect.ensures.refused)
+pub returns-in_err-effect-clause-handles : goal.returns-in_err-effect-clause-handles
+returns-in_err-effect-clause-handles g c = record {
+  chunks = search rules;
+  no_slot = call_passed (kept c.args.self.now) c.args.slot c.in_ok-place.place c.may_change.result c.from_residual-in_err-effect.result c.in_ok-place.was c.may_change.ensures.no_slot
+      (never_refused c.in_err-effect.field-0.0 c.from_residual-in_err-effect.result c.from_residual-in_err-effect.ensures.1 c.in_err-effect.ensures.refused);
+  no_read = search rules;
+}
 
-pub returns-clause-no_slot : goal.returns-clause-no_slot
-returns-clause-no_slot g c =
-    call_passed (kept c.args.self.now) c.args.slot c.in_ok-place.place c.may_change.result _ c.in_ok-place.was c.may_change.ensures.no_slot tt
+pub returns-clause-handles : goal.returns-clause-handles
+returns-clause-handles g c = record {
+  chunks = search rules;
+  no_slot = call_passed (kept c.args.self.now) c.args.slot c.in_ok-place.place c.may_change.result _ c.in_ok-place.was c.may_change.ensures.no_slot tt;
+  no_read = search rules;
+}

@@ -1,4 +1,4 @@
-use Rattle.std.proofs.Common.{◌≡◌, refl, true}
+use Rattle.std.proofs.Common.{◌≡◌, refl, true, rules}
 use Rattle.std.proofs.lemmas.Result.{IfOk-weaker}
 use Rattle.cache_theory.specs.Command.Command.{UseEntry}
 use Rattle.cache_theory.specs.Step.{used}
@@ -52,11 +52,14 @@ returns-clause-effect g c =
     (use_makes now c.ranges.now.fits k c.args.slot c.in_ok-place.ensures.passes) e (λ m. refl) (λ m number stand. refl) is)
     c.change_at.ensures.effect
 
-pub returns-clause-index : goal.returns-clause-index
-returns-clause-index g c told =
-    let there = the_object _ _ c.in_ok-place.ensures.object in
-    change_left (g.D.Disk.state c.args.disk.now) (g.D.Disk.state c.change_at.new.disk) (kept c.args.self.now) (kept c.change_at.new.self) c.in_ok-place.place there.0 (_) c.change_at.result
-    (g.met.D.Disk.sound c.args.disk.now told) there.1.0 (filed_somehow _ _ _ (c.requires.told told)) (c.change_at.ensures.changes told)
+pub returns-clause-files : goal.returns-clause-files
+returns-clause-files g c = record {
+  unchanged = search rules;
+  index = λ told. let there = the_object _ _ c.in_ok-place.ensures.object in
+      change_left (g.D.Disk.state c.args.disk.now) (g.D.Disk.state c.change_at.new.disk) (kept c.args.self.now) (kept c.change_at.new.self) c.in_ok-place.place there.0 (_) c.change_at.result
+      (g.met.D.Disk.sound c.args.disk.now told) there.1.0 (filed_somehow _ _ _ (c.requires.told told)) (c.change_at.ensures.changes told);
+  disk = search rules;
+}
 
 pub returns-clause-unsynced : goal.returns-clause-unsynced
 returns-clause-unsynced g c told =
@@ -67,10 +70,16 @@ returns-clause-unsynced g c told =
 pub change_at-requires-clause-settable : goal.change_at-requires-clause-settable
 change_at-requires-clause-settable g c = of_any _
 
-pub returns-in_err-place-clause-no_slot : goal.returns-in_err-place-clause-no_slot
-returns-in_err-place-clause-no_slot g c =
-    call_handed_on (kept c.args.self.now) c.args.slot c.in_err-place.field-0.0 c.place_of.result c.from_residual.result c.in_err-place.was c.from_residual.ensures.1 c.place_of.ensures.no_slot
+pub returns-in_err-place-clause-handles : goal.returns-in_err-place-clause-handles
+returns-in_err-place-clause-handles g c = record {
+  chunks = search rules;
+  no_slot = call_handed_on (kept c.args.self.now) c.args.slot c.in_err-place.field-0.0 c.place_of.result c.from_residual.result c.in_err-place.was c.from_residual.ensures.1 c.place_of.ensures.no_slot;
+  no_read = search rules;
+}
 
-pub returns-clause-no_slot : goal.returns-clause-no_slot
-returns-clause-no_slot g c =
-    call_passed (kept c.args.self.now) c.args.slot c.in_ok-place.place c.place_of.result c.change_at.result c.in_ok-place.was c.place_of.ensures.no_slot c.change_at.ensures.refused
+pub returns-clause-handles : goal.returns-clause-handles
+returns-clause-handles g c = record {
+  chunks = search rules;
+  no_slot = call_passed (kept c.args.self.now) c.args.slot c.in_ok-place.place c.place_of.result c.change_at.result c.in_ok-place.was c.place_of.ensures.no_slot c.change_at.ensures.refused;
+  no_read = search rules;
+}

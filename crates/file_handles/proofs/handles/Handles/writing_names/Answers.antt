@@ -4,4 +4,4 @@ use Rattle.file_handles.proofs.handles.Handles.writing_names.Goals as goal
 
 pub returns : goal.returns
 returns c =
-    listed_writing (kept c.args.self.now) c.asked_in_order.result c.asked_in_order.ensures.names c.asked_in_order.ensures.rising
+    listed_writing (kept c.args.self.now) c.asked_in_order.result c.asked_in_order.ensures.names c.asked_in_order.ensures.sorted
